@@ -1,0 +1,151 @@
+//! Attributes, and what they belong to besides spans: resources and scopes.
+
+ghost use Rattle.std.specs.Prelude.{◌≡◌, IfOk, length};
+
+use crate::{Memory, Text};
+use std::marker::Model;
+
+/// An attribute's value: a text, a whole number or a truth.
+#[derive(Debug, Drop)]
+pub enum AttrValue {
+    /// A text, OTLP's `stringValue`.
+    Text(Text),
+    /// A whole number of 64 signed bits, OTLP's `intValue`.
+    Whole(i64),
+    /// A truth, OTLP's `boolValue`.
+    Truth(bool),
+}
+
+impl AttrValue {
+    /// A second value equal to this one.
+    pub fn copy(&self) -> Result<AttrValue, Memory>
+        ensures { IfOk result (λ v. v ≡ self.now) }
+    {
+        match self {
+            AttrValue::Text(text) => Ok(AttrValue::Text(text.copy()?)),
+            AttrValue::Whole(number) => Ok(AttrValue::Whole(*number)),
+            AttrValue::Truth(truth) => Ok(AttrValue::Truth(*truth)),
+        }
+    }
+}
+
+/// A key and its value.
+#[derive(Debug, Drop)]
+pub struct Attr {
+    /// The key.
+    pub key: Text,
+    /// The value.
+    pub value: AttrValue,
+}
+
+impl Attr {
+    /// A second attribute equal to this one.
+    pub fn copy(&self) -> Result<Attr, Memory>
+        ensures { IfOk result (λ a. a ≡ self.now) }
+    {
+        let key = self.key.copy()?;
+        let value = self.value.copy()?;
+        Ok(Attr { key, value })
+    }
+}
+
+/// A list of attributes, in the order in which they came.
+#[derive(Debug, Drop)]
+pub struct Attrs {
+    inner: Vec<Attr>,
+}
+
+impl Model for Attrs {
+    ghost use Rattle.std.specs.Prelude.{List};
+    ghost use Rattle.span_types.specs.declared.attrs.Attr.{Attr};
+
+    ghost Value = { List Attr };
+
+    ghost view = { λ l. l.inner.items };
+}
+
+impl Attrs {
+    /// The list of a vector's items, which are moved and not copied.
+    pub fn of(inner: Vec<Attr>) -> Attrs
+        ensures { result ≡ inner.items }
+    {
+        Attrs { inner }
+    }
+
+    /// The vector again, without a copy.
+    pub fn into_vec(self) -> Vec<Attr>
+        ensures { result.items ≡ self }
+    {
+        self.inner
+    }
+
+    /// The items as a slice.
+    pub fn as_slice(&self) -> &[Attr]
+        ensures { result.now ≡ self.now }
+    {
+        self.inner.as_slice()
+    }
+
+    /// The number of items.
+    pub fn len(&self) -> usize
+        ensures { result ≡ length self.now }
+    {
+        self.inner.len()
+    }
+
+    /// A second list equal to this one.
+    pub fn copy(&self) -> Result<Attrs, Memory>
+        ensures { IfOk result (λ l. l ≡ self.now) }
+    {
+        let mut inner = Vec::new(*self.inner.allocator());
+        inner.reserve(self.inner.len())?;
+        for attr in self.inner.as_slice() {
+            inner.push(attr.copy()?)?;
+        }
+        Ok(Attrs { inner })
+    }
+}
+
+/// The source of spans, as OTLP's `Resource`: its attributes.
+#[derive(Debug, Drop)]
+pub struct Resource {
+    /// What is said of the source.
+    pub attrs: Attrs,
+}
+
+impl Resource {
+    /// A second resource equal to this one.
+    pub fn copy(&self) -> Result<Resource, Memory>
+        ensures { IfOk result (λ r. r ≡ self.now) }
+    {
+        let attrs = self.attrs.copy()?;
+        Ok(Resource { attrs })
+    }
+}
+
+/// The instrumentation that made spans, as OTLP's `InstrumentationScope`.
+#[derive(Debug, Drop)]
+pub struct Scope {
+    /// Its name, which may be empty.
+    pub name: Text,
+    /// Its version, which may be empty.
+    pub version: Text,
+    /// What is said of it.
+    pub attrs: Attrs,
+}
+
+impl Scope {
+    /// A second scope equal to this one.
+    pub fn copy(&self) -> Result<Scope, Memory>
+        ensures { IfOk result (λ s. s ≡ self.now) }
+    {
+        let name = self.name.copy()?;
+        let version = self.version.copy()?;
+        let attrs = self.attrs.copy()?;
+        Ok(Scope {
+            name,
+            version,
+            attrs,
+        })
+    }
+}
