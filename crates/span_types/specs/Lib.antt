@@ -1,2 +1,5 @@
 pub mod Faults
 pub mod Keys
+pub mod Orders
+pub mod First
+pub mod FirstLaws

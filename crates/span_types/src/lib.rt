@@ -6,6 +6,7 @@
 
 mod attrs;
 mod errors;
+mod first;
 mod ids;
 mod lists;
 mod shared;
@@ -14,6 +15,7 @@ mod text;
 
 pub use attrs::{Attr, AttrValue, Attrs, Resource, Scope};
 pub use errors::{Failed, Memory};
+pub use first::{first_rows, first_rows_more};
 pub use ids::{Key, Place, SpanId, TraceId};
 pub use lists::{Bytes, Calls, Ids, Marks, Moments};
 pub use shared::{SharedResource, SharedScope};
