@@ -21,3 +21,6 @@ pub use lists::{Bytes, Calls, Ids, Marks, Moments};
 pub use shared::{SharedResource, SharedScope};
 pub use spans::{Batch, Row, Rows, Span, SpanKind, Spans, StatusCode};
 pub use text::Text;
+
+#[cfg(test)]
+mod tests;
