@@ -1,0 +1,5 @@
+pub mod Devices
+pub mod Memory
+pub mod Lines
+pub mod Buffered
+pub mod Reader

@@ -1,0 +1,93 @@
+//! A line that isn't ended yet.
+
+ghost use Rattle.std.specs.Prelude.{◌≡◌, ℕ, ◌+◌, ◌^◌, ◌<◌, ◌≤◌, List, [], ◌++◌, length, IsTrue, ◌↔◌, OnOk, OnErr};
+ghost use Rattle.io_edges.specs.Lines.{without_return, line_limit};
+ghost use Rattle.io_edges.specs.Reader.{IsBegun, IsSound, begun_len, IsLineOf, IsWithinLimits};
+
+use crate::line::{Line, Text8, ends_in_return};
+use span_types::Memory;
+use std::alloc::Global;
+
+// How many bytes a line may have.
+const LINE_LIMIT: usize = 16_777_216;
+
+/// What was taken of a line that isn't ended.
+#[derive(Debug, Drop)]
+pub(crate) enum Begun {
+    /// Its bytes so far.
+    Kept(Text8),
+    /// It is too long, whatever follows: only what its answer needs is kept.
+    Dropped { length: u64, returns: bool },
+}
+
+impl Begun {
+    // No byte of a line.
+    pub(crate) fn new(alloc: Global) -> Begun
+        ensures { result ≡ Begun.Kept [] }
+    {
+        Begun::Kept(Text8::of(Vec::new(alloc)))
+    }
+
+    // Adds the next bytes of the line. Where memory is wanted what was begun stands.
+    pub(crate) fn add(&mut self, bytes: &[u8]) -> Result<(), Memory>
+        requires sound { IsSound self.old }
+        requires fits { begun_len self.old + length bytes.now < 2 ^ 63 }
+        ensures sound { IsSound self.new }
+        ensures ok { OnOk result ((piece : List ℕ) → IsBegun self.old piece → IsBegun self.new (piece ++ bytes.now)) }
+        ensures len { OnOk result (begun_len self.new ≡ begun_len self.old + length bytes.now) }
+        ensures err { OnErr result (self.new ≡ self.old) }
+    {
+        if bytes.is_empty() {
+            return Ok(());
+        }
+        match self {
+            Begun::Kept(text) if text.len() + bytes.len() <= LINE_LIMIT + 1 => text.append(bytes),
+            Begun::Kept(text) => {
+                let length = (text.len() + bytes.len()) as u64;
+                *self = Begun::Dropped {
+                    length,
+                    returns: ends_in_return(bytes),
+                };
+                Ok(())
+            }
+            Begun::Dropped { length, returns } => {
+                *length += bytes.len() as u64;
+                *returns = ends_in_return(bytes);
+                Ok(())
+            }
+        }
+    }
+
+    // Whether no byte of a line was taken.
+    pub(crate) fn is_empty(&self) -> bool
+        requires { IsSound self.now }
+        ensures { IsTrue result ↔ (begun_len self.now ≡ 0) }
+    {
+        match self {
+            Begun::Kept(text) => text.is_empty(),
+            Begun::Dropped { .. } => false,
+        }
+    }
+
+    // The line, which ends here.
+    pub(crate) fn finish(self) -> Line
+        requires { IsSound self }
+        ensures line { (piece : List ℕ) → IsBegun self piece → IsLineOf result (without_return piece) }
+        ensures limits { (now : ℕ) → IsWithinLimits result now }
+    {
+        match self {
+            Begun::Kept(mut text) => {
+                text.drop_return();
+                if text.len() > LINE_LIMIT {
+                    let length = text.len() as u64;
+                    Line::TooLong { length }
+                } else {
+                    Line::Whole(text)
+                }
+            }
+            Begun::Dropped { length, returns } => Line::TooLong {
+                length: if returns { length - 1 } else { length },
+            },
+        }
+    }
+}
