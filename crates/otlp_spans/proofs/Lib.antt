@@ -1,0 +1,3 @@
+pub mod JsonLemmas
+pub mod FieldLemmas
+pub mod IdLemmas

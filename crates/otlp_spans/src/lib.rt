@@ -1,0 +1,12 @@
+//! OTLP/JSON trace requests: reading a line into spans, and writing a trace.
+#![tactic(auto)]
+
+mod errors;
+mod fields;
+mod json;
+mod read;
+mod same;
+mod values;
+
+pub use errors::OtlpError;
+pub use read::{Reading, read_line};
