@@ -1,3 +1,5 @@
 pub mod JsonLemmas
+pub mod RunLemmas
 pub mod FieldLemmas
+pub mod FloatLemmas
 pub mod IdLemmas

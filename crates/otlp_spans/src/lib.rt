@@ -7,6 +7,8 @@ mod json;
 mod read;
 mod same;
 mod values;
+mod write;
 
 pub use errors::OtlpError;
 pub use read::{Reading, read_line};
+pub use write::write_trace;

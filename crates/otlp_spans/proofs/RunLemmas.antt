@@ -1,0 +1,70 @@
+-- The first run of a list, and the runs after it.
+use Rattle.std.proofs.Common.{◌≡◌, ℕ, zero, suc, ◌+◌, ◌-◌, ◌<◌, ◌≤◌, Bool, true, false, cond, List, [], ◌∷◌, ◌++◌, length, get_or, take, drop, map, refl, sym, ap, ◌∙◌, subst, arith, append_assoc}
+use Rattle.std.proofs.lemmas.List.{drop-map, map-append, take-map}
+use Rattle.std.specs.Prelude.{if◌then◌else◌}
+use Rattle.otlp_spans.specs.Runs.{as_run, in_front, run_len, runs}
+
+-- a run has an item
+run_len-cons : {A : Type 0} (same : A → A → Bool) (x : A) (xs : List A) → (m : ℕ) × (run_len same (x ∷ xs) ≡ suc m)
+run_len-cons same x [] = (0, refl)
+run_len-cons same x (y ∷ ys) = elim (same x y) as (λ b. (m : ℕ) × (cond b (suc (run_len same (y ∷ ys))) 1 ≡ suc m)) [ true ↦ (run_len same (y ∷ ys), refl) | false ↦ (0, refl) ]
+
+-- a list's first run and the rest of it
+abbrev Splits : {A : Type 0} → (A → A → Bool) → List A → ℕ → Type 0
+Splits same xs n = runs same xs ≡ as_run (take n xs) ++ runs same (drop n xs)
+
+longer : {A : Type 0} (same : A → A → Bool) (x y : A) (ys : List A) (n m : ℕ) (b : Bool) → n ≡ suc m → same x y ≡ b → Splits same (y ∷ ys) n
+    → Splits same (x ∷ y ∷ ys) (cond b (suc n) 1)
+longer same x y ys n m true is together ih =
+    let later : runs same (y ∷ ys) ≡ (y, take m ys) ∷ runs same (drop m ys) = rw is at ih in
+    rw is (ap (in_front same x) later ∙ rw together refl)
+longer same x y ys n m false is apart ih =
+    let later : runs same (y ∷ ys) ≡ (y, take m ys) ∷ runs same (drop m ys) = rw is at ih in
+    ap (in_front same x) later ∙ rw apart (ap (λ l. (x, []) ∷ l) (sym later))
+
+pub runs_split : {A : Type 0} (same : A → A → Bool) (xs : List A) → Splits same xs (run_len same xs)
+runs_split same [] = refl
+runs_split same (x ∷ []) = refl
+runs_split same (x ∷ y ∷ ys) =
+    let n = run_len-cons same y ys in
+    longer same x y ys (run_len same (y ∷ ys)) n.0 (same x y) n.1 refl (runs_split same (y ∷ ys))
+
+-- ---- for the loops
+
+last_one : {A : Type 0} (xs : List A) (i : ℕ) → suc i ≡ length xs → (x : A) × (drop i xs ≡ x ∷ [])
+last_one [] i h = absurd (omega arith)
+last_one (x ∷ []) zero h = (x, refl)
+last_one (x ∷ y ∷ ys) zero h = absurd (omega arith)
+last_one (x ∷ xs) (suc i) h = last_one xs i (omega arith)
+
+-- all the items are of one run
+pub run_len_ends : {A S : Type 0} (same : S → S → Bool) (f : A → S) (xs : List A) (i : ℕ)
+    → run_len same (map f xs) ≡ (i - 1) + run_len same (map f (drop (i - 1) xs)) → 0 < i → i ≡ length xs → length xs ≡ run_len same (map f xs)
+run_len_ends {A = A} same f xs i so_far some all =
+    let last = last_one xs (i - 1) (omega arith) in
+    let one : run_len same (map f (drop (i - 1) xs)) ≡ 1 = ap (λ (l : List A). run_len same (map f l)) last.1 in
+    omega arith
+
+split_at_len : {A S : Type 0} (same : S → S → Bool) (f : A → S) (xs : List A) (n : ℕ) → n ≡ run_len same (map f xs)
+    → runs same (map f xs) ≡ as_run (map f (take n xs)) ++ runs same (map f (drop n xs))
+split_at_len {S = S} same f xs n len =
+    let split : Splits same (map f xs) n = subst (λ k. Splits same (map f xs) k) (sym len) (runs_split same (map f xs)) in
+    split ∙ ap (λ (l : List S). as_run l ++ runs same (drop n (map f xs))) (take-map f n xs) ∙ ap (λ (l : List S). as_run (map f (take n xs)) ++ runs same l) (drop-map f n xs)
+
+-- one run more is written: x stands for the run of the first n items, and later are those after it
+pub run_written : {A S V B : Type 0} (same : S → S → Bool) (f : A → S) (g : S × List S → B) (h : V → B)
+    (xs front later : List A) (n : ℕ) (x : V) (done new : List V) (total : List B)
+    → total ≡ map h done ++ map g (runs same (map f xs)) → n ≡ run_len same (map f xs) → front ≡ take n xs → later ≡ drop n xs
+    → h x ∷ [] ≡ map g (as_run (map f front)) → new ≡ done ++ x ∷ []
+    → total ≡ map h new ++ map g (runs same (map f later))
+run_written {A = A} {S = S} {V = V} {B = B} same f g h xs front later n x done new total so_far len is_front is_later value is_new =
+    let split = split_at_len same f xs n len in
+    let one : h x ∷ [] ≡ map g (as_run (map f (take n xs))) = value ∙ ap (λ (l : List A). map g (as_run (map f l))) is_front in
+    let rest : List B = map g (runs same (map f (drop n xs))) in
+    so_far
+    ∙ ap (λ (l : List (S × List S)). map h done ++ map g l) split
+    ∙ ap (λ (l : List B). map h done ++ l) (map-append g (as_run (map f (take n xs))) (runs same (map f (drop n xs))))
+    ∙ ap (λ (l : List B). map h done ++ (l ++ rest)) (sym one)
+    ∙ sym (append_assoc (map h done) (h x ∷ []) rest)
+    ∙ ap (λ (l : List B). l ++ rest) (sym (map-append h done (x ∷ [])) ∙ ap (map h) (sym is_new))
+    ∙ ap (λ (l : List A). map h new ++ map g (runs same (map f l))) (sym is_later)

@@ -1,0 +1,125 @@
+//! Writing a trace.
+
+ghost use Rattle.std.specs.Prelude.{◌≡◌, ◌<◌, ◌≤◌, [], ◌∷◌, Some, IfOk, length, map};
+ghost use Rattle.serde_json.specs.View.{view};
+ghost use Rattle.otlp_spans.specs.Reading.{spans_of_line};
+ghost use Rattle.otlp_spans.specs.Runs.{as_run, run_len, runs};
+ghost use Rattle.otlp_spans.specs.Same.{same_resource, same_scope};
+ghost use Rattle.otlp_spans.specs.Writing.{list_json, resource_spans_json, scope_spans_json, span_json, spans_in, trace_json, trace_text};
+
+use crate::same::{same_resource, same_scope};
+use crate::values::{resource, scope, span};
+use serde_json::{Value, json};
+use span_types::{Memory, Row, Rows, Text};
+use std::alloc::Global;
+
+/// The text of a trace.
+#[tactic(auto, unfolding(crate::specs::Writing::trace_text))]
+pub fn write_trace(alloc: Global, rows: &Rows) -> Result<Text, Memory>
+    ensures text { IfOk result (λ t. t ≡ trace_text (spans_in rows.now)) }
+{
+    let value = trace(alloc, rows.as_slice())?;
+    Ok(Text::of(value.to_string(alloc)?))
+}
+
+/// A trace's value.
+#[tactic(auto, unfolding(crate::specs::Writing::trace_json))]
+fn trace(alloc: Global, rows: &[Row]) -> Result<Value, Memory>
+    ensures { IfOk result (λ v. view v ≡ trace_json (spans_in rows.now)) }
+{
+    let list = resources(alloc, rows)?;
+    Ok(json!(in alloc; {"resourceSpans": list})?)
+}
+
+/// The runs of spans with equal resources.
+fn resources(alloc: Global, rows: &[Row]) -> Result<Value, Memory>
+    ensures { IfOk result
+        (λ v. view v ≡ list_json resource_spans_json (runs same_resource (spans_in rows.now))) }
+{
+    let mut values = Vec::new(alloc);
+    let mut rest = rows;
+    while !rest.is_empty() {
+        let (run, later) = rest.split_at(resource_run(rest));
+        values.push(resource_spans(alloc, run)?)?;
+        rest = later;
+    }
+    Ok(Value::from(values))
+}
+
+/// How many rows the first run with equal resources has.
+fn resource_run(rows: &[Row]) -> usize
+    requires { 0 < length rows.now }
+    ensures within { result ≤ length rows.now }
+    ensures some { 0 < result }
+    ensures len { result ≡ run_len same_resource (spans_in rows.now) }
+{
+    for i in 1..rows.len() {
+        if !same_resource(&rows[i - 1].span, &rows[i].span) {
+            return i;
+        }
+    }
+    rows.len()
+}
+
+/// A run of spans with equal resources.
+#[tactic(auto, unfolding(crate::specs::Writing::resource_spans_json))]
+fn resource_spans(alloc: Global, rows: &[Row]) -> Result<Value, Memory>
+    requires { 0 < length rows.now }
+    ensures { IfOk result (λ v. view v ∷ [] ≡ map resource_spans_json (as_run (spans_in rows.now))) }
+{
+    let resource = resource(alloc, rows[0].span.resource.get())?;
+    let list = scopes(alloc, rows)?;
+    Ok(json!(in alloc; {"resource": resource, "scopeSpans": list})?)
+}
+
+/// The runs of spans with equal scopes.
+fn scopes(alloc: Global, rows: &[Row]) -> Result<Value, Memory>
+    ensures { IfOk result
+        (λ v. view v ≡ list_json scope_spans_json (runs same_scope (spans_in rows.now))) }
+{
+    let mut values = Vec::new(alloc);
+    let mut rest = rows;
+    while !rest.is_empty() {
+        let (run, later) = rest.split_at(scope_run(rest));
+        values.push(scope_spans(alloc, run)?)?;
+        rest = later;
+    }
+    Ok(Value::from(values))
+}
+
+/// How many rows the first run with equal scopes has.
+fn scope_run(rows: &[Row]) -> usize
+    requires { 0 < length rows.now }
+    ensures within { result ≤ length rows.now }
+    ensures some { 0 < result }
+    ensures len { result ≡ run_len same_scope (spans_in rows.now) }
+{
+    for i in 1..rows.len() {
+        if !same_scope(&rows[i - 1].span, &rows[i].span) {
+            return i;
+        }
+    }
+    rows.len()
+}
+
+/// A run of spans with equal scopes.
+#[tactic(auto, unfolding(crate::specs::Writing::scope_spans_json))]
+fn scope_spans(alloc: Global, rows: &[Row]) -> Result<Value, Memory>
+    requires { 0 < length rows.now }
+    ensures { IfOk result (λ v. view v ∷ [] ≡ map scope_spans_json (as_run (spans_in rows.now))) }
+{
+    let scope = scope(alloc, rows[0].span.scope.get())?;
+    let spans = spans(alloc, rows)?;
+    Ok(json!(in alloc; {"scope": scope, "spans": spans})?)
+}
+
+/// The spans of rows.
+fn spans(alloc: Global, rows: &[Row]) -> Result<Value, Memory>
+    ensures { IfOk result (λ v. view v ≡ list_json span_json (spans_in rows.now)) }
+{
+    let mut values = Vec::new(alloc);
+    for row in rows {
+        values.push(span(alloc, &row.span)?)?;
+    }
+    Ok(Value::from(values))
+}
