@@ -1,0 +1,33 @@
+-- The history of pushes, and what it holds of a trace.
+use Rattle.std.specs.Prelude.{ℕ, ◌+◌, List, [], ◌∷◌, ◌++◌, filter, Bool}
+use Rattle.std.specs.Ordering.{is_eq}
+use Rattle.span_types.specs.declared.ids.TraceId.{TraceId}
+use Rattle.span_types.specs.declared.spans.Span.{Span}
+use Rattle.span_types.specs.declared.spans.Row.{Row}
+use Rattle.span_types.specs.Orders.{trace_cmp}
+
+-- The spans of each push that was accepted, in the order of acceptance. A push's number is its position, from 0.
+abbrev pub History : Type 0
+History = List (List Span)
+
+-- The spans of the push with this number as rows, from a position on.
+abbrev pub rows_from : ℕ → ℕ → List Span → List Row
+rows_from number position [] = []
+rows_from number position (s ∷ ss) = record { place = record { number = number; position = position }; span = s } ∷ rows_from number (position + 1) ss
+
+-- The rows of pushes, the first of which has this number.
+abbrev pub rows_of_pushes : ℕ → List (List Span) → List Row
+rows_of_pushes number [] = []
+rows_of_pushes number (spans ∷ later) = rows_from number 0 spans ++ rows_of_pushes (number + 1) later
+
+-- All rows of a history, in the order in which they came in.
+abbrev pub history_rows : History → List Row
+history_rows pushes = rows_of_pushes 0 pushes
+
+-- The row is of the trace.
+abbrev pub is_of_trace : TraceId → Row → Bool
+is_of_trace id r = is_eq (trace_cmp r.span.trace id)
+
+-- The rows of a trace among others, in their order.
+abbrev pub rows_of_trace : TraceId → List Row → List Row
+rows_of_trace id rows = filter (is_of_trace id) rows

@@ -1,0 +1,6 @@
+pub mod History
+pub mod Requests
+pub mod Replies
+pub mod Statuses
+pub mod Session
+pub mod SessionLaws

@@ -1,0 +1,83 @@
+-- What the lines of a session are answered. Each line is answered at the history that the lines before it left.
+use Rattle.std.specs.Prelude.{◌≡◌, ◌⊎◌, ℕ, ◌<◌, ◌≤◌, List, [], ◌∷◌, ◌++◌, length, take, Option, Some, None, if◌then◌else◌}
+use Rattle.io_edges.specs.Lines.{lines, taken_limit}
+use Rattle.std.specs.List.{list_any}
+use Rattle.span_types.specs.declared.spans.Row.{Row}
+use Rattle.span_types.specs.First.{IsFirstOf}
+use Rattle.session_meaning.specs.declared.request.Request.{Request}
+use Rattle.session_meaning.specs.declared.request.Request.TheVariants.{Push, Trace}
+use Rattle.session_meaning.specs.declared.reply.Reply.{Reply}
+use Rattle.session_meaning.specs.declared.reply.Reply.TheVariants.{Pushed, Traced, NotBuilt, NoMemory}
+use Rattle.session_meaning.specs.declared.ending.Ending.{Ending}
+use Rattle.session_meaning.specs.declared.ending.Ending.TheVariants.{Answered, BadWords, ReadFault, Refused, Spent, Starved, WriteFault}
+use Rattle.session_meaning.specs.History.{History, history_rows, rows_of_trace}
+use Rattle.session_meaning.specs.Requests.{request_of}
+use Rattle.session_meaning.specs.Replies.{is_refusal, is_for_memory, reply_text, reply_texts}
+
+-- What is asked at a history is answered so, and leaves that history.
+-- A push is told how many pushes came before it, and is appended.
+-- A look-up is told that number too, and the first occurrences of the trace's spans in the history.
+-- A line that asks nothing is refused, and appends nothing.
+abbrev pub IsAnswered : Option Request → History → Reply → History → Type 0
+IsAnswered (Some (Push batch)) before reply after =
+    (reply ≡ Pushed (length before) (length batch.spans) 0 0) × (after ≡ before ++ batch.spans ∷ [])
+IsAnswered (Some (Trace id)) before reply after =
+    (rows : List Row) × IsFirstOf (rows_of_trace id (history_rows before)) rows × (reply ≡ Traced (length before) rows) × (after ≡ before)
+IsAnswered None before reply after = (reply ≡ NotBuilt) × (after ≡ before)
+
+-- The same, or memory was wanted: the line is refused for that, and appends nothing.
+abbrev pub IsAnsweredOrStarved : Option Request → History → Reply → History → Type 0
+IsAnsweredOrStarved request before reply after =
+    IsAnswered request before reply after ⊎ ((reply ≡ NoMemory) × (after ≡ before))
+
+-- The lines are answered in order, from a history to a history. A line without bytes gets no reply.
+abbrev pub Session : History → List (List ℕ) → List Reply → History → Type 0
+Session before [] replies after = (replies ≡ []) × (after ≡ before)
+Session before ([] ∷ lines) replies after = Session before lines replies after
+Session before ((b ∷ bs) ∷ lines) [] after = ⊥
+Session before ((b ∷ bs) ∷ lines) (reply ∷ replies) after =
+    (between : History) × IsAnsweredOrStarved (request_of (b ∷ bs)) before reply between × Session between lines replies after
+
+-- How a session ends whose input was read to its end: with a refusal for another cause than memory among its replies,
+-- else with one for memory among them, else with none.
+abbrev pub end_of : List Reply → Ending
+end_of replies = if list_any is_refusal replies then Refused else if list_any is_for_memory replies then Starved else Answered
+
+-- The input was read to its end, and all replies were written.
+abbrev pub IsAllRead : List ℕ → List (List ℕ) → List ℕ → List Reply → Option (List ℕ) → Type 0
+IsAllRead text later before replies taken =
+    (later ≡ []) × (length text < taken_limit) × (taken ≡ Some (before ++ reply_texts replies))
+
+-- All replies were written.
+abbrev pub IsWritten : List ℕ → List Reply → Option (List ℕ) → Type 0
+IsWritten before replies taken = taken ≡ Some (before ++ reply_texts replies)
+
+-- All replies but the last were written, and of the last its first few bytes.
+pub record IsCutOff (before : List ℕ) (replies : List Reply) (taken : Option (List ℕ)) (count : ℕ) : Type 0 where
+  pub whole : List Reply
+  pub last : Reply
+  pub replies_are : replies ≡ whole ++ last ∷ []
+  pub taken_is : taken ≡ Some (before ++ reply_texts whole ++ take count (reply_text last))
+
+-- What stands written at each ending. `later` are the lines that weren't answered, `before` the bytes that the sink had
+-- taken, `taken` those that it has taken now.
+abbrev pub Ends : Ending → List ℕ → List (List ℕ) → List ℕ → List Reply → Option (List ℕ) → Type 0
+Ends Answered text later before replies taken = IsAllRead text later before replies taken × (end_of replies ≡ Answered)
+Ends Refused text later before replies taken = IsAllRead text later before replies taken × (end_of replies ≡ Refused)
+Ends Starved text later before replies taken =
+    (IsAllRead text later before replies taken × (end_of replies ≡ Starved)) ⊎ (IsWritten before replies taken ⊎ IsCutOff before replies taken 0)
+Ends WriteFault text later before replies taken = (count : ℕ) × IsCutOff before replies taken count
+Ends ReadFault text later before replies taken = IsWritten before replies taken
+Ends Spent text later before replies taken = IsWritten before replies taken × (taken_limit ≤ length text)
+Ends BadWords text later before replies taken = ⊥
+
+-- What a session did that read `text` and ended so: the lines of a prefix were answered in order from no push on, and
+-- their replies, and nothing else, stand written as the ending says.
+pub record HasRun (text before : List ℕ) (taken : Option (List ℕ)) (ending : Ending) : Type 0 where
+  pub answered : List (List ℕ)
+  pub later : List (List ℕ)
+  pub replies : List Reply
+  pub history : History
+  pub lines_are : lines text ≡ answered ++ later
+  pub session : Session [] answered replies history
+  pub ends : Ends ending text later before replies taken

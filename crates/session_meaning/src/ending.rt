@@ -1,0 +1,42 @@
+//! How a run may end.
+
+ghost use Rattle.std.specs.Prelude.{◌≡◌};
+ghost use Rattle.session_meaning.specs.Statuses.{status_of};
+
+/// How a run ends.
+#[derive(Clone, Copy, Debug, PartialEq, Eq)]
+pub enum Ending {
+    /// The input was read to its end and all replies were written, none of them a refusal.
+    Answered,
+    /// The sink failed.
+    WriteFault,
+    /// The words of the command line are no command. Nothing was taken, and nothing written.
+    BadWords,
+    /// The source failed. The replies to the lines before stand written.
+    ReadFault,
+    /// Memory was wanted for more than one line's answer; or all was read and written, and the refusals among the
+    /// replies, of which there is one, are all for memory.
+    Starved,
+    /// The input was read to its end and all replies were written, and one of them is a refusal for another cause than
+    /// memory.
+    Refused,
+    /// As many bytes were taken of the source as a run takes.
+    Spent,
+}
+
+impl Ending {
+    /// The exit status of a program that ends so.
+    pub fn status(self) -> u8
+        ensures { result ≡ status_of self }
+    {
+        match self {
+            Ending::Answered => 0,
+            Ending::WriteFault => 1,
+            Ending::BadWords => 2,
+            Ending::ReadFault => 3,
+            Ending::Starved => 6,
+            Ending::Refused => 7,
+            Ending::Spent => 8,
+        }
+    }
+}

@@ -1,0 +1,4 @@
+pub mod RowLemmas
+pub mod WordLemmas
+pub mod SessionLemmas
+pub mod TurnLemmas

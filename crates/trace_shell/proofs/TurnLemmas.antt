@@ -1,0 +1,278 @@
+-- What a turn leaves, from what its steps did.
+use Rattle.std.proofs.Common.{◌≡◌, ◌⊎◌, inl, inr, ℕ, ◌+◌, ◌<◌, ◌≤◌, zero, suc, List, [], ◌∷◌, ◌++◌, Option, Some, None, Bool, true, false, ◌||◌, nat_le, length, take, refl, sym, ◌∙◌, ap, subst, arith, length-append, append_assoc, append-nil, if◌then◌else◌}
+use Rattle.std.specs.List.{list_any}
+use Rattle.std.specs.Io.KnownBytes.{Appends, Consumes}
+use Rattle.io_edges.specs.declared.line.Line.{Line}
+use Rattle.io_edges.specs.declared.line.Line.TheVariants.{Whole, TooLong, End, Spent as AllSpent}
+use Rattle.io_edges.specs.Devices.{AppendsPrefix}
+use Rattle.io_edges.specs.Lines.{lines, line_limit, taken_limit}
+use Rattle.io_edges.specs.Reader.{Reader, IsNextLine, IsToRead, TakesBytes}
+use Rattle.session_meaning.specs.declared.ending.Ending.{Ending}
+use Rattle.session_meaning.specs.declared.ending.Ending.TheVariants.{Answered, BadWords, ReadFault, Refused, Spent, Starved, WriteFault}
+use Rattle.session_meaning.specs.declared.reply.Reply.{Reply}
+use Rattle.session_meaning.specs.declared.reply.Reply.TheVariants.{Pushed, Traced, NotBuilt, NoMemory}
+use Rattle.session_meaning.specs.History.{History}
+use Rattle.session_meaning.specs.Requests.{request_of}
+use Rattle.session_meaning.specs.Replies.{is_refusal, is_for_memory, reply_text, reply_texts}
+use Rattle.session_meaning.specs.Session.{Ends, HasRun, IsAllRead, IsAnsweredOrStarved, IsCutOff, IsWritten, end_of}
+use Rattle.session_meaning.specs.SessionLaws.{Progress, progress_begins, progress_empty, progress_line, reply_texts-push}
+use Rattle.trace_shell.specs.declared.session.Seen.{Seen}
+use Rattle.trace_shell.specs.Holding.{Holding, Holds}
+use Rattle.trace_shell.specs.Turn.{HasGiven, IsAt, Turned, ending_of, seen_with}
+
+-- Bytes taken in two steps.
+pub took_more : (text : List ℕ) (left new : Option (List ℕ)) (a b c : ℕ) → TakesBytes (Some text) left a b → TakesBytes left new b c → TakesBytes (Some text) new a c
+took_more text None new a b c first second = absurd first.1
+took_more text (Some xs) None a b c first second = absurd second.1
+took_more text (Some xs) (Some ys) a b c first second =
+    (first.0 ++ second.0,
+      first.1 ∙ ap (λ zs. first.0 ++ zs) second.1 ∙ sym (append_assoc first.0 second.0 ys),
+      rw length-append (omega (arith, first.2, second.2)))
+
+-- As many bytes as were taken are in the text.
+pub taken_within : (text : List ℕ) (left : Option (List ℕ)) (taken : ℕ) → TakesBytes (Some text) left 0 taken → taken ≤ length text
+taken_within text None taken took = absurd took.1
+taken_within text (Some xs) taken took =
+    let sizes : length text ≡ length took.0 + length xs = ap length took.1 ∙ length-append took.0 xs in
+    omega (arith, sizes, took.2)
+
+-- Where nothing is left they are just that many.
+pub taken_all : (text : List ℕ) (left : Option (List ℕ)) (taken : ℕ) → TakesBytes (Some text) left 0 taken → left ≡ Some [] → length text ≡ taken
+taken_all text left taken took none =
+    let all : TakesBytes (Some text) (Some []) 0 taken = subst (λ l. TakesBytes (Some text) l 0 taken) none took in
+    let sizes : length text ≡ length all.0 + 0 = ap length all.1 ∙ length-append all.0 [] in
+    omega (arith, sizes, all.2)
+
+appended : (before : List ℕ) (replies : List Reply) (reply : Reply) (old new : Option (List ℕ)) → old ≡ Some (before ++ reply_texts replies) →
+    Appends old new (reply_text reply) → new ≡ Some (before ++ reply_texts (replies ++ reply ∷ []))
+appended before replies reply None new is h = cc
+appended before replies reply (Some xs) None is h = absurd h
+appended before replies reply (Some xs) (Some ys) is h =
+    ap Some (h ∙ ap (λ zs. zs ++ reply_text reply) (same _ _ is) ∙ append_assoc before (reply_texts replies) (reply_text reply)
+      ∙ ap (λ zs. before ++ zs) (sym (reply_texts-push replies reply)))
+  where
+    same : (a b : List ℕ) → Some a ≡ Some b → a ≡ b
+    same a b e = cc
+
+cut_off : (before : List ℕ) (replies : List Reply) (reply : Reply) (old new : Option (List ℕ)) (count : ℕ) → old ≡ Some (before ++ reply_texts replies) →
+    Appends old new (take count (reply_text reply)) → IsCutOff before (replies ++ reply ∷ []) new count
+cut_off before replies reply None new count is h = absurd (none_is_some is)
+  where
+    none_is_some : None ≡ Some (before ++ reply_texts replies) → ⊥
+    none_is_some e = cc
+cut_off before replies reply (Some xs) None count is h = absurd h
+cut_off before replies reply (Some xs) (Some ys) count is h = record {
+    whole = replies;
+    last = reply;
+    replies_are = refl;
+    taken_is = ap Some (h ∙ ap (λ zs. zs ++ take count (reply_text reply)) (same _ _ is))
+  }
+  where
+    same : (a b : List ℕ) → Some a ≡ Some b → a ≡ b
+    same a b e = cc
+
+list_any-push : (p : Reply → Bool) (rs : List Reply) (r : Reply) → list_any p (rs ++ r ∷ []) ≡ (list_any p rs || p r)
+list_any-push p [] r = or_false (p r)
+  where
+    or_false : (b : Bool) → (b || false) ≡ b
+    or_false true = refl
+    or_false false = refl
+list_any-push p (x ∷ xs) r = or_step (p x) (list_any p xs) (p r) (list_any p (xs ++ r ∷ [])) (list_any-push p xs r)
+  where
+    or_step : (a b c d : Bool) → d ≡ (b || c) → (a || d) ≡ ((a || b) || c)
+    or_step true b c d h = refl
+    or_step false b c d h = h
+
+seen_of : (p : Reply → Bool) (now : Bool) (replies : List Reply) (reply : Reply) (next : Bool) → now ≡ list_any p replies → next ≡ (now || p reply) →
+    next ≡ list_any p (replies ++ reply ∷ [])
+seen_of p now replies reply next h step = step ∙ ap (λ b. b || p reply) h ∙ sym (list_any-push p replies reply)
+
+or_no : (b : Bool) → b ≡ (b || false)
+or_no true = refl
+or_no false = refl
+
+or_yes : (b : Bool) → true ≡ (b || true)
+or_yes true = refl
+or_yes false = refl
+
+refused_with : (seen : Seen) (reply : Reply) → (seen_with seen reply).refused ≡ (seen.refused || is_refusal reply)
+refused_with seen (Pushed n a r s) = or_no seen.refused
+refused_with seen (Traced n rows) = or_no seen.refused
+refused_with seen NotBuilt = or_yes seen.refused
+refused_with seen NoMemory = or_no seen.refused
+
+starved_with : (seen : Seen) (reply : Reply) → (seen_with seen reply).starved ≡ (seen.starved || is_for_memory reply)
+starved_with seen (Pushed n a r s) = or_no seen.starved
+starved_with seen (Traced n rows) = or_no seen.starved
+starved_with seen NotBuilt = or_no seen.starved
+starved_with seen NoMemory = or_yes seen.starved
+
+-- A line was answered at a history, and its reply given.
+pub answered_at : (text before : List ℕ) (left_old left taken_old taken : Option (List ℕ)) (reader_old reader : Reader) (held_old held : Holding) (seen_old seen : Seen)
+    (line : List ℕ) (reply : Reply) (after : History) (outcome : Option Ending) (at : IsAt text before left_old taken_old reader_old held_old seen_old) →
+    IsNextLine at.rest line (IsToRead reader left) → 0 < length line → IsAnsweredOrStarved (request_of line) at.history reply after → Holds held after →
+    TakesBytes left_old left reader_old.taken reader.taken → HasGiven taken_old taken seen_old seen reply outcome →
+    Turned text before left taken reader held seen outcome
+answered_at text before left_old left taken_old taken reader_old reader held_old held seen_old seen [] reply after outcome at next some a h took given = absurd (omega arith)
+answered_at text before left_old left taken_old taken reader_old reader held_old held seen_old seen (b ∷ bs) reply after outcome at next some a h took given =
+    turned outcome given
+  where
+    progress : Progress text next.rest (at.replies ++ reply ∷ []) after
+    progress = progress_line text at.rest next.rest at.replies at.history after b bs reply at.progress next.first a
+    turned : (o : Option Ending) → HasGiven taken_old taken seen_old seen reply o → Turned text before left taken reader held seen o
+    turned None g = record {
+        rest = next.rest;
+        replies = at.replies ++ reply ∷ [];
+        history = after;
+        to_read = next.after;
+        progress = progress;
+        holds = h;
+        written = appended before at.replies reply taken_old taken at.written g.0;
+        refused = ap (λ s. s.refused) g.1 ∙ seen_of is_refusal seen_old.refused at.replies reply (seen_with seen_old reply).refused at.refused (refused_with seen_old reply);
+        starved = ap (λ s. s.starved) g.1 ∙ seen_of is_for_memory seen_old.starved at.replies reply (seen_with seen_old reply).starved at.starved (starved_with seen_old reply);
+        took = took_more text left_old left 0 reader_old.taken reader.taken at.took took
+      }
+    turned (Some Starved) g = record {
+        answered = progress.answered;
+        later = lines next.rest;
+        replies = at.replies ++ reply ∷ [];
+        history = after;
+        lines_are = progress.lines_are;
+        session = progress.session;
+        ends = inr (inr (record {
+          whole = at.replies;
+          last = reply;
+          replies_are = refl;
+          taken_is = g ∙ at.written ∙ ap Some (sym (append-nil (before ++ reply_texts at.replies)))
+        }))
+      }
+    turned (Some WriteFault) g = record {
+        answered = progress.answered;
+        later = lines next.rest;
+        replies = at.replies ++ reply ∷ [];
+        history = after;
+        lines_are = progress.lines_are;
+        session = progress.session;
+        ends = (g.0, cut_off before at.replies reply taken_old taken g.0 at.written g.1)
+      }
+    turned (Some Answered) g = absurd g
+    turned (Some BadWords) g = absurd g
+    turned (Some ReadFault) g = absurd g
+    turned (Some Refused) g = absurd g
+    turned (Some Spent) g = absurd g
+
+-- A line without bytes was passed over.
+pub passed_at : (text before : List ℕ) (left_old left taken_old taken : Option (List ℕ)) (reader_old reader : Reader) (held_old held : Holding) (seen_old seen : Seen)
+    (at : IsAt text before left_old taken_old reader_old held_old seen_old) →
+    IsNextLine at.rest [] (IsToRead reader left) → held ≡ held_old → seen ≡ seen_old → taken ≡ taken_old →
+    TakesBytes left_old left reader_old.taken reader.taken → IsAt text before left taken reader held seen
+passed_at text before left_old left taken_old taken reader_old reader held_old held seen_old seen at next same_held same_seen same_taken took = record {
+    rest = next.rest;
+    replies = at.replies;
+    history = at.history;
+    to_read = next.after;
+    progress = progress_empty text at.rest next.rest at.replies at.history at.progress next.first;
+    holds = subst (λ h. Holds h at.history) (sym same_held) at.holds;
+    written = same_taken ∙ at.written;
+    refused = ap (λ s. s.refused) same_seen ∙ at.refused;
+    starved = ap (λ s. s.starved) same_seen ∙ at.starved;
+    took = took_more text left_old left 0 reader_old.taken reader.taken at.took took
+  }
+
+-- A whole line was read, and answered where it has bytes.
+pub whole_at : (text before : List ℕ) (left_old left taken_old taken : Option (List ℕ)) (reader_old reader : Reader) (held_old held : Holding) (seen_old seen : Seen)
+    (line : List ℕ) (outcome : Option Ending) (at : IsAt text before left_old taken_old reader_old held_old seen_old) →
+    IsNextLine at.rest line (IsToRead reader left) → TakesBytes left_old left reader_old.taken reader.taken →
+    (line ≡ [] → (outcome ≡ None) × (held ≡ held_old) × (seen ≡ seen_old) × (taken ≡ taken_old)) →
+    (0 < length line → (history : History) → Holds held_old history → (reply : Reply) × (after : History)
+      × IsAnsweredOrStarved (request_of line) history reply after × Holds held after × HasGiven taken_old taken seen_old seen reply outcome) →
+    Turned text before left taken reader held seen outcome
+whole_at text before left_old left taken_old taken reader_old reader held_old held seen_old seen [] outcome at next took none some =
+    let same = none refl in
+    rw same.0 (passed_at text before left_old left taken_old taken reader_old reader held_old held seen_old seen at next same.1 same.2 same.3 took)
+whole_at text before left_old left taken_old taken reader_old reader held_old held seen_old seen (b ∷ bs) outcome at next took none some =
+    let given = some (omega arith) at.history at.holds in
+    answered_at text before left_old left taken_old taken reader_old reader held_old held seen_old seen (b ∷ bs) given.0 given.1 outcome at next (omega arith)
+      given.2 given.3 took given.4
+
+-- A line of too many bytes asks nothing.
+too_long_asks : (line : List ℕ) → line_limit < length line → request_of line ≡ None
+too_long_asks line long = rw (not_within (length line) long) refl
+  where
+    not_within : (n : ℕ) → line_limit < n → nat_le n line_limit ≡ false
+    not_within n h = grind arith
+
+-- A line of too many bytes was read, and refused.
+pub too_long_at : (text before : List ℕ) (left_old left taken_old taken : Option (List ℕ)) (reader_old reader : Reader) (held : Holding) (seen_old seen : Seen)
+    (size : ℕ) (outcome : Option Ending) (at : IsAt text before left_old taken_old reader_old held seen_old) →
+    (line : List ℕ) × IsNextLine at.rest line (IsToRead reader left) × (size ≡ length line) → line_limit < size →
+    TakesBytes left_old left reader_old.taken reader.taken → HasGiven taken_old taken seen_old seen NotBuilt outcome →
+    Turned text before left taken reader held seen outcome
+too_long_at text before left_old left taken_old taken reader_old reader held seen_old seen size outcome at (line, next, is) long took given =
+    let over : line_limit < length line = omega (arith, is, long) in
+    answered_at text before left_old left taken_old taken reader_old reader held held seen_old seen line NotBuilt at.history outcome at next (omega (arith, over))
+      (rw (too_long_asks line over) (inl (refl, refl))) at.holds took given
+
+-- The lines that weren't answered are those of what is to be read.
+stops : (text before : List ℕ) (left taken : Option (List ℕ)) (reader : Reader) (held : Holding) (seen : Seen) (ending : Ending)
+    (at : IsAt text before left taken reader held seen) → Ends ending text (lines at.rest) before at.replies taken → HasRun text before taken ending
+stops text before left taken reader held seen ending at ends = record {
+    answered = at.progress.answered;
+    later = lines at.rest;
+    replies = at.replies;
+    history = at.history;
+    lines_are = at.progress.lines_are;
+    session = at.progress.session;
+    ends = ends
+  }
+
+ends_all_read : (text : List ℕ) (later : List (List ℕ)) (before : List ℕ) (replies : List Reply) (taken : Option (List ℕ)) →
+    IsAllRead text later before replies taken → Ends (end_of replies) text later before replies taken
+ends_all_read text later before replies taken all =
+    elim (list_any is_refusal replies) as (λ t. list_any is_refusal replies ≡ t → Ends (if t then Refused else if list_any is_for_memory replies then Starved else Answered) text later before replies taken) [
+        true ↦ λ e. (all, rw e refl)
+      | false ↦ λ e. elim (list_any is_for_memory replies) as (λ t. list_any is_for_memory replies ≡ t → Ends (if t then Starved else Answered) text later before replies taken) [
+          true ↦ λ f. inl (all, rw (e, f) refl)
+        | false ↦ λ f. (all, rw (e, f) refl)
+      ] refl
+    ] refl
+
+-- All was read.
+pub ended_at : (text before : List ℕ) (left_old left taken : Option (List ℕ)) (reader_old reader : Reader) (held : Holding) (seen : Seen)
+    (at : IsAt text before left_old taken reader_old held seen) → (at.rest ≡ []) × IsToRead reader left [] → reader.taken < taken_limit →
+    TakesBytes left_old left reader_old.taken reader.taken → HasRun text before taken (ending_of seen)
+ended_at text before left_old left taken reader_old reader held seen at (none, to_read) fewer took =
+    let read = took_more text left_old left 0 reader_old.taken reader.taken at.took took in
+    let no_more : left ≡ Some [] = nothing_left reader left to_read in
+    let size : length text ≡ reader.taken = taken_all text left reader.taken read no_more in
+    let all : IsAllRead text (lines at.rest) before at.replies taken = (ap lines none, subst (λ n. n < taken_limit) (sym size) fewer, at.written) in
+    stops text before left_old taken reader_old held seen (ending_of seen) at
+      (subst (λ e. Ends e text (lines at.rest) before at.replies taken) (sym (same_ending seen at.replies at.refused at.starved))
+        (ends_all_read text (lines at.rest) before at.replies taken all))
+  where
+    same_ending : (seen : Seen) (replies : List Reply) → seen.refused ≡ list_any is_refusal replies → seen.starved ≡ list_any is_for_memory replies →
+        ending_of seen ≡ end_of replies
+    same_ending seen replies r s = rw (r, s) refl
+    nothing_left : (reader : Reader) (left : Option (List ℕ)) → IsToRead reader left [] → left ≡ Some []
+    nothing_left reader left h = h.told ∙ ap Some (last_empty h.held h.rest h.text_is)
+      where
+        last_empty : (a b : List ℕ) → [] ≡ a ++ b → b ≡ []
+        last_empty [] b e = sym e
+        last_empty (x ∷ xs) b e = cc
+
+-- As many bytes were taken as are ever taken.
+pub spent_at : (text before : List ℕ) (left_old left taken : Option (List ℕ)) (reader_old reader : Reader) (held : Holding) (seen : Seen)
+    (at : IsAt text before left_old taken reader_old held seen) → reader.taken ≡ taken_limit →
+    TakesBytes left_old left reader_old.taken reader.taken → HasRun text before taken Spent
+spent_at text before left_old left taken reader_old reader held seen at all took =
+    stops text before left_old taken reader_old held seen Spent at
+      (at.written, subst (λ n. n ≤ length text) all (taken_within text left reader.taken (took_more text left_old left 0 reader_old.taken reader.taken at.took took)))
+
+-- The source failed, or memory was wanted for a line.
+pub failed_at : (text before : List ℕ) (left taken : Option (List ℕ)) (reader : Reader) (held : Holding) (seen : Seen) →
+    IsAt text before left taken reader held seen → HasRun text before taken ReadFault
+failed_at text before left taken reader held seen at = stops text before left taken reader held seen ReadFault at at.written
+
+pub starved_at : (text before : List ℕ) (left taken : Option (List ℕ)) (reader : Reader) (held : Holding) (seen : Seen) →
+    IsAt text before left taken reader held seen → HasRun text before taken Starved
+starved_at text before left taken reader held seen at = stops text before left taken reader held seen Starved at (inr (inl at.written))

@@ -1,0 +1,4 @@
+pub mod Holding
+pub mod Words
+pub mod Few
+pub mod Turn

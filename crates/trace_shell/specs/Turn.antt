@@ -1,0 +1,54 @@
+-- What a turn of a session does: one line is read and answered, and its reply written.
+use Rattle.std.specs.Prelude.{◌≡◌, ◌⊎◌, ℕ, List, [], ◌∷◌, ◌++◌, Bool, true, false, Option, Some, None, take, if◌then◌else◌}
+use Rattle.std.specs.List.{list_any}
+use Rattle.std.specs.Io.KnownBytes.{Appends}
+use Rattle.io_edges.specs.Devices.{AppendsPrefix}
+use Rattle.io_edges.specs.Reader.{Reader, IsToRead, TakesBytes}
+use Rattle.session_meaning.specs.declared.ending.Ending.{Ending}
+use Rattle.session_meaning.specs.declared.ending.Ending.TheVariants.{Answered, BadWords, ReadFault, Refused, Spent, Starved, WriteFault}
+use Rattle.session_meaning.specs.declared.reply.Reply.{Reply}
+use Rattle.session_meaning.specs.declared.reply.Reply.TheVariants.{Pushed, Traced, NotBuilt, NoMemory}
+use Rattle.session_meaning.specs.History.{History}
+use Rattle.session_meaning.specs.Replies.{is_refusal, is_for_memory, reply_text, reply_texts}
+use Rattle.session_meaning.specs.Session.{HasRun}
+use Rattle.session_meaning.specs.SessionLaws.{Progress}
+use Rattle.trace_shell.specs.declared.session.Seen.{Seen}
+use Rattle.trace_shell.specs.Holding.{Holding, Holds}
+
+-- Which refusals are among the replies, after one more.
+abbrev pub seen_with : Seen → Reply → Seen
+seen_with seen (Pushed _ _ _ _) = seen
+seen_with seen (Traced _ _) = seen
+seen_with seen NotBuilt = record seen { refused = true }
+seen_with seen NoMemory = record seen { starved = true }
+
+-- How a session ends whose input was read to its end.
+abbrev pub ending_of : Seen → Ending
+ending_of seen = if seen.refused then Refused else if seen.starved then Starved else Answered
+
+-- A reply was written whole; or there was no memory for its text, and nothing was written; or the sink failed, having
+-- taken a part of it.
+abbrev pub HasGiven : Option (List ℕ) → Option (List ℕ) → Seen → Seen → Reply → Option Ending → Type 0
+HasGiven old new seen_old seen_new reply None = Appends old new (reply_text reply) × (seen_new ≡ seen_with seen_old reply)
+HasGiven old new seen_old seen_new reply (Some Starved) = new ≡ old
+HasGiven old new seen_old seen_new reply (Some WriteFault) = AppendsPrefix old new (reply_text reply)
+HasGiven old new seen_old seen_new reply (Some _) = ⊥
+
+-- Where a session is between two lines: what is to be read, how far it came in `text`, what is held, and what stands
+-- written after `before`.
+pub record IsAt (text before : List ℕ) (left taken : Option (List ℕ)) (reader : Reader) (held : Holding) (seen : Seen) : Type 0 where
+  pub rest : List ℕ
+  pub replies : List Reply
+  pub history : History
+  pub to_read : IsToRead reader left rest
+  pub progress : Progress text rest replies history
+  pub holds : Holds held history
+  pub written : taken ≡ Some (before ++ reply_texts replies)
+  pub refused : seen.refused ≡ list_any is_refusal replies
+  pub starved : seen.starved ≡ list_any is_for_memory replies
+  pub took : TakesBytes (Some text) left 0 reader.taken
+
+-- What a turn leaves: the session is at its next line, or it ended.
+abbrev pub Turned : List ℕ → List ℕ → Option (List ℕ) → Option (List ℕ) → Reader → Holding → Seen → Option Ending → Type 0
+Turned text before left taken reader held seen None = IsAt text before left taken reader held seen
+Turned text before left taken reader held seen (Some ending) = HasRun text before taken ending

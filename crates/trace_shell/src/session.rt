@@ -1,0 +1,208 @@
+//! A session: the lines of a source are answered in order, each reply written before the next line is read.
+
+ghost use Rattle.std.specs.Prelude.{◌≡◌, ◌⊎◌, ◌+◌, ◌^◌, ◌<◌, ◌≤◌, ℕ, List, [], Some, None, IfSome, IfNone, length};
+ghost use Rattle.span_types.specs.Faults.{Rose};
+ghost use Rattle.otlp_spans.specs.Reading.{most_spans};
+ghost use Rattle.io_edges.specs.Lines.{taken_limit};
+ghost use Rattle.io_edges.specs.Reader.{TakesBytes, to_come};
+ghost use Rattle.session_meaning.specs.declared.ending.Ending.TheVariants.{BadWords, ReadFault, Spent, Starved, WriteFault};
+ghost use Rattle.session_meaning.specs.declared.reply.Reply.{Reply};
+ghost use Rattle.session_meaning.specs.declared.request.Request.TheVariants.{Push, Trace};
+ghost use Rattle.session_meaning.specs.History.{History};
+ghost use Rattle.session_meaning.specs.Requests.{request_of};
+ghost use Rattle.session_meaning.specs.Session.{HasRun, IsAnsweredOrStarved};
+ghost use Rattle.trace_shell.specs.Holding.{Holds};
+ghost use Rattle.trace_shell.specs.Turn.{seen_with, ending_of, HasGiven, IsAt, Turned};
+
+use crate::held::Held;
+use crate::read_request::{NoRequest, read_request};
+use crate::write_reply::write_reply;
+use io_edges::{Line, LineError, LineReader, Sink, Source};
+use session_meaning::{Ending, Reply, Request};
+use span_types::{Batch, Failed, Memory, TraceId};
+use std::alloc::Global;
+
+/// Which refusals are among the replies so far.
+#[derive(Clone, Copy, Debug)]
+pub(crate) struct Seen {
+    /// One for another cause than memory.
+    refused: bool,
+    /// One for memory.
+    starved: bool,
+}
+
+impl Seen {
+    // Adds a reply.
+    fn add(&mut self, reply: &Reply)
+        ensures { self.new ≡ seen_with self.old reply.now }
+    {
+        match reply {
+            Reply::NotBuilt => self.refused = true,
+            Reply::NoMemory => self.starved = true,
+            Reply::Pushed { .. } | Reply::Traced { .. } => {}
+        }
+    }
+
+    // How a session ends whose input was read to its end.
+    fn ending(&self) -> Ending
+        ensures { result ≡ ending_of self.now }
+    {
+        if self.refused {
+            Ending::Refused
+        } else if self.starved {
+            Ending::Starved
+        } else {
+            Ending::Answered
+        }
+    }
+}
+
+/// Answers the lines of the source in order, from no push on, and writes each reply before it reads the next line.
+pub(crate) fn session<S: Source, K: Sink>(alloc: Global, source: &mut S, sink: &mut K) -> Ending
+    ensures ran { (text before : List ℕ) → S.left source.old ≡ Some text → K.taken sink.old ≡ Some before
+        → HasRun text before (K.taken sink.new) result }
+    ensures write_fault { result ≡ WriteFault → Rose (K.faults sink.old) (K.faults sink.new) }
+    ensures read_fault { result ≡ ReadFault → Rose (S.faults source.old) (S.faults source.new) }
+    ensures spent { result ≡ Spent → TakesBytes (S.left source.old) (S.left source.new) 0 taken_limit }
+    ensures words { result ≡ BadWords → ⊥ }
+{
+    let mut reader = LineReader::new(alloc);
+    let mut held = Held::new(alloc);
+    let mut seen = Seen {
+        refused: false,
+        starved: false,
+    };
+    'lines: loop {
+        if let Some(ending) = turn(alloc, &mut reader, source, &mut held, &mut seen, sink) {
+            return ending;
+        }
+    }
+}
+
+// Reads the next line, answers it and writes the reply. Gives how the session ends, where it does.
+fn turn<S: Source, K: Sink>(
+    alloc: Global,
+    reader: &mut LineReader,
+    source: &mut S,
+    held: &mut Held,
+    seen: &mut Seen,
+    sink: &mut K,
+) -> Option<Ending>
+    requires room { held.old.pushes + to_come reader.old ≤ taken_limit }
+    ensures turned { (text before : List ℕ)
+        → IsAt text before (S.left source.old) (K.taken sink.old) reader.old held.old seen.old
+        → Turned text before (S.left source.new) (K.taken sink.new) reader.new held.new seen.new result }
+    ensures room { IfNone result (held.new.pushes + to_come reader.new ≤ taken_limit) }
+    ensures nearer { IfNone result (to_come reader.new < to_come reader.old) }
+    ensures source_counted { S.faults source.old ≤ S.faults source.new }
+    ensures sink_counted { K.faults sink.old ≤ K.faults sink.new }
+    ensures write_fault { IfSome result (λ ending. ending ≡ WriteFault → Rose (K.faults sink.old) (K.faults sink.new)) }
+    ensures read_fault { IfSome result (λ ending. ending ≡ ReadFault → Rose (S.faults source.old) (S.faults source.new)) }
+    ensures took { TakesBytes (S.left source.old) (S.left source.new) reader.old.taken reader.new.taken }
+    ensures spent { IfSome result (λ ending. ending ≡ Spent → reader.new.taken ≡ taken_limit) }
+    ensures words { IfSome result (λ ending. ending ≡ BadWords → ⊥) }
+{
+    let line = match reader.next(source) {
+        Ok(line) => line,
+        Err(LineError::Fault) => return Some(Ending::ReadFault),
+        Err(LineError::Memory) => return Some(Ending::Starved),
+    };
+    match line {
+        Line::Whole(bytes) => answer_line(alloc, held, seen, sink, bytes.as_slice()),
+        Line::TooLong { .. } => give(alloc, seen, sink, &Reply::NotBuilt),
+        Line::End => Some(seen.ending()),
+        Line::Spent { .. } => Some(Ending::Spent),
+    }
+}
+
+// Answers a line and writes the reply. A line without bytes gets none.
+fn answer_line<K: Sink>(
+    alloc: Global,
+    held: &mut Held,
+    seen: &mut Seen,
+    sink: &mut K,
+    line: &[u8],
+) -> Option<Ending>
+    requires { held.old.pushes + 1 < 2 ^ 64 }
+    ensures empty { line.now ≡ [] → (result ≡ None) × (held.new ≡ held.old) × (seen.new ≡ seen.old) × (K.taken sink.new ≡ K.taken sink.old) }
+    ensures answered { 0 < length line.now → (history : History) → Holds held.old history
+        → (reply : Reply) × (after : History) × IsAnsweredOrStarved (request_of line.now) history reply after
+        × Holds held.new after × HasGiven (K.taken sink.old) (K.taken sink.new) seen.old seen.new reply result }
+    ensures count { held.new.pushes ≤ held.old.pushes + 1 }
+    ensures sink_counted { K.faults sink.old ≤ K.faults sink.new }
+    ensures write_fault { IfSome result (λ ending. ending ≡ WriteFault → Rose (K.faults sink.old) (K.faults sink.new)) }
+    ensures endings { IfSome result (λ ending. (ending ≡ WriteFault) ⊎ (ending ≡ Starved)) }
+{
+    if line.is_empty() {
+        return None;
+    }
+    let reply = answer(alloc, held, line);
+    give(alloc, seen, sink, &reply)
+}
+
+// Answers a line.
+fn answer(alloc: Global, held: &mut Held, line: &[u8]) -> Reply
+    requires { held.old.pushes + 1 < 2 ^ 64 }
+    ensures answered { (history : History) → Holds held.old history
+        → (after : History) × IsAnsweredOrStarved (request_of line.now) history result after × Holds held.new after }
+    ensures count { held.new.pushes ≤ held.old.pushes + 1 }
+{
+    match read_request(alloc, line) {
+        Ok(Request::Push(batch)) => push(held, batch),
+        Ok(Request::Trace(id)) => trace(held, id),
+        Err(NoRequest::NotBuilt) => Reply::NotBuilt,
+        Err(NoRequest::Memory) => Reply::NoMemory,
+    }
+}
+
+// Appends a batch.
+fn push(held: &mut Held, batch: Batch) -> Reply
+    requires counts { held.old.pushes + 1 < 2 ^ 64 }
+    requires few { length batch.spans ≤ most_spans }
+    ensures answered { (history : History) → Holds held.old history
+        → (after : History) × IsAnsweredOrStarved (Some (Push batch)) history result after × Holds held.new after }
+    ensures count { held.new.pushes ≤ held.old.pushes + 1 }
+{
+    let accepted = batch.spans.len() as u64;
+    match held.push(batch) {
+        Ok(number) => Reply::Pushed {
+            number,
+            accepted,
+            rejected: 0,
+            skipped: 0,
+        },
+        Err(Memory) => Reply::NoMemory,
+    }
+}
+
+// Tells a trace.
+fn trace(held: &Held, id: TraceId) -> Reply
+    ensures answered { (history : History) → Holds held.now history
+        → IsAnsweredOrStarved (Some (Trace id)) history result history }
+{
+    match held.trace(id) {
+        Ok(rows) => Reply::Traced {
+            as_of: held.pushes(),
+            rows,
+        },
+        Err(Memory) => Reply::NoMemory,
+    }
+}
+
+// Writes a reply. Gives how the session ends, where it can't be written.
+fn give<K: Sink>(alloc: Global, seen: &mut Seen, sink: &mut K, reply: &Reply) -> Option<Ending>
+    ensures given { HasGiven (K.taken sink.old) (K.taken sink.new) seen.old seen.new reply.now result }
+    ensures sink_counted { K.faults sink.old ≤ K.faults sink.new }
+    ensures write_fault { IfSome result (λ ending. ending ≡ WriteFault → Rose (K.faults sink.old) (K.faults sink.new)) }
+    ensures endings { IfSome result (λ ending. (ending ≡ WriteFault) ⊎ (ending ≡ Starved)) }
+{
+    let text = match write_reply(alloc, reply) {
+        Ok(text) => text,
+        Err(Memory) => return Some(Ending::Starved),
+    };
+    seen.add(reply);
+    match sink.put(text.as_bytes()) {
+        Ok(()) => None,
+        Err(Failed) => Some(Ending::WriteFault),
+    }
+}
