@@ -167,3 +167,33 @@ pub record IsOnTheWay {S : Type 0} (left : S → Option (List ℕ)) (faults : S 
   pub nearer : to_come now ≤ to_come old
   pub tells : is_some (left source_now) ≡ is_some (left source_old)
   pub counted : faults source_old ≤ faults source_now
+
+-- ---- what a caller knows in the arm of an answer
+
+pub Answers-whole : (answer : Line) (bytes text : List ℕ) (ToRead : List ℕ → Type 0) → answer ≡ Whole bytes → Answers answer text ToRead
+    → IsNextLine text bytes ToRead
+Answers-whole answer bytes text ToRead is answers =
+    let P : Line → Type 0 = λ l. Answers l text ToRead in subst P is answers
+
+pub Answers-too_long : (answer : Line) (size : ℕ) (text : List ℕ) (ToRead : List ℕ → Type 0) → answer ≡ TooLong size → Answers answer text ToRead
+    → (line : List ℕ) × IsNextLine text line ToRead × (size ≡ length line)
+Answers-too_long answer size text ToRead is answers =
+    let P : Line → Type 0 = λ l. Answers l text ToRead in subst P is answers
+
+pub Answers-ended : (answer : Line) (text : List ℕ) (ToRead : List ℕ → Type 0) → answer ≡ End → Answers answer text ToRead
+    → (text ≡ []) × ToRead []
+Answers-ended answer text ToRead is answers =
+    let P : Line → Type 0 = λ l. Answers l text ToRead in subst P is answers
+
+-- A fresh reader and a source that tells `text` have it to read.
+pub IsToRead-start : (reader : Reader) (left : Option (List ℕ)) → ((text : List ℕ) → IsToRead reader (Some text) text)
+    → (text : List ℕ) → left ≡ Some text → IsToRead reader left text
+IsToRead-start reader left fresh text told =
+    let P : Option (List ℕ) → Type 0 = λ l. IsToRead reader l text in subst P (sym told) (fresh text)
+
+-- Where a source tells its bytes, what a reader took of them is what is gone.
+pub TakesBytes-told : (before after : Option (List ℕ)) (xs : List ℕ) (first second : ℕ) → before ≡ Some xs → TakesBytes before after first second
+    → (ys : List ℕ) × (after ≡ Some ys) × (first + length xs ≡ second + length ys)
+TakesBytes-told before after xs first second told took =
+    let t = Consumes-told before after took.0 xs told took.1 in
+    (t.0, t.1, omega (arith, took.2, ap length t.2, length-append took.0 t.0))

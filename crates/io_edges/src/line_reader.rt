@@ -19,7 +19,7 @@ const LINE_FEED: u8 = 10;
 
 /// Reads a source line by line. A line ends at a line feed, byte 10, or at the end of input; one carriage return, byte
 /// 13, at its end isn't part of it.
-#[derive(Debug, Drop)]
+#[derive(Debug)]
 pub struct LineReader {
     alloc: Global,
     block: Block,
@@ -38,6 +38,16 @@ impl Model for LineReader {
     ghost invariant = { λ r. IsSound r.begun
         × (begun_len r.begun + length r.block.pending ≤ r.block.taken)
         × (r.block.taken ≤ taken_limit) };
+}
+
+impl Drop for LineReader {
+    fn drop(self) {
+        let LineReader {
+            alloc: _,
+            block: _,
+            begun: _,
+        } = self;
+    }
 }
 
 impl LineReader {
