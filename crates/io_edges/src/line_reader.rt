@@ -63,8 +63,15 @@ impl LineReader {
         }
     }
 
-    /// The next line of the source. After an error the text that is still to be read stands, so a later call goes on
-    /// where this one was.
+    /// The next line of the source.
+    ///
+    /// A line has at most 16,777,216 bytes; a longer one is taken to its end, counted and not kept. A reader takes at
+    /// most 1,099,511,627,776 bytes in all, and answers `Line::Spent` where it would ask for another.
+    ///
+    /// # Errors
+    ///
+    /// `LineError::Fault` where the source failed, and `LineError::Memory` where memory was wanted. After either the text
+    /// that is still to be read stands, so a later call goes on where this one was.
     pub fn next<S: Source>(&mut self, source: &mut S) -> Result<Line, LineError>
         // Where the source tells its bytes, the answer is about the text that is still to be read as lines.
         ensures line { IfOk result (λ line. (text : List ℕ) → IsToRead self.old (S.left source.old) text
