@@ -3,7 +3,7 @@ use Rattle.std.proofs.Common.{◌≡◌, ◌≢◌, ℕ, ◌+◌, ◌<◌, ◌�
 use Rattle.std.specs.Io.KnownBytes.{Consumes, IsAtEnd}
 use Rattle.std.proofs.KnownBytes.{Consumes-nil, Consumes-trans}
 use Rattle.io_edges.specs.Lines.{taken_limit, without_return, lines}
-use Rattle.io_edges.specs.Reader.{Reader, Holds, IsBegun, IsLineOf, EndsByFeed, EndsInput, IsLastLine, IsNextLine, IsToRead, Answers, TakesBytes, begun_len, to_come}
+use Rattle.io_edges.specs.Reader.{Reader, Holds, IsBegun, IsLineOf, EndsByFeed, EndsInput, IsLastLine, IsNextLine, IsToRead, Answers, TakesBytes, begun_len, to_come, HasNoFeed}
 use Rattle.io_edges.specs.declared.begun.Begun.{Begun}
 use Rattle.io_edges.specs.declared.begun.Begun.TheVariants.{Kept}
 use Rattle.io_edges.specs.declared.line.Line.{Line}
@@ -56,6 +56,11 @@ Consumes-told (Some xs) None bytes rest told took = absurd took
 Consumes-told (Some xs) (Some ys) bytes rest told took =
     let same : rest ≡ xs = cc in
     (ys, refl, same ∙ took)
+
+-- Where nothing is pending, no line feed is among the bytes held.
+pub HasNoFeed-held : (reader : Reader) → reader.pending ≡ [] → (held : List ℕ) → Holds reader held → HasNoFeed held
+HasNoFeed-held reader none held holds =
+    subst HasNoFeed (sym (holds.held_is ∙ ap (λ l. holds.piece ++ l) none ∙ append-nil holds.piece)) holds.no_feed
 
 -- Where what the reader holds stays, what is to be read stays.
 pub IsToRead-kept : (old now : Reader) (left : Option (List ℕ)) → ((held : List ℕ) → Holds old held → Holds now held)

@@ -90,6 +90,13 @@ IsWithinLimits (TooLong size) now = line_limit < size
 IsWithinLimits End now = now < taken_limit
 IsWithinLimits (Spent taken) now = (taken ≡ taken_limit) × (now ≡ taken_limit)
 
+-- All is spent only where the bytes that the reader holds end no line, so that it would ask for another byte.
+abbrev pub WouldAsk : Line → Reader → Type 0
+WouldAsk (Whole bytes) now = Unit {0}
+WouldAsk (TooLong size) now = Unit {0}
+WouldAsk End now = Unit {0}
+WouldAsk (Spent taken) now = (held : List ℕ) → Holds now held → HasNoFeed held
+
 -- After a line fewer bytes are to come, and after any other answer no more than before.
 abbrev pub ComesNearer : Line → ℕ → ℕ → Type 0
 ComesNearer (Whole bytes) old new = new < old

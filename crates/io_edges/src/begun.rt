@@ -2,7 +2,7 @@
 
 ghost use Rattle.std.specs.Prelude.{◌≡◌, ℕ, ◌+◌, ◌^◌, ◌<◌, ◌≤◌, List, [], ◌++◌, length, IsTrue, ◌↔◌, OnOk, OnErr};
 ghost use Rattle.io_edges.specs.Lines.{without_return, line_limit};
-ghost use Rattle.io_edges.specs.Reader.{IsBegun, IsSound, begun_len, IsLineOf, IsWithinLimits};
+ghost use Rattle.io_edges.specs.Reader.{IsBegun, IsSound, begun_len, IsLineOf, IsWithinLimits, Reader, WouldAsk};
 
 use crate::line::{Line, Text8, ends_in_return};
 use span_types::Memory;
@@ -74,6 +74,7 @@ impl Begun {
         requires { IsSound self }
         ensures line { (piece : List ℕ) → IsBegun self piece → IsLineOf result (without_return piece) }
         ensures limits { (now : ℕ) → IsWithinLimits result now }
+        ensures ended { (now : Reader) → WouldAsk result now }
     {
         match self {
             Begun::Kept(mut text) => {

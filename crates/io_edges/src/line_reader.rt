@@ -4,7 +4,7 @@ ghost use Rattle.std.specs.Prelude.{◌≡◌, ◌≢◌, ◌+◌, ◌<◌, ◌�
 ghost use Rattle.span_types.specs.Faults.{Rose};
 ghost use Rattle.std.specs.Io.KnownBytes.{Consumes};
 ghost use Rattle.io_edges.specs.Lines.{taken_limit};
-ghost use Rattle.io_edges.specs.Reader.{Answers, ComesNearer, EndsByFeed, EndsInput, Holds, IsFilled, IsToRead, IsWithinLimits, TakesBytes, to_come};
+ghost use Rattle.io_edges.specs.Reader.{Answers, ComesNearer, EndsByFeed, EndsInput, Holds, IsFilled, IsToRead, IsWithinLimits, TakesBytes, WouldAsk, to_come};
 
 use crate::begun::Begun;
 use crate::block::{Block, Fill, TAKEN_LIMIT};
@@ -81,6 +81,7 @@ impl LineReader {
 
         // Wherever the bytes come from, the limits hold, and each line that is answered leaves fewer bytes to come.
         ensures limits { IfOk result (λ line. IsWithinLimits line self.new.taken) }
+        ensures spent { IfOk result (λ line. WouldAsk line self.new) }
         ensures nearer { IfOk result (λ line. ComesNearer line (to_come self.old) (to_come self.new)) }
         ensures took { TakesBytes (S.left source.old) (S.left source.new) self.old.taken self.new.taken }
         ensures limited { self.new.taken ≤ taken_limit }
@@ -112,6 +113,7 @@ impl LineReader {
         ensures line { IfOk result (λ found. IfSome found
             (λ line. (held : List ℕ) → Holds self.old held → EndsByFeed held line self.new)) }
         ensures limits { IfOk result (λ found. IfSome found (λ line. IsWithinLimits line self.new.taken)) }
+        ensures ended { IfOk result (λ found. IfSome found (λ line. WouldAsk line self.new)) }
         ensures nearer { IfOk result (λ found. IfSome found (λ _. to_come self.new < to_come self.old)) }
         ensures looked_at { IfOk result (λ found. IfNone found (self.new.pending ≡ [])) }
         ensures kept { IfOk result (λ found. IfNone found ((held : List ℕ) → Holds self.old held → Holds self.new held)) }
@@ -160,6 +162,7 @@ impl LineReader {
         ensures line { (held : List ℕ) → Holds self.old held → EndsInput result held }
         ensures limits { self.old.taken < taken_limit → IsWithinLimits result self.new.taken }
         ensures none { Holds self.new [] }
+        ensures ended { WouldAsk result self.new }
         ensures nearer { ComesNearer result (to_come self.old) (to_come self.new) }
         ensures taken { self.new.taken ≡ self.old.taken }
     {

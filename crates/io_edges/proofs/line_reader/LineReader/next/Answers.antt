@@ -1,5 +1,5 @@
 use Rattle.std.proofs.Common.{arith, ◌∙◌}
-use Rattle.io_edges.proofs.ReaderLemmas.{IsToRead-kept, IsToRead-refilled, Answers-feed, Answers-end, TakesBytes-more, to_come-refilled}
+use Rattle.io_edges.proofs.ReaderLemmas.{HasNoFeed-held, IsToRead-kept, IsToRead-refilled, Answers-feed, Answers-end, TakesBytes-more, to_come-refilled}
 use Rattle.io_edges.proofs.line_reader.LineReader.next.Goals as goal
 
 pub returns-in-Ok-Some-clause-line : goal.returns-in-Ok-Some-clause-line
@@ -45,3 +45,8 @@ returns-in-Err-refill-clause-stands g c = λ text before.
     let none = rw c.in-Ok-None.field-0-is at c.in-Ok-None.ensures.looked_at in
     IsToRead-refilled c.scan.new.self c.refill.new.self _ _ none c.refill.ensures.begun c.refill.ensures.took text
     (IsToRead-kept c.lines.self c.scan.new.self _ kept text (c.lines.invariant.to_read text before))
+
+pub returns-in-Ok-AllTaken-clause-spent : goal.returns-in-Ok-AllTaken-clause-spent
+returns-in-Ok-AllTaken-clause-spent g c =
+    let filled = rw c.in-Ok-AllTaken.field-0-is at c.in-Ok-AllTaken.ensures.filled in
+    HasNoFeed-held c.refill.new.self filled.0
