@@ -28,8 +28,14 @@ same_attr a b = bytes_eq a.key b.key && same_value a.value b.value
 abbrev pub same_attrs : List Attr → List Attr → Bool
 same_attrs = pointwise same_attr
 
+-- Two scopes have equal names, versions and attributes.
+abbrev pub equal_scopes : Scope → Scope → Bool
+equal_scopes a b = bytes_eq a.name b.name && (bytes_eq a.version b.version && same_attrs a.attrs b.attrs)
+
+-- Two spans have equal resources.
 unfoldable pub same_resource : Span → Span → Bool
 same_resource a b = same_attrs a.resource.attrs b.resource.attrs
 
+-- Two spans have equal scopes.
 unfoldable pub same_scope : Span → Span → Bool
-same_scope a b = bytes_eq a.scope.name b.scope.name && bytes_eq a.scope.version b.scope.version && same_attrs a.scope.attrs b.scope.attrs
+same_scope a b = equal_scopes a.scope b.scope

@@ -1,4 +1,9 @@
-//! OTLP/JSON trace requests: reading a line into spans, and writing a trace.
+//! OTLP/JSON trace requests: a line is read into its spans, and a trace is written.
+//!
+//! The JSON is that of OpenTelemetry's `ExportTraceServiceRequest`, with lowerCamelCase names, ids in hexadecimal digits
+//! and moments as decimal texts in nanoseconds since 1970. [`read_line`] reads one form of it for now, which has no
+//! optional member. [`write_trace`] writes all members, so what it writes is of that form only where there are no rows:
+//! that a written trace reads back as its spans comes with the reading of all members.
 #![tactic(auto)]
 
 mod errors;
@@ -6,6 +11,8 @@ mod fields;
 mod json;
 mod read;
 mod same;
+#[cfg(test)]
+mod tests;
 mod values;
 mod write;
 

@@ -31,7 +31,22 @@ pub struct Reading {
 /// The most spans that a line may have.
 const MOST_SPANS: usize = 16_384;
 
-/// The spans of a line of OTLP/JSON.
+/// The spans of a line of OTLP/JSON, in the order of the line.
+///
+/// The line is a JSON object whose one member `resourceSpans` is a list of objects. Each has the one member `scopeSpans`,
+/// a list of objects, and each of these the one member `spans`, a list of spans. There are at most 16,384 of them. A span
+/// is an object of just these six texts:
+///
+/// - `traceId` is 32 hexadecimal digits of either case, not all zeros, and `spanId` is 16 such digits;
+/// - `parentSpanId` is empty or 16 hexadecimal digits, where sixteen zeros are no parent;
+/// - `name` is any text;
+/// - `startTimeUnixNano` and `endTimeUnixNano` are decimal digits without a sign, below 2^64. An end before the start is
+///   kept.
+///
+/// The spans of one member of `resourceSpans` share a resource of which nothing is said, and those of one member of
+/// `scopeSpans` such a scope. Kind and status are unspecified and unset. Nothing is rejected or skipped in this form.
+///
+/// `NotBuilt` comes exactly where the bytes aren't of this form, and `Memory` wherever memory is wanted and not given.
 #[tactic(auto, unfolding(crate::specs::Reading::spans_of_line))]
 pub fn read_line(alloc: Global, line: &[u8]) -> Result<Reading, OtlpError>
     ensures ok { IfOk result (λ r. spans_of_line line.now ≡ Some r.batch.spans) }

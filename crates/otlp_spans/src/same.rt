@@ -1,9 +1,9 @@
 //! When two spans have equal resources, and equal scopes.
 
-ghost use Rattle.std.specs.Prelude.{◌≡◌};
-ghost use Rattle.otlp_spans.specs.Same.{same_attr, same_attrs, same_resource, same_scope, same_value};
+ghost use Rattle.std.specs.Prelude.{◌≡◌, ◌↔◌, IsTrue};
+ghost use Rattle.otlp_spans.specs.Same.{equal_scopes, same_attr, same_attrs, same_resource, same_scope, same_value};
 
-use span_types::{Attr, AttrValue, Span};
+use span_types::{Attr, AttrValue, Scope, Span};
 
 fn same_value(a: &AttrValue, b: &AttrValue) -> bool
     ensures { result ≡ same_value a.now b.now }
@@ -37,10 +37,20 @@ fn same_attrs(a: &[Attr], b: &[Attr]) -> bool
     true
 }
 
+/// Whether two scopes have equal names, versions and attributes.
+fn equal_scopes(a: &Scope, b: &Scope) -> bool
+    ensures { result ≡ equal_scopes a.now b.now }
+{
+    a.name.as_str() == b.name.as_str()
+        && a.version.as_str() == b.version.as_str()
+        && same_attrs(a.attrs.as_slice(), b.attrs.as_slice())
+}
+
 /// Whether two spans have equal resources.
 #[tactic(auto, unfolding(crate::specs::Same::same_resource))]
 pub(crate) fn same_resource(a: &Span, b: &Span) -> bool
-    ensures { result ≡ same_resource a.now b.now }
+    ensures value { result ≡ same_resource a.now b.now }
+    ensures equal { IsTrue result ↔ (a.now.resource ≡ b.now.resource) }
 {
     same_attrs(
         a.resource.get().attrs.as_slice(),
@@ -51,11 +61,8 @@ pub(crate) fn same_resource(a: &Span, b: &Span) -> bool
 /// Whether two spans have equal scopes.
 #[tactic(auto, unfolding(crate::specs::Same::same_scope))]
 pub(crate) fn same_scope(a: &Span, b: &Span) -> bool
-    ensures { result ≡ same_scope a.now b.now }
+    ensures value { result ≡ same_scope a.now b.now }
+    ensures equal { IsTrue result ↔ (a.now.scope ≡ b.now.scope) }
 {
-    let a = a.scope.get();
-    let b = b.scope.get();
-    a.name.as_str() == b.name.as_str()
-        && a.version.as_str() == b.version.as_str()
-        && same_attrs(a.attrs.as_slice(), b.attrs.as_slice())
+    equal_scopes(a.scope.get(), b.scope.get())
 }

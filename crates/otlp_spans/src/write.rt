@@ -2,6 +2,7 @@
 
 ghost use Rattle.std.specs.Prelude.{◌≡◌, ◌<◌, ◌≤◌, [], ◌∷◌, Some, IfOk, length, map};
 ghost use Rattle.serde_json.specs.View.{view};
+ghost use Rattle.otlp_spans.specs.Json.{json_of};
 ghost use Rattle.otlp_spans.specs.Reading.{spans_of_line};
 ghost use Rattle.otlp_spans.specs.Runs.{as_run, run_len, runs};
 ghost use Rattle.otlp_spans.specs.Same.{same_resource, same_scope};
@@ -13,10 +14,19 @@ use serde_json::{Value, json};
 use span_types::{Memory, Row, Rows, Text};
 use std::alloc::Global;
 
-/// The text of a trace.
+/// The text of a trace: an OTLP/JSON request of the rows' spans in their order, as compact JSON with ascending keys.
+///
+/// A run of neighbouring rows with equal resources is one member of `resourceSpans`, and in it a run with equal scopes is
+/// one member of `scopeSpans`. Runs that aren't neighbours stay apart. Ids are lower-case hexadecimal digits, with an
+/// empty text for no parent. Moments and whole-number attributes are decimal texts, and kind and status code are numbers.
+///
+/// The rows of a trace come in order of start, then span id; they are written as they stand. No rows give
+/// `{"resourceSpans":[]}`, which [`read_line`](crate::read_line) reads as no spans. The one error is want of memory.
 #[tactic(auto, unfolding(crate::specs::Writing::trace_text))]
 pub fn write_trace(alloc: Global, rows: &Rows) -> Result<Text, Memory>
     ensures text { IfOk result (λ t. t ≡ trace_text (spans_in rows.now)) }
+    ensures json { IfOk result (λ t. json_of t ≡ Some (trace_json (spans_in rows.now))) }
+    ensures empty { rows.now ≡ [] → IfOk result (λ t. spans_of_line t ≡ Some []) }
 {
     let value = trace(alloc, rows.as_slice())?;
     Ok(Text::of(value.to_string(alloc)?))
