@@ -1,6 +1,5 @@
 -- Lists and objects of JSON beside what serde_json holds, and going over a list item by item.
-use Rattle.std.proofs.Common.{◌≡◌, ℕ, zero, suc, ◌+◌, ◌<◌, ◌≤◌, Bool, true, false, cond, eqb, List, [], ◌∷◌, ◌++◌, length, get_or, drop, map, Option, Some, None, option_map, refl, sym, ap, ◌∙◌, arith, add-one, drop-cons, append_assoc, append-nil}
-use Rattle.std.proofs.lemmas.List.{drop_all}
+use Rattle.std.proofs.Common.{◌≡◌, ℕ, Bool, true, false, cond, eqb, List, [], ◌∷◌, ◌++◌, length, Option, Some, None, option_map, refl, sym, ap, ◌∙◌}
 use Rattle.std.proofs.lemmas.Str.{IsUtf8-from_is_utf8, is_utf8-from_IsUtf8}
 use Rattle.std.specs.Option.{option_map_or}
 use Rattle.std.specs.Str.{is_utf8, IsUtf8}
@@ -10,7 +9,7 @@ use Rattle.serde_json.specs.Events.{members_len}
 use Rattle.serde_json.specs.Find.{as_object}
 use Rattle.serde_json.specs.View.{items_of, members_view}
 use Rattle.serde_json.proofs.Views.{Entry, members_len-members_view}
-use Rattle.otlp_spans.specs.Json.{items_in, has_members, json_of, ◌>>=◌, each, joined}
+use Rattle.otlp_spans.specs.Json.{items_in, has_members, json_of}
 
 pub items_in-items_of : (ds : List Data) → items_in (items_of ds) ≡ ds
 items_in-items_of [] = refl

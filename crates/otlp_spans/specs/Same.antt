@@ -6,7 +6,6 @@ use Rattle.std.specs.Str.{bytes_eq}
 use Rattle.span_types.specs.declared.attrs.Attr.{Attr}
 use Rattle.span_types.specs.declared.attrs.AttrValue.{AttrValue}
 use Rattle.span_types.specs.declared.attrs.AttrValue.TheVariants.{Text, Whole, Truth}
-use Rattle.span_types.specs.declared.attrs.Resource.{Resource}
 use Rattle.span_types.specs.declared.attrs.Scope.{Scope}
 use Rattle.span_types.specs.declared.spans.Span.{Span}
 

@@ -18,11 +18,11 @@ fn all_zeros(bytes: &[u8]) -> bool
 pub(crate) fn trace_id(text: &str) -> Option<TraceId>
     ensures { result ≡ trace_id_of text.now }
 {
-    let bytes = <[u8; 16] as FromHex>::from_hex(text).ok()?;
-    if all_zeros(&bytes) {
+    let trace = <[u8; 16] as FromHex>::from_hex(text).ok()?;
+    if all_zeros(&trace) {
         None
     } else {
-        Some(TraceId(bytes))
+        Some(TraceId(trace))
     }
 }
 
@@ -30,11 +30,11 @@ pub(crate) fn trace_id(text: &str) -> Option<TraceId>
 pub(crate) fn span_id(text: &str) -> Option<SpanId>
     ensures { result ≡ span_id_of text.now }
 {
-    let bytes = <[u8; 8] as FromHex>::from_hex(text).ok()?;
-    if all_zeros(&bytes) {
+    let id = <[u8; 8] as FromHex>::from_hex(text).ok()?;
+    if all_zeros(&id) {
         None
     } else {
-        Some(SpanId(bytes))
+        Some(SpanId(id))
     }
 }
 
@@ -45,11 +45,11 @@ pub(crate) fn parent(text: &str) -> Option<Option<SpanId>>
     if text.is_empty() {
         return Some(None);
     }
-    let bytes = <[u8; 8] as FromHex>::from_hex(text).ok()?;
-    if all_zeros(&bytes) {
+    let parent = <[u8; 8] as FromHex>::from_hex(text).ok()?;
+    if all_zeros(&parent) {
         Some(None)
     } else {
-        Some(Some(SpanId(bytes)))
+        Some(Some(SpanId(parent)))
     }
 }
 

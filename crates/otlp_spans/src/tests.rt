@@ -18,22 +18,35 @@ const MEMBERS: [(&str, &str); 6] = [
     ("endTimeUnixNano", "\"2\""),
 ];
 
+/// Puts a member after those of an object that is being written; empty JSON puts none.
+fn put_member(line: &mut String, name: &str, json: &str) -> Result<(), AllocError> {
+    if json.is_empty() {
+        return Ok(());
+    }
+    if !line.as_str().ends_with('{') {
+        line.push_str(",")?;
+    }
+    line.push_str("\"")?;
+    line.push_str(name)?;
+    line.push_str("\":")?;
+    line.push_str(json)
+}
+
 /// A line of one span whose member `name` is this JSON in place of its own. Empty JSON leaves the member out, and
 /// another name adds a member.
 fn altered(alloc: Global, name: &str, json: &str) -> Result<String, AllocError> {
     let mut line = String::from_str(alloc, "{\"resourceSpans\":[{\"scopeSpans\":[{\"spans\":[{")?;
     let mut found = false;
-    let mut comma = "";
     for (key, own) in MEMBERS {
-        let value = if key == name { json } else { own };
-        found |= key == name;
-        if !value.is_empty() {
-            line.push_str(format!(in alloc; "{comma}\"{key}\":{value}")?.as_str())?;
-            comma = ",";
+        if key == name {
+            found = true;
+            put_member(&mut line, key, json)?;
+        } else {
+            put_member(&mut line, key, own)?;
         }
     }
     if !found {
-        line.push_str(format!(in alloc; "{comma}\"{name}\":{json}")?.as_str())?;
+        put_member(&mut line, name, json)?;
     }
     line.push_str("}]}]}]}")?;
     Ok(line)

@@ -90,9 +90,9 @@ fn scopes(alloc: Global, rows: &[Row]) -> Result<Value, Memory>
     let mut values = Vec::new(alloc);
     let mut rest = rows;
     while !rest.is_empty() {
-        let (run, later) = rest.split_at(scope_run(rest));
+        let (run, others) = rest.split_at(scope_run(rest));
         values.push(scope_spans(alloc, run)?)?;
-        rest = later;
+        rest = others;
     }
     Ok(Value::from(values))
 }
