@@ -6,7 +6,9 @@ use Rattle.io_edges.specs.declared.line.Line.{Line}
 use Rattle.io_edges.specs.declared.line.Line.TheVariants.{Whole, TooLong, End, Spent as AllSpent}
 use Rattle.io_edges.specs.Devices.{AppendsPrefix}
 use Rattle.io_edges.specs.Lines.{lines, line_limit, taken_limit}
-use Rattle.io_edges.specs.Reader.{Reader, IsNextLine, IsToRead, TakesBytes}
+use Rattle.io_edges.specs.declared.begun.Begun.{Begun}
+use Rattle.io_edges.specs.declared.begun.Begun.TheVariants.{Kept, Dropped}
+use Rattle.io_edges.specs.Reader.{Reader, IsBegun, IsNextLine, IsToRead, TakesBytes, begun_len, to_come}
 use Rattle.session_meaning.specs.declared.ending.Ending.{Ending}
 use Rattle.session_meaning.specs.declared.ending.Ending.TheVariants.{Answered, BadWords, ReadFault, Refused, Spent, Starved, WriteFault}
 use Rattle.session_meaning.specs.declared.reply.Reply.{Reply}
@@ -276,3 +278,50 @@ failed_at text before left taken reader held seen at = stops text before left ta
 pub starved_at : (text before : List ℕ) (left taken : Option (List ℕ)) (reader : Reader) (held : Holding) (seen : Seen) →
     IsAt text before left taken reader held seen → HasRun text before taken Starved
 starved_at text before left taken reader held seen at = stops text before left taken reader held seen Starved at (inr (inl at.written))
+
+-- Bytes taken in two steps, wherever they came from.
+pub took_on : (start left new : Option (List ℕ)) (a b c : ℕ) → TakesBytes start left a b → TakesBytes left new b c → TakesBytes start new a c
+took_on None left new a b c first second = (first.0 ++ second.0, tt, rw length-append (omega (arith, first.2, second.2)))
+took_on (Some text) left new a b c first second = took_more text left new a b c first second
+
+-- A reader that has nothing to read took nothing of a line.
+pub nothing_to_come : (reader : Reader) → IsToRead reader (Some []) [] → to_come reader ≤ taken_limit
+nothing_to_come reader h = omega (arith, held_none reader.begun h.holds.piece reader.pending h.holds.is_begun pieces_none)
+  where
+    held_is : [] ≡ h.held ++ h.rest
+    held_is = h.text_is
+    pieces_none : h.holds.piece ++ reader.pending ≡ []
+    pieces_none = sym h.holds.held_is ∙ first_empty h.held h.rest held_is
+      where
+        first_empty : (a b : List ℕ) → [] ≡ a ++ b → a ≡ []
+        first_empty [] b e = refl
+        first_empty (x ∷ xs) b e = cc
+    held_none : (begun : Begun) (piece pending : List ℕ) → IsBegun begun piece → piece ++ pending ≡ [] → begun_len begun + length pending ≡ 0
+    held_none (Kept bytes) [] [] b e = ap (λ xs. length xs + 0) (sym b) ∙ refl
+    held_none (Kept bytes) [] (y ∷ ys) b e = cc
+    held_none (Kept bytes) (x ∷ xs) pending b e = cc
+    held_none (Dropped size r) [] [] b e = omega (arith, b.0)
+    held_none (Dropped size r) [] (y ∷ ys) b e = cc
+    held_none (Dropped size r) (x ∷ xs) pending b e = cc
+
+-- A session begins.
+pub begins_at : (text before : List ℕ) (left taken : Option (List ℕ)) (reader : Reader) (held : Holding) (seen : Seen) →
+    left ≡ Some text → taken ≡ Some before → IsToRead reader (Some text) text → reader.taken ≡ 0 → held ≡ record { rows = []; pushes = 0 } →
+    seen.refused ≡ false → seen.starved ≡ false → IsAt text before left taken reader held seen
+begins_at text before left taken reader held seen told gave to_read none_taken nothing no_refusal no_hunger = record {
+    rest = text;
+    replies = [];
+    history = [];
+    to_read = subst (λ l. IsToRead reader l text) (sym told) to_read;
+    progress = progress_begins text;
+    holds = subst (λ h. Holds h []) (sym nothing) (record { rows_are = refl; count = refl });
+    written = gave ∙ ap Some (sym (append-nil before));
+    refused = no_refusal;
+    starved = no_hunger;
+    took = ([], subst (λ l. Consumes (Some text) l []) (sym told) refl, none_taken ∙ refl)
+  }
+
+-- Nothing was taken.
+pub took_none : (left : Option (List ℕ)) (taken : ℕ) → taken ≡ 0 → TakesBytes left left 0 taken
+took_none None taken h = ([], tt, h ∙ refl)
+took_none (Some text) taken h = ([], refl, h ∙ refl)

@@ -1,0 +1,33 @@
+use Rattle.std.proofs.Common.{◌≡◌, sym, subst, ◌∙◌, refl, arith, ap, Some, ◌≤◌}
+use Rattle.io_edges.specs.Lines.{taken_limit}
+use Rattle.io_edges.specs.Reader.{TakesBytes, to_come}
+use Rattle.trace_shell.specs.Turn.{Turned}
+use Rattle.trace_shell.proofs.TurnLemmas.{begins_at, nothing_to_come, took_none, took_on}
+use Rattle.trace_shell.proofs.session.session.Goals as goal
+
+pub lines-init : goal.lines-init
+lines-init g c =
+    let few : to_come c.new-reader.result ≤ taken_limit = nothing_to_come c.new-reader.result (c.new-reader.ensures.to_read _) in
+    record {
+      at = λ text before told gave. begins_at text before _ _ _ _ _ told gave (c.new-reader.ensures.to_read text) c.new-reader.ensures.taken c.new-held.ensures refl refl;
+      room = omega (arith, few, ap (λ h. h.pushes) c.new-held.ensures);
+      source_counted = omega arith;
+      sink_counted = omega arith;
+      took = took_none _ _ c.new-reader.ensures.taken
+    }
+
+pub lines-preserved : goal.lines-preserved
+lines-preserved g c = record {
+    at = λ text before told gave.
+      subst (λ o. Turned text before (g.S.Source.left c.turn.new.source) (g.K.Sink.taken c.turn.new.sink) c.turn.new.reader c.turn.new.held c.turn.new.seen o)
+        c.in_default.is (c.turn.ensures.turned text before (c.lines.invariant.at text before told gave));
+    room = c.in_default.ensures.room;
+    source_counted = omega (arith, c.lines.invariant.source_counted, c.turn.ensures.source_counted);
+    sink_counted = omega (arith, c.lines.invariant.sink_counted, c.turn.ensures.sink_counted);
+    took = took_on _ _ _ 0 c.lines.reader.taken c.turn.new.reader.taken c.lines.invariant.took c.turn.ensures.took
+  }
+
+pub returns-in-Some-clause-spent : goal.returns-in-Some-clause-spent
+returns-in-Some-clause-spent g c = λ is.
+    subst (λ n. TakesBytes (g.S.Source.left c.args.source.now) (g.S.Source.left c.turn.new.source) 0 n) (c.in-Some.ensures.spent is)
+      (took_on _ _ _ 0 c.lines.reader.taken c.turn.new.reader.taken c.lines.invariant.took c.turn.ensures.took)
