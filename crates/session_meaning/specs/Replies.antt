@@ -14,7 +14,7 @@ texts (t ∷ u ∷ us) = t ++ texts (u ∷ us)
 abbrev pub pushed_text : ℕ → ℕ → ℕ → ℕ → List ℕ
 pushed_text number accepted rejected skipped = texts (
     codes "ok push " ∷ decimal number ∷ codes " accepted=" ∷ decimal accepted ∷ codes " rejected=" ∷ decimal rejected ∷ codes " skipped="
-      ∷ decimal skipped ∷ codes "\n" ∷ [])
+    ∷ decimal skipped ∷ codes "\n" ∷ [])
 
 -- A trace at a count of pushes: how many spans it has, and its OTLP/JSON.
 abbrev pub traced_text : ℕ → ℕ → List ℕ → List ℕ

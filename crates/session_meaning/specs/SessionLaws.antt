@@ -44,19 +44,19 @@ one_more text answered rest later line split next = split ∙ ap (λ ls. answere
 pub progress_empty : (text rest later : List ℕ) (replies : List Reply) (history : History) → Progress text rest replies history →
     lines rest ≡ [] ∷ lines later → Progress text later replies history
 progress_empty text rest later replies history p next = record {
-    answered = p.answered ++ [] ∷ [];
-    lines_are = one_more (lines text) p.answered (lines rest) (lines later) [] p.lines_are next;
-    session = Session-empty [] history p.answered replies p.session
-  }
+  answered = p.answered ++ [] ∷ [];
+  lines_are = one_more (lines text) p.answered (lines rest) (lines later) [] p.lines_are next;
+  session = Session-empty [] history p.answered replies p.session;
+}
 
 pub progress_line : (text rest later : List ℕ) (replies : List Reply) (history after : History) (b : ℕ) (bs : List ℕ) (reply : Reply) →
     Progress text rest replies history → lines rest ≡ (b ∷ bs) ∷ lines later → IsAnsweredOrStarved (request_of (b ∷ bs)) history reply after →
     Progress text later (replies ++ reply ∷ []) after
 progress_line text rest later replies history after b bs reply p next a = record {
-    answered = p.answered ++ (b ∷ bs) ∷ [];
-    lines_are = one_more (lines text) p.answered (lines rest) (lines later) (b ∷ bs) p.lines_are next;
-    session = Session-line [] history after p.answered replies b bs reply p.session a
-  }
+  answered = p.answered ++ (b ∷ bs) ∷ [];
+  lines_are = one_more (lines text) p.answered (lines rest) (lines later) (b ∷ bs) p.lines_are next;
+  session = Session-line [] history after p.answered replies b bs reply p.session a;
+}
 
 -- One more reply adds its text.
 pub reply_texts-push : (replies : List Reply) (reply : Reply) → reply_texts (replies ++ reply ∷ []) ≡ reply_texts replies ++ reply_text reply
@@ -69,8 +69,8 @@ pub rows_of_pushes-push : (n : ℕ) (pushes : List (List Span)) (spans : List Sp
 rows_of_pushes-push n [] spans = append-nil (rows_from n 0 spans) ∙ ap (λ k. rows_from k 0 spans) (sym (add-zero n))
 rows_of_pushes-push n (p ∷ ps) spans =
     ap (λ rs. rows_from n 0 p ++ rs) (rows_of_pushes-push (n + 1) ps spans)
-      ∙ ap (λ k. rows_from n 0 p ++ (rows_of_pushes (n + 1) ps ++ rows_from k 0 spans)) (count n (length ps))
-      ∙ sym (append_assoc (rows_from n 0 p) (rows_of_pushes (n + 1) ps) (rows_from (n + suc (length ps)) 0 spans))
+    ∙ ap (λ k. rows_from n 0 p ++ (rows_of_pushes (n + 1) ps ++ rows_from k 0 spans)) (count n (length ps))
+    ∙ sym (append_assoc (rows_from n 0 p) (rows_of_pushes (n + 1) ps) (rows_from (n + suc (length ps)) 0 spans))
   where
     count : (n k : ℕ) → n + 1 + k ≡ n + suc k
     count n k = omega arith

@@ -19,14 +19,15 @@ pub pushed_on : (old new : Holding) (history : History) (batch : Batch) (n accep
     new.pushes ≡ old.pushes + 1 → new.rows ≡ old.rows ++ rows_from n 0 batch.spans →
     (after : History) × IsAnsweredOrStarved (Some (Push batch)) history (Pushed n accepted 0 0) after × Holds new after
 pushed_on old new history batch n accepted h is_n is_count pushes rows =
-    let number : n ≡ length history = is_n ∙ h.count in
-    (history ++ batch.spans ∷ [],
+    let number : n ≡ length history = is_n ∙ h.count in (
+      history ++ batch.spans ∷ [],
       inl (ap (λ k. Pushed k accepted 0 0) number ∙ ap (λ k. Pushed (length history) k 0 0) is_count, refl),
       record {
         rows_are = rows ∙ ap (λ rs. rs ++ rows_from n 0 batch.spans) h.rows_are ∙ ap (λ k. history_rows history ++ rows_from k 0 batch.spans) number
-          ∙ sym (history_rows-push history batch.spans);
-        count = pushes ∙ ap (λ k. k + 1) h.count ∙ sym (one_more history batch.spans)
-      })
+            ∙ sym (history_rows-push history batch.spans);
+        count = pushes ∙ ap (λ k. k + 1) h.count ∙ sym (one_more history batch.spans);
+      },
+    )
 
 pub traced_on : (held : Holding) (history : History) (id : TraceId) (rows : List Row) (n : ℕ) → Holds held history →
     IsFirstOf (rows_of_trace id held.rows) rows → n ≡ held.pushes →

@@ -26,10 +26,11 @@ use Rattle.trace_shell.specs.Turn.{HasGiven, IsAt, Turned, ending_of, seen_with}
 pub took_more : (text : List ℕ) (left new : Option (List ℕ)) (a b c : ℕ) → TakesBytes (Some text) left a b → TakesBytes left new b c → TakesBytes (Some text) new a c
 took_more text None new a b c first second = absurd first.1
 took_more text (Some xs) None a b c first second = absurd second.1
-took_more text (Some xs) (Some ys) a b c first second =
-    (first.0 ++ second.0,
-      first.1 ∙ ap (λ zs. first.0 ++ zs) second.1 ∙ sym (append_assoc first.0 second.0 ys),
-      rw length-append (omega (arith, first.2, second.2)))
+took_more text (Some xs) (Some ys) a b c first second = (
+  first.0 ++ second.0,
+  first.1 ∙ ap (λ zs. first.0 ++ zs) second.1 ∙ sym (append_assoc first.0 second.0 ys),
+  rw length-append (omega (arith, first.2, second.2)),
+)
 
 -- As many bytes as were taken are in the text.
 pub taken_within : (text : List ℕ) (left : Option (List ℕ)) (taken : ℕ) → TakesBytes (Some text) left 0 taken → taken ≤ length text
@@ -51,7 +52,7 @@ appended before replies reply None new is h = cc
 appended before replies reply (Some xs) None is h = absurd h
 appended before replies reply (Some xs) (Some ys) is h =
     ap Some (h ∙ ap (λ zs. zs ++ reply_text reply) (same _ _ is) ∙ append_assoc before (reply_texts replies) (reply_text reply)
-      ∙ ap (λ zs. before ++ zs) (sym (reply_texts-push replies reply)))
+    ∙ ap (λ zs. before ++ zs) (sym (reply_texts-push replies reply)))
   where
     same : (a b : List ℕ) → Some a ≡ Some b → a ≡ b
     same a b e = cc
@@ -64,11 +65,11 @@ cut_off before replies reply None new count is h = absurd (none_is_some is)
     none_is_some e = cc
 cut_off before replies reply (Some xs) None count is h = absurd h
 cut_off before replies reply (Some xs) (Some ys) count is h = record {
-    whole = replies;
-    last = reply;
-    replies_are = refl;
-    taken_is = ap Some (h ∙ ap (λ zs. zs ++ take count (reply_text reply)) (same _ _ is))
-  }
+  whole = replies;
+  last = reply;
+  replies_are = refl;
+  taken_is = ap Some (h ∙ ap (λ zs. zs ++ take count (reply_text reply)) (same _ _ is));
+}
   where
     same : (a b : List ℕ) → Some a ≡ Some b → a ≡ b
     same a b e = cc
@@ -121,42 +122,43 @@ answered_at text before left_old left taken_old taken reader_old reader held_old
   where
     progress : Progress text next.rest (at.replies ++ reply ∷ []) after
     progress = progress_line text at.rest next.rest at.replies at.history after b bs reply at.progress next.first a
+
     turned : (o : Option Ending) → HasGiven taken_old taken seen_old seen reply o → Turned text before left taken reader held seen o
     turned None g = record {
-        rest = next.rest;
-        replies = at.replies ++ reply ∷ [];
-        history = after;
-        to_read = next.after;
-        progress = progress;
-        holds = h;
-        written = appended before at.replies reply taken_old taken at.written g.0;
-        refused = ap (λ s. s.refused) g.1 ∙ seen_of is_refusal seen_old.refused at.replies reply (seen_with seen_old reply).refused at.refused (refused_with seen_old reply);
-        starved = ap (λ s. s.starved) g.1 ∙ seen_of is_for_memory seen_old.starved at.replies reply (seen_with seen_old reply).starved at.starved (starved_with seen_old reply);
-        took = took_more text left_old left 0 reader_old.taken reader.taken at.took took
-      }
+      rest = next.rest;
+      replies = at.replies ++ reply ∷ [];
+      history = after;
+      to_read = next.after;
+      progress = progress;
+      holds = h;
+      written = appended before at.replies reply taken_old taken at.written g.0;
+      refused = ap (λ s. s.refused) g.1 ∙ seen_of is_refusal seen_old.refused at.replies reply (seen_with seen_old reply).refused at.refused (refused_with seen_old reply);
+      starved = ap (λ s. s.starved) g.1 ∙ seen_of is_for_memory seen_old.starved at.replies reply (seen_with seen_old reply).starved at.starved (starved_with seen_old reply);
+      took = took_more text left_old left 0 reader_old.taken reader.taken at.took took;
+    }
     turned (Some Starved) g = record {
-        answered = progress.answered;
-        later = lines next.rest;
-        replies = at.replies ++ reply ∷ [];
-        history = after;
-        lines_are = progress.lines_are;
-        session = progress.session;
-        ends = inr (inr (record {
-          whole = at.replies;
-          last = reply;
-          replies_are = refl;
-          taken_is = g ∙ at.written ∙ ap Some (sym (append-nil (before ++ reply_texts at.replies)))
-        }))
-      }
+      answered = progress.answered;
+      later = lines next.rest;
+      replies = at.replies ++ reply ∷ [];
+      history = after;
+      lines_are = progress.lines_are;
+      session = progress.session;
+      ends = inr (inr (record {
+        whole = at.replies;
+        last = reply;
+        replies_are = refl;
+        taken_is = g ∙ at.written ∙ ap Some (sym (append-nil (before ++ reply_texts at.replies)));
+      }));
+    }
     turned (Some WriteFault) g = record {
-        answered = progress.answered;
-        later = lines next.rest;
-        replies = at.replies ++ reply ∷ [];
-        history = after;
-        lines_are = progress.lines_are;
-        session = progress.session;
-        ends = (g.0, cut_off before at.replies reply taken_old taken g.0 at.written g.1)
-      }
+      answered = progress.answered;
+      later = lines next.rest;
+      replies = at.replies ++ reply ∷ [];
+      history = after;
+      lines_are = progress.lines_are;
+      session = progress.session;
+      ends = (g.0, cut_off before at.replies reply taken_old taken g.0 at.written g.1);
+    }
     turned (Some Answered) g = absurd g
     turned (Some BadWords) g = absurd g
     turned (Some ReadFault) g = absurd g
@@ -169,17 +171,17 @@ pub passed_at : (text before : List ℕ) (left_old left taken_old taken : Option
     IsNextLine at.rest [] (IsToRead reader left) → held ≡ held_old → seen ≡ seen_old → taken ≡ taken_old →
     TakesBytes left_old left reader_old.taken reader.taken → IsAt text before left taken reader held seen
 passed_at text before left_old left taken_old taken reader_old reader held_old held seen_old seen at next same_held same_seen same_taken took = record {
-    rest = next.rest;
-    replies = at.replies;
-    history = at.history;
-    to_read = next.after;
-    progress = progress_empty text at.rest next.rest at.replies at.history at.progress next.first;
-    holds = subst (λ h. Holds h at.history) (sym same_held) at.holds;
-    written = same_taken ∙ at.written;
-    refused = ap (λ s. s.refused) same_seen ∙ at.refused;
-    starved = ap (λ s. s.starved) same_seen ∙ at.starved;
-    took = took_more text left_old left 0 reader_old.taken reader.taken at.took took
-  }
+  rest = next.rest;
+  replies = at.replies;
+  history = at.history;
+  to_read = next.after;
+  progress = progress_empty text at.rest next.rest at.replies at.history at.progress next.first;
+  holds = subst (λ h. Holds h at.history) (sym same_held) at.holds;
+  written = same_taken ∙ at.written;
+  refused = ap (λ s. s.refused) same_seen ∙ at.refused;
+  starved = ap (λ s. s.starved) same_seen ∙ at.starved;
+  took = took_more text left_old left 0 reader_old.taken reader.taken at.took took;
+}
 
 -- A whole line was read, and answered where it has bytes.
 pub whole_at : (text before : List ℕ) (left_old left taken_old taken : Option (List ℕ)) (reader_old reader : Reader) (held_old held : Holding) (seen_old seen : Seen)
@@ -187,7 +189,7 @@ pub whole_at : (text before : List ℕ) (left_old left taken_old taken : Option 
     IsNextLine at.rest line (IsToRead reader left) → TakesBytes left_old left reader_old.taken reader.taken →
     (line ≡ [] → (outcome ≡ None) × (held ≡ held_old) × (seen ≡ seen_old) × (taken ≡ taken_old)) →
     (0 < length line → (history : History) → Holds held_old history → (reply : Reply) × (after : History)
-      × IsAnsweredOrStarved (request_of line) history reply after × Holds held after × HasGiven taken_old taken seen_old seen reply outcome) →
+    × IsAnsweredOrStarved (request_of line) history reply after × Holds held after × HasGiven taken_old taken seen_old seen reply outcome) →
     Turned text before left taken reader held seen outcome
 whole_at text before left_old left taken_old taken reader_old reader held_old held seen_old seen [] outcome at next took none some =
     let same = none refl in
@@ -195,7 +197,7 @@ whole_at text before left_old left taken_old taken reader_old reader held_old he
 whole_at text before left_old left taken_old taken reader_old reader held_old held seen_old seen (b ∷ bs) outcome at next took none some =
     let given = some (omega arith) at.history at.holds in
     answered_at text before left_old left taken_old taken reader_old reader held_old held seen_old seen (b ∷ bs) given.0 given.1 outcome at next (omega arith)
-      given.2 given.3 took given.4
+    given.2 given.3 took given.4
 
 -- A line of too many bytes asks nothing.
 too_long_asks : (line : List ℕ) → line_limit < length line → request_of line ≡ None
@@ -213,28 +215,28 @@ pub too_long_at : (text before : List ℕ) (left_old left taken_old taken : Opti
 too_long_at text before left_old left taken_old taken reader_old reader held seen_old seen size outcome at (line, next, is) long took given =
     let over : line_limit < length line = omega (arith, is, long) in
     answered_at text before left_old left taken_old taken reader_old reader held held seen_old seen line NotBuilt at.history outcome at next (omega (arith, over))
-      (rw (too_long_asks line over) (inl (refl, refl))) at.holds took given
+    (rw (too_long_asks line over) (inl (refl, refl))) at.holds took given
 
 -- The lines that weren't answered are those of what is to be read.
 stops : (text before : List ℕ) (left taken : Option (List ℕ)) (reader : Reader) (held : Holding) (seen : Seen) (ending : Ending)
     (at : IsAt text before left taken reader held seen) → Ends ending text (lines at.rest) before at.replies taken → HasRun text before taken ending
 stops text before left taken reader held seen ending at ends = record {
-    answered = at.progress.answered;
-    later = lines at.rest;
-    replies = at.replies;
-    history = at.history;
-    lines_are = at.progress.lines_are;
-    session = at.progress.session;
-    ends = ends
-  }
+  answered = at.progress.answered;
+  later = lines at.rest;
+  replies = at.replies;
+  history = at.history;
+  lines_are = at.progress.lines_are;
+  session = at.progress.session;
+  ends = ends;
+}
 
 ends_all_read : (text : List ℕ) (later : List (List ℕ)) (before : List ℕ) (replies : List Reply) (taken : Option (List ℕ)) →
     IsAllRead text later before replies taken → Ends (end_of replies) text later before replies taken
 ends_all_read text later before replies taken all =
     elim (list_any is_refusal replies) as (λ t. list_any is_refusal replies ≡ t → Ends (if t then Refused else if list_any is_for_memory replies then Starved else Answered) text later before replies taken) [
-        true ↦ λ e. (all, rw e refl)
+      | true ↦ λ e. (all, rw e refl)
       | false ↦ λ e. elim (list_any is_for_memory replies) as (λ t. list_any is_for_memory replies ≡ t → Ends (if t then Starved else Answered) text later before replies taken) [
-          true ↦ λ f. inl (all, rw (e, f) refl)
+        | true ↦ λ f. inl (all, rw (e, f) refl)
         | false ↦ λ f. (all, rw (e, f) refl)
       ] refl
     ] refl
@@ -249,12 +251,13 @@ ended_at text before left_old left taken reader_old reader held seen at (none, t
     let size : length text ≡ reader.taken = taken_all text left reader.taken read no_more in
     let all : IsAllRead text (lines at.rest) before at.replies taken = (ap lines none, subst (λ n. n < taken_limit) (sym size) fewer, at.written) in
     stops text before left_old taken reader_old held seen (ending_of seen) at
-      (subst (λ e. Ends e text (lines at.rest) before at.replies taken) (sym (same_ending seen at.replies at.refused at.starved))
-        (ends_all_read text (lines at.rest) before at.replies taken all))
+    (subst (λ e. Ends e text (lines at.rest) before at.replies taken) (sym (same_ending seen at.replies at.refused at.starved))
+    (ends_all_read text (lines at.rest) before at.replies taken all))
   where
     same_ending : (seen : Seen) (replies : List Reply) → seen.refused ≡ list_any is_refusal replies → seen.starved ≡ list_any is_for_memory replies →
         ending_of seen ≡ end_of replies
     same_ending seen replies r s = rw (r, s) refl
+
     nothing_left : (reader : Reader) (left : Option (List ℕ)) → IsToRead reader left [] → left ≡ Some []
     nothing_left reader left h = h.told ∙ ap Some (last_empty h.held h.rest h.text_is)
       where
@@ -268,7 +271,7 @@ pub spent_at : (text before : List ℕ) (left_old left taken : Option (List ℕ)
     TakesBytes left_old left reader_old.taken reader.taken → HasRun text before taken Spent
 spent_at text before left_old left taken reader_old reader held seen at all took =
     stops text before left_old taken reader_old held seen Spent at
-      (at.written, subst (λ n. n ≤ length text) all (taken_within text left reader.taken (took_more text left_old left 0 reader_old.taken reader.taken at.took took)))
+    (at.written, subst (λ n. n ≤ length text) all (taken_within text left reader.taken (took_more text left_old left 0 reader_old.taken reader.taken at.took took)))
 
 -- The source failed, or memory was wanted for a line.
 pub failed_at : (text before : List ℕ) (left taken : Option (List ℕ)) (reader : Reader) (held : Holding) (seen : Seen) →
@@ -290,12 +293,14 @@ nothing_to_come reader h = omega (arith, held_none reader.begun h.holds.piece re
   where
     held_is : [] ≡ h.held ++ h.rest
     held_is = h.text_is
+
     pieces_none : h.holds.piece ++ reader.pending ≡ []
     pieces_none = sym h.holds.held_is ∙ first_empty h.held h.rest held_is
       where
         first_empty : (a b : List ℕ) → [] ≡ a ++ b → a ≡ []
         first_empty [] b e = refl
         first_empty (x ∷ xs) b e = cc
+
     held_none : (begun : Begun) (piece pending : List ℕ) → IsBegun begun piece → piece ++ pending ≡ [] → begun_len begun + length pending ≡ 0
     held_none (Kept bytes) [] [] b e = ap (λ xs. length xs + 0) (sym b) ∙ refl
     held_none (Kept bytes) [] (y ∷ ys) b e = cc
@@ -309,17 +314,17 @@ pub begins_at : (text before : List ℕ) (left taken : Option (List ℕ)) (reade
     left ≡ Some text → taken ≡ Some before → IsToRead reader (Some text) text → reader.taken ≡ 0 → held ≡ record { rows = []; pushes = 0 } →
     seen.refused ≡ false → seen.starved ≡ false → IsAt text before left taken reader held seen
 begins_at text before left taken reader held seen told gave to_read none_taken nothing no_refusal no_hunger = record {
-    rest = text;
-    replies = [];
-    history = [];
-    to_read = subst (λ l. IsToRead reader l text) (sym told) to_read;
-    progress = progress_begins text;
-    holds = subst (λ h. Holds h []) (sym nothing) (record { rows_are = refl; count = refl });
-    written = gave ∙ ap Some (sym (append-nil before));
-    refused = no_refusal;
-    starved = no_hunger;
-    took = ([], subst (λ l. Consumes (Some text) l []) (sym told) refl, none_taken ∙ refl)
-  }
+  rest = text;
+  replies = [];
+  history = [];
+  to_read = subst (λ l. IsToRead reader l text) (sym told) to_read;
+  progress = progress_begins text;
+  holds = subst (λ h. Holds h []) (sym nothing) (record { rows_are = refl; count = refl });
+  written = gave ∙ ap Some (sym (append-nil before));
+  refused = no_refusal;
+  starved = no_hunger;
+  took = ([], subst (λ l. Consumes (Some text) l []) (sym told) refl, none_taken ∙ refl);
+}
 
 -- Nothing was taken.
 pub took_none : (left : Option (List ℕ)) (taken : ℕ) → taken ≡ 0 → TakesBytes left left 0 taken

@@ -11,3 +11,6 @@ mod write_reply;
 
 pub use real::{StdinSource, StdoutSink};
 pub use top::{Ended, run, run_alone};
+
+#[cfg(test)]
+mod tests;

@@ -13,21 +13,21 @@ lines-init g c =
       room = omega (arith, few, ap (λ h. h.pushes) c.new-held.ensures);
       source_counted = omega arith;
       sink_counted = omega arith;
-      took = took_none _ _ c.new-reader.ensures.taken
+      took = took_none _ _ c.new-reader.ensures.taken;
     }
 
 pub lines-preserved : goal.lines-preserved
 lines-preserved g c = record {
-    at = λ text before told gave.
+  at = λ text before told gave.
       subst (λ o. Turned text before (g.S.Source.left c.turn.new.source) (g.K.Sink.taken c.turn.new.sink) c.turn.new.reader c.turn.new.held c.turn.new.seen o)
-        c.in_default.is (c.turn.ensures.turned text before (c.lines.invariant.at text before told gave));
-    room = c.in_default.ensures.room;
-    source_counted = omega (arith, c.lines.invariant.source_counted, c.turn.ensures.source_counted);
-    sink_counted = omega (arith, c.lines.invariant.sink_counted, c.turn.ensures.sink_counted);
-    took = took_on _ _ _ 0 c.lines.reader.taken c.turn.new.reader.taken c.lines.invariant.took c.turn.ensures.took
-  }
+      c.in_default.is (c.turn.ensures.turned text before (c.lines.invariant.at text before told gave));
+  room = c.in_default.ensures.room;
+  source_counted = omega (arith, c.lines.invariant.source_counted, c.turn.ensures.source_counted);
+  sink_counted = omega (arith, c.lines.invariant.sink_counted, c.turn.ensures.sink_counted);
+  took = took_on _ _ _ 0 c.lines.reader.taken c.turn.new.reader.taken c.lines.invariant.took c.turn.ensures.took;
+}
 
 pub returns-in-Some-clause-spent : goal.returns-in-Some-clause-spent
 returns-in-Some-clause-spent g c = λ is.
     subst (λ n. TakesBytes (g.S.Source.left c.args.source.now) (g.S.Source.left c.turn.new.source) 0 n) (c.in-Some.ensures.spent is)
-      (took_on _ _ _ 0 c.lines.reader.taken c.turn.new.reader.taken c.lines.invariant.took c.turn.ensures.took)
+    (took_on _ _ _ 0 c.lines.reader.taken c.turn.new.reader.taken c.lines.invariant.took c.turn.ensures.took)

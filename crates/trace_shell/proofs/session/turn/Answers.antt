@@ -7,21 +7,21 @@ use Rattle.trace_shell.proofs.session.turn.Goals as goal
 pub returns-in-Whole-clause-turned : goal.returns-in-Whole-clause-turned
 returns-in-Whole-clause-turned g c = λ text before at.
     let answers = subst (λ l. Answers l at.rest (IsToRead c.next.new.self (g.S.Source.left c.next.new.source))) c.in-Whole.is
-      (c.in-Ok.ensures.line at.rest at.to_read) in
+    (c.in-Ok.ensures.line at.rest at.to_read) in
     let next = subst (λ bytes. IsNextLine at.rest bytes (IsToRead c.next.new.self (g.S.Source.left c.next.new.source))) (sym c.as_slice.ensures) answers in
     whole_at text before _ _ _ _ _ _ _ _ _ _ c.as_slice.result.now c.answer_line.result at next c.next.ensures.took c.answer_line.ensures.empty c.answer_line.ensures.answered
 
 pub returns-in-TooLong-clause-turned : goal.returns-in-TooLong-clause-turned
 returns-in-TooLong-clause-turned g c = λ text before at.
     let answers = subst (λ l. Answers l at.rest (IsToRead c.next.new.self (g.S.Source.left c.next.new.source))) c.in-TooLong.is
-      (c.in-Ok.ensures.line at.rest at.to_read) in
+    (c.in-Ok.ensures.line at.rest at.to_read) in
     let long = subst (λ l. IsWithinLimits l c.next.new.self.taken) c.in-TooLong.is c.in-Ok.ensures.limits in
     too_long_at text before _ _ _ _ _ _ _ _ _ c.in-TooLong.length c.give.result at answers long c.next.ensures.took c.give.ensures.given
 
 pub returns-in-End-clause-turned : goal.returns-in-End-clause-turned
 returns-in-End-clause-turned g c = λ text before at.
     let answers = subst (λ l. Answers l at.rest (IsToRead c.next.new.self (g.S.Source.left c.next.new.source))) c.in-End.is
-      (c.in-Ok.ensures.line at.rest at.to_read) in
+    (c.in-Ok.ensures.line at.rest at.to_read) in
     let fewer = subst (λ l. IsWithinLimits l c.next.new.self.taken) c.in-End.is c.in-Ok.ensures.limits in
     subst (HasRun text before (g.K.Sink.taken c.args.sink.now)) (sym c.ending.ensures)
-      (ended_at text before _ _ _ _ _ _ _ at answers fewer c.next.ensures.took)
+    (ended_at text before _ _ _ _ _ _ _ at answers fewer c.next.ensures.took)

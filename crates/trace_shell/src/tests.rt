@@ -1,0 +1,175 @@
+//! What no clause says: whole runs by example, with their exact bytes.
+
+use crate::{Ended, StdinSource, StdoutSink, run, run_alone};
+use io_edges::{FixedClock, MemSink, MemSource, OpenGate, Sink, Source};
+use span_types::{Bytes, Calls, Memory, Moments};
+use std::alloc::Global;
+use std::process::Abort;
+use std::sync::Wait;
+use std::thread::Threads;
+
+const PUSH_X: &str =
+    r#"push {"resourceSpans":[{"scopeSpans":[{"spans":[{"traceId":"000000000000000000000000000000a1","spanId":"00000000000000b1","parentSpanId":"","name":"x","startTimeUnixNano":"1","endTimeUnixNano":"2"}]}]}]}"#;
+
+const PUSH_Y: &str =
+    r#"push {"resourceSpans":[{"scopeSpans":[{"spans":[{"traceId":"000000000000000000000000000000a1","spanId":"00000000000000b1","parentSpanId":"","name":"y","startTimeUnixNano":"1","endTimeUnixNano":"2"}]}]}]}"#;
+
+const TRACE_X: &str =
+    r#"{"resourceSpans":[{"resource":{"attributes":[]},"scopeSpans":[{"scope":{"attributes":[],"name":"","version":""},"spans":[{"attributes":[],"endTimeUnixNano":"2","kind":0,"name":"x","parentSpanId":"","spanId":"00000000000000b1","startTimeUnixNano":"1","status":{"code":0,"message":""},"traceId":"000000000000000000000000000000a1"}]}]}]}"#;
+
+const LOOK_A1: &str = "trace 000000000000000000000000000000a1";
+
+const LOOK_A2: &str = "trace 000000000000000000000000000000A2";
+
+fn calls(alloc: Global, numbers: &[u64]) -> Result<Calls, Memory> {
+    Ok(Calls::of(Vec::from_slice(alloc, numbers)?))
+}
+
+// Runs the words over an input, with a source and a sink that fail at the listed calls, and asserts what is written and
+// the status.
+fn check<R: Threads + Wait + Sync + Abort>(
+    rt: &R,
+    alloc: Global,
+    words: &[&str],
+    input: &str,
+    failing: (&[u64], &[u64]),
+    wanted: &str,
+    wanted_status: u8,
+) -> Result<(), Memory> {
+    let mut all = Vec::new(alloc);
+    for word in words {
+        all.push(String::from_str(alloc, word)?)?;
+    }
+    let bytes = Bytes::of(Vec::from_slice(alloc, input.as_bytes())?);
+    let mut source = MemSource::new(bytes, calls(alloc, failing.0)?);
+    let mut sink = MemSink::new(alloc, calls(alloc, failing.1)?);
+    let mut clock = FixedClock::new(Moments::of(Vec::new(alloc)));
+    let Ended { status, disk } = run(
+        rt,
+        alloc,
+        all.as_slice(),
+        &mut source,
+        &mut sink,
+        7u8,
+        &mut clock,
+        &OpenGate,
+    );
+    assert!(rt; sink.taken() == wanted.as_bytes(), "at {input}");
+    assert_eq!(rt; status, wanted_status);
+    assert_eq!(rt; disk, 7);
+    assert_eq!(rt; sink.starved(), 0);
+    Ok(())
+}
+
+#[test]
+fn whole_runs_write_their_exact_bytes(rt: HostRuntime) -> Result<(), Memory> {
+    let alloc = rt.alloc();
+    let session = ["session"];
+    let first = format!(in alloc; "{PUSH_X}\n{LOOK_A1}\n")?;
+    let first_replies = format!(in alloc;
+        "ok push 0 accepted=1 rejected=0 skipped=0\nok trace as_of=1 spans=1 {TRACE_X}\n"
+    )?;
+    let again = format!(in alloc; "{PUSH_X}\r\n\n{PUSH_Y}\n{LOOK_A1}\n{LOOK_A2}")?;
+    let again_replies = format!(in alloc;
+        "ok push 0 accepted=1 rejected=0 skipped=0\nok push 1 accepted=1 rejected=0 skipped=0\nok trace as_of=2 spans=1 {TRACE_X}\nok trace as_of=2 spans=0 {{\"resourceSpans\":[]}}\n"
+    )?;
+    let not_built = "refused not-built\nrefused not-built\n";
+    check(&rt, alloc, &session, "", (&[], &[]), "", 0)?;
+    check(
+        &rt,
+        alloc,
+        &session,
+        first.as_str(),
+        (&[], &[]),
+        first_replies.as_str(),
+        0,
+    )?;
+    check(
+        &rt,
+        alloc,
+        &session,
+        again.as_str(),
+        (&[], &[]),
+        again_replies.as_str(),
+        0,
+    )?;
+    check(
+        &rt,
+        alloc,
+        &session,
+        "push {}\nsearch { }",
+        (&[], &[]),
+        not_built,
+        7,
+    )?;
+    check(&rt, alloc, &[], first.as_str(), (&[], &[]), "", 2)?;
+    check(
+        &rt,
+        alloc,
+        &["session", "session"],
+        first.as_str(),
+        (&[], &[]),
+        "",
+        2,
+    )?;
+    Ok(())
+}
+
+#[test]
+fn a_failing_device_ends_the_run(rt: HostRuntime) -> Result<(), Memory> {
+    let alloc = rt.alloc();
+    let session = ["session"];
+    let input = format!(in alloc; "{PUSH_X}\n{PUSH_X}\n{LOOK_A1}\n")?;
+    let push = "ok push 0 accepted=1 rejected=0 skipped=0\n";
+    check(&rt, alloc, &session, input.as_str(), (&[], &[2]), push, 1)?;
+    check(&rt, alloc, &session, input.as_str(), (&[1], &[]), "", 3)?;
+    let replies = format!(in alloc;
+        "{push}ok push 1 accepted=1 rejected=0 skipped=0\nok trace as_of=2 spans=1 {TRACE_X}\n"
+    )?;
+    check(
+        &rt,
+        alloc,
+        &session,
+        input.as_str(),
+        (&[2], &[]),
+        replies.as_str(),
+        3,
+    )?;
+    Ok(())
+}
+
+#[test]
+fn no_command_needs_a_right_to_wait_yet(rt: HostRuntime) -> Result<(), Memory> {
+    let alloc = rt.alloc();
+    let mut source = MemSource::new(Bytes::of(Vec::new(alloc)), calls(alloc, &[])?);
+    let mut sink = MemSink::new(alloc, calls(alloc, &[])?);
+    let mut clock = FixedClock::new(Moments::of(Vec::new(alloc)));
+    let Ended { status, disk: () } = run_alone(
+        &rt,
+        alloc,
+        &[],
+        &mut source,
+        &mut sink,
+        (),
+        &mut clock,
+        &OpenGate,
+    );
+    assert_eq!(rt; status, 2);
+    Ok(())
+}
+
+#[test]
+fn standard_input_is_a_source(rt: HostRuntime) {
+    let mut source = StdinSource::new(rt.stdin());
+    let mut buf = [0; 16];
+    assert!(rt;
+        matches!(source.take(&mut buf), Ok(0)),
+        "a test has no input"
+    );
+}
+
+#[test]
+fn standard_output_is_a_sink(rt: HostRuntime) {
+    let mut sink = StdoutSink::new(rt.stdout());
+    assert!(rt; matches!(sink.put(b"a line of the test of standard output\n"), Ok(())));
+}
