@@ -1,0 +1,4 @@
+pub mod NumberLaws
+pub mod Texts
+pub mod FieldLaws
+pub mod TextLaws
