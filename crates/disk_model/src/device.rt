@@ -1,0 +1,153 @@
+// A disk as code in one thread sees it.
+ghost use Rattle.std.specs.Prelude.{◌≡◌, ◌<◌, ◌≤◌, ◌+◌, ◌-◌, ◌^◌, ◌++◌, ℕ, Bool, List, length, take, drop, min, IsTrue, IfOk, OnOk};
+ghost use Rattle.disk_model.specs.Images.{Image, bytes_of, Besides, SameBytes, OnFile};
+ghost use Rattle.disk_model.specs.Bytes.{overwritten, Torn, HalfCut};
+ghost use Rattle.disk_model.specs.Crash.{Follows, Within, OnlyBytes, Elapses, HasCause};
+
+use crate::Disk;
+use span_types::Failed;
+
+/// A [`Disk`] without its promise that it may go from thread to thread. Every disk is one.
+///
+/// Code that a shared store calls is generic over this trait: in a method of an `impl` that is generic in `D: Disk`, a
+/// call of a function that asks for `D: Disk` gets no proof, since the promise would have to be handed on.
+pub trait Device: Drop {
+    /// Whether the contracts speak of the bytes that it holds. No call changes it.
+    ghost tells: { Self → Bool };
+
+    /// The bytes that it holds, as a read gives them.
+    ghost held: { Self → Image };
+
+    /// What a crash may leave now.
+    ghost may_leave: { Self → Image → Type 0 };
+
+    /// The moment, as a number that no call lowers.
+    ghost moment: { Self → ℕ };
+
+    /// What a crash may have left at some moment since that one, in a call or between two.
+    ghost left_since: { Self → ℕ → Image → Type 0 };
+
+    /// How many calls have failed.
+    ghost faults: { Self → ℕ };
+
+    /// How many calls of `read` were made.
+    ghost reads: { Self → ℕ };
+
+    /// The length of a file, in bytes.
+    fn len(&mut self, file: u32) -> Result<u64, Failed>
+        ensures length { IsTrue (tells self.old) → IfOk result (λ len. len ≡ length (bytes_of (held self.old) file)) }
+        ensures same_bytes { IsTrue (tells self.old) → SameBytes (held self.old) (held self.new) }
+        ensures crash { Within (may_leave self.old) (may_leave self.new) }
+        ensures time { Elapses (moment self.old) (moment self.new) (left_since self.old) (left_since self.new) (may_leave self.new) }
+        ensures telling { tells self.new ≡ tells self.old }
+        ensures cause { HasCause (faults self.old) (faults self.new) result }
+        ensures no_read { reads self.new ≡ reads self.old };
+
+    /// Fills the buffer from a file, from the byte `at` on, and answers how many bytes it read: those up to the
+    /// buffer's end or the file's, and none past the file's end. What an `Err` leaves in the buffer is open.
+    fn read(&mut self, file: u32, at: u64, buf: &mut [u8]) -> Result<usize, Failed>
+        ensures count { IsTrue (tells self.old) → IfOk result (λ count. count ≡ min (length buf.old) (length (bytes_of (held self.old) file) - at)) }
+        ensures bytes { IsTrue (tells self.old) → IfOk result (λ count. buf.new ≡ take count (drop at (bytes_of (held self.old) file)) ++ drop count buf.old) }
+        ensures fits { IfOk result (λ count. count ≤ length buf.old) }
+        ensures same_bytes { IsTrue (tells self.old) → SameBytes (held self.old) (held self.new) }
+        ensures crash { Within (may_leave self.old) (may_leave self.new) }
+        ensures time { Elapses (moment self.old) (moment self.new) (left_since self.old) (left_since self.new) (may_leave self.new) }
+        ensures telling { tells self.new ≡ tells self.old }
+        ensures cause { HasCause (faults self.old) (faults self.new) result }
+        ensures one_read { (reads self.old ≤ reads self.new) × (reads self.new ≤ reads self.old + 1) };
+
+    /// Writes the bytes into a file, from the byte `at` on. Past the end a gap becomes zeros; to write no bytes changes
+    /// nothing. A write whose end is 2^63 or more changes nothing and fails. Until a sync of the file, a crash may leave
+    /// any bytes in the range, also where the call failed.
+    fn write(&mut self, file: u32, at: u64, bytes: &[u8]) -> Result<(), Failed>
+        ensures written { IsTrue (tells self.old) → OnOk result (bytes_of (held self.new) file ≡ overwritten (bytes_of (held self.old) file) at bytes.now) }
+        ensures near { OnOk result (at + length bytes.now < 2 ^ 63) }
+        ensures far_bytes { IsTrue (tells self.old) → 2 ^ 63 ≤ at + length bytes.now → SameBytes (held self.old) (held self.new) }
+        ensures far_crash { 2 ^ 63 ≤ at + length bytes.now → Within (may_leave self.old) (may_leave self.new) }
+        ensures besides { IsTrue (tells self.old) → Besides file (held self.old) (held self.new) }
+        ensures crash { Follows (OnFile file (Torn at (length bytes.now))) (may_leave self.old) (may_leave self.new) }
+        ensures time { Elapses (moment self.old) (moment self.new) (left_since self.old) (left_since self.new) (may_leave self.new) }
+        ensures telling { tells self.new ≡ tells self.old }
+        ensures cause { HasCause (faults self.old) (faults self.new) result }
+        ensures no_read { reads self.new ≡ reads self.old };
+
+    /// Shortens a file to a length. A file that isn't longer stays as it is. Until a sync of the file, a crash may leave
+    /// any length between the two and any bytes past `len`, also where the call failed.
+    fn cut(&mut self, file: u32, len: u64) -> Result<(), Failed>
+        ensures shortened { IsTrue (tells self.old) → OnOk result (bytes_of (held self.new) file ≡ take len (bytes_of (held self.old) file)) }
+        ensures besides { IsTrue (tells self.old) → Besides file (held self.old) (held self.new) }
+        ensures crash { Follows (OnFile file (HalfCut len)) (may_leave self.old) (may_leave self.new) }
+        ensures time { Elapses (moment self.old) (moment self.new) (left_since self.old) (left_since self.new) (may_leave self.new) }
+        ensures telling { tells self.new ≡ tells self.old }
+        ensures cause { HasCause (faults self.old) (faults self.new) result }
+        ensures no_read { reads self.new ≡ reads self.old };
+
+    /// Makes what a file holds last: at `Ok` a crash leaves of this file what a read gives. An `Err` tells nothing.
+    fn sync(&mut self, file: u32) -> Result<(), Failed>
+        ensures lasting { IsTrue (tells self.old) → OnOk result (OnlyBytes file (bytes_of (held self.new) file) (may_leave self.new)) }
+        ensures same_bytes { IsTrue (tells self.old) → SameBytes (held self.old) (held self.new) }
+        ensures crash { Within (may_leave self.old) (may_leave self.new) }
+        ensures time { Elapses (moment self.old) (moment self.new) (left_since self.old) (left_since self.new) (may_leave self.new) }
+        ensures telling { tells self.new ≡ tells self.old }
+        ensures cause { HasCause (faults self.old) (faults self.new) result }
+        ensures no_read { reads self.new ≡ reads self.old };
+
+    /// How many calls have failed. It is no call of the device, and takes no memory.
+    fn faults(&self) -> u64
+        ensures { result ≡ faults self.now };
+
+    /// This moment is one of those since an earlier one.
+    ghost counts_now: { (disk : Self) (then : ℕ) (image : Image) → then ≤ moment disk → may_leave disk image → left_since disk then image };
+
+    /// Since this moment there is no other.
+    ghost only_now: { (disk : Self) (image : Image) → left_since disk (moment disk) image → may_leave disk image };
+
+    /// A crash may leave what the disk holds.
+    ghost held_may_stay: { (disk : Self) → IsTrue (tells disk) → may_leave disk (held disk) };
+}
+
+impl<D: Disk> Device for D {
+    ghost tells = { D.Disk.tells };
+
+    ghost held = { D.Disk.held };
+
+    ghost may_leave = { D.Disk.may_leave };
+
+    ghost moment = { D.Disk.moment };
+
+    ghost left_since = { D.Disk.left_since };
+
+    ghost faults = { D.Disk.faults };
+
+    ghost reads = { D.Disk.reads };
+
+    ghost counts_now = { D.Disk.counts_now };
+
+    ghost only_now = { D.Disk.only_now };
+
+    ghost held_may_stay = { D.Disk.held_may_stay };
+
+    fn len(&mut self, file: u32) -> Result<u64, Failed> {
+        Disk::len(self, file)
+    }
+
+    fn read(&mut self, file: u32, at: u64, buf: &mut [u8]) -> Result<usize, Failed> {
+        Disk::read(self, file, at, buf)
+    }
+
+    fn write(&mut self, file: u32, at: u64, bytes: &[u8]) -> Result<(), Failed> {
+        Disk::write(self, file, at, bytes)
+    }
+
+    fn cut(&mut self, file: u32, len: u64) -> Result<(), Failed> {
+        Disk::cut(self, file, len)
+    }
+
+    fn sync(&mut self, file: u32) -> Result<(), Failed> {
+        Disk::sync(self, file)
+    }
+
+    fn faults(&self) -> u64 {
+        Disk::faults(self)
+    }
+}
