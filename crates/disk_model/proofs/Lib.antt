@@ -1,2 +1,7 @@
+pub mod BytesLemmas
+mod FilesLemmas
 pub mod Moments
 pub mod Passing
+mod PicksLemmas
+mod Steps
+mod Torn

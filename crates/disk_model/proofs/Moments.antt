@@ -1,12 +1,12 @@
 -- How what a crash may leave goes on over a run of calls.
-use Rattle.std.proofs.Common.{◌⊎◌, inl, inr, ⊎_elim, ℕ, ◌≤◌, arith}
+use Rattle.std.proofs.Common.{inl, inr, ⊎_elim, ℕ, arith}
 use Rattle.disk_model.specs.Images.{Image}
 use Rattle.disk_model.specs.Crash.{Elapses, LeavesOnly}
 
 module _ {D : Type 0} (moment : D → ℕ) (left_since : D → ℕ → Image → Type 0) where
   -- before the first call
   pub started : (old : D) (P : Image → Type 0) → ((image : Image) → left_since old (moment old) image → P image) → LeavesOnly moment left_since old old P
-  started old P here = record { later = omega arith; each = here; before = λ then image le left. inl left }
+  started old P here = record { later = omega arith; each = here; before = λ start image le left. inl left }
 
   -- one call more, after which a crash leaves what has the property
   pub goes_on : (old mid new : D) (P may_leave : Image → Type 0) → LeavesOnly moment left_since old mid P → Elapses (moment mid) (moment new) (left_since mid) (left_since new) may_leave
@@ -14,7 +14,7 @@ module _ {D : Type 0} (moment : D → ℕ) (left_since : D → ℕ → Image →
   goes_on old mid new P may_leave so_far time here = record {
     later = omega (arith, so_far.later, time.later);
     each = λ image left. ⊎_elim (so_far.each image) (here image) (time.nothing_else (moment old) image so_far.later left);
-    before = λ then image le left. ⊎_elim (so_far.before then image le) (λ now. inr (here image now)) (time.nothing_else then image (omega (arith, le, so_far.later)) left);
+    before = λ start image le left. ⊎_elim (so_far.before start image le) (λ now. inr (here image now)) (time.nothing_else start image (omega (arith, le, so_far.later)) left);
   }
 
   -- a weaker property
@@ -22,7 +22,7 @@ module _ {D : Type 0} (moment : D → ℕ) (left_since : D → ℕ → Image →
   widened old new P Q run more = record {
     later = run.later;
     each = λ image left. more image (run.each image left);
-    before = λ then image le left. ⊎_elim (λ early. inl early) (λ p. inr (more image p)) (run.before then image le left);
+    before = λ start image le left. ⊎_elim (λ early. inl early) (λ p. inr (more image p)) (run.before start image le left);
   }
 
   -- one run after another
@@ -30,5 +30,5 @@ module _ {D : Type 0} (moment : D → ℕ) (left_since : D → ℕ → Image →
   joined old mid new P first second = record {
     later = omega (arith, first.later, second.later);
     each = λ image left. ⊎_elim (first.each image) (λ p. p) (second.before (moment old) image first.later left);
-    before = λ then image le left. ⊎_elim (first.before then image le) (λ p. inr p) (second.before then image (omega (arith, le, first.later)) left);
+    before = λ start image le left. ⊎_elim (first.before start image le) (λ p. inr p) (second.before start image (omega (arith, le, first.later)) left);
   }

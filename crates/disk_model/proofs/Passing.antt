@@ -1,6 +1,6 @@
 -- How runs that change one file alone join.
-use Rattle.std.proofs.Common.{◌≡◌, ◌⊎◌, inl, inr, ⊎_elim, ℕ, ◌+◌, ◌≤◌, List, length, refl, ◌∙◌, subst, arith, rules}
-use Rattle.disk_model.specs.Images.{Image, bytes_of, Besides, OnFile}
+use Rattle.std.proofs.Common.{◌≡◌, ℕ, List, refl, ◌∙◌, subst, arith}
+use Rattle.disk_model.specs.Images.{Image, bytes_of, OnFile}
 use Rattle.disk_model.specs.Bytes.{Torn, HalfCut}
 use Rattle.disk_model.specs.Crash.{Reached, Within, OnlyBytes, Elapses, LeavesOnly, ButFor, Passes}
 use Rattle.disk_model.proofs.Moments.{started, goes_on, widened, joined}

@@ -19,18 +19,18 @@ Within old new = (image : Image) → new image → old image
 abbrev pub OnlyBytes : ℕ → List ℕ → (Image → Type 0) → Type 0
 OnlyBytes file bytes images = (image : Image) → images image → bytes_of image file ≡ bytes
 
--- Time goes on: a crash since then might have left what it might have left before, or what it may leave now.
+-- Time goes on: a crash since the start might have left what it might have left before, or what it may leave now.
 pub record Elapses (before now : ℕ) (past since : ℕ → Image → Type 0) (may_leave : Image → Type 0) : Type 0 where
   pub later : before ≤ now
-  pub nothing_else : (then : ℕ) (image : Image) → then ≤ before → since then image → past then image ⊎ may_leave image
-  pub keeps : (then : ℕ) (image : Image) → then ≤ before → past then image → since then image
+  pub nothing_else : (start : ℕ) (image : Image) → start ≤ before → since start image → past start image ⊎ may_leave image
+  pub keeps : (start : ℕ) (image : Image) → start ≤ before → past start image → since start image
 
 -- A crash at any moment since the old disk leaves an image that has the property.
 pub record LeavesOnly {D : Type 0} (moment : D → ℕ) (left_since : D → ℕ → Image → Type 0) (old new : D) (property : Image → Type 0) : Type 0 where
   pub later : moment old ≤ moment new
   pub each : (image : Image) → left_since new (moment old) image → property image
   -- for a run that began earlier
-  pub before : (then : ℕ) (image : Image) → then ≤ moment old → left_since new then image → left_since old then image ⊎ property image
+  pub before : (start : ℕ) (image : Image) → start ≤ moment old → left_since new start image → left_since old start image ⊎ property image
 
 -- an image that differs in this file alone from one that might have been left, with bytes there that have the property
 pub record ButFor (file : ℕ) (property : List ℕ → Type 0) (images : Image → Type 0) (image : Image) : Type 0 where

@@ -1,3 +1,10 @@
-pub mod Images
-pub mod Crash
 pub mod Bytes
+pub mod BytesLaws
+pub mod Crash
+pub mod Files
+pub mod History
+pub mod Images
+pub mod Laws
+pub mod Memory
+pub mod Picks
+pub mod Script

@@ -95,7 +95,7 @@ pub trait Disk: Send + Drop {
         ensures { result ≡ faults self.now };
 
     /// This moment is one of those since an earlier one.
-    ghost counts_now: { (disk : Self) (then : ℕ) (image : Image) → then ≤ moment disk → may_leave disk image → left_since disk then image };
+    ghost counts_now: { (disk : Self) (start : ℕ) (image : Image) → start ≤ moment disk → may_leave disk image → left_since disk start image };
 
     /// Since this moment there is no other.
     ghost only_now: { (disk : Self) (image : Image) → left_since disk (moment disk) image → may_leave disk image };

@@ -1,7 +1,6 @@
 -- What a crash leaves while one file is changed and synced.
-use Rattle.std.proofs.Common.{length}
-use Rattle.disk_model.specs.Bytes.{Torn, HalfCut}
-use Rattle.disk_model.proofs.Passing.{torn_same, cut_same, passes_known, one_change, one_change_synced}
+use Rattle.disk_model.specs.Bytes.{HalfCut}
+use Rattle.disk_model.proofs.Passing.{cut_same, passes_known, one_change, one_change_synced}
 use Rattle.disk_model.proofs.through.cut_through.Goals as goal
 
 pub returns-in_err-cut-clause-any_moment : goal.returns-in_err-cut-clause-any_moment

@@ -1,7 +1,7 @@
 -- What a crash leaves while one file is changed and synced.
 use Rattle.std.proofs.Common.{length}
-use Rattle.disk_model.specs.Bytes.{Torn, HalfCut}
-use Rattle.disk_model.proofs.Passing.{torn_same, cut_same, passes_known, one_change, one_change_synced}
+use Rattle.disk_model.specs.Bytes.{Torn}
+use Rattle.disk_model.proofs.Passing.{torn_same, passes_known, one_change, one_change_synced}
 use Rattle.disk_model.proofs.through.write_through.Goals as goal
 
 pub returns-in_err-write-clause-any_moment : goal.returns-in_err-write-clause-any_moment

@@ -1,0 +1,86 @@
+-- The calls of a disk in memory.
+use Rattle.std.specs.Prelude.{◌≡◌, ◌≢◌, ℕ, Some, None, List, [], Result, IsOk, IsErr}
+use Rattle.disk_model.specs.Images.{Image}
+use Rattle.disk_model.specs.History.{Past, added}
+use Rattle.disk_model.specs.Script.{raised, fate_of, counted}
+use Rattle.disk_model.specs.declared.change.Change.{Change}
+use Rattle.disk_model.specs.declared.memory.MemDisk.{MemDisk}
+use Rattle.disk_model.specs.declared.script.Fate.{Fate}
+use Rattle.disk_model.specs.declared.script.Fate.TheVariants.{Passes, Listed, Stopped}
+
+-- what its files held at first, and each change since
+abbrev pub past_of : MemDisk → Past
+past_of disk = disk.history
+
+-- what becomes of its next call
+abbrev pub next_fate : MemDisk → Fate
+next_fate disk = fate_of disk.script
+
+-- how many calls have failed, and how many of those because memory was wanting
+abbrev pub faults_of : MemDisk → ℕ
+faults_of disk = disk.faults
+
+abbrev pub starved_of : MemDisk → ℕ
+starved_of disk = disk.starved
+
+-- how many calls of `read` were made
+abbrev pub reads_of : MemDisk → ℕ
+reads_of disk = disk.reads
+
+-- a disk that holds the files of an image, all of it synced, and none of whose calls is to fail
+abbrev pub fresh : Image → MemDisk
+fresh image = record {
+  history = record { first = image; changes = [] };
+  script = record { listed = []; made = 0; left = None };
+  faults = 0;
+  starved = 0;
+  reads = 0;
+}
+
+-- the disk after a call that passed
+abbrev pub passed : MemDisk → MemDisk
+passed disk = record { history = disk.history; script = counted disk.script; faults = disk.faults; starved = disk.starved; reads = disk.reads }
+
+-- the disk after a call that failed
+abbrev pub failed : MemDisk → MemDisk
+failed disk = record { history = disk.history; script = counted disk.script; faults = raised disk.faults; starved = disk.starved; reads = disk.reads }
+
+-- the disk after a call that failed because memory was wanting
+abbrev pub starving : MemDisk → MemDisk
+starving disk = record { history = disk.history; script = counted disk.script; faults = raised disk.faults; starved = raised disk.starved; reads = disk.reads }
+
+-- with one call of `read` more
+abbrev pub read_once : MemDisk → MemDisk
+read_once disk = record { history = disk.history; script = disk.script; faults = disk.faults; starved = disk.starved; reads = raised disk.reads }
+
+-- with one change more
+abbrev pub noted : Change → MemDisk → MemDisk
+noted change disk = record { history = added disk.history change; script = disk.script; faults = disk.faults; starved = disk.starved; reads = disk.reads }
+
+-- with other calls that are to fail, counted from now on
+abbrev pub listing : List ℕ → MemDisk → MemDisk
+listing calls disk = record {
+  history = disk.history;
+  script = record { listed = calls; made = 0; left = disk.script.left };
+  faults = disk.faults;
+  starved = disk.starved;
+  reads = disk.reads;
+}
+
+-- with that many calls left before all fail
+abbrev pub stopping : ℕ → MemDisk → MemDisk
+stopping calls disk = record {
+  history = disk.history;
+  script = record { listed = disk.script.listed; made = disk.script.made; left = Some calls };
+  faults = disk.faults;
+  starved = disk.starved;
+  reads = disk.reads;
+}
+
+-- What a write, a cut or a sync comes to. `done` is what it makes of the disk, and `lost` what it leaves pending where
+-- it is listed.
+pub data Outcome {T E : Type 0} (old : MemDisk) (done lost : MemDisk → MemDisk) (result : Result T E) (new : MemDisk) : Type 0 where
+  passes : next_fate old ≡ Passes → IsOk result → new ≡ done (passed old) → Outcome old done lost result new
+  listed : next_fate old ≡ Listed → IsErr result → new ≡ lost (failed old) → Outcome old done lost result new
+  stopped : next_fate old ≡ Stopped → IsErr result → new ≡ failed old → Outcome old done lost result new
+  starves : next_fate old ≢ Stopped → IsErr result → new ≡ starving old → Outcome old done lost result new
