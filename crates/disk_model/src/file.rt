@@ -1,5 +1,5 @@
 // One file of a disk in memory.
-ghost use Rattle.std.specs.Prelude.{◌≡◌, ◌<◌, ◌≤◌, ◌+◌, ◌^◌, ◌++◌, ◌-◌, [], ◌∷◌, length, take, drop, replicate, vec_len, vec_capacity, OnOk, OnErr, IfOk};
+ghost use Rattle.std.specs.Prelude.{◌≡◌, ◌<◌, ◌≤◌, ◌+◌, ◌^◌, ◌++◌, ◌-◌, [], ◌∷◌, length, min, max, take, drop, replicate, vec_len, vec_capacity, OnOk, OnErr, IfOk};
 ghost use Rattle.disk_model.specs.Bytes.{overwritten};
 ghost use Rattle.disk_model.specs.Files.{settled, wrote, lost_write, cut_to, lost_cut, synced_now};
 
@@ -137,8 +137,7 @@ impl File {
     {
         self.pending.push(Pending::Shortened { len })?;
         self.held.truncate(len as usize);
-        self.least = self.least.min(len);
-        self.greatest = self.greatest.max(len);
+        self.spread(len);
         Ok(())
     }
 
@@ -148,9 +147,16 @@ impl File {
         ensures err { OnErr result (self.new ≡ self.old) }
     {
         self.pending.push(Pending::Shortened { len })?;
+        self.spread(len);
+        Ok(())
+    }
+
+    /// Counts a length among those since the last sync.
+    fn spread(&mut self, len: u64)
+        ensures { self.new ≡ record self.old { least = min self.old.least len; greatest = max self.old.greatest len } }
+    {
         self.least = self.least.min(len);
         self.greatest = self.greatest.max(len);
-        Ok(())
     }
 
     /// Makes a change, or notes one that failed.

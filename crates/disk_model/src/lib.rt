@@ -15,3 +15,6 @@ pub use device::Device;
 pub use disk::Disk;
 pub use memory::MemDisk;
 pub use through::{cut_through, write_through};
+
+#[cfg(test)]
+mod tests;
