@@ -1,0 +1,9 @@
+pub mod Bytes
+pub mod Fixed
+pub mod NumberWalk
+pub mod Numbers
+pub mod StringWalk
+pub mod Strings
+pub mod Sums
+pub mod Tokens
+pub mod Walk

@@ -1,0 +1,127 @@
+//! Tokens.
+
+ghost use Rattle.std.specs.Prelude.{◌≡◌, ◌==◌, length};
+
+use crate::{AttributeScope, Intrinsic, Sign, Word};
+use span_types::Text;
+use std::marker::Model;
+
+/// What is wrong with a token. Its class and its end are clear all the same, so the tokens behind it are read.
+/// A place counts bytes from the start of the text.
+#[derive(Clone, Copy, Debug, PartialEq, Eq)]
+pub enum Fault {
+    /// A number or a duration of 2^63 or more.
+    NumberRange,
+    /// A bare decimal, or a duration below 2^63 that isn't a whole number of nanoseconds.
+    FractionLiteral,
+    /// A string that doesn't end; `at` is the place of its first quote.
+    Unended {
+        /// The place of the string's first quote.
+        at: u64,
+    },
+    /// A string that ends, with a backslash before a character that makes no escape; `at` is the place of the
+    /// first such backslash.
+    UnknownEscape {
+        /// The place of the backslash.
+        at: u64,
+    },
+}
+
+/// What a faulty token would be without its fault.
+#[derive(Clone, Copy, Debug, PartialEq, Eq)]
+pub enum Class {
+    /// A string literal.
+    Quoted,
+    /// A number; a bare decimal is of this class.
+    Number,
+    /// A duration.
+    Duration,
+    /// An attribute, whose name is a faulty string.
+    Attribute,
+}
+
+/// What a token is.
+#[derive(Debug, Drop)]
+pub enum TokenKind {
+    /// A sign.
+    Mark(Sign),
+    /// A word.
+    Keyword(Word),
+    /// An intrinsic, as it is written.
+    Builtin(Intrinsic),
+    /// An attribute and its name, which isn't empty.
+    Named(AttributeScope, Text),
+    /// A string literal, seen as what it stands for.
+    Quoted(Text),
+    /// A number below 2^63.
+    Number(u64),
+    /// A duration, a whole number of nanoseconds below 2^63.
+    Duration(u64),
+    /// A token with a fault.
+    Broken(Class, Fault),
+    /// An attribute without a name, or with the empty string for one. No rule of the grammar allows it.
+    Nameless,
+    /// A byte that begins no token. It is the last of the list, and no rule of the grammar allows it.
+    Unknown,
+}
+
+/// A token and the place of its first byte, counted in bytes from the start of the text.
+#[derive(Debug, Drop)]
+pub struct Token {
+    /// The place of its first byte.
+    pub at: u64,
+    /// What it is.
+    pub kind: TokenKind,
+}
+
+/// The tokens of a text, in its order.
+#[derive(Debug, Drop)]
+pub struct Tokens {
+    inner: Vec<Token>,
+}
+
+impl Model for Tokens {
+    ghost use Rattle.std.specs.Prelude.{List};
+    ghost use Rattle.traceql_tokens.specs.declared.kinds.Token.{Token};
+
+    ghost Value = { List Token };
+
+    ghost view = { λ l. l.inner.items };
+}
+
+impl Tokens {
+    /// The list of a vector's items, which are moved and not copied.
+    pub fn of(inner: Vec<Token>) -> Tokens
+        ensures { result ≡ inner.items }
+    {
+        Tokens { inner }
+    }
+
+    /// The vector again, without a copy.
+    pub fn into_vec(self) -> Vec<Token>
+        ensures { result.items ≡ self }
+    {
+        self.inner
+    }
+
+    /// The tokens as a slice.
+    pub fn as_slice(&self) -> &[Token]
+        ensures { result.now ≡ self.now }
+    {
+        self.inner.as_slice()
+    }
+
+    /// The number of tokens.
+    pub fn len(&self) -> usize
+        ensures { result ≡ length self.now }
+    {
+        self.inner.len()
+    }
+
+    /// Whether there are no tokens.
+    pub fn is_empty(&self) -> bool
+        ensures { result ≡ (length self.now == 0) }
+    {
+        self.inner.is_empty()
+    }
+}
