@@ -111,7 +111,9 @@ Answers-next (Spent taken) text line ToRead is next = absurd is
 IsNextLine-last : (answer : Line) (text held : List ℕ) (ToRead : List ℕ → Type 0) → IsLastLine answer held → text ≡ held → ToRead []
     → IsNextLine text (without_return held) ToRead
 IsNextLine-last answer text held ToRead last all nothing = record {
+  past = text;
   rest = [];
+  parts = sym (append-nil text);
   first = ap lines all ∙ lines-last held last.no_feed last.not_empty;
   after = nothing;
 }
@@ -132,7 +134,9 @@ Answers-feed mid after left answer ends text to_read =
     let all : text ≡ e.piece ++ 10 ∷ (e.rest ++ to_read.rest) =
     to_read.text_is ∙ ap (λ l. l ++ to_read.rest) e.held_is ∙ append_assoc e.piece (10 ∷ e.rest) to_read.rest in
     let next : IsNextLine text (without_return e.piece) (IsToRead after left) = record {
+      past = e.piece ++ 10 ∷ [];
       rest = e.rest ++ to_read.rest;
+      parts = all ∙ sym (append_assoc e.piece (10 ∷ []) (e.rest ++ to_read.rest));
       first = ap lines all ∙ lines-feed e.piece (e.rest ++ to_read.rest) e.no_feed;
       after = record { held = e.rest; rest = to_read.rest; holds = e.holds; told = to_read.told; text_is = refl };
     } in

@@ -15,9 +15,9 @@ abbrev pub IsBegun : Begun → List ℕ → Type 0
 IsBegun (Kept bytes) piece = piece ≡ bytes
 IsBegun (Dropped size returns) piece = (length piece ≡ size) × (ends_in_return piece ≡ returns)
 
--- A line is dropped only where it has too many bytes even without a carriage return.
+-- No more of a line is kept than a line may have with a carriage return, and it is dropped only where it has more.
 abbrev pub IsSound : Begun → Type 0
-IsSound (Kept bytes) = Unit {0}
+IsSound (Kept bytes) = length bytes ≤ line_limit + 1
 IsSound (Dropped size returns) = line_limit + 1 < size
 
 -- How many bytes of the line that isn't ended were taken.
@@ -71,7 +71,9 @@ to_come reader = taken_limit - reader.taken + (begun_len reader.begun + length r
 
 -- `line` is the first line of `text`, and `rest` is to be read after it.
 pub record IsNextLine (text line : List ℕ) (ToRead : List ℕ → Type 0) : Type 0 where
+  pub past : List ℕ
   pub rest : List ℕ
+  pub parts : text ≡ past ++ rest
   pub first : lines text ≡ line ∷ lines rest
   pub after : ToRead rest
 
@@ -90,12 +92,16 @@ IsWithinLimits (TooLong size) now = line_limit < size
 IsWithinLimits End now = now < taken_limit
 IsWithinLimits (Spent taken) now = (taken ≡ taken_limit) × (now ≡ taken_limit)
 
+-- No line feed is among the bytes that the reader holds, so that every line which was ended in what it took was answered.
+abbrev pub HoldsNoFeed : Reader → Type 0
+HoldsNoFeed reader = (held : List ℕ) → Holds reader held → HasNoFeed held
+
 -- All is spent only where the bytes that the reader holds end no line, so that it would ask for another byte.
 abbrev pub WouldAsk : Line → Reader → Type 0
 WouldAsk (Whole bytes) now = Unit {0}
 WouldAsk (TooLong size) now = Unit {0}
 WouldAsk End now = Unit {0}
-WouldAsk (Spent taken) now = (held : List ℕ) → Holds now held → HasNoFeed held
+WouldAsk (Spent taken) now = HoldsNoFeed now
 
 -- After a line fewer bytes are to come, and after any other answer no more than before.
 abbrev pub ComesNearer : Line → ℕ → ℕ → Type 0

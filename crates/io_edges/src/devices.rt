@@ -16,8 +16,8 @@ pub trait Source {
     // How many calls failed so far.
     ghost faults: { Self → ℕ };
 
-    /// Puts the next bytes to the front of `buf` and gives their number. `Ok(0)` on a buffer that isn't empty is the end
-    /// of input. A call that fails takes nothing.
+    /// Fills the front of `buf` with the bytes that come next, and says how many they are. A buffer with room that is given
+    /// none tells that the input has ended. A call that fails takes nothing.
     fn take(&mut self, buf: &mut [u8]) -> Result<usize, Failed>
         ensures within { IfOk result (λ count. count ≤ length buf.new) }
         ensures bytes { ReadConsumes (left self.old) (left self.new) result buf.new }
@@ -34,7 +34,7 @@ pub trait Sink {
     // How many calls failed so far.
     ghost faults: { Self → ℕ };
 
-    /// Takes all of `bytes`. A call that fails has taken a prefix of them.
+    /// Takes all of `bytes`, or fails after a first part of them, which may be none or all.
     fn put(&mut self, bytes: &[u8]) -> Result<(), Failed>
         ensures whole { OnOk result (Appends (taken self.old) (taken self.new) bytes.now) }
         ensures part { OnErr result (AppendsPrefix (taken self.old) (taken self.new) bytes.now) }

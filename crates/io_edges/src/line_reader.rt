@@ -4,7 +4,7 @@ ghost use Rattle.std.specs.Prelude.{◌≡◌, ◌≢◌, ◌+◌, ◌<◌, ◌�
 ghost use Rattle.span_types.specs.Faults.{Rose};
 ghost use Rattle.std.specs.Io.KnownBytes.{Consumes};
 ghost use Rattle.io_edges.specs.Lines.{taken_limit};
-ghost use Rattle.io_edges.specs.Reader.{Answers, ComesNearer, EndsByFeed, EndsInput, Holds, IsFilled, IsToRead, IsWithinLimits, TakesBytes, WouldAsk, to_come};
+ghost use Rattle.io_edges.specs.Reader.{Answers, ComesNearer, EndsByFeed, EndsInput, Holds, HoldsNoFeed, IsFilled, IsToRead, IsWithinLimits, TakesBytes, WouldAsk, to_come};
 
 use crate::begun::Begun;
 use crate::block::{Block, Fill, TAKEN_LIMIT};
@@ -70,8 +70,9 @@ impl LineReader {
     ///
     /// # Errors
     ///
-    /// `LineError::Fault` where the source failed, and `LineError::Memory` where memory was wanted. After either the text
-    /// that is still to be read stands, so a later call goes on where this one was.
+    /// `LineError::Fault` where the source failed; every line that was ended by then was answered. `LineError::Memory`
+    /// where memory was wanted. After either the text that is still to be read stands, so a later call goes on where this
+    /// one was.
     pub fn next<S: Source>(&mut self, source: &mut S) -> Result<Line, LineError>
         // Where the source tells its bytes, the answer is about the text that is still to be read as lines.
         ensures line { IfOk result (λ line. (text : List ℕ) → IsToRead self.old (S.left source.old) text
@@ -90,6 +91,7 @@ impl LineReader {
         // A fault is the source's, and comes only where a byte may be asked for.
         ensures counted { S.faults source.old ≤ S.faults source.new }
         ensures asked { IsErrOf result LineError.Fault → self.new.taken < taken_limit }
+        ensures waiting { IsErrOf result LineError.Fault → HoldsNoFeed self.new }
         ensures fault { IsErrOf result LineError.Fault → Rose (S.faults source.old) (S.faults source.new) }
     {
         'lines: loop {

@@ -15,15 +15,22 @@ fn all_zeros(bytes: &[u8]) -> bool
 }
 
 /// A trace's id: 32 hexadecimal digits of either case, not all zeros.
-pub(crate) fn trace_id(text: &str) -> Option<TraceId>
-    ensures { result ≡ trace_id_of text.now }
+pub fn read_trace_id(digits: &[u8]) -> Option<TraceId>
+    ensures { result ≡ trace_id_of digits.now }
 {
-    let trace = <[u8; 16] as FromHex>::from_hex(text).ok()?;
+    let trace = <[u8; 16] as FromHex>::from_hex(digits).ok()?;
     if all_zeros(&trace) {
         None
     } else {
         Some(TraceId(trace))
     }
+}
+
+/// The same of a text.
+pub(crate) fn trace_id(text: &str) -> Option<TraceId>
+    ensures { result ≡ trace_id_of text.now }
+{
+    read_trace_id(text.as_bytes())
 }
 
 /// A span's id: 16 hexadecimal digits of either case, not all zeros.

@@ -17,5 +17,6 @@ mod values;
 mod write;
 
 pub use errors::OtlpError;
+pub use fields::read_trace_id;
 pub use read::{Reading, read_line};
 pub use write::write_trace;

@@ -40,8 +40,8 @@ const MOST_SPANS: usize = 16_384;
 /// - `traceId` is 32 hexadecimal digits of either case, not all zeros, and `spanId` is 16 such digits;
 /// - `parentSpanId` is empty or 16 hexadecimal digits, where sixteen zeros are no parent;
 /// - `name` is any text;
-/// - `startTimeUnixNano` and `endTimeUnixNano` are decimal digits without a sign, below 2^64. An end before the start is
-///   kept.
+/// - `startTimeUnixNano` and `endTimeUnixNano` are decimal digits without a sign, below 2^64, and the
+///   end may be the earlier one.
 ///
 /// The spans of one member of `resourceSpans` share a resource of which nothing is said, and those of one member of
 /// `scopeSpans` such a scope. Kind and status are unspecified and unset. Nothing is rejected or skipped in this form.

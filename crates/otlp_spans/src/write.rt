@@ -16,8 +16,8 @@ use std::alloc::Global;
 
 /// The text of a trace: an OTLP/JSON request of the rows' spans in their order, as compact JSON with ascending keys.
 ///
-/// A run of neighbouring rows with equal resources is one member of `resourceSpans`, and in it a run with equal scopes is
-/// one member of `scopeSpans`. Runs that aren't neighbours stay apart. Ids are lower-case hexadecimal digits, with an
+/// Neighbouring rows of one resource share a member of `resourceSpans`, and in it neighbours of one scope share a member of
+/// `scopeSpans`. Rows that others separate don't. Ids are lower-case hexadecimal digits, with an
 /// empty text for no parent. Moments and whole-number attributes are decimal texts, and kind and status code are numbers.
 ///
 /// The rows of a trace come in order of start, then span id; they are written as they stand. No rows give

@@ -4,3 +4,4 @@ pub mod Replies
 pub mod Statuses
 pub mod Session
 pub mod SessionLaws
+pub mod TraceLaws

@@ -1,6 +1,7 @@
 -- What the lines of a session are answered. Each line is answered at the history that the lines before it left.
 use Rattle.std.specs.Prelude.{◌≡◌, ◌⊎◌, ℕ, ◌<◌, ◌≤◌, List, [], ◌∷◌, ◌++◌, length, take, Option, Some, None, if◌then◌else◌}
 use Rattle.io_edges.specs.Lines.{lines, taken_limit}
+use Rattle.io_edges.specs.Reader.{HasNoFeed}
 use Rattle.std.specs.List.{list_any}
 use Rattle.span_types.specs.declared.spans.Row.{Row}
 use Rattle.span_types.specs.First.{IsFirstOf}
@@ -59,25 +60,34 @@ pub record IsCutOff (before : List ℕ) (replies : List Reply) (taken : Option (
   pub replies_are : replies ≡ whole ++ last ∷ []
   pub taken_is : taken ≡ Some (before ++ reply_texts whole ++ take count (reply_text last))
 
--- What stands written at each ending. `later` are the lines that weren't answered, `before` the bytes that the sink had
--- taken, `taken` those that it has taken now.
-abbrev pub Ends : Ending → List ℕ → List (List ℕ) → List ℕ → List Reply → Option (List ℕ) → Type 0
-Ends Answered text later before replies taken = IsAllRead text later before replies taken × (end_of replies ≡ Answered)
-Ends Refused text later before replies taken = IsAllRead text later before replies taken × (end_of replies ≡ Refused)
-Ends Starved text later before replies taken =
+-- Every line that was ended in what was taken of the source was answered: the others are those of what the source has
+-- left, after bytes that were taken and that no line feed ends.
+pub record IsAllEnded (later : List (List ℕ)) (left : Option (List ℕ)) : Type 0 where
+  pub held : List ℕ
+  pub rest : List ℕ
+  pub told : left ≡ Some rest
+  pub no_feed : HasNoFeed held
+  pub later_are : later ≡ lines (held ++ rest)
+
+-- What stands written at each ending. `later` are the lines that weren't answered, `left` is what the source has left,
+-- `before` the bytes that the sink had taken, `taken` those that it has taken now.
+abbrev pub Ends : Ending → List ℕ → List (List ℕ) → Option (List ℕ) → List ℕ → List Reply → Option (List ℕ) → Type 0
+Ends Answered text later left before replies taken = IsAllRead text later before replies taken × (end_of replies ≡ Answered)
+Ends Refused text later left before replies taken = IsAllRead text later before replies taken × (end_of replies ≡ Refused)
+Ends Starved text later left before replies taken =
     (IsAllRead text later before replies taken × (end_of replies ≡ Starved)) ⊎ (IsWritten before replies taken ⊎ IsCutOff before replies taken 0)
-Ends WriteFault text later before replies taken = (count : ℕ) × IsCutOff before replies taken count
-Ends ReadFault text later before replies taken = IsWritten before replies taken
-Ends Spent text later before replies taken = IsWritten before replies taken × (taken_limit ≤ length text)
-Ends BadWords text later before replies taken = ⊥
+Ends WriteFault text later left before replies taken = (count : ℕ) × IsCutOff before replies taken count
+Ends ReadFault text later left before replies taken = IsWritten before replies taken × IsAllEnded later left
+Ends Spent text later left before replies taken = IsWritten before replies taken × IsAllEnded later left × (taken_limit ≤ length text)
+Ends BadWords text later left before replies taken = ⊥
 
 -- What a session did that read `text` and ended so: the lines of a prefix were answered in order from no push on, and
 -- their replies, and nothing else, stand written as the ending says.
-pub record HasRun (text before : List ℕ) (taken : Option (List ℕ)) (ending : Ending) : Type 0 where
+pub record HasRun (text before : List ℕ) (left taken : Option (List ℕ)) (ending : Ending) : Type 0 where
   pub answered : List (List ℕ)
   pub later : List (List ℕ)
   pub replies : List Reply
   pub history : History
   pub lines_are : lines text ≡ answered ++ later
   pub session : Session [] answered replies history
-  pub ends : Ends ending text later before replies taken
+  pub ends : Ends ending text later left before replies taken

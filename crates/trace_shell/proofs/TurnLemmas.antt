@@ -8,7 +8,7 @@ use Rattle.io_edges.specs.Devices.{AppendsPrefix}
 use Rattle.io_edges.specs.Lines.{lines, line_limit, taken_limit}
 use Rattle.io_edges.specs.declared.begun.Begun.{Begun}
 use Rattle.io_edges.specs.declared.begun.Begun.TheVariants.{Kept, Dropped}
-use Rattle.io_edges.specs.Reader.{Reader, IsBegun, IsNextLine, IsToRead, TakesBytes, begun_len, to_come}
+use Rattle.io_edges.specs.Reader.{Reader, HoldsNoFeed, IsBegun, IsNextLine, IsToRead, TakesBytes, begun_len, to_come}
 use Rattle.session_meaning.specs.declared.ending.Ending.{Ending}
 use Rattle.session_meaning.specs.declared.ending.Ending.TheVariants.{Answered, BadWords, ReadFault, Refused, Spent, Starved, WriteFault}
 use Rattle.session_meaning.specs.declared.reply.Reply.{Reply}
@@ -16,7 +16,7 @@ use Rattle.session_meaning.specs.declared.reply.Reply.TheVariants.{Pushed, Trace
 use Rattle.session_meaning.specs.History.{History}
 use Rattle.session_meaning.specs.Requests.{request_of}
 use Rattle.session_meaning.specs.Replies.{is_refusal, is_for_memory, reply_text, reply_texts}
-use Rattle.session_meaning.specs.Session.{Ends, HasRun, IsAllRead, IsAnsweredOrStarved, IsCutOff, IsWritten, end_of}
+use Rattle.session_meaning.specs.Session.{Ends, HasRun, IsAllEnded, IsAllRead, IsAnsweredOrStarved, IsCutOff, IsWritten, end_of}
 use Rattle.session_meaning.specs.SessionLaws.{Progress, progress_begins, progress_empty, progress_line, reply_texts-push}
 use Rattle.trace_shell.specs.declared.session.Seen.{Seen}
 use Rattle.trace_shell.specs.Holding.{Holding, Holds}
@@ -219,8 +219,9 @@ too_long_at text before left_old left taken_old taken reader_old reader held see
 
 -- The lines that weren't answered are those of what is to be read.
 stops : (text before : List ℕ) (left taken : Option (List ℕ)) (reader : Reader) (held : Holding) (seen : Seen) (ending : Ending)
-    (at : IsAt text before left taken reader held seen) → Ends ending text (lines at.rest) before at.replies taken → HasRun text before taken ending
-stops text before left taken reader held seen ending at ends = record {
+    (new : Option (List ℕ)) (at : IsAt text before left taken reader held seen) → Ends ending text (lines at.rest) new before at.replies taken →
+    HasRun text before new taken ending
+stops text before left taken reader held seen ending new at ends = record {
   answered = at.progress.answered;
   later = lines at.rest;
   replies = at.replies;
@@ -230,12 +231,12 @@ stops text before left taken reader held seen ending at ends = record {
   ends = ends;
 }
 
-ends_all_read : (text : List ℕ) (later : List (List ℕ)) (before : List ℕ) (replies : List Reply) (taken : Option (List ℕ)) →
-    IsAllRead text later before replies taken → Ends (end_of replies) text later before replies taken
-ends_all_read text later before replies taken all =
-    elim (list_any is_refusal replies) as (λ t. list_any is_refusal replies ≡ t → Ends (if t then Refused else if list_any is_for_memory replies then Starved else Answered) text later before replies taken) [
+ends_all_read : (text : List ℕ) (later : List (List ℕ)) (left : Option (List ℕ)) (before : List ℕ) (replies : List Reply) (taken : Option (List ℕ)) →
+    IsAllRead text later before replies taken → Ends (end_of replies) text later left before replies taken
+ends_all_read text later left before replies taken all =
+    elim (list_any is_refusal replies) as (λ t. list_any is_refusal replies ≡ t → Ends (if t then Refused else if list_any is_for_memory replies then Starved else Answered) text later left before replies taken) [
       | true ↦ λ e. (all, rw e refl)
-      | false ↦ λ e. elim (list_any is_for_memory replies) as (λ t. list_any is_for_memory replies ≡ t → Ends (if t then Starved else Answered) text later before replies taken) [
+      | false ↦ λ e. elim (list_any is_for_memory replies) as (λ t. list_any is_for_memory replies ≡ t → Ends (if t then Starved else Answered) text later left before replies taken) [
         | true ↦ λ f. inl (all, rw (e, f) refl)
         | false ↦ λ f. (all, rw (e, f) refl)
       ] refl
@@ -244,15 +245,15 @@ ends_all_read text later before replies taken all =
 -- All was read.
 pub ended_at : (text before : List ℕ) (left_old left taken : Option (List ℕ)) (reader_old reader : Reader) (held : Holding) (seen : Seen)
     (at : IsAt text before left_old taken reader_old held seen) → (at.rest ≡ []) × IsToRead reader left [] → reader.taken < taken_limit →
-    TakesBytes left_old left reader_old.taken reader.taken → HasRun text before taken (ending_of seen)
+    TakesBytes left_old left reader_old.taken reader.taken → HasRun text before left taken (ending_of seen)
 ended_at text before left_old left taken reader_old reader held seen at (none, to_read) fewer took =
     let read = took_more text left_old left 0 reader_old.taken reader.taken at.took took in
     let no_more : left ≡ Some [] = nothing_left reader left to_read in
     let size : length text ≡ reader.taken = taken_all text left reader.taken read no_more in
     let all : IsAllRead text (lines at.rest) before at.replies taken = (ap lines none, subst (λ n. n < taken_limit) (sym size) fewer, at.written) in
-    stops text before left_old taken reader_old held seen (ending_of seen) at
-    (subst (λ e. Ends e text (lines at.rest) before at.replies taken) (sym (same_ending seen at.replies at.refused at.starved))
-    (ends_all_read text (lines at.rest) before at.replies taken all))
+    stops text before left_old taken reader_old held seen (ending_of seen) left at
+    (subst (λ e. Ends e text (lines at.rest) left before at.replies taken) (sym (same_ending seen at.replies at.refused at.starved))
+    (ends_all_read text (lines at.rest) left before at.replies taken all))
   where
     same_ending : (seen : Seen) (replies : List Reply) → seen.refused ≡ list_any is_refusal replies → seen.starved ≡ list_any is_for_memory replies →
         ending_of seen ≡ end_of replies
@@ -265,22 +266,35 @@ ended_at text before left_old left taken reader_old reader held seen at (none, t
         last_empty [] b e = sym e
         last_empty (x ∷ xs) b e = cc
 
+-- The lines that weren't answered are those of what the source has left, after bytes that no line feed ends.
+all_ended : (reader : Reader) (left : Option (List ℕ)) (rest : List ℕ) → IsToRead reader left rest → HoldsNoFeed reader → IsAllEnded (lines rest) left
+all_ended reader left rest to_read waiting = record {
+    held = to_read.held;
+    rest = to_read.rest;
+    told = to_read.told;
+    no_feed = waiting to_read.held to_read.holds;
+    later_are = ap lines to_read.text_is
+  }
+
 -- As many bytes were taken as are ever taken.
 pub spent_at : (text before : List ℕ) (left_old left taken : Option (List ℕ)) (reader_old reader : Reader) (held : Holding) (seen : Seen)
     (at : IsAt text before left_old taken reader_old held seen) → reader.taken ≡ taken_limit →
-    TakesBytes left_old left reader_old.taken reader.taken → HasRun text before taken Spent
-spent_at text before left_old left taken reader_old reader held seen at all took =
-    stops text before left_old taken reader_old held seen Spent at
-    (at.written, subst (λ n. n ≤ length text) all (taken_within text left reader.taken (took_more text left_old left 0 reader_old.taken reader.taken at.took took)))
+    TakesBytes left_old left reader_old.taken reader.taken → IsToRead reader left at.rest → HoldsNoFeed reader → HasRun text before left taken Spent
+spent_at text before left_old left taken reader_old reader held seen at all took to_read waiting =
+    stops text before left_old taken reader_old held seen Spent left at
+      (at.written, all_ended reader left at.rest to_read waiting,
+        subst (λ n. n ≤ length text) all (taken_within text left reader.taken (took_more text left_old left 0 reader_old.taken reader.taken at.took took)))
 
--- The source failed, or memory was wanted for a line.
-pub failed_at : (text before : List ℕ) (left taken : Option (List ℕ)) (reader : Reader) (held : Holding) (seen : Seen) →
-    IsAt text before left taken reader held seen → HasRun text before taken ReadFault
-failed_at text before left taken reader held seen at = stops text before left taken reader held seen ReadFault at at.written
+-- The source failed.
+pub failed_at : (text before : List ℕ) (left_old left taken : Option (List ℕ)) (reader_old reader : Reader) (held : Holding) (seen : Seen)
+    (at : IsAt text before left_old taken reader_old held seen) → IsToRead reader left at.rest → HoldsNoFeed reader → HasRun text before left taken ReadFault
+failed_at text before left_old left taken reader_old reader held seen at to_read waiting =
+    stops text before left_old taken reader_old held seen ReadFault left at (at.written, all_ended reader left at.rest to_read waiting)
 
-pub starved_at : (text before : List ℕ) (left taken : Option (List ℕ)) (reader : Reader) (held : Holding) (seen : Seen) →
-    IsAt text before left taken reader held seen → HasRun text before taken Starved
-starved_at text before left taken reader held seen at = stops text before left taken reader held seen Starved at (inr (inl at.written))
+-- Memory was wanted for a line.
+pub starved_at : (text before : List ℕ) (left_old left taken : Option (List ℕ)) (reader : Reader) (held : Holding) (seen : Seen) →
+    IsAt text before left_old taken reader held seen → HasRun text before left taken Starved
+starved_at text before left_old left taken reader held seen at = stops text before left_old taken reader held seen Starved left at (inr (inl at.written))
 
 -- Bytes taken in two steps, wherever they came from.
 pub took_on : (start left new : Option (List ℕ)) (a b c : ℕ) → TakesBytes start left a b → TakesBytes left new b c → TakesBytes start new a c

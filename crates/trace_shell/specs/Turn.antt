@@ -51,4 +51,4 @@ pub record IsAt (text before : List ℕ) (left taken : Option (List ℕ)) (reade
 -- What a turn leaves: the session is at its next line, or it ended.
 abbrev pub Turned : List ℕ → List ℕ → Option (List ℕ) → Option (List ℕ) → Reader → Holding → Seen → Option Ending → Type 0
 Turned text before left taken reader held seen None = IsAt text before left taken reader held seen
-Turned text before left taken reader held seen (Some ending) = HasRun text before taken ending
+Turned text before left taken reader held seen (Some ending) = HasRun text before left taken ending

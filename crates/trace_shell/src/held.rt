@@ -4,6 +4,7 @@ ghost use Rattle.std.specs.Prelude.{◌≡◌, ◌+◌, ◌^◌, ◌<◌, ◌≤
 ghost use Rattle.span_types.specs.First.{IsFirstOf};
 ghost use Rattle.session_meaning.specs.History.{rows_from, rows_of_trace};
 
+use session_meaning::rows_of;
 use span_types::{Batch, Memory, Place, Row, Rows, TraceId, first_rows};
 use std::alloc::Global;
 use std::marker::Model;
@@ -83,17 +84,4 @@ fn rows_of_batch(alloc: Global, number: u64, batch: Batch) -> Result<Vec<Row>, M
         position += 1;
     }
     Ok(rows)
-}
-
-// Copies of the rows of a trace, in their order.
-fn rows_of(alloc: Global, rows: &[Row], id: TraceId) -> Result<Vec<Row>, Memory>
-    ensures { IfOk result (λ found. found.items ≡ rows_of_trace id rows.now) }
-{
-    let mut found = Vec::new(alloc);
-    for row in rows {
-        if row.span.trace.cmp(&id).is_eq() {
-            found.push(row.copy()?)?;
-        }
-    }
-    Ok(found)
 }

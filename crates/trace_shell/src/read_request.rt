@@ -3,13 +3,10 @@
 ghost use Rattle.std.specs.Prelude.{◌≡◌, ◌≤◌, Some, None, length, codes, IfOk, IfErr, IfSome, IfNone};
 ghost use Rattle.trace_shell.specs.declared.read_request.NoRequest.TheVariants.{NotBuilt};
 ghost use Rattle.trace_shell.specs.Few.{HasFewSpans};
-ghost use Rattle.otlp_spans.specs.Fields.{is_zeros, trace_id_of};
 ghost use Rattle.session_meaning.specs.Requests.{after_word, push_from, trace_from, request_of};
 
-use hex::FromHex;
-use otlp_spans::{OtlpError, read_line};
+use otlp_spans::{OtlpError, read_line, read_trace_id};
 use session_meaning::Request;
-use span_types::TraceId;
 use std::alloc::Global;
 
 // How many bytes a line may have.
@@ -73,26 +70,8 @@ fn read_trace(digits: &[u8]) -> Result<Request, NoRequest>
     ensures not_built { IfErr result (λ cause. cause ≡ NotBuilt → trace_from digits.now ≡ None) }
     ensures few { IfOk result (λ request. HasFewSpans request) }
 {
-    match trace_id(digits) {
+    match read_trace_id(digits) {
         Some(id) => Ok(Request::Trace(id)),
         None => Err(NoRequest::NotBuilt),
     }
-}
-
-// The trace's id that 32 digits are.
-fn trace_id(digits: &[u8]) -> Option<TraceId>
-    ensures { result ≡ trace_id_of digits.now }
-{
-    let bytes = <[u8; 16] as FromHex>::from_hex(digits).ok()?;
-    if all_zeros(&bytes) {
-        None
-    } else {
-        Some(TraceId(bytes))
-    }
-}
-
-fn all_zeros(bytes: &[u8]) -> bool
-    ensures { result ≡ is_zeros bytes.now }
-{
-    bytes.iter().all(|b| *b == 0)
 }

@@ -60,7 +60,7 @@ impl Seen {
 /// Answers the lines of the source in order, from no push on, and writes each reply before it reads the next line.
 pub(crate) fn session<S: Source, K: Sink>(alloc: Global, source: &mut S, sink: &mut K) -> Ending
     ensures ran { (text before : List ℕ) → S.left source.old ≡ Some text → K.taken sink.old ≡ Some before
-        → HasRun text before (K.taken sink.new) result }
+        → HasRun text before (S.left source.new) (K.taken sink.new) result }
     ensures write_fault { result ≡ WriteFault → Rose (K.faults sink.old) (K.faults sink.new) }
     ensures read_fault { result ≡ ReadFault → Rose (S.faults source.old) (S.faults source.new) }
     ensures spent { result ≡ Spent → TakesBytes (S.left source.old) (S.left source.new) 0 taken_limit }

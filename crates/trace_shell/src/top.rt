@@ -40,7 +40,7 @@ pub fn run_alone<R: Threads + Sync, S: Source, K: Sink, D, C: Clock, G: Gate>(
 ) -> Ended<D>
     ensures disk { result.disk ≡ disk }
     ensures session { IsSession words.now → (text before : List ℕ) → S.left source.old ≡ Some text → K.taken sink.old ≡ Some before
-        → (ending : Ending) × HasRun text before (K.taken sink.new) ending × (result.status ≡ status_of ending) }
+        → (ending : Ending) × HasRun text before (S.left source.new) (K.taken sink.new) ending × (result.status ≡ status_of ending) }
     ensures bad_words { (IsSession words.now → ⊥) → (result.status ≡ 2) × (source.new ≡ source.old) × (sink.new ≡ sink.old) }
     ensures good_words { IsSession words.now → result.status ≢ 2 }
     ensures write_fault { result.status ≡ 1 → Rose (K.faults sink.old) (K.faults sink.new) }
@@ -74,7 +74,7 @@ pub fn run<R: Threads + Wait + Sync, S: Source, K: Sink, D, C: Clock, G: Gate>(
 ) -> Ended<D>
     ensures disk { result.disk ≡ disk }
     ensures session { IsSession words.now → (text before : List ℕ) → S.left source.old ≡ Some text → K.taken sink.old ≡ Some before
-        → (ending : Ending) × HasRun text before (K.taken sink.new) ending × (result.status ≡ status_of ending) }
+        → (ending : Ending) × HasRun text before (S.left source.new) (K.taken sink.new) ending × (result.status ≡ status_of ending) }
     ensures bad_words { (IsSession words.now → ⊥) → (result.status ≡ 2) × (source.new ≡ source.old) × (sink.new ≡ sink.old) }
     ensures good_words { IsSession words.now → result.status ≢ 2 }
     ensures write_fault { result.status ≡ 1 → Rose (K.faults sink.old) (K.faults sink.new) }

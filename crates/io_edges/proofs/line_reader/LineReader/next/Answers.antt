@@ -50,3 +50,6 @@ pub returns-in-Ok-AllTaken-clause-spent : goal.returns-in-Ok-AllTaken-clause-spe
 returns-in-Ok-AllTaken-clause-spent g c =
     let filled = rw c.in-Ok-AllTaken.field-0-is at c.in-Ok-AllTaken.ensures.filled in
     HasNoFeed-held c.refill.new.self filled.0
+
+pub returns-in-Err-refill-clause-waiting : goal.returns-in-Err-refill-clause-waiting
+returns-in-Err-refill-clause-waiting g c = λ _. HasNoFeed-held c.refill.new.self c.in-Err-refill.ensures.none
