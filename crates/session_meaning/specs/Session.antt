@@ -11,17 +11,17 @@ use Rattle.session_meaning.specs.declared.reply.Reply.{Reply}
 use Rattle.session_meaning.specs.declared.reply.Reply.TheVariants.{Pushed, Traced, NotBuilt, NoMemory}
 use Rattle.session_meaning.specs.declared.ending.Ending.{Ending}
 use Rattle.session_meaning.specs.declared.ending.Ending.TheVariants.{Answered, BadWords, ReadFault, Refused, Spent, Starved, WriteFault}
-use Rattle.session_meaning.specs.History.{History, history_rows, rows_of_trace}
+use Rattle.session_meaning.specs.History.{Accepted, History, history_rows, rows_of_trace}
 use Rattle.session_meaning.specs.Requests.{request_of}
 use Rattle.session_meaning.specs.Replies.{is_refusal, is_for_memory, reply_text, reply_texts}
 
 -- What is asked at a history is answered so, and leaves that history.
--- A push is told how many pushes came before it, and is appended.
+-- A push is told how many entries came before it, and is appended.
 -- A look-up is told that number too, and the first occurrences of the trace's spans in the history.
 -- A line that asks nothing is refused, and appends nothing.
 abbrev pub IsAnswered : Option Request → History → Reply → History → Type 0
 IsAnswered (Some (Push batch)) before reply after =
-    (reply ≡ Pushed (length before) (length batch.spans) 0 0) × (after ≡ before ++ batch.spans ∷ [])
+    (reply ≡ Pushed (length before) (length batch.spans) 0 0) × (after ≡ before ++ Accepted batch.spans ∷ [])
 IsAnswered (Some (Trace id)) before reply after =
     (rows : List Row) × IsFirstOf (rows_of_trace id (history_rows before)) rows × (reply ≡ Traced (length before) rows) × (after ≡ before)
 IsAnswered None before reply after = (reply ≡ NotBuilt) × (after ≡ before)
@@ -62,10 +62,12 @@ pub record IsCutOff (before : List ℕ) (replies : List Reply) (taken : Option (
 
 -- Every line that was ended in what was taken of the source was answered: the others are those of what the source has
 -- left, after bytes that were taken and that no line feed ends.
-pub record IsAllEnded (later : List (List ℕ)) (left : Option (List ℕ)) : Type 0 where
+pub record IsAllEnded (text : List ℕ) (later : List (List ℕ)) (left : Option (List ℕ)) : Type 0 where
+  pub front : List ℕ
   pub held : List ℕ
   pub rest : List ℕ
   pub told : left ≡ Some rest
+  pub text_is : text ≡ front ++ (held ++ rest)
   pub no_feed : HasNoFeed held
   pub later_are : later ≡ lines (held ++ rest)
 
@@ -77,8 +79,8 @@ Ends Refused text later left before replies taken = IsAllRead text later before 
 Ends Starved text later left before replies taken =
     (IsAllRead text later before replies taken × (end_of replies ≡ Starved)) ⊎ (IsWritten before replies taken ⊎ IsCutOff before replies taken 0)
 Ends WriteFault text later left before replies taken = (count : ℕ) × IsCutOff before replies taken count
-Ends ReadFault text later left before replies taken = IsWritten before replies taken × IsAllEnded later left
-Ends Spent text later left before replies taken = IsWritten before replies taken × IsAllEnded later left × (taken_limit ≤ length text)
+Ends ReadFault text later left before replies taken = IsWritten before replies taken × IsAllEnded text later left
+Ends Spent text later left before replies taken = IsWritten before replies taken × IsAllEnded text later left × (taken_limit ≤ length text)
 Ends BadWords text later left before replies taken = ⊥
 
 -- What a session did that read `text` and ended so: the lines of a prefix were answered in order from no push on, and

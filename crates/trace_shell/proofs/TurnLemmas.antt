@@ -121,7 +121,7 @@ answered_at text before left_old left taken_old taken reader_old reader held_old
     turned outcome given
   where
     progress : Progress text next.rest (at.replies ++ reply ∷ []) after
-    progress = progress_line text at.rest next.rest at.replies at.history after b bs reply at.progress next.first a
+    progress = progress_line text at.rest next.past next.rest at.replies at.history after b bs reply at.progress next.parts next.first a
 
     turned : (o : Option Ending) → HasGiven taken_old taken seen_old seen reply o → Turned text before left taken reader held seen o
     turned None g = record {
@@ -175,7 +175,7 @@ passed_at text before left_old left taken_old taken reader_old reader held_old h
   replies = at.replies;
   history = at.history;
   to_read = next.after;
-  progress = progress_empty text at.rest next.rest at.replies at.history at.progress next.first;
+  progress = progress_empty text at.rest next.past next.rest at.replies at.history at.progress next.parts next.first;
   holds = subst (λ h. Holds h at.history) (sym same_held) at.holds;
   written = same_taken ∙ at.written;
   refused = ap (λ s. s.refused) same_seen ∙ at.refused;
@@ -267,29 +267,34 @@ ended_at text before left_old left taken reader_old reader held seen at (none, t
         last_empty (x ∷ xs) b e = cc
 
 -- The lines that weren't answered are those of what the source has left, after bytes that no line feed ends.
-all_ended : (reader : Reader) (left : Option (List ℕ)) (rest : List ℕ) → IsToRead reader left rest → HoldsNoFeed reader → IsAllEnded (lines rest) left
-all_ended reader left rest to_read waiting = record {
-    held = to_read.held;
-    rest = to_read.rest;
-    told = to_read.told;
-    no_feed = waiting to_read.held to_read.holds;
-    later_are = ap lines to_read.text_is
-  }
+all_ended : (text front : List ℕ) (reader : Reader) (left : Option (List ℕ)) (rest : List ℕ) → text ≡ front ++ rest → IsToRead reader left rest →
+    HoldsNoFeed reader → IsAllEnded text (lines rest) left
+all_ended text front reader left rest is to_read waiting = record {
+  front = front;
+  held = to_read.held;
+  rest = to_read.rest;
+  told = to_read.told;
+  text_is = is ∙ ap (λ xs. front ++ xs) to_read.text_is;
+  no_feed = waiting to_read.held to_read.holds;
+  later_are = ap lines to_read.text_is;
+}
 
 -- As many bytes were taken as are ever taken.
 pub spent_at : (text before : List ℕ) (left_old left taken : Option (List ℕ)) (reader_old reader : Reader) (held : Holding) (seen : Seen)
     (at : IsAt text before left_old taken reader_old held seen) → reader.taken ≡ taken_limit →
     TakesBytes left_old left reader_old.taken reader.taken → IsToRead reader left at.rest → HoldsNoFeed reader → HasRun text before left taken Spent
 spent_at text before left_old left taken reader_old reader held seen at all took to_read waiting =
-    stops text before left_old taken reader_old held seen Spent left at
-      (at.written, all_ended reader left at.rest to_read waiting,
-        subst (λ n. n ≤ length text) all (taken_within text left reader.taken (took_more text left_old left 0 reader_old.taken reader.taken at.took took)))
+    stops text before left_old taken reader_old held seen Spent left at (
+      at.written,
+      all_ended text at.progress.front reader left at.rest at.progress.text_is to_read waiting,
+      subst (λ n. n ≤ length text) all (taken_within text left reader.taken (took_more text left_old left 0 reader_old.taken reader.taken at.took took)),
+    )
 
 -- The source failed.
 pub failed_at : (text before : List ℕ) (left_old left taken : Option (List ℕ)) (reader_old reader : Reader) (held : Holding) (seen : Seen)
     (at : IsAt text before left_old taken reader_old held seen) → IsToRead reader left at.rest → HoldsNoFeed reader → HasRun text before left taken ReadFault
 failed_at text before left_old left taken reader_old reader held seen at to_read waiting =
-    stops text before left_old taken reader_old held seen ReadFault left at (at.written, all_ended reader left at.rest to_read waiting)
+    stops text before left_old taken reader_old held seen ReadFault left at (at.written, all_ended text at.progress.front reader left at.rest at.progress.text_is to_read waiting)
 
 -- Memory was wanted for a line.
 pub starved_at : (text before : List ℕ) (left_old left taken : Option (List ℕ)) (reader : Reader) (held : Holding) (seen : Seen) →

@@ -2,8 +2,9 @@
 
 use crate::{Ended, StdinSource, StdoutSink, run, run_alone};
 use io_edges::{FixedClock, MemSink, MemSource, OpenGate, Sink, Source};
-use span_types::{Bytes, Calls, Memory, Moments};
+use span_types::{Bytes, Calls, Failed, Memory, Moments};
 use std::alloc::Global;
+use std::io::{self, Read, Write};
 use std::process::Abort;
 use std::sync::Wait;
 use std::thread::Threads;
@@ -158,18 +159,57 @@ fn no_command_needs_a_right_to_wait_yet(rt: HostRuntime) -> Result<(), Memory> {
     Ok(())
 }
 
+// A stream that fails at every call.
+#[derive(Drop)]
+struct Broken;
+
+impl Read for Broken {
+    fn read(&mut self, _buf: &mut [u8]) -> io::Result<usize> {
+        Err(io::Error::from(io::ErrorKind::BrokenPipe))
+    }
+}
+
+impl Write for Broken {
+    fn write(&mut self, _bytes: &[u8]) -> io::Result<usize> {
+        Err(io::Error::from(io::ErrorKind::BrokenPipe))
+    }
+
+    fn flush(&mut self) -> io::Result<()> {
+        Ok(())
+    }
+}
+
 #[test]
-fn standard_input_is_a_source(rt: HostRuntime) {
-    let mut source = StdinSource::new(rt.stdin());
-    let mut buf = [0; 16];
+fn a_reader_of_the_system_is_a_source(rt: HostRuntime) {
+    let input: &[u8] = b"abc";
+    let mut source = StdinSource::new(input);
+    let mut buf = [0; 2];
+    assert!(rt; matches!(source.take(&mut buf), Ok(2)));
+    assert!(rt; buf == *b"ab");
+    assert!(rt; matches!(source.take(&mut buf), Ok(1)));
+    assert!(rt; buf[0] == b'c');
+    assert!(rt; matches!(source.take(&mut buf), Ok(0)));
+    assert!(rt; matches!(StdinSource::new(Broken).take(&mut buf), Err(Failed)));
+    let mut standard = StdinSource::new(rt.stdin());
     assert!(rt;
-        matches!(source.take(&mut buf), Ok(0)),
+        matches!(standard.take(&mut buf), Ok(0)),
         "a test has no input"
     );
 }
 
 #[test]
-fn standard_output_is_a_sink(rt: HostRuntime) {
-    let mut sink = StdoutSink::new(rt.stdout());
-    assert!(rt; matches!(sink.put(b"a line of the test of standard output\n"), Ok(())));
+fn a_writer_of_the_system_is_a_sink(rt: HostRuntime) {
+    let mut room = [0; 4];
+    let mut sink = StdoutSink::new(&mut room[..]);
+    assert!(rt; matches!(sink.put(b"abc"), Ok(())));
+    assert!(rt; matches!(sink.put(b"de"), Err(Failed)));
+    assert!(rt; room == *b"abcd");
+    assert!(rt; matches!(StdoutSink::new(Broken).put(b"a"), Err(Failed)));
+    let mut standard = StdoutSink::new(rt.stdout());
+    assert!(rt;
+        matches!(
+            standard.put(b"a line of the test of standard output\n"),
+            Ok(())
+        )
+    );
 }

@@ -35,12 +35,14 @@ pub fn run_alone<R: Threads + Sync, S: Source, K: Sink, D, C: Clock, G: Gate>(
     source: &mut S,
     sink: &mut K,
     disk: D,
-    _clock: &mut C,
+    clock: &mut C,
     _gate: &G,
 ) -> Ended<D>
     ensures disk { result.disk ≡ disk }
     ensures session { IsSession words.now → (text before : List ℕ) → S.left source.old ≡ Some text → K.taken sink.old ≡ Some before
         → (ending : Ending) × HasRun text before (S.left source.new) (K.taken sink.new) ending × (result.status ≡ status_of ending) }
+    ensures known { (ending : Ending) × (result.status ≡ status_of ending) }
+    ensures clock { clock.new ≡ clock.old }
     ensures bad_words { (IsSession words.now → ⊥) → (result.status ≡ 2) × (source.new ≡ source.old) × (sink.new ≡ sink.old) }
     ensures good_words { IsSession words.now → result.status ≢ 2 }
     ensures write_fault { result.status ≡ 1 → Rose (K.faults sink.old) (K.faults sink.new) }
@@ -50,6 +52,7 @@ pub fn run_alone<R: Threads + Sync, S: Source, K: Sink, D, C: Clock, G: Gate>(
         → (Rose (S.faults source.old) (S.faults source.new) → ⊥) → (Rose (K.faults sink.old) (K.faults sink.new) → ⊥)
         → (result.status ≡ 0) ⊎ ((result.status ≡ 6) ⊎ (result.status ≡ 7)) }
 {
+    let _ = clock;
     let ending = if is_session(words) {
         session(alloc, source, sink)
     } else {
@@ -75,6 +78,8 @@ pub fn run<R: Threads + Wait + Sync, S: Source, K: Sink, D, C: Clock, G: Gate>(
     ensures disk { result.disk ≡ disk }
     ensures session { IsSession words.now → (text before : List ℕ) → S.left source.old ≡ Some text → K.taken sink.old ≡ Some before
         → (ending : Ending) × HasRun text before (S.left source.new) (K.taken sink.new) ending × (result.status ≡ status_of ending) }
+    ensures known { (ending : Ending) × (result.status ≡ status_of ending) }
+    ensures clock { clock.new ≡ clock.old }
     ensures bad_words { (IsSession words.now → ⊥) → (result.status ≡ 2) × (source.new ≡ source.old) × (sink.new ≡ sink.old) }
     ensures good_words { IsSession words.now → result.status ≢ 2 }
     ensures write_fault { result.status ≡ 1 → Rose (K.faults sink.old) (K.faults sink.new) }

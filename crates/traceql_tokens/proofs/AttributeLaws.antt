@@ -112,7 +112,7 @@ name_unquoted b h = (by_quote (eqb b 34) (eqb-true b 34), by_quote_back (eqb b 9
     by_quote_back false f = refl
     by_quote_back true f = let z : is_name_byte 96 ≡ true = ap is_name_byte (sym (f refl)) ∙ h in absurd (cc)
 
-name_no_string : (at b : ℕ) (tl : List ℕ) → is_name_byte b ≡ true → string_at at (b ∷ tl) ≡ None
+pub name_no_string : (at b : ℕ) (tl : List ℕ) → is_name_byte b ≡ true → string_at at (b ∷ tl) ≡ None
 unfolding string_at
 name_no_string at b tl h = let u = name_unquoted b h in rw (u.0, u.1) refl
 
@@ -164,7 +164,7 @@ name_reach at w rest (Ok name) (inr s) = string_named at w rest (Ok name) (strin
 name_reach at w rest (Err f) s = string_named at w rest (Err f) (string_reach at w rest (Err f) s)
 
 -- the walk comes to the attributes
-scope_comes : (s : AttributeScope) (at : ℕ) (rest : List ℕ) → token_at at (scope_text s ++ rest) ≡ Some (attribute_at at s (scope_text s ++ rest))
+pub scope_comes : (s : AttributeScope) (at : ℕ) (rest : List ℕ) → token_at at (scope_text s ++ rest) ≡ Some (attribute_at at s (scope_text s ++ rest))
 unfolding token_at word_at string_at
 scope_comes scope.Any at rest = refl
 scope_comes scope.Span at rest = refl

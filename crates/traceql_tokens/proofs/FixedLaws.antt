@@ -1,11 +1,14 @@
 -- The tables of the tokens whose text is fixed: where each entry stands, and that what is found is the longest.
-use Rattle.std.proofs.Common.{◌≡◌, ℕ, zero, suc, ◌<◌, ◌≤◌, Bool, true, false, not, ◌&&◌, ◌⊎◌, inl, inr, cond, eqb, nat_eq, List, [], ◌∷◌, ◌++◌, length, drop, Option, None, Some, option_map, find, slice_get, refl, ap, ap₂, sym, ◌∙◌, subst, arith}
+use Rattle.std.proofs.Common.{◌≡◌, ℕ, zero, suc, ◌<◌, ◌≤◌, Bool, true, false, not, ◌&&◌, ◌⊎◌, inl, inr, cond, eqb, nat_eq, List, [], ◌∷◌, ◌++◌, length, drop, Option, None, Some, option_map, find, slice_get, get_or, refl, ap, ap₂, sym, ◌∙◌, subst, arith, length-append}
 use Rattle.std.specs.List.{list_all, starts_with}
 use Rattle.std.specs.Option.{option_or}
+use Rattle.std.proofs.lemmas.List.{get_or_at, get_or_append_left}
+use Rattle.std.proofs.lemmas.List.Sums.{AllPass-from_list_all}
 use Rattle.traceql_tokens.specs.Fixed.{sign_text, word_text, intrinsic_text}
+use Rattle.traceql_tokens.specs.Printed.{Apart, at_end, at_space, at_paren}
 use Rattle.traceql_tokens.specs.Tokens.{IsToken}
 use Rattle.traceql_tokens.specs.StringWalk.{string_at}
-use Rattle.traceql_tokens.specs.Walk.{Sized, fixed_at, word_at, token_at}
+use Rattle.traceql_tokens.specs.Walk.{Measured, fixed_at, word_at, token_at}
 use Rattle.traceql_tokens.specs.declared.tables.TheConstants.{SIGNS, WORDS, INTRINSICS}
 use Rattle.traceql_tokens.specs.declared.kinds.TokenKind.{TokenKind}
 use Rattle.traceql_tokens.specs.declared.kinds.TokenKind.TheVariants as token
@@ -480,7 +483,7 @@ intrinsic_no_word intrinsic.Status rest = refl
 intrinsic_no_word intrinsic.Name rest = refl
 intrinsic_no_word intrinsic.Kind rest = refl
 
-abbrev by_tables : Option Sign → Option Word → Option Intrinsic → Option Sized
+abbrev by_tables : Option Sign → Option Word → Option Intrinsic → Option Measured
 by_tables a b c =
     option_or (option_map (λ s. (token.Mark s, length (sign_text s))) a)
     (option_or (option_map (λ w. (token.Keyword w, length (word_text w))) b)
@@ -522,7 +525,7 @@ intrinsic_reach at i rest =
       same = λ z. ap token.Builtin (f.3 z);
     }
 
-abbrev pub Tokened : ℕ → List ℕ → Sized → Type 0
+abbrev pub Tokened : ℕ → List ℕ → Measured → Type 0
 Tokened at bs r = Found bs r.1 (λ w. IsToken at w r.0)
 
 fixed_found : (at : ℕ) (bs text : List ℕ) (k : TokenKind) → starts_with nat_eq bs text ≡ true → list_all is_low text ≡ true → 0 < length text → IsToken at text k → Tokened at bs (k, length text)
@@ -536,7 +539,7 @@ fixed_found at bs text k h low some is = record {
   some = some;
 }
 
-found_by : (at : ℕ) (bs : List ℕ) (r : Sized) (a : Option Sign) (b : Option Word) (c : Option Intrinsic)
+found_by : (at : ℕ) (bs : List ℕ) (r : Measured) (a : Option Sign) (b : Option Word) (c : Option Intrinsic)
     → find (λ x. starts_with nat_eq bs (sign_text x)) SIGNS ≡ a → find (λ x. starts_with nat_eq bs (word_text x)) WORDS ≡ b → find (λ x. starts_with nat_eq bs (intrinsic_text x)) INTRINSICS ≡ c
     → by_tables a b c ≡ Some r → Tokened at bs r
 unfolding IsToken
@@ -551,7 +554,153 @@ found_by at bs r None None (Some i) ea eb ec h =
     subst (Tokened at bs) same (fixed_found at bs (intrinsic_text i) (token.Builtin i) (find_passes (λ x. starts_with nat_eq bs (intrinsic_text x)) i INTRINSICS ec) (intrinsic_low i) (intrinsic_some i) refl)
 found_by at bs r None None None ea eb ec h = absurd (cc)
 
-pub fixed_sound : (at : ℕ) (bs : List ℕ) (r : Sized) → fixed_at bs ≡ Some r → Tokened at bs r
+pub fixed_sound : (at : ℕ) (bs : List ℕ) (r : Measured) → fixed_at bs ≡ Some r → Tokened at bs r
 unfolding fixed_at
 fixed_sound at bs r h =
     found_by at bs r (find (λ x. starts_with nat_eq bs (sign_text x)) SIGNS) (find (λ x. starts_with nat_eq bs (word_text x)) WORDS) (find (λ x. starts_with nat_eq bs (intrinsic_text x)) INTRINSICS) refl refl refl h
+
+-- a byte that is neither a space nor a closing parenthesis
+abbrev is_calm : ℕ → Bool
+is_calm b = not (eqb b 32) && not (eqb b 41)
+
+calm_at : (t : List ℕ) (n : ℕ) → list_all is_calm (drop 1 t) ≡ true → 0 < n → n < length t → is_calm (get_or t n 0) ≡ true
+calm_at [] n h p l = absurd (omega arith)
+calm_at (x ∷ xs) zero h p l = absurd (omega arith)
+calm_at (x ∷ xs) (suc n) h p l = AllPass-from_list_all is_calm xs h n 0 (omega arith)
+
+no_longer_by : (a t rest : List ℕ) → a ++ rest ≡ t ++ drop (length t) (a ++ rest) → list_all is_calm (drop 1 t) ≡ true → 0 < length a → Apart rest → length a < length t → ⊥
+no_longer_by a t rest e calm some (at_end z) longer =
+    absurd (omega (arith, ap length e, length-append t (drop (length t) (a ++ rest)), length-append a rest, ap length z))
+no_longer_by a t rest e calm some (at_space tl z) longer =
+    let there : get_or (a ++ rest) (length a) 0 ≡ 32 = ap (λ x. get_or (a ++ x) (length a) 0) z ∙ get_or_at a 32 tl 0 (length a) refl in
+    let here : get_or (a ++ rest) (length a) 0 ≡ get_or t (length a) 0 = ap (λ x. get_or x (length a) 0) e ∙ get_or_append_left t (drop (length t) (a ++ rest)) 0 (length a) longer in
+    let q : is_calm 32 ≡ true = ap is_calm (sym there ∙ here) ∙ calm_at t (length a) calm some longer in
+    absurd (cc)
+no_longer_by a t rest e calm some (at_paren tl z) longer =
+    let there : get_or (a ++ rest) (length a) 0 ≡ 41 = ap (λ x. get_or (a ++ x) (length a) 0) z ∙ get_or_at a 41 tl 0 (length a) refl in
+    let here : get_or (a ++ rest) (length a) 0 ≡ get_or t (length a) 0 = ap (λ x. get_or x (length a) 0) e ∙ get_or_append_left t (drop (length t) (a ++ rest)) 0 (length a) longer in
+    let q : is_calm 41 ≡ true = ap is_calm (sym there ∙ here) ∙ calm_at t (length a) calm some longer in
+    absurd (cc)
+
+-- nothing of a table lengthens an entry across what keeps it apart
+exact_first : {X : Type 0} (f : X → List ℕ) (xs : List X) (x : X) (rest : List ℕ) → (first : Firsts f xs x rest) → ((y : X) → list_all is_calm (drop 1 (f y)) ≡ true) → 0 < length (f x) → Apart rest → first.0 ≡ x
+exact_first f xs x rest first calm some apart_ =
+    let t = f first.0 in
+    let e = starts_true (f x ++ rest) t (find_passes (λ z. starts_with nat_eq (f x ++ rest) (f z)) first.0 xs first.1) in
+    elim (longer_or (length (f x)) (length t)) [
+      | inl longer ↦ absurd (no_longer_by (f x) t rest e (calm first.0) some apart_ longer)
+      | inr within ↦ first.3 (omega (arith, first.2))
+    ]
+
+sign_calm : (x : Sign) → list_all is_calm (drop 1 (sign_text x)) ≡ true
+sign_calm sign.BangGreaterGreater = refl
+sign_calm sign.BangLessLess = refl
+sign_calm sign.AmpGreaterGreater = refl
+sign_calm sign.AmpLessLess = refl
+sign_calm sign.BarBar = refl
+sign_calm sign.AmpAmp = refl
+sign_calm sign.GreaterGreater = refl
+sign_calm sign.LessLess = refl
+sign_calm sign.BangEqual = refl
+sign_calm sign.BangTilde = refl
+sign_calm sign.BangGreater = refl
+sign_calm sign.BangLess = refl
+sign_calm sign.AmpGreater = refl
+sign_calm sign.AmpLess = refl
+sign_calm sign.AmpTilde = refl
+sign_calm sign.EqualTilde = refl
+sign_calm sign.GreaterEqual = refl
+sign_calm sign.LessEqual = refl
+sign_calm sign.OpenBrace = refl
+sign_calm sign.CloseBrace = refl
+sign_calm sign.OpenParen = refl
+sign_calm sign.CloseParen = refl
+sign_calm sign.Comma = refl
+sign_calm sign.Bar = refl
+sign_calm sign.Amp = refl
+sign_calm sign.Greater = refl
+sign_calm sign.Less = refl
+sign_calm sign.Tilde = refl
+sign_calm sign.Bang = refl
+sign_calm sign.Equal = refl
+sign_calm sign.Plus = refl
+sign_calm sign.Minus = refl
+sign_calm sign.Star = refl
+sign_calm sign.Slash = refl
+sign_calm sign.Percent = refl
+sign_calm sign.Caret = refl
+
+word_calm : (x : Word) → list_all is_calm (drop 1 (word_text x)) ≡ true
+word_calm word.Unspecified = refl
+word_calm word.Producer = refl
+word_calm word.Consumer = refl
+word_calm word.Internal = refl
+word_calm word.Coalesce = refl
+word_calm word.Server = refl
+word_calm word.Client = refl
+word_calm word.Select = refl
+word_calm word.False = refl
+word_calm word.Error = refl
+word_calm word.Unset = refl
+word_calm word.Count = refl
+word_calm word.True = refl
+word_calm word.Nil = refl
+word_calm word.Avg = refl
+word_calm word.Min = refl
+word_calm word.Max = refl
+word_calm word.Sum = refl
+word_calm word.Fine = refl
+word_calm word.By = refl
+
+intrinsic_calm : (x : Intrinsic) → list_all is_calm (drop 1 (intrinsic_text x)) ≡ true
+intrinsic_calm intrinsic.InstrumentationVersion = refl
+intrinsic_calm intrinsic.InstrumentationName = refl
+intrinsic_calm intrinsic.SpanStatusMessage = refl
+intrinsic_calm intrinsic.TraceRootService = refl
+intrinsic_calm intrinsic.RootServiceName = refl
+intrinsic_calm intrinsic.TraceColonDuration = refl
+intrinsic_calm intrinsic.TraceRootName = refl
+intrinsic_calm intrinsic.StatusMessage = refl
+intrinsic_calm intrinsic.SpanDuration = refl
+intrinsic_calm intrinsic.SpanParentId = refl
+intrinsic_calm intrinsic.TraceDuration = refl
+intrinsic_calm intrinsic.SpanStatus = refl
+intrinsic_calm intrinsic.SpanName = refl
+intrinsic_calm intrinsic.SpanKind = refl
+intrinsic_calm intrinsic.Duration = refl
+intrinsic_calm intrinsic.TraceId = refl
+intrinsic_calm intrinsic.RootName = refl
+intrinsic_calm intrinsic.SpanId = refl
+intrinsic_calm intrinsic.Status = refl
+intrinsic_calm intrinsic.Name = refl
+intrinsic_calm intrinsic.Kind = refl
+
+-- a sign, a word or an intrinsic is found as it stands before what keeps it apart
+pub sign_exact : (at : ℕ) (s : Sign) (rest : List ℕ) → Apart rest → token_at at (sign_text s ++ rest) ≡ Some (token.Mark s, length (sign_text s))
+unfolding fixed_at
+sign_exact at s rest a =
+    let bs = sign_text s ++ rest in
+    let f = firsts sign_text SIGNS (sign_place s).0 s rest sign_order (sign_place s).1 in
+    sign_comes s at rest ∙ ap (λ o. by_tables o (find (λ x. starts_with nat_eq bs (word_text x)) WORDS) (find (λ x. starts_with nat_eq bs (intrinsic_text x)) INTRINSICS)) f.1
+    ∙ ap (λ y. Some (token.Mark y, length (sign_text y))) (exact_first sign_text SIGNS s rest f sign_calm (sign_some s) a)
+
+pub word_exact : (at : ℕ) (w : Word) (rest : List ℕ) → Apart rest → token_at at (word_text w ++ rest) ≡ Some (token.Keyword w, length (word_text w))
+unfolding fixed_at
+word_exact at w rest a =
+    let bs = word_text w ++ rest in
+    let f = firsts word_text WORDS (word_place w).0 w rest word_order (word_place w).1 in
+    word_comes w at rest ∙ ap₂ (λ a b. by_tables a b (find (λ x. starts_with nat_eq bs (intrinsic_text x)) INTRINSICS)) (word_no_sign w rest) f.1
+    ∙ ap (λ y. Some (token.Keyword y, length (word_text y))) (exact_first word_text WORDS w rest f word_calm (word_some w) a)
+
+pub intrinsic_exact : (at : ℕ) (i : Intrinsic) (rest : List ℕ) → Apart rest → token_at at (intrinsic_text i ++ rest) ≡ Some (token.Builtin i, length (intrinsic_text i))
+unfolding fixed_at
+intrinsic_exact at i rest a =
+    let bs = intrinsic_text i ++ rest in
+    let f = firsts intrinsic_text INTRINSICS (intrinsic_place i).0 i rest intrinsic_order (intrinsic_place i).1 in
+    intrinsic_comes i at rest ∙ ap₂ (λ a b. by_tables a b (find (λ x. starts_with nat_eq bs (intrinsic_text x)) INTRINSICS)) (intrinsic_no_sign i rest) (intrinsic_no_word i rest) ∙ ap (λ c. by_tables None None c) f.1
+    ∙ ap (λ y. Some (token.Builtin y, length (intrinsic_text y))) (exact_first intrinsic_text INTRINSICS i rest f intrinsic_calm (intrinsic_some i) a)
+
+-- nothing lengthens an opening parenthesis
+pub paren_exact : (at : ℕ) (rest : List ℕ) → token_at at (40 ∷ rest) ≡ Some (token.Mark sign.OpenParen, 1)
+unfolding token_at word_at fixed_at string_at
+paren_exact at rest = refl

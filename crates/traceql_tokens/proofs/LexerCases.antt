@@ -8,7 +8,7 @@ use Rattle.traceql_tokens.specs.Bytes.{is_name_byte}
 use Rattle.traceql_tokens.specs.Fixed.{sign_text, word_text, intrinsic_text, scope_text}
 use Rattle.traceql_tokens.specs.StringWalk.{string_at}
 use Rattle.traceql_tokens.specs.NumberWalk.{number_at}
-use Rattle.traceql_tokens.specs.Walk.{Sized, name_at, attribute_kind, attribute_at, literal_kind, fixed_at, word_at, token_at}
+use Rattle.traceql_tokens.specs.Walk.{Measured, name_at, attribute_kind, attribute_at, literal_kind, fixed_at, word_at, token_at}
 use Rattle.traceql_tokens.specs.declared.tables.TheConstants.{SIGNS, WORDS, INTRINSICS, SCOPES}
 use Rattle.traceql_tokens.specs.declared.fixed.AttributeScope.{AttributeScope}
 use Rattle.traceql_tokens.specs.declared.fixed.AttributeScope.TheVariants as scope
@@ -85,7 +85,7 @@ fixed_intrinsic bs h k =
 
 pub ruleset fixed_cases = (fixed_sign, fixed_word, fixed_intrinsic)
 
-abbrev else_at : ℕ → List ℕ → Option Sized
+abbrev else_at : ℕ → List ℕ → Option Measured
 else_at at bs = cond (eqb (prefix_len is_ascii_digit bs) 0) (word_at at bs) (Some (number_at bs))
 
 pub token_string : (at n : ℕ) (bs : List ℕ) (v : Value) → string_at at bs ≡ Some (v, n) → token_at at bs ≡ Some (literal_kind v, n)

@@ -1,3 +1,4 @@
+pub mod Printed
 pub mod LexerCases
 pub mod TokensLaws
 pub mod AttributeLaws

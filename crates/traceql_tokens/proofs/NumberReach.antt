@@ -28,13 +28,13 @@ abbrev pub Undigit : List ℕ → Type 0
 Undigit bs = prefix_len is_ascii_digit bs ≡ 0
 
 -- digits in front of something else are the digits that are read
-whole_of : (ds rest : List ℕ) → AreDigits ds → Undigit rest → prefix_len is_ascii_digit (ds ++ rest) ≡ length ds
+pub whole_of : (ds rest : List ℕ) → AreDigits ds → Undigit rest → prefix_len is_ascii_digit (ds ++ rest) ≡ length ds
 whole_of ds rest h u = let e = prefix_append is_ascii_digit ds rest h in omega arith
 
-whole_text : (ds rest : List ℕ) → AreDigits ds → Undigit rest → whole_at (ds ++ rest) ≡ ds
+pub whole_text : (ds rest : List ℕ) → AreDigits ds → Undigit rest → whole_at (ds ++ rest) ≡ ds
 whole_text ds rest h u = ap (λ n. take n (ds ++ rest)) (whole_of ds rest h u) ∙ take_at ds rest (length ds) refl
 
-whole_after : (ds rest : List ℕ) → AreDigits ds → Undigit rest → after_whole (ds ++ rest) ≡ rest
+pub whole_after : (ds rest : List ℕ) → AreDigits ds → Undigit rest → after_whole (ds ++ rest) ≡ rest
 whole_after ds rest h u = ap (λ n. drop n (ds ++ rest)) (whole_of ds rest h u) ∙ drop_at ds rest (length ds) refl
 
 -- what a unit is written with is no digit and no dot
@@ -107,7 +107,7 @@ part_with p more v is e =
     ∙ ap₂ (λ x y. Some (record { whole = x; fraction = y; unit = v })) w f
 
 -- a part is read where it stands, or one that is longer by the `s` behind it
-part_next : (p : Part) (more : List ℕ) → IsPart p → (part_at (part_text p ++ more) ≡ Some p) ⊎ ((q : Part) × (tl : List ℕ) × (more ≡ 115 ∷ tl) × (part_at (part_text p ++ more) ≡ Some q) × (part_len q ≡ part_len p + 1))
+pub part_next : (p : Part) (more : List ℕ) → IsPart p → (part_at (part_text p ++ more) ≡ Some p) ⊎ ((q : Part) × (tl : List ℕ) × (more ≡ 115 ∷ tl) × (part_at (part_text p ++ more) ≡ Some q) × (part_len q ≡ part_len p + 1))
 part_next p more is =
     elim (unit_next p.unit more) [
       | inl e ↦ inl (part_with p more p.unit is e)
@@ -124,7 +124,7 @@ texts_fit : (p : Part) (ps qs : List Part) → qs ≡ p ∷ ps → part_len p �
 texts_fit p ps qs e = omega (arith, ap (λ t. length (flat_map part_text t)) e, length-append (part_text p) (flat_map part_text ps))
 
 -- what parts are written with begins with a digit, so no `s` is first
-digit_first : (ds t tl : List ℕ) → IsDigitRun ds → ds ++ t ≡ 115 ∷ tl → ⊥
+pub digit_first : (ds t tl : List ℕ) → IsDigitRun ds → ds ++ t ≡ 115 ∷ tl → ⊥
 digit_first [] t tl d e = d.1 refl
 digit_first (x ∷ xs) t tl d e =
     let parts = both (is_ascii_digit x) (list_all is_ascii_digit xs) d.0 in
@@ -170,7 +170,7 @@ far (p ∷ q ∷ ps) rest some each =
 abbrev pub number_walk : List ℕ → Option (TokenKind × ℕ)
 number_walk bs = Some (number_at bs)
 
-kind_nanos : (k s n : ℕ) → s ≡ n * 10 ^ k → n < LIMIT → duration_kind k s ≡ token.Duration n
+pub kind_nanos : (k s n : ℕ) → s ≡ n * 10 ^ k → n < LIMIT → duration_kind k s ≡ token.Duration n
 unfolding duration_kind
 kind_nanos k s n e h =
     let P = 10 ^ k in
@@ -199,7 +199,7 @@ kind_part k s h none =
     ap (λ b. cond b (token.Broken class.Duration fault.NumberRange) (cond (eqb (s % P) 0) (token.Duration (s / P)) (token.Broken class.Duration fault.FractionLiteral))) out
     ∙ ap (λ b. cond b (token.Duration (s / P)) (token.Broken class.Duration fault.FractionLiteral)) (ne_eqb (s % P) 0 some)
 
-abbrev kind_of_parts : List Part → TokenKind
+abbrev pub kind_of_parts : List Part → TokenKind
 kind_of_parts ps = duration_kind (places ps) (scaled (places ps) ps)
 
 some_parts : (ps : List Part) → (ps ≡ [] → ⊥) → (bs : List ℕ) → unwrap_or (duration_of ps) (plain_at bs) ≡ (kind_of_parts ps, length (flat_map part_text ps))
@@ -207,15 +207,15 @@ unfolding duration_of
 some_parts [] h bs = absurd (h refl)
 some_parts (p ∷ ps) h bs = refl
 
-number_parts : (bs : List ℕ) (ps : List Part) → parts bs ≡ ps → (ps ≡ [] → ⊥) → number_at bs ≡ (kind_of_parts ps, length (flat_map part_text ps))
+pub number_parts : (bs : List ℕ) (ps : List Part) → parts bs ≡ ps → (ps ≡ [] → ⊥) → number_at bs ≡ (kind_of_parts ps, length (flat_map part_text ps))
 unfolding number_at duration_at
 number_parts bs ps e h = ap (λ t. unwrap_or (duration_of t) (plain_at bs)) e ∙ some_parts ps h bs
 
-number_no_parts : (bs : List ℕ) → parts bs ≡ [] → number_at bs ≡ plain_at bs
+pub number_no_parts : (bs : List ℕ) → parts bs ≡ [] → number_at bs ≡ plain_at bs
 unfolding number_at duration_at duration_of
 number_no_parts bs e = ap (λ t. unwrap_or (duration_of t) (plain_at bs)) e
 
-no_append : (ps qs : List Part) → (ps ≡ [] → ⊥) → ps ++ qs ≡ [] → ⊥
+pub no_append : (ps qs : List Part) → (ps ≡ [] → ⊥) → ps ++ qs ≡ [] → ⊥
 no_append [] qs h e = h refl
 no_append (p ∷ ps) qs h e = absurd (cc)
 
@@ -263,7 +263,7 @@ part_is : (bs : List ℕ) (p : Part) → part_at bs ≡ Some p → (u : TimeUnit
 unfolding part_at
 part_is bs p h = test_is bs (eqb (prefix_len is_ascii_digit bs) 0) p h
 
-kind_in : (n m : ℕ) → m ≡ n → m < LIMIT → number_kind n ≡ token.Number m
+pub kind_in : (n m : ℕ) → m ≡ n → m < LIMIT → number_kind n ≡ token.Number m
 unfolding number_kind
 kind_in n m e h = ap (λ b. cond b (token.Number n) (token.Broken class.Number fault.NumberRange)) (below_limit n (omega arith)) ∙ ap token.Number (sym e)
 

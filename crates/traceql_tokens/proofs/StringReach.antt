@@ -44,16 +44,21 @@ quoted_walk at body = string_quoted at (34 ∷ body) (omega arith) refl
 raw_walk : (at : ℕ) (body : List ℕ) → string_at at (96 ∷ body) ≡ Some (raw_at at body)
 raw_walk at body = string_raw at (96 ∷ body) (omega arith) refl
 
-reach_known : (at : ℕ) (ps : List Piece) (value rest : List ℕ) → ArePieces ps → Means ps value → Reaches (string_at at) (34 ∷ (pieces_text ps ++ 34 ∷ [])) rest (Ok value)
-reach_known at ps value rest each m =
+known_walk : (at : ℕ) (ps : List Piece) (value rest : List ℕ) → ArePieces ps → Means ps value → string_at at ((34 ∷ (pieces_text ps ++ 34 ∷ [])) ++ rest) ≡ Some (Ok value, length (pieces_text ps) + 2)
+known_walk at ps value rest each m =
     let body = pieces_text ps ++ 34 ∷ rest in
     let k = means_known ps value m in
     let same : pieces body ≡ ps = closed_pieces ps rest each in
     let known : first_unknown (pieces body) ≡ None = ap first_unknown same ∙ k.0 in
     let walked : quoted_at at body ≡ (Ok (filter_map meaning (pieces body)), body_len body + 2) = quoted_known at body (closed_byte ps rest each) known in
-    exact (string_at at) (34 ∷ (pieces_text ps ++ 34 ∷ [])) rest (Ok value) (length (pieces_text ps) + 2)
-    (ap (string_at at) (closed_text (pieces_text ps) rest 34) ∙ quoted_walk at body ∙ ap Some (walked ∙ ap₂ (λ x y. (Ok x, length (pieces_text y) + 2)) (ap (filter_map meaning) same ∙ k.1) same))
-    (omega (arith, length-append (pieces_text ps) (34 ∷ [])))
+    ap (string_at at) (closed_text (pieces_text ps) rest 34) ∙ quoted_walk at body ∙ ap Some (walked ∙ ap₂ (λ x y. (Ok x, length (pieces_text y) + 2)) (ap (filter_map meaning) same ∙ k.1) same)
+
+closed_size : (mid : List ℕ) (q : ℕ) → length mid + 2 ≡ length (q ∷ (mid ++ q ∷ []))
+closed_size mid q = omega (arith, length-append mid (q ∷ []))
+
+reach_known : (at : ℕ) (ps : List Piece) (value rest : List ℕ) → ArePieces ps → Means ps value → Reaches (string_at at) (34 ∷ (pieces_text ps ++ 34 ∷ [])) rest (Ok value)
+reach_known at ps value rest each m =
+    exact (string_at at) (34 ∷ (pieces_text ps ++ 34 ∷ [])) rest (Ok value) (length (pieces_text ps) + 2) (known_walk at ps value rest each m) (closed_size (pieces_text ps) 34)
 
 reach_unknown : (at place n : ℕ) (ps : List Piece) (rest : List ℕ) → ArePieces ps → first_unknown ps ≡ Some n → place ≡ at + (1 + n) → Reaches (string_at at) (34 ∷ (pieces_text ps ++ 34 ∷ [])) rest (Err (fault.UnknownEscape place))
 reach_unknown at place n ps rest each u e =
@@ -66,15 +71,24 @@ reach_unknown at place n ps rest each u e =
     (ap (string_at at) (closed_text (pieces_text ps) rest 34) ∙ quoted_walk at body ∙ ap Some (walked ∙ ap₂ (λ x y. (Err (fault.UnknownEscape x), length (pieces_text y) + 2)) places same))
     (omega (arith, length-append (pieces_text ps) (34 ∷ [])))
 
-reach_raw : (at : ℕ) (value rest : List ℕ) → IsRaw value → Reaches (string_at at) (96 ∷ (value ++ 96 ∷ [])) rest (Ok value)
-reach_raw at value rest raw =
+raw_known : (at : ℕ) (value rest : List ℕ) → IsRaw value → string_at at ((96 ∷ (value ++ 96 ∷ [])) ++ rest) ≡ Some (Ok value, length value + 2)
+raw_known at value rest raw =
     let body = value ++ 96 ∷ rest in
     let n : prefix_len not_back body ≡ length value = prefix_append not_back value (96 ∷ rest) raw ∙ add-zero (length value) in
     let len : length body ≡ length value + suc (length rest) = length-append value (96 ∷ rest) in
-    exact (string_at at) (96 ∷ (value ++ 96 ∷ [])) rest (Ok value) (length value + 2)
-    (ap (string_at at) (closed_text value rest 96) ∙ raw_walk at body
-    ∙ ap Some (raw_closed at body (omega arith) ∙ ap (λ k. (Ok (take k body), k + 2)) n ∙ ap (λ t. (Ok t, length value + 2)) (take_at value (96 ∷ rest) (length value) refl)))
-    (omega (arith, length-append value (96 ∷ [])))
+    ap (string_at at) (closed_text value rest 96) ∙ raw_walk at body
+    ∙ ap Some (raw_closed at body (omega arith) ∙ ap (λ k. (Ok (take k body), k + 2)) n ∙ ap (λ t. (Ok t, length value + 2)) (take_at value (96 ∷ rest) (length value) refl))
+
+reach_raw : (at : ℕ) (value rest : List ℕ) → IsRaw value → Reaches (string_at at) (96 ∷ (value ++ 96 ∷ [])) rest (Ok value)
+reach_raw at value rest raw =
+    exact (string_at at) (96 ∷ (value ++ 96 ∷ [])) rest (Ok value) (length value + 2) (raw_known at value rest raw) (closed_size value 96)
+
+-- a string that ends is found as it stands, whatever follows it
+pub whole_walk : (at : ℕ) (w value rest : List ℕ) → IsWhole w value → string_at at (w ++ rest) ≡ Some (Ok value, length w)
+whole_walk at w value rest (whole_quoted ps each m e) =
+    ap (λ t. string_at at (t ++ rest)) e ∙ known_walk at ps value rest each m ∙ ap (λ n. Some (Ok value, n)) (closed_size (pieces_text ps) 34 ∙ ap length (sym e))
+whole_walk at w value rest (whole_raw raw e) =
+    ap (λ t. string_at at (t ++ rest)) e ∙ raw_known at value rest raw ∙ ap (λ n. Some (Ok value, n)) (closed_size value 96 ∙ ap length (sym e))
 
 -- a string between double quotes is open, or goes just behind its quote
 quoted_either : (at : ℕ) (body : List ℕ) → (quoted_at at body ≡ (Err (fault.Unended at), length body + 1)) ⊎ ((quoted_at at body).1 ≡ body_len body + 2)

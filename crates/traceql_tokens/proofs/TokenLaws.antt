@@ -10,7 +10,7 @@ use Rattle.traceql_tokens.specs.Fixed.{unit_text}
 use Rattle.traceql_tokens.specs.NumberWalk.{number_at}
 use Rattle.traceql_tokens.specs.StringWalk.{string_at}
 use Rattle.traceql_tokens.specs.Tokens.{IsToken}
-use Rattle.traceql_tokens.specs.Walk.{Sized, literal_kind, attribute_kind, attribute_at, fixed_at, word_at, token_at}
+use Rattle.traceql_tokens.specs.Walk.{Measured, literal_kind, attribute_kind, attribute_at, fixed_at, word_at, token_at}
 use Rattle.traceql_tokens.specs.declared.tables.TheConstants.{SCOPES}
 use Rattle.traceql_tokens.specs.declared.fixed.AttributeScope.{AttributeScope}
 use Rattle.traceql_tokens.specs.declared.kinds.Class.{Class}
@@ -35,26 +35,26 @@ string_token at bs (Err g, n) e = let f = string_sound at bs (Err g, n) e in rec
 number_token : (at : ℕ) (bs : List ℕ) → eqb (prefix_len is_ascii_digit bs) 0 ≡ false → Tokened at bs (number_at bs)
 number_token at bs h = let f = number_sound bs h in record { word = f.word; rest = f.rest; parted = f.parted; size = f.size; is = f.is at; end = f.end; some = f.some }
 
-scoped : (at : ℕ) (bs : List ℕ) (r : Sized) (o : Option AttributeScope) → find (λ x. starts_with nat_eq bs (scope_text x)) SCOPES ≡ o → option_or (option_map (λ s. attribute_at at s bs) o) (fixed_at bs) ≡ Some r → Tokened at bs r
+scoped : (at : ℕ) (bs : List ℕ) (r : Measured) (o : Option AttributeScope) → find (λ x. starts_with nat_eq bs (scope_text x)) SCOPES ≡ o → option_or (option_map (λ s. attribute_at at s bs) o) (fixed_at bs) ≡ Some r → Tokened at bs r
 scoped at bs r None e h = fixed_sound at bs r h
 scoped at bs r (Some s) e h =
     let same : attribute_at at s bs ≡ r = cc in
     subst (Tokened at bs) same (attribute_sound at s bs (find_passes (λ x. starts_with nat_eq bs (scope_text x)) s SCOPES e))
 
-worded : (at : ℕ) (bs : List ℕ) (r : Sized) → word_at at bs ≡ Some r → Tokened at bs r
+worded : (at : ℕ) (bs : List ℕ) (r : Measured) → word_at at bs ≡ Some r → Tokened at bs r
 unfolding word_at
 worded at bs r h = scoped at bs r (find (λ x. starts_with nat_eq bs (scope_text x)) SCOPES) refl h
 
-digit_test : (at : ℕ) (bs : List ℕ) (r : Sized) (b : Bool) → eqb (prefix_len is_ascii_digit bs) 0 ≡ b → cond b (word_at at bs) (Some (number_at bs)) ≡ Some r → Tokened at bs r
+digit_test : (at : ℕ) (bs : List ℕ) (r : Measured) (b : Bool) → eqb (prefix_len is_ascii_digit bs) 0 ≡ b → cond b (word_at at bs) (Some (number_at bs)) ≡ Some r → Tokened at bs r
 digit_test at bs r true e h = worded at bs r h
 digit_test at bs r false e h = let same : number_at bs ≡ r = cc in subst (Tokened at bs) same (number_token at bs e)
 
-string_test : (at : ℕ) (bs : List ℕ) (r : Sized) (o : Option (Value × ℕ)) → string_at at bs ≡ o → option_or (option_map (λ found. (literal_kind found.0, found.1)) o) (cond (eqb (prefix_len is_ascii_digit bs) 0) (word_at at bs) (Some (number_at bs))) ≡ Some r → Tokened at bs r
+string_test : (at : ℕ) (bs : List ℕ) (r : Measured) (o : Option (Value × ℕ)) → string_at at bs ≡ o → option_or (option_map (λ found. (literal_kind found.0, found.1)) o) (cond (eqb (prefix_len is_ascii_digit bs) 0) (word_at at bs) (Some (number_at bs))) ≡ Some r → Tokened at bs r
 string_test at bs r None e h = digit_test at bs r (eqb (prefix_len is_ascii_digit bs) 0) refl h
 string_test at bs r (Some q) e h = let same : (literal_kind q.0, q.1) ≡ r = cc in subst (Tokened at bs) same (string_token at bs q e)
 
 -- what is found is a token there
-pub token_sound : (at : ℕ) (bs : List ℕ) (r : Sized) → token_at at bs ≡ Some r → Tokened at bs r
+pub token_sound : (at : ℕ) (bs : List ℕ) (r : Measured) → token_at at bs ≡ Some r → Tokened at bs r
 unfolding token_at
 token_sound at bs r h = string_test at bs r (string_at at bs) refl h
 
@@ -84,7 +84,7 @@ digit_some b tl h = ap (λ t. eqb (cond t (1 + prefix_len is_ascii_digit tl) 0) 
     more : (n : ℕ) → eqb (1 + n) 0 ≡ false
     more n = grind (arith, nat_tests)
 
-digit_comes : (at : ℕ) (ds t : List ℕ) → IsDigitRun ds → token_at at (ds ++ t) ≡ Some (number_at (ds ++ t))
+pub digit_comes : (at : ℕ) (ds t : List ℕ) → IsDigitRun ds → token_at at (ds ++ t) ≡ Some (number_at (ds ++ t))
 unfolding token_at
 digit_comes at [] t d = absurd (d.1 refl)
 digit_comes at (x ∷ xs) t d =
@@ -94,7 +94,7 @@ digit_comes at (x ∷ xs) t d =
     ∙ ap (λ b. cond b (word_at at bs) (Some (number_at bs))) (digit_some x (xs ++ t) first)
 
 -- a text in front of which digits stand
-abbrev Fronted : List ℕ → Type 0
+abbrev pub Fronted : List ℕ → Type 0
 Fronted w = (ds t : List ℕ) × IsDigitRun ds × (w ≡ ds ++ t)
 
 number_reach : (at : ℕ) (w rest : List ℕ) (k : TokenKind) → Fronted w → Reaches number_walk w rest k → Reaches (token_at at) w rest k
@@ -115,7 +115,7 @@ parts_front [] h each = absurd (h refl)
 parts_front (p ∷ ps) h each =
     (p.whole, (fraction_text p.fraction ++ unit_text p.unit) ++ flat_map part_text ps, each.0.0, append_assoc p.whole (fraction_text p.fraction ++ unit_text p.unit) (flat_map part_text ps))
 
-duration_front : (w : List ℕ) (ps : List Part) → IsDuration w ps → Fronted w
+pub duration_front : (w : List ℕ) (ps : List Part) → IsDuration w ps → Fronted w
 duration_front w ps d = subst Fronted (sym d.written) (parts_front ps d.some d.each)
 
 broken_reach : (at : ℕ) (w rest : List ℕ) (c : Class) (f : Fault) → IsToken at w (token.Broken c f) → Reaches (token_at at) w rest (token.Broken c f)

@@ -8,7 +8,7 @@ use Rattle.std.proofs.lemmas.List.Sums.{prefix_len-le-length, prefix_len_stops, 
 use Rattle.traceql_tokens.specs.Bytes.{is_blank, IsBlank}
 use Rattle.traceql_tokens.specs.StringWalk.{string_at}
 use Rattle.traceql_tokens.specs.Tokens.{IsToken, Takes, BeginsNone, AreTokens}
-use Rattle.traceql_tokens.specs.Walk.{Sized, fixed_at, word_at, token_at}
+use Rattle.traceql_tokens.specs.Walk.{Measured, fixed_at, word_at, token_at}
 use Rattle.traceql_tokens.specs.declared.kinds.Token.{Token}
 use Rattle.traceql_tokens.specs.declared.kinds.TokenKind.{TokenKind}
 use Rattle.traceql_tokens.specs.declared.kinds.TokenKind.TheVariants as token
@@ -50,17 +50,17 @@ blank_none : (at b : ℕ) (tl : List ℕ) → is_blank b ≡ true → token_at a
 blank_none at b tl h = blank_cases b (eqb b 32) (eqb b 9) (eqb b 10) (eqb b 13) refl refl refl refl h at tl
 
 -- white space stands no longer at the front
-abbrev Solid : List ℕ → Type 0
+abbrev pub Solid : List ℕ → Type 0
 Solid left = prefix_len is_blank left ≡ 0
 
 solid_first : (b : ℕ) (tl : List ℕ) → is_blank b ≡ false → Solid (b ∷ tl)
 solid_first b tl h = ap (λ t. cond t (1 + prefix_len is_blank tl) 0) h
 
-first_solid : (at b : ℕ) (tl : List ℕ) (r : Sized) (t : Bool) → is_blank b ≡ t → token_at at (b ∷ tl) ≡ Some r → Solid (b ∷ tl)
+first_solid : (at b : ℕ) (tl : List ℕ) (r : Measured) (t : Bool) → is_blank b ≡ t → token_at at (b ∷ tl) ≡ Some r → Solid (b ∷ tl)
 first_solid at b tl r false e h = solid_first b tl e
 first_solid at b tl r true e h = let z : token_at at (b ∷ tl) ≡ None = blank_none at b tl e in absurd (cc)
 
-found_solid : (at : ℕ) (left : List ℕ) (r : Sized) → token_at at left ≡ Some r → Solid left
+pub found_solid : (at : ℕ) (left : List ℕ) (r : Measured) → token_at at left ≡ Some r → Solid left
 found_solid at [] r h = refl
 found_solid at (b ∷ tl) r h = first_solid at b tl r (is_blank b) refl h
 
@@ -78,7 +78,7 @@ blanks_are text blanks left e b s =
 
 -- One token of a list: the one that the walk finds behind the white space, or none where it finds none.
 pub data Step (at : ℕ) (text : List ℕ) (t : Token) (ts : List Token) : Type 0 where
-  goes : (r : Sized) → token_at (at + blanks_of text) (left_of text) ≡ Some r → t.at ≡ at + blanks_of text → t.kind ≡ r.0 → AreTokens (at + blanks_of text + r.1) (drop r.1 (left_of text)) ts → Step at text t ts
+  goes : (r : Measured) → token_at (at + blanks_of text) (left_of text) ≡ Some r → t.at ≡ at + blanks_of text → t.kind ≡ r.0 → AreTokens (at + blanks_of text + r.1) (drop r.1 (left_of text)) ts → Step at text t ts
   stops : token_at (at + blanks_of text) (left_of text) ≡ None → (left_of text ≡ [] → ⊥) → t.at ≡ at + blanks_of text → t.kind ≡ token.Unknown → ts ≡ [] → Step at text t ts
 
 step_takes : (at : ℕ) (text : List ℕ) (t : Token) (ts : List Token) (blanks left word rest : List ℕ) → IsBlank blanks → text ≡ blanks ++ left → t.at ≡ at + length blanks → Takes t.at left t.kind word rest → AreTokens (t.at + length word) rest ts → Step at text t ts
@@ -96,7 +96,7 @@ step_takes at text t ts blanks left word rest b e p takes more =
     goes r (ap₂ token_at (sym place) left_is ∙ found) place (sym (reach.same same))
     (subst (λ q. AreTokens q (drop r.1 (left_of text)) ts) (ap₂ (λ x y. x + y) place (sym same)) (subst (λ q. AreTokens (t.at + length word) q ts) (sym behind_is) more))
 
-no_found : (at : ℕ) (left : List ℕ) (o : Option Sized) → token_at at left ≡ o → ((other more : List ℕ) (k : TokenKind) → left ≡ other ++ more → IsToken at other k → ⊥) → token_at at left ≡ None
+no_found : (at : ℕ) (left : List ℕ) (o : Option Measured) → token_at at left ≡ o → ((other more : List ℕ) (k : TokenKind) → left ≡ other ++ more → IsToken at other k → ⊥) → token_at at left ≡ None
 no_found at left None e none = e
 no_found at left (Some r) e none = let f = token_sound at left r e in absurd (none f.word f.rest r.0 f.parted f.is)
 
@@ -156,7 +156,7 @@ front_blank text = run_passes is_blank text
 front_len : (text : List ℕ) → length (take (blanks_of text) text) ≡ blanks_of text
 front_len text = length-take-le (blanks_of text) text (prefix_len-le-length is_blank text)
 
-takes_found : (at : ℕ) (left : List ℕ) (r : Sized) → token_at at left ≡ Some r → (f : Tokened at left r) → Takes at left r.0 f.word f.rest
+takes_found : (at : ℕ) (left : List ℕ) (r : Measured) → token_at at left ≡ Some r → (f : Tokened at left r) → Takes at left r.0 f.word f.rest
 takes_found at left r e f = record {
   parted = f.parted;
   is = f.is;
@@ -166,7 +166,7 @@ takes_found at left r e f = record {
       omega (arith, reach.far, f.size, ap (λ x. x.1) same);
 }
 
-pub makes_more : (at : ℕ) (text : List ℕ) (r : Sized) (ts : List Token) → token_at (at + blanks_of text) (left_of text) ≡ Some r → AreTokens (at + blanks_of text + r.1) (drop r.1 (left_of text)) ts → AreTokens at text (record { at = at + blanks_of text; kind = r.0 } ∷ ts)
+pub makes_more : (at : ℕ) (text : List ℕ) (r : Measured) (ts : List Token) → token_at (at + blanks_of text) (left_of text) ≡ Some r → AreTokens (at + blanks_of text + r.1) (drop r.1 (left_of text)) ts → AreTokens at text (record { at = at + blanks_of text; kind = r.0 } ∷ ts)
 unfolding AreTokens
 makes_more at text r ts e more =
     let place = at + blanks_of text in

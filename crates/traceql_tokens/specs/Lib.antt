@@ -2,6 +2,7 @@ pub mod Bytes
 pub mod Fixed
 pub mod NumberWalk
 pub mod Numbers
+pub mod Printed
 pub mod StringWalk
 pub mod Strings
 pub mod Sums

@@ -15,8 +15,8 @@ use Rattle.traceql_tokens.specs.declared.kinds.TokenKind.{TokenKind}
 use Rattle.traceql_tokens.specs.declared.kinds.TokenKind.TheVariants as token
 
 -- a token and how many bytes it has
-abbrev pub Sized : Type 0
-Sized = TokenKind × ℕ
+abbrev pub Measured : Type 0
+Measured = TokenKind × ℕ
 
 -- the name that the bytes begin with, and how many bytes it has
 unfoldable pub name_at : ℕ → List ℕ → Result (List ℕ) Fault × ℕ
@@ -29,7 +29,7 @@ attribute_kind scope (Ok (b ∷ bs)) = token.Named scope (b ∷ bs)
 attribute_kind scope (Err f) = token.Broken class.Attribute f
 
 -- the attribute of this scope that the bytes begin with
-unfoldable pub attribute_at : ℕ → AttributeScope → List ℕ → Sized
+unfoldable pub attribute_at : ℕ → AttributeScope → List ℕ → Measured
 attribute_at at scope bytes =
     let n = length (scope_text scope) in
     let found = name_at (at + n) (drop n bytes) in
@@ -41,18 +41,18 @@ literal_kind (Ok value) = token.Quoted value
 literal_kind (Err f) = token.Broken class.Quoted f
 
 -- the sign, the word or the intrinsic that the bytes begin with
-unfoldable pub fixed_at : List ℕ → Option Sized
+unfoldable pub fixed_at : List ℕ → Option Measured
 fixed_at bytes =
     option_or (option_map (λ s. (token.Mark s, length (sign_text s))) (find (λ x. starts_with nat_eq bytes (sign_text x)) SIGNS))
     (option_or (option_map (λ w. (token.Keyword w, length (word_text w))) (find (λ x. starts_with nat_eq bytes (word_text x)) WORDS))
     (option_map (λ i. (token.Builtin i, length (intrinsic_text i))) (find (λ x. starts_with nat_eq bytes (intrinsic_text x)) INTRINSICS)))
 
 -- the attribute, or the token of fixed text, that the bytes begin with
-unfoldable pub word_at : ℕ → List ℕ → Option Sized
+unfoldable pub word_at : ℕ → List ℕ → Option Measured
 word_at at bytes = option_or (option_map (λ s. attribute_at at s bytes) (find (λ x. starts_with nat_eq bytes (scope_text x)) SCOPES)) (fixed_at bytes)
 
 -- the longest token that the bytes begin with
-unfoldable pub token_at : ℕ → List ℕ → Option Sized
+unfoldable pub token_at : ℕ → List ℕ → Option Measured
 token_at at bytes =
     option_or (option_map (λ found. (literal_kind found.0, found.1)) (string_at at bytes))
     (if prefix_len is_ascii_digit bytes == 0 then word_at at bytes else Some (number_at bytes))

@@ -1,6 +1,7 @@
 //! The lexer.
 
 ghost use Rattle.std.specs.Prelude.{◌≡◌, ◌+◌, ◌^◌, ◌<◌, ◌≤◌, ℕ, IfOk, IsTrue, List, length, nat_eq};
+ghost use Rattle.traceql_tokens.specs.Printed.{ReadsToken, ReadsParen, ReadsSpace, ReadsEnd};
 ghost use Rattle.traceql_tokens.specs.Tokens.{AreTokens};
 ghost use Rattle.traceql_tokens.specs.Fixed.{scope_text};
 ghost use Rattle.traceql_tokens.specs.Walk.{name_at, attribute_kind, attribute_at, literal_kind, fixed_at, token_at};
@@ -16,7 +17,7 @@ use span_types::{Memory, Text};
 use std::alloc::Global;
 
 /// A token, and how many bytes it has.
-type Sized = (TokenKind, usize);
+type Measured = (TokenKind, usize);
 
 /// The name that the text begins with, which may be empty, and how many bytes it has.
 #[tactic(auto, using(crate::proofs::LexerCases::name_cases))]
@@ -52,7 +53,7 @@ fn attribute_at(
     scope: AttributeScope,
     text: &str,
     at: usize,
-) -> Result<Sized, Memory>
+) -> Result<Measured, Memory>
     requires room { at + length text.now < 2 ^ 63 }
     requires start { IsTrue (starts_with nat_eq text.now (scope_text scope)) }
     ensures { IfOk result (λ r. r ≡ attribute_at at scope text.now) }
@@ -75,7 +76,7 @@ fn literal_kind(value: Value) -> TokenKind
 
 /// The sign, the word or the intrinsic that the bytes begin with.
 #[tactic(auto, using(crate::proofs::LexerCases::fixed_cases))]
-fn fixed_at(bytes: &[u8]) -> Option<Sized>
+fn fixed_at(bytes: &[u8]) -> Option<Measured>
     ensures { result ≡ fixed_at bytes.now }
 {
     if let Some(sign) = sign_at(bytes) {
@@ -90,7 +91,7 @@ fn fixed_at(bytes: &[u8]) -> Option<Sized>
 
 /// The longest token that the text begins with.
 #[tactic(auto, using(crate::proofs::LexerCases::token_cases))]
-fn token_at(alloc: Global, text: &str, at: usize) -> Result<Option<Sized>, Memory>
+fn token_at(alloc: Global, text: &str, at: usize) -> Result<Option<Measured>, Memory>
     requires { at + length text.now < 2 ^ 63 }
     ensures { IfOk result (λ r. r ≡ token_at at text.now) }
 {
@@ -147,4 +148,13 @@ pub fn tokens(alloc: Global, text: &str) -> Result<Tokens, Memory>
 /// A text has one list of tokens: a law over the definition, which `tokens` rests on.
 pub fn one_reading()
     ensures { (at : ℕ) (text : List ℕ) (ts us : List Token) → AreTokens at text ts → AreTokens at text us → ts ≡ us }
+{}
+
+/// Nothing lengthens a token across the end, a space or a closing parenthesis, so a text in which these keep the tokens
+/// apart has just these tokens: laws over the definition for whoever prints a query.
+pub fn printed_tokens()
+    ensures token { ReadsToken }
+    ensures paren { ReadsParen }
+    ensures space { ReadsSpace }
+    ensures end { ReadsEnd }
 {}

@@ -12,7 +12,7 @@ mod units;
 
 pub use fixed::{AttributeScope, Intrinsic, Sign, Word};
 pub use kinds::{Class, Fault, Token, TokenKind, Tokens};
-pub use lexer::tokens;
+pub use lexer::{one_reading, printed_tokens, tokens};
 pub use units::TimeUnit;
 
 #[cfg(test)]

@@ -33,7 +33,7 @@ returns-in-Err-Fault-clause-turned g c = λ text before at.
 pub returns-in-Spent-clause-turned : goal.returns-in-Spent-clause-turned
 returns-in-Spent-clause-turned g c = λ text before at.
     let answers = subst (λ l. Answers l at.rest (IsToRead c.next.new.self (g.S.Source.left c.next.new.source))) c.in-Spent.is
-      (c.in-Ok.ensures.line at.rest at.to_read) in
+    (c.in-Ok.ensures.line at.rest at.to_read) in
     let all = subst (λ l. IsWithinLimits l c.next.new.self.taken) c.in-Spent.is c.in-Ok.ensures.limits in
     let waiting = subst (λ l. WouldAsk l c.next.new.self) c.in-Spent.is c.in-Ok.ensures.spent in
     spent_at text before _ _ _ _ _ _ _ at all.1 c.next.ensures.took answers waiting

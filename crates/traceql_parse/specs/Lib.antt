@@ -1,0 +1,4 @@
+pub mod Reading
+pub mod Descent
+pub mod Code
+pub mod Outcome

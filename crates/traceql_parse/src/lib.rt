@@ -1,0 +1,16 @@
+//! The parser of TraceQL: from a text to its query, or to the refusal of the earliest place.
+#![tactic(auto)]
+
+mod field;
+mod leaf;
+mod look;
+mod spanset;
+mod stage;
+mod stop;
+mod text;
+
+pub use text::{one_query, parse};
+pub use traceql_syntax::ParseError;
+
+#[cfg(test)]
+mod tests;

@@ -1,0 +1,103 @@
+//! From a text to its query, or to why it has none.
+
+ghost use Rattle.std.specs.Prelude.{◌≡◌, ◌<◌, ◌≤◌, ℕ, List, length, Ok, Err, IfOk, IfErr, MatchResult};
+ghost use Rattle.traceql_syntax.specs.Refusals.{BYTES, DEPTH, IsRefusal, Reads};
+ghost use Rattle.traceql_syntax.specs.Refusals as refusals;
+ghost use Rattle.traceql_syntax.specs.Trees.{QueryTree, query_tree};
+ghost use Rattle.traceql_parse.specs.Descent as read;
+ghost use Rattle.traceql_parse.specs.Outcome.{Answers, error_of, outcome, token_error};
+
+use crate::stage::read_query;
+use crate::stop::{Cause, Stop};
+use std::alloc::Global;
+use traceql_syntax::{ParseError, Query};
+use traceql_tokens::{Fault, Token, TokenKind, tokens};
+
+/// How many bytes a query may have.
+const MAX_BYTES: usize = 8192;
+
+/// How many constructs may be open inside the parentheses of a stage: 64 in all.
+const INNER_DEPTH: u32 = 63;
+
+fn fault_error(at: u64, fault: Fault) -> ParseError
+    ensures { result ≡ refusals.fault_error at fault }
+{
+    match fault {
+        Fault::NumberRange => ParseError::NumberRange { at },
+        Fault::FractionLiteral => ParseError::FractionLiteral { at },
+        Fault::Unended { at } => ParseError::Unended { at },
+        Fault::UnknownEscape { at } => ParseError::BadChar { at },
+    }
+}
+
+fn refused_token(cause: Cause, at: u64, kind: &TokenKind) -> ParseError
+    ensures { result ≡ token_error cause at kind.now }
+{
+    match kind {
+        TokenKind::Unknown => ParseError::BadChar { at },
+        TokenKind::Broken(_, fault) => match cause {
+            Cause::Faulty => fault_error(at, *fault),
+            Cause::TooDeep => ParseError::TooDeep { at },
+            _ => ParseError::Unexpected { at },
+        },
+        _ => match cause {
+            Cause::TooDeep => ParseError::TooDeep { at },
+            _ => ParseError::Unexpected { at },
+        },
+    }
+}
+
+fn refused(cause: Cause, length: u64, rest: &[Token]) -> ParseError
+    ensures { result ≡ error_of cause length rest.now }
+{
+    match rest {
+        [first, ..] => refused_token(cause, first.at, &first.kind),
+        [] => ParseError::Unended { at: length },
+    }
+}
+
+fn parse_tokens(alloc: Global, tokens: &[Token], length: u64) -> Result<Query, ParseError>
+    ensures { Answers result (outcome length (read.query 63 tokens.now)) }
+{
+    match read_query(alloc, tokens, INNER_DEPTH) {
+        Ok((query, rest)) => {
+            if rest.is_empty() {
+                Ok(query)
+            } else {
+                Err(refused(Cause::Unexpected, length, rest))
+            }
+        }
+        Err(Stop::Memory) => Err(ParseError::Memory),
+        Err(Stop::Refused(cause, rest)) => Err(refused(cause, length, rest)),
+    }
+}
+
+/// The query that a text is, each of its parts with its place.
+///
+/// The text is a query where the grammar of `traceql_syntax` says so, at most 64 constructs are open at one place, and
+/// it has at most 8,192 bytes. Else the refusal is that of the earliest place. `Memory` may come in place of either.
+pub fn parse(alloc: Global, text: &str) -> Result<Query, ParseError>
+    ensures too_long { BYTES < length text.now → result ≡ Err (ParseError.TooLong (length text.now)) }
+    // What is read is in the grammar, within the limits.
+    ensures found { IfOk result (λ q. (length text.now ≤ BYTES) × Reads DEPTH text.now (query_tree q)) }
+    // What is in the grammar within the limits is read, unless memory ran out.
+    ensures complete { (q : QueryTree) → length text.now ≤ BYTES → Reads DEPTH text.now q → MatchResult result (λ p. query_tree p ≡ q) (λ e. e ≡ ParseError.Memory) }
+    // A refusal is that of the earliest place, with its cause.
+    ensures refused { IfErr result (λ e. IsRefusal text.now e) }
+{
+    let length = text.len();
+    if length > MAX_BYTES {
+        return Err(ParseError::TooLong {
+            length: length as u64,
+        });
+    }
+    let Ok(list) = tokens(alloc, text) else {
+        return Err(ParseError::Memory);
+    };
+    parse_tokens(alloc, list.as_slice(), length as u64)
+}
+
+/// A text is at most one query: a law of the grammar, which `parse` rests on.
+pub fn one_query()
+    ensures { (text : List ℕ) (p q : QueryTree) (d e : ℕ) → Reads d text p → Reads e text q → p ≡ q }
+{}

@@ -1,0 +1,251 @@
+//! Spansets, stages and queries.
+
+ghost use Rattle.std.specs.Prelude.{◌≡◌, length};
+
+use crate::{Comparison, Field, Operand};
+use std::boxed::Box;
+use std::marker::Model;
+
+/// How two spans stand to each other: what the right one is to the left one.
+#[derive(Clone, Copy, Debug, PartialEq, Eq)]
+pub enum Relation {
+    /// `>`
+    Child,
+    /// `>>`
+    Descendant,
+    /// `<`
+    Parent,
+    /// `<<`
+    Ancestor,
+    /// `~`
+    Sibling,
+}
+
+/// Which spans a structural operator gives.
+#[derive(Clone, Copy, Debug, PartialEq, Eq)]
+pub enum Side {
+    /// The right spans related to some left span; no prefix.
+    Right,
+    /// The right spans related to no left span; the prefix `!`.
+    Unrelated,
+    /// The related spans of both sides; the prefix `&`.
+    Both,
+}
+
+/// An operator between two spansets.
+#[derive(Clone, Copy, Debug, PartialEq, Eq)]
+pub enum SpansetOp {
+    /// `&&`
+    And,
+    /// `||`
+    Or,
+    /// A structural operator.
+    Related(Relation, Side),
+}
+
+/// The levels at which operators between spansets group from the left, the tighter one first.
+#[derive(Clone, Copy, Debug, PartialEq, Eq)]
+pub enum SpansetLevel {
+    /// The structural operators.
+    Structure,
+    /// `&&` and `||`.
+    Union,
+}
+
+/// An expression that gives a spanset.
+#[derive(Debug, Drop)]
+pub enum SpansetExpr {
+    /// The spans for which the condition is true: all where there is none.
+    Filter {
+        /// The place of the brace.
+        at: u64,
+        /// What stands in the braces.
+        condition: Option<Operand>,
+    },
+    /// An operator between two spansets.
+    Join {
+        /// The operator's place.
+        at: u64,
+        /// The operator.
+        op: SpansetOp,
+        /// The left spanset.
+        left: Box<SpansetExpr>,
+        /// The right spanset.
+        right: Box<SpansetExpr>,
+    },
+}
+
+/// An aggregate of numbers.
+#[derive(Clone, Copy, Debug, PartialEq, Eq)]
+pub enum AggregateOp {
+    /// `avg`
+    Average,
+    /// `min`
+    Least,
+    /// `max`
+    Greatest,
+    /// `sum`
+    Sum,
+}
+
+/// An aggregate over the spans of a spanset.
+#[derive(Debug, Drop)]
+pub enum Aggregate {
+    /// `count()`: how many spans there are.
+    Count,
+    /// One of the others, over the values of its argument.
+    Of(AggregateOp, Operand),
+}
+
+/// What an aggregate is compared with.
+#[derive(Debug, Drop)]
+pub enum Threshold {
+    /// Another aggregate.
+    Aggregate(Aggregate),
+    /// A number, below 2^63 before its sign.
+    Number {
+        /// Whether a `-` stands before it.
+        negative: bool,
+        /// The number.
+        value: u64,
+    },
+    /// A duration in nanoseconds, below 2^63 before its sign.
+    Duration {
+        /// Whether a `-` stands before it.
+        negative: bool,
+        /// The nanoseconds.
+        nanos: u64,
+    },
+}
+
+/// A stage of a query's pipeline.
+#[derive(Debug, Drop)]
+pub enum Stage {
+    /// Keeps the spans for which the condition is true.
+    Filter {
+        /// The place of the brace.
+        at: u64,
+        /// What stands in the braces.
+        condition: Option<Operand>,
+    },
+    /// `by(..)` splits each spanset by a value.
+    By(Operand),
+    /// `coalesce()` joins all spansets into one.
+    Coalesce,
+    /// `select(..)` adds fields to what is shown.
+    Select(Fields),
+    /// Keeps the spansets for which a comparison of an aggregate is true.
+    Compare {
+        /// The left side.
+        left: Aggregate,
+        /// The comparison's place.
+        at: u64,
+        /// The comparison.
+        op: Comparison,
+        /// The right side.
+        right: Threshold,
+    },
+}
+
+/// The fields of a `select`, in the text's order.
+#[derive(Debug, Drop)]
+pub struct Fields {
+    inner: Vec<Field>,
+}
+
+impl Model for Fields {
+    ghost use Rattle.std.specs.Prelude.{List};
+    ghost use Rattle.traceql_syntax.specs.declared.field.Field.{Field};
+
+    ghost Value = { List Field };
+
+    ghost view = { λ l. l.inner.items };
+}
+
+impl Fields {
+    /// The list of a vector's items, which are moved and not copied.
+    pub fn of(inner: Vec<Field>) -> Fields
+        ensures { result ≡ inner.items }
+    {
+        Fields { inner }
+    }
+
+    /// The vector again, without a copy.
+    pub fn into_vec(self) -> Vec<Field>
+        ensures { result.items ≡ self }
+    {
+        self.inner
+    }
+
+    /// The fields as a slice.
+    pub fn as_slice(&self) -> &[Field]
+        ensures { result.now ≡ self.now }
+    {
+        self.inner.as_slice()
+    }
+
+    /// The number of fields.
+    pub fn len(&self) -> usize
+        ensures { result ≡ length self.now }
+    {
+        self.inner.len()
+    }
+}
+
+/// The stages of a query, in the text's order.
+#[derive(Debug, Drop)]
+pub struct Stages {
+    inner: Vec<Stage>,
+}
+
+impl Model for Stages {
+    ghost use Rattle.std.specs.Prelude.{List};
+    ghost use Rattle.traceql_syntax.specs.declared.query.Stage.{Stage};
+    ghost use Rattle.traceql_syntax.specs.contracts.field.FieldExpr as e;
+    ghost use Rattle.std.specs.Coded.{codes};
+
+    ghost Value = { List Stage };
+
+    ghost view = { λ l. l.inner.items };
+
+    ghost coded = { Prim.hlevel (codes, e.the_row.coded) };
+}
+
+impl Stages {
+    /// The list of a vector's items, which are moved and not copied.
+    pub fn of(inner: Vec<Stage>) -> Stages
+        ensures { result ≡ inner.items }
+    {
+        Stages { inner }
+    }
+
+    /// The vector again, without a copy.
+    pub fn into_vec(self) -> Vec<Stage>
+        ensures { result.items ≡ self }
+    {
+        self.inner
+    }
+
+    /// The stages as a slice.
+    pub fn as_slice(&self) -> &[Stage]
+        ensures { result.now ≡ self.now }
+    {
+        self.inner.as_slice()
+    }
+
+    /// The number of stages.
+    pub fn len(&self) -> usize
+        ensures { result ≡ length self.now }
+    {
+        self.inner.len()
+    }
+}
+
+/// A query: an expression over spansets and the stages behind it.
+#[derive(Debug, Drop)]
+pub struct Query {
+    /// What is looked for.
+    pub spansets: SpansetExpr,
+    /// What is done with it.
+    pub stages: Stages,
+}
