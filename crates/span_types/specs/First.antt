@@ -19,7 +19,7 @@ lesser (Some a) (Some b) = if is_lt (place_cmp b.place a.place) then Some b else
 abbrev pub row_at : Key → Row → Option Row
 row_at k r = if is_eq (key_cmp (row_key r) k) then Some r else None
 
--- The first row of a key in a list: none has a lesser place, and none before it in the list has the same.
+-- The first row of a key among rows: that of the least place. Of rows at one place the earliest in the list counts.
 abbrev pub first_at : Key → List Row → Option Row
 first_at k [] = None
 first_at k (r ∷ rs) = lesser (row_at k r) (first_at k rs)

@@ -3,8 +3,7 @@
 use std::alloc::{AllocError, AllocFailed};
 use thiserror::Error;
 
-/// Memory was wanted and not given. Every call that says so in its type may answer it at any growth, and then leaves what
-/// it was given by reference as it was.
+/// Memory was wanted and not given. It is the one answer that may come at any growth.
 #[derive(Clone, Copy, Debug, PartialEq, Eq, Error)]
 #[error("memory")]
 pub struct Memory;

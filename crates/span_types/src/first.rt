@@ -13,12 +13,8 @@ use std::alloc::Global;
 use std::cmp::Ordering;
 use std::collections::BTreeMap;
 
-/// The first occurrences of rows: of each span, known by its trace and its id, the row that came in first, in block
-/// order. Where two rows of a span have one place, the one that stands earlier in the list counts.
-///
-/// # Errors
-///
-/// `Memory` where memory was wanted.
+/// For each key the row of the least place, and nothing else, in block order: by trace id, start and span id. Of rows
+/// at one place the earliest in the list counts. It takes time n log n.
 pub fn first_rows(alloc: Global, rows: Rows) -> Result<Rows, Memory>
     ensures { IfOk result (λ firsts. IsFirstOf rows firsts) }
 {
@@ -28,12 +24,8 @@ pub fn first_rows(alloc: Global, rows: Rows) -> Result<Rows, Memory>
     Ok(Rows::of(kept))
 }
 
-/// The first occurrences of what `firsts` are the first occurrences of, followed by more rows. So first occurrences can
-/// be kept of a part and joined with the rows that come after it.
-///
-/// # Errors
-///
-/// `Memory` where memory was wanted.
+/// The first occurrences of what `firsts` are the first occurrences of, followed by more rows. So the order in which
+/// parts are joined doesn't matter: first occurrences are kept by their parts.
 pub fn first_rows_more(alloc: Global, firsts: Rows, more: Rows) -> Result<Rows, Memory>
     ensures { IfOk result (λ all. (base : List Row) → IsFirstOf base firsts → IsFirstOf (base ++ more) all) }
 {

@@ -34,7 +34,7 @@ pub enum StatusCode {
     Error,
 }
 
-/// One span. Readers give none with an id of zeros alone, its own or its parent's; the type doesn't forbid it.
+/// One span. Neither of its ids is all zeros, nor is its parent's.
 #[derive(Debug, Drop)]
 pub struct Span {
     /// The trace.
@@ -157,7 +157,7 @@ impl Spans {
     }
 }
 
-/// The spans of one push, in the order in which they came. Readers give at most 16,384; the type has no limit.
+/// The spans of one push, in the order in which they came. There are at most 16,384.
 #[derive(Debug, Drop)]
 pub struct Batch {
     /// The spans.
