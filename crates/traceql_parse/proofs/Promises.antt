@@ -7,7 +7,7 @@ use Rattle.traceql_syntax.specs.declared.errors.ParseError.{ParseError}
 use Rattle.traceql_syntax.specs.declared.errors.ParseError.TheVariants as error
 use Rattle.traceql_syntax.specs.declared.query.Query.{Query}
 use Rattle.traceql_syntax.specs.Grammar.{SpellsQuery}
-use Rattle.traceql_syntax.specs.Refusals.{BYTES, DEPTH, IsRefusal, Reads}
+use Rattle.traceql_syntax.specs.Refusals.{BYTES, DEPTH, IsRefusal, Means, Reads}
 use Rattle.traceql_syntax.specs.Trees.{QueryTree, query_tree}
 use Rattle.traceql_parse.specs.Descent as read
 use Rattle.traceql_parse.specs.Outcome.{Answers, outcome}
@@ -53,3 +53,7 @@ module _ (text : List ℕ) (ts : List Token) (lexed : AreTokens 0 text ts) (fits
   pub parse_refused : (r : Result Query ParseError) → Answers r expected → IfErr r (λ e. IsRefusal text e)
   parse_refused (Ok q) h = tt
   parse_refused (Err e) h = refusal_of e h
+
+  pub parse_means : (r : Result Query ParseError) → Answers r expected → IfOk r (λ q. Means text (query_tree q))
+  parse_means (Ok q) h = (64, query_tree q, record { tokens = ts; lexed = lexed; spelled = outcome_found (length text) 63 (query_tree q) ts h }, refl)
+  parse_means (Err e) h = tt

@@ -1,9 +1,9 @@
 //! From a text to its query, or to why it has none.
 
 ghost use Rattle.std.specs.Prelude.{◌≡◌, ◌<◌, ◌≤◌, ℕ, List, length, Ok, Err, IfOk, IfErr, MatchResult};
-ghost use Rattle.traceql_syntax.specs.Refusals.{BYTES, DEPTH, IsRefusal, Reads};
+ghost use Rattle.traceql_syntax.specs.Refusals.{BYTES, DEPTH, IsRefusal, Means, Reads};
 ghost use Rattle.traceql_syntax.specs.Refusals as refusals;
-ghost use Rattle.traceql_syntax.specs.Trees.{QueryTree, query_tree};
+ghost use Rattle.traceql_syntax.specs.Trees.{QueryTree, bare_query, query_tree};
 ghost use Rattle.traceql_parse.specs.Descent as read;
 ghost use Rattle.traceql_parse.specs.Outcome.{Answers, error_of, outcome, token_error};
 
@@ -82,6 +82,8 @@ pub fn parse(alloc: Global, text: &str) -> Result<Query, ParseError>
     ensures found { IfOk result (λ q. (length text.now ≤ BYTES) × Reads DEPTH text.now (query_tree q)) }
     // What is in the grammar within the limits is read, unless memory ran out.
     ensures complete { (q : QueryTree) → length text.now ≤ BYTES → Reads DEPTH text.now q → MatchResult result (λ p. query_tree p ≡ q) (λ e. e ≡ ParseError.Memory) }
+    // The same without places: a text that means a query within the limits is read as an equal one.
+    ensures means { IfOk result (λ q. Means text.now (query_tree q)) }
     // A refusal is that of the earliest place, with its cause.
     ensures refused { IfErr result (λ e. IsRefusal text.now e) }
 {
@@ -99,5 +101,7 @@ pub fn parse(alloc: Global, text: &str) -> Result<Query, ParseError>
 
 /// A text is at most one query: a law of the grammar, which `parse` rests on.
 pub fn one_query()
-    ensures { (text : List ℕ) (p q : QueryTree) (d e : ℕ) → Reads d text p → Reads e text q → p ≡ q }
+    ensures one { (text : List ℕ) (p q : QueryTree) (d e : ℕ) → Reads d text p → Reads e text q → p ≡ q }
+    // Without places and without limits: two queries that a text means are equal.
+    ensures equal { (text : List ℕ) (p q : QueryTree) → Means text p → Means text q → bare_query p ≡ bare_query q }
 {}
