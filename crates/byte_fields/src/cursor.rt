@@ -28,11 +28,12 @@ impl<'a> Model for Cursor<'a> {
 }
 
 impl<'a> Cursor<'a> {
-    /// The place of the first byte.
-    pub fn new(bytes: &'a [u8]) -> Cursor<'a>
-        ensures { result ≡ record { whole = bytes.now; at = 0 } }
+    /// A place in the bytes.
+    pub fn new(bytes: &'a [u8], at: usize) -> Cursor<'a>
+        requires { at ≤ length bytes.now }
+        ensures { result ≡ record { whole = bytes.now; at = at } }
     {
-        Cursor { bytes, at: 0 }
+        Cursor { bytes, at }
     }
 
     /// The place.

@@ -40,7 +40,18 @@ impl<'a> Reader<'a> {
     {
         Reader {
             alloc,
-            cursor: Cursor::new(bytes),
+            cursor: Cursor::new(bytes, 0),
+        }
+    }
+
+    /// A reader at a later place of the bytes, or behind the last of them.
+    pub fn starting_at(alloc: Global, bytes: &'a [u8], at: u64) -> Reader<'a>
+        requires { at ≤ length bytes.now }
+        ensures { result ≡ record { whole = bytes.now; at = at } }
+    {
+        Reader {
+            alloc,
+            cursor: Cursor::new(bytes, at as usize),
         }
     }
 

@@ -1,0 +1,10 @@
+pub mod Appending
+pub mod Standing
+pub mod FramingLemmas
+pub mod BreakLemmas
+pub mod ReadingLoops
+pub mod FileReading
+pub mod Again
+pub mod RunLaws
+pub mod AgainRuns
+pub mod AgainRecords

@@ -1,0 +1,21 @@
+use Rattle.std.proofs.Common.{◌∙◌, arith}
+use Rattle.head_log.proofs.AgainRecords.{recalled, never_broken}
+use Rattle.head_log.proofs.read_back.scan.Goals as goal
+
+pub invariant_of-segment : goal.invariant_of-segment
+invariant_of-segment g c =
+    let small = c.in-Ok.bytes.small in
+    let room = c.in-Ok.bytes.ok in
+    record { near = omega (arith, room.0, room.1, c.in-Ok-read_segment.ensures.within, c.as_slice.ensures.len) }
+
+pub returns-in-Ok-read_segment-clause-kept : goal.returns-in-Ok-read_segment-clause-kept
+returns-in-Ok-read_segment-clause-kept g c = λ told batches gate stands.
+    let e = c.in-Ok-read_segment.ensures in
+    let p = recalled c.args.first _ _ e.fit (c.as_slice.ensures.value ∙ c.in-Ok.ensures.bytes told) c.in-Ok-read_segment.batches.items c.in-Ok-read_segment.gate e.reads batches gate stands in
+    (c.of.ensures ∙ p.0, p.1)
+
+pub returns-in-Err-At-clause-kept : goal.returns-in-Err-At-clause-kept
+returns-in-Err-At-clause-kept g c = λ told batches gate stands.
+    let e = c.in-Err-At.ensures in
+    let read = rw c.in-Err-At.field-0-is at e.reads in
+    never_broken c.args.first _ _ e.fit (c.as_slice.ensures.value ∙ c.in-Ok.ensures.bytes told) c.in-Err-At.at read batches gate stands

@@ -1,0 +1,26 @@
+use Rattle.disk_model.proofs.Passing.{passes_more}
+use Rattle.head_log.proofs.Standing.{keeps_either, stands_more}
+use Rattle.head_log.proofs.segment.append.Goals as goal
+
+pub returns-in_err-append_record-clause-any_moment : goal.returns-in_err-append_record-clause-any_moment
+returns-in_err-append_record-clause-any_moment g c = λ batches spans known tells only stands counted is.
+    let seg = c.args.seg.now in
+    let text = c.text-text.ensures in
+    let run = c.in_err-append_record.ensures.any_moment stands.bodies c.args.entry.now.body known tells text.text text.short only stands.has in
+    let more = keeps_either seg.first batches seg.gate known spans c.args.entry.now.body c.args.entry.now.number seg.count stands c.requires.number counted is in
+    passes_more _ _ _ _ _ _ _ _ _ _ run more more
+
+pub returns-clause-any_moment : goal.returns-clause-any_moment
+returns-clause-any_moment g c = λ batches spans known tells only stands counted is.
+    let seg = c.args.seg.now in
+    let text = c.text-text.ensures in
+    let run = c.in_ok-append_record.ensures.any_moment stands.bodies c.args.entry.now.body known tells text.text text.short only stands.has in
+    let more = keeps_either seg.first batches seg.gate known spans c.args.entry.now.body c.args.entry.now.number seg.count stands c.requires.number counted is in
+    passes_more _ _ _ _ _ _ _ _ _ _ run more more
+
+pub returns-clause-acknowledged : goal.returns-clause-acknowledged
+returns-clause-acknowledged g c = λ batches spans known tells only stands counted is.
+    let seg = c.args.seg.now in
+    let text = c.text-text.ensures in
+    let done = c.in_ok-append_record.ensures.acknowledged stands.bodies c.args.entry.now.body known tells text.text text.short only stands.has in
+    (stands_more seg.first batches seg.gate known spans c.args.entry.now.body c.args.entry.now.number seg.count _ _ stands c.requires.number counted is done.0, done.1)

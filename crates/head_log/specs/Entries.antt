@@ -1,0 +1,9 @@
+-- Batches with their numbers.
+use Rattle.std.specs.Prelude.{ℕ, ◌+◌, List, [], ◌∷◌}
+use Rattle.span_types.specs.declared.spans.Span.{Span}
+use Rattle.head_log.specs.declared.numbered.NumberedBatch.{NumberedBatch}
+
+-- batches with the numbers from this one on
+abbrev pub entries : ℕ → List (List Span) → List NumberedBatch
+entries first [] = []
+entries first (spans ∷ batches) = record { number = first; batch = record { spans = spans } } ∷ entries (first + 1) batches

@@ -1,0 +1,11 @@
+pub mod Records
+pub mod Bodies
+pub mod Sound
+pub mod Stands
+pub mod Framing
+pub mod Breaks
+pub mod Scanning
+pub mod Outcomes
+pub mod Blocks
+pub mod Entries
+pub mod Keys

@@ -1,0 +1,14 @@
+//! Laws about the grammar.
+
+ghost use Rattle.std.specs.Prelude.{◌≡◌, ℕ, List, Ok};
+ghost use Rattle.span_types.specs.declared.spans.Span.{Span};
+ghost use Rattle.byte_fields.specs.Reading.{AreBytes};
+ghost use Rattle.head_log.specs.Entries.{entries};
+ghost use Rattle.head_log.specs.Scanning.{segment_at};
+ghost use Rattle.head_log.specs.Stands.{StandsFor};
+
+/// What the bytes of a segment stand for is what reading gives. So they stand for one list of batches.
+pub fn spelled_is_read()
+    ensures { (first gate : ℕ) (batches : List (List Span)) (bytes : List ℕ) → AreBytes bytes → StandsFor first batches gate bytes
+        → segment_at first bytes ≡ Ok (entries first batches, record { whole = bytes; at = gate }) }
+{}

@@ -1,0 +1,22 @@
+//! The write-ahead log: batches of spans as numbered records of a segment.
+#![tactic(auto)]
+
+mod bodies;
+mod breaks;
+mod laws;
+mod numbered;
+mod prepared;
+mod read_back;
+mod reading;
+mod records;
+mod segment;
+mod writing;
+
+pub use laws::spelled_is_read;
+pub use numbered::{Numbered, NumberedBatch};
+pub use prepared::Prepared;
+pub use read_back::{LogError, scan};
+pub use segment::{Segment, append, create};
+
+#[cfg(test)]
+mod tests;

@@ -1,0 +1,132 @@
+//! A segment that is written, and how a record is added to it.
+
+ghost use Rattle.std.specs.Prelude.{◌≡◌, ℕ, ◌+◌, ◌<◌, ◌^◌, List, [], ◌∷◌, ◌++◌, length, IsTrue, OnOk, OnErr};
+ghost use Rattle.disk_model.specs.Images.{bytes_of, Besides};
+ghost use Rattle.disk_model.specs.Crash.{OnlyBytes, Passes, HasCause};
+ghost use Rattle.head_log.specs.Records.{HasBodies, IsEarlierOrWith, framed};
+ghost use Rattle.head_log.specs.Stands.{IsBody, StandsFor, KeepsEarlierOrWith};
+ghost use Rattle.span_types.specs.declared.spans.Span.{Span};
+
+use crate::Prepared;
+use disk_model::{Device, write_through};
+use span_types::Failed;
+
+/// An open gate. Every other byte is a closed one.
+const OPEN: u8 = 1;
+
+/// The bytes of a segment without records: its version, and a closed gate.
+const EMPTY: [u8; 2] = [1, 0];
+
+/// A log segment: its file, the number of its first record, how many records it has, and the place of its last gate,
+/// which is closed.
+#[derive(Debug, Drop)]
+pub struct Segment {
+    /// The file.
+    pub file: u32,
+    /// The number of the first record.
+    pub first: u64,
+    /// How many records there are.
+    pub count: u64,
+    /// The place of the last gate, a byte of the file.
+    pub gate: u64,
+    ghost near: { gate < 2 ^ 63 },
+}
+
+impl Segment {
+    /// What `create` leaves in a file, with this number for its first record.
+    pub fn fresh(file: u32, first: u64) -> Segment
+        ensures { (result.file ≡ file) × (result.first ≡ first) × (result.count ≡ 0) × (result.gate ≡ 1) }
+    {
+        Segment {
+            file,
+            first,
+            count: 0,
+            gate: 1,
+        }
+    }
+}
+
+/// Makes a segment without records of a file: it is emptied, and the version and a closed gate are written and synced.
+pub fn create<D: Device>(disk: &mut D, file: u32) -> Result<(), Failed>
+    // At `Ok` every image holds the empty segment.
+    ensures empty { IsTrue (D.tells disk.old) → OnOk result (StandsFor 0 [] 1 (bytes_of (D.held disk.new) file)
+        × OnlyBytes file (bytes_of (D.held disk.new) file) (D.may_leave disk.new)) }
+    ensures bytes { IsTrue (D.tells disk.old) → OnOk result (bytes_of (D.held disk.new) file ≡ 1 ∷ 0 ∷ []) }
+
+    // Whatever a crash leaves of this file, it leaves every other file as it was.
+    ensures any_moment { Passes D.moment D.left_since D.may_leave file (λ bytes. Unit {0}) (λ bytes. Unit {0}) disk.old disk.new }
+    ensures besides { IsTrue (D.tells disk.old) → Besides file (D.held disk.old) (D.held disk.new) }
+
+    ensures telling { D.tells disk.new ≡ D.tells disk.old }
+    ensures cause { HasCause (D.faults disk.old) (D.faults disk.new) result }
+    ensures no_read { D.reads disk.new ≡ D.reads disk.old }
+{
+    disk.cut(file, 0)?;
+    write_through(disk, file, 0, &EMPTY)
+}
+
+/// Adds a record to a segment. It makes four calls of the device: the body with the next gate, which is closed, a sync,
+/// the gate, and a sync. It takes no memory. A refused call leaves `seg` as it was; the file may then hold the record or
+/// not, so no further record is to be added to it before it is scanned again.
+///
+/// The gate is written alone, once the body lasts: until then the gate before the body is closed on the disk, whatever a
+/// crash leaves of the body.
+pub fn append<D: Device>(disk: &mut D, seg: &mut Segment, entry: &Prepared) -> Result<(), Failed>
+    requires number { entry.now.number ≡ seg.old.first + seg.old.count }
+    requires limit { entry.now.number < 4294967295 }
+
+    // Where the only image of the file holds these batches and then a closed gate at the shown place, every image since
+    // the start holds the earlier batches alone, or these and the new one.
+    ensures any_moment { (batches : List (List Span)) (spans : List Span) (known : List ℕ) → IsTrue (D.tells disk.old)
+        → OnlyBytes seg.old.file known (D.may_leave disk.old) → StandsFor seg.old.first batches seg.old.gate known
+        → length batches ≡ seg.old.count → IsBody entry.now.number spans entry.now.body
+        → Passes D.moment D.left_since D.may_leave seg.old.file (KeepsEarlierOrWith seg.old.first batches spans) (KeepsEarlierOrWith seg.old.first batches spans) disk.old disk.new }
+
+    // At `Ok` every image holds the new one, and the segment shows it.
+    ensures acknowledged { (batches : List (List Span)) (spans : List Span) (known : List ℕ) → IsTrue (D.tells disk.old)
+        → OnlyBytes seg.old.file known (D.may_leave disk.old) → StandsFor seg.old.first batches seg.old.gate known
+        → length batches ≡ seg.old.count → IsBody entry.now.number spans entry.now.body
+        → OnOk result (StandsFor seg.old.first (batches ++ spans ∷ []) seg.new.gate (bytes_of (D.held disk.new) seg.old.file)
+        × OnlyBytes seg.old.file (bytes_of (D.held disk.new) seg.old.file) (D.may_leave disk.new)) }
+    ensures shown { OnOk result ((seg.new.file ≡ seg.old.file) × (seg.new.first ≡ seg.old.first) × (seg.new.count ≡ seg.old.count + 1)) }
+    ensures stays { OnErr result (seg.new ≡ seg.old) }
+
+    ensures besides { IsTrue (D.tells disk.old) → Besides seg.old.file (D.held disk.old) (D.held disk.new) }
+    ensures telling { D.tells disk.new ≡ D.tells disk.old }
+    ensures cause { HasCause (D.faults disk.old) (D.faults disk.new) result }
+    ensures no_read { D.reads disk.new ≡ D.reads disk.old }
+{
+    let text = entry.text();
+    append_record(disk, seg.file, seg.gate, text)?;
+    seg.gate += text.len() as u64;
+    seg.count += 1;
+    Ok(())
+}
+
+/// Adds a record to the bytes of a segment: its body behind the closed gate, with the next gate, and then the gate.
+///
+/// Each of the two writes is synced before the next step, so four calls of the device are made. The gate is written
+/// alone: while the body is written, the gate before it is closed on the disk, whatever a crash leaves of the body.
+fn append_record<D: Device>(disk: &mut D, file: u32, gate: u64, text: &[u8]) -> Result<(), Failed>
+    requires { gate < 2 ^ 63 }
+
+    // Every image since the start holds the earlier records alone, or these and the new one.
+    ensures any_moment { (bodies : List (List ℕ)) (body known : List ℕ) → IsTrue (D.tells disk.old) → text.now ≡ framed body → length body < 2 ^ 64
+        → OnlyBytes file known (D.may_leave disk.old) → HasBodies bodies gate known
+        → Passes D.moment D.left_since D.may_leave file (IsEarlierOrWith bodies body) (IsEarlierOrWith bodies body) disk.old disk.new }
+
+    // At `Ok` every image holds the new one.
+    ensures acknowledged { (bodies : List (List ℕ)) (body known : List ℕ) → IsTrue (D.tells disk.old) → text.now ≡ framed body → length body < 2 ^ 64
+        → OnlyBytes file known (D.may_leave disk.old) → HasBodies bodies gate known
+        → OnOk result (HasBodies (bodies ++ body ∷ []) (gate + length text.now) (bytes_of (D.held disk.new) file)
+        × OnlyBytes file (bytes_of (D.held disk.new) file) (D.may_leave disk.new)) }
+
+    ensures near { OnOk result (gate + length text.now < 2 ^ 63) }
+    ensures besides { IsTrue (D.tells disk.old) → Besides file (D.held disk.old) (D.held disk.new) }
+    ensures telling { D.tells disk.new ≡ D.tells disk.old }
+    ensures cause { HasCause (D.faults disk.old) (D.faults disk.new) result }
+    ensures no_read { D.reads disk.new ≡ D.reads disk.old }
+{
+    write_through(disk, file, gate + 1, text)?;
+    write_through(disk, file, gate, &[OPEN])
+}

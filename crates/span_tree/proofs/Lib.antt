@@ -1,0 +1,6 @@
+pub mod Ids
+pub mod BuildLaws
+pub mod ReachLaws
+pub mod MemberLaws
+pub mod RelationLaws
+pub mod NumberedRows
