@@ -49,8 +49,8 @@ further text front rest past later is parts = is ∙ ap (λ xs. front ++ xs) par
 pub progress_empty : (text rest past later : List ℕ) (replies : List Reply) (history : History) → Progress text rest replies history →
     rest ≡ past ++ later → lines rest ≡ [] ∷ lines later → Progress text later replies history
 progress_empty text rest past later replies history p parts next = record {
-    front = p.front ++ past;
-    text_is = further text p.front rest past later p.text_is parts;
+  front = p.front ++ past;
+  text_is = further text p.front rest past later p.text_is parts;
   answered = p.answered ++ [] ∷ [];
   lines_are = one_more (lines text) p.answered (lines rest) (lines later) [] p.lines_are next;
   session = Session-empty [] history p.answered replies p.session;
@@ -60,8 +60,8 @@ pub progress_line : (text rest past later : List ℕ) (replies : List Reply) (hi
     Progress text rest replies history → rest ≡ past ++ later → lines rest ≡ (b ∷ bs) ∷ lines later → IsAnsweredOrStarved (request_of (b ∷ bs)) history reply after →
     Progress text later (replies ++ reply ∷ []) after
 progress_line text rest past later replies history after b bs reply p parts next a = record {
-    front = p.front ++ past;
-    text_is = further text p.front rest past later p.text_is parts;
+  front = p.front ++ past;
+  text_is = further text p.front rest past later p.text_is parts;
   answered = p.answered ++ (b ∷ bs) ∷ [];
   lines_are = one_more (lines text) p.answered (lines rest) (lines later) (b ∷ bs) p.lines_are next;
   session = Session-line [] history after p.answered replies b bs reply p.session a;
@@ -78,8 +78,8 @@ pub rows_of_entries-push : (n : ℕ) (entries : List Entry) (spans : List Span) 
 rows_of_entries-push n [] spans = append-nil (rows_from n 0 spans) ∙ ap (λ k. rows_from k 0 spans) (sym (add-zero n))
 rows_of_entries-push n (Accepted p ∷ ps) spans =
     ap (λ rs. rows_from n 0 p ++ rs) (rows_of_entries-push (n + 1) ps spans)
-      ∙ ap (λ k. rows_from n 0 p ++ (rows_of_entries (n + 1) ps ++ rows_from k 0 spans)) (count n (length ps))
-      ∙ sym (append_assoc (rows_from n 0 p) (rows_of_entries (n + 1) ps) (rows_from (n + suc (length ps)) 0 spans))
+    ∙ ap (λ k. rows_from n 0 p ++ (rows_of_entries (n + 1) ps ++ rows_from k 0 spans)) (count n (length ps))
+    ∙ sym (append_assoc (rows_from n 0 p) (rows_of_entries (n + 1) ps) (rows_from (n + suc (length ps)) 0 spans))
   where
     count : (n k : ℕ) → n + 1 + k ≡ n + suc k
     count n k = omega arith
