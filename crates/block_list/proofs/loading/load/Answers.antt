@@ -1,0 +1,35 @@
+use Rattle.std.proofs.Common.{◌≡◌, ℕ, List, Option, IsTrue, sym, ◌∙◌, subst}
+use Rattle.disk_model.specs.Images.{bytes_of}
+use Rattle.block_list.specs.Slots.{Stands, StandsFor}
+use Rattle.block_list.proofs.LoadLemmas.{kept_then}
+use Rattle.block_list.proofs.loading.load.Goals as goal
+
+pub returns-in_err-clear_both-clause-kept : goal.returns-in_err-clear_both-clause-kept
+returns-in_err-clear_both-clause-kept g c = λ told.
+    kept_then g.D.Device.moment g.D.Device.left_since g.D.Device.may_leave c.args.disk.now c.read_both.new.disk c.clear_both.new.disk c.read_both.ensures.kept (c.clear_both.ensures.kept (subst IsTrue (sym c.read_both.ensures.telling) told))
+
+pub returns-clause-kept : goal.returns-clause-kept
+returns-clause-kept g c = λ told.
+    kept_then g.D.Device.moment g.D.Device.left_since g.D.Device.may_leave c.args.disk.now c.read_both.new.disk c.clear_both.new.disk c.read_both.ensures.kept (c.clear_both.ensures.kept (subst IsTrue (sym c.read_both.ensures.telling) told))
+
+-- the list is that of the bytes that the disk held
+pub returns-clause-list : goal.returns-clause-list
+returns-clause-list g c = λ told.
+    let held = g.D.Device.held c.args.disk.now in
+    let first : c.deref.result.now ≡ bytes_of held 0 = c.deref.ensures.value ∙ c.in_ok-first.ensures.first told in
+    let second : c.deref-2.result.now ≡ bytes_of held 1 = c.deref-2.ensures.value ∙ c.in_ok-first.ensures.second told in
+    subst (λ (b : List ℕ). Stands 0 (bytes_of held 0) b c.in_ok-list.list) second
+    (subst (λ (b : List ℕ). Stands 0 b c.deref-2.result.now c.in_ok-list.list) first c.in_ok-list.ensures.stands)
+
+-- and the cuts keep it
+pub returns-clause-same_list : goal.returns-clause-same_list
+returns-clause-same_list g c = λ told.
+    let held = g.D.Device.held c.args.disk.now in
+    let new = g.D.Device.held c.clear_both.new.disk in
+    let told_mid : IsTrue (g.D.Device.tells c.read_both.new.disk) = subst IsTrue (sym c.read_both.ensures.telling) told in
+    let told_new : IsTrue (g.D.Device.tells c.clear_both.new.disk) = subst IsTrue (sym c.clear_both.ensures.telling) told_mid in
+    let r = (c.clear_both.ensures.kept told_mid).now new (g.met.D.Device.held_may_stay c.clear_both.new.disk told_new) in
+    let stands : StandsFor r.0 c.in_ok-list.list =
+    subst (λ (b : List ℕ). Stands 0 (bytes_of r.0 0) b c.in_ok-list.list) (sym (c.in_ok-first.ensures.slot_1 told r.0 r.1))
+    (subst (λ (b : List ℕ). Stands 0 b (bytes_of held 1) c.in_ok-list.list) (sym (c.in_ok-first.ensures.slot_0 told r.0 r.1)) (returns-clause-list g c told)) in
+    r.2.list c.in_ok-list.list stands

@@ -1,0 +1,39 @@
+-- What loading a list answers, and what it leaves.
+use Rattle.std.specs.Prelude.{◌≡◌, ◌⊎◌, ℕ, ◌<◌, ◌≤◌, Option, Some, None, List, length, take, ◌&&◌, nat_le, if◌then◌else◌, Result, Ok, Err}
+use Rattle.disk_model.specs.Images.{Image, bytes_of}
+use Rattle.disk_model.specs.Crash.{Reached, Within, LeavesOnly}
+use Rattle.block_list.specs.Slots.{IsOpen, StandsFor}
+use Rattle.block_list.specs.Reading.{is_vacant}
+use Rattle.block_list.specs.declared.body.ListBody.{ListBody}
+use Rattle.block_list.specs.declared.error.ListError.{ListError}
+use Rattle.block_list.specs.declared.error.ListError.TheVariants.{Fault, NotList, Memory}
+
+-- the error of a slot that breaks at a place, or of want of memory
+abbrev pub error_of : ℕ → Option ℕ → ListError
+error_of slot None = Memory
+error_of slot (Some at) = NotList slot at
+
+-- what a call gave is what reading gives, or memory was wanted
+abbrev pub GivesList : {X : Type 0} → Result X ListError → Result X (ℕ × ℕ) → Type 0
+GivesList (Ok x) read = read ≡ Ok x
+GivesList (Err Memory) read = Unit {0}
+GivesList (Err (NotList slot at)) read = read ≡ Err (slot, at)
+GivesList (Err Fault) read = ⊥
+
+-- the new image stands for what the old one stood for, and has its files but for the two slots
+pub record Keeps (old new : Image) : Type 0 where
+  pub list : (found : Option ListBody) → StandsFor old found → StandsFor new found
+  pub files : (file : ℕ) → 2 ≤ file → bytes_of new file ≡ bytes_of old file
+
+-- A crash at any moment of the run, or after it, leaves what keeps some image that a crash might have left at its start.
+pub record KeptRun {D : Type 0} (moment : D → ℕ) (left_since : D → ℕ → Image → Type 0) (may_leave : D → Image → Type 0) (old new : D) : Type 0 where
+  pub since : LeavesOnly moment left_since old new (Reached Keeps (may_leave old))
+  pub now : Within (Reached Keeps (may_leave old)) (may_leave new)
+
+-- a list may be laid into the slot, if it doesn't hold the one that counts
+abbrev pub IsFree : List ℕ → Type 0
+IsFree bytes = IsOpen bytes ⊎ (length bytes < 30)
+
+-- a vacant slot of 30 bytes or more is cut to its first byte
+abbrev pub cleared : List ℕ → List ℕ
+cleared bytes = if is_vacant bytes && nat_le 30 (length bytes) then take 1 bytes else bytes

@@ -1,0 +1,91 @@
+// A list is written into the slot of its generation, and its gate is opened.
+ghost use Rattle.std.specs.Prelude.{◌≡◌, ◌∷◌, ◌++◌, ◌-◌, ◌%◌, Option, Some, List, ℕ, IsTrue, OnOk};
+ghost use Rattle.disk_model.specs.Images.{Image, bytes_of, Besides};
+ghost use Rattle.disk_model.specs.Crash.{OnlyBytes, LeavesOnly, Passes, HasCause};
+ghost use Rattle.block_list.specs.Slots.{Stands, StandsFor, IsNext};
+ghost use Rattle.block_list.specs.Commit.{slot_of, laid, IsBody, CanLay, CanOpen, StandsForEither, StandEither};
+ghost use Rattle.block_list.specs.declared.body.ListBody.{ListBody};
+
+use crate::PreparedList;
+use disk_model::{Device, write_through};
+use span_types::Failed;
+
+/// Closes the slot of the list's generation, syncs, writes the list behind the closed gate, and syncs: four device calls.
+/// It takes no memory. At every moment the slots stand for the list that counted before.
+pub fn lay<D: Device>(disk: &mut D, list: &PreparedList) -> Result<(), Failed>
+    requires { IsTrue (D.tells disk.old) → CanLay (D.held disk.old) (D.may_leave disk.old) list.now }
+
+    // A crash at any moment leaves the old list.
+    ensures any_moment { IsTrue (D.tells disk.old) → (old : Option ListBody) → StandsFor (D.held disk.old) old → IsNext list.now.generation old
+        → LeavesOnly D.moment D.left_since disk.old disk.new (λ image. StandsFor image old) }
+    // It leaves every file but this slot as a crash might have left it before.
+    ensures passes { IsTrue (D.tells disk.old) → (old : Option ListBody) → StandsFor (D.held disk.old) old → IsNext list.now.generation old
+        → Passes D.moment D.left_since D.may_leave (slot_of list.now)
+        (λ bytes. Stands (slot_of list.now) bytes (bytes_of (D.held disk.old) (1 - slot_of list.now)) old)
+        (λ bytes. Stands (slot_of list.now) bytes (bytes_of (D.held disk.old) (1 - slot_of list.now)) old) disk.old disk.new }
+    ensures in_place { IsTrue (D.tells disk.old) → OnOk result (OnlyBytes (slot_of list.now) (laid list.now.text (bytes_of (D.held disk.old) (slot_of list.now))) (D.may_leave disk.new)) }
+    ensures besides { IsTrue (D.tells disk.old) → Besides (slot_of list.now) (D.held disk.old) (D.held disk.new) }
+
+    ensures telling { D.tells disk.new ≡ D.tells disk.old }
+    ensures cause { HasCause (D.faults disk.old) (D.faults disk.new) result }
+    ensures no_read { D.reads disk.new ≡ D.reads disk.old }
+{
+    let slot = list.slot();
+    write_through(disk, slot, 0, &[0])?;
+    write_through(disk, slot, 1, list.text())
+}
+
+/// Opens the gate of a list that was laid, and syncs: two device calls. It takes no memory. At every moment the slots
+/// stand for the list that counted before or for this one, and at `Ok` for this one.
+pub fn open_gate<D: Device>(disk: &mut D, list: &PreparedList) -> Result<(), Failed>
+    requires { IsTrue (D.tells disk.old) → CanOpen (D.held disk.old) (D.may_leave disk.old) list.now }
+
+    // A crash at any moment leaves the old list or the new one.
+    ensures any_moment { IsTrue (D.tells disk.old) → (old : Option ListBody) (new : ListBody) → StandsFor (D.held disk.old) old → IsNext list.now.generation old → IsBody list.now new
+        → LeavesOnly D.moment D.left_since disk.old disk.new (StandsForEither old new) }
+    // It leaves every file but this slot as a crash might have left it before.
+    ensures passes { IsTrue (D.tells disk.old) → (old : Option ListBody) (new : ListBody) → StandsFor (D.held disk.old) old → IsNext list.now.generation old → IsBody list.now new
+        → Passes D.moment D.left_since D.may_leave (slot_of list.now)
+        (StandEither (slot_of list.now) (bytes_of (D.held disk.old) (1 - slot_of list.now)) old new)
+        (StandEither (slot_of list.now) (bytes_of (D.held disk.old) (1 - slot_of list.now)) old new) disk.old disk.new }
+
+    // At `Ok` every image stands for the new list, and each slot has one image, which is what a read gives.
+    ensures counts { IsTrue (D.tells disk.old) → (new : ListBody) → IsBody list.now new → OnOk result ((image : Image) → D.may_leave disk.new image → StandsFor image (Some new)) }
+    ensures slot_0 { IsTrue (D.tells disk.old) → OnOk result (OnlyBytes 0 (bytes_of (D.held disk.new) 0) (D.may_leave disk.new)) }
+    ensures slot_1 { IsTrue (D.tells disk.old) → OnOk result (OnlyBytes 1 (bytes_of (D.held disk.new) 1) (D.may_leave disk.new)) }
+    ensures besides { IsTrue (D.tells disk.old) → Besides (slot_of list.now) (D.held disk.old) (D.held disk.new) }
+
+    ensures telling { D.tells disk.new ≡ D.tells disk.old }
+    ensures cause { HasCause (D.faults disk.old) (D.faults disk.new) result }
+    ensures no_read { D.reads disk.new ≡ D.reads disk.old }
+{
+    write_through(disk, list.slot(), 0, &[1])
+}
+
+/// Writes a list into the slot of its generation: it is laid, and its gate is opened. It takes no memory. At every moment
+/// the slots stand for the list that counted before or for this one, and at `Ok` for this one.
+pub fn commit<D: Device>(disk: &mut D, list: &PreparedList) -> Result<(), Failed>
+    requires { IsTrue (D.tells disk.old) → CanLay (D.held disk.old) (D.may_leave disk.old) list.now }
+
+    // A crash at any moment leaves the old list or the new one.
+    ensures any_moment { IsTrue (D.tells disk.old) → (old : Option ListBody) (new : ListBody) → StandsFor (D.held disk.old) old → IsNext list.now.generation old → IsBody list.now new
+        → LeavesOnly D.moment D.left_since disk.old disk.new (StandsForEither old new) }
+    // It leaves every file but this slot as a crash might have left it before.
+    ensures passes { IsTrue (D.tells disk.old) → (old : Option ListBody) (new : ListBody) → StandsFor (D.held disk.old) old → IsNext list.now.generation old → IsBody list.now new
+        → Passes D.moment D.left_since D.may_leave (slot_of list.now)
+        (StandEither (slot_of list.now) (bytes_of (D.held disk.old) (1 - slot_of list.now)) old new)
+        (StandEither (slot_of list.now) (bytes_of (D.held disk.old) (1 - slot_of list.now)) old new) disk.old disk.new }
+
+    // At `Ok` every image stands for the new list, and each slot has one image, which is what a read gives.
+    ensures counts { IsTrue (D.tells disk.old) → (new : ListBody) → IsBody list.now new → OnOk result ((image : Image) → D.may_leave disk.new image → StandsFor image (Some new)) }
+    ensures slot_0 { IsTrue (D.tells disk.old) → OnOk result (OnlyBytes 0 (bytes_of (D.held disk.new) 0) (D.may_leave disk.new)) }
+    ensures slot_1 { IsTrue (D.tells disk.old) → OnOk result (OnlyBytes 1 (bytes_of (D.held disk.new) 1) (D.may_leave disk.new)) }
+    ensures besides { IsTrue (D.tells disk.old) → Besides (slot_of list.now) (D.held disk.old) (D.held disk.new) }
+
+    ensures telling { D.tells disk.new ≡ D.tells disk.old }
+    ensures cause { HasCause (D.faults disk.old) (D.faults disk.new) result }
+    ensures no_read { D.reads disk.new ≡ D.reads disk.old }
+{
+    lay(disk, list)?;
+    open_gate(disk, list)
+}

@@ -1,0 +1,18 @@
+//! The list of segments, blocks and loose files of a store: two slots, of which one counts, at every crash.
+#![tactic(auto)]
+
+mod body;
+mod committing;
+mod error;
+mod loading;
+mod prepared;
+mod reading;
+
+pub use body::{BlockList, BlockRef, FileList, ListBody, SegmentList, SegmentRef};
+pub use committing::{commit, lay, open_gate};
+pub use error::ListError;
+pub use loading::load;
+pub use prepared::{PreparedList, prepare};
+
+#[cfg(test)]
+mod tests;

@@ -1,0 +1,196 @@
+// The list that counts is read from the two slots.
+ghost use Rattle.std.specs.Prelude.{◌≡◌, ◌≢◌, ◌⊎◌, ◌<◌, ◌≤◌, ℕ, List, Option, Some, None, Ok, Err, IsTrue, IfOk, IfErr, OnOk};
+ghost use Rattle.span_types.specs.Faults.{Rose};
+ghost use Rattle.disk_model.specs.Images.{Image, bytes_of, Besides, SameBytes};
+ghost use Rattle.disk_model.specs.Crash.{Within, OnlyBytes, HasCause};
+ghost use Rattle.block_list.specs.Slots.{Stands, StandsFor};
+ghost use Rattle.block_list.specs.Reading.{slots_at, newer_of, generation_of};
+ghost use Rattle.block_list.specs.Loading.{GivesList, error_of, KeptRun, IsFree, cleared};
+ghost use Rattle.block_list.specs.declared.error.ListError.TheVariants.{Fault, NotList, Memory};
+
+use crate::reading::{Break, is_vacant, read_slot};
+use crate::{ListBody, ListError};
+use disk_model::{Device, cut_through};
+use span_types::Failed;
+use std::alloc::Global;
+
+/// The list that counts, read from the two slots: both are synced and read, and a vacant slot of 30 bytes or more is cut
+/// to its first byte and synced. `None` comes exactly where both are vacant.
+///
+/// A closing gate may then be written to a slot whatever stands in it: it is either open, and holds the list before the
+/// one that counts, or too short to hold one. An `Err` leaves the disk for another call.
+pub fn load<D: Device>(alloc: Global, disk: &mut D) -> Result<Option<ListBody>, ListError>
+    // What the slots say, and where they break, is by the bytes that the disk held.
+    ensures found { IsTrue (D.tells disk.old) → IfOk result (λ list. slots_at (bytes_of (D.held disk.old) 0) (bytes_of (D.held disk.old) 1) ≡ Ok list) }
+    ensures list { IsTrue (D.tells disk.old) → IfOk result (λ list. StandsFor (D.held disk.old) list) }
+    ensures not_list { IsTrue (D.tells disk.old) → (slot at : ℕ) → result ≡ Err (NotList slot at) → slots_at (bytes_of (D.held disk.old) 0) (bytes_of (D.held disk.old) 1) ≡ Err (slot, at) }
+
+    // A crash at any moment leaves what stands for what some image stood for at the start, with every other file.
+    ensures kept { IsTrue (D.tells disk.old) → KeptRun D.moment D.left_since D.may_leave disk.old disk.new }
+
+    // At `Ok` the disk still stands for the list, each slot has one image, which is what a read gives, and a list may be
+    // laid into it.
+    ensures same_list { IsTrue (D.tells disk.old) → IfOk result (λ list. StandsFor (D.held disk.new) list) }
+    ensures slot_0 { IsTrue (D.tells disk.old) → OnOk result (OnlyBytes 0 (bytes_of (D.held disk.new) 0) (D.may_leave disk.new)) }
+    ensures slot_1 { IsTrue (D.tells disk.old) → OnOk result (OnlyBytes 1 (bytes_of (D.held disk.new) 1) (D.may_leave disk.new)) }
+    ensures cleared_0 { IsTrue (D.tells disk.old) → OnOk result (bytes_of (D.held disk.new) 0 ≡ cleared (bytes_of (D.held disk.old) 0)) }
+    ensures cleared_1 { IsTrue (D.tells disk.old) → OnOk result (bytes_of (D.held disk.new) 1 ≡ cleared (bytes_of (D.held disk.old) 1)) }
+    ensures free_0 { IsTrue (D.tells disk.old) → OnOk result (IsFree (bytes_of (D.held disk.new) 0)) }
+    ensures free_1 { IsTrue (D.tells disk.old) → OnOk result (IsFree (bytes_of (D.held disk.new) 1)) }
+    ensures others { IsTrue (D.tells disk.old) → (file : ℕ) → 2 ≤ file → bytes_of (D.held disk.new) file ≡ bytes_of (D.held disk.old) file }
+
+    ensures telling { D.tells disk.new ≡ D.tells disk.old }
+    ensures later { D.faults disk.old ≤ D.faults disk.new }
+    ensures fault { result ≡ Err Fault → Rose (D.faults disk.old) (D.faults disk.new) }
+{
+    let (first, second) = read_both(alloc, disk)?;
+    let list = read_slots(alloc, &first, &second)?;
+    clear_both(disk, &first, &second)?;
+    Ok(list)
+}
+
+/// What the two slots say.
+#[tactic(auto, unfolding(crate::specs::Reading::slots_at))]
+fn read_slots(alloc: Global, first: &[u8], second: &[u8]) -> Result<Option<ListBody>, ListError>
+    ensures reads { GivesList result (slots_at first.now second.now) }
+    ensures stands { IfOk result (Stands 0 first.now second.now) }
+{
+    let one = match read_slot(alloc, first, 0, None) {
+        Ok(one) => one,
+        Err(at) => return Err(broken(0, at)),
+    };
+    let two = match read_slot(alloc, second, 1, generation_of(&one)) {
+        Ok(two) => two,
+        Err(at) => return Err(broken(1, at)),
+    };
+    Ok(newer_of(one, two))
+}
+
+/// What is said of a slot that breaks.
+fn broken(slot: u32, at: Break) -> ListError
+    ensures { result ≡ error_of slot at }
+{
+    match at {
+        Some(at) => ListError::NotList { slot, at },
+        None => ListError::Memory,
+    }
+}
+
+fn generation_of(list: &Option<ListBody>) -> Option<u8>
+    ensures { result ≡ generation_of list.now }
+{
+    match list {
+        None => None,
+        Some(body) => Some(body.generation),
+    }
+}
+
+/// Of two lists the one that is the other's successor.
+fn newer_of(first: Option<ListBody>, second: Option<ListBody>) -> Option<ListBody>
+    ensures { result ≡ newer_of first second }
+{
+    match (first, second) {
+        (None, second) => second,
+        (Some(first), None) => Some(first),
+        (Some(first), Some(second)) => {
+            if second.generation == first.generation.wrapping_add(1) {
+                Some(second)
+            } else {
+                Some(first)
+            }
+        }
+    }
+}
+
+/// Syncs both slots: a crash leaves of them what a read gives.
+fn sync_slots<D: Device>(disk: &mut D) -> Result<(), Failed>
+    ensures kept { KeptRun D.moment D.left_since D.may_leave disk.old disk.new }
+    ensures slot_0 { IsTrue (D.tells disk.old) → OnOk result (OnlyBytes 0 (bytes_of (D.held disk.new) 0) (D.may_leave disk.new)) }
+    ensures slot_1 { IsTrue (D.tells disk.old) → OnOk result (OnlyBytes 1 (bytes_of (D.held disk.new) 1) (D.may_leave disk.new)) }
+    ensures same_bytes { IsTrue (D.tells disk.old) → SameBytes (D.held disk.old) (D.held disk.new) }
+    ensures telling { D.tells disk.new ≡ D.tells disk.old }
+    ensures cause { HasCause (D.faults disk.old) (D.faults disk.new) result }
+{
+    disk.sync(0)?;
+    disk.sync(1)
+}
+
+/// All bytes of a file.
+fn read_file<D: Device>(alloc: Global, disk: &mut D, file: u32) -> Result<Vec<u8>, ListError>
+    ensures bytes { IsTrue (D.tells disk.old) → IfOk result (λ bytes. bytes.items ≡ bytes_of (D.held disk.old) file) }
+    ensures kept { KeptRun D.moment D.left_since D.may_leave disk.old disk.new }
+    ensures crash { Within (D.may_leave disk.old) (D.may_leave disk.new) }
+    ensures same_bytes { IsTrue (D.tells disk.old) → SameBytes (D.held disk.old) (D.held disk.new) }
+    ensures telling { D.tells disk.new ≡ D.tells disk.old }
+    ensures later { D.faults disk.old ≤ D.faults disk.new }
+    ensures fault { result ≡ Err Fault → Rose (D.faults disk.old) (D.faults disk.new) }
+    ensures errors { IfErr result (λ error. (error ≡ Fault) ⊎ (error ≡ Memory)) }
+{
+    let len = disk.len(file)?;
+    let Ok(mut bytes) = vec![in alloc; 0; len as usize] else {
+        return Err(ListError::Memory);
+    };
+    let count = disk.read(file, 0, &mut bytes)?;
+    bytes.truncate(count);
+    Ok(bytes)
+}
+
+/// Cuts a vacant slot of 30 bytes or more to its first byte, and syncs it.
+fn clear_vacant<D: Device>(disk: &mut D, slot: u32, bytes: &[u8]) -> Result<(), Failed>
+    requires slot { slot < 2 }
+    requires only { IsTrue (D.tells disk.old) → OnlyBytes slot bytes.now (D.may_leave disk.old) }
+    requires held { IsTrue (D.tells disk.old) → bytes_of (D.held disk.old) slot ≡ bytes.now }
+    ensures kept { IsTrue (D.tells disk.old) → KeptRun D.moment D.left_since D.may_leave disk.old disk.new }
+    ensures only { IsTrue (D.tells disk.old) → OnOk result (OnlyBytes slot (bytes_of (D.held disk.new) slot) (D.may_leave disk.new)) }
+    ensures cleared { IsTrue (D.tells disk.old) → OnOk result (bytes_of (D.held disk.new) slot ≡ cleared bytes.now) }
+    ensures free { IsTrue (D.tells disk.old) → OnOk result (IsFree (bytes_of (D.held disk.new) slot)) }
+    ensures besides { IsTrue (D.tells disk.old) → Besides slot (D.held disk.old) (D.held disk.new) }
+    ensures other_images { (other : ℕ) (bytes : List ℕ) → other ≢ slot → OnlyBytes other bytes (D.may_leave disk.old) → OnlyBytes other bytes (D.may_leave disk.new) }
+    ensures telling { D.tells disk.new ≡ D.tells disk.old }
+    ensures cause { HasCause (D.faults disk.old) (D.faults disk.new) result }
+{
+    if is_vacant(bytes) && bytes.len() >= 30 {
+        return cut_through(disk, slot, 1);
+    }
+    Ok(())
+}
+
+/// The bytes of both slots, which are synced first.
+fn read_both<D: Device>(alloc: Global, disk: &mut D) -> Result<(Vec<u8>, Vec<u8>), ListError>
+    ensures first { IsTrue (D.tells disk.old) → IfOk result (λ both. both.0.items ≡ bytes_of (D.held disk.old) 0) }
+    ensures second { IsTrue (D.tells disk.old) → IfOk result (λ both. both.1.items ≡ bytes_of (D.held disk.old) 1) }
+    ensures kept { KeptRun D.moment D.left_since D.may_leave disk.old disk.new }
+    ensures slot_0 { IsTrue (D.tells disk.old) → OnOk result (OnlyBytes 0 (bytes_of (D.held disk.old) 0) (D.may_leave disk.new)) }
+    ensures slot_1 { IsTrue (D.tells disk.old) → OnOk result (OnlyBytes 1 (bytes_of (D.held disk.old) 1) (D.may_leave disk.new)) }
+    ensures same_bytes { IsTrue (D.tells disk.old) → SameBytes (D.held disk.old) (D.held disk.new) }
+    ensures telling { D.tells disk.new ≡ D.tells disk.old }
+    ensures later { D.faults disk.old ≤ D.faults disk.new }
+    ensures fault { result ≡ Err Fault → Rose (D.faults disk.old) (D.faults disk.new) }
+    ensures errors { IfErr result (λ error. (error ≡ Fault) ⊎ (error ≡ Memory)) }
+{
+    sync_slots(disk)?;
+    let first = read_file(alloc, disk, 0)?;
+    let second = read_file(alloc, disk, 1)?;
+    Ok((first, second))
+}
+
+/// Clears each slot, if it is vacant and long. These are their bytes.
+fn clear_both<D: Device>(disk: &mut D, first: &[u8], second: &[u8]) -> Result<(), Failed>
+    requires only_0 { IsTrue (D.tells disk.old) → OnlyBytes 0 first.now (D.may_leave disk.old) }
+    requires only_1 { IsTrue (D.tells disk.old) → OnlyBytes 1 second.now (D.may_leave disk.old) }
+    requires held_0 { IsTrue (D.tells disk.old) → bytes_of (D.held disk.old) 0 ≡ first.now }
+    requires held_1 { IsTrue (D.tells disk.old) → bytes_of (D.held disk.old) 1 ≡ second.now }
+    ensures kept { IsTrue (D.tells disk.old) → KeptRun D.moment D.left_since D.may_leave disk.old disk.new }
+    ensures slot_0 { IsTrue (D.tells disk.old) → OnOk result (OnlyBytes 0 (bytes_of (D.held disk.new) 0) (D.may_leave disk.new)) }
+    ensures slot_1 { IsTrue (D.tells disk.old) → OnOk result (OnlyBytes 1 (bytes_of (D.held disk.new) 1) (D.may_leave disk.new)) }
+    ensures cleared_0 { IsTrue (D.tells disk.old) → OnOk result (bytes_of (D.held disk.new) 0 ≡ cleared first.now) }
+    ensures cleared_1 { IsTrue (D.tells disk.old) → OnOk result (bytes_of (D.held disk.new) 1 ≡ cleared second.now) }
+    ensures free_0 { IsTrue (D.tells disk.old) → OnOk result (IsFree (bytes_of (D.held disk.new) 0)) }
+    ensures free_1 { IsTrue (D.tells disk.old) → OnOk result (IsFree (bytes_of (D.held disk.new) 1)) }
+    ensures others { IsTrue (D.tells disk.old) → (file : ℕ) → 2 ≤ file → bytes_of (D.held disk.new) file ≡ bytes_of (D.held disk.old) file }
+    ensures telling { D.tells disk.new ≡ D.tells disk.old }
+    ensures cause { HasCause (D.faults disk.old) (D.faults disk.new) result }
+{
+    clear_vacant(disk, 0, first)?;
+    clear_vacant(disk, 1, second)
+}
