@@ -13,6 +13,3 @@ pub use committing::{commit, lay, open_gate};
 pub use error::ListError;
 pub use loading::load;
 pub use prepared::{PreparedList, prepare};
-
-#[cfg(test)]
-mod tests;

@@ -15,6 +15,3 @@ mod tree;
 pub use node::Node;
 pub use steps::Steps;
 pub use tree::Tree;
-
-#[cfg(test)]
-mod tests;

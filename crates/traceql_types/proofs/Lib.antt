@@ -1,0 +1,5 @@
+pub mod Firsts
+pub mod Flat
+pub mod Made
+pub mod OfKinds
+pub mod Readings

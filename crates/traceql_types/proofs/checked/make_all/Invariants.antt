@@ -1,0 +1,11 @@
+use Rattle.std.proofs.Common.{◌≤◌, take, map}
+use Rattle.span_types.specs.Faults.{Rose}
+use Rattle.traceql_types.specs.Checks.{Stands}
+use Rattle.traceql_types.specs.Shown.{shown}
+use Rattle.traceql_types.proofs.checked.make_all.Given as goal
+
+abbrev pub invariant-loop-pattern : goal.invariant-loop-pattern
+invariant-loop-pattern g l = record {
+  stands : Stands l.initial.first (map shown (take l.pattern-index l.pattern-items)) (Rose (g.P.PatternMaker.refusals l.fn.maker) (g.P.PatternMaker.refusals l.maker)) l.first l.made.items;
+  counted : g.P.PatternMaker.refusals l.fn.maker ≤ g.P.PatternMaker.refusals l.maker;
+}

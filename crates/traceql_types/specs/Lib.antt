@@ -1,0 +1,9 @@
+pub mod Asked
+pub mod Checks
+pub mod Kinds
+pub mod Makers
+pub mod Order
+pub mod Patterns
+pub mod Refusals
+pub mod Shown
+pub mod Whole
