@@ -24,8 +24,8 @@ pub fn first_rows(alloc: Global, rows: Rows) -> Result<Rows, Memory>
     Ok(Rows::of(kept))
 }
 
-/// The first occurrences of what `firsts` are the first occurrences of, followed by more rows. So the order in which
-/// parts are joined doesn't matter: first occurrences are kept by their parts.
+/// The first occurrences of what `firsts` are the first occurrences of, followed by more rows. So they can be joined part
+/// by part; where no two rows have one place, the order of the parts doesn't matter.
 pub fn first_rows_more(alloc: Global, firsts: Rows, more: Rows) -> Result<Rows, Memory>
     ensures { IfOk result (λ all. (base : List Row) → IsFirstOf base firsts → IsFirstOf (base ++ more) all) }
 {

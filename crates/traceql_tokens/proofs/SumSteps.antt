@@ -68,9 +68,9 @@ capped_sum a w u c h (inr large) =
     omega arith
 
 -- the same digits times powers of ten
-total_arith : (W D0 S0 D1 D2 carry dw df u A B C E M : ℕ) → W * A + D0 ≡ S0 → D1 ≡ D0 * B → A * B ≡ M → D2 + carry * M ≡ D1 + u * df * E → C * E ≡ M → (W + dw * u + carry) * M + D2 ≡ S0 * B + (dw * C + df) * u * E
-total_arith W D0 S0 D1 D2 carry dw df u A B C E M e1 e2 e3 e4 e5 =
-    let m1 : (W * A + D0) * B ≡ S0 * B = ap (λ z. z * B) e1 in
+total_arith : (W da sa db dc carry dw df u A B C E M : ℕ) → W * A + da ≡ sa → db ≡ da * B → A * B ≡ M → dc + carry * M ≡ db + u * df * E → C * E ≡ M → (W + dw * u + carry) * M + dc ≡ sa * B + (dw * C + df) * u * E
+total_arith W da sa db dc carry dw df u A B C E M e1 e2 e3 e4 e5 =
+    let m1 : (W * A + da) * B ≡ sa * B = ap (λ z. z * B) e1 in
     let m2 : W * (A * B) ≡ W * M = ap (λ z. W * z) e3 in
     let m3 : (dw * u) * (C * E) ≡ (dw * u) * M = ap (λ z. (dw * u) * z) e5 in
     omega arith
