@@ -1,0 +1,123 @@
+//! Field expressions, filters and expressions over spansets.
+
+ghost use Rattle.std.specs.Prelude.{◌≡◌, OnOk};
+ghost use Rattle.traceql_syntax.specs.Trees.{tree, placed_option, set_tree};
+ghost use Rattle.traceql_print.specs.Kinds as kinds;
+ghost use Rattle.traceql_print.specs.Sheet.{put_all};
+
+use crate::sheet::Sheet;
+use crate::signs::{binary_sign, match_sign, set_sign, unary_sign};
+use span_types::Memory;
+use traceql_syntax::{FieldExpr, Operand, SpansetExpr};
+use traceql_tokens::Sign;
+
+fn is_binary(expr: &FieldExpr) -> bool
+    ensures { result ≡ kinds.is_binary (tree expr.now) }
+{
+    matches!(expr, FieldExpr::Binary { .. } | FieldExpr::Match { .. })
+}
+
+/// Writes an operand, in parentheses where it is binary itself.
+#[cycle(exprs)]
+fn write_operand(sheet: &mut Sheet, operand: &Operand) -> Result<(), Memory>
+    ensures { OnOk result (sheet.new ≡ put_all sheet.old (kinds.operand (kinds.is_binary (tree operand.now.expr)) (kinds.expr_kinds (tree operand.now.expr)))) }
+{
+    if !is_binary(&operand.expr) {
+        return write_expr(sheet, &operand.expr);
+    }
+    sheet.sign(Sign::OpenParen)?;
+    write_expr(sheet, &operand.expr)?;
+    sheet.sign(Sign::CloseParen)
+}
+
+/// Writes an expression.
+#[cycle(exprs)]
+pub(crate) fn write_expr(sheet: &mut Sheet, expr: &FieldExpr) -> Result<(), Memory>
+    ensures { OnOk result (sheet.new ≡ put_all sheet.old (kinds.expr_kinds (tree expr.now))) }
+{
+    match expr {
+        FieldExpr::Literal { literal, .. } => sheet.literal(literal),
+        FieldExpr::Field { field, .. } => sheet.field(field),
+        FieldExpr::Unary { op, operand, .. } => {
+            sheet.sign(unary_sign(*op))?;
+            write_operand(sheet, operand)
+        }
+        FieldExpr::Binary {
+            op,
+            left,
+            right,
+            ..
+        } => {
+            write_operand(sheet, left)?;
+            sheet.sign(binary_sign(*op))?;
+            write_operand(sheet, right)
+        }
+        FieldExpr::Match {
+            negated,
+            left,
+            pattern,
+            ..
+        } => {
+            write_operand(sheet, left)?;
+            sheet.sign(match_sign(*negated))?;
+            sheet.string(pattern.as_str())
+        }
+    }
+}
+
+fn write_condition(sheet: &mut Sheet, condition: &Option<Operand>) -> Result<(), Memory>
+    ensures { OnOk result (sheet.new ≡ put_all sheet.old (kinds.condition_kinds (placed_option condition.now))) }
+{
+    match condition {
+        Some(operand) => write_expr(sheet, &operand.expr),
+        None => Ok(()),
+    }
+}
+
+/// Writes a filter with its braces.
+pub(crate) fn write_filter(sheet: &mut Sheet, condition: &Option<Operand>) -> Result<(), Memory>
+    ensures { OnOk result (sheet.new ≡ put_all sheet.old (kinds.filter_kinds (placed_option condition.now))) }
+{
+    sheet.sign(Sign::OpenBrace)?;
+    write_condition(sheet, condition)?;
+    sheet.sign(Sign::CloseBrace)
+}
+
+fn is_join(spansets: &SpansetExpr) -> bool
+    ensures { result ≡ kinds.is_join (set_tree spansets.now) }
+{
+    matches!(spansets, SpansetExpr::Join { .. })
+}
+
+/// Writes an operand between spansets, in parentheses where it is an operator between spansets itself.
+#[cycle(sets)]
+fn write_set_operand(sheet: &mut Sheet, operand: &SpansetExpr) -> Result<(), Memory>
+    ensures { OnOk result (sheet.new ≡ put_all sheet.old (kinds.operand (kinds.is_join (set_tree operand.now)) (kinds.set_kinds (set_tree operand.now)))) }
+{
+    if !is_join(operand) {
+        return write_set(sheet, operand);
+    }
+    sheet.sign(Sign::OpenParen)?;
+    write_set(sheet, operand)?;
+    sheet.sign(Sign::CloseParen)
+}
+
+/// Writes an expression over spansets.
+#[cycle(sets)]
+pub(crate) fn write_set(sheet: &mut Sheet, spansets: &SpansetExpr) -> Result<(), Memory>
+    ensures { OnOk result (sheet.new ≡ put_all sheet.old (kinds.set_kinds (set_tree spansets.now))) }
+{
+    match spansets {
+        SpansetExpr::Filter { condition, .. } => write_filter(sheet, condition),
+        SpansetExpr::Join {
+            op,
+            left,
+            right,
+            ..
+        } => {
+            write_set_operand(sheet, left)?;
+            sheet.sign(set_sign(*op))?;
+            write_set_operand(sheet, right)
+        }
+    }
+}
