@@ -1,2 +1,9 @@
 pub mod Escapes
 pub mod Putting
+pub mod Lexed
+pub mod Bare
+pub mod Split
+pub mod Spelled
+pub mod SpelledQueries
+pub mod Fitting
+pub mod Promises

@@ -53,7 +53,8 @@ pub put_around : (s t u v : Sheet) (k : TokenKind) (xs ys : List TokenKind) → 
 put_around s t u v k xs ys e f g =
     g ∙ ap (λ x. put_all x ys) (f ∙ ap (λ x. put x k) e) ∙ sym (put_more (put_all s xs) k ys) ∙ sym (put_append s xs (k ∷ ys))
 
-flat_map-single : {X A : Type 0} (f : X → List A) (x : X) → flat_map f (x ∷ []) ≡ f x
+-- the list of one element alone
+pub flat_map-single : {X A : Type 0} (f : X → List A) (x : X) → flat_map f (x ∷ []) ≡ f x
 flat_map-single f x = flat_map-cons f x [] ∙ append-nil (f x)
 
 text_more : (s : Sheet) (ks : List TokenKind) → (put_all s ks).text ≡ s.text ++ text_from s.tight ks

@@ -1,5 +1,5 @@
 -- How tokens are printed, and where a space stands between them.
-use Rattle.std.specs.Prelude.{ℕ, ◌==◌, Bool, true, false, List, [], ◌∷◌, ◌++◌, codes, map, Option, Some, None, if◌then◌else◌}
+use Rattle.std.specs.Prelude.{◌≢◌, ℕ, ◌==◌, Bool, true, false, List, [], ◌∷◌, ◌++◌, codes, map, Option, Some, None, if◌then◌else◌}
 use Rattle.std.specs.List.{list_all}
 use Rattle.std.specs.Fmt.{decimal}
 use Rattle.traceql_tokens.specs.Bytes.{is_name_byte}
@@ -9,6 +9,7 @@ use Rattle.traceql_tokens.specs.declared.fixed.Sign.TheVariants as sign
 use Rattle.traceql_tokens.specs.declared.kinds.TokenKind.{TokenKind}
 use Rattle.traceql_tokens.specs.declared.kinds.TokenKind.TheVariants as token
 use Rattle.traceql_syntax.specs.declared.field.Field.{Field}
+use Rattle.traceql_syntax.specs.declared.field.Field.TheVariants as field
 use Rattle.traceql_syntax.specs.Trees.{QueryTree}
 use Rattle.traceql_print.specs.Signs.{field_kind}
 use Rattle.traceql_print.specs.Kinds.{query_kinds}
@@ -79,3 +80,8 @@ query_text q = text_of (query_kinds q)
 
 abbrev pub field_text : Field → List ℕ
 field_text f = kind_text (field_kind f)
+
+-- a field that a text can have: an attribute's name isn't empty
+abbrev pub IsNamed : Field → Type 0
+IsNamed (field.Attribute scope name) = name ≢ []
+IsNamed (field.Intrinsic i) = Unit {0}

@@ -1,8 +1,11 @@
 //! The printed form of a query and of a field.
 
-ghost use Rattle.std.specs.Prelude.{◌≡◌, IfOk};
+ghost use Rattle.std.specs.Prelude.{◌≡◌, ℕ, List, [], ◌∷◌, IfOk};
+ghost use Rattle.traceql_tokens.specs.Tokens.{AreTokens};
+ghost use Rattle.traceql_syntax.specs.Refusals.{Means};
 ghost use Rattle.traceql_syntax.specs.Trees.{query_tree};
-ghost use Rattle.traceql_print.specs.Text.{query_text, field_text};
+ghost use Rattle.traceql_print.specs.Signs.{field_kind};
+ghost use Rattle.traceql_print.specs.Text.{query_text, field_text, IsNamed};
 
 use crate::sheet::{Sheet, push_field};
 use crate::stage::write_query;
@@ -11,17 +14,25 @@ use std::alloc::Global;
 use traceql_syntax::{Field, Query};
 
 /// A query in its printed form, in time linear in the text's length.
+///
+/// The grammar relates the printed text to the query again, whatever text the query came from. Places in the text are
+/// its own, so they aren't compared. It fails only for want of memory.
 pub fn print_query(alloc: Global, query: &Query) -> Result<Text, Memory>
     ensures text { IfOk result (λ text. text ≡ query_text (query_tree query.now)) }
+    // What some text means, the printed text means too.
+    ensures means { (source : List ℕ) → Means source (query_tree query.now) → IfOk result (λ text. Means text (query_tree query.now)) }
 {
     let mut sheet = Sheet::new(alloc);
     write_query(&mut sheet, query)?;
     Ok(sheet.into_text())
 }
 
-/// A field in its printed form, which is one token.
+/// A field in its printed form, which is one token: an attribute or an intrinsic as it was written, but for the quotes
+/// of a name. It fails only for want of memory.
 pub fn print_field(alloc: Global, field: &Field) -> Result<Text, Memory>
     ensures text { IfOk result (λ text. text ≡ field_text field.now) }
+    // The text has just this token, where the field has a name.
+    ensures token { IsNamed field.now → IfOk result (λ text. AreTokens 0 text (record { at = 0; kind = field_kind field.now } ∷ [])) }
 {
     let mut text = String::new(alloc);
     push_field(&mut text, field)?;

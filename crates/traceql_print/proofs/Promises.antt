@@ -1,0 +1,66 @@
+-- What is promised of printed text, for every query that a text means and every field that a token can be.
+use Rattle.std.proofs.Common.{◌≡◌, ℕ, true, List, [], ◌∷◌, ◌++◌, map, refl, ap, sym, subst, ◌∙◌, append-nil}
+use Rattle.std.specs.List.{AllByRecursion}
+use Rattle.traceql_tokens.specs.Printed.{Apart, at_end, IsSound}
+use Rattle.traceql_tokens.specs.Tokens.{AreTokens}
+use Rattle.traceql_tokens.specs.declared.kinds.TokenKind.{TokenKind}
+use Rattle.traceql_tokens.proofs.Printed.{printed_token, printed_end}
+use Rattle.traceql_syntax.specs.declared.field.Field.{Field}
+use Rattle.traceql_syntax.specs.declared.field.Field.TheVariants as field
+use Rattle.traceql_syntax.specs.Refusals.{Reads, Means}
+use Rattle.traceql_syntax.specs.Trees.{StageTree, Keep, By, Coalesce, Select, Compare, QueryTree, bare_stage, bare_query}
+use Rattle.traceql_print.specs.Signs.{field_kind}
+use Rattle.traceql_print.specs.Kinds.{query_kinds}
+use Rattle.traceql_print.specs.Text.{kind_text, field_text, query_text, IsNamed}
+use Rattle.traceql_print.proofs.Bare.{query_bare}
+use Rattle.traceql_print.proofs.Fitting.{AllFit, tokens_sane, query_fits, query_has}
+use Rattle.traceql_print.proofs.Lexed.{Fits, kind_right, lexes}
+use Rattle.traceql_print.proofs.SpelledQueries.{HasFields, query_room, query_spelt}
+
+to_bare : (ss : List StageTree) → AllByRecursion HasFields ss → AllByRecursion HasFields (map bare_stage ss)
+to_bare [] h = tt
+to_bare (s ∷ ss) h = (one s h.0, to_bare ss h.1)
+  where
+    one : (x : StageTree) → HasFields x → HasFields (bare_stage x)
+    one (Keep at c) k = tt
+    one (By e) k = tt
+    one Coalesce k = tt
+    one (Select fs) k = k
+    one (Compare a at op b) k = tt
+
+from_bare : (ss : List StageTree) → AllByRecursion HasFields (map bare_stage ss) → AllByRecursion HasFields ss
+from_bare [] h = tt
+from_bare (s ∷ ss) h = (one s h.0, from_bare ss h.1)
+  where
+    one : (x : StageTree) → HasFields (bare_stage x) → HasFields x
+    one (Keep at c) k = tt
+    one (By e) k = tt
+    one Coalesce k = tt
+    one (Select fs) k = k
+    one (Compare a at op b) k = tt
+
+pub printed_means : (source : List ℕ) (q : QueryTree) → Means source q → Means (query_text q) q
+printed_means source q (depth, placed, reads, same) =
+    let kinds : query_kinds placed ≡ query_kinds q = sym (query_bare placed) ∙ ap query_kinds same ∙ query_bare q in
+    let fit = subst AllFit kinds (query_fits reads.spelled (tokens_sane 0 source reads.tokens reads.lexed)) in
+    let bare_has = subst (AllByRecursion HasFields) (ap (λ (p : QueryTree). p.stages) same) (to_bare placed.stages (query_has reads.spelled)) in
+    let lexed = lexes (query_kinds q) fit true 0 in
+    let spelled = query_spelt q (from_bare q.stages bare_has) lexed.0 lexed.2 in (
+      query_room q,
+      spelled.found,
+      record { tokens = lexed.0; lexed = lexed.1; spelled = spelled.spelled },
+      spelled.same,
+    )
+
+named_fits : (f : Field) → IsNamed f → Fits (field_kind f)
+named_fits (field.Attribute scope name) h = h
+named_fits (field.Intrinsic i) h = tt
+
+named_sound : (f : Field) → IsSound (field_kind f)
+named_sound (field.Attribute scope name) = tt
+named_sound (field.Intrinsic i) = tt
+
+pub printed_token_of : (f : Field) → IsNamed f → AreTokens 0 (field_text f) (record { at = 0; kind = field_kind f } ∷ [])
+printed_token_of f h =
+    subst (λ t. AreTokens 0 t (record { at = 0; kind = field_kind f } ∷ [])) (append-nil (field_text f))
+    (printed_token 0 (field_text f) [] (field_kind f) [] (kind_right 0 (field_kind f) (named_fits f h)) (named_sound f) (at_end refl) (printed_end _))
