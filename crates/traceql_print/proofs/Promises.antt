@@ -11,7 +11,7 @@ use Rattle.traceql_syntax.specs.Refusals.{Reads, Means}
 use Rattle.traceql_syntax.specs.Trees.{StageTree, Keep, By, Coalesce, Select, Compare, QueryTree, bare_stage, bare_query}
 use Rattle.traceql_print.specs.Signs.{field_kind}
 use Rattle.traceql_print.specs.Kinds.{query_kinds}
-use Rattle.traceql_print.specs.Text.{kind_text, field_text, query_text, IsNamed}
+use Rattle.traceql_print.specs.Text.{kind_text, field_text, query_text, text_of, IsNamed}
 use Rattle.traceql_print.proofs.Bare.{query_bare}
 use Rattle.traceql_print.proofs.Fitting.{AllFit, tokens_sane, query_fits, query_has}
 use Rattle.traceql_print.proofs.Lexed.{Fits, kind_right, lexes}
@@ -64,3 +64,6 @@ pub printed_token_of : (f : Field) → IsNamed f → AreTokens 0 (field_text f) 
 printed_token_of f h =
     subst (λ t. AreTokens 0 t (record { at = 0; kind = field_kind f } ∷ [])) (append-nil (field_text f))
     (printed_token 0 (field_text f) [] (field_kind f) [] (kind_right 0 (field_kind f) (named_fits f h)) (named_sound f) (at_end refl) (printed_end _))
+
+pub printed_same : (q p : QueryTree) → bare_query p ≡ bare_query q → query_text p ≡ query_text q
+printed_same q p e = ap text_of (sym (query_bare p) ∙ ap query_kinds e ∙ query_bare q)

@@ -11,4 +11,7 @@ mod signs;
 mod stage;
 mod string;
 
-pub use printing::{print_field, print_query};
+pub use printing::{print_field, print_query, printed_once};
+
+#[cfg(test)]
+mod tests;

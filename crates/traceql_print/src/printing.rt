@@ -3,7 +3,7 @@
 ghost use Rattle.std.specs.Prelude.{◌≡◌, ℕ, List, [], ◌∷◌, IfOk};
 ghost use Rattle.traceql_tokens.specs.Tokens.{AreTokens};
 ghost use Rattle.traceql_syntax.specs.Refusals.{Means};
-ghost use Rattle.traceql_syntax.specs.Trees.{query_tree};
+ghost use Rattle.traceql_syntax.specs.Trees.{QueryTree, bare_query, query_tree};
 ghost use Rattle.traceql_print.specs.Signs.{field_kind};
 ghost use Rattle.traceql_print.specs.Text.{query_text, field_text, IsNamed};
 
@@ -11,6 +11,7 @@ use crate::sheet::{Sheet, push_field};
 use crate::stage::write_query;
 use span_types::{Memory, Text};
 use std::alloc::Global;
+use traceql_parse::one_query;
 use traceql_syntax::{Field, Query};
 
 /// A query in its printed form, in time linear in the text's length.
@@ -37,4 +38,19 @@ pub fn print_field(alloc: Global, field: &Field) -> Result<Text, Memory>
     let mut text = String::new(alloc);
     push_field(&mut text, field)?;
     Ok(Text::of(text))
+}
+
+/// What a printed text says again: laws of the grammar and of the printed form, in which places don't count.
+///
+/// So where `traceql_parse::parse` answers a query for the printed text of a query, which it does within its limits,
+/// the two are equal.
+pub fn printed_once()
+    // A printed text means the query that was printed, and no other.
+    ensures once { (source : List ℕ) (q p : QueryTree) → Means source q → Means (query_text q) p → bare_query p ≡ bare_query q }
+    // Queries that are printed alike are equal.
+    ensures distinct { (one two : List ℕ) (q p : QueryTree) → Means one q → Means two p → query_text p ≡ query_text q → bare_query p ≡ bare_query q }
+    // Equal queries are printed alike.
+    ensures same { (q p : QueryTree) → bare_query p ≡ bare_query q → query_text p ≡ query_text q }
+{
+    one_query();
 }
