@@ -1,5 +1,5 @@
 -- What a query is printed with doesn't depend on the places in it.
-use Rattle.std.proofs.Common.{◌≡◌, Bool, List, [], ◌∷◌, ◌++◌, map, Option, Some, None, refl, ap, ap₂, sym, ◌∙◌}
+use Rattle.std.proofs.Common.{◌≡◌, List, [], ◌∷◌, ◌++◌, map, Option, Some, None, refl, ap, ap₂}
 use Rattle.traceql_tokens.specs.declared.fixed.Sign.TheVariants as sign
 use Rattle.traceql_tokens.specs.declared.fixed.Word.TheVariants as word
 use Rattle.traceql_tokens.specs.declared.kinds.TokenKind.TheVariants as token

@@ -1,8 +1,9 @@
 -- Strings and names are written piece by piece: a run of bytes that stand for themselves, and then an escape.
-use Rattle.std.proofs.Common.{◌≡◌, ℕ, suc, ◌+◌, ◌<◌, ◌≤◌, Bool, true, false, not, ◌⊎◌, inl, inr, cond, eqb, is_none, List, [], ◌∷◌, ◌++◌, length, get_or, take, drop, map, Option, None, Some, refl, ap, sym, ◌∙◌, arith, eqb-true, append-nil, append_assoc, subst}
+use Rattle.std.proofs.Common.{◌≡◌, ℕ, suc, ◌+◌, ◌<◌, ◌≤◌, Bool, true, false, ◌⊎◌, inl, inr, cond, eqb, is_none, List, [], ◌∷◌, ◌++◌, length, get_or, take, drop, map, Option, None, Some, refl, ap, sym, ◌∙◌, arith, eqb-true, append-nil, append_assoc, subst}
 use Rattle.std.specs.List.{prefix_len}
-use Rattle.std.specs.Str.{IsUtf8, IsCharBoundary}
-use Rattle.std.proofs.lemmas.Str.{IsCharBoundary-before_ascii, IsCharBoundary-after_ascii, IsCharBoundary-end}
+use Rattle.std.proofs.lemmas.Grind.{common_steps}
+use Rattle.std.specs.Str.{IsCharBoundary}
+use Rattle.std.proofs.lemmas.Str.{IsCharBoundary-before_ascii, IsCharBoundary-end}
 use Rattle.std.proofs.lemmas.List.Sums.{prefix_len_stops, prefix_len-le-length}
 use Rattle.traceql_tokens.specs.Strings.{pieces_text}
 use Rattle.traceql_print.specs.Text.{escape_letter, piece_or, piece_of, escaped_text}
@@ -57,7 +58,7 @@ plain_run [] = refl
 plain_run (b ∷ bs) = step b bs (escape_letter b) refl (plain_run bs)
 
 drop_at_stop : (rest : List ℕ) (n : ℕ) → n < length rest → drop n rest ≡ get_or rest n 0 ∷ drop (n + 1) rest
-drop_at_stop rest n h = grind (arith, Rattle.std.proofs.lemmas.Grind.common_steps)
+drop_at_stop rest n h = grind (arith, common_steps)
 
 letter_next : (b c : ℕ) (bs : List ℕ) → escape_letter b ≡ Some c → escaped_text (b ∷ bs) ≡ 92 ∷ c ∷ escaped_text bs
 unfolding escaped_text
@@ -70,7 +71,7 @@ escaped_stops rest n e past =
     plain_run rest ∙ ap (λ m. take m rest ++ escaped_text (drop m rest)) (sym e) ∙ ap (λ t. take n rest ++ escaped_text t) (nothing rest n past) ∙ ends (take n rest)
   where
     nothing : (xs : List ℕ) (m : ℕ) → length xs ≤ m → drop m xs ≡ []
-    nothing xs m h = grind (arith, Rattle.std.proofs.lemmas.Grind.common_steps)
+    nothing xs m h = grind (arith, common_steps)
 
     ends : (xs : List ℕ) → xs ++ escaped_text [] ≡ xs
     ends xs = append-nil xs

@@ -1,6 +1,6 @@
 -- A query that a text spells is printed with tokens that a text can have, since its names and numbers come from tokens.
-use Rattle.std.proofs.Common.{◌≡◌, ℕ, suc, ◌+◌, ◌<◌, append_assoc, Bool, true, false, List, [], ◌∷◌, ◌++◌, length, map, Option, Some, None, inl, inr, refl, ap, ap₂, sym, subst, ◌∙◌}
-use Rattle.std.specs.List.{flat_map, AllByRecursion}
+use Rattle.std.proofs.Common.{◌≡◌, ℕ, ◌+◌, ◌<◌, append_assoc, Bool, true, false, List, [], ◌∷◌, ◌++◌, length, Option, Some, None, inl, inr, ap, sym, subst, ◌∙◌}
+use Rattle.std.specs.List.{AllByRecursion}
 use Rattle.traceql_tokens.specs.Numbers.{LIMIT}
 use Rattle.traceql_tokens.specs.Tokens.{IsToken, AreTokens}
 use Rattle.traceql_tokens.specs.declared.fixed.Sign.{Sign}
@@ -15,7 +15,7 @@ use Rattle.traceql_syntax.specs.declared.field.Literal.{Literal}
 use Rattle.traceql_syntax.specs.Grammar as rule
 use Rattle.traceql_syntax.specs.Grammar.{Class, Spells, SetClass, SpellsCondition, SpellsSet, SpellsAggregate, SpellsThreshold, SpellsFields, SpellsStage, SpellsQuery}
 use Rattle.traceql_syntax.specs.Tables as table
-use Rattle.traceql_syntax.specs.Trees.{Placed, SetTree, AggregateTree, ThresholdTree, Number, Duration, StageTree, QueryTree}
+use Rattle.traceql_syntax.specs.Trees.{Placed, SetTree, AggregateTree, ThresholdTree, StageTree, QueryTree}
 use Rattle.traceql_print.specs.Signs.{literal_kind, field_kind}
 use Rattle.traceql_print.specs.Kinds.{in_parens, operand, is_binary, expr_kinds, condition_kinds, is_join, set_kinds, aggregate_kinds, threshold_kinds, more_fields_kinds, fields_kinds, stage_kinds, stages_kinds, query_kinds}
 use Rattle.std.proofs.lemmas.Grind.{flat_map-append}

@@ -1,8 +1,8 @@
 -- The printed tokens are the tokens of the printed text, since a space or a parenthesis stands behind each.
-use Rattle.std.proofs.Common.{◌≡◌, ℕ, suc, ◌+◌, ◌-◌, ◌*◌, ◌/◌, ◌%◌, ◌^◌, ◌<◌, ◌≤◌, ◌==◌, Bool, true, false, cond, eqb, List, [], ◌∷◌, ◌++◌, length, map, Option, Some, None, Ok, refl, ap, ap₂, sym, subst, ◌∙◌, inl, inr, arith, ◌&&◌, if◌then◌else◌, length-append, eqb-true, append_assoc, append-nil, codes}
+use Rattle.std.proofs.Common.{◌≡◌, ℕ, ◌+◌, ◌-◌, ◌*◌, ◌/◌, ◌%◌, ◌^◌, ◌<◌, ◌≤◌, Bool, true, false, cond, eqb, List, [], ◌∷◌, ◌++◌, length, map, Option, Some, None, Ok, refl, ap, ap₂, sym, subst, ◌∙◌, inl, inr, arith, ◌&&◌, if◌then◌else◌, length-append, eqb-true, append-nil, codes}
 use Rattle.std.specs.Char.{is_ascii_digit}
 use Rattle.std.specs.Fmt.{decimal}
-use Rattle.std.specs.List.{fold, list_all, flat_map, AllByRecursion}
+use Rattle.std.specs.List.{list_all, AllByRecursion}
 use Rattle.std.proofs.lemmas.Fmt.{decimal_by_steps}
 use Rattle.std.proofs.lemmas.List.Sums.{fold-append}
 use Rattle.std.proofs.lemmas.List.Folds.{list_all-append}
@@ -11,17 +11,15 @@ use Rattle.traceql_tokens.specs.Bytes.{is_name_byte, AreDigits}
 use Rattle.traceql_tokens.specs.Fixed.{scope_text}
 use Rattle.traceql_tokens.specs.Numbers.{LIMIT, Part, IsDigitRun, IsDuration, AreNanos}
 use Rattle.traceql_tokens.specs.Printed.{Apart, at_end, at_space, at_paren, IsSound}
-use Rattle.traceql_tokens.specs.Strings.{Piece, Plain, Escape, is_plain, IsPiece, ArePieces, Means, IsWhole, whole_quoted, meaning}
-use Rattle.traceql_tokens.specs.Tokens.{IsName, IsAttribute, IsToken, AreTokens}
-use Rattle.traceql_tokens.specs.declared.fixed.AttributeScope.{AttributeScope}
-use Rattle.traceql_tokens.specs.declared.fixed.Sign.{Sign}
+use Rattle.traceql_tokens.specs.Strings.{is_plain, IsPiece, ArePieces, Means, IsWhole, whole_quoted, meaning}
+use Rattle.traceql_tokens.specs.Tokens.{IsName, IsToken, AreTokens}
 use Rattle.traceql_tokens.specs.declared.fixed.Sign.TheVariants as sign
 use Rattle.traceql_tokens.specs.declared.kinds.Token.{Token}
 use Rattle.traceql_tokens.specs.declared.kinds.TokenKind.{TokenKind}
 use Rattle.traceql_tokens.specs.declared.kinds.TokenKind.TheVariants as token
 use Rattle.traceql_tokens.specs.declared.units.TimeUnit.TheVariants as unit
 use Rattle.traceql_tokens.proofs.Printed.{printed_token, printed_space, printed_paren, printed_end}
-use Rattle.traceql_print.specs.Text.{escape_letter, piece_or, piece_of, escaped_text, quoted_text, name_text, kind_text, opens, closes, gap, text_from}
+use Rattle.traceql_print.specs.Text.{piece_or, piece_of, escaped_text, quoted_text, name_text, kind_text, opens, closes, gap, text_from}
 
 -- a token that a text can have: no fault, a name that isn't empty, and a number in range
 abbrev pub Fits : TokenKind → Type 0

@@ -1,17 +1,16 @@
 -- What is promised of printed text, for every query that a text means and every field that a token can be.
-use Rattle.std.proofs.Common.{◌≡◌, ℕ, true, List, [], ◌∷◌, ◌++◌, map, refl, ap, sym, subst, ◌∙◌, append-nil}
+use Rattle.std.proofs.Common.{◌≡◌, ℕ, true, List, [], ◌∷◌, map, refl, ap, sym, subst, ◌∙◌, append-nil}
 use Rattle.std.specs.List.{AllByRecursion}
-use Rattle.traceql_tokens.specs.Printed.{Apart, at_end, IsSound}
+use Rattle.traceql_tokens.specs.Printed.{at_end, IsSound}
 use Rattle.traceql_tokens.specs.Tokens.{AreTokens}
-use Rattle.traceql_tokens.specs.declared.kinds.TokenKind.{TokenKind}
 use Rattle.traceql_tokens.proofs.Printed.{printed_token, printed_end}
 use Rattle.traceql_syntax.specs.declared.field.Field.{Field}
 use Rattle.traceql_syntax.specs.declared.field.Field.TheVariants as field
-use Rattle.traceql_syntax.specs.Refusals.{Reads, Means}
+use Rattle.traceql_syntax.specs.Refusals.{Means}
 use Rattle.traceql_syntax.specs.Trees.{StageTree, Keep, By, Coalesce, Select, Compare, QueryTree, bare_stage, bare_query}
 use Rattle.traceql_print.specs.Signs.{field_kind}
 use Rattle.traceql_print.specs.Kinds.{query_kinds}
-use Rattle.traceql_print.specs.Text.{kind_text, field_text, query_text, text_of, IsNamed}
+use Rattle.traceql_print.specs.Text.{field_text, query_text, text_of, IsNamed}
 use Rattle.traceql_print.proofs.Bare.{query_bare}
 use Rattle.traceql_print.proofs.Fitting.{AllFit, tokens_sane, query_fits, query_has}
 use Rattle.traceql_print.proofs.Lexed.{Fits, kind_right, lexes}

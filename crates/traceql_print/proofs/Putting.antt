@@ -1,11 +1,10 @@
 -- Tokens put one after another.
 use Rattle.std.proofs.Common.{◌≡◌, ℕ, ◌-◌, ◌<◌, ◌≤◌, length, get_or, take, drop, arith, Bool, true, false, if◌then◌else◌, List, [], ◌∷◌, ◌++◌, refl, ap, sym, ◌∙◌, append_assoc, append-nil}
-use Rattle.std.specs.List.{fold, flat_map}
+use Rattle.std.specs.List.{flat_map}
 use Rattle.std.proofs.lemmas.List.Concat.{flat_map-cons}
 use Rattle.std.proofs.lemmas.List.Sums.{fold-append}
 use Rattle.std.proofs.lemmas.Grind.{flat_map-append}
 use Rattle.std.proofs.lemmas.List.{take_all}
-use Rattle.traceql_tokens.specs.declared.fixed.Sign.{Sign}
 use Rattle.traceql_tokens.specs.declared.fixed.Sign.TheVariants as sign
 use Rattle.traceql_tokens.specs.declared.kinds.TokenKind.{TokenKind}
 use Rattle.traceql_tokens.specs.declared.kinds.TokenKind.TheVariants as token
@@ -71,10 +70,7 @@ text_blank ks = text_more blank ks
 pub put_call : (s t u v w : Sheet) (x : Word) (ks : List TokenKind) → t ≡ put s (token.Keyword x) → u ≡ put t (token.Mark sign.OpenParen) → v ≡ put_all u ks → w ≡ put v (token.Mark sign.CloseParen) → w ≡ put_all s (call x ks)
 put_call s t u v w x ks e f g h = put_before s t w (token.Keyword x) (in_parens ks) e (put_between t u v w (token.Mark sign.OpenParen) (token.Mark sign.CloseParen) ks f g h)
 
--- the steps of an operand
-pub put_operand_bare : (s t : Sheet) (b : Bool) (ks : List TokenKind) → b ≡ false → t ≡ put_all s ks → t ≡ put_all s (operand b ks)
-put_operand_bare s t b ks e f = f ∙ ap (λ x. put_all s (operand x ks)) (sym e)
-
+-- the steps of an operand in parentheses
 pub put_operand_parens : (s t u v : Sheet) (b : Bool) (ks : List TokenKind) → b ≡ true → t ≡ put s (token.Mark sign.OpenParen) → u ≡ put_all t ks → v ≡ put u (token.Mark sign.CloseParen) → v ≡ put_all s (operand b ks)
 put_operand_parens s t u v b ks e f g h =
     put_between s t u v (token.Mark sign.OpenParen) (token.Mark sign.CloseParen) ks f g h ∙ ap (λ x. put_all s (operand x ks)) (sym e)

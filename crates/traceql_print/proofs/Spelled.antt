@@ -1,5 +1,5 @@
 -- Tokens of the printed kinds spell the expression again: each operand stands where a rule of the grammar takes it.
-use Rattle.std.proofs.Common.{◌≡◌, ℕ, zero, suc, ◌+◌, ◌≤◌, Bool, true, false, List, [], ◌∷◌, ◌++◌, Option, Some, None, option_map, refl, ap, ap₂, sym, subst, ◌∙◌, arith}
+use Rattle.std.proofs.Common.{◌≡◌, ℕ, zero, suc, ◌+◌, ◌≤◌, Bool, true, false, List, [], ◌∷◌, ◌++◌, Some, option_map, refl, ap, ap₂, sym, subst, ◌∙◌, arith}
 use Rattle.span_types.specs.declared.spans.SpanKind.TheVariants as span
 use Rattle.span_types.specs.declared.spans.StatusCode.TheVariants as status
 use Rattle.traceql_tokens.specs.declared.fixed.Sign.TheVariants as sign

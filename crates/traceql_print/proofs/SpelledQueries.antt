@@ -1,6 +1,6 @@
 -- The same for expressions over spansets, stages and whole queries.
 use Rattle.std.proofs.Common.{◌≡◌, ℕ, zero, suc, ◌+◌, ◌≤◌, Bool, true, false, List, [], ◌∷◌, ◌++◌, map, Option, Some, None, refl, ap, ap₂, sym, subst, ◌∙◌, arith, append_assoc, append-nil}
-use Rattle.std.specs.List.{flat_map, AllByRecursion}
+use Rattle.std.specs.List.{AllByRecursion}
 use Rattle.traceql_tokens.specs.declared.fixed.Sign.TheVariants as sign
 use Rattle.traceql_tokens.specs.declared.fixed.Word.TheVariants as word
 use Rattle.traceql_tokens.specs.declared.kinds.Token.{Token}
@@ -21,7 +21,7 @@ use Rattle.traceql_syntax.specs.Grammar.{mark, SetClass, Part, Sets, SpellsCondi
 use Rattle.traceql_syntax.specs.Tables as table
 use Rattle.traceql_syntax.specs.Trees.{Placed, SetTree, Filter, Join, AggregateTree, Count, Of, ThresholdTree, Whole, Number, Duration, StageTree, Keep, By, Coalesce, Select, Compare, QueryTree, bare_option, bare_set, bare_aggregate, bare_threshold, bare_stage, bare_query}
 use Rattle.traceql_print.specs.Signs.{set_sign, related_sign, comparison_sign, aggregate_word, field_kind}
-use Rattle.traceql_print.specs.Kinds.{operand, expr_kinds, condition_kinds, filter_kinds, is_join, set_kinds, aggregate_kinds, signed, threshold_kinds, more_fields_kinds, fields_kinds, stage_kinds, stages_kinds, query_kinds}
+use Rattle.traceql_print.specs.Kinds.{operand, expr_kinds, condition_kinds, is_join, set_kinds, aggregate_kinds, signed, threshold_kinds, more_fields_kinds, fields_kinds, stage_kinds, stages_kinds, query_kinds}
 use Rattle.traceql_print.proofs.Lexed.{AreOf}
 use Rattle.traceql_print.proofs.Split.{here, head_of, lone_of, split_of, around_of, between_of, call_of, call_bare}
 use Rattle.traceql_print.proofs.Spelled.{room, whole_spelt, field_is, comparison_is}

@@ -1,12 +1,10 @@
 -- Tokens whose kinds are known, taken apart as the kinds are.
-use Rattle.std.proofs.Common.{◌≡◌, ℕ, List, [], ◌∷◌, ◌++◌, map, refl, ap, ap₂, sym, ◌∙◌, append_assoc}
-use Rattle.traceql_tokens.specs.declared.fixed.Sign.{Sign}
+use Rattle.std.proofs.Common.{◌≡◌, ℕ, List, [], ◌∷◌, ◌++◌, refl, ap, ◌∙◌}
 use Rattle.traceql_tokens.specs.declared.fixed.Sign.TheVariants as sign
 use Rattle.traceql_tokens.specs.declared.fixed.Word.{Word}
 use Rattle.traceql_tokens.specs.declared.kinds.Token.{Token}
 use Rattle.traceql_tokens.specs.declared.kinds.TokenKind.{TokenKind}
 use Rattle.traceql_tokens.specs.declared.kinds.TokenKind.TheVariants as token
-use Rattle.traceql_syntax.specs.Grammar.{mark, keyword}
 use Rattle.traceql_print.specs.Kinds.{in_parens, call}
 use Rattle.traceql_print.proofs.Lexed.{AreOf}
 

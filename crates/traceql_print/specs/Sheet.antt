@@ -1,5 +1,5 @@
 -- The text so far, as the printer's own functions see it.
-use Rattle.std.specs.Prelude.{ℕ, Bool, true, List, [], ◌∷◌, ◌++◌}
+use Rattle.std.specs.Prelude.{ℕ, Bool, true, List, [], ◌++◌}
 use Rattle.std.specs.List.{fold}
 use Rattle.traceql_tokens.specs.declared.kinds.TokenKind.{TokenKind}
 use Rattle.traceql_print.specs.Text.{gap, kind_text, opens, closes}

@@ -1,5 +1,5 @@
 -- Which sign, word or token each operator, literal and field is written with.
-use Rattle.std.specs.Prelude.{Bool, true, false, List, [], ◌∷◌}
+use Rattle.std.specs.Prelude.{Bool, true, false}
 use Rattle.span_types.specs.declared.spans.SpanKind.{SpanKind}
 use Rattle.span_types.specs.declared.spans.SpanKind.TheVariants as span
 use Rattle.span_types.specs.declared.spans.StatusCode.{StatusCode}

@@ -1,8 +1,8 @@
-use Rattle.std.proofs.Common.{◌∙◌, ap, sym, [], ◌∷◌}
+use Rattle.std.proofs.Common.{◌∙◌, ap, sym}
 use Rattle.std.proofs.lemmas.Result.{on_ok_weaker}
 use Rattle.traceql_tokens.specs.declared.kinds.TokenKind.TheVariants as token
 use Rattle.traceql_print.specs.Sheet.{put}
-use Rattle.traceql_print.proofs.Putting.{put_one, put_before, put_around, put_operand_bare, put_operand_parens}
+use Rattle.traceql_print.proofs.Putting.{put_one, put_before, put_around, put_operand_parens}
 use Rattle.traceql_print.proofs.expr.+exprs.Goals as goal
 
 pub write_expr-returns-in-Literal : goal.write_expr-returns-in-Literal

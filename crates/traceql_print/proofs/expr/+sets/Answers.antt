@@ -2,7 +2,7 @@ use Rattle.std.proofs.Common.{◌∙◌, ap, sym}
 use Rattle.std.proofs.lemmas.Result.{on_ok_weaker}
 use Rattle.traceql_tokens.specs.declared.kinds.TokenKind.TheVariants as token
 use Rattle.traceql_print.specs.Sheet.{put}
-use Rattle.traceql_print.proofs.Putting.{put_around, put_operand_bare, put_operand_parens}
+use Rattle.traceql_print.proofs.Putting.{put_around, put_operand_parens}
 use Rattle.traceql_print.proofs.expr.+sets.Goals as goal
 
 pub write_set-returns-in_ok-sign-in-Join : goal.write_set-returns-in_ok-sign-in-Join

@@ -1,4 +1,4 @@
-use Rattle.std.proofs.Common.{ap, sym, ◌∙◌}
+use Rattle.std.proofs.Common.{sym}
 use Rattle.traceql_print.proofs.Putting.{put_none}
 use Rattle.traceql_print.proofs.expr.write_condition.Goals as goal
 

@@ -1,4 +1,4 @@
-use Rattle.std.proofs.Common.{◌≡◌, List, [], ◌∷◌, rules, sym, subst}
+use Rattle.std.proofs.Common.{◌≡◌, [], ◌∷◌, rules, sym, subst}
 use Rattle.traceql_tokens.specs.Tokens.{AreTokens}
 use Rattle.traceql_print.specs.Signs.{field_kind}
 use Rattle.traceql_print.specs.Text.{field_text}

@@ -1,4 +1,4 @@
-use Rattle.std.proofs.Common.{◌≡◌, List, ℕ, ap, sym, subst, ◌∙◌}
+use Rattle.std.proofs.Common.{◌≡◌, ap, sym, subst, ◌∙◌}
 use Rattle.traceql_syntax.specs.Refusals.{Means}
 use Rattle.traceql_syntax.specs.Trees.{query_tree}
 use Rattle.traceql_print.specs.Kinds.{query_kinds}

@@ -1,4 +1,4 @@
-use Rattle.std.proofs.Common.{sym, subst}
+use Rattle.std.proofs.Common.{subst}
 use Rattle.traceql_syntax.specs.Refusals.{Means}
 use Rattle.traceql_print.specs.Text.{query_text}
 use Rattle.traceql_print.proofs.Promises.{printed_means, printed_same}

@@ -1,6 +1,5 @@
 use Rattle.std.proofs.Common.{◌++◌, ap, ap₂, sym, ◌∙◌, append_assoc, string_bytes}
 use Rattle.std.proofs.lemmas.Result.{on_ok_weaker}
-use Rattle.traceql_tokens.specs.Fixed.{scope_text}
 use Rattle.traceql_print.specs.Text.{kind_text, field_text, name_text}
 use Rattle.traceql_print.proofs.sheet.push_field.Goals as goal
 

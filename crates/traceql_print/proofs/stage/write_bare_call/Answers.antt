@@ -1,4 +1,4 @@
-use Rattle.std.proofs.Common.{◌∙◌, sym}
+use Rattle.std.proofs.Common.{sym}
 use Rattle.std.proofs.lemmas.Result.{on_ok_weaker}
 use Rattle.traceql_print.proofs.Putting.{put_none, put_call}
 use Rattle.traceql_print.proofs.stage.write_bare_call.Goals as goal

@@ -1,4 +1,4 @@
-use Rattle.std.proofs.Common.{◌≡◌, ◌<◌, length, ap, sym, ◌∙◌, arith}
+use Rattle.std.proofs.Common.{ap, sym, ◌∙◌}
 use Rattle.traceql_print.specs.Sheet.{put_all}
 use Rattle.traceql_print.specs.Kinds.{fields_kinds}
 use Rattle.traceql_print.proofs.Putting.{put_none, put_before, no_fields, some_fields}

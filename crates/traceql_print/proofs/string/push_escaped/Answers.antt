@@ -1,4 +1,4 @@
-use Rattle.std.proofs.Common.{◌≡◌, ◌++◌, ◌∷◌, [], ◌+◌, ◌-◌, ◌<◌, ◌≤◌, length, get_or, take, drop, Some, ap, sym, ◌∙◌, arith, string_bytes, encode_utf8}
+use Rattle.std.proofs.Common.{◌≡◌, ◌++◌, ◌∷◌, [], ◌+◌, ◌-◌, length, get_or, take, drop, Some, ap, sym, ◌∙◌, arith, string_bytes, encode_utf8}
 use Rattle.std.specs.List.{prefix_len}
 use Rattle.std.proofs.lemmas.Str.{IsCharBoundary-after_ascii}
 use Rattle.traceql_print.specs.Text.{escape_letter, escaped_text}

@@ -1,4 +1,4 @@
-use Rattle.std.proofs.Common.{◌++◌, false, ap, ◌∙◌, string_bytes}
+use Rattle.std.proofs.Common.{string_bytes}
 use Rattle.traceql_tokens.specs.declared.kinds.TokenKind.TheVariants as token
 use Rattle.traceql_print.specs.Text.{kind_text}
 use Rattle.traceql_print.proofs.Putting.{put_is}
