@@ -55,8 +55,19 @@ threshold-send =
 
 stage-send : IsSend Stage.the_row
 stage-send =
-    variants_send Stage.enum ((u64-send, (condition-send, tt)), ((operand-send, tt), (tt, ((fields.the_send, tt),
-    ((aggregate-send, (u64-send, (comparison.the_send, (threshold-send, tt)))), tt)))))
+    variants_send Stage.enum (
+      (u64-send, (condition-send, tt)),
+      (
+        (operand-send, tt),
+        (
+          tt,
+          (
+            (fields.the_send, tt),
+            ((aggregate-send, (u64-send, (comparison.the_send, (threshold-send, tt)))), tt),
+          ),
+        ),
+      ),
+    )
 
 stages-send : IsSend Stages.the_row
 stages-send = search (stage-send, sendable, crosses) depth 40
@@ -110,8 +121,19 @@ threshold-sync =
 
 stage-sync : IsSync Stage.the_row
 stage-sync =
-    variants_sync Stage.enum ((u64-sync, (condition-sync, tt)), ((operand-sync, tt), (tt, ((fields.the_sync, tt),
-    ((aggregate-sync, (u64-sync, (comparison.the_sync, (threshold-sync, tt)))), tt)))))
+    variants_sync Stage.enum (
+      (u64-sync, (condition-sync, tt)),
+      (
+        (operand-sync, tt),
+        (
+          tt,
+          (
+            (fields.the_sync, tt),
+            ((aggregate-sync, (u64-sync, (comparison.the_sync, (threshold-sync, tt)))), tt),
+          ),
+        ),
+      ),
+    )
 
 stages-sync : IsSync Stages.the_row
 stages-sync = search (stage-sync, sendable, crosses) depth 40
