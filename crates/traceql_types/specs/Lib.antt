@@ -5,5 +5,6 @@ pub mod Makers
 pub mod Order
 pub mod Patterns
 pub mod Refusals
+pub mod Shared
 pub mod Shown
 pub mod Whole

@@ -12,9 +12,14 @@ mod kinds;
 mod maker;
 mod pattern;
 mod queries;
+mod shared;
 
 pub use checked::{Checked, check};
 pub use errors::{MakeError, TypeError};
 pub use kinds::Kind;
 pub use maker::{PatternMaker, RegexMaker, ScriptedMaker};
 pub use pattern::{Pattern, Patterns};
+pub use shared::checked_crosses;
+
+#[cfg(test)]
+mod tests;

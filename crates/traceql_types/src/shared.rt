@@ -1,0 +1,16 @@
+//! Checked queries among threads.
+
+ghost use Rattle.traceql_types.specs.Shared.{CheckedIsSend, CheckedIsSync};
+
+use crate::Checked;
+
+// Can be called only at a type that may be handed to another thread, and be shared among threads.
+fn crosses<T: Send + Sync>() {}
+
+/// A checked query may be handed to another thread, and be shared among threads.
+pub fn checked_crosses()
+    ensures send { CheckedIsSend }
+    ensures sync { CheckedIsSync }
+{
+    crosses::<Checked>();
+}
