@@ -149,7 +149,7 @@ ruled64 s t n test within is =
 -- ---- files
 
 -- files that were given out and are named once, beside those named before
-abbrev FilesFit : ℕ → List ℕ → List ℕ → Type 0
+abbrev pub FilesFit : ℕ → List ℕ → List ℕ → Type 0
 FilesFit next_file seen [] = Unit {0}
 FilesFit next_file seen (file ∷ files) = (2 ≤ file) × (file < next_file) × (list_any (nat_eq file) seen ≡ false) × FilesFit next_file (seen ++ file ∷ []) files
 
@@ -204,7 +204,7 @@ files_in_range next_file seen (file ∷ files) fit = ((fit.0, fit.1), files_in_r
 -- ---- segments
 
 -- first numbers that don't fall and that the floor fits
-abbrev FirstsFit : ℕ → Option ℕ → List ℕ → Type 0
+abbrev pub FirstsFit : ℕ → Option ℕ → List ℕ → Type 0
 FirstsFit floor before [] = Unit {0}
 FirstsFit floor before (first ∷ firsts) = (first ≤ 4294967295) × (goes_on floor before first ≡ true) × ((not (eqb (length firsts) 0) || leb floor first) ≡ true) × FirstsFit floor (Some first) firsts
 
@@ -267,7 +267,7 @@ segments_mean next_file floor (suc count) before done s t all within is =
 
 -- ---- blocks
 
-abbrev BlocksFit : List BlockRef → Type 0
+abbrev pub BlocksFit : List BlockRef → Type 0
 BlocksFit blocks = AllByRecursion (λ (block : BlockRef). (block.level ≤ 63) × ((1 ≤ block.rows) × (block.rows ≤ 1048576))) blocks
 
 record BlockMeans (next_file : ℕ) (seen : List ℕ) (s t : Stand) (block : BlockRef) : Type 0 where

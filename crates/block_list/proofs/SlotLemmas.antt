@@ -26,7 +26,7 @@ turned_back image list (other_alone body here there is) = alone body there here 
 turned_back image list (newer body older here there next is) = other_newer body older there here next is
 turned_back image list (other_newer body older here there next is) = newer body older there here next is
 
-zero_or_one : (slot : ℕ) → slot < 2 → (slot ≡ 0) ⊎ (slot ≡ 1)
+pub zero_or_one : (slot : ℕ) → slot < 2 → (slot ≡ 0) ⊎ (slot ≡ 1)
 zero_or_one slot below = elim (cases_eq slot 0) [ inl is ↦ inl is | inr more ↦ inr (omega arith) ]
 
 pub seen_from : (slot : ℕ) (image : Image) (list : Option ListBody) → slot < 2 → StandsFor image list → Stands slot (bytes_of image slot) (bytes_of image (1 - slot)) list
@@ -45,7 +45,7 @@ seen_back slot image list below stands = elim (zero_or_one slot below) [
 pub parity_differs : (slot old : ℕ) → slot ≡ old % 2 → slot ≡ successor old % 2 → ⊥
 parity_differs slot old here there = omega arith
 
-same_some : (a b : ListBody) → Some a ≡ Some b → a ≡ b
+pub same_some : (a b : ListBody) → Some a ≡ Some b → a ≡ b
 same_some a b is = cc
 
 -- While the list that counts stands in the other slot, this one may become vacant.
