@@ -1,27 +1,20 @@
 -- What is spelled in a slot is read there.
-use Rattle.std.proofs.Common.{◌≡◌, ◌≢◌, ◌⊎◌, inl, inr, ℕ, zero, suc, ◌+◌, ◌-◌, ◌%◌, ◌^◌, ◌<◌, ◌≤◌, Bool, true, false, not, cond, eqb, leb, ltb, ◌&&◌, ◌||◌, Option, Some, None, List, [], ◌∷◌, ◌++◌, length, get_or, map, Result, Ok, Err, refl, sym, ◌∙◌, ap, subst, arith, append_assoc}
-use Rattle.std.specs.Prelude.{nat_eq, All}
+use Rattle.std.proofs.Common.{◌≡◌, ℕ, suc, ◌+◌, ◌^◌, ◌<◌, ◌≤◌, Bool, true, false, not, eqb, leb, ltb, ◌&&◌, ◌||◌, Option, Some, List, [], ◌∷◌, ◌++◌, length, get_or, map, Result, Ok, refl, sym, ◌∙◌, ap, subst, arith, append_assoc}
+use Rattle.std.specs.Prelude.{nat_eq}
 use Rattle.std.specs.List.{flat_map, list_any, IsDistinct, AllByRecursion}
 use Rattle.std.specs.List.Sorted.{IsNonDecreasing}
-use Rattle.std.proofs.lemmas.Bool.{cases_Bool, eqb-false, eq-eqb, ne_eqb, le-leb, lt-ltb}
+use Rattle.std.proofs.lemmas.Bool.{eqb-false, ne_eqb, le-leb, lt-ltb}
 use Rattle.std.proofs.lemmas.List.{length-map, map-append, append-nil}
-use Rattle.std.proofs.lemmas.List.Elements.{recursion_from_All}
 use Rattle.std.proofs.lemmas.List.Folds.{list_any-append}
 use Rattle.byte_fields.specs.Spelling.{fixed32_bytes, fixed64_bytes}
 use Rattle.byte_fields.specs.Reading.{Stand, left, ahead, ◌>>=◌}
 use Rattle.byte_fields.proofs.FieldLaws.{left-ahead, byte_again, fixed32_again, fixed64_again}
-use Rattle.block_list.specs.Body.{MeetsRules, files_of, firsts_of, magic, segment_bytes, block_bytes, head_bytes, text_of, successor}
-use Rattle.block_list.specs.Slots.{IsVacant, Holds, Stands}
-use Rattle.block_list.specs.Slots.Stands.{none, alone, other_alone, newer, other_newer}
-use Rattle.block_list.specs.Reading.{ruled, read8, read32, read64, tag, are_neighbours, tag_at, generation_at, count_at, head_at, file_at, goes_on, first_at, segment_at, segments_at, level_at, rows_at, block_at, blocks_at, loose_at, list_at, is_vacant, slot_at, in_slot, generation_of, newer_of, slots_at}
+use Rattle.block_list.specs.Body.{segment_bytes, block_bytes}
+use Rattle.block_list.specs.Reading.{ruled, read8, read32, read64, file_at, goes_on, first_at, segment_at, segments_at, level_at, rows_at, block_at, blocks_at, loose_at}
 use Rattle.block_list.proofs.ReadingLemmas.{segment_files, block_files}
-use Rattle.block_list.proofs.BodyLemmas.{few_segments, few_blocks, few_loose}
-use Rattle.block_list.proofs.LoadLemmas.{holds_not_vacant, vacant_from}
 use Rattle.block_list.proofs.Meaning.{FilesFit, FirstsFit, BlocksFit}
-use Rattle.block_list.specs.declared.reading.Head.{Head}
 use Rattle.block_list.specs.declared.body.SegmentRef.{SegmentRef}
 use Rattle.block_list.specs.declared.body.BlockRef.{BlockRef}
-use Rattle.block_list.specs.declared.body.ListBody.{ListBody}
 
 -- ---- steps
 

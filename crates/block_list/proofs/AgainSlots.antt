@@ -1,16 +1,15 @@
 -- What two slots stand for is what they are read as.
-use Rattle.std.proofs.Common.{◌≡◌, ◌≢◌, ◌⊎◌, inl, inr, ℕ, zero, suc, ◌+◌, ◌-◌, ◌%◌, ◌^◌, ◌<◌, ◌≤◌, Bool, true, false, not, cond, eqb, leb, ltb, ◌&&◌, ◌||◌, Option, Some, None, List, [], ◌∷◌, ◌++◌, length, get_or, map, Result, Ok, Err, refl, sym, ◌∙◌, ap, subst, arith, append_assoc}
-use Rattle.std.specs.Prelude.{nat_eq, All}
+use Rattle.std.proofs.Common.{◌≡◌, inl, inr, ℕ, ◌-◌, ◌%◌, ◌^◌, ◌<◌, ◌≤◌, Bool, true, false, eqb, ltb, ◌&&◌, ◌||◌, Option, Some, None, List, [], ◌∷◌, ◌++◌, length, get_or, Result, Ok, Err, refl, sym, ◌∙◌, ap, subst, arith, append_assoc}
 use Rattle.std.specs.List.{flat_map, AllByRecursion}
 use Rattle.std.proofs.lemmas.Bool.{cases_Bool, eq-eqb, ne_eqb, le-leb, lt-ltb}
 use Rattle.std.proofs.lemmas.List.{length-map, append-nil}
 use Rattle.std.proofs.lemmas.List.Elements.{recursion_from_All}
 use Rattle.byte_fields.specs.Spelling.{fixed32_bytes, fixed64_bytes}
-use Rattle.byte_fields.specs.Reading.{Stand, left, ◌>>=◌}
+use Rattle.byte_fields.specs.Reading.{Stand, left}
 use Rattle.block_list.specs.Body.{MeetsRules, files_of, firsts_of, magic, segment_bytes, block_bytes, head_bytes, text_of, successor}
 use Rattle.block_list.specs.Slots.{IsVacant, Holds, Stands}
 use Rattle.block_list.specs.Slots.Stands.{none, alone, other_alone, newer, other_newer}
-use Rattle.block_list.specs.Reading.{ruled, read8, read32, read64, tag, are_neighbours, tag_at, generation_at, count_at, head_at, goes_on, segments_at, blocks_at, loose_at, list_at, is_vacant, slot_at, in_slot, generation_of, newer_of, slots_at}
+use Rattle.block_list.specs.Reading.{ruled, read8, read32, read64, tag, are_neighbours, tag_at, generation_at, count_at, head_at, segments_at, blocks_at, loose_at, list_at, is_vacant, slot_at, slots_at}
 use Rattle.block_list.proofs.ReadingLemmas.{segment_files, block_files}
 use Rattle.block_list.proofs.BodyLemmas.{few_segments, few_blocks, few_loose}
 use Rattle.block_list.proofs.LoadLemmas.{holds_not_vacant, vacant_from}

@@ -8,3 +8,4 @@ pub mod ReadingLemmas
 pub mod ReadyLemmas
 pub mod SlotLemmas
 pub mod SlotsMeaning
+pub mod TestedLists

@@ -1,14 +1,13 @@
 -- What two slots stand for while one of them is written.
-use Rattle.std.proofs.Common.{◌≡◌, ◌≢◌, ◌⊎◌, inl, inr, ⊎_elim, ℕ, zero, suc, ◌+◌, ◌-◌, ◌*◌, ◌/◌, ◌%◌, ◌<◌, ◌≤◌, max, Option, Some, None, List, [], ◌∷◌, ◌++◌, length, get_or, drop, refl, sym, ◌∙◌, ap, subst, arith, length-append, append_assoc}
+use Rattle.std.proofs.Common.{◌≡◌, ◌⊎◌, inl, inr, ⊎_elim, ℕ, ◌-◌, ◌%◌, ◌<◌, Option, Some, List, [], ◌∷◌, ◌++◌, length, get_or, refl, sym, ◌∙◌, ap, subst, arith}
 use Rattle.std.proofs.lemmas.Bool.{cases_eq}
 use Rattle.disk_model.specs.Images.{Image, bytes_of}
-use Rattle.disk_model.specs.Bytes.{overwritten, Torn}
-use Rattle.disk_model.specs.Crash.{OnlyBytes, ButFor}
-use Rattle.disk_model.proofs.BytesLemmas.{overwritten_behind, torn_behind, torn_byte}
+use Rattle.disk_model.specs.Bytes.{Torn}
+use Rattle.disk_model.specs.Crash.{OnlyBytes}
+use Rattle.disk_model.proofs.BytesLemmas.{torn_behind, torn_byte}
 use Rattle.block_list.specs.Body.{MeetsRules, text_of, successor}
 use Rattle.block_list.specs.Slots.{IsOpen, IsVacant, Holds, Stands, StandsFor, IsNext}
 use Rattle.block_list.specs.Slots.Stands.{none, alone, other_alone, newer, other_newer}
-use Rattle.block_list.specs.Commit.{laid}
 use Rattle.block_list.specs.declared.body.ListBody.{ListBody}
 
 -- the same two slots, seen from the other one

@@ -72,7 +72,7 @@ fn lists_are_read(rt: HostRuntime) -> Result<(), Fail> {
         older[5] = second;
         let list = loaded(alloc, &newer, &older)?;
         assert!(rt;
-            matches!(list, Some(list) if list.next_file == 3),
+            matches!(&list, Some(list) if list.next_file == 3),
             "{first}"
         );
     }

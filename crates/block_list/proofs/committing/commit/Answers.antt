@@ -1,13 +1,12 @@
 -- At every moment of the call the slots stand for the old list or for the new one.
-use Rattle.std.proofs.Common.{◌≡◌, ◌≢◌, ◌<◌, ◌-◌, ◌%◌, ◌∷◌, ◌++◌, [], ℕ, List, Option, Some, IsTrue, OnOk, length, drop, refl, sym, ◌∙◌, ap, subst, arith}
-use Rattle.disk_model.specs.Images.{Image, bytes_of, Besides}
+use Rattle.std.proofs.Common.{◌≡◌, ◌≢◌, ◌<◌, ◌-◌, ◌%◌, ℕ, List, IsTrue, OnOk, length, drop, refl, sym, ◌∙◌, ap, subst, arith}
+use Rattle.disk_model.specs.Images.{bytes_of, Besides}
 use Rattle.disk_model.specs.Crash.{OnlyBytes, Passes}
-use Rattle.block_list.specs.Slots.{Stands, StandsFor, IsNext}
-use Rattle.block_list.specs.Commit.{slot_of, IsBody, CanLay, CanOpen, StandEither}
+use Rattle.block_list.specs.Slots.{Stands, StandsFor}
+use Rattle.block_list.specs.Commit.{slot_of, StandEither}
 use Rattle.block_list.proofs.SlotLemmas.{seen_from, only_slot}
 use Rattle.block_list.proofs.CommitLemmas.{all_stand_either, only_laid, laid_and_opened, other_follows, other_stays, image_stands, both, Follow}
 use Rattle.block_list.proofs.ReadyLemmas.{ready_after}
-use Rattle.block_list.specs.declared.body.ListBody.{ListBody}
 use Rattle.block_list.proofs.committing.commit.Goals as goal
 
 pub returns-in_err-lay-clause-passes : goal.returns-in_err-lay-clause-passes

@@ -1,4 +1,4 @@
-use Rattle.std.proofs.Common.{◌≡◌, ℕ, List, Option, Ok, IsTrue, sym, ◌∙◌, subst, rules}
+use Rattle.std.proofs.Common.{◌≡◌, ℕ, List, Ok, IsTrue, sym, ◌∙◌, subst, rules}
 use Rattle.disk_model.specs.Images.{bytes_of}
 use Rattle.block_list.specs.Slots.{Stands, StandsFor}
 use Rattle.block_list.specs.Reading.{slots_at}
