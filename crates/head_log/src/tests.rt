@@ -216,7 +216,7 @@ fn the_count_is_not_in_its_shortest_form(rt: HostRuntime) -> Result<(), Fail> {
 
 /// What a scan of `THREE` says where the byte at the place is another one. Each record has 18 bytes: its gate, eight of
 /// its length, eight of its number, and the count of its runs.
-fn other_byte(place: usize) -> Result<usize, u64> {
+fn other_byte(place: u8) -> Result<usize, u64> {
     match place {
         // The version, and the last gate, which is closed with every value but 1.
         0 => return Err(0),
@@ -224,14 +224,14 @@ fn other_byte(place: usize) -> Result<usize, u64> {
         _ => {}
     }
     let record = (place - 1) / 18;
-    let start = 1 + 18 * record;
+    let start = 1 + 18 * u64::from(record);
     match (place - 1) % 18 {
         // A closed gate ends the segment.
-        0 => Ok(record),
+        0 => Ok(usize::from(record)),
         // The number isn't the next one.
-        9..=16 => Err(start as u64 + 9),
+        9..=16 => Err(start + 9),
         // A longer body has a byte behind its last span, and another run begins where the body ends.
-        _ => Err(start as u64 + 18),
+        _ => Err(start + 18),
     }
 }
 
@@ -242,9 +242,9 @@ fn cut_at_each_length_and_changed_at_each_byte(rt: HostRuntime) -> Result<(), Fa
     for len in 0..56 {
         assert_eq!(rt; outcome(alloc, &THREE[..len])?, Err(len as u64));
     }
-    for place in 0..56 {
+    for place in 0u8..56 {
         let mut bytes = THREE;
-        bytes[place] ^= 0x40;
+        bytes[usize::from(place)] ^= 0x40;
         assert_eq!(rt; outcome(alloc, &bytes)?, other_byte(place), "at {place}");
     }
     Ok(())
