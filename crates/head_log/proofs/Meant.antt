@@ -1,12 +1,11 @@
 -- What is read somewhere is spelled there: fields and spans.
-use Rattle.std.proofs.Common.{◌≡◌, ◌⊎◌, inl, inr, ℕ, zero, suc, ◌+◌, ◌-◌, ◌*◌, ◌/◌, ◌%◌, ◌^◌, ◌<◌, ◌≤◌, Bool, true, false, cond, eqb, ltb, ◌||◌, ℤ, pos, negsuc, List, [], ◌∷◌, ◌++◌, length, get_or, take, Option, Some, None, Result, Ok, Err, append_assoc, refl, sym, ap, subst, ◌∙◌, arith}
+use Rattle.std.proofs.Common.{◌≡◌, ◌⊎◌, inl, inr, ℕ, zero, suc, ◌+◌, ◌-◌, ◌%◌, ◌^◌, ◌<◌, Bool, true, false, cond, eqb, ℤ, List, [], ◌∷◌, ◌++◌, length, get_or, Option, Some, None, Result, Ok, Err, append_assoc, refl, sym, ap, subst, ◌∙◌, arith}
 use Rattle.std.specs.Prelude.{FitsSigned, IfSome}
 use Rattle.std.specs.Int.{w64, from_le_bytes}
 use Rattle.std.specs.List.{flat_map, AllByRecursion}
 use Rattle.std.proofs.lemmas.Bool.{cases_Bool, cases_lt, eqb-true}
 use Rattle.std.proofs.lemmas.List.{append-nil, length-append, length-drop, get_or_append_left, get_or_past}
 use Rattle.std.proofs.lemmas.Option.{same_Some, none-some}
-use Rattle.std.proofs.lemmas.Str.{IsUtf8-from_is_utf8}
 use Rattle.span_types.specs.declared.ids.TraceId.{TraceId}
 use Rattle.span_types.specs.declared.ids.SpanId.{SpanId}
 use Rattle.span_types.specs.declared.attrs.Attr.{Attr}
@@ -21,7 +20,7 @@ use Rattle.span_types.specs.declared.spans.StatusCode.{StatusCode}
 use Rattle.span_types.specs.declared.spans.StatusCode.TheVariants as codes
 use Rattle.byte_fields.specs.declared.error.FieldError.{FieldError}
 use Rattle.byte_fields.specs.Spelling.{fixed64_bytes, var_bytes, zigzag_bytes, text_bytes}
-use Rattle.byte_fields.specs.Reading.{Stand, left, AreBytes, IsWithin, ahead, Passes, ◌>>=◌, raw_at, byte_at, fixed64_at, var_at, signed_of, zigzag_at, text_at}
+use Rattle.byte_fields.specs.Reading.{Stand, left, AreBytes, IsWithin, Passes, ◌>>=◌, raw_at, byte_at, fixed64_at, var_at, signed_of, zigzag_at, text_at}
 use Rattle.byte_fields.proofs.FieldLaws.{left_fits, raw_takes, byte_takes, fixed64_takes, var_takes, var_below, zigzag_takes}
 use Rattle.byte_fields.proofs.TextLaws.{Passes-then, text_answer}
 use Rattle.head_log.specs.Breaks.{or_place, in_part}

@@ -1,11 +1,11 @@
 -- What a segment is read as is what it stands for.
-use Rattle.std.proofs.Common.{◌≡◌, ◌≢◌, inl, inr, ℕ, zero, suc, ◌+◌, ◌-◌, ◌<◌, ◌≤◌, Bool, true, false, ◌&&◌, cond, eqb, leb, List, [], ◌∷◌, ◌++◌, length, take, drop, Result, Ok, Err, append_assoc, refl, sym, ap, subst, ◌∙◌, arith}
+use Rattle.std.proofs.Common.{◌≡◌, ◌≢◌, inl, inr, ℕ, zero, suc, ◌+◌, ◌-◌, ◌≤◌, Bool, true, false, ◌&&◌, cond, eqb, leb, List, [], ◌∷◌, ◌++◌, length, take, drop, Ok, Err, append_assoc, refl, sym, ap, subst, ◌∙◌, arith}
 use Rattle.std.specs.List.{flat_map, AllByRecursion}
 use Rattle.std.proofs.lemmas.Bool.{and_parts, eqb-true, eqb-false, leb-true}
 use Rattle.std.proofs.lemmas.List.{append-nil, length-append, length-drop, length-take, drop-take, take-append-drop}
 use Rattle.span_types.specs.declared.spans.Span.{Span}
 use Rattle.byte_fields.specs.Spelling.{fixed64_bytes}
-use Rattle.byte_fields.specs.Reading.{Stand, left, AreBytes, IsWithin, ahead, ◌>>=◌, byte_at, fixed64_at}
+use Rattle.byte_fields.specs.Reading.{Stand, left, AreBytes, IsWithin, ahead, byte_at, fixed64_at}
 use Rattle.byte_fields.proofs.FieldLaws.{passes}
 use Rattle.head_log.specs.declared.numbered.NumberedBatch.{NumberedBatch}
 use Rattle.head_log.specs.Breaks.{in_part}

@@ -1,7 +1,7 @@
 -- What is read somewhere is spelled there: runs and bodies.
-use Rattle.std.proofs.Common.{◌≡◌, ◌⊎◌, inl, inr, ℕ, zero, suc, ◌+◌, ◌-◌, ◌^◌, ◌<◌, ◌≤◌, Bool, true, false, ◌&&◌, ◌||◌, cond, eqb, ltb, List, [], ◌∷◌, ◌++◌, length, Option, Some, None, Result, Ok, Err, append_assoc, refl, sym, ap, subst, ◌∙◌, arith}
+use Rattle.std.proofs.Common.{◌≡◌, ℕ, zero, suc, ◌+◌, ◌-◌, ◌<◌, ◌≤◌, Bool, true, false, ◌&&◌, ◌||◌, cond, eqb, ltb, List, [], ◌∷◌, ◌++◌, length, Option, Result, Ok, Err, append_assoc, refl, sym, ap, subst, ◌∙◌, arith}
 use Rattle.std.specs.List.{flat_map, AllByRecursion}
-use Rattle.std.proofs.lemmas.Bool.{cases_Bool, eqb-true, eqb-false, ltb-true, ltb-false, and_parts}
+use Rattle.std.proofs.lemmas.Bool.{eqb-true, eqb-false, ltb-true, ltb-false, and_parts}
 use Rattle.std.proofs.lemmas.List.{append-nil, length-append}
 use Rattle.span_types.specs.declared.attrs.Resource.{Resource}
 use Rattle.span_types.specs.declared.attrs.Scope.{Scope}
@@ -10,15 +10,15 @@ use Rattle.span_runs.specs.Runs.{in_front, runs}
 use Rattle.span_runs.specs.Same.{same_resource, same_scope, of_one_resource, of_one_scope}
 use Rattle.span_runs.proofs.SameLaws.{resource_decides, scope_decides}
 use Rattle.byte_fields.specs.Spelling.{fixed64_bytes, var_bytes, text_bytes}
-use Rattle.byte_fields.specs.Reading.{Stand, IsWithin, ◌>>=◌, fixed64_at, var_at, text_at}
+use Rattle.byte_fields.specs.Reading.{Stand, IsWithin, fixed64_at, var_at, text_at}
 use Rattle.head_log.specs.Breaks.{in_part}
 use Rattle.head_log.specs.Bodies.{list_bytes, attrs_bytes, span_bytes, scope_run_bytes, resource_run_bytes, body_bytes}
 use Rattle.head_log.specs.Sound.{AreSoundAttrs, IsSoundSpan, IsSoundBatch}
 use Rattle.head_log.specs.Scanning.{items_at, attrs_at, span_at, last_passes, last_of, scope_at, span_count_at, scope_spans_at, scope_run_at, runs_at, run_count_at, resource_spans_at, resource_at, resource_run_at, spans_at, body_at}
-use Rattle.head_log.proofs.Again.{IsBelow64, IsOf}
+use Rattle.head_log.proofs.Again.{IsOf}
 use Rattle.head_log.proofs.AgainRuns.{GoodScope, AllGood}
-use Rattle.head_log.proofs.RunLaws.{items_of, all_of, AreLinked, last_item, AreRuns, last_of-run}
-use Rattle.head_log.proofs.Meant.{Bound, bound, same_pair, kept_else, kept_then, Took, took_none, took_then, Got, Meant, renamed, AllItems, ItemsMean, items_mean, meant_fixed64, meant_var, meant_text, meant_attrs, IsSoundScope, meant_span}
+use Rattle.head_log.proofs.RunLaws.{items_of, all_of, AreLinked, AreRuns, last_of-run}
+use Rattle.head_log.proofs.Meant.{bound, same_pair, kept_else, kept_then, Took, took_none, took_then, Meant, renamed, AllItems, items_mean, meant_fixed64, meant_var, meant_text, meant_attrs, IsSoundScope, meant_span}
 
 -- ---- runs of items
 
