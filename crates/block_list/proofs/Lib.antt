@@ -1,7 +1,11 @@
+pub mod Again
+pub mod AgainSlots
 pub mod BodyLemmas
 pub mod CommitLemmas
 pub mod LoadLemmas
 pub mod Meaning
 pub mod ReadingLemmas
+pub mod ReadyLemmas
 pub mod SlotLemmas
 pub mod SlotsMeaning
+pub mod TestedLists

@@ -1,12 +1,12 @@
 -- What a crash leaves while a list is loaded.
-use Rattle.std.proofs.Common.{◌≡◌, ◌≢◌, ◌⊎◌, inl, inr, ⊎_elim, ℕ, zero, suc, ◌+◌, ◌-◌, ◌*◌, ◌%◌, ◌<◌, ◌≤◌, min, max, Bool, true, false, not, eqb, ltb, Option, Some, None, List, [], ◌∷◌, ◌++◌, length, get_or, Result, Ok, Err, OnOk, refl, sym, ◌∙◌, ap, subst, arith, length-append}
+use Rattle.std.proofs.Common.{◌≡◌, ◌≢◌, inl, inr, ℕ, ◌-◌, ◌<◌, true, not, eqb, ltb, Option, List, ◌∷◌, length, get_or, Result, Ok, Err, OnOk, refl, sym, ◌∙◌, ap, subst, arith, length-append}
 use Rattle.std.proofs.lemmas.Bool.{cases_lt, or_cases, ltb-true, eqb-false, not-true}
 use Rattle.disk_model.specs.Images.{Image, bytes_of, OnFile}
 use Rattle.disk_model.specs.Bytes.{HalfCut}
 use Rattle.disk_model.specs.Crash.{Reached, Within, OnlyBytes, Elapses, LeavesOnly}
 use Rattle.disk_model.proofs.Moments.{started, goes_on, widened, joined}
 use Rattle.block_list.specs.Body.{text_of}
-use Rattle.block_list.specs.Slots.{IsOpen, IsVacant, Holds, Stands, StandsFor}
+use Rattle.block_list.specs.Slots.{IsVacant, Holds, Stands}
 use Rattle.block_list.specs.Slots.Stands.{none, alone, other_alone, newer, other_newer}
 use Rattle.block_list.specs.Loading.{Keeps, KeptRun}
 use Rattle.block_list.specs.Reading.{is_vacant}

@@ -1,10 +1,10 @@
 -- What is read is a list, each byte of it, and it meets the rules.
-use Rattle.std.proofs.Common.{◌≡◌, ◌≢◌, ◌⊎◌, inl, inr, ⊎_elim, ℕ, zero, suc, ◌+◌, ◌-◌, ◌*◌, ◌%◌, ◌^◌, ◌<◌, ◌≤◌, Bool, true, false, not, eqb, leb, ltb, ◌&&◌, ◌||◌, Option, Some, None, List, [], ◌∷◌, ◌++◌, length, get_or, drop, map, Result, Ok, Err, refl, sym, ◌∙◌, ap, subst, arith, length-append, length-drop, append_assoc}
-use Rattle.std.specs.Prelude.{nat_eq, All}
+use Rattle.std.proofs.Common.{◌≡◌, inl, inr, ℕ, zero, suc, ◌+◌, ◌-◌, ◌%◌, ◌^◌, ◌<◌, ◌≤◌, Bool, true, false, not, eqb, leb, ltb, ◌&&◌, ◌||◌, Option, Some, None, List, [], ◌∷◌, ◌++◌, length, get_or, map, Result, Ok, Err, refl, sym, ◌∙◌, ap, subst, arith, length-append, length-drop, append_assoc}
+use Rattle.std.specs.Prelude.{nat_eq}
 use Rattle.std.specs.List.{flat_map, list_any, IsDistinct, AllByRecursion}
 use Rattle.std.specs.List.Sorted.{IsNonDecreasing}
 use Rattle.std.specs.Int.{w32, from_le_bytes}
-use Rattle.std.proofs.lemmas.Bool.{cases_lt, and_parts, or_cases, eqb-true, eqb-false, ne_eqb, leb-true, ltb-true, not-true}
+use Rattle.std.proofs.lemmas.Bool.{cases_lt, and_parts, eqb-true, eqb-false, ne_eqb, leb-true, ltb-true, not-true}
 use Rattle.std.proofs.lemmas.List.{length-map, map-append, append-nil, get_or_append_left, get_or_past}
 use Rattle.std.proofs.lemmas.List.Elements.{All-from_recursion}
 use Rattle.std.proofs.lemmas.List.Folds.{list_any-append}
@@ -13,7 +13,7 @@ use Rattle.byte_fields.specs.Spelling.{fixed32_bytes, fixed64_bytes}
 use Rattle.byte_fields.specs.Reading.{Stand, left, AreBytes, IsWithin, ahead, Passes, ◌>>=◌, raw_at, byte_at, fixed32_at, fixed64_at}
 use Rattle.byte_fields.proofs.FieldLaws.{read_as, left_fits, raw_takes, byte_takes, fixed32_takes, fixed64_takes}
 use Rattle.byte_fields.proofs.TextLaws.{Passes-then}
-use Rattle.block_list.specs.Body.{MeetsRules, files_of, magic, segment_bytes, block_bytes, head_bytes, text_of}
+use Rattle.block_list.specs.Body.{MeetsRules, magic, segment_bytes, block_bytes, head_bytes, text_of}
 use Rattle.block_list.specs.Reading.{placed, ruled, read8, read32, read64, tag, are_neighbours, tag_at, generation_at, count_at, head_at, file_at, goes_on, first_at, segment_at, segments_at, level_at, rows_at, block_at, blocks_at, loose_at, list_at}
 use Rattle.block_list.proofs.ReadingLemmas.{segment_files, block_files}
 use Rattle.block_list.specs.declared.reading.Head.{Head}
@@ -149,7 +149,7 @@ ruled64 s t n test within is =
 -- ---- files
 
 -- files that were given out and are named once, beside those named before
-abbrev FilesFit : ℕ → List ℕ → List ℕ → Type 0
+abbrev pub FilesFit : ℕ → List ℕ → List ℕ → Type 0
 FilesFit next_file seen [] = Unit {0}
 FilesFit next_file seen (file ∷ files) = (2 ≤ file) × (file < next_file) × (list_any (nat_eq file) seen ≡ false) × FilesFit next_file (seen ++ file ∷ []) files
 
@@ -204,7 +204,7 @@ files_in_range next_file seen (file ∷ files) fit = ((fit.0, fit.1), files_in_r
 -- ---- segments
 
 -- first numbers that don't fall and that the floor fits
-abbrev FirstsFit : ℕ → Option ℕ → List ℕ → Type 0
+abbrev pub FirstsFit : ℕ → Option ℕ → List ℕ → Type 0
 FirstsFit floor before [] = Unit {0}
 FirstsFit floor before (first ∷ firsts) = (first ≤ 4294967295) × (goes_on floor before first ≡ true) × ((not (eqb (length firsts) 0) || leb floor first) ≡ true) × FirstsFit floor (Some first) firsts
 
@@ -267,7 +267,7 @@ segments_mean next_file floor (suc count) before done s t all within is =
 
 -- ---- blocks
 
-abbrev BlocksFit : List BlockRef → Type 0
+abbrev pub BlocksFit : List BlockRef → Type 0
 BlocksFit blocks = AllByRecursion (λ (block : BlockRef). (block.level ≤ 63) × ((1 ≤ block.rows) × (block.rows ≤ 1048576))) blocks
 
 record BlockMeans (next_file : ℕ) (seen : List ℕ) (s t : Stand) (block : BlockRef) : Type 0 where

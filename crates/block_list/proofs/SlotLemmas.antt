@@ -1,14 +1,13 @@
 -- What two slots stand for while one of them is written.
-use Rattle.std.proofs.Common.{◌≡◌, ◌≢◌, ◌⊎◌, inl, inr, ⊎_elim, ℕ, zero, suc, ◌+◌, ◌-◌, ◌*◌, ◌/◌, ◌%◌, ◌<◌, ◌≤◌, max, Option, Some, None, List, [], ◌∷◌, ◌++◌, length, get_or, drop, refl, sym, ◌∙◌, ap, subst, arith, length-append, append_assoc}
+use Rattle.std.proofs.Common.{◌≡◌, ◌⊎◌, inl, inr, ⊎_elim, ℕ, ◌-◌, ◌%◌, ◌<◌, Option, Some, List, [], ◌∷◌, ◌++◌, length, get_or, refl, sym, ◌∙◌, ap, subst, arith}
 use Rattle.std.proofs.lemmas.Bool.{cases_eq}
 use Rattle.disk_model.specs.Images.{Image, bytes_of}
-use Rattle.disk_model.specs.Bytes.{overwritten, Torn}
-use Rattle.disk_model.specs.Crash.{OnlyBytes, ButFor}
-use Rattle.disk_model.proofs.BytesLemmas.{overwritten_behind, torn_behind, torn_byte}
+use Rattle.disk_model.specs.Bytes.{Torn}
+use Rattle.disk_model.specs.Crash.{OnlyBytes}
+use Rattle.disk_model.proofs.BytesLemmas.{torn_behind, torn_byte}
 use Rattle.block_list.specs.Body.{MeetsRules, text_of, successor}
 use Rattle.block_list.specs.Slots.{IsOpen, IsVacant, Holds, Stands, StandsFor, IsNext}
 use Rattle.block_list.specs.Slots.Stands.{none, alone, other_alone, newer, other_newer}
-use Rattle.block_list.specs.Commit.{laid}
 use Rattle.block_list.specs.declared.body.ListBody.{ListBody}
 
 -- the same two slots, seen from the other one
@@ -26,7 +25,7 @@ turned_back image list (other_alone body here there is) = alone body there here 
 turned_back image list (newer body older here there next is) = other_newer body older there here next is
 turned_back image list (other_newer body older here there next is) = newer body older there here next is
 
-zero_or_one : (slot : ℕ) → slot < 2 → (slot ≡ 0) ⊎ (slot ≡ 1)
+pub zero_or_one : (slot : ℕ) → slot < 2 → (slot ≡ 0) ⊎ (slot ≡ 1)
 zero_or_one slot below = elim (cases_eq slot 0) [ inl is ↦ inl is | inr more ↦ inr (omega arith) ]
 
 pub seen_from : (slot : ℕ) (image : Image) (list : Option ListBody) → slot < 2 → StandsFor image list → Stands slot (bytes_of image slot) (bytes_of image (1 - slot)) list
@@ -45,7 +44,7 @@ seen_back slot image list below stands = elim (zero_or_one slot below) [
 pub parity_differs : (slot old : ℕ) → slot ≡ old % 2 → slot ≡ successor old % 2 → ⊥
 parity_differs slot old here there = omega arith
 
-same_some : (a b : ListBody) → Some a ≡ Some b → a ≡ b
+pub same_some : (a b : ListBody) → Some a ≡ Some b → a ≡ b
 same_some a b is = cc
 
 -- While the list that counts stands in the other slot, this one may become vacant.

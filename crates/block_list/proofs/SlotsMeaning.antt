@@ -1,13 +1,13 @@
 -- What two slots are read as is what they stand for.
-use Rattle.std.proofs.Common.{◌≡◌, ◌≢◌, ◌⊎◌, inl, inr, ℕ, ◌+◌, ◌%◌, ◌≤◌, Bool, true, false, not, cond, eqb, ltb, ◌||◌, Option, Some, None, List, [], ◌∷◌, ◌++◌, length, get_or, Result, Ok, Err, refl, sym, ◌∙◌, ap, subst, arith}
-use Rattle.std.proofs.lemmas.Bool.{cases_Bool, or_cases, eqb-true, not-false}
+use Rattle.std.proofs.Common.{◌≡◌, ◌⊎◌, inl, inr, ℕ, Bool, true, false, not, cond, eqb, ltb, ◌||◌, Option, Some, None, List, [], ◌∷◌, ◌++◌, length, get_or, Result, Ok, Err, refl, sym, ◌∙◌, ap, subst, arith}
+use Rattle.std.proofs.lemmas.Bool.{cases_Bool, or_cases, eqb-true}
 use Rattle.byte_fields.specs.Reading.{Stand, left, AreBytes, IsWithin, ◌>>=◌}
 use Rattle.block_list.specs.Body.{text_of, successor}
 use Rattle.block_list.specs.Slots.{IsVacant, Holds, Stands}
 use Rattle.block_list.specs.Slots.Stands.{none, alone, other_alone, newer, other_newer}
 use Rattle.block_list.specs.Reading.{read8, list_at, is_vacant, slot_at, in_slot, generation_of, newer_of, slots_at, are_neighbours}
 use Rattle.block_list.proofs.LoadLemmas.{vacant_from}
-use Rattle.block_list.proofs.Meaning.{Took, took8, list_means}
+use Rattle.block_list.proofs.Meaning.{took8, list_means}
 use Rattle.block_list.specs.declared.body.ListBody.{ListBody}
 
 -- what a slot is read as

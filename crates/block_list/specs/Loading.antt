@@ -1,7 +1,7 @@
 -- What loading a list answers, and what it leaves.
 use Rattle.std.specs.Prelude.{◌≡◌, ◌⊎◌, ℕ, ◌<◌, ◌≤◌, Option, Some, None, List, length, take, ◌&&◌, nat_le, if◌then◌else◌, Result, Ok, Err}
 use Rattle.disk_model.specs.Images.{Image, bytes_of}
-use Rattle.disk_model.specs.Crash.{Reached, Within, LeavesOnly}
+use Rattle.disk_model.specs.Crash.{Reached, Within, OnlyBytes, LeavesOnly}
 use Rattle.block_list.specs.Slots.{IsOpen, StandsFor}
 use Rattle.block_list.specs.Reading.{is_vacant}
 use Rattle.block_list.specs.declared.body.ListBody.{ListBody}
@@ -33,6 +33,15 @@ pub record KeptRun {D : Type 0} (moment : D → ℕ) (left_since : D → ℕ →
 -- a list may be laid into the slot, if it doesn't hold the one that counts
 abbrev pub IsFree : List ℕ → Type 0
 IsFree bytes = IsOpen bytes ⊎ (length bytes < 30)
+
+-- The slots stand for this list, and the next one may be laid: each slot has one image, which is what a read gives, and a
+-- gate may be closed in either.
+pub record IsReady (held : Image) (may_leave : Image → Type 0) (list : Option ListBody) : Type 0 where
+  pub stands : StandsFor held list
+  pub slot_0 : OnlyBytes 0 (bytes_of held 0) may_leave
+  pub slot_1 : OnlyBytes 1 (bytes_of held 1) may_leave
+  pub free_0 : IsFree (bytes_of held 0)
+  pub free_1 : IsFree (bytes_of held 1)
 
 -- a vacant slot of 30 bytes or more is cut to its first byte
 abbrev pub cleared : List ℕ → List ℕ

@@ -1,7 +1,6 @@
 -- Two slots, which stand for one list or for none.
-use Rattle.std.specs.Prelude.{◌≡◌, ◌≢◌, ◌⊎◌, ℕ, ◌+◌, ◌-◌, ◌%◌, ◌<◌, Option, Some, None, List, ◌∷◌, ◌++◌, length, slice_index}
+use Rattle.std.specs.Prelude.{◌≡◌, ◌≢◌, ◌⊎◌, ℕ, ◌-◌, ◌%◌, ◌<◌, Option, Some, None, List, ◌∷◌, ◌++◌, length, slice_index}
 use Rattle.disk_model.specs.Images.{Image, bytes_of}
-use Rattle.disk_model.specs.Crash.{OnlyBytes}
 use Rattle.block_list.specs.Body.{MeetsRules, text_of, successor}
 use Rattle.block_list.specs.declared.body.ListBody.{ListBody}
 

@@ -4,6 +4,7 @@ ghost use Rattle.disk_model.specs.Images.{Image, bytes_of, Besides};
 ghost use Rattle.disk_model.specs.Crash.{OnlyBytes, LeavesOnly, Passes, HasCause};
 ghost use Rattle.block_list.specs.Slots.{Stands, StandsFor, IsNext};
 ghost use Rattle.block_list.specs.Commit.{slot_of, laid, IsBody, CanLay, CanOpen, StandsForEither, StandEither};
+ghost use Rattle.block_list.specs.Loading.{IsReady};
 ghost use Rattle.block_list.specs.declared.body.ListBody.{ListBody};
 
 use crate::PreparedList;
@@ -80,6 +81,9 @@ pub fn commit<D: Device>(disk: &mut D, list: &PreparedList) -> Result<(), Failed
     ensures counts { IsTrue (D.tells disk.old) → (new : ListBody) → IsBody list.now new → OnOk result ((image : Image) → D.may_leave disk.new image → StandsFor image (Some new)) }
     ensures slot_0 { IsTrue (D.tells disk.old) → OnOk result (OnlyBytes 0 (bytes_of (D.held disk.new) 0) (D.may_leave disk.new)) }
     ensures slot_1 { IsTrue (D.tells disk.old) → OnOk result (OnlyBytes 1 (bytes_of (D.held disk.new) 1) (D.may_leave disk.new)) }
+    // After a load, or another commit, the next list may then be laid.
+    ensures ready { IsTrue (D.tells disk.old) → (old : Option ListBody) (new : ListBody) → IsReady (D.held disk.old) (D.may_leave disk.old) old → IsBody list.now new
+        → OnOk result (IsReady (D.held disk.new) (D.may_leave disk.new) (Some new)) }
     ensures besides { IsTrue (D.tells disk.old) → Besides (slot_of list.now) (D.held disk.old) (D.held disk.new) }
 
     ensures telling { D.tells disk.new ≡ D.tells disk.old }

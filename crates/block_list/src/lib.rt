@@ -4,6 +4,7 @@
 mod body;
 mod committing;
 mod error;
+mod laws;
 mod loading;
 mod prepared;
 mod reading;
@@ -11,5 +12,9 @@ mod reading;
 pub use body::{BlockList, BlockRef, FileList, ListBody, SegmentList, SegmentRef};
 pub use committing::{commit, lay, open_gate};
 pub use error::ListError;
-pub use loading::load;
+pub use laws::{next_may_be_laid, spelled_is_read};
+pub use loading::{load, next_generation};
 pub use prepared::{PreparedList, prepare};
+
+#[cfg(test)]
+mod tests;

@@ -3,9 +3,10 @@ ghost use Rattle.std.specs.Prelude.{◌≡◌, ◌≢◌, ◌⊎◌, ◌<◌, �
 ghost use Rattle.span_types.specs.Faults.{Rose};
 ghost use Rattle.disk_model.specs.Images.{Image, bytes_of, Besides, SameBytes};
 ghost use Rattle.disk_model.specs.Crash.{Within, OnlyBytes, HasCause};
-ghost use Rattle.block_list.specs.Slots.{Stands, StandsFor};
+ghost use Rattle.block_list.specs.Slots.{Stands, StandsFor, IsNext};
 ghost use Rattle.block_list.specs.Reading.{slots_at, newer_of, generation_of};
-ghost use Rattle.block_list.specs.Loading.{GivesList, error_of, KeptRun, IsFree, cleared};
+ghost use Rattle.block_list.specs.Loading.{GivesList, error_of, KeptRun, IsFree, IsReady, cleared};
+ghost use Rattle.block_list.specs.declared.body.ListBody.{ListBody};
 ghost use Rattle.block_list.specs.declared.error.ListError.TheVariants.{Fault, NotList, Memory};
 
 use crate::reading::{Break, is_vacant, read_slot};
@@ -25,18 +26,18 @@ pub fn load<D: Device>(alloc: Global, disk: &mut D) -> Result<Option<ListBody>, 
     ensures list { IsTrue (D.tells disk.old) → IfOk result (λ list. StandsFor (D.held disk.old) list) }
     ensures not_list { IsTrue (D.tells disk.old) → (slot at : ℕ) → result ≡ Err (NotList slot at) → slots_at (bytes_of (D.held disk.old) 0) (bytes_of (D.held disk.old) 1) ≡ Err (slot, at) }
 
+    // Slots that stand for a list, or for none, are read as just that.
+    ensures only { IsTrue (D.tells disk.old) → (list : Option ListBody) → StandsFor (D.held disk.old) list → IfOk result (λ found. found ≡ list) }
+    ensures readable { IsTrue (D.tells disk.old) → (list : Option ListBody) (slot at : ℕ) → StandsFor (D.held disk.old) list → result ≢ Err (NotList slot at) }
+
     // A crash at any moment leaves what stands for what some image stood for at the start, with every other file.
     ensures kept { IsTrue (D.tells disk.old) → KeptRun D.moment D.left_since D.may_leave disk.old disk.new }
 
-    // At `Ok` the disk still stands for the list, each slot has one image, which is what a read gives, and a list may be
-    // laid into it.
-    ensures same_list { IsTrue (D.tells disk.old) → IfOk result (λ list. StandsFor (D.held disk.new) list) }
-    ensures slot_0 { IsTrue (D.tells disk.old) → OnOk result (OnlyBytes 0 (bytes_of (D.held disk.new) 0) (D.may_leave disk.new)) }
-    ensures slot_1 { IsTrue (D.tells disk.old) → OnOk result (OnlyBytes 1 (bytes_of (D.held disk.new) 1) (D.may_leave disk.new)) }
+    // At `Ok` the disk still stands for the list, each slot has one image, which is what a read gives, and the next list may
+    // be laid.
+    ensures ready { IsTrue (D.tells disk.old) → IfOk result (λ list. IsReady (D.held disk.new) (D.may_leave disk.new) list) }
     ensures cleared_0 { IsTrue (D.tells disk.old) → OnOk result (bytes_of (D.held disk.new) 0 ≡ cleared (bytes_of (D.held disk.old) 0)) }
     ensures cleared_1 { IsTrue (D.tells disk.old) → OnOk result (bytes_of (D.held disk.new) 1 ≡ cleared (bytes_of (D.held disk.old) 1)) }
-    ensures free_0 { IsTrue (D.tells disk.old) → OnOk result (IsFree (bytes_of (D.held disk.new) 0)) }
-    ensures free_1 { IsTrue (D.tells disk.old) → OnOk result (IsFree (bytes_of (D.held disk.new) 1)) }
     ensures others { IsTrue (D.tells disk.old) → (file : ℕ) → 2 ≤ file → bytes_of (D.held disk.new) file ≡ bytes_of (D.held disk.old) file }
 
     ensures telling { D.tells disk.new ≡ D.tells disk.old }
@@ -47,6 +48,16 @@ pub fn load<D: Device>(alloc: Global, disk: &mut D) -> Result<Option<ListBody>, 
     let list = read_slots(alloc, &first, &second)?;
     clear_both(disk, &first, &second)?;
     Ok(list)
+}
+
+/// The generation of the list that comes after the one that counts, or of the first one.
+pub fn next_generation(list: &Option<ListBody>) -> u8
+    ensures { IsNext result list.now }
+{
+    match list {
+        None => 0,
+        Some(body) => body.generation.wrapping_add(1),
+    }
 }
 
 /// What the two slots say.

@@ -19,7 +19,7 @@ use Rattle.head_log.proofs.AgainRuns.{body_again}
 
 -- ---- a body in its part of the file
 
-part_within : (bytes : List ℕ) (start len : ℕ) → AreBytes bytes → start + len ≤ length bytes → IsWithin (take (start + len) bytes) start
+pub part_within : (bytes : List ℕ) (start len : ℕ) → AreBytes bytes → start + len ≤ length bytes → IsWithin (take (start + len) bytes) start
 part_within bytes start len fit room = record {
   bytes_fit = λ i. elim (cases_lt i (start + len)) [
     | inl lt ↦ rw (get_or-take (start + len) bytes i 0 lt) (fit i)

@@ -8,3 +8,6 @@ pub mod Again
 pub mod RunLaws
 pub mod AgainRuns
 pub mod AgainRecords
+pub mod Meant
+pub mod MeantRuns
+pub mod MeantRecords

@@ -2,7 +2,8 @@
 
 ghost use Rattle.std.specs.Prelude.{◌≡◌, ℕ, List, Ok};
 ghost use Rattle.span_types.specs.declared.spans.Span.{Span};
-ghost use Rattle.byte_fields.specs.Reading.{AreBytes};
+ghost use Rattle.byte_fields.specs.Reading.{Stand, AreBytes};
+ghost use Rattle.head_log.specs.declared.numbered.NumberedBatch.{NumberedBatch};
 ghost use Rattle.head_log.specs.Entries.{entries};
 ghost use Rattle.head_log.specs.Scanning.{segment_at};
 ghost use Rattle.head_log.specs.Stands.{StandsFor};
@@ -11,4 +12,10 @@ ghost use Rattle.head_log.specs.Stands.{StandsFor};
 pub fn spelled_is_read()
     ensures { (first gate : ℕ) (batches : List (List Span)) (bytes : List ℕ) → AreBytes bytes → StandsFor first batches gate bytes
         → segment_at first bytes ≡ Ok (entries first batches, record { whole = bytes; at = gate }) }
+{}
+
+/// What is read of bytes is what they stand for: bytes that are accepted are such as `append` leaves.
+pub fn read_is_spelled()
+    ensures { (first : ℕ) (bytes : List ℕ) (found : List NumberedBatch) (end : Stand) → AreBytes bytes → segment_at first bytes ≡ Ok (found, end)
+        → (batches : List (List Span)) × (found ≡ entries first batches) × StandsFor first batches end.at bytes }
 {}

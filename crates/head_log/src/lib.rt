@@ -12,7 +12,7 @@ mod records;
 mod segment;
 mod writing;
 
-pub use laws::spelled_is_read;
+pub use laws::{read_is_spelled, spelled_is_read};
 pub use numbered::{Numbered, NumberedBatch};
 pub use prepared::Prepared;
 pub use read_back::{LogError, scan};

@@ -4,6 +4,7 @@ ghost use Rattle.std.specs.Prelude.{◌≡◌, ◌<◌, ◌≤◌, ◌+◌, ◌-
 ghost use Rattle.disk_model.specs.Images.{bytes_of, SameBytes};
 ghost use Rattle.disk_model.specs.Crash.{Within, LeavesOnly};
 ghost use Rattle.span_types.specs.declared.spans.Span.{Span};
+ghost use Rattle.head_log.specs.Entries.{entries};
 ghost use Rattle.head_log.specs.Outcomes.{Scans, Recalls, CausesFault};
 ghost use Rattle.head_log.specs.Stands.{StandsFor};
 ghost use Rattle.head_log.specs.Blocks.{CausesUnread, Untouched};
@@ -65,9 +66,10 @@ const BLOCK: usize = 16_384;
 
 /// The batches of a segment whose first record has the number `first`, and the segment as it is to be written on.
 ///
-/// Where the bytes stand for batches, as `append` leaves them, exactly these are answered. A file that the grammar does not
-/// allow is `NotLog` at the first place where it breaks. The file is read in blocks, in time that is linear in its bytes. No
-/// number that it holds says how much memory is taken before as many bytes are there.
+/// Where the bytes stand for batches, as `append` leaves them, exactly these are answered, and what is answered is what the
+/// bytes stand for. A file that the grammar does not allow is `NotLog` at the first place where it breaks. The file is read in
+/// blocks, in time that is linear in its bytes. No number that it holds says how much memory is taken before as many bytes
+/// are there.
 pub fn scan<D: Device>(
     alloc: Global,
     disk: &mut D,
@@ -76,6 +78,7 @@ pub fn scan<D: Device>(
 ) -> Result<(Segment, Numbered), LogError>
     ensures reads { IsTrue (D.tells disk.old) → Scans file first (bytes_of (D.held disk.old) file) result }
     ensures kept { IsTrue (D.tells disk.old) → (batches : List (List Span)) (gate : ℕ) → StandsFor first batches gate (bytes_of (D.held disk.old) file) → Recalls first batches gate result }
+    ensures stands { IsTrue (D.tells disk.old) → IfOk result (λ x. (batches : List (List Span)) × (x.1 ≡ entries first batches) × StandsFor first batches x.0.gate (bytes_of (D.held disk.old) file)) }
     ensures fault { CausesFault (D.faults disk.old) (D.faults disk.new) result }
     ensures untouched { Untouched D.tells D.held D.may_leave D.moment D.left_since disk.old disk.new }
 {

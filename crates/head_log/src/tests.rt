@@ -10,7 +10,13 @@ use std::test::Fail;
 /// A segment after one batch without spans.
 const ONE_EMPTY: [u8; 20] = [1, 1, 9, 0, 0, 0, 0, 0, 0, 0, 0, 0, 0, 0, 0, 0, 0, 0, 0, 0];
 
-/// The same with a body of ten bytes, in which the count of runs is not in its shortest form.
+/// A segment after three of them.
+const THREE: [u8; 56] = [
+    1, 1, 9, 0, 0, 0, 0, 0, 0, 0, 0, 0, 0, 0, 0, 0, 0, 0, 0, 1, 9, 0, 0, 0, 0, 0, 0, 0, 1, 0, 0, 0,
+    0, 0, 0, 0, 0, 1, 9, 0, 0, 0, 0, 0, 0, 0, 2, 0, 0, 0, 0, 0, 0, 0, 0, 0,
+];
+
+/// `ONE_EMPTY` with a body of ten bytes, in which the count of runs is not in its shortest form.
 const LONG_COUNT: [u8; 21] = [
     1, 1, 10, 0, 0, 0, 0, 0, 0, 0, 0, 0, 0, 0, 0, 0, 0, 0, 0x80, 0, 0,
 ];
@@ -203,40 +209,43 @@ fn stopped_after_each_call(rt: HostRuntime) -> Result<(), Fail> {
 }
 
 #[test]
-fn where_it_breaks(rt: HostRuntime) -> Result<(), Fail> {
+fn the_count_is_not_in_its_shortest_form(rt: HostRuntime) -> Result<(), Fail> {
     assert_eq!(rt; outcome(rt.alloc(), &LONG_COUNT)?, Err(18));
-    assert_eq!(rt; outcome(rt.alloc(), &ONE_EMPTY)?, Ok(1));
-    // cut at each length, it breaks there
-    for len in 0..20 {
-        assert_eq!(rt; outcome(rt.alloc(), &ONE_EMPTY[..len])?, Err(len as u64));
+    Ok(())
+}
+
+/// What a scan of `THREE` says where the byte at the place is another one. Each record has 18 bytes: its gate, eight of
+/// its length, eight of its number, and the count of its runs.
+fn other_byte(place: u8) -> Result<usize, u64> {
+    match place {
+        // The version, and the last gate, which is closed with every value but 1.
+        0 => return Err(0),
+        55 => return Ok(3),
+        _ => {}
     }
-    // the version; the gate; the length; the number; the count, and then a field past the body's end; the last gate
-    let changed = [
-        Err(0),
-        Ok(0),
-        Err(19),
-        Err(19),
-        Err(19),
-        Err(19),
-        Err(19),
-        Err(19),
-        Err(19),
-        Err(19),
-        Err(10),
-        Err(10),
-        Err(10),
-        Err(10),
-        Err(10),
-        Err(10),
-        Err(10),
-        Err(10),
-        Err(19),
-        Ok(1),
-    ];
-    for place in 0..20 {
-        let mut bytes = ONE_EMPTY;
-        bytes[place] ^= 0x40;
-        assert_eq!(rt; outcome(rt.alloc(), &bytes)?, changed[place]);
+    let record = (place - 1) / 18;
+    let start = 1 + 18 * u64::from(record);
+    match (place - 1) % 18 {
+        // A closed gate ends the segment.
+        0 => Ok(usize::from(record)),
+        // The number isn't the next one.
+        9..=16 => Err(start + 9),
+        // A longer body has a byte behind its last span, and another run begins where the body ends.
+        _ => Err(start + 18),
+    }
+}
+
+#[test]
+fn cut_at_each_length_and_changed_at_each_byte(rt: HostRuntime) -> Result<(), Fail> {
+    let alloc = rt.alloc();
+    assert_eq!(rt; outcome(alloc, &THREE)?, Ok(3));
+    for len in 0..56 {
+        assert_eq!(rt; outcome(alloc, &THREE[..len])?, Err(len as u64));
+    }
+    for place in 0u8..56 {
+        let mut bytes = THREE;
+        bytes[usize::from(place)] ^= 0x40;
+        assert_eq!(rt; outcome(alloc, &bytes)?, other_byte(place), "at {place}");
     }
     Ok(())
 }

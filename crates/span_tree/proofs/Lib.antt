@@ -3,3 +3,4 @@ pub mod BuildLaws
 pub mod ReachLaws
 pub mod MemberLaws
 pub mod RelationLaws
+pub mod NumberedRows

@@ -15,3 +15,6 @@ mod tree;
 pub use node::Node;
 pub use steps::Steps;
 pub use tree::Tree;
+
+#[cfg(test)]
+mod tests;

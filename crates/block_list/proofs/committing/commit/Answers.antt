@@ -1,12 +1,12 @@
 -- At every moment of the call the slots stand for the old list or for the new one.
-use Rattle.std.proofs.Common.{◌≡◌, ◌≢◌, ◌<◌, ◌-◌, ◌%◌, ◌∷◌, ◌++◌, [], ℕ, List, Option, Some, IsTrue, length, drop, refl, sym, ◌∙◌, ap, subst, arith}
-use Rattle.disk_model.specs.Images.{Image, bytes_of}
+use Rattle.std.proofs.Common.{◌≡◌, ◌≢◌, ◌<◌, ◌-◌, ◌%◌, ℕ, List, IsTrue, OnOk, length, drop, refl, sym, ◌∙◌, ap, subst, arith}
+use Rattle.disk_model.specs.Images.{bytes_of, Besides}
 use Rattle.disk_model.specs.Crash.{OnlyBytes, Passes}
-use Rattle.block_list.specs.Slots.{Stands, StandsFor, IsNext}
-use Rattle.block_list.specs.Commit.{slot_of, IsBody, CanLay, CanOpen, StandEither}
+use Rattle.block_list.specs.Slots.{Stands, StandsFor}
+use Rattle.block_list.specs.Commit.{slot_of, StandEither}
 use Rattle.block_list.proofs.SlotLemmas.{seen_from, only_slot}
-use Rattle.block_list.proofs.CommitLemmas.{all_stand_either, only_laid, laid_and_opened, other_follows, other_stays, image_stands, Follow}
-use Rattle.block_list.specs.declared.body.ListBody.{ListBody}
+use Rattle.block_list.proofs.CommitLemmas.{all_stand_either, only_laid, laid_and_opened, other_follows, other_stays, image_stands, both, Follow}
+use Rattle.block_list.proofs.ReadyLemmas.{ready_after}
 use Rattle.block_list.proofs.committing.commit.Goals as goal
 
 pub returns-in_err-lay-clause-passes : goal.returns-in_err-lay-clause-passes
@@ -69,3 +69,20 @@ returns-clause-any_moment g c = λ told old new stands next body.
     all_stand_either g.D.Device.moment g.D.Device.left_since g.D.Device.may_leave slot (bytes_of held (1 - slot)) old new c.args.disk.now c.open_gate.new.disk (omega arith)
     (only_slot (1 - slot) held (g.D.Device.may_leave c.args.disk.now) (omega arith) can.slot_0 can.slot_1)
     (returns-clause-passes g c told old new stands next body)
+
+pub returns-clause-ready : goal.returns-clause-ready
+returns-clause-ready g c = λ told old new ready body.
+    let held = g.D.Device.held c.args.disk.now in
+    let later = g.D.Device.held c.open_gate.new.disk in
+    let list = c.args.list.now in
+    let slot = slot_of list in
+    let told_mid : IsTrue (g.D.Device.tells c.lay.new.disk) = subst IsTrue (sym c.lay.ensures.telling) told in
+    let told_new : IsTrue (g.D.Device.tells c.open_gate.new.disk) = subst IsTrue (sym c.open_gate.ensures.telling) told_mid in
+    let parity : new.generation % 2 ≡ slot = ap (λ (n : ℕ). n % 2) (sym body.generation) in
+    let besides : Besides slot held later = λ other differs. c.open_gate.ensures.besides told_mid other differs ∙ c.lay.ensures.besides told other differs in
+    let may_leave = g.D.Device.may_leave c.open_gate.new.disk in
+    let only : OnOk c.open_gate.result (OnlyBytes 0 (bytes_of later 0) may_leave × OnlyBytes 1 (bytes_of later 1) may_leave) =
+    both c.open_gate.result (c.open_gate.ensures.slot_0 told_mid) (c.open_gate.ensures.slot_1 told_mid) (λ first second. (first, second)) in
+    both c.open_gate.result (c.open_gate.ensures.counts told_mid new body) only
+    (λ counts each. ready_after slot held later (g.D.Device.may_leave c.args.disk.now) may_leave old new (omega arith) parity ready besides
+    (counts later (g.met.D.Device.held_may_stay c.open_gate.new.disk told_new)) each.0 each.1)

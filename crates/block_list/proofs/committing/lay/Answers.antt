@@ -1,13 +1,11 @@
 -- At every moment of the call the slots stand for the old list.
-use Rattle.std.proofs.Common.{◌≡◌, ◌<◌, ◌-◌, ◌%◌, ◌∷◌, ◌++◌, [], ℕ, List, Option, IsTrue, length, drop, refl, sym, ◌∙◌, ap, subst, arith}
-use Rattle.disk_model.specs.Images.{Image, bytes_of}
-use Rattle.disk_model.specs.Bytes.{overwritten, Torn}
-use Rattle.disk_model.specs.Crash.{OnlyBytes, Passes, LeavesOnly}
-use Rattle.block_list.specs.Slots.{Stands, StandsFor, IsNext}
-use Rattle.block_list.specs.Commit.{slot_of, laid, CanLay}
+use Rattle.std.proofs.Common.{◌≡◌, ◌<◌, ◌-◌, ◌∷◌, ℕ, length, drop, refl, ◌∙◌, subst, arith}
+use Rattle.disk_model.specs.Images.{bytes_of}
+use Rattle.disk_model.specs.Bytes.{Torn}
+use Rattle.disk_model.specs.Crash.{OnlyBytes, Passes}
+use Rattle.block_list.specs.Commit.{slot_of}
 use Rattle.block_list.proofs.SlotLemmas.{seen_from, only_slot}
-use Rattle.block_list.proofs.CommitLemmas.{closed_bytes, laid_bytes, gate_closes, list_laid, all_stand}
-use Rattle.block_list.specs.declared.body.ListBody.{ListBody}
+use Rattle.block_list.proofs.CommitLemmas.{closed_bytes, gate_closes, list_laid, all_stand}
 use Rattle.block_list.proofs.committing.lay.Goals as goal
 
 -- closing the gate

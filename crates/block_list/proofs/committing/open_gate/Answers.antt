@@ -1,14 +1,12 @@
 -- At every moment of the call the slots stand for the old list or for the new one.
-use Rattle.std.proofs.Common.{◌≡◌, ◌<◌, ◌-◌, ◌%◌, ◌∷◌, ◌++◌, [], ℕ, List, Option, Some, IsTrue, Result, OnOk, length, refl, sym, ◌∙◌, ap, subst, arith}
-use Rattle.std.proofs.lemmas.Result.{on_ok_weaker}
-use Rattle.disk_model.specs.Images.{Image, bytes_of}
+use Rattle.std.proofs.Common.{◌≡◌, ◌<◌, ◌-◌, ◌%◌, ◌∷◌, ◌++◌, [], ℕ, List, OnOk, sym, ◌∙◌, ap, subst, arith}
+use Rattle.disk_model.specs.Images.{bytes_of}
 use Rattle.disk_model.specs.Bytes.{overwritten, Torn}
 use Rattle.disk_model.specs.Crash.{OnlyBytes, Passes}
-use Rattle.block_list.specs.Slots.{Stands, StandsFor, IsNext}
-use Rattle.block_list.specs.Commit.{slot_of, IsBody, CanOpen, StandEither}
-use Rattle.block_list.proofs.SlotLemmas.{seen_from, only_slot}
+use Rattle.block_list.specs.Slots.{Stands, IsNext}
+use Rattle.block_list.specs.Commit.{slot_of}
+use Rattle.block_list.proofs.SlotLemmas.{seen_from}
 use Rattle.block_list.proofs.CommitLemmas.{opened_bytes, gate_opens, all_stand_either, image_opened, both}
-use Rattle.block_list.specs.declared.body.ListBody.{ListBody}
 use Rattle.block_list.proofs.committing.open_gate.Goals as goal
 
 pub returns-clause-passes : goal.returns-clause-passes

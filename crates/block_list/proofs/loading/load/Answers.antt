@@ -1,6 +1,8 @@
-use Rattle.std.proofs.Common.{◌≡◌, ℕ, List, Option, IsTrue, sym, ◌∙◌, subst}
+use Rattle.std.proofs.Common.{◌≡◌, ℕ, List, Ok, IsTrue, sym, ◌∙◌, subst, rules}
 use Rattle.disk_model.specs.Images.{bytes_of}
 use Rattle.block_list.specs.Slots.{Stands, StandsFor}
+use Rattle.block_list.specs.Reading.{slots_at}
+use Rattle.block_list.proofs.AgainSlots.{only_one, never_breaks}
 use Rattle.block_list.proofs.LoadLemmas.{kept_then}
 use Rattle.block_list.proofs.loading.load.Goals as goal
 
@@ -22,8 +24,8 @@ returns-clause-list g c = λ told.
     (subst (λ (b : List ℕ). Stands 0 b c.deref-2.result.now c.in_ok-list.list) first c.in_ok-list.ensures.stands)
 
 -- and the cuts keep it
-pub returns-clause-same_list : goal.returns-clause-same_list
-returns-clause-same_list g c = λ told.
+pub returns-clause-ready : goal.returns-clause-ready
+returns-clause-ready g c = λ told.
     let held = g.D.Device.held c.args.disk.now in
     let new = g.D.Device.held c.clear_both.new.disk in
     let told_mid : IsTrue (g.D.Device.tells c.read_both.new.disk) = subst IsTrue (sym c.read_both.ensures.telling) told in
@@ -32,4 +34,29 @@ returns-clause-same_list g c = λ told.
     let stands : StandsFor r.0 c.in_ok-list.list =
     subst (λ (b : List ℕ). Stands 0 (bytes_of r.0 0) b c.in_ok-list.list) (sym (c.in_ok-first.ensures.slot_1 told r.0 r.1))
     (subst (λ (b : List ℕ). Stands 0 b (bytes_of held 1) c.in_ok-list.list) (sym (c.in_ok-first.ensures.slot_0 told r.0 r.1)) (returns-clause-list g c told)) in
-    r.2.list c.in_ok-list.list stands
+    record {
+      stands = r.2.list c.in_ok-list.list stands;
+      slot_0 = c.in_ok-clear_both.ensures.slot_0 told_mid;
+      slot_1 = c.in_ok-clear_both.ensures.slot_1 told_mid;
+      free_0 = c.in_ok-clear_both.ensures.free_0 told_mid;
+      free_1 = c.in_ok-clear_both.ensures.free_1 told_mid;
+    }
+
+-- slots that stand for a list are read as that one
+pub returns-clause-only : goal.returns-clause-only
+returns-clause-only g c = λ told list stands.
+    let held = g.D.Device.held c.args.disk.now in
+    let first : c.deref.result.now ≡ bytes_of held 0 = c.deref.ensures.value ∙ c.in_ok-first.ensures.first told in
+    let second : c.deref-2.result.now ≡ bytes_of held 1 = c.deref-2.ensures.value ∙ c.in_ok-first.ensures.second told in
+    let read : slots_at (bytes_of held 0) (bytes_of held 1) ≡ Ok c.in_ok-list.list =
+    subst (λ (b : List ℕ). slots_at (bytes_of held 0) b ≡ Ok c.in_ok-list.list) second
+    (subst (λ (b : List ℕ). slots_at b c.deref-2.result.now ≡ Ok c.in_ok-list.list) first c.in_ok-list.ensures.reads) in
+    only_one (bytes_of held 0) (bytes_of held 1) c.in_ok-list.list list stands read
+
+pub returns-in_err-list-clause-not_list : goal.returns-in_err-list-clause-not_list
+returns-in_err-list-clause-not_list g c = search rules
+
+pub returns-in_err-list-clause-readable : goal.returns-in_err-list-clause-readable
+returns-in_err-list-clause-readable g c = λ told list slot at stands is.
+    let held = g.D.Device.held c.args.disk.now in
+    never_breaks (bytes_of held 0) (bytes_of held 1) list slot at stands (returns-in_err-list-clause-not_list g c told slot at is)

@@ -1,4 +1,4 @@
-use Rattle.std.proofs.Common.{◌++◌, ℕ, List, length, ◌∙◌, ap, arith}
+use Rattle.std.proofs.Common.{length, ap, arith}
 use Rattle.block_list.proofs.BodyLemmas.{length-text, text_parts}
 use Rattle.block_list.proofs.prepared.fill.Goals as goal
 

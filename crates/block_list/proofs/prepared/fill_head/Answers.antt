@@ -1,6 +1,3 @@
-use Rattle.std.proofs.Common.{◌≡◌, ◌++◌, [], ◌∷◌, ℕ, List, length, ◌∙◌, ap}
-use Rattle.byte_fields.specs.Spelling.{fixed32_bytes, fixed64_bytes}
-use Rattle.block_list.specs.Body.{magic}
 use Rattle.block_list.proofs.BodyLemmas.{head_fields}
 use Rattle.block_list.proofs.prepared.fill_head.Goals as goal
 

@@ -1,5 +1,5 @@
 use Rattle.std.proofs.Common.{arith}
-use Rattle.block_list.proofs.BodyLemmas.{length-text, few_entries}
+use Rattle.block_list.proofs.BodyLemmas.{length-text}
 use Rattle.block_list.proofs.prepared.size_of.Goals as goal
 
 pub returns : goal.returns

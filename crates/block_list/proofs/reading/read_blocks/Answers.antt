@@ -1,6 +1,6 @@
-use Rattle.std.proofs.Common.{◌≡◌, ◌<◌, ◌-◌, ◌+◌, ◌∷◌, ◌++◌, [], ℕ, Bool, Option, Some, None, List, suc, eqb, map, Result, Ok, Err, refl, sym, ◌∙◌, ap, subst, arith, Vec, Global}
+use Rattle.std.proofs.Common.{◌≡◌, ◌-◌, ◌+◌, ◌++◌, [], ℕ, List, suc, map, Ok, sym, ◌∙◌, ap, subst, arith, Vec, Global}
 use Rattle.std.proofs.lemmas.Result.{err_from_is_err_and}
-use Rattle.block_list.specs.Reading.{block_at, blocks_at, GivesAt, SameFiles}
+use Rattle.block_list.specs.Reading.{block_at, blocks_at, SameFiles}
 use Rattle.block_list.proofs.ReadingLemmas.{block_at-same, files_more, blocks_next, blocks_stop, blocks_end, gives_stop}
 use Rattle.block_list.specs.declared.body.BlockRef.{BlockRef}
 use Rattle.block_list.proofs.reading.read_blocks.Goals as goal

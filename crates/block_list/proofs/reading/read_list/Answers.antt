@@ -1,9 +1,7 @@
-use Rattle.std.proofs.Common.{◌≡◌, ◌∷◌, ◌++◌, [], ℕ, Option, None, List, Result, Ok, Err, refl, sym, ◌∙◌, ap, subst, Vec, Global}
+use Rattle.std.proofs.Common.{◌++◌, [], ℕ, sym, ◌∙◌, Vec, Global}
 use Rattle.std.proofs.lemmas.Result.{err_from_is_err_and}
-use Rattle.byte_fields.specs.Reading.{Stand}
-use Rattle.block_list.specs.Reading.{head_at, segments_at, blocks_at, loose_at, list_at, GivesAt, SameFiles}
+use Rattle.block_list.specs.Reading.{blocks_at, loose_at, list_at, SameFiles}
 use Rattle.block_list.proofs.ReadingLemmas.{segment_files, block_files, blocks_at-same, loose_at-same, same_behind, list_read, list_breaks_in_blocks, list_breaks_in_loose, gives_stop}
-use Rattle.block_list.specs.declared.body.SegmentRef.{SegmentRef}
 use Rattle.block_list.specs.declared.body.BlockRef.{BlockRef}
 use Rattle.block_list.specs.declared.body.ListBody.{ListBody}
 use Rattle.block_list.proofs.reading.read_list.Goals as goal

@@ -1,8 +1,7 @@
-use Rattle.std.proofs.Common.{◌≡◌, ◌<◌, ◌-◌, ◌+◌, ◌∷◌, ◌++◌, [], ℕ, Bool, Option, Some, None, List, suc, eqb, map, Result, Ok, Err, refl, sym, ◌∙◌, ap, subst, arith, Vec, Global}
+use Rattle.std.proofs.Common.{◌≡◌, ◌-◌, ◌+◌, ◌++◌, [], ℕ, List, suc, Ok, sym, ◌∙◌, ap, subst, arith, Vec, Global}
 use Rattle.std.proofs.lemmas.Result.{err_from_is_err_and}
-use Rattle.block_list.specs.Reading.{file_at, loose_at, GivesAt, SameFiles}
+use Rattle.block_list.specs.Reading.{file_at, loose_at, SameFiles}
 use Rattle.block_list.proofs.ReadingLemmas.{file_at-same, loose_more, loose_next, loose_stop, loose_end, gives_stop}
-use Rattle.block_list.specs.declared.body.BlockRef.{BlockRef}
 use Rattle.block_list.proofs.reading.read_loose.Goals as goal
 
 pub loop-index-preserved : goal.loop-index-preserved

@@ -1,4 +1,4 @@
-use Rattle.std.proofs.Common.{◌≡◌, ◌-◌, ◌++◌, [], map}
+use Rattle.std.proofs.Common.{◌≡◌, ◌-◌, ◌++◌, []}
 use Rattle.block_list.specs.Reading.{loose_at, SameFiles}
 use Rattle.block_list.proofs.reading.read_loose.Given as goal
 

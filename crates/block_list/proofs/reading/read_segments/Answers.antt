@@ -1,7 +1,6 @@
-use Rattle.std.proofs.Common.{◌≡◌, ◌<◌, ◌-◌, ◌+◌, ◌∷◌, ◌++◌, [], ℕ, Bool, Option, Some, None, List, suc, eqb, map, Result, Ok, Err, refl, sym, ◌∙◌, ap, subst, arith, Vec, Global}
+use Rattle.std.proofs.Common.{◌≡◌, ◌-◌, ◌+◌, [], ℕ, Bool, Some, None, List, suc, eqb, map, Ok, refl, sym, ◌∙◌, ap, subst, arith, Vec, Global}
 use Rattle.std.proofs.lemmas.Result.{err_from_is_err_and}
-use Rattle.byte_fields.specs.Reading.{Stand}
-use Rattle.block_list.specs.Reading.{segment_at, segments_at, GivesAt, SameFiles}
+use Rattle.block_list.specs.Reading.{segment_at, segments_at, SameFiles}
 use Rattle.block_list.proofs.ReadingLemmas.{segment_at-same, files_more, segments_next, segments_stop, segments_end, gives_stop, last_is}
 use Rattle.block_list.specs.declared.body.SegmentRef.{SegmentRef}
 use Rattle.block_list.proofs.reading.read_segments.Goals as goal

@@ -1,5 +1,7 @@
-use Rattle.std.proofs.Common.{◌∙◌, arith}
+use Rattle.std.proofs.Common.{◌∙◌, subst, arith}
+use Rattle.head_log.specs.Stands.{StandsFor}
 use Rattle.head_log.proofs.AgainRecords.{recalled, never_broken}
+use Rattle.head_log.proofs.MeantRecords.{segment_means}
 use Rattle.head_log.proofs.read_back.scan.Goals as goal
 
 pub invariant_of-segment : goal.invariant_of-segment
@@ -19,3 +21,10 @@ returns-in-Err-At-clause-kept g c = λ told batches gate stands.
     let e = c.in-Err-At.ensures in
     let read = rw c.in-Err-At.field-0-is at e.reads in
     never_broken c.args.first _ _ e.fit (c.as_slice.ensures.value ∙ c.in-Ok.ensures.bytes told) c.in-Err-At.at read batches gate stands
+
+-- what was read is what the bytes stand for
+pub returns-in-Ok-read_segment-clause-stands : goal.returns-in-Ok-read_segment-clause-stands
+returns-in-Ok-read_segment-clause-stands g c = λ told.
+    let e = c.in-Ok-read_segment.ensures in
+    let m = segment_means c.args.first _ _ _ e.fit e.reads in
+    (m.0, c.of.ensures ∙ m.1, subst (StandsFor c.args.first m.0 c.in-Ok-read_segment.gate) (c.as_slice.ensures.value ∙ c.in-Ok.ensures.bytes told) m.2)

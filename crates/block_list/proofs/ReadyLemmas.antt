@@ -1,0 +1,69 @@
+-- After a load or a commit the next list may be laid.
+use Rattle.std.proofs.Common.{◌≡◌, inl, inr, ℕ, ◌-◌, ◌%◌, ◌<◌, Option, Some, List, get_or, refl, sym, ◌∙◌, ap, subst, arith}
+use Rattle.std.proofs.lemmas.Bool.{cases_eq}
+use Rattle.disk_model.specs.Images.{Image, bytes_of, Besides}
+use Rattle.disk_model.specs.Crash.{OnlyBytes}
+use Rattle.block_list.specs.Body.{MeetsRules}
+use Rattle.block_list.specs.Slots.{IsOpen, Holds, Stands, StandsFor, IsNext}
+use Rattle.block_list.specs.Slots.Stands.{none, alone, other_alone, newer, other_newer}
+use Rattle.block_list.specs.Prepared.{Prepared}
+use Rattle.block_list.specs.Commit.{CanLay}
+use Rattle.block_list.specs.Loading.{IsFree, IsReady}
+use Rattle.block_list.proofs.SlotLemmas.{zero_or_one, same_some, seen_from}
+use Rattle.block_list.specs.declared.body.ListBody.{ListBody}
+
+free_in : (slot : ℕ) (held : Image) → slot < 2 → IsFree (bytes_of held 0) → IsFree (bytes_of held 1) → IsFree (bytes_of held slot)
+free_in slot held below first second = elim (zero_or_one slot below) [
+  | inl is ↦ subst (λ (s : ℕ). IsFree (bytes_of held s)) (sym is) first
+  | inr is ↦ subst (λ (s : ℕ). IsFree (bytes_of held s)) (sym is) second
+]
+
+pub can_lay : (held : Image) (may_leave : Image → Type 0) (list : Option ListBody) (next : Prepared) → IsReady held may_leave list → IsNext next.generation list → CanLay held may_leave next
+can_lay held may_leave list next ready follows = record {
+  slot_0 = ready.slot_0;
+  slot_1 = ready.slot_1;
+  follows = (list, ready.stands, follows);
+  free = free_in (next.generation % 2) held (omega arith) ready.free_0 ready.free_1;
+}
+
+-- the list that counts meets the rules
+pub rules_of : (slot : ℕ) (bytes others : List ℕ) (list : Option ListBody) (body : ListBody) → Stands slot bytes others list → list ≡ Some body → MeetsRules body
+rules_of slot bytes others list body (none here there is) e = absurd (let bad = sym is ∙ e in cc)
+rules_of slot bytes others list body (alone found here there is) e = subst MeetsRules (same_some found body (sym is ∙ e)) here.rules
+rules_of slot bytes others list body (other_alone found here there is) e = subst MeetsRules (same_some found body (sym is ∙ e)) there.rules
+rules_of slot bytes others list body (newer found older here there follows is) e = subst MeetsRules (same_some found body (sym is ∙ e)) here.rules
+rules_of slot bytes others list body (other_newer found older here there follows is) e = subst MeetsRules (same_some found body (sym is ∙ e)) there.rules
+
+holds_open : (slot : ℕ) (bytes : List ℕ) (body : ListBody) → Holds slot bytes body → IsOpen bytes
+holds_open slot bytes body holds = ap (λ (l : List ℕ). get_or l 0 0) holds.spelled
+
+wrong_slot : (slot : ℕ) (others : List ℕ) (found body : ListBody) → body.generation % 2 ≡ slot → Holds (1 - slot) others found → found ≡ body → ⊥
+wrong_slot slot others found body parity holds same =
+    let here : found.generation % 2 ≡ body.generation % 2 = ap (λ (b : ListBody). b.generation % 2) same in
+    omega (arith, holds.parity)
+
+-- the slot of the list that counts is open
+open_slot : (slot : ℕ) (bytes others : List ℕ) (list : Option ListBody) (body : ListBody) → body.generation % 2 ≡ slot → Stands slot bytes others list → list ≡ Some body → IsOpen bytes
+open_slot slot bytes others list body parity (none here there is) e = absurd (let bad = sym is ∙ e in cc)
+open_slot slot bytes others list body parity (alone found here there is) e = holds_open slot bytes found here
+open_slot slot bytes others list body parity (other_alone found here there is) e = absurd (wrong_slot slot others found body parity there (same_some found body (sym is ∙ e)))
+open_slot slot bytes others list body parity (newer found older here there follows is) e = holds_open slot bytes found here
+open_slot slot bytes others list body parity (other_newer found older here there follows is) e = absurd (wrong_slot slot others found body parity there (same_some found body (sym is ∙ e)))
+
+-- a list was committed where the next one could be laid
+module _ (slot : ℕ) (held later : Image) (may_leave may_later : Image → Type 0) (old : Option ListBody) (new : ListBody) where
+  free_after : (file : ℕ) → file < 2 → slot < 2 → new.generation % 2 ≡ slot → IsReady held may_leave old → Besides slot held later → StandsFor later (Some new) → IsFree (bytes_of later file)
+  free_after file inside below parity ready besides stands = elim (cases_eq file slot) [
+    | inl is ↦ subst (λ (s : ℕ). IsFree (bytes_of later s)) (sym is) (inl (open_slot slot (bytes_of later slot) (bytes_of later (1 - slot)) (Some new) new parity (seen_from slot later (Some new) below stands) refl))
+    | inr other ↦ subst IsFree (sym (besides file other)) (free_in file held inside ready.free_0 ready.free_1)
+  ]
+
+  pub ready_after : slot < 2 → new.generation % 2 ≡ slot → IsReady held may_leave old → Besides slot held later → StandsFor later (Some new) → OnlyBytes 0 (bytes_of later 0) may_later → OnlyBytes 1 (bytes_of later 1) may_later
+      → IsReady later may_later (Some new)
+  ready_after below parity ready besides stands first second = record {
+    stands = stands;
+    slot_0 = first;
+    slot_1 = second;
+    free_0 = free_after 0 (omega arith) below parity ready besides stands;
+    free_1 = free_after 1 (omega arith) below parity ready besides stands;
+  }
