@@ -1,8 +1,6 @@
 pub mod JsonLemmas
-pub mod ReadBackLemmas
-pub mod RunLemmas
-pub mod SameLemmas
-pub mod DepthLemmas
 pub mod FieldLemmas
+pub mod RunLemmas
+pub mod DepthLemmas
 pub mod FloatLemmas
-pub mod IdLemmas
+pub mod ReadBackLemmas

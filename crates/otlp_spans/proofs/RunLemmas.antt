@@ -1,7 +1,7 @@
 -- The first run of a list, and the runs after it.
 use Rattle.std.proofs.Common.{◌≡◌, ℕ, zero, suc, ◌+◌, ◌-◌, ◌<◌, Bool, true, false, cond, List, [], ◌∷◌, ◌++◌, length, take, drop, map, refl, sym, ap, ◌∙◌, subst, arith, append_assoc}
 use Rattle.std.proofs.lemmas.List.{drop-map, map-append, take-map}
-use Rattle.otlp_spans.specs.Runs.{as_run, in_front, run_len, runs}
+use Rattle.span_runs.specs.Runs.{as_run, in_front, run_len, runs}
 
 -- a run has an item
 run_len-cons : {A : Type 0} (same : A → A → Bool) (x : A) (xs : List A) → (m : ℕ) × (run_len same (x ∷ xs) ≡ suc m)

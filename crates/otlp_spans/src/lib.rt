@@ -6,17 +6,20 @@
 //! that a written trace reads back as its spans comes with the reading of all members.
 #![tactic(auto)]
 
+mod attributes;
+mod cores;
 mod errors;
 mod fields;
 mod json;
+mod paths;
+mod parts;
+mod gathering;
 mod read;
-mod same;
-#[cfg(test)]
-mod tests;
 mod values;
 mod write;
 
 pub use errors::OtlpError;
 pub use fields::read_trace_id;
+pub use paths::{Member, Step};
 pub use read::{Reading, read_line};
 pub use write::write_trace;

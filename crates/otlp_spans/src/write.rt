@@ -3,15 +3,14 @@
 ghost use Rattle.std.specs.Prelude.{◌≡◌, ◌<◌, ◌≤◌, [], ◌∷◌, Some, IfOk, length, map};
 ghost use Rattle.serde_json.specs.View.{view};
 ghost use Rattle.otlp_spans.specs.Json.{json_of};
-ghost use Rattle.otlp_spans.specs.Reading.{spans_of_line};
-ghost use Rattle.otlp_spans.specs.Runs.{as_run, run_len, runs};
-ghost use Rattle.otlp_spans.specs.Same.{same_resource, same_scope};
+ghost use Rattle.span_runs.specs.Runs.{as_run, run_len, runs};
+ghost use Rattle.span_runs.specs.Same.{of_one_resource, of_one_scope};
 ghost use Rattle.otlp_spans.specs.Writing.{list_json, resource_spans_json, scope_spans_json, span_json, spans_in, trace_json, trace_text};
 
-use crate::same::{same_resource, same_scope};
 use crate::values::{resource, scope, span};
 use serde_json::{Value, json};
-use span_types::{Memory, Row, Rows, Text};
+use span_runs::{same_resource, same_scope};
+use span_types::{Memory, Row, Rows, Span, Text};
 use std::alloc::Global;
 
 /// The text of a trace: an OTLP/JSON request of the rows' spans in their order, as compact JSON with ascending keys.
@@ -26,7 +25,6 @@ use std::alloc::Global;
 pub fn write_trace(alloc: Global, rows: &Rows) -> Result<Text, Memory>
     ensures text { IfOk result (λ t. t ≡ trace_text (spans_in rows.now)) }
     ensures json { IfOk result (λ t. json_of t ≡ Some (trace_json (spans_in rows.now))) }
-    ensures empty { rows.now ≡ [] → IfOk result (λ t. spans_of_line t ≡ Some []) }
 {
     let value = trace(alloc, rows.as_slice())?;
     Ok(Text::of(value.to_string(alloc)?))
@@ -44,7 +42,7 @@ fn trace(alloc: Global, rows: &[Row]) -> Result<Value, Memory>
 /// The runs of spans with equal resources.
 fn resources(alloc: Global, rows: &[Row]) -> Result<Value, Memory>
     ensures { IfOk result
-        (λ v. view v ≡ list_json resource_spans_json (runs same_resource (spans_in rows.now))) }
+        (λ v. view v ≡ list_json resource_spans_json (runs of_one_resource (spans_in rows.now))) }
 {
     let mut values = Vec::new(alloc);
     let mut rest = rows;
@@ -56,15 +54,23 @@ fn resources(alloc: Global, rows: &[Row]) -> Result<Value, Memory>
     Ok(Value::from(values))
 }
 
+/// Whether two spans are of equal resources.
+#[tactic(auto, unfolding(span_runs::specs::Same::of_one_resource))]
+fn of_one_resource(a: &Span, b: &Span) -> bool
+    ensures { result ≡ of_one_resource a.now b.now }
+{
+    same_resource(a.resource.get(), b.resource.get())
+}
+
 /// How many rows the first run with equal resources has.
 fn resource_run(rows: &[Row]) -> usize
     requires { 0 < length rows.now }
     ensures within { result ≤ length rows.now }
     ensures some { 0 < result }
-    ensures len { result ≡ run_len same_resource (spans_in rows.now) }
+    ensures len { result ≡ run_len of_one_resource (spans_in rows.now) }
 {
     for i in 1..rows.len() {
-        if !same_resource(&rows[i - 1].span, &rows[i].span) {
+        if !of_one_resource(&rows[i - 1].span, &rows[i].span) {
             return i;
         }
     }
@@ -85,7 +91,7 @@ fn resource_spans(alloc: Global, rows: &[Row]) -> Result<Value, Memory>
 /// The runs of spans with equal scopes.
 fn scopes(alloc: Global, rows: &[Row]) -> Result<Value, Memory>
     ensures { IfOk result
-        (λ v. view v ≡ list_json scope_spans_json (runs same_scope (spans_in rows.now))) }
+        (λ v. view v ≡ list_json scope_spans_json (runs of_one_scope (spans_in rows.now))) }
 {
     let mut values = Vec::new(alloc);
     let mut rest = rows;
@@ -97,15 +103,23 @@ fn scopes(alloc: Global, rows: &[Row]) -> Result<Value, Memory>
     Ok(Value::from(values))
 }
 
+/// Whether two spans are of equal scopes.
+#[tactic(auto, unfolding(span_runs::specs::Same::of_one_scope))]
+fn of_one_scope(a: &Span, b: &Span) -> bool
+    ensures { result ≡ of_one_scope a.now b.now }
+{
+    same_scope(a.scope.get(), b.scope.get())
+}
+
 /// How many rows the first run with equal scopes has.
 fn scope_run(rows: &[Row]) -> usize
     requires { 0 < length rows.now }
     ensures within { result ≤ length rows.now }
     ensures some { 0 < result }
-    ensures len { result ≡ run_len same_scope (spans_in rows.now) }
+    ensures len { result ≡ run_len of_one_scope (spans_in rows.now) }
 {
     for i in 1..rows.len() {
-        if !same_scope(&rows[i - 1].span, &rows[i].span) {
+        if !of_one_scope(&rows[i - 1].span, &rows[i].span) {
             return i;
         }
     }

@@ -3,7 +3,7 @@ use Rattle.std.proofs.lemmas.Str.{IsUtf8-string_bytes}
 use Rattle.otlp_spans.specs.Json.{json_of}
 use Rattle.otlp_spans.specs.Writing.{spans_in, trace_json}
 use Rattle.otlp_spans.proofs.FloatLemmas.{written}
-use Rattle.otlp_spans.proofs.ReadBackLemmas.{empty_reads_back, trace_reads_back}
+use Rattle.otlp_spans.proofs.ReadBackLemmas.{trace_reads_back}
 use Rattle.otlp_spans.proofs.write.write_trace.Goals as goal
 
 pub returns : goal.returns
@@ -15,5 +15,4 @@ returns c =
     record {
       text = c.of.ensures ∙ written (spans_in c.args.rows.now) _ _ is printed.text;
       json = json;
-      empty = λ none. empty_reads_back c.of.result (json ∙ ap (λ l. Some (trace_json (spans_in l))) none);
     }
