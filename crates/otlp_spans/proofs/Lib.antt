@@ -4,3 +4,5 @@ pub mod RunLemmas
 pub mod DepthLemmas
 pub mod FloatLemmas
 pub mod ReadBackLemmas
+pub mod FormLaws
+pub mod ReadableLaws
