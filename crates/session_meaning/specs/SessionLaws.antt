@@ -3,10 +3,11 @@ use Rattle.std.proofs.Common.{◌≡◌, ◌⊎◌, ℕ, ◌+◌, zero, suc, Lis
 use Rattle.span_types.specs.declared.spans.Row.{Row}
 use Rattle.span_types.specs.declared.spans.Span.{Span}
 use Rattle.io_edges.specs.Lines.{lines}
-use Rattle.session_meaning.specs.declared.reply.Reply.{Reply}
+use Rattle.session_text.specs.declared.reply.Reply.{Reply}
 use Rattle.session_meaning.specs.History.{Accepted, Entry, History, history_rows, rows_from, rows_of_entries}
-use Rattle.session_meaning.specs.Requests.{request_of}
-use Rattle.session_meaning.specs.Replies.{reply_text, reply_texts}
+use Rattle.session_text.specs.Requests.{request_of}
+use Rattle.session_text.specs.Replies.{reply_text}
+use Rattle.session_meaning.specs.Session.{reply_texts}
 use Rattle.session_meaning.specs.Session.{IsAnsweredOrStarved, Session}
 
 -- A line without bytes adds no reply.
