@@ -1,5 +1,5 @@
 -- What the lines of a session are answered. Each line is answered at the history that the lines before it left.
-use Rattle.std.specs.Prelude.{◌≡◌, ◌⊎◌, ℕ, ◌<◌, ◌≤◌, Bool, true, false, List, [], ◌∷◌, ◌++◌, length, take, Option, Some, None, Result, Ok, Err, if◌then◌else◌}
+use Rattle.std.specs.Prelude.{◌≡◌, ◌⊎◌, ℕ, ◌<◌, ◌≤◌, Bool, true, false, List, [], ◌∷◌, ◌++◌, length, take, Option, Some, Result, Ok, Err, if◌then◌else◌}
 use Rattle.io_edges.specs.Lines.{lines, taken_limit}
 use Rattle.io_edges.specs.Reader.{HasNoFeed}
 use Rattle.std.specs.List.{list_any}

@@ -1,6 +1,5 @@
 -- How a session, its replies and its history grow at their ends.
-use Rattle.std.proofs.Common.{◌≡◌, ◌⊎◌, ℕ, ◌+◌, zero, suc, List, [], ◌∷◌, ◌++◌, Bool, true, false, length, refl, sym, ◌∙◌, ap, subst, append_assoc, append-nil, add-one, add-zero, arith}
-use Rattle.span_types.specs.declared.spans.Row.{Row}
+use Rattle.std.proofs.Common.{◌≡◌, ℕ, ◌+◌, suc, List, [], ◌∷◌, ◌++◌, length, refl, sym, ◌∙◌, ap, subst, append_assoc, append-nil, add-zero, arith}
 use Rattle.span_types.specs.declared.spans.Span.{Span}
 use Rattle.io_edges.specs.Lines.{lines}
 use Rattle.session_text.specs.declared.reply.Reply.{Reply}

@@ -1,11 +1,11 @@
 -- What a line asks, or why it asks nothing.
-use Rattle.std.specs.Prelude.{◌≡◌, ℕ, ◌+◌, List, [], ◌∷◌, length, codes, nat_le, if◌then◌else◌, Option, Some, None, Result, Ok, Err}
+use Rattle.std.specs.Prelude.{◌≡◌, ⊤, ℕ, ◌+◌, ◌≤◌, List, [], ◌∷◌, length, codes, nat_le, if◌then◌else◌, Option, Some, None, Result, Ok, Err}
 use Rattle.std.specs.Str.{bytes_eq, is_utf8}
 use Rattle.span_types.specs.declared.ids.TraceId.{TraceId}
 use Rattle.io_edges.specs.Lines.{line_limit}
 use Rattle.otlp_spans.specs.Fields.{trace_id_of}
 use Rattle.otlp_spans.specs.Forms.{path_text}
-use Rattle.otlp_spans.specs.Reading.{Given, NoJson, TooManySpans, WrongForm, reading_of}
+use Rattle.otlp_spans.specs.Reading.{Given, NoJson, TooManySpans, WrongForm, most_spans, reading_of}
 use Rattle.otlp_spans.specs.Reading as otlp
 use Rattle.session_text.specs.declared.reply.Refusal.{Refusal}
 use Rattle.session_text.specs.declared.reply.Refusal.TheVariants.{TooLong, BadRequest, BadJson, BadOtlp, TooMany}
@@ -54,3 +54,8 @@ asked_by word line rest =
 -- What a line asks, or why it asks nothing.
 unfoldable pub request_of : List ℕ → Result Request Refusal
 request_of line = if nat_le (length line) line_limit then asked_by (first_part line) line (other_parts line) else Err (TooLong (length line))
+
+-- A push has at most as many spans as a line may have.
+abbrev pub HasFewSpans : Request → Type 0
+HasFewSpans (Push reading) = length reading.batch.spans ≤ most_spans
+HasFewSpans (Trace id) = ⊤

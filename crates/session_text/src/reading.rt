@@ -1,10 +1,10 @@
 //! What a line asks.
 
-ghost use Rattle.std.specs.Prelude.{◌≡◌, ◌⊎◌, Err, Ok, Some, None, option_map, length};
+ghost use Rattle.std.specs.Prelude.{◌≡◌, ◌⊎◌, IfOk, Err, Ok, Some, None, option_map, length};
 ghost use Rattle.std.specs.Str.{is_utf8};
 ghost use Rattle.session_text.specs.declared.reply.Refusal.TheVariants.{Memory};
 ghost use Rattle.session_text.specs.Lines.{first_part, other_parts};
-ghost use Rattle.session_text.specs.Requests.{asked_by, other_request, push_with, request_of, trace_with, with_id};
+ghost use Rattle.session_text.specs.Requests.{HasFewSpans, asked_by, other_request, push_with, request_of, trace_with, with_id};
 
 use crate::{Refusal, Request};
 use otlp_spans::{OtlpError, read_line, read_trace_id};
@@ -26,6 +26,7 @@ const LINE_LIMIT: usize = 16_777_216;
 #[tactic(auto, unfolding(crate::specs::Requests::request_of))]
 pub fn read_request(alloc: Global, line: &[u8]) -> Result<Request, Refusal>
     ensures asked { (result ≡ request_of line.now) ⊎ (result ≡ Err Memory) }
+    ensures few { IfOk result (λ request. HasFewSpans request) }
 {
     if line.len() > LINE_LIMIT {
         return Err(Refusal::TooLong {
@@ -63,7 +64,8 @@ fn asked_by(
     line: &[u8],
     rest: Option<&[u8]>,
 ) -> Result<Request, Refusal>
-    ensures { (result ≡ asked_by word.now line.now (option_map (λ s. s.now) rest.entry)) ⊎ (result ≡ Err Memory) }
+    ensures asked { (result ≡ asked_by word.now line.now (option_map (λ s. s.now) rest.entry)) ⊎ (result ≡ Err Memory) }
+    ensures few { IfOk result (λ request. HasFewSpans request) }
 {
     if word == b"push".as_slice() {
         return push_with(alloc, line.len() as u64, rest);
@@ -79,7 +81,8 @@ fn asked_by(
 
 /// A push, in a line of this length.
 fn push_with(alloc: Global, length: u64, rest: Option<&[u8]>) -> Result<Request, Refusal>
-    ensures { (result ≡ push_with length (option_map (λ s. s.now) rest.entry)) ⊎ (result ≡ Err Memory) }
+    ensures asked { (result ≡ push_with length (option_map (λ s. s.now) rest.entry)) ⊎ (result ≡ Err Memory) }
+    ensures few { IfOk result (λ request. HasFewSpans request) }
 {
     let Some(json) = rest else {
         return Err(Refusal::BadRequest { at: length });
@@ -95,7 +98,8 @@ fn push_with(alloc: Global, length: u64, rest: Option<&[u8]>) -> Result<Request,
 
 /// A look-up, in a line of this length.
 fn trace_with(length: u64, rest: Option<&[u8]>) -> Result<Request, Refusal>
-    ensures { result ≡ trace_with length (option_map (λ s. s.now) rest.entry) }
+    ensures asked { result ≡ trace_with length (option_map (λ s. s.now) rest.entry) }
+    ensures few { IfOk result (λ request. HasFewSpans request) }
 {
     let Some(rest) = rest else {
         return Err(Refusal::BadRequest { at: length });
