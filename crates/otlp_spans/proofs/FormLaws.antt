@@ -104,11 +104,13 @@ first_item : (f : Form) (d : Data) (ds : List Data) (i : ℕ) (one rest : Option
 first_item f d ds i None None one rest = λ p w. elim (item_split f d ds i p w) [ inl h ↦ one h.0 h.1 | inr h ↦ rest p h ]
 first_item f d ds i None (Some p) one rest =
     (item_later f d ds i p rest.0, λ q w. elim (item_split f d ds i q w) [ inl h ↦ absurd (one h.0 h.1) | inr h ↦ rest.1 q h ])
-first_item f d ds i (Some p) rest one others =
-    (item_first f d ds i p one.0, λ q w. elim (item_split f d ds i q w) [
-      inl h ↦ subst (λ x. (x ≡ Item i ∷ p) ⊎ IsBefore (Item i ∷ p) x) (sym h.2) (deeper (Item i) p h.0 (one.1 h.0 h.1))
+first_item f d ds i (Some p) rest one others = (
+  item_first f d ds i p one.0,
+  λ q w. elim (item_split f d ds i q w) [
+    | inl h ↦ subst (λ x. (x ≡ Item i ∷ p) ⊎ IsBefore (Item i ∷ p) x) (sym h.2) (deeper (Item i) p h.0 (one.1 h.0 h.1))
     | inr h ↦ inr (item_before f ds i p q h)
-    ])
+  ],
+)
 
 items_tell : (f : Form) → ((d : Data) → Tells (IsWrong f d) (first_wrong f d)) → (i : ℕ) (ds : List Data)
     → Tells (WrongItem f ds i) (first_in_items (first_wrong f) i ds)
@@ -160,13 +162,15 @@ present : (m : Member) (f : Form) (fs : Fields) (d e : Data) (one rest : Option 
     → Tells (IsWrong f e) one → Tells (WrongMember fs d) rest → Tells (WrongMember (field m f fs) d) (option_or (behind (Of m) one) rest)
 present m f fs d e None rest ordered is one told =
     only_later m f fs d rest (λ x q h w. one q (subst (λ y. IsWrong f y q) (same_Some _ _ (sym h ∙ is)) w)) told
-present m f fs d e (Some p) rest ordered is one told =
-    (record { at_member = m; of_form = f; value = e; path = p; field_is = first; is = is; wrong = one.0; whole = refl }, λ q w. elim (member_split m f fs d q w) [
-      inl h ↦
+present m f fs d e (Some p) rest ordered is one told = (
+  record { at_member = m; of_form = f; value = e; path = p; field_is = first; is = is; wrong = one.0; whole = refl },
+  λ q w. elim (member_split m f fs d q w) [
+    | inl h ↦
         let here = subst (λ y. IsWrong f y h.1) (same_Some _ _ (sym h.2 ∙ is)) h.3 in
         subst (λ x. (x ≡ Of m ∷ p) ⊎ IsBefore (Of m ∷ p) x) (sym h.4) (deeper (Of m) p h.1 (one.1 h.1 here))
     | inr h ↦ inr (member_before m fs d p q ordered h)
-    ])
+  ],
+)
 
 first_member : (m : Member) (f : Form) (fs : Fields) (d : Data) (o : Option Data) (rest : Option (List Step)) → AreOrdered (suc (member_rank m)) fs
     → found m d ≡ o → ((e : Data) → Tells (IsWrong f e) (first_wrong f e)) → Tells (WrongMember fs d) rest
@@ -236,7 +240,7 @@ mutual
   form_tells AnyList ordered d = by_kind AnyList d _ None refl (λ is. any_right d is)
   form_tells (ListOf f) ordered d =
       by_kind (ListOf f) d _ _ refl (λ is. moved _ _ _ (item_wrong f d) (λ p w. wrong_item f d p is w)
-          (items_tell f (form_tells f ordered) 0 (or_empty (list_of d))))
+      (items_tell f (form_tells f ordered) 0 (or_empty (list_of d))))
   form_tells (ObjectOf fs) ordered d =
       by_kind (ObjectOf fs) d _ _ refl (λ is. moved _ _ _ (member_wrong fs d) (λ p w. wrong_member fs d p is w) (fields_tell fs 0 ordered d))
 

@@ -37,9 +37,7 @@ fn value_by(alloc: Global, member: Member, value: &Value) -> Result<Option<AttrV
 {
     match member {
         Member::StringValue => match value.as_str() {
-            Some(text) => Ok(Some(AttrValue::Text(Text::of(String::from_str(
-                alloc, text,
-            )?)))),
+            Some(text) => Ok(Some(AttrValue::Text(Text::of(String::from_str(alloc, text)?)))),
             None => Ok(None),
         },
         Member::BoolValue => Ok(value.as_bool().map(AttrValue::Truth)),

@@ -49,6 +49,14 @@ impl From<AllocError> for OtlpError {
     }
 }
 
+impl<T: Drop> From<AllocFailed<T>> for OtlpError {
+    ghost from_gives = { λ _ e. e ≡ NoMemory };
+
+    fn from(_error: AllocFailed<T>) -> OtlpError {
+        OtlpError::Memory
+    }
+}
+
 /// Why the walk over a line's value stops.
 #[derive(Debug, Drop)]
 pub(crate) enum Stop {
