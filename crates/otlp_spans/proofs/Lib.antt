@@ -4,3 +4,8 @@ pub mod RunLemmas
 pub mod DepthLemmas
 pub mod FloatLemmas
 pub mod ReadBackLemmas
+pub mod ReadsBackFields
+pub mod ReadsBackAttributes
+pub mod ReadsBackSpans
+pub mod ReadsBackRuns
+pub mod ReadsBackTrace
