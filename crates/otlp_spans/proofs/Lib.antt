@@ -9,3 +9,4 @@ pub mod ReadsBackAttributes
 pub mod ReadsBackSpans
 pub mod ReadsBackRuns
 pub mod ReadsBackTrace
+pub mod ReadsBackFits

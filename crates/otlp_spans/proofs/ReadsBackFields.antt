@@ -1,16 +1,15 @@
 -- What is written for ids, moments, whole numbers, kinds and status codes reads back.
-use Rattle.std.proofs.Common.{◌≡◌, ℕ, suc, ◌+◌, ◌*◌, ◌^◌, ◌<◌, ◌≤◌, Bool, true, false, ◌==◌, ◌&&◌, cond, ltb, leb, ℤ, pos, negsuc, List, [], ◌∷◌, length, Option, Some, None, decimal, refl, sym, ap, ◌∙◌, arith, rules, lt-ltb, le-leb}
+use Rattle.std.proofs.Common.{◌≡◌, ℕ, suc, ◌*◌, ◌^◌, ◌<◌, ◌≤◌, true, false, ltb, leb, ℤ, pos, negsuc, List, [], ◌∷◌, length, Option, Some, None, decimal, refl, arith, rules, lt-ltb, le-leb}
 use Rattle.std.specs.Prelude.{FitsSigned, IfSome}
 use Rattle.std.specs.Char.{is_ascii_digit}
 use Rattle.std.specs.Fmt.{signed_decimal}
 use Rattle.std.specs.Int.{w64}
 use Rattle.std.specs.List.{list_all}
-use Rattle.std.specs.Result.{result_ok}
 use Rattle.std.specs.Str.Parse.{digits_value}
 use Rattle.std.proofs.lemmas.Bool.Decides.{nat_tests}
 use Rattle.std.proofs.lemmas.Fmt.{decimal_nonempty, digits_decimal, digits_value-decimal}
 use Rattle.std.proofs.lemmas.Str.Parse.{IsNumeralModel, numerals_by_value}
-use Rattle.hex.specs.Hex.{IsBytes, decode_sized, encode_lower, lower_digits}
+use Rattle.hex.specs.Hex.{encode_lower, lower_digits}
 use Rattle.hex.proofs.HexLemmas.{decode_of-encode_lower, decode_sized-twice, length-encode_with}
 use Rattle.serde_json.specs.Data.{number, string, unsigned}
 use Rattle.span_types.specs.declared.ids.SpanId.{SpanId}
@@ -20,14 +19,10 @@ use Rattle.span_types.specs.declared.spans.SpanKind.TheVariants.{Unspecified, In
 use Rattle.span_types.specs.declared.spans.StatusCode.{StatusCode}
 use Rattle.span_types.specs.declared.spans.StatusCode.TheVariants.{Unset, Fine, Error}
 use Rattle.otlp_spans.specs.Fields.{after_minus, bytes_of, code_of, int_of, is_zeros, kind_of, moment_of, parent_of, signed_of, span_id_of, trace_id_of, whole_of}
+use Rattle.otlp_spans.specs.Fits.{AreBytes}
 use Rattle.otlp_spans.specs.Writing.{code_number, kind_number, parent_text}
 
 -- ---- ids
-
--- so many bytes
-pub record AreBytes (count : ℕ) (bytes : List ℕ) : Type 0 where
-  pub len : length bytes ≡ count
-  pub fit : IsBytes bytes
 
 bytes_back : (n : ℕ) (bytes : List ℕ) → AreBytes n bytes → bytes_of n (encode_lower bytes) ≡ Some bytes
 bytes_back n bytes are =

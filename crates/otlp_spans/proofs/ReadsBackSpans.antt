@@ -1,16 +1,16 @@
 -- What is written for a resource, a scope and a span reads back, nothing of it is skipped, and no part of it has a wrong form.
-use Rattle.std.proofs.Common.{◌≡◌, ℕ, ◌^◌, ◌<◌, false, List, [], map, Option, Some, None, refl}
-use Rattle.std.specs.Prelude.{IfSome}
+use Rattle.std.proofs.Common.{◌≡◌, [], map, Some, None, refl}
 use Rattle.span_types.specs.declared.attrs.Resource.{Resource}
 use Rattle.span_types.specs.declared.attrs.Scope.{Scope}
 use Rattle.span_types.specs.declared.spans.Span.{Span}
 use Rattle.otlp_spans.specs.Attributes.{AreDistinctBehind}
+use Rattle.otlp_spans.specs.Fits.{FitAttrs, FitsSpan}
 use Rattle.otlp_spans.specs.Forms.{first_wrong, resource_form, scope_form, span_form}
 use Rattle.otlp_spans.specs.Reading.{IsReadable, core_of, resource_from, scope_from, skipped_from, skipped_of_span, span_of, span_with}
 use Rattle.otlp_spans.specs.Writing.{attr_json, resource_json, scope_json, span_json, status_json}
 use Rattle.otlp_spans.proofs.JsonLemmas.{items_in-items_of}
-use Rattle.otlp_spans.proofs.ReadsBackAttributes.{FitAttrs, attrs_back, attrs_right, no_attr_skipped}
-use Rattle.otlp_spans.proofs.ReadsBackFields.{AreBytes, code_back, kind_back, parent_back, span_id_back, trace_id_back, whole_back}
+use Rattle.otlp_spans.proofs.ReadsBackAttributes.{attrs_back, attrs_right, no_attr_skipped}
+use Rattle.otlp_spans.proofs.ReadsBackFields.{code_back, kind_back, parent_back, span_id_back, trace_id_back, whole_back}
 
 -- ---- resources
 
@@ -41,15 +41,6 @@ unfolding scope_json
 scope_right s = rw (attrs_right s.attrs) refl
 
 -- ---- spans
-
--- what the types of a span's own values promise
-pub record FitsSpan (s : Span) : Type 0 where
-  pub trace : AreBytes 16 s.trace.0
-  pub id : AreBytes 8 s.id.0
-  pub parent : IfSome s.parent (λ p. AreBytes 8 p.0)
-  pub start : s.start < 2 ^ 64
-  pub end : s.end < 2 ^ 64
-  pub attrs : FitAttrs s.attrs
 
 core_back : (s : Span) → FitsSpan s → IsReadable s → core_of (span_json s) ≡ Some (record { trace = s.trace; id = s.id; parent = s.parent; start = s.start; end = s.end })
 unfolding core_of span_json

@@ -1,6 +1,7 @@
 -- What is written for runs of spans and for a whole trace reads back.
-use Rattle.std.proofs.Common.{◌≡◌, ℕ, suc, true, ◌+◌, ◌-◌, ◌≤◌, leb, List, [], ◌∷◌, length, map, Option, Some, None, Ok, refl, sym, ap, ap₂, ◌∙◌, arith, le-leb}
+use Rattle.std.proofs.Common.{◌≡◌, ℕ, suc, true, ◌+◌, ◌-◌, ◌≤◌, leb, List, [], ◌∷◌, length, map, Some, None, Ok, refl, sym, ap, ap₂, ◌∙◌, arith, le-leb}
 use Rattle.std.specs.List.{AllByRecursion, filter_map}
+use Rattle.std.proofs.lemmas.List.Elements.{recursion_from_All}
 use Rattle.serde_json.specs.Data.{Data}
 use Rattle.span_types.specs.declared.attrs.Resource.{Resource}
 use Rattle.span_types.specs.declared.attrs.Scope.{Scope}
@@ -9,14 +10,15 @@ use Rattle.span_runs.specs.Runs.{runs}
 use Rattle.span_runs.specs.Same.{of_one_resource, of_one_scope}
 use Rattle.otlp_spans.specs.declared.paths.Member.TheVariants as m
 use Rattle.otlp_spans.specs.Attributes.{list_in}
+use Rattle.otlp_spans.specs.Fits.{FitsResourceRun, FitsScopeRun, FitsSpan, FitsTrace}
 use Rattle.otlp_spans.specs.Forms.{first_wrong, request_form, resource_spans_form, scope_spans_form, span_form}
 use Rattle.otlp_spans.specs.Json.{json_of, total}
-use Rattle.otlp_spans.specs.Reading.{IsReadable, counted, given_by, most_spans, objects_of, objects_of_resource, reading_of, resource_spans, scope_spans, skipped_of, skipped_of_resource, skipped_of_scope, skipped_of_span, span_of, spans_of, unless_wrong}
-use Rattle.otlp_spans.specs.Writing.{list_json, resource_json, resource_spans_json, scope_json, scope_spans_json, span_json, trace_json}
+use Rattle.otlp_spans.specs.Reading.{IsReadable, given_by, most_spans, objects_of, objects_of_resource, reading_of, resource_spans, scope_spans, skipped_of, skipped_of_resource, skipped_of_scope, skipped_of_span, span_of, spans_of}
+use Rattle.otlp_spans.specs.Writing.{resource_json, resource_spans_json, scope_json, scope_spans_json, span_json, trace_json}
 use Rattle.otlp_spans.proofs.JsonLemmas.{items_in-items_of}
-use Rattle.otlp_spans.proofs.ReadsBackAttributes.{FitAttrs, list_right}
-use Rattle.otlp_spans.proofs.ReadsBackRuns.{EachLinked, EachLinked-runs, all_of, all_of-runs, each_of_runs, flat_back, resources_equal, run_items, scopes_equal, total_len, total_none}
-use Rattle.otlp_spans.proofs.ReadsBackSpans.{FitsSpan, resource_back, resource_right, resource_skips, scope_back, scope_right, scope_skips, span_back, span_right, span_skips}
+use Rattle.otlp_spans.proofs.ReadsBackAttributes.{list_right}
+use Rattle.otlp_spans.proofs.ReadsBackRuns.{EachLinked, EachLinked-runs, all_of-runs, each_of_runs, flat_back, resources_equal, run_items, scopes_equal, total_len, total_none}
+use Rattle.otlp_spans.proofs.ReadsBackSpans.{resource_back, resource_right, resource_skips, scope_back, scope_right, scope_skips, span_back, span_right, span_skips}
 
 -- ---- the spans of a run
 
@@ -36,16 +38,11 @@ spans_skip : (xs : List Span) → AllByRecursion FitsSpan xs → AllByRecursion 
 spans_skip [] fits are = tt
 spans_skip (x ∷ xs) fits are = (span_skips x fits.0 are.0, spans_skip xs fits.1 are.1)
 
-mapped : {A B : Type 0} (f : A → B) (xs : List A) → length (map f xs) ≡ length xs
+pub mapped : {A B : Type 0} (f : A → B) (xs : List A) → length (map f xs) ≡ length xs
 mapped f [] = refl
 mapped f (x ∷ xs) = ap suc (mapped f xs)
 
 -- ---- runs of one scope
-
--- what the types promise of a run's spans and of their scope
-pub record FitsScopeRun (run : Span × List Span) : Type 0 where
-  pub scope : FitAttrs run.0.scope.attrs
-  pub spans : AllByRecursion FitsSpan (run_items run)
 
 run_spans : (run : Span × List Span) → list_in m.Spans (scope_spans_json run) ≡ map span_json (run_items run)
 unfolding scope_spans_json
@@ -57,13 +54,13 @@ scope_run_back : (resource : Resource) (run : Span × List Span) → FitsScopeRu
 unfolding scope_spans scope_spans_json scope_json
 scope_run_back resource run fits are rs cs =
     ap₂ (λ (c : Scope) (l : List Data). filter_map (span_of resource c) l) (scope_back run.0.scope fits.scope are.0.of_scope) (run_spans run)
-    ∙ spans_back resource run.0.scope (run_items run) fits.spans are rs cs
+    ∙ spans_back resource run.0.scope (run_items run) (recursion_from_All FitsSpan (run_items run) fits.spans) are rs cs
 
 scope_run_skips : (run : Span × List Span) → FitsScopeRun run → AllByRecursion IsReadable (run_items run) → skipped_of_scope (scope_spans_json run) ≡ 0
 unfolding skipped_of_scope scope_spans_json scope_json
 scope_run_skips run fits are =
     ap₂ (λ (a b : ℕ). a + b) (scope_skips run.0.scope fits.scope)
-    (ap (λ (l : List Data). total skipped_of_span l) (run_spans run) ∙ total_none skipped_of_span span_json (run_items run) (spans_skip (run_items run) fits.spans are))
+    (ap (λ (l : List Data). total skipped_of_span l) (run_spans run) ∙ total_none skipped_of_span span_json (run_items run) (spans_skip (run_items run) (recursion_from_All FitsSpan (run_items run) fits.spans) are))
 
 scope_run_objects : (run : Span × List Span) → length (list_in m.Spans (scope_spans_json run)) ≡ length (run_items run)
 scope_run_objects run = ap (λ (l : List Data). length l) (run_spans run) ∙ mapped span_json (run_items run)
@@ -73,11 +70,6 @@ unfolding scope_spans_json scope_json
 scope_run_right run = rw (scope_right run.0.scope, list_right span_form span_json span_right (run_items run)) refl
 
 -- ---- runs of one resource
-
--- what the types promise of a run's spans, of their scopes and of their resource
-pub record FitsResourceRun (run : Span × List Span) : Type 0 where
-  pub resource : FitAttrs run.0.resource.attrs
-  pub scopes : AllByRecursion FitsScopeRun (runs of_one_scope (run_items run))
 
 scope_runs_back : (resource : Resource) (rs : List (Span × List Span)) → AllByRecursion FitsScopeRun rs → AllByRecursion (λ r. AllByRecursion IsReadable (run_items r)) rs
     → AllByRecursion (λ r. AllByRecursion (λ s. s.resource ≡ resource) (run_items r)) rs → EachLinked of_one_scope rs
@@ -98,8 +90,8 @@ resource_run_back : (run : Span × List Span) → FitsResourceRun run → AllByR
 unfolding resource_spans resource_spans_json resource_json
 resource_run_back run fits are of =
     let scopes = runs of_one_scope (run_items run) in
-    let each = scope_runs_back run.0.resource scopes fits.scopes (each_of_runs of_one_scope IsReadable (run_items run) are)
-        (each_of_runs of_one_scope (λ s. s.resource ≡ run.0.resource) (run_items run) of) (EachLinked-runs of_one_scope (run_items run)) in
+    let each = scope_runs_back run.0.resource scopes (recursion_from_All FitsScopeRun scopes fits.scopes) (each_of_runs of_one_scope IsReadable (run_items run) are)
+    (each_of_runs of_one_scope (λ s. s.resource ≡ run.0.resource) (run_items run) of) (EachLinked-runs of_one_scope (run_items run)) in
     rw (resource_back run.0.resource fits.resource are.0.of_resource, items_in-items_of (map scope_spans_json scopes))
     (flat_back (scope_spans run.0.resource) scope_spans_json scopes each ∙ all_of-runs of_one_scope (run_items run))
 
@@ -109,7 +101,7 @@ resource_run_skips run fits are =
     let scopes = runs of_one_scope (run_items run) in
     ap₂ (λ (a b : ℕ). a + b) (resource_skips run.0.resource fits.resource)
     (ap (λ (l : List Data). total skipped_of_scope l) (items_in-items_of (map scope_spans_json scopes))
-    ∙ total_none skipped_of_scope scope_spans_json scopes (scope_runs_skip scopes fits.scopes (each_of_runs of_one_scope IsReadable (run_items run) are)))
+    ∙ total_none skipped_of_scope scope_spans_json scopes (scope_runs_skip scopes (recursion_from_All FitsScopeRun scopes fits.scopes) (each_of_runs of_one_scope IsReadable (run_items run) are)))
 
 resource_run_objects : (run : Span × List Span) → objects_of_resource (resource_spans_json run) ≡ length (run_items run)
 unfolding objects_of_resource resource_spans_json
@@ -124,10 +116,6 @@ resource_run_right run =
     rw (resource_right run.0.resource, list_right scope_spans_form scope_spans_json scope_run_right (runs of_one_scope (run_items run))) refl
 
 -- ---- a trace
-
--- what the types promise of a trace
-abbrev pub FitsTrace : List Span → Type 0
-FitsTrace spans = AllByRecursion FitsResourceRun (runs of_one_resource spans)
 
 resource_runs_back : (rs : List (Span × List Span)) → AllByRecursion FitsResourceRun rs → AllByRecursion (λ r. AllByRecursion IsReadable (run_items r)) rs → EachLinked of_one_resource rs
     → AllByRecursion (λ r. resource_spans (resource_spans_json r) ≡ run_items r) rs
@@ -146,7 +134,7 @@ trace_spans : (spans : List Span) → FitsTrace spans → AllByRecursion IsReada
 unfolding spans_of trace_json
 trace_spans spans fits are =
     let rs = runs of_one_resource spans in
-    let each = resource_runs_back rs fits (each_of_runs of_one_resource IsReadable spans are) (EachLinked-runs of_one_resource spans) in
+    let each = resource_runs_back rs (recursion_from_All FitsResourceRun rs fits) (each_of_runs of_one_resource IsReadable spans are) (EachLinked-runs of_one_resource spans) in
     rw (items_in-items_of (map resource_spans_json rs)) (flat_back resource_spans resource_spans_json rs each ∙ all_of-runs of_one_resource spans)
 
 trace_skips : (spans : List Span) → FitsTrace spans → AllByRecursion IsReadable spans → skipped_of (trace_json spans) ≡ 0
@@ -154,7 +142,7 @@ unfolding skipped_of trace_json
 trace_skips spans fits are =
     let rs = runs of_one_resource spans in
     rw (items_in-items_of (map resource_spans_json rs))
-    (total_none skipped_of_resource resource_spans_json rs (resource_runs_skip rs fits (each_of_runs of_one_resource IsReadable spans are)))
+    (total_none skipped_of_resource resource_spans_json rs (resource_runs_skip rs (recursion_from_All FitsResourceRun rs fits) (each_of_runs of_one_resource IsReadable spans are)))
 
 trace_objects : (spans : List Span) → objects_of (trace_json spans) ≡ length spans
 unfolding objects_of trace_json
