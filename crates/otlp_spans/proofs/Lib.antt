@@ -10,3 +10,5 @@ pub mod ReadsBackSpans
 pub mod ReadsBackRuns
 pub mod ReadsBackTrace
 pub mod ReadsBackFits
+pub mod FormLaws
+pub mod ReadableLaws

@@ -1,9 +1,9 @@
 -- Looking into a JSON value. Nothing here knows of spans.
-use Rattle.std.specs.Prelude.{ℕ, ◌+◌, Bool, List, [], ◌∷◌, if◌then◌else◌, Option, Some, None, option_map}
+use Rattle.std.specs.Prelude.{ℕ, ◌+◌, List, [], ◌∷◌, if◌then◌else◌, Option, Some, None, option_map}
 use Rattle.std.specs.Option.{is_some}
 use Rattle.std.specs.Str.{is_utf8}
 use Rattle.serde_json.specs.Data.{Data, Items, no_items, item}
-use Rattle.serde_json.specs.Find.{as_array, as_null, as_str, get}
+use Rattle.serde_json.specs.Find.{as_array, as_null, get}
 use Rattle.serde_json.specs.Read.{read}
 
 -- The second step, where the first gave a value.

@@ -11,6 +11,7 @@ mod cores;
 mod errors;
 mod fields;
 mod json;
+mod laws;
 mod paths;
 mod parts;
 mod gathering;
@@ -20,6 +21,7 @@ mod write;
 
 pub use errors::OtlpError;
 pub use fields::read_trace_id;
+pub use laws::first_wrong_form;
 pub use paths::{Member, Step};
 pub use read::{Reading, read_line};
 pub use write::write_trace;

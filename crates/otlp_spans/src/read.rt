@@ -1,11 +1,11 @@
 //! Reading a line.
 
-ghost use Rattle.std.specs.Prelude.{◌≡◌, ◌⊎◌, ◌≤◌, ℕ, length, IfOk, IfErr, List, Ok, Err, Some, None};
+ghost use Rattle.std.specs.Prelude.{◌≡◌, ◌⊎◌, ◌≤◌, ℕ, length, All, IfOk, IfErr, List, Ok, Err, Some, None};
 ghost use Rattle.serde_json.specs.Data.{Data};
 ghost use Rattle.serde_json.specs.View.{view};
 ghost use Rattle.otlp_spans.specs.Forms.{path_text};
 ghost use Rattle.otlp_spans.specs.Json.{json_of};
-ghost use Rattle.otlp_spans.specs.Reading.{NoJson, TooManySpans, WrongForm, counted, most_spans, objects_of, reading_of, skipped_of, spans_of};
+ghost use Rattle.otlp_spans.specs.Reading.{IsReadable, NoJson, TooManySpans, WrongForm, counted, most_spans, objects_of, reading_of, skipped_of, spans_of};
 ghost use Rattle.otlp_spans.specs.Walk.{Adds};
 ghost use Rattle.otlp_spans.specs.declared.errors.OtlpError.TheVariants.{Memory, NotJson, NotRequest, TooMany};
 ghost use Rattle.otlp_spans.specs.declared.paths.Step.{Step};
@@ -61,6 +61,7 @@ pub fn read_line(alloc: Global, line: &[u8]) -> Result<Reading, OtlpError>
     ensures not_request { IfErr result (λ e. (text : List ℕ) → e ≡ NotRequest text → (path : List Step) × (text ≡ path_text path) × (reading_of line.now ≡ Err (WrongForm path))) }
     ensures too_many { IfErr result (λ e. (spans : ℕ) → e ≡ TooMany spans → reading_of line.now ≡ Err (TooManySpans spans)) }
     ensures most { IfOk result (λ r. length r.batch.spans ≤ most_spans) }
+    ensures readable { IfOk result (λ r. All IsReadable r.batch.spans) }
 {
     let value = read_json(alloc, line)?;
     match gather(alloc, &value) {
@@ -93,6 +94,7 @@ fn read_json(alloc: Global, line: &[u8]) -> Result<Value, OtlpError>
 fn counted(gathered: Gathered) -> Result<Reading, OtlpError>
     ensures ok { IfOk result (λ r. (d : Data) → gathered.spans.items ≡ spans_of d → Adds 0 gathered.objects (objects_of d) → Adds 0 gathered.skipped (skipped_of d)
         → counted d ≡ Ok (record { spans = r.batch.spans; rejected = r.rejected; skipped = r.skipped })) }
+    ensures spans { IfOk result (λ r. (r.batch.spans ≡ gathered.spans.items) × (gathered.objects ≤ most_spans)) }
     ensures too_many { IfErr result (λ e. (d : Data) → Adds 0 gathered.objects (objects_of d)
         → (spans : ℕ) × (e ≡ TooMany spans) × (counted d ≡ Err (TooManySpans spans))) }
 {

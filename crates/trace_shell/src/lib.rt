@@ -2,12 +2,10 @@
 #![tactic(auto)]
 
 mod held;
-mod read_request;
 mod real;
 mod session;
 mod top;
 mod words;
-mod write_reply;
 
 pub use real::{StdinSource, StdoutSink};
 pub use top::{Ended, run, run_alone};

@@ -1,4 +1,4 @@
-use Rattle.std.proofs.Common.{◌≡◌, ◌++◌, ◌+◌, drop, length, map, min}
+use Rattle.std.proofs.Common.{◌≡◌, ◌++◌, ◌+◌, drop, map, min}
 use Rattle.std.specs.List.{filter_map}
 use Rattle.serde_json.specs.View.{view}
 use Rattle.otlp_spans.specs.Forms.{first_in_items, first_wrong, span_form}
