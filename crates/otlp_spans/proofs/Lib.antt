@@ -4,5 +4,11 @@ pub mod RunLemmas
 pub mod DepthLemmas
 pub mod FloatLemmas
 pub mod ReadBackLemmas
+pub mod ReadsBackFields
+pub mod ReadsBackAttributes
+pub mod ReadsBackSpans
+pub mod ReadsBackRuns
+pub mod ReadsBackTrace
+pub mod ReadsBackFits
 pub mod FormLaws
 pub mod ReadableLaws

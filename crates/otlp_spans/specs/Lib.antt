@@ -5,5 +5,6 @@ pub mod Fields
 pub mod Attributes
 pub mod Keys
 pub mod Reading
+pub mod Fits
 pub mod Walk
 pub mod Writing

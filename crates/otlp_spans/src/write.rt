@@ -1,10 +1,12 @@
 //! Writing a trace.
 
-ghost use Rattle.std.specs.Prelude.{◌≡◌, ◌<◌, ◌≤◌, [], ◌∷◌, Some, IfOk, length, map};
+ghost use Rattle.std.specs.Prelude.{◌≡◌, ◌<◌, ◌≤◌, [], ◌∷◌, All, IfOk, Ok, OnOk, Some, length, map};
 ghost use Rattle.serde_json.specs.View.{view};
 ghost use Rattle.otlp_spans.specs.Json.{json_of};
 ghost use Rattle.span_runs.specs.Runs.{as_run, run_len, runs};
 ghost use Rattle.span_runs.specs.Same.{of_one_resource, of_one_scope};
+ghost use Rattle.otlp_spans.specs.Fits.{FitsResourceRun, FitsScopeRun, FitsSpan, FitsTrace};
+ghost use Rattle.otlp_spans.specs.Reading.{IsReadable, most_spans, reading_of};
 ghost use Rattle.otlp_spans.specs.Writing.{list_json, resource_spans_json, scope_spans_json, span_json, spans_in, trace_json, trace_text};
 
 use crate::values::{resource, scope, span};
@@ -20,11 +22,14 @@ use std::alloc::Global;
 /// empty text for no parent. Moments and whole-number attributes are decimal texts, and kind and status code are numbers.
 ///
 /// The rows of a trace come in order of start, then span id; they are written as they stand. No rows give
-/// `{"resourceSpans":[]}`, which [`read_line`](crate::read_line) reads as no spans. The one error is want of memory.
+/// `{"resourceSpans":[]}`, which [`read_line`](crate::read_line) reads as no spans. At most 16,384 rows whose ids aren't
+/// all zeros and whose attributes have distinct keys are read back from the text as they were. The one error is want of memory.
 #[tactic(auto, unfolding(crate::specs::Writing::trace_text))]
 pub fn write_trace(alloc: Global, rows: &Rows) -> Result<Text, Memory>
     ensures text { IfOk result (λ t. t ≡ trace_text (spans_in rows.now)) }
     ensures json { IfOk result (λ t. json_of t ≡ Some (trace_json (spans_in rows.now))) }
+    ensures reads_back { length rows.now ≤ most_spans → All IsReadable (spans_in rows.now)
+        → IfOk result (λ t. reading_of t ≡ Ok (record { spans = spans_in rows.now; rejected = 0; skipped = 0 })) }
 {
     let value = trace(alloc, rows.as_slice())?;
     Ok(Text::of(value.to_string(alloc)?))
@@ -33,7 +38,8 @@ pub fn write_trace(alloc: Global, rows: &Rows) -> Result<Text, Memory>
 /// A trace's value.
 #[tactic(auto, unfolding(crate::specs::Writing::trace_json))]
 fn trace(alloc: Global, rows: &[Row]) -> Result<Value, Memory>
-    ensures { IfOk result (λ v. view v ≡ trace_json (spans_in rows.now)) }
+    ensures json { IfOk result (λ v. view v ≡ trace_json (spans_in rows.now)) }
+    ensures fits { OnOk result (FitsTrace (spans_in rows.now)) }
 {
     let list = resources(alloc, rows)?;
     Ok(json!(in alloc; {"resourceSpans": list})?)
@@ -41,8 +47,9 @@ fn trace(alloc: Global, rows: &[Row]) -> Result<Value, Memory>
 
 /// The runs of spans with equal resources.
 fn resources(alloc: Global, rows: &[Row]) -> Result<Value, Memory>
-    ensures { IfOk result
+    ensures json { IfOk result
         (λ v. view v ≡ list_json resource_spans_json (runs of_one_resource (spans_in rows.now))) }
+    ensures fits { OnOk result (All FitsResourceRun (runs of_one_resource (spans_in rows.now))) }
 {
     let mut values = Vec::new(alloc);
     let mut rest = rows;
@@ -81,7 +88,8 @@ fn resource_run(rows: &[Row]) -> usize
 #[tactic(auto, unfolding(crate::specs::Writing::resource_spans_json))]
 fn resource_spans(alloc: Global, rows: &[Row]) -> Result<Value, Memory>
     requires { 0 < length rows.now }
-    ensures { IfOk result (λ v. view v ∷ [] ≡ map resource_spans_json (as_run (spans_in rows.now))) }
+    ensures json { IfOk result (λ v. view v ∷ [] ≡ map resource_spans_json (as_run (spans_in rows.now))) }
+    ensures fits { OnOk result (All FitsResourceRun (as_run (spans_in rows.now))) }
 {
     let resource = resource(alloc, rows[0].span.resource.get())?;
     let list = scopes(alloc, rows)?;
@@ -90,8 +98,9 @@ fn resource_spans(alloc: Global, rows: &[Row]) -> Result<Value, Memory>
 
 /// The runs of spans with equal scopes.
 fn scopes(alloc: Global, rows: &[Row]) -> Result<Value, Memory>
-    ensures { IfOk result
+    ensures json { IfOk result
         (λ v. view v ≡ list_json scope_spans_json (runs of_one_scope (spans_in rows.now))) }
+    ensures fits { OnOk result (All FitsScopeRun (runs of_one_scope (spans_in rows.now))) }
 {
     let mut values = Vec::new(alloc);
     let mut rest = rows;
@@ -130,7 +139,8 @@ fn scope_run(rows: &[Row]) -> usize
 #[tactic(auto, unfolding(crate::specs::Writing::scope_spans_json))]
 fn scope_spans(alloc: Global, rows: &[Row]) -> Result<Value, Memory>
     requires { 0 < length rows.now }
-    ensures { IfOk result (λ v. view v ∷ [] ≡ map scope_spans_json (as_run (spans_in rows.now))) }
+    ensures json { IfOk result (λ v. view v ∷ [] ≡ map scope_spans_json (as_run (spans_in rows.now))) }
+    ensures fits { OnOk result (All FitsScopeRun (as_run (spans_in rows.now))) }
 {
     let scope = scope(alloc, rows[0].span.scope.get())?;
     let spans = spans(alloc, rows)?;
@@ -139,7 +149,8 @@ fn scope_spans(alloc: Global, rows: &[Row]) -> Result<Value, Memory>
 
 /// The spans of rows.
 fn spans(alloc: Global, rows: &[Row]) -> Result<Value, Memory>
-    ensures { IfOk result (λ v. view v ≡ list_json span_json (spans_in rows.now)) }
+    ensures json { IfOk result (λ v. view v ≡ list_json span_json (spans_in rows.now)) }
+    ensures fit { OnOk result (All (λ row. FitsSpan row.span) rows.now) }
 {
     let mut values = Vec::new(alloc);
     for row in rows {
