@@ -10,3 +10,6 @@ pub use reading::read_request;
 pub use reply::{Refusal, Reply};
 pub use request::Request;
 pub use writing::write_reply;
+
+#[cfg(test)]
+mod tests;
