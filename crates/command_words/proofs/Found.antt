@@ -1,26 +1,22 @@
 -- What the matches of a parse tell of the words.
-use Rattle.std.proofs.Common.{◌≡◌, ◌⊎◌, ◌∙◌, ℕ, Bool, true, false, List, [], ◌∷◌, Option, Some, None, refl, sym, subst, ap, inl, inr}
+use Rattle.std.proofs.Common.{◌≡◌, ◌⊎◌, ◌∙◌, ℕ, List, [], Option, Some, None, refl, sym, subst, ap, inl, inr}
 use Rattle.std.specs.Borrow.{Bor}
-use Rattle.std.specs.Prelude.{Box, codes, is_some, option_and_then, option_map}
+use Rattle.std.specs.Prelude.{Box, codes, option_map}
 use Rattle.std.specs.Box.{box_value}
 use Rattle.clap.specs.Words.{Row, Text, fault_of, first_of, first_value, found_of, rows_of, subcommand_name_of, subcommand_of, subcommand_rows, subcommand_rows_of}
-use Rattle.clap.specs.Kinds.{FailsBy, HasKind, IsAmong, Kinds}
-use Rattle.clap.specs.Values.{kind_of}
-use Rattle.clap.specs.declared.error.Error.{Error}
-use Rattle.clap.specs.declared.error.kind.ErrorKind.TheVariants.{OutOfMemory}
 use Rattle.clap.specs.declared.parser.matches.ArgMatches.{ArgMatches}
 use Rattle.clap.specs.declared.parser.matches.ArgMatches.TheViews.{out-ArgMatches, out-SubCommand}
 use Rattle.clap.specs.declared.parser.matches.SubCommand.{SubCommand}
 use Rattle.clap.proofs.WalkLemmas.{first_value-rows}
-use Rattle.command_words.specs.Spelling.{IsSession, IsTrace}
+use Rattle.command_words.specs.Spelling.{IsSession}
 use Rattle.command_words.specs.Table.{words_app}
-use Rattle.command_words.proofs.Whole.{Read, read_from, session, trace}
+use Rattle.command_words.proofs.Whole.{IsBareTrace, Read, read_from, session, trace}
 
 -- What the subcommand that a parse gives, with its matches, tells of the words.
 abbrev pub Tells : List Text → Option (Bor Text × Bor ArgMatches) → Type 0
 Tells words None = ⊥
 Tells words (Some p) = ((p.0.now ≡ codes "session") × IsSession words)
-    ⊎ ((p.0.now ≡ codes "trace") × ((id : List ℕ) × (first_value (found_of p.1.now) (codes "id") ≡ Some id) × IsTrace id words))
+    ⊎ ((p.0.now ≡ codes "trace") × ((id : List ℕ) × (first_value (found_of p.1.now) (codes "id") ≡ Some id) × IsBareTrace id words))
 
 name-rows : {Z : Type 0} (o : Option (Box SubCommand Z)) → option_map (λ b. (out-SubCommand (box_value b)).name.now) o ≡ option_map (λ p. p.0) (subcommand_rows o)
 name-rows None = refl
@@ -55,7 +51,7 @@ tells_session words p (inl told) is = told.1
 tells_session words p (inr told) is = let told_is = told.0 in let bad : ⊥ = cc in absurd bad
 
 pub tells_trace : (words : List Text) (p : Bor Text × Bor ArgMatches) → Tells words (Some p) → p.0.now ≡ codes "trace"
-    → (id : List ℕ) × (first_value (found_of p.1.now) (codes "id") ≡ Some id) × IsTrace id words
+    → (id : List ℕ) × (first_value (found_of p.1.now) (codes "id") ≡ Some id) × IsBareTrace id words
 tells_trace words p (inl told) is = let told_is = told.0 in let bad : ⊥ = cc in absurd bad
 tells_trace words p (inr told) is = told.1
 

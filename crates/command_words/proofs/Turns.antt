@@ -26,12 +26,18 @@ standing h position is_trailing = record { held = h; waiting = idle; position = 
 abbrev pub place_fault : Shape → ℕ → Held → Kinds
 place_fault s position h = option_map_or (λ a. positional_fault s.rules s.args_override_self a h) (arg_by_index s.rules position) (stray_fault s)
 
+-- The word is neither `--` nor a flag with a first character.
+pub record IsBare (word : Text) : Type 0 where
+  pub no_dashes : bytes_eq word dashes_text ≡ false
+  pub no_long : long_of word ≡ None
+  pub no_short : (x : ℕ) (xs : Text) → short_of word ≡ Some (x ∷ xs) → slice_get (chars (x ∷ xs)) 0 ≡ None
+
 -- A word that names no subcommand: `--`, a refused flag, or a word for the positional of its place.
 pub data Turned (s : Shape) (names : Names) (h : Held) (position : ℕ) (word : Text) : Type 0 where
   dashes : word ≡ dashes_text → turn_fault s names (standing h position false) word ≡ []
       → walked s.rules names (standing h position false) word ≡ standing h position true → Turned s names h position word
   flag : (turn_fault s names (standing h position false) word ≡ [] → ⊥) → Turned s names h position word
-  placed : turn_fault s names (standing h position false) word ≡ place_fault s position h
+  placed : IsBare word → turn_fault s names (standing h position false) word ≡ place_fault s position h
       → walked s.rules names (standing h position false) word ≡ to_positional s.rules (arg_by_index s.rules position) word (standing h position false) h
       → Turned s names h position word
 
@@ -45,18 +51,28 @@ pub turned : (s : Shape) (names : Names) (rows : List Row) (pending : Option (Te
 unfolding walked bundle_met flags_fault
 turned s names rows pending position word none unmet = go (bytes_eq word dashes_text) refl (long_of word) refl (short_of word) refl
   where
+    bare : bytes_eq word dashes_text ≡ false → long_of word ≡ None → (f : Option Text) → short_of word ≡ f
+        → ((x : ℕ) (xs : Text) → f ≡ Some (x ∷ xs) → slice_get (chars (x ∷ xs)) 0 ≡ None) → IsBare word
+    bare e el f ef no_char = record { no_dashes = e; no_long = el; no_short = λ x xs is. no_char x xs (sym ef ∙ is) }
+
+    bare_flag : (x : ℕ) (xs : Text) → bytes_eq word dashes_text ≡ false → long_of word ≡ None → short_of word ≡ Some (x ∷ xs)
+        → slice_get (chars (x ∷ xs)) 0 ≡ None → IsBare word
+    bare_flag x xs e el ef eo = bare e el (Some (x ∷ xs)) ef (λ y ys is.
+        let same : (x ∷ xs) ≡ (y ∷ ys) = cc in subst (λ (flags : Text). slice_get (chars flags) 0 ≡ None) same eo)
+
     bundle : (x : ℕ) (xs : Text) → bytes_eq word dashes_text ≡ false → long_of word ≡ None → short_of word ≡ Some (x ∷ xs)
         → (o : Option ℕ) → slice_get (chars (x ∷ xs)) 0 ≡ o → Turned s names (holding rows pending) position word
-    bundle x xs e el ef None eo = placed (rw (unmet, e, el, ef, eo) refl) (rw (unmet, e, el, ef, eo) refl)
+    bundle x xs e el ef None eo = placed (bare_flag x xs e el ef eo) (rw (unmet, e, el, ef, eo) refl) (rw (unmet, e, el, ef, eo) refl)
     bundle x xs e el ef (Some y) eo = flag (λ clean.
         let at : turn_fault s names (standing (holding rows pending) position false) word ≡ kind.UnknownArgument ∷ [] = rw (unmet, e, el, ef, eo, none.no_short y) refl in cc)
+
     go : (b : Bool) → bytes_eq word dashes_text ≡ b → (l : Option (Text × Option Text)) → long_of word ≡ l → (f : Option Text) → short_of word ≡ f
         → Turned s names (holding rows pending) position word
     go true e l el f ef = dashes ((bytes_decides word dashes_text).0 e) (rw (unmet, e) refl) (rw (unmet, e) refl)
     go false e (Some l) el f ef = flag (λ clean.
         let at : turn_fault s names (standing (holding rows pending) position false) word ≡ kind.UnknownArgument ∷ [] = rw (unmet, e, el, none.no_long l.0) refl in cc)
-    go false e None el None ef = placed (rw (unmet, e, el, ef) refl) (rw (unmet, e, el, ef) refl)
-    go false e None el (Some []) ef = placed (rw (unmet, e, el, ef) refl) (rw (unmet, e, el, ef) refl)
+    go false e None el None ef = placed (bare e el None ef (λ x xs is. cc)) (rw (unmet, e, el, ef) refl) (rw (unmet, e, el, ef) refl)
+    go false e None el (Some []) ef = placed (bare e el (Some []) ef (λ x xs is. cc)) (rw (unmet, e, el, ef) refl) (rw (unmet, e, el, ef) refl)
     go false e None el (Some (x ∷ xs)) ef = bundle x xs e el ef (slice_get (chars (x ∷ xs)) 0) refl
 
 -- ---- several words

@@ -41,8 +41,6 @@ fn trace_command<'a>(alloc: Global) -> Result<Command<'a>, AllocError>
     ensures shape { IfOk result (λ c. shape_of c ≡ trace_shape) }
     ensures local { IfOk result (λ c. (fields_of c).has_globals ≡ false) }
 {
-    let id = Arg::new(alloc, "id")
-        .required(true)
-        .action(ArgAction::Set);
+    let id = Arg::new(alloc, "id").required(true).action(ArgAction::Set);
     Command::new(alloc, "trace").arg(id)
 }

@@ -1,10 +1,10 @@
 //! Reading the words.
 
-ghost use Rattle.std.specs.Prelude.{◌≡◌, ◌≢◌, ℕ, List, [], ◌∷◌, Some, false, true, codes, is_some, map, string_bytes};
+ghost use Rattle.std.specs.Prelude.{◌≡◌, ◌≢◌, ℕ, List, [], Some, true, codes, is_some, map, string_bytes};
 ghost use Rattle.std.specs.Prelude.{IfOk, IfErr, MatchResult};
 ghost use Rattle.clap.specs.Words.{fault_of, first_value, found_of, kind_of, subcommand_of, subcommand_rows_of};
 ghost use Rattle.clap.specs.declared.error.kind.ErrorKind.TheVariants.{OutOfMemory};
-ghost use Rattle.command_words.specs.Spelling.{Asks, GivesTrace, begins_with_hyphen};
+ghost use Rattle.command_words.specs.Spelling.{Asks, GivesTrace, IsSession, IsTrace};
 ghost use Rattle.command_words.specs.Table.{words_app};
 
 use crate::asked::{Asked, WordsError};
@@ -19,9 +19,9 @@ pub fn read_words(alloc: Global, words: &[String]) -> Result<Asked, WordsError>
     ensures no_fault { IfOk result (λ _. fault_of words_app (map string_bytes words.now) ≡ []) }
     ensures refused { result ≡ Err WordsError.Refused → fault_of words_app (map string_bytes words.now) ≢ [] }
 
-    ensures session { map string_bytes words.now ≡ codes "session" ∷ []
+    ensures session { IsSession (map string_bytes words.now)
         → MatchResult result (λ asked. asked ≡ Asked.Session) (λ error. error ≡ WordsError.Memory) }
-    ensures trace { (id : List ℕ) → begins_with_hyphen id ≡ false → map string_bytes words.now ≡ codes "trace" ∷ id ∷ []
+    ensures trace { (id : List ℕ) → IsTrace id (map string_bytes words.now)
         → MatchResult result (GivesTrace id) (λ error. error ≡ WordsError.Memory) }
     ensures only { IfOk result (Asks (map string_bytes words.now)) }
 {

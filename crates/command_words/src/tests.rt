@@ -25,17 +25,25 @@ fn told(alloc: Global, words: &[&str]) -> Option<String> {
 
 #[test]
 fn table(rt: HostRuntime) {
-    let rows: [(&[&str], &str); 13] = [
+    let rows: [(&[&str], &str); 21] = [
         (&[], "refused"),
         (&["session"], "session"),
+        (&["session", "--"], "session"),
         (&["session", "x"], "refused"),
+        (&["--", "session"], "refused"),
         (&["trace"], "refused"),
         (&["trace", "00"], "trace:00"),
+        (&["trace", "session"], "trace:session"),
+        (&["trace", ""], "trace:"),
+        (&["trace", "-"], "trace:-"),
         (&["trace", "a", "b"], "refused"),
         (&["trace", "-x"], "refused"),
         (&["trace", "--", "-x"], "trace:-x"),
+        (&["trace", "a", "--"], "trace:a"),
+        (&["trace", "--"], "refused"),
         (&["help"], "refused"),
         (&["--help"], "refused"),
+        (&["session", "-h"], "refused"),
         (&["search", "x"], "refused"),
         (&["sessions"], "refused"),
         (&[""], "refused"),

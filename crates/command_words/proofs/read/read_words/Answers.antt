@@ -1,12 +1,11 @@
-use Rattle.std.proofs.Common.{◌≡◌, ◌∙◌, ℕ, List, [], ◌∷◌, Option, Some, None, Ok, true, ap, inl, inr, is_some, map, refl, rules, string_bytes, subst, sym}
+use Rattle.std.proofs.Common.{◌≡◌, ◌∙◌, ℕ, List, Some, None, Ok, ap, is_some, map, rules, string_bytes, subst, sym}
 use Rattle.std.proofs.lemmas.Result.{IfOk-weaker}
 use Rattle.std.specs.Borrow.{Bor}
-use Rattle.clap.specs.Words.{first_value, found_of, subcommand_rows_of}
 use Rattle.clap.specs.declared.parser.matches.ArgMatches.{ArgMatches}
-use Rattle.command_words.specs.Spelling.{Asks, IsTrace}
 use Rattle.command_words.specs.declared.asked.Asked.TheVariants.{Session}
 use Rattle.command_words.proofs.Found.{told, tells_one, tells_session, tells_trace}
 use Rattle.command_words.proofs.Spelled.{never_refused, session_given, trace_asks, trace_given}
+use Rattle.command_words.proofs.Whole.{IsBareTrace}
 use Rattle.command_words.proofs.read.read_words.Goals as goal
 
 pub returns-in_err-matches-clause-session : goal.returns-in_err-matches-clause-session
@@ -45,7 +44,7 @@ returns-in-trace-clause-only c =
     let given = tells_trace words met tells c.in-trace.is in
     let both : Some given.0 ≡ Some c.id_of.result.now = sym given.1 ∙ c.id_of.ensures in
     let same : given.0 ≡ c.id_of.result.now = cc in
-    IfOk-weaker c.asked_trace.result _ _ (trace_asks words c.id_of.result.now (subst (λ (t : List ℕ). IsTrace t words) same given.2)) c.asked_trace.ensures.ok
+    IfOk-weaker c.asked_trace.result _ _ (trace_asks words c.id_of.result.now (subst (λ (t : List ℕ). IsBareTrace t words) same given.2)) c.asked_trace.ensures.ok
 
 pub returns-in-trace-clause-session : goal.returns-in-trace-clause-session
 returns-in-trace-clause-session c =
