@@ -13,12 +13,14 @@ use clap::error::ErrorKind;
 use clap::{ArgMatches, Error};
 use std::alloc::Global;
 
-/// Reads the words of the command line, those after the program's name and the store's folder.
+/// Reads the words of the command line, those after the program's name and the store's folder. Words that ask
+/// nothing are refused. Memory may be wanted for any words.
 pub fn read_words(alloc: Global, words: &[String]) -> Result<Asked, WordsError>
     // `clap` finds nothing at fault in words that are read, and something in those that are refused.
     ensures no_fault { IfOk result (λ _. fault_of words_app (map string_bytes words.now) ≡ []) }
     ensures refused { result ≡ Err WordsError.Refused → fault_of words_app (map string_bytes words.now) ≢ [] }
 
+    // Words that ask something are never refused, and what is read is what they ask.
     ensures session { IsSession (map string_bytes words.now)
         → MatchResult result (λ asked. asked ≡ Asked.Session) (λ error. error ≡ WordsError.Memory) }
     ensures trace { (id : List ℕ) → IsTrace id (map string_bytes words.now)
