@@ -124,3 +124,16 @@ pub record HasRun (text before : List ℕ) (left taken : Option (List ℕ)) (end
   pub lines_are : lines text ≡ answered ++ later
   pub session : Session [] answered replies history
   pub ends : Ends ending text later left before replies taken
+
+-- How a run ends that answers one line alone, and what stands written: the reply; nothing or a first part of it, where
+-- memory was wanted or the sink failed.
+abbrev pub EndsAlone : Ending → List ℕ → Reply → Option (List ℕ) → Type 0
+EndsAlone Answered before reply taken = IsWritten before (reply ∷ []) taken × (end_of (reply ∷ []) ≡ Answered)
+EndsAlone ending.Refused before reply taken = IsWritten before (reply ∷ []) taken × (end_of (reply ∷ []) ≡ ending.Refused)
+EndsAlone Starved before reply taken = (IsWritten before (reply ∷ []) taken × (end_of (reply ∷ []) ≡ Starved)) ⊎ (taken ≡ Some before)
+EndsAlone WriteFault before reply taken = (count : ℕ) × (taken ≡ Some (before ++ take count (reply_text reply)))
+EndsAlone _ before reply taken = ⊥
+
+-- The line is answered as the first of a session, and alone.
+abbrev pub AnswersAlone : List ℕ → List ℕ → Option (List ℕ) → Ending → Type 0
+AnswersAlone line before taken ending = (reply : Reply) × (after : History) × IsAnsweredOrStarved (request_of line) [] reply after × EndsAlone ending before reply taken

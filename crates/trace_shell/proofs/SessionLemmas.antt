@@ -1,5 +1,5 @@
 -- What a push and a look-up answer, from what is held.
-use Rattle.std.proofs.Common.{◌≡◌, ◌⊎◌, inl, inr, ℕ, ◌+◌, zero, suc, List, [], ◌∷◌, ◌++◌, Ok, length, refl, sym, ◌∙◌, ap, subst, arith, length-append}
+use Rattle.std.proofs.Common.{◌≡◌, inl, ℕ, ◌+◌, List, [], ◌∷◌, ◌++◌, Ok, length, refl, sym, ◌∙◌, ap, subst, arith, length-append}
 use Rattle.span_types.specs.declared.ids.TraceId.{TraceId}
 use Rattle.otlp_spans.specs.declared.read.Reading.{Reading}
 use Rattle.span_types.specs.declared.spans.Row.{Row}

@@ -1,10 +1,7 @@
 -- What a turn leaves, from what its steps did.
-use Rattle.std.proofs.Common.{◌≡◌, ◌⊎◌, inl, inr, ℕ, ◌+◌, ◌<◌, ◌≤◌, zero, suc, List, [], ◌∷◌, ◌++◌, Option, Some, None, Err, Bool, true, false, ◌||◌, nat_le, length, take, refl, sym, ◌∙◌, ap, subst, arith, length-append, append_assoc, append-nil, if◌then◌else◌}
+use Rattle.std.proofs.Common.{◌≡◌, inl, inr, ℕ, ◌+◌, ◌<◌, ◌≤◌, List, [], ◌∷◌, ◌++◌, Option, Some, None, Err, Bool, true, false, ◌||◌, nat_le, length, take, refl, sym, ◌∙◌, ap, subst, arith, length-append, append_assoc, append-nil, if◌then◌else◌}
 use Rattle.std.specs.List.{list_any}
 use Rattle.std.specs.Io.KnownBytes.{Appends, Consumes}
-use Rattle.io_edges.specs.declared.line.Line.{Line}
-use Rattle.io_edges.specs.declared.line.Line.TheVariants.{Whole, TooLong, End, Spent as AllSpent}
-use Rattle.io_edges.specs.Devices.{AppendsPrefix}
 use Rattle.io_edges.specs.Lines.{lines, line_limit, taken_limit}
 use Rattle.io_edges.specs.declared.begun.Begun.{Begun}
 use Rattle.io_edges.specs.declared.begun.Begun.TheVariants.{Kept, Dropped}
@@ -14,12 +11,10 @@ use Rattle.session_meaning.specs.declared.ending.Ending.TheVariants.{Answered, B
 use Rattle.session_text.specs.declared.reply.Reply.{Reply}
 use Rattle.session_text.specs.declared.reply.Refusal.TheVariants as refusal
 use Rattle.session_text.specs.declared.reply.Reply.TheVariants as reply
-use Rattle.session_text.specs.declared.request.Request.{Request}
-use Rattle.session_text.specs.declared.reply.Refusal.{Refusal}
 use Rattle.session_meaning.specs.History.{History}
 use Rattle.session_text.specs.Requests.{request_of}
 use Rattle.session_text.specs.Replies.{reply_text}
-use Rattle.session_meaning.specs.Session.{Ends, HasRun, IsAllEnded, IsAllRead, IsAnsweredOrStarved, IsCutOff, IsWritten, end_of, is_for_memory, is_refusal, reply_texts}
+use Rattle.session_meaning.specs.Session.{Ends, HasRun, IsAllEnded, IsAllRead, IsAnsweredOrStarved, IsCutOff, end_of, is_for_memory, is_refusal, reply_texts}
 use Rattle.session_meaning.specs.SessionLaws.{Progress, progress_begins, progress_empty, progress_line, reply_texts-push}
 use Rattle.trace_shell.specs.declared.session.Seen.{Seen}
 use Rattle.trace_shell.specs.Holding.{Holding, Holds}

@@ -1,11 +1,11 @@
 -- What a turn of a session does: one line is read and answered, and its reply written.
-use Rattle.std.specs.Prelude.{◌≡◌, ◌⊎◌, ℕ, List, [], ◌∷◌, ◌++◌, ◌||◌, Bool, true, false, Option, Some, None, take, if◌then◌else◌}
+use Rattle.std.specs.Prelude.{◌≡◌, ℕ, List, ◌++◌, ◌||◌, Option, Some, None, if◌then◌else◌}
 use Rattle.std.specs.List.{list_any}
 use Rattle.std.specs.Io.KnownBytes.{Appends}
 use Rattle.io_edges.specs.Devices.{AppendsPrefix}
 use Rattle.io_edges.specs.Reader.{Reader, IsToRead, TakesBytes}
 use Rattle.session_meaning.specs.declared.ending.Ending.{Ending}
-use Rattle.session_meaning.specs.declared.ending.Ending.TheVariants.{Answered, BadWords, ReadFault, Refused, Spent, Starved, WriteFault}
+use Rattle.session_meaning.specs.declared.ending.Ending.TheVariants.{Answered, Refused, Starved, WriteFault}
 use Rattle.session_text.specs.declared.reply.Reply.{Reply}
 use Rattle.session_meaning.specs.History.{History}
 use Rattle.session_text.specs.Replies.{reply_text}

@@ -5,12 +5,12 @@ ghost use Rattle.span_types.specs.Faults.{Rose};
 ghost use Rattle.otlp_spans.specs.Reading.{most_spans};
 ghost use Rattle.io_edges.specs.Lines.{taken_limit};
 ghost use Rattle.io_edges.specs.Reader.{TakesBytes, to_come};
-ghost use Rattle.session_meaning.specs.declared.ending.Ending.TheVariants.{BadWords, ReadFault, Spent, Starved, WriteFault};
+ghost use Rattle.session_meaning.specs.declared.ending.Ending.TheVariants.{Answered, BadWords, ReadFault, Refused, Spent, Starved, WriteFault};
 ghost use Rattle.session_text.specs.declared.reply.Reply.{Reply};
 ghost use Rattle.session_text.specs.declared.request.Request.TheVariants.{Push, Trace};
 ghost use Rattle.session_meaning.specs.History.{History};
 ghost use Rattle.session_text.specs.Requests.{request_of};
-ghost use Rattle.session_meaning.specs.Session.{HasRun, IsAnsweredOrStarved, is_for_memory, is_refusal};
+ghost use Rattle.session_meaning.specs.Session.{AnswersAlone, HasRun, IsAnsweredOrStarved, is_for_memory, is_refusal};
 ghost use Rattle.trace_shell.specs.Holding.{Holds};
 ghost use Rattle.trace_shell.specs.Turn.{seen_with, ending_of, HasGiven, IsAt, Turned};
 
@@ -93,6 +93,24 @@ pub(crate) fn session<S: Source, K: Sink>(alloc: Global, source: &mut S, sink: &
         if let Some(ending) = turn(alloc, &mut reader, source, &mut held, &mut seen, sink) {
             return ending;
         }
+    }
+}
+
+/// Answers one line, and nothing else: no push came before it.
+pub(crate) fn one_line<K: Sink>(alloc: Global, sink: &mut K, line: &[u8]) -> Ending
+    ensures told { (before : List ℕ) → K.taken sink.old ≡ Some before → AnswersAlone line.now before (K.taken sink.new) result }
+    ensures write_fault { result ≡ WriteFault → Rose (K.faults sink.old) (K.faults sink.new) }
+    ensures endings { (result ≡ WriteFault) ⊎ ((result ≡ Answered) ⊎ ((result ≡ Refused) ⊎ (result ≡ Starved))) }
+{
+    let mut held = Held::new(alloc);
+    let mut seen = Seen {
+        refused: false,
+        starved: false,
+    };
+    let reply = answer(alloc, &mut held, line);
+    match give(alloc, &mut seen, sink, &reply) {
+        Some(ending) => ending,
+        None => seen.ending(),
     }
 }
 
