@@ -9,8 +9,8 @@ use Rattle.span_types.specs.declared.attrs.Resource.{Resource}
 use Rattle.span_types.specs.declared.attrs.Scope.{Scope}
 use Rattle.span_types.specs.declared.spans.Span.{Span}
 use Rattle.span_types.specs.declared.spans.StatusCode.{StatusCode}
-use Rattle.otlp_spans.specs.Runs.{runs}
-use Rattle.otlp_spans.specs.Same.{same_resource, same_scope}
+use Rattle.span_runs.specs.Runs.{runs}
+use Rattle.span_runs.specs.Same.{of_one_resource, of_one_scope}
 use Rattle.otlp_spans.specs.Writing.{attr_json, list_json, resource_json, resource_spans_json, scope_json, scope_spans_json, span_json, status_json, trace_json, value_json}
 
 items_within : {A : Type 0} (f : A → Data) (n : ℕ) → ((x : A) → depth (f x) ≤ n) → (xs : List A) → items_depth (items_of (map f xs)) ≤ n
@@ -63,11 +63,11 @@ resource_spans_within : (run : Span × List Span) → depth (resource_spans_json
 unfolding resource_spans_json
 resource_spans_within (first, more) =
     let resource = resource_within first.resource in
-    let scopes = list_within scope_spans_json 6 scope_spans_within (runs same_scope (first ∷ more)) in
+    let scopes = list_within scope_spans_json 6 scope_spans_within (runs of_one_scope (first ∷ more)) in
     omega arith
 
 pub trace_within : (spans : List Span) → depth (trace_json spans) ≤ 10
 unfolding trace_json
 trace_within spans =
-    let resources = list_within resource_spans_json 8 resource_spans_within (runs same_resource spans) in
+    let resources = list_within resource_spans_json 8 resource_spans_within (runs of_one_resource spans) in
     omega arith

@@ -10,8 +10,8 @@ use Rattle.span_types.specs.declared.attrs.Resource.{Resource}
 use Rattle.span_types.specs.declared.attrs.Scope.{Scope}
 use Rattle.span_types.specs.declared.spans.Span.{Span}
 use Rattle.span_types.specs.declared.spans.StatusCode.{StatusCode}
-use Rattle.otlp_spans.specs.Runs.{runs}
-use Rattle.otlp_spans.specs.Same.{same_resource, same_scope}
+use Rattle.span_runs.specs.Runs.{runs}
+use Rattle.span_runs.specs.Same.{of_one_resource, of_one_scope}
 use Rattle.otlp_spans.specs.Writing.{attr_json, list_json, resource_json, resource_spans_json, scope_json, scope_spans_json, span_json, status_json, trace_json, trace_text, value_json}
 
 items_plain : {A : Type 0} (f : A → Data) → ((x : A) → has_float (f x) ≡ false) → (xs : List A) → items_have_float (items_of (map f xs)) ≡ false
@@ -54,11 +54,11 @@ scope_spans_plain (first, more) = rw (scope_plain first.scope, list_plain span_j
 resource_spans_plain : (run : Span × List Span) → has_float (resource_spans_json run) ≡ false
 unfolding resource_spans_json
 resource_spans_plain (first, more) =
-    rw (resource_plain first.resource, list_plain scope_spans_json scope_spans_plain (runs same_scope (first ∷ more))) refl
+    rw (resource_plain first.resource, list_plain scope_spans_json scope_spans_plain (runs of_one_scope (first ∷ more))) refl
 
 pub trace_plain : (spans : List Span) → has_float (trace_json spans) ≡ false
 unfolding trace_json
-trace_plain spans = rw (list_plain resource_spans_json resource_spans_plain (runs same_resource spans)) refl
+trace_plain spans = rw (list_plain resource_spans_json resource_spans_plain (runs of_one_resource spans)) refl
 
 -- What is written for a value that is a trace's is the trace's text.
 pub written : (spans : List Span) (d : Data) (text : List ℕ) → d ≡ trace_json spans → (has_float d ≡ false → text ≡ compact_text d) → text ≡ trace_text spans

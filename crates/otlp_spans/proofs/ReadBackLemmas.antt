@@ -1,11 +1,10 @@
 -- The text of a trace reads back as its JSON.
-use Rattle.std.proofs.Common.{◌≡◌, ℕ, ◌≤◌, List, [], Some, ap, ◌∙◌, refl, arith}
+use Rattle.std.proofs.Common.{◌≡◌, ℕ, ◌≤◌, List, Some, ap, ◌∙◌, arith}
 use Rattle.std.specs.Str.{IsUtf8}
 use Rattle.serde_json.specs.Data.{Data, depth}
 use Rattle.serde_json.specs.Read.{max_depth, read}
 use Rattle.span_types.specs.declared.spans.Span.{Span}
 use Rattle.otlp_spans.specs.Json.{json_of}
-use Rattle.otlp_spans.specs.Reading.{request_of, spans_of_line}
 use Rattle.otlp_spans.specs.Writing.{trace_json}
 use Rattle.otlp_spans.proofs.DepthLemmas.{trace_within}
 use Rattle.otlp_spans.proofs.JsonLemmas.{json_of-some}
@@ -15,8 +14,3 @@ pub trace_reads_back : (spans : List Span) (d : Data) (text : List ℕ) → d �
 trace_reads_back spans d text is utf8 reads =
     let shallow : depth d ≤ max_depth = let within = trace_within spans in let same = ap depth is in omega arith in
     json_of-some text d (utf8, reads shallow) ∙ ap Some is
-
--- The text of no spans is a line of no spans.
-pub empty_reads_back : (text : List ℕ) → json_of text ≡ Some (trace_json []) → spans_of_line text ≡ Some []
-unfolding spans_of_line request_of trace_json
-empty_reads_back text h = rw h refl

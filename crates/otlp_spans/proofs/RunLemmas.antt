@@ -1,7 +1,7 @@
 -- The first run of a list, and the runs after it.
 use Rattle.std.proofs.Common.{◌≡◌, ℕ, zero, suc, ◌+◌, ◌-◌, ◌<◌, Bool, true, false, cond, List, [], ◌∷◌, ◌++◌, length, take, drop, map, refl, sym, ap, ◌∙◌, subst, arith, append_assoc}
 use Rattle.std.proofs.lemmas.List.{drop-map, map-append, take-map}
-use Rattle.otlp_spans.specs.Runs.{as_run, in_front, run_len, runs}
+use Rattle.span_runs.specs.Runs.{as_run, in_front, run_len, runs}
 
 -- a run has an item
 run_len-cons : {A : Type 0} (same : A → A → Bool) (x : A) (xs : List A) → (m : ℕ) × (run_len same (x ∷ xs) ≡ suc m)
@@ -44,7 +44,7 @@ run_len_ends {A = A} same f xs i so_far some all =
     let one : run_len same (map f (drop (i - 1) xs)) ≡ 1 = ap (λ (l : List A). run_len same (map f l)) last.1 in
     omega arith
 
-split_at_len : {A S : Type 0} (same : S → S → Bool) (f : A → S) (xs : List A) (n : ℕ) → n ≡ run_len same (map f xs)
+pub split_at_len : {A S : Type 0} (same : S → S → Bool) (f : A → S) (xs : List A) (n : ℕ) → n ≡ run_len same (map f xs)
     → runs same (map f xs) ≡ as_run (map f (take n xs)) ++ runs same (map f (drop n xs))
 split_at_len {S = S} same f xs n len =
     let split : Splits same (map f xs) n = subst (λ k. Splits same (map f xs) k) (sym len) (runs_split same (map f xs)) in

@@ -1,6 +1,10 @@
 pub mod Json
+pub mod Members
+pub mod Forms
 pub mod Fields
+pub mod Attributes
+pub mod Keys
 pub mod Reading
-pub mod Runs
-pub mod Same
+pub mod Fits
+pub mod Walk
 pub mod Writing

@@ -1,70 +1,178 @@
--- What spans a line of OTLP/JSON has, where it is of the one form that is read. Each level of the request is a function of
--- its JSON value, and has just the stated members.
-use Rattle.std.specs.Prelude.{ℕ, List, [], length, codes, nat_le, if◌then◌else◌, Option, Some, None}
+-- What spans a line of OTLP/JSON has. Each level of the request is a function of its JSON value, for values of any form:
+-- a part of the wrong form is read as absent, and the line is then refused.
+use Rattle.std.specs.Prelude.{◌≡◌, ℕ, ◌+◌, ◌-◌, ◌^◌, min, false, IfSome, List, [], length, nat_le, if◌then◌else◌, Option, Some, None, Result, Ok, Err}
+use Rattle.std.specs.List.{filter_map, flat_map}
+use Rattle.std.specs.Option.{option_map_or}
 use Rattle.serde_json.specs.Data.{Data}
+use Rattle.serde_json.specs.Find.{as_str}
+use Rattle.span_types.specs.declared.attrs.Attr.{Attr}
 use Rattle.span_types.specs.declared.attrs.Resource.{Resource}
 use Rattle.span_types.specs.declared.attrs.Scope.{Scope}
+use Rattle.span_types.specs.declared.ids.SpanId.{SpanId}
 use Rattle.span_types.specs.declared.spans.Span.{Span}
+use Rattle.span_types.specs.declared.spans.SpanKind.{SpanKind}
 use Rattle.span_types.specs.declared.spans.SpanKind.TheVariants.{Unspecified}
+use Rattle.span_types.specs.declared.spans.StatusCode.{StatusCode}
 use Rattle.span_types.specs.declared.spans.StatusCode.TheVariants.{Unset}
-use Rattle.otlp_spans.specs.Fields.{moment_of, parent_of, span_id_of, trace_id_of}
-use Rattle.otlp_spans.specs.Json.{◌>>=◌, each, joined, has_members, json_of, only_list, text_at}
+use Rattle.otlp_spans.specs.declared.cores.Core.{Core}
+use Rattle.otlp_spans.specs.declared.paths.Member.TheVariants as m
+use Rattle.otlp_spans.specs.declared.paths.Step.{Step}
+use Rattle.otlp_spans.specs.Attributes.{AreDistinctBehind, attrs_in, list_in, skipped_attrs, text_in}
+use Rattle.otlp_spans.specs.Fields.{code_of, is_zeros, kind_of, parent_of, span_id_of, trace_id_of, whole_of}
+use Rattle.otlp_spans.specs.Forms.{first_wrong, found, request_form}
+use Rattle.otlp_spans.specs.Json.{◌>>=◌, json_of, total}
 
--- A resource of which nothing is said.
-abbrev pub plain_resource : Resource
-plain_resource = record { attrs = [] }
+-- ---- a span
 
--- A scope of which nothing is said.
-abbrev pub plain_scope : Scope
-plain_scope = record { name = []; version = []; attrs = [] }
+-- The parent: none where the member is absent.
+abbrev pub parent_from : Option Data → Option (Option SpanId)
+parent_from None = Some None
+parent_from (Some d) = as_str d >>= parent_of
 
--- The six texts of a span. Its kind and status are OTLP's first ones, and it has no attributes.
-unfoldable pub texts_of : Resource → Scope → Data → Option Span
-texts_of resource scope d = do
-  trace ← text_at (codes "traceId") d >>= trace_id_of
-  id ← text_at (codes "spanId") d >>= span_id_of
-  parent ← text_at (codes "parentSpanId") d >>= parent_of
-  name ← text_at (codes "name") d
-  start ← text_at (codes "startTimeUnixNano") d >>= moment_of
-  end ← text_at (codes "endTimeUnixNano") d >>= moment_of
-  Some (record {
-    trace = trace;
-    id = id;
-    parent = parent;
-    name = name;
-    kind = Unspecified;
-    start = start;
-    end = end;
-    status = Unset;
-    message = [];
-    attrs = [];
-    resource = resource;
-    scope = scope;
-  })
+-- What makes a span one that is accepted. It is rejected where one of these five is wrong.
+unfoldable pub core_of : Data → Option Core
+core_of d = do
+  trace ← found m.TraceId d >>= as_str >>= trace_id_of
+  id ← found m.SpanId d >>= as_str >>= span_id_of
+  parent ← parent_from (found m.ParentSpanId d)
+  start ← found m.StartTime d >>= whole_of
+  end ← found m.EndTime d >>= whole_of
+  Some (record { trace = trace; id = id; parent = parent; start = start; end = end })
 
--- A span is an object of these six members.
-unfoldable pub span_of : Resource → Scope → Data → Option Span
-span_of resource scope d = if has_members 6 d then texts_of resource scope d else None
+-- The kind, unspecified where it is absent.
+abbrev pub kind_in : Data → SpanKind
+kind_in d = option_map_or kind_of (found m.Kind d) Unspecified
 
--- A member of `scopeSpans` has a list of spans, and here nothing of its scope.
-unfoldable pub scope_spans_of : Resource → Data → Option (List Span)
-scope_spans_of resource d = only_list (codes "spans") d >>= each (span_of resource plain_scope)
+-- The status' code and message: unset and empty where they are absent.
+abbrev pub status_code_in : Data → StatusCode
+status_code_in d = option_map_or code_of (found m.Status d >>= found m.Code) Unset
 
--- A member of `resourceSpans` has a list of scopes' spans, and here nothing of its resource.
-unfoldable pub resource_spans_of : Data → Option (List Span)
-resource_spans_of d = only_list (codes "scopeSpans") d >>= joined (scope_spans_of plain_resource)
+abbrev pub status_message_in : Data → List ℕ
+status_message_in d = option_map_or (text_in m.Message) (found m.Status d) []
 
--- A request has a list of resources' spans.
-unfoldable pub request_of : Data → Option (List Span)
-request_of d = only_list (codes "resourceSpans") d >>= joined resource_spans_of
+-- The span that has this core.
+unfoldable pub span_with : Resource → Scope → Data → Core → Span
+span_with resource scope d core = record {
+  trace = core.trace;
+  id = core.id;
+  parent = core.parent;
+  name = text_in m.Name d;
+  kind = kind_in d;
+  start = core.start;
+  end = core.end;
+  status = status_code_in d;
+  message = status_message_in d;
+  attrs = attrs_in d;
+  resource = resource;
+  scope = scope;
+}
 
--- The most spans that a line may have.
+-- The span that an object is, where it isn't rejected.
+abbrev pub span_of : Resource → Scope → Data → Option Span
+span_of resource scope d = do
+  core ← core_of d
+  Some (span_with resource scope d core)
+
+-- What is skipped of a span that isn't rejected: attributes, events and links.
+abbrev pub skipped_of_span : Data → ℕ
+skipped_of_span d = option_map_or (λ core. skipped_attrs d + (length (list_in m.Events d) + length (list_in m.Links d))) (core_of d) 0
+
+-- ---- a member of `scopeSpans`
+
+-- The attributes of an object that may be absent, and how many of them are skipped.
+abbrev pub attrs_from : Option Data → List Attr
+attrs_from o = option_map_or attrs_in o []
+
+abbrev pub skipped_from : Option Data → ℕ
+skipped_from o = option_map_or skipped_attrs o 0
+
+abbrev pub scope_from : Option Data → Scope
+scope_from o = record { name = option_map_or (text_in m.Name) o []; version = option_map_or (text_in m.Version) o []; attrs = attrs_from o }
+
+-- Its spans, in order.
+unfoldable pub scope_spans : Resource → Data → List Span
+scope_spans resource d = filter_map (span_of resource (scope_from (found m.Scope d))) (list_in m.Spans d)
+
+-- What is skipped in it.
+unfoldable pub skipped_of_scope : Data → ℕ
+skipped_of_scope d = skipped_from (found m.Scope d) + total skipped_of_span (list_in m.Spans d)
+
+-- ---- a member of `resourceSpans`
+
+abbrev pub resource_from : Option Data → Resource
+resource_from o = record { attrs = attrs_from o }
+
+unfoldable pub resource_spans : Data → List Span
+resource_spans d = flat_map (scope_spans (resource_from (found m.Resource d))) (list_in m.ScopeSpans d)
+
+unfoldable pub skipped_of_resource : Data → ℕ
+skipped_of_resource d = skipped_from (found m.Resource d) + total skipped_of_scope (list_in m.ScopeSpans d)
+
+-- how many span objects it has
+unfoldable pub objects_of_resource : Data → ℕ
+objects_of_resource d = total (λ s. length (list_in m.Spans s)) (list_in m.ScopeSpans d)
+
+-- ---- a line
+
+-- The spans of a line's value that aren't rejected, in their order.
+unfoldable pub spans_of : Data → List Span
+spans_of d = flat_map resource_spans (list_in m.ResourceSpans d)
+
+-- How many span objects it has, those that are rejected among them.
+unfoldable pub objects_of : Data → ℕ
+objects_of d = total objects_of_resource (list_in m.ResourceSpans d)
+
+-- How much is skipped in it.
+unfoldable pub skipped_of : Data → ℕ
+skipped_of d = total skipped_of_resource (list_in m.ResourceSpans d)
+
+-- The most span objects that a line may have.
 abbrev pub most_spans : ℕ
 most_spans = 16384
 
--- The spans of a line, in its order; nothing where the line isn't of the form.
-unfoldable pub spans_of_line : List ℕ → Option (List Span)
-spans_of_line line = do
-  d ← json_of line
-  spans ← request_of d
-  if nat_le (length spans) most_spans then Some spans else None
+-- The last values of the counts' types, at which they stand still.
+abbrev pub last32 : ℕ
+last32 = 2 ^ 32 - 1
+
+abbrev pub last64 : ℕ
+last64 = 2 ^ 64 - 1
+
+-- What a line gives: its spans, how many span objects were rejected, and how much was skipped.
+pub record Given : Type 0 where
+  pub spans : List Span
+  pub rejected : ℕ
+  pub skipped : ℕ
+
+-- Why a line gives nothing.
+pub data Refusal : Type 0 where
+  NoJson : Refusal
+  WrongForm : (path : List Step) → Refusal
+  TooManySpans : (spans : ℕ) → Refusal
+
+-- A value whose forms are right.
+abbrev pub counted : Data → Result Given Refusal
+counted d =
+    if nat_le (objects_of d) most_spans
+    then Ok (record { spans = spans_of d; rejected = objects_of d - length (spans_of d); skipped = min (skipped_of d) last32 })
+    else Err (TooManySpans (min (objects_of d) last64))
+
+abbrev pub unless_wrong : Option (List Step) → Result Given Refusal → Result Given Refusal
+unless_wrong None given = given
+unless_wrong (Some path) given = Err (WrongForm path)
+
+abbrev pub given_by : Option Data → Result Given Refusal
+given_by None = Err NoJson
+given_by (Some d) = unless_wrong (first_wrong request_form d) (counted d)
+
+-- What a line gives, or why it gives nothing: it is no JSON, a part has the wrong form, or there are too many spans.
+unfoldable pub reading_of : List ℕ → Result Given Refusal
+reading_of line = given_by (json_of line)
+
+-- What every span that a line gives has: no id of zeros alone, and each key of a list of attributes once.
+pub record IsReadable (s : Span) : Type 0 where
+  pub trace : is_zeros s.trace.0 ≡ false
+  pub id : is_zeros s.id.0 ≡ false
+  pub parent : IfSome s.parent (λ p. is_zeros p.0 ≡ false)
+  pub attrs : AreDistinctBehind [] s.attrs
+  pub of_resource : AreDistinctBehind [] s.resource.attrs
+  pub of_scope : AreDistinctBehind [] s.scope.attrs

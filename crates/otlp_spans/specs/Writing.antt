@@ -17,8 +17,8 @@ use Rattle.span_types.specs.declared.spans.SpanKind.{SpanKind}
 use Rattle.span_types.specs.declared.spans.SpanKind.TheVariants.{Unspecified, Internal, Server, Client, Producer, Consumer}
 use Rattle.span_types.specs.declared.spans.StatusCode.{StatusCode}
 use Rattle.span_types.specs.declared.spans.StatusCode.TheVariants.{Unset, Fine, Error}
-use Rattle.otlp_spans.specs.Runs.{runs}
-use Rattle.otlp_spans.specs.Same.{same_resource, same_scope}
+use Rattle.span_runs.specs.Runs.{runs}
+use Rattle.span_runs.specs.Same.{of_one_resource, of_one_scope}
 
 -- The list of what f gives of each item.
 abbrev pub list_json : {A : Type 0} → (A → Data) → List A → Data
@@ -91,12 +91,12 @@ scope_spans_json (first, more) = object (
 unfoldable pub resource_spans_json : Span × List Span → Data
 resource_spans_json (first, more) = object (
     member (codes "resource") (resource_json first.resource) (
-    member (codes "scopeSpans") (list_json scope_spans_json (runs same_scope (first ∷ more))) no_members))
+    member (codes "scopeSpans") (list_json scope_spans_json (runs of_one_scope (first ∷ more))) no_members))
 
 -- A trace, as runs of spans with equal resources.
 unfoldable pub trace_json : List Span → Data
 trace_json spans = object (
-    member (codes "resourceSpans") (list_json resource_spans_json (runs same_resource spans)) no_members)
+    member (codes "resourceSpans") (list_json resource_spans_json (runs of_one_resource spans)) no_members)
 
 -- The spans of rows.
 abbrev pub spans_in : List Row → List Span

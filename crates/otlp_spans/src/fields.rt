@@ -1,12 +1,14 @@
-//! The texts that are a span's ids and times.
+//! The texts and numbers that are a span's ids, times, kind and status code.
 
-ghost use Rattle.std.specs.Prelude.{◌≡◌};
+ghost use Rattle.std.specs.Prelude.{◌≡◌, option_map};
 ghost use Rattle.std.specs.Char.{is_ascii_digit};
 ghost use Rattle.std.specs.List.{list_all};
-ghost use Rattle.otlp_spans.specs.Fields.{is_zeros, moment_of, parent_of, span_id_of, trace_id_of};
+ghost use Rattle.serde_json.specs.View.{view};
+ghost use Rattle.otlp_spans.specs.Fields.{after_minus, code_named, code_numbered, code_of, int_of, is_zeros, kind_named, kind_numbered, kind_of, minus_of, moment_of, parent_of, plus_of, signed_of, span_id_of, trace_id_of, whole_of};
 
 use hex::FromHex;
-use span_types::{SpanId, TraceId};
+use serde_json::Value;
+use span_types::{SpanId, SpanKind, StatusCode, TraceId};
 
 fn all_zeros(bytes: &[u8]) -> bool
     ensures { result ≡ is_zeros bytes.now }
@@ -74,4 +76,133 @@ pub(crate) fn moment(text: &str) -> Option<u64>
         return None;
     }
     text.parse::<u64>().ok()
+}
+
+/// The negative of a number, where 64 signed bits hold it.
+fn minus(number: u64) -> Option<i64>
+    ensures { result ≡ minus_of number }
+{
+    i64::try_from(-i128::from(number)).ok()
+}
+
+/// The number, where 64 signed bits hold it.
+fn plus(number: u64) -> Option<i64>
+    ensures { result ≡ plus_of number }
+{
+    i64::try_from(number).ok()
+}
+
+/// What follows a minus at the beginning of a text.
+fn after_minus(text: &str) -> Option<&str>
+    ensures { option_map (λ s. s.now) result ≡ after_minus text.now }
+{
+    text.strip_prefix('-')
+}
+
+/// A whole number of 64 signed bits: decimal digits, with or without a minus before them.
+fn signed(text: &str) -> Option<i64>
+    ensures { result ≡ signed_of text.now }
+{
+    match after_minus(text) {
+        Some(digits) => minus(moment(digits)?),
+        None => plus(moment(text)?),
+    }
+}
+
+/// A JSON number that is a whole number from 0 to 2^64 - 1, or a text of its digits.
+#[tactic(auto, unfolding(crate::specs::Fields::whole_of))]
+pub(crate) fn whole(value: &Value) -> Option<u64>
+    ensures { result ≡ whole_of (view value.now) }
+{
+    match value.as_str() {
+        Some(text) => moment(text),
+        None => value.as_u64(),
+    }
+}
+
+/// The same of 64 signed bits.
+#[tactic(auto, unfolding(crate::specs::Fields::int_of))]
+pub(crate) fn int(value: &Value) -> Option<i64>
+    ensures { result ≡ int_of (view value.now) }
+{
+    match value.as_str() {
+        Some(text) => signed(text),
+        None => value.as_i64(),
+    }
+}
+
+/// The kind that has this number, and unspecified where none has.
+fn kind_numbered(number: u64) -> SpanKind
+    ensures { result ≡ kind_numbered number }
+{
+    match number {
+        1 => SpanKind::Internal,
+        2 => SpanKind::Server,
+        3 => SpanKind::Client,
+        4 => SpanKind::Producer,
+        5 => SpanKind::Consumer,
+        _ => SpanKind::Unspecified,
+    }
+}
+
+/// The kind that has this name in OTLP, and unspecified where none has.
+fn kind_named(name: &str) -> SpanKind
+    ensures { result ≡ kind_named name.now }
+{
+    match name {
+        "SPAN_KIND_INTERNAL" => SpanKind::Internal,
+        "SPAN_KIND_SERVER" => SpanKind::Server,
+        "SPAN_KIND_CLIENT" => SpanKind::Client,
+        "SPAN_KIND_PRODUCER" => SpanKind::Producer,
+        "SPAN_KIND_CONSUMER" => SpanKind::Consumer,
+        _ => SpanKind::Unspecified,
+    }
+}
+
+/// A kind: its number, or its name. Everything else counts as unspecified.
+pub(crate) fn kind(value: &Value) -> SpanKind
+    ensures { result ≡ kind_of (view value.now) }
+{
+    if let Some(number) = whole(value) {
+        return kind_numbered(number);
+    }
+    match value.as_str() {
+        Some(name) => kind_named(name),
+        None => SpanKind::Unspecified,
+    }
+}
+
+/// The status code that has this number, and unset where none has.
+fn code_numbered(number: u64) -> StatusCode
+    ensures { result ≡ code_numbered number }
+{
+    match number {
+        1 => StatusCode::Fine,
+        2 => StatusCode::Error,
+        _ => StatusCode::Unset,
+    }
+}
+
+/// The status code that has this name in OTLP, and unset where none has.
+fn code_named(name: &str) -> StatusCode
+    ensures { result ≡ code_named name.now }
+{
+    match name {
+        "STATUS_CODE_OK" => StatusCode::Fine,
+        "STATUS_CODE_ERROR" => StatusCode::Error,
+        _ => StatusCode::Unset,
+    }
+}
+
+/// A status code: its number, or its name. Everything else counts as unset.
+pub(crate) fn code(value: &Value) -> StatusCode
+    ensures { result ≡ code_of (view value.now) }
+{
+    if let Some(number) = whole(value) {
+        return code_numbered(number);
+    }
+    match value.as_str() {
+        Some(name) => code_named(name),
+        None => StatusCode::Unset,
+    }
 }

@@ -1,43 +1,77 @@
 //! Looking into a JSON value.
 
-ghost use Rattle.std.specs.Prelude.{◌≡◌, map, option_map};
+ghost use Rattle.std.specs.Prelude.{◌≡◌, ◌⊎◌, ◌∷◌, [], map, option_map, IfOk, None};
 ghost use Rattle.serde_json.specs.View.{view};
-ghost use Rattle.otlp_spans.specs.Json.{has_members, list_of, only_list, text_at};
+ghost use Rattle.otlp_spans.specs.Attributes.{list_in, text_in};
+ghost use Rattle.otlp_spans.specs.Forms.{AnyList, Form, ListOf, Text as AText, behind, first_in_field, first_in_items, first_wrong, found};
+ghost use Rattle.otlp_spans.specs.Json.{list_of};
+ghost use Rattle.otlp_spans.specs.Walk.{StopsAt};
+ghost use Rattle.otlp_spans.specs.declared.errors.Stop.TheVariants.{Memory, Wrong};
+ghost use Rattle.otlp_spans.specs.declared.paths.Step.TheVariants.{Of};
 
+use crate::errors::Stop;
+use crate::paths::{Member, Step};
 use serde_json::Value;
+use std::alloc::Global;
 
-/// Whether the value is an object of just that many members.
-pub(crate) fn is_object_of(value: &Value, members: usize) -> bool
-    ensures { result ≡ has_members members (view value.now) }
+/// The member of an object, where it is there and isn't null.
+pub(crate) fn found(value: &Value, member: Member) -> Option<&Value>
+    ensures { option_map (λ v. view v.now) result ≡ found member (view value.now) }
 {
-    match value.as_object() {
-        Some(object) => object.len() == members,
-        None => false,
+    let found = value.get(member.name())?;
+    if found.is_null() {
+        return None;
     }
+    Some(found)
 }
 
-#[tactic(auto, using(crate::proofs::JsonLemmas::item_lists))]
 /// The items, where the value is a list.
+#[tactic(auto, using(crate::proofs::JsonLemmas::item_lists))]
 pub(crate) fn list(value: &Value) -> Option<&[Value]>
     ensures { option_map (λ l. map view l.now) result ≡ list_of (view value.now) }
 {
     Some(value.as_array()?.as_slice())
 }
 
-/// The text that a member of an object is.
-pub(crate) fn text<'a>(value: &'a Value, name: &str) -> Option<&'a str>
-    ensures { option_map (λ s. s.now) result ≡ text_at name.now (view value.now) }
+/// The member itself has the wrong form.
+pub(crate) fn wrong(alloc: Global, member: Member) -> Stop
+    ensures { (result ≡ Wrong (Of member ∷ [])) ⊎ (result ≡ Memory) }
 {
-    value.get(name)?.as_str()
+    Stop::here(alloc).behind(Step::Of(member))
 }
 
-/// The list that the one member of an object is.
-pub(crate) fn only_list<'a>(value: &'a Value, name: &str) -> Option<&'a [Value]>
-    ensures { option_map (λ l. map view l.now) result ≡ only_list name.now (view value.now) }
+/// The text that a member is; empty where it is absent.
+pub(crate) fn text_in<'a>(alloc: Global, value: &'a Value, member: Member) -> Result<&'a str, Stop>
+    ensures text { IfOk result (λ s. s.now ≡ text_in member (view value.now)) }
+    ensures right { IfOk result (λ _. first_in_field member AText (view value.now) ≡ None) }
+    ensures wrong { StopsAt result (first_in_field member AText (view value.now)) }
 {
-    if is_object_of(value, 1) {
-        list(value.get(name)?)
-    } else {
-        None
+    let Some(found) = found(value, member) else {
+        return Ok("");
+    };
+    match found.as_str() {
+        Some(text) => Ok(text),
+        None => Err(wrong(alloc, member)),
+    }
+}
+
+/// The list that a member is; without items where it is absent.
+pub(crate) fn list_in<'a>(
+    alloc: Global,
+    value: &'a Value,
+    member: Member,
+) -> Result<&'a [Value], Stop>
+    ensures list { IfOk result (λ l. map view l.now ≡ list_in member (view value.now)) }
+    ensures right { IfOk result (λ l. (f : Form) → first_in_field member (ListOf f) (view value.now) ≡ behind (Of member) (first_in_items (first_wrong f) 0 (map view l.now))) }
+    ensures any_right { IfOk result (λ _. first_in_field member AnyList (view value.now) ≡ None) }
+    ensures wrong { (f : Form) → StopsAt result (first_in_field member (ListOf f) (view value.now)) }
+    ensures any_wrong { StopsAt result (first_in_field member AnyList (view value.now)) }
+{
+    let Some(found) = found(value, member) else {
+        return Ok(&[]);
+    };
+    match list(found) {
+        Some(items) => Ok(items),
+        None => Err(wrong(alloc, member)),
     }
 }

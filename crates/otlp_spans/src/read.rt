@@ -1,232 +1,114 @@
 //! Reading a line.
 
-ghost use Rattle.std.specs.Prelude.{◌≡◌, ◌≤◌, length, map, All, IfOk, IfErr, Some, None};
+ghost use Rattle.std.specs.Prelude.{◌≡◌, ◌⊎◌, ◌≤◌, ℕ, length, All, IfOk, IfErr, List, Ok, Err, Some, None};
+ghost use Rattle.serde_json.specs.Data.{Data};
 ghost use Rattle.serde_json.specs.View.{view};
-ghost use Rattle.otlp_spans.specs.Fields.{HasIds};
-ghost use Rattle.otlp_spans.specs.Json.{each, joined, json_of};
-ghost use Rattle.otlp_spans.specs.Reading.{most_spans, plain_resource, plain_scope, request_of, resource_spans_of, scope_spans_of, span_of, spans_of_line};
-ghost use Rattle.otlp_spans.specs.declared.errors.OtlpError.TheVariants.{NotBuilt};
+ghost use Rattle.otlp_spans.specs.Forms.{path_text};
+ghost use Rattle.otlp_spans.specs.Json.{json_of};
+ghost use Rattle.otlp_spans.specs.Reading.{IsReadable, NoJson, TooManySpans, WrongForm, counted, most_spans, objects_of, reading_of, skipped_of, spans_of};
+ghost use Rattle.otlp_spans.specs.Walk.{Adds};
+ghost use Rattle.otlp_spans.specs.declared.errors.OtlpError.TheVariants.{Memory, NotJson, NotRequest, TooMany};
+ghost use Rattle.otlp_spans.specs.declared.paths.Step.{Step};
 
 use crate::OtlpError;
-use crate::fields::{moment, parent, span_id, trace_id};
-use crate::json::{is_object_of, only_list, text};
+use crate::errors::Stop;
+use crate::gathering::{Gathered, gather};
 use serde_json::Value;
-use span_types::{
-    Attrs, Batch, Resource, Scope, SharedResource, SharedScope, Span, SpanKind, Spans, StatusCode,
-    Text,
-};
+use span_types::{Batch, Spans, Text};
 use std::alloc::Global;
 
 /// What a line gives: its spans, and how much of it was left out.
 #[derive(Debug, Drop)]
 pub struct Reading {
-    /// The spans, in the order of the line.
+    /// The spans that aren't rejected, in the order of the line. There are at most 16,384.
     pub batch: Batch,
-    /// The number of spans that were rejected.
+    /// How many span objects were rejected.
     pub rejected: u32,
-    /// The number of attributes that were skipped.
+    /// How many attributes, events and links were skipped, at most 2^32 - 1.
     pub skipped: u32,
 }
 
-/// The most spans that a line may have.
-const MOST_SPANS: usize = 16_384;
+/// The most span objects that a line may have.
+const MOST_SPANS: u64 = 16_384;
 
-/// The spans of a line of OTLP/JSON, in the order of the line.
+/// The spans of a line of OTLP/JSON, which is one `ExportTraceServiceRequest`.
 ///
-/// The line is a JSON object whose one member `resourceSpans` is a list of objects. Each has the one member `scopeSpans`,
-/// a list of objects, and each of these the one member `spans`, a list of spans. There are at most 16,384 of them. A span
-/// is an object of just these six texts:
+/// The line is read as JSON. Members that aren't named here are ignored, and a member that is null is as if it weren't
+/// there. These have a form, and are tested in this order, depth first and lists by index:
 ///
-/// - `traceId` is 32 hexadecimal digits of either case, not all zeros, and `spanId` is 16 such digits;
-/// - `parentSpanId` is empty or 16 hexadecimal digits, where sixteen zeros are no parent;
-/// - `name` is any text;
-/// - `startTimeUnixNano` and `endTimeUnixNano` are decimal digits without a sign, below 2^64, and the
-///   end may be the earlier one.
+/// - the line is an object, and `resourceSpans` a list of objects;
+/// - of each of these `resource` is an object, and `scopeSpans` a list of objects;
+/// - of each of those `scope` is an object, with the texts `name` and `version`, and `spans` a list of objects;
+/// - of a span `name` is a text, `kind` a number or a text, `status` an object with the text `message` and with `code`,
+///   a number or a text, and `events` and `links` are lists;
+/// - the `attributes` of a resource, a scope and a span are a list of objects, whose `key` is a text.
 ///
-/// The spans of one member of `resourceSpans` share a resource of which nothing is said, and those of one member of
-/// `scopeSpans` such a scope. Kind and status are unspecified and unset. Nothing is rejected or skipped in this form.
+/// A span is rejected, and counted, where `traceId` isn't a text of 32 hexadecimal digits of either case that aren't all
+/// zeros, or `spanId` one of 16, where `parentSpanId` is there and neither empty nor a text of 16 such digits, or where
+/// `startTimeUnixNano` or `endTimeUnixNano` isn't a whole number below 2^64, as a JSON number or a text of its digits.
+/// Sixteen zeros are no parent.
 ///
-/// `NotBuilt` comes exactly where the bytes aren't of this form, and `Memory` wherever memory is wanted and not given.
-#[tactic(auto, unfolding(crate::specs::Reading::spans_of_line))]
+/// An attribute is kept where its `value` has exactly one of OTLP's seven kinds of value and this is a text, a truth or a
+/// whole number of 64 signed bits; else it is skipped, and counted. Of a key the first attribute that is kept stays. The
+/// events and links of accepted spans are skipped too.
+///
+/// [`OtlpError`] has the errors in the order in which they are tested. `Memory` comes wherever memory is wanted and not
+/// given.
+#[tactic(auto, unfolding(crate::specs::Reading::reading_of))]
 pub fn read_line(alloc: Global, line: &[u8]) -> Result<Reading, OtlpError>
-    ensures ok { IfOk result (λ r. spans_of_line line.now ≡ Some r.batch.spans) }
-    ensures not_built { IfErr result (λ e. e ≡ NotBuilt → spans_of_line line.now ≡ None) }
-    ensures counts { IfOk result (λ r. (r.rejected ≡ 0) × (r.skipped ≡ 0)) }
+    ensures ok { IfOk result (λ r. reading_of line.now ≡ Ok (record { spans = r.batch.spans; rejected = r.rejected; skipped = r.skipped })) }
+    ensures not_json { IfErr result (λ e. e ≡ NotJson → reading_of line.now ≡ Err NoJson) }
+    ensures not_request { IfErr result (λ e. (text : List ℕ) → e ≡ NotRequest text → (path : List Step) × (text ≡ path_text path) × (reading_of line.now ≡ Err (WrongForm path))) }
+    ensures too_many { IfErr result (λ e. (spans : ℕ) → e ≡ TooMany spans → reading_of line.now ≡ Err (TooManySpans spans)) }
     ensures most { IfOk result (λ r. length r.batch.spans ≤ most_spans) }
-    ensures ids { IfOk result (λ r. All HasIds r.batch.spans) }
+    ensures readable { IfOk result (λ r. All IsReadable r.batch.spans) }
 {
     let value = read_json(alloc, line)?;
-    let spans = read_request(alloc, &value)?;
-    if spans.len() > MOST_SPANS {
-        return Err(OtlpError::NotBuilt);
+    match gather(alloc, &value) {
+        Ok(gathered) => counted(gathered),
+        Err(Stop::Wrong(path)) => Err(OtlpError::NotRequest {
+            path: path.text(alloc)?,
+        }),
+        Err(Stop::Memory) => Err(OtlpError::Memory),
     }
-    Ok(Reading {
-        batch: Batch {
-            spans: Spans::of(spans),
-        },
-        rejected: 0,
-        skipped: 0,
-    })
 }
 
 /// A line's JSON value.
 #[tactic(auto, unfolding(crate::specs::Json::json_of))]
 fn read_json(alloc: Global, line: &[u8]) -> Result<Value, OtlpError>
     ensures ok { IfOk result (λ v. json_of line.now ≡ Some (view v)) }
-    ensures not_built { IfErr result (λ e. e ≡ NotBuilt → json_of line.now ≡ None) }
+    ensures not_json { IfErr result (λ e. e ≡ NotJson → json_of line.now ≡ None) }
+    ensures causes { IfErr result (λ e. (e ≡ NotJson) ⊎ (e ≡ Memory)) }
 {
     match Value::from_slice(alloc, line) {
         Ok(value) => Ok(value),
         Err(error) => if error.is_memory() {
             Err(OtlpError::Memory)
         } else {
-            Err(OtlpError::NotBuilt)
+            Err(OtlpError::NotJson)
         },
     }
 }
 
-/// The spans of a request.
-#[tactic(auto, unfolding(crate::specs::Reading::request_of))]
-fn read_request(alloc: Global, value: &Value) -> Result<Vec<Span>, OtlpError>
-    ensures ok { IfOk result (λ v. request_of (view value.now) ≡ Some v.items) }
-    ensures not_built { IfErr result (λ e. e ≡ NotBuilt → request_of (view value.now) ≡ None) }
+/// What was gathered, where there aren't too many spans.
+fn counted(gathered: Gathered) -> Result<Reading, OtlpError>
+    ensures ok { IfOk result (λ r. (d : Data) → gathered.spans.items ≡ spans_of d → Adds 0 gathered.objects (objects_of d) → Adds 0 gathered.skipped (skipped_of d)
+        → counted d ≡ Ok (record { spans = r.batch.spans; rejected = r.rejected; skipped = r.skipped })) }
+    ensures spans { IfOk result (λ r. (r.batch.spans ≡ gathered.spans.items) × (gathered.objects ≤ most_spans)) }
+    ensures too_many { IfErr result (λ e. (d : Data) → Adds 0 gathered.objects (objects_of d)
+        → (spans : ℕ) × (e ≡ TooMany spans) × (counted d ≡ Err (TooManySpans spans))) }
 {
-    let values = only_list(value, "resourceSpans").ok_or(OtlpError::NotBuilt)?;
-    read_resources(alloc, values)
-}
-
-/// The spans of each member of `resourceSpans`.
-fn read_resources(alloc: Global, values: &[Value]) -> Result<Vec<Span>, OtlpError>
-    ensures ok { IfOk result (λ v. joined resource_spans_of (map view values.now) ≡ Some v.items) }
-    ensures not_built { IfErr result
-        (λ e. e ≡ NotBuilt → joined resource_spans_of (map view values.now) ≡ None) }
-{
-    let mut spans = Vec::new(alloc);
-    for value in values {
-        let mut found = read_resource_spans(alloc, value)?;
-        spans.append(&mut found)?;
+    let objects = gathered.objects;
+    if objects > MOST_SPANS {
+        return Err(OtlpError::TooMany { spans: objects });
     }
-    Ok(spans)
-}
-
-/// The spans of a member of `resourceSpans`, which share one resource.
-#[tactic(auto, unfolding(crate::specs::Reading::resource_spans_of))]
-fn read_resource_spans(alloc: Global, value: &Value) -> Result<Vec<Span>, OtlpError>
-    ensures ok { IfOk result (λ v. resource_spans_of (view value.now) ≡ Some v.items) }
-    ensures not_built { IfErr result (λ e. e ≡ NotBuilt → resource_spans_of (view value.now) ≡ None) }
-{
-    let values = only_list(value, "scopeSpans").ok_or(OtlpError::NotBuilt)?;
-    let attrs = Attrs::of(Vec::new(alloc));
-    let resource = SharedResource::of(alloc, Resource { attrs })?;
-    read_scopes(alloc, &resource, values)
-}
-
-/// The spans of each member of `scopeSpans`.
-fn read_scopes(
-    alloc: Global,
-    resource: &SharedResource,
-    values: &[Value],
-) -> Result<Vec<Span>, OtlpError>
-    ensures ok { IfOk result (λ v. joined (scope_spans_of resource.now) (map view values.now) ≡ Some v.items) }
-    ensures not_built { IfErr result
-        (λ e. e ≡ NotBuilt → joined (scope_spans_of resource.now) (map view values.now) ≡ None) }
-{
-    let mut spans = Vec::new(alloc);
-    for value in values {
-        let mut found = read_scope_spans(alloc, resource, value)?;
-        spans.append(&mut found)?;
-    }
-    Ok(spans)
-}
-
-/// The spans of a member of `scopeSpans`, which share one scope.
-#[tactic(auto, unfolding(crate::specs::Reading::scope_spans_of))]
-fn read_scope_spans(
-    alloc: Global,
-    resource: &SharedResource,
-    value: &Value,
-) -> Result<Vec<Span>, OtlpError>
-    ensures ok { IfOk result (λ v. scope_spans_of resource.now (view value.now) ≡ Some v.items) }
-    ensures not_built { IfErr result
-        (λ e. e ≡ NotBuilt → scope_spans_of resource.now (view value.now) ≡ None) }
-{
-    let values = only_list(value, "spans").ok_or(OtlpError::NotBuilt)?;
-    let name = Text::of(String::new(alloc));
-    let version = Text::of(String::new(alloc));
-    let attrs = Attrs::of(Vec::new(alloc));
-    let scope = SharedScope::of(
-        alloc,
-        Scope {
-            name,
-            version,
-            attrs,
+    let accepted = gathered.spans.len() as u64;
+    let rejected = objects.saturating_sub(accepted);
+    Ok(Reading {
+        rejected: rejected as u32,
+        skipped: gathered.skipped.min(u64::from(u32::MAX)) as u32,
+        batch: Batch {
+            spans: Spans::of(gathered.spans),
         },
-    )?;
-    read_spans(alloc, resource, &scope, values)
-}
-
-/// One span.
-#[tactic(auto, unfolding(crate::specs::Reading::span_of, crate::specs::Reading::texts_of))]
-fn read_span(
-    alloc: Global,
-    resource: &SharedResource,
-    scope: &SharedScope,
-    value: &Value,
-) -> Result<Span, OtlpError>
-    ensures ok { IfOk result (λ s. span_of resource.now scope.now (view value.now) ≡ Some s) }
-    ensures not_built { IfErr result
-        (λ e. e ≡ NotBuilt → span_of resource.now scope.now (view value.now) ≡ None) }
-{
-    if !is_object_of(value, 6) {
-        return Err(OtlpError::NotBuilt);
-    }
-    let trace = text(value, "traceId")
-        .and_then(trace_id)
-        .ok_or(OtlpError::NotBuilt)?;
-    let id = text(value, "spanId")
-        .and_then(span_id)
-        .ok_or(OtlpError::NotBuilt)?;
-    let parent = text(value, "parentSpanId")
-        .and_then(parent)
-        .ok_or(OtlpError::NotBuilt)?;
-    let name = text(value, "name").ok_or(OtlpError::NotBuilt)?;
-    let start = text(value, "startTimeUnixNano")
-        .and_then(moment)
-        .ok_or(OtlpError::NotBuilt)?;
-    let end = text(value, "endTimeUnixNano")
-        .and_then(moment)
-        .ok_or(OtlpError::NotBuilt)?;
-    Ok(Span {
-        trace,
-        id,
-        parent,
-        name: Text::of(String::from_str(alloc, name)?),
-        kind: SpanKind::Unspecified,
-        start,
-        end,
-        status: StatusCode::Unset,
-        message: Text::of(String::new(alloc)),
-        attrs: Attrs::of(Vec::new(alloc)),
-        resource: resource.copy()?,
-        scope: scope.copy()?,
     })
-}
-
-/// The spans of a list.
-fn read_spans(
-    alloc: Global,
-    resource: &SharedResource,
-    scope: &SharedScope,
-    values: &[Value],
-) -> Result<Vec<Span>, OtlpError>
-    ensures ok { IfOk result (λ v. each (span_of resource.now scope.now) (map view values.now) ≡ Some v.items) }
-    ensures not_built { IfErr result
-        (λ e. e ≡ NotBuilt → each (span_of resource.now scope.now) (map view values.now) ≡ None) }
-{
-    let mut spans = Vec::new(alloc);
-    for value in values {
-        let span = read_span(alloc, resource, scope, value)?;
-        spans.push(span)?;
-    }
-    Ok(spans)
 }

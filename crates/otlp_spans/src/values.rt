@@ -1,24 +1,62 @@
 //! The JSON values of spans and what they hold.
 
-ghost use Rattle.std.specs.Prelude.{◌≡◌, IfOk, OnOk, codes, decimal, map, string_bytes};
+ghost use Rattle.std.specs.Prelude.{◌≡◌, ◌<◌, ◌^◌, FitsSigned, IfOk, IfSome, OnOk, codes, decimal, map, string_bytes};
+ghost use Rattle.std.specs.Fmt.{signed_decimal};
+ghost use Rattle.std.specs.Int.{w64};
 ghost use Rattle.hex.specs.Hex.{encode_lower};
 ghost use Rattle.serde_json.specs.Data.{array, number, put, string, unsigned};
 ghost use Rattle.serde_json.specs.View.{items_view, members_view, view};
+ghost use Rattle.otlp_spans.specs.Fits.{AreBytes, FitAttrs, FitsSpan, FitsValue};
 ghost use Rattle.otlp_spans.specs.Writing.{attr_json, code_number, kind_number, list_json, parent_text, resource_json, scope_json, span_json, status_json, value_json};
 
 use serde_json::{Map, Value, json};
-use span_types::{Attr, AttrValue, Memory, Resource, Scope, Span, SpanId, SpanKind, StatusCode};
+use span_types::{
+    Attr, AttrValue, Memory, Resource, Scope, Span, SpanId, SpanKind, StatusCode, TraceId,
+};
 use std::alloc::Global;
+
+/// A whole number as a decimal text.
+fn whole(alloc: Global, number: i64) -> Result<String, Memory>
+    ensures text { IfOk result (λ s. string_bytes s ≡ signed_decimal number) }
+    ensures fits { OnOk result (FitsSigned w64 number) }
+{
+    Ok(number.to_string(alloc)?)
+}
+
+/// A moment as a decimal text.
+fn moment(alloc: Global, nanos: u64) -> Result<String, Memory>
+    ensures text { IfOk result (λ s. string_bytes s ≡ decimal nanos) }
+    ensures fits { OnOk result (nanos < 2 ^ 64) }
+{
+    Ok(nanos.to_string(alloc)?)
+}
+
+/// A trace's id in lower-case hexadecimal digits.
+fn trace_id(alloc: Global, id: TraceId) -> Result<String, Memory>
+    ensures text { IfOk result (λ s. string_bytes s ≡ encode_lower id.0) }
+    ensures fits { OnOk result (AreBytes 16 id.0) }
+{
+    Ok(hex::encode(alloc, id.0.as_slice())?)
+}
+
+/// A span's id in lower-case hexadecimal digits.
+fn span_id(alloc: Global, id: SpanId) -> Result<String, Memory>
+    ensures text { IfOk result (λ s. string_bytes s ≡ encode_lower id.0) }
+    ensures fits { OnOk result (AreBytes 8 id.0) }
+{
+    Ok(hex::encode(alloc, id.0.as_slice())?)
+}
 
 /// An attribute's value: a text, a whole number as a decimal text, or a truth.
 #[tactic(auto, unfolding(crate::specs::Writing::value_json))]
 fn attr_value(alloc: Global, value: &AttrValue) -> Result<Value, Memory>
-    ensures { IfOk result (λ v. view v ≡ value_json value.now) }
+    ensures json { IfOk result (λ v. view v ≡ value_json value.now) }
+    ensures fits { OnOk result (FitsValue value.now) }
 {
     match value {
         AttrValue::Text(text) => Ok(json!(in alloc; {"stringValue": text.as_str()})?),
         AttrValue::Whole(number) => {
-            let digits = number.to_string(alloc)?;
+            let digits = whole(alloc, *number)?;
             Ok(json!(in alloc; {"intValue": digits})?)
         }
         AttrValue::Truth(truth) => Ok(json!(in alloc; {"boolValue": *truth})?),
@@ -28,7 +66,8 @@ fn attr_value(alloc: Global, value: &AttrValue) -> Result<Value, Memory>
 /// An attribute.
 #[tactic(auto, unfolding(crate::specs::Writing::attr_json))]
 fn attr(alloc: Global, attr: &Attr) -> Result<Value, Memory>
-    ensures { IfOk result (λ v. view v ≡ attr_json attr.now) }
+    ensures json { IfOk result (λ v. view v ≡ attr_json attr.now) }
+    ensures fits { OnOk result (FitsValue attr.now.value) }
 {
     let value = attr_value(alloc, &attr.value)?;
     Ok(json!(in alloc; {"key": attr.key.as_str(), "value": value})?)
@@ -36,7 +75,8 @@ fn attr(alloc: Global, attr: &Attr) -> Result<Value, Memory>
 
 /// A list of attributes.
 fn attrs(alloc: Global, list: &[Attr]) -> Result<Value, Memory>
-    ensures { IfOk result (λ v. view v ≡ list_json attr_json list.now) }
+    ensures json { IfOk result (λ v. view v ≡ list_json attr_json list.now) }
+    ensures fit { OnOk result (FitAttrs list.now) }
 {
     let mut values = Vec::new(alloc);
     for item in list {
@@ -48,7 +88,8 @@ fn attrs(alloc: Global, list: &[Attr]) -> Result<Value, Memory>
 /// A resource.
 #[tactic(auto, unfolding(crate::specs::Writing::resource_json))]
 pub(crate) fn resource(alloc: Global, resource: &Resource) -> Result<Value, Memory>
-    ensures { IfOk result (λ v. view v ≡ resource_json resource.now) }
+    ensures json { IfOk result (λ v. view v ≡ resource_json resource.now) }
+    ensures fits { OnOk result (FitAttrs resource.now.attrs) }
 {
     let attributes = attrs(alloc, resource.attrs.as_slice())?;
     Ok(json!(in alloc; {"attributes": attributes})?)
@@ -57,7 +98,8 @@ pub(crate) fn resource(alloc: Global, resource: &Resource) -> Result<Value, Memo
 /// A scope.
 #[tactic(auto, unfolding(crate::specs::Writing::scope_json))]
 pub(crate) fn scope(alloc: Global, scope: &Scope) -> Result<Value, Memory>
-    ensures { IfOk result (λ v. view v ≡ scope_json scope.now) }
+    ensures json { IfOk result (λ v. view v ≡ scope_json scope.now) }
+    ensures fits { OnOk result (FitAttrs scope.now.attrs) }
 {
     let attributes = attrs(alloc, scope.attrs.as_slice())?;
     let name = scope.name.as_str();
@@ -100,24 +142,27 @@ fn status(alloc: Global, code: StatusCode, message: &str) -> Result<Value, Memor
 
 /// A parent's id, and the empty text where there is none.
 fn parent(alloc: Global, parent: Option<SpanId>) -> Result<String, Memory>
-    ensures { IfOk result (λ s. string_bytes s ≡ parent_text parent) }
+    ensures text { IfOk result (λ s. string_bytes s ≡ parent_text parent) }
+    ensures fits { OnOk result (IfSome parent (λ p. AreBytes 8 p.0)) }
 {
     match parent {
         None => Ok(String::new(alloc)),
-        Some(id) => Ok(hex::encode(alloc, id.0.as_slice())?),
+        Some(id) => span_id(alloc, id),
     }
 }
 
 /// Puts a span's attributes, end and kind into its object.
 fn put_first(alloc: Global, object: &mut Map<String, Value>, span: &Span) -> Result<(), Memory>
-    ensures { OnOk result (members_view object.new.entries
+    ensures attrs { OnOk result (FitAttrs span.now.attrs) }
+    ensures end { OnOk result (span.now.end < 2 ^ 64) }
+    ensures json { OnOk result (members_view object.new.entries
         ≡ put (codes "kind") (number (unsigned (kind_number span.now.kind)))
         (put (codes "endTimeUnixNano") (string (decimal span.now.end))
         (put (codes "attributes") (list_json attr_json span.now.attrs)
         (members_view object.old.entries)))) }
 {
     let attributes = attrs(alloc, span.attrs.as_slice())?;
-    let end = span.end.to_string(alloc)?;
+    let end = moment(alloc, span.end)?;
     let kind = kind_number(span.kind);
     serde_json::put(object, alloc, "attributes", attributes)?;
     serde_json::put(object, alloc, "endTimeUnixNano", Value::from(end))?;
@@ -127,7 +172,9 @@ fn put_first(alloc: Global, object: &mut Map<String, Value>, span: &Span) -> Res
 
 /// Puts a span's name, parent and id into its object.
 fn put_second(alloc: Global, object: &mut Map<String, Value>, span: &Span) -> Result<(), Memory>
-    ensures { OnOk result (members_view object.new.entries
+    ensures parent { OnOk result (IfSome span.now.parent (λ p. AreBytes 8 p.0)) }
+    ensures id { OnOk result (AreBytes 8 span.now.id.0) }
+    ensures json { OnOk result (members_view object.new.entries
         ≡ put (codes "spanId") (string (encode_lower span.now.id.0))
         (put (codes "parentSpanId") (string (parent_text span.now.parent))
         (put (codes "name") (string span.now.name)
@@ -135,7 +182,7 @@ fn put_second(alloc: Global, object: &mut Map<String, Value>, span: &Span) -> Re
 {
     let name = Value::try_from_str(alloc, span.name.as_str())?;
     let parent = parent(alloc, span.parent)?;
-    let id = hex::encode(alloc, span.id.0.as_slice())?;
+    let id = span_id(alloc, span.id)?;
     serde_json::put(object, alloc, "name", name)?;
     serde_json::put(object, alloc, "parentSpanId", Value::from(parent))?;
     serde_json::put(object, alloc, "spanId", Value::from(id))?;
@@ -144,15 +191,17 @@ fn put_second(alloc: Global, object: &mut Map<String, Value>, span: &Span) -> Re
 
 /// Puts a span's start, status and trace into its object.
 fn put_third(alloc: Global, object: &mut Map<String, Value>, span: &Span) -> Result<(), Memory>
-    ensures { OnOk result (members_view object.new.entries
+    ensures start { OnOk result (span.now.start < 2 ^ 64) }
+    ensures trace { OnOk result (AreBytes 16 span.now.trace.0) }
+    ensures json { OnOk result (members_view object.new.entries
         ≡ put (codes "traceId") (string (encode_lower span.now.trace.0))
         (put (codes "status") (status_json span.now.status span.now.message)
         (put (codes "startTimeUnixNano") (string (decimal span.now.start))
         (members_view object.old.entries)))) }
 {
-    let start = span.start.to_string(alloc)?;
+    let start = moment(alloc, span.start)?;
     let status = status(alloc, span.status, span.message.as_str())?;
-    let trace = hex::encode(alloc, span.trace.0.as_slice())?;
+    let trace = trace_id(alloc, span.trace)?;
     serde_json::put(object, alloc, "startTimeUnixNano", Value::from(start))?;
     serde_json::put(object, alloc, "status", status)?;
     serde_json::put(object, alloc, "traceId", Value::from(trace))?;
@@ -162,7 +211,8 @@ fn put_third(alloc: Global, object: &mut Map<String, Value>, span: &Span) -> Res
 /// A span.
 #[tactic(auto, unfolding(crate::specs::Writing::span_json))]
 pub(crate) fn span(alloc: Global, span: &Span) -> Result<Value, Memory>
-    ensures { IfOk result (λ v. view v ≡ span_json span.now) }
+    ensures json { IfOk result (λ v. view v ≡ span_json span.now) }
+    ensures fits { OnOk result (FitsSpan span.now) }
 {
     let mut object = Map::new(alloc);
     put_first(alloc, &mut object, span)?;

@@ -1,17 +1,18 @@
 //! Writing a trace.
 
-ghost use Rattle.std.specs.Prelude.{◌≡◌, ◌<◌, ◌≤◌, [], ◌∷◌, Some, IfOk, length, map};
+ghost use Rattle.std.specs.Prelude.{◌≡◌, ◌<◌, ◌≤◌, [], ◌∷◌, All, IfOk, Ok, OnOk, Some, length, map};
 ghost use Rattle.serde_json.specs.View.{view};
 ghost use Rattle.otlp_spans.specs.Json.{json_of};
-ghost use Rattle.otlp_spans.specs.Reading.{spans_of_line};
-ghost use Rattle.otlp_spans.specs.Runs.{as_run, run_len, runs};
-ghost use Rattle.otlp_spans.specs.Same.{same_resource, same_scope};
+ghost use Rattle.span_runs.specs.Runs.{as_run, run_len, runs};
+ghost use Rattle.span_runs.specs.Same.{of_one_resource, of_one_scope};
+ghost use Rattle.otlp_spans.specs.Fits.{FitsResourceRun, FitsScopeRun, FitsSpan, FitsTrace};
+ghost use Rattle.otlp_spans.specs.Reading.{IsReadable, most_spans, reading_of};
 ghost use Rattle.otlp_spans.specs.Writing.{list_json, resource_spans_json, scope_spans_json, span_json, spans_in, trace_json, trace_text};
 
-use crate::same::{same_resource, same_scope};
 use crate::values::{resource, scope, span};
 use serde_json::{Value, json};
-use span_types::{Memory, Row, Rows, Text};
+use span_runs::{same_resource, same_scope};
+use span_types::{Memory, Row, Rows, Span, Text};
 use std::alloc::Global;
 
 /// The text of a trace: an OTLP/JSON request of the rows' spans in their order, as compact JSON with ascending keys.
@@ -21,12 +22,14 @@ use std::alloc::Global;
 /// empty text for no parent. Moments and whole-number attributes are decimal texts, and kind and status code are numbers.
 ///
 /// The rows of a trace come in order of start, then span id; they are written as they stand. No rows give
-/// `{"resourceSpans":[]}`, which [`read_line`](crate::read_line) reads as no spans. The one error is want of memory.
+/// `{"resourceSpans":[]}`, which [`read_line`](crate::read_line) reads as no spans. At most 16,384 rows whose ids aren't
+/// all zeros and whose attributes have distinct keys are read back from the text as they were. The one error is want of memory.
 #[tactic(auto, unfolding(crate::specs::Writing::trace_text))]
 pub fn write_trace(alloc: Global, rows: &Rows) -> Result<Text, Memory>
     ensures text { IfOk result (λ t. t ≡ trace_text (spans_in rows.now)) }
     ensures json { IfOk result (λ t. json_of t ≡ Some (trace_json (spans_in rows.now))) }
-    ensures empty { rows.now ≡ [] → IfOk result (λ t. spans_of_line t ≡ Some []) }
+    ensures reads_back { length rows.now ≤ most_spans → All IsReadable (spans_in rows.now)
+        → IfOk result (λ t. reading_of t ≡ Ok (record { spans = spans_in rows.now; rejected = 0; skipped = 0 })) }
 {
     let value = trace(alloc, rows.as_slice())?;
     Ok(Text::of(value.to_string(alloc)?))
@@ -35,7 +38,8 @@ pub fn write_trace(alloc: Global, rows: &Rows) -> Result<Text, Memory>
 /// A trace's value.
 #[tactic(auto, unfolding(crate::specs::Writing::trace_json))]
 fn trace(alloc: Global, rows: &[Row]) -> Result<Value, Memory>
-    ensures { IfOk result (λ v. view v ≡ trace_json (spans_in rows.now)) }
+    ensures json { IfOk result (λ v. view v ≡ trace_json (spans_in rows.now)) }
+    ensures fits { OnOk result (FitsTrace (spans_in rows.now)) }
 {
     let list = resources(alloc, rows)?;
     Ok(json!(in alloc; {"resourceSpans": list})?)
@@ -43,8 +47,9 @@ fn trace(alloc: Global, rows: &[Row]) -> Result<Value, Memory>
 
 /// The runs of spans with equal resources.
 fn resources(alloc: Global, rows: &[Row]) -> Result<Value, Memory>
-    ensures { IfOk result
-        (λ v. view v ≡ list_json resource_spans_json (runs same_resource (spans_in rows.now))) }
+    ensures json { IfOk result
+        (λ v. view v ≡ list_json resource_spans_json (runs of_one_resource (spans_in rows.now))) }
+    ensures fits { OnOk result (All FitsResourceRun (runs of_one_resource (spans_in rows.now))) }
 {
     let mut values = Vec::new(alloc);
     let mut rest = rows;
@@ -56,15 +61,23 @@ fn resources(alloc: Global, rows: &[Row]) -> Result<Value, Memory>
     Ok(Value::from(values))
 }
 
+/// Whether two spans are of equal resources.
+#[tactic(auto, unfolding(span_runs::specs::Same::of_one_resource))]
+fn of_one_resource(a: &Span, b: &Span) -> bool
+    ensures { result ≡ of_one_resource a.now b.now }
+{
+    same_resource(a.resource.get(), b.resource.get())
+}
+
 /// How many rows the first run with equal resources has.
 fn resource_run(rows: &[Row]) -> usize
     requires { 0 < length rows.now }
     ensures within { result ≤ length rows.now }
     ensures some { 0 < result }
-    ensures len { result ≡ run_len same_resource (spans_in rows.now) }
+    ensures len { result ≡ run_len of_one_resource (spans_in rows.now) }
 {
     for i in 1..rows.len() {
-        if !same_resource(&rows[i - 1].span, &rows[i].span) {
+        if !of_one_resource(&rows[i - 1].span, &rows[i].span) {
             return i;
         }
     }
@@ -75,7 +88,8 @@ fn resource_run(rows: &[Row]) -> usize
 #[tactic(auto, unfolding(crate::specs::Writing::resource_spans_json))]
 fn resource_spans(alloc: Global, rows: &[Row]) -> Result<Value, Memory>
     requires { 0 < length rows.now }
-    ensures { IfOk result (λ v. view v ∷ [] ≡ map resource_spans_json (as_run (spans_in rows.now))) }
+    ensures json { IfOk result (λ v. view v ∷ [] ≡ map resource_spans_json (as_run (spans_in rows.now))) }
+    ensures fits { OnOk result (All FitsResourceRun (as_run (spans_in rows.now))) }
 {
     let resource = resource(alloc, rows[0].span.resource.get())?;
     let list = scopes(alloc, rows)?;
@@ -84,8 +98,9 @@ fn resource_spans(alloc: Global, rows: &[Row]) -> Result<Value, Memory>
 
 /// The runs of spans with equal scopes.
 fn scopes(alloc: Global, rows: &[Row]) -> Result<Value, Memory>
-    ensures { IfOk result
-        (λ v. view v ≡ list_json scope_spans_json (runs same_scope (spans_in rows.now))) }
+    ensures json { IfOk result
+        (λ v. view v ≡ list_json scope_spans_json (runs of_one_scope (spans_in rows.now))) }
+    ensures fits { OnOk result (All FitsScopeRun (runs of_one_scope (spans_in rows.now))) }
 {
     let mut values = Vec::new(alloc);
     let mut rest = rows;
@@ -97,15 +112,23 @@ fn scopes(alloc: Global, rows: &[Row]) -> Result<Value, Memory>
     Ok(Value::from(values))
 }
 
+/// Whether two spans are of equal scopes.
+#[tactic(auto, unfolding(span_runs::specs::Same::of_one_scope))]
+fn of_one_scope(a: &Span, b: &Span) -> bool
+    ensures { result ≡ of_one_scope a.now b.now }
+{
+    same_scope(a.scope.get(), b.scope.get())
+}
+
 /// How many rows the first run with equal scopes has.
 fn scope_run(rows: &[Row]) -> usize
     requires { 0 < length rows.now }
     ensures within { result ≤ length rows.now }
     ensures some { 0 < result }
-    ensures len { result ≡ run_len same_scope (spans_in rows.now) }
+    ensures len { result ≡ run_len of_one_scope (spans_in rows.now) }
 {
     for i in 1..rows.len() {
-        if !same_scope(&rows[i - 1].span, &rows[i].span) {
+        if !of_one_scope(&rows[i - 1].span, &rows[i].span) {
             return i;
         }
     }
@@ -116,7 +139,8 @@ fn scope_run(rows: &[Row]) -> usize
 #[tactic(auto, unfolding(crate::specs::Writing::scope_spans_json))]
 fn scope_spans(alloc: Global, rows: &[Row]) -> Result<Value, Memory>
     requires { 0 < length rows.now }
-    ensures { IfOk result (λ v. view v ∷ [] ≡ map scope_spans_json (as_run (spans_in rows.now))) }
+    ensures json { IfOk result (λ v. view v ∷ [] ≡ map scope_spans_json (as_run (spans_in rows.now))) }
+    ensures fits { OnOk result (All FitsScopeRun (as_run (spans_in rows.now))) }
 {
     let scope = scope(alloc, rows[0].span.scope.get())?;
     let spans = spans(alloc, rows)?;
@@ -125,7 +149,8 @@ fn scope_spans(alloc: Global, rows: &[Row]) -> Result<Value, Memory>
 
 /// The spans of rows.
 fn spans(alloc: Global, rows: &[Row]) -> Result<Value, Memory>
-    ensures { IfOk result (λ v. view v ≡ list_json span_json (spans_in rows.now)) }
+    ensures json { IfOk result (λ v. view v ≡ list_json span_json (spans_in rows.now)) }
+    ensures fit { OnOk result (All (λ row. FitsSpan row.span) rows.now) }
 {
     let mut values = Vec::new(alloc);
     for row in rows {

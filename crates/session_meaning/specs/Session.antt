@@ -1,35 +1,66 @@
 -- What the lines of a session are answered. Each line is answered at the history that the lines before it left.
-use Rattle.std.specs.Prelude.{◌≡◌, ◌⊎◌, ℕ, ◌<◌, ◌≤◌, List, [], ◌∷◌, ◌++◌, length, take, Option, Some, None, if◌then◌else◌}
+use Rattle.std.specs.Prelude.{◌≡◌, ◌⊎◌, ℕ, ◌<◌, ◌≤◌, Bool, true, false, List, [], ◌∷◌, ◌++◌, length, take, Option, Some, Result, Ok, Err, if◌then◌else◌}
 use Rattle.io_edges.specs.Lines.{lines, taken_limit}
 use Rattle.io_edges.specs.Reader.{HasNoFeed}
 use Rattle.std.specs.List.{list_any}
 use Rattle.span_types.specs.declared.spans.Row.{Row}
 use Rattle.span_types.specs.First.{IsFirstOf}
-use Rattle.session_meaning.specs.declared.request.Request.{Request}
-use Rattle.session_meaning.specs.declared.request.Request.TheVariants.{Push, Trace}
-use Rattle.session_meaning.specs.declared.reply.Reply.{Reply}
-use Rattle.session_meaning.specs.declared.reply.Reply.TheVariants.{Pushed, Traced, NotBuilt, NoMemory}
+use Rattle.session_text.specs.declared.request.Request.{Request}
+use Rattle.session_text.specs.declared.request.Request.TheVariants.{Push, Trace}
+use Rattle.session_text.specs.declared.reply.Reply.{Reply}
+use Rattle.session_text.specs.declared.reply.Refusal.{Refusal}
+use Rattle.session_text.specs.declared.reply.Refusal.TheVariants.{TooLong, BadRequest, BadJson, BadOtlp, TooMany, Memory}
+use Rattle.session_text.specs.declared.reply.Reply.TheVariants.{Pushed, Traced, Refused}
 use Rattle.session_meaning.specs.declared.ending.Ending.{Ending}
-use Rattle.session_meaning.specs.declared.ending.Ending.TheVariants.{Answered, BadWords, ReadFault, Refused, Spent, Starved, WriteFault}
+use Rattle.session_meaning.specs.declared.ending.Ending.TheVariants.{Answered, BadWords, ReadFault, Spent, Starved, WriteFault}
+use Rattle.session_meaning.specs.declared.ending.Ending.TheVariants as ending
 use Rattle.session_meaning.specs.History.{Accepted, History, history_rows, rows_of_trace}
-use Rattle.session_meaning.specs.Requests.{request_of}
-use Rattle.session_meaning.specs.Replies.{is_refusal, is_for_memory, reply_text, reply_texts}
+use Rattle.session_text.specs.Requests.{request_of}
+use Rattle.session_text.specs.Replies.{reply_text}
+
+-- A refusal for another cause than memory.
+abbrev pub is_refusal : Reply → Bool
+is_refusal (Pushed _ _ _ _) = false
+is_refusal (Traced _ _) = false
+is_refusal (Refused Memory) = false
+is_refusal (Refused (TooLong _)) = true
+is_refusal (Refused (BadRequest _)) = true
+is_refusal (Refused BadJson) = true
+is_refusal (Refused (BadOtlp _)) = true
+is_refusal (Refused (TooMany _)) = true
+
+-- A refusal for memory.
+abbrev pub is_for_memory : Reply → Bool
+is_for_memory (Pushed _ _ _ _) = false
+is_for_memory (Traced _ _) = false
+is_for_memory (Refused Memory) = true
+is_for_memory (Refused (TooLong _)) = false
+is_for_memory (Refused (BadRequest _)) = false
+is_for_memory (Refused BadJson) = false
+is_for_memory (Refused (BadOtlp _)) = false
+is_for_memory (Refused (TooMany _)) = false
+
+-- The texts of replies, in order.
+abbrev pub reply_texts : List Reply → List ℕ
+reply_texts [] = []
+reply_texts (r ∷ rs) = reply_text r ++ reply_texts rs
 
 -- What is asked at a history is answered so, and leaves that history.
--- A push is told how many entries came before it, and is appended.
--- A look-up is told that number too, and the first occurrences of the trace's spans in the history.
--- A line that asks nothing is refused, and appends nothing.
-abbrev pub IsAnswered : Option Request → History → Reply → History → Type 0
-IsAnswered (Some (Push batch)) before reply after =
-    (reply ≡ Pushed (length before) (length batch.spans) 0 0) × (after ≡ before ++ Accepted batch.spans ∷ [])
-IsAnswered (Some (Trace id)) before reply after =
+-- A push is told how many entries came before it, how many of its spans are kept and were rejected, and how much was
+-- skipped. Its spans are appended.
+-- A look-up is told the number of entries too, and the first occurrences of the trace's spans in the history.
+-- A line that asks nothing is refused for its cause, and appends nothing.
+abbrev pub IsAnswered : Result Request Refusal → History → Reply → History → Type 0
+IsAnswered (Ok (Push reading)) before reply after =
+    (reply ≡ Pushed (length before) (length reading.batch.spans) reading.rejected reading.skipped) × (after ≡ before ++ Accepted reading.batch.spans ∷ [])
+IsAnswered (Ok (Trace id)) before reply after =
     (rows : List Row) × IsFirstOf (rows_of_trace id (history_rows before)) rows × (reply ≡ Traced (length before) rows) × (after ≡ before)
-IsAnswered None before reply after = (reply ≡ NotBuilt) × (after ≡ before)
+IsAnswered (Err why) before reply after = (reply ≡ Refused why) × (after ≡ before)
 
 -- The same, or memory was wanted: the line is refused for that, and appends nothing.
-abbrev pub IsAnsweredOrStarved : Option Request → History → Reply → History → Type 0
+abbrev pub IsAnsweredOrStarved : Result Request Refusal → History → Reply → History → Type 0
 IsAnsweredOrStarved request before reply after =
-    IsAnswered request before reply after ⊎ ((reply ≡ NoMemory) × (after ≡ before))
+    IsAnswered request before reply after ⊎ ((reply ≡ Refused Memory) × (after ≡ before))
 
 -- The lines are answered in order, from a history to a history. A line without bytes gets no reply.
 abbrev pub Session : History → List (List ℕ) → List Reply → History → Type 0
@@ -42,7 +73,7 @@ Session before ((b ∷ bs) ∷ lines) (reply ∷ replies) after =
 -- How a session ends whose input was read to its end: with a refusal for another cause than memory among its replies,
 -- else with one for memory among them, else with none.
 abbrev pub end_of : List Reply → Ending
-end_of replies = if list_any is_refusal replies then Refused else if list_any is_for_memory replies then Starved else Answered
+end_of replies = if list_any is_refusal replies then ending.Refused else if list_any is_for_memory replies then Starved else Answered
 
 -- The input was read to its end, and all replies were written.
 abbrev pub IsAllRead : List ℕ → List (List ℕ) → List ℕ → List Reply → Option (List ℕ) → Type 0
@@ -75,7 +106,7 @@ pub record IsAllEnded (text : List ℕ) (later : List (List ℕ)) (left : Option
 -- `before` the bytes that the sink had taken, `taken` those that it has taken now.
 abbrev pub Ends : Ending → List ℕ → List (List ℕ) → Option (List ℕ) → List ℕ → List Reply → Option (List ℕ) → Type 0
 Ends Answered text later left before replies taken = IsAllRead text later before replies taken × (end_of replies ≡ Answered)
-Ends Refused text later left before replies taken = IsAllRead text later before replies taken × (end_of replies ≡ Refused)
+Ends ending.Refused text later left before replies taken = IsAllRead text later before replies taken × (end_of replies ≡ ending.Refused)
 Ends Starved text later left before replies taken =
     (IsAllRead text later before replies taken × (end_of replies ≡ Starved)) ⊎ (IsWritten before replies taken ⊎ IsCutOff before replies taken 0)
 Ends WriteFault text later left before replies taken = (count : ℕ) × IsCutOff before replies taken count
@@ -93,3 +124,16 @@ pub record HasRun (text before : List ℕ) (left taken : Option (List ℕ)) (end
   pub lines_are : lines text ≡ answered ++ later
   pub session : Session [] answered replies history
   pub ends : Ends ending text later left before replies taken
+
+-- How a run ends that answers one line alone, and what stands written: the reply; nothing or a first part of it, where
+-- memory was wanted or the sink failed.
+abbrev pub EndsAlone : Ending → List ℕ → Reply → Option (List ℕ) → Type 0
+EndsAlone Answered before reply taken = IsWritten before (reply ∷ []) taken × (end_of (reply ∷ []) ≡ Answered)
+EndsAlone ending.Refused before reply taken = IsWritten before (reply ∷ []) taken × (end_of (reply ∷ []) ≡ ending.Refused)
+EndsAlone Starved before reply taken = (IsWritten before (reply ∷ []) taken × (end_of (reply ∷ []) ≡ Starved)) ⊎ (taken ≡ Some before)
+EndsAlone WriteFault before reply taken = (count : ℕ) × (taken ≡ Some (before ++ take count (reply_text reply)))
+EndsAlone _ before reply taken = ⊥
+
+-- The line is answered as the first of a session, and alone.
+abbrev pub AnswersAlone : List ℕ → List ℕ → Option (List ℕ) → Ending → Type 0
+AnswersAlone line before taken ending = (reply : Reply) × (after : History) × IsAnsweredOrStarved (request_of line) [] reply after × EndsAlone ending before reply taken

@@ -1,12 +1,12 @@
 -- How a session, its replies and its history grow at their ends.
-use Rattle.std.proofs.Common.{◌≡◌, ◌⊎◌, ℕ, ◌+◌, zero, suc, List, [], ◌∷◌, ◌++◌, Bool, true, false, length, refl, sym, ◌∙◌, ap, subst, append_assoc, append-nil, add-one, add-zero, arith}
-use Rattle.span_types.specs.declared.spans.Row.{Row}
+use Rattle.std.proofs.Common.{◌≡◌, ℕ, ◌+◌, suc, List, [], ◌∷◌, ◌++◌, length, refl, sym, ◌∙◌, ap, subst, append_assoc, append-nil, add-zero, arith}
 use Rattle.span_types.specs.declared.spans.Span.{Span}
 use Rattle.io_edges.specs.Lines.{lines}
-use Rattle.session_meaning.specs.declared.reply.Reply.{Reply}
+use Rattle.session_text.specs.declared.reply.Reply.{Reply}
 use Rattle.session_meaning.specs.History.{Accepted, Entry, History, history_rows, rows_from, rows_of_entries}
-use Rattle.session_meaning.specs.Requests.{request_of}
-use Rattle.session_meaning.specs.Replies.{reply_text, reply_texts}
+use Rattle.session_text.specs.Requests.{request_of}
+use Rattle.session_text.specs.Replies.{reply_text}
+use Rattle.session_meaning.specs.Session.{reply_texts}
 use Rattle.session_meaning.specs.Session.{IsAnsweredOrStarved, Session}
 
 -- A line without bytes adds no reply.

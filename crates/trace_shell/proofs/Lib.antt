@@ -1,4 +1,5 @@
 pub mod RowLemmas
-pub mod WordLemmas
 pub mod SessionLemmas
 pub mod TurnLemmas
+pub mod AloneLemmas
+pub mod StatusLemmas

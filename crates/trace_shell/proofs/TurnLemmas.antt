@@ -1,22 +1,20 @@
 -- What a turn leaves, from what its steps did.
-use Rattle.std.proofs.Common.{◌≡◌, ◌⊎◌, inl, inr, ℕ, ◌+◌, ◌<◌, ◌≤◌, zero, suc, List, [], ◌∷◌, ◌++◌, Option, Some, None, Bool, true, false, ◌||◌, nat_le, length, take, refl, sym, ◌∙◌, ap, subst, arith, length-append, append_assoc, append-nil, if◌then◌else◌}
+use Rattle.std.proofs.Common.{◌≡◌, inl, inr, ℕ, ◌+◌, ◌<◌, ◌≤◌, List, [], ◌∷◌, ◌++◌, Option, Some, None, Err, Bool, true, false, ◌||◌, nat_le, length, take, refl, sym, ◌∙◌, ap, subst, arith, length-append, append_assoc, append-nil, if◌then◌else◌}
 use Rattle.std.specs.List.{list_any}
 use Rattle.std.specs.Io.KnownBytes.{Appends, Consumes}
-use Rattle.io_edges.specs.declared.line.Line.{Line}
-use Rattle.io_edges.specs.declared.line.Line.TheVariants.{Whole, TooLong, End, Spent as AllSpent}
-use Rattle.io_edges.specs.Devices.{AppendsPrefix}
 use Rattle.io_edges.specs.Lines.{lines, line_limit, taken_limit}
 use Rattle.io_edges.specs.declared.begun.Begun.{Begun}
 use Rattle.io_edges.specs.declared.begun.Begun.TheVariants.{Kept, Dropped}
 use Rattle.io_edges.specs.Reader.{Reader, HoldsNoFeed, IsBegun, IsNextLine, IsToRead, TakesBytes, begun_len, to_come}
 use Rattle.session_meaning.specs.declared.ending.Ending.{Ending}
 use Rattle.session_meaning.specs.declared.ending.Ending.TheVariants.{Answered, BadWords, ReadFault, Refused, Spent, Starved, WriteFault}
-use Rattle.session_meaning.specs.declared.reply.Reply.{Reply}
-use Rattle.session_meaning.specs.declared.reply.Reply.TheVariants.{Pushed, Traced, NotBuilt, NoMemory}
+use Rattle.session_text.specs.declared.reply.Reply.{Reply}
+use Rattle.session_text.specs.declared.reply.Refusal.TheVariants as refusal
+use Rattle.session_text.specs.declared.reply.Reply.TheVariants as reply
 use Rattle.session_meaning.specs.History.{History}
-use Rattle.session_meaning.specs.Requests.{request_of}
-use Rattle.session_meaning.specs.Replies.{is_refusal, is_for_memory, reply_text, reply_texts}
-use Rattle.session_meaning.specs.Session.{Ends, HasRun, IsAllEnded, IsAllRead, IsAnsweredOrStarved, IsCutOff, IsWritten, end_of}
+use Rattle.session_text.specs.Requests.{request_of}
+use Rattle.session_text.specs.Replies.{reply_text}
+use Rattle.session_meaning.specs.Session.{Ends, HasRun, IsAllEnded, IsAllRead, IsAnsweredOrStarved, IsCutOff, end_of, is_for_memory, is_refusal, reply_texts}
 use Rattle.session_meaning.specs.SessionLaws.{Progress, progress_begins, progress_empty, progress_line, reply_texts-push}
 use Rattle.trace_shell.specs.declared.session.Seen.{Seen}
 use Rattle.trace_shell.specs.Holding.{Holding, Holds}
@@ -90,26 +88,6 @@ seen_of : (p : Reply → Bool) (now : Bool) (replies : List Reply) (reply : Repl
     next ≡ list_any p (replies ++ reply ∷ [])
 seen_of p now replies reply next h step = step ∙ ap (λ b. b || p reply) h ∙ sym (list_any-push p replies reply)
 
-or_no : (b : Bool) → b ≡ (b || false)
-or_no true = refl
-or_no false = refl
-
-or_yes : (b : Bool) → true ≡ (b || true)
-or_yes true = refl
-or_yes false = refl
-
-refused_with : (seen : Seen) (reply : Reply) → (seen_with seen reply).refused ≡ (seen.refused || is_refusal reply)
-refused_with seen (Pushed n a r s) = or_no seen.refused
-refused_with seen (Traced n rows) = or_no seen.refused
-refused_with seen NotBuilt = or_yes seen.refused
-refused_with seen NoMemory = or_no seen.refused
-
-starved_with : (seen : Seen) (reply : Reply) → (seen_with seen reply).starved ≡ (seen.starved || is_for_memory reply)
-starved_with seen (Pushed n a r s) = or_no seen.starved
-starved_with seen (Traced n rows) = or_no seen.starved
-starved_with seen NotBuilt = or_no seen.starved
-starved_with seen NoMemory = or_yes seen.starved
-
 -- A line was answered at a history, and its reply given.
 pub answered_at : (text before : List ℕ) (left_old left taken_old taken : Option (List ℕ)) (reader_old reader : Reader) (held_old held : Holding) (seen_old seen : Seen)
     (line : List ℕ) (reply : Reply) (after : History) (outcome : Option Ending) (at : IsAt text before left_old taken_old reader_old held_old seen_old) →
@@ -132,8 +110,8 @@ answered_at text before left_old left taken_old taken reader_old reader held_old
       progress = progress;
       holds = h;
       written = appended before at.replies reply taken_old taken at.written g.0;
-      refused = ap (λ s. s.refused) g.1 ∙ seen_of is_refusal seen_old.refused at.replies reply (seen_with seen_old reply).refused at.refused (refused_with seen_old reply);
-      starved = ap (λ s. s.starved) g.1 ∙ seen_of is_for_memory seen_old.starved at.replies reply (seen_with seen_old reply).starved at.starved (starved_with seen_old reply);
+      refused = ap (λ s. s.refused) g.1 ∙ seen_of is_refusal seen_old.refused at.replies reply (seen_with seen_old reply).refused at.refused refl;
+      starved = ap (λ s. s.starved) g.1 ∙ seen_of is_for_memory seen_old.starved at.replies reply (seen_with seen_old reply).starved at.starved refl;
       took = took_more text left_old left 0 reader_old.taken reader.taken at.took took;
     }
     turned (Some Starved) g = record {
@@ -200,7 +178,8 @@ whole_at text before left_old left taken_old taken reader_old reader held_old he
     given.2 given.3 took given.4
 
 -- A line of too many bytes asks nothing.
-too_long_asks : (line : List ℕ) → line_limit < length line → request_of line ≡ None
+too_long_asks : (line : List ℕ) → line_limit < length line → request_of line ≡ Err (refusal.TooLong (length line))
+unfolding request_of
 too_long_asks line long = rw (not_within (length line) long) refl
   where
     not_within : (n : ℕ) → line_limit < n → nat_le n line_limit ≡ false
@@ -210,12 +189,12 @@ too_long_asks line long = rw (not_within (length line) long) refl
 pub too_long_at : (text before : List ℕ) (left_old left taken_old taken : Option (List ℕ)) (reader_old reader : Reader) (held : Holding) (seen_old seen : Seen)
     (size : ℕ) (outcome : Option Ending) (at : IsAt text before left_old taken_old reader_old held seen_old) →
     (line : List ℕ) × IsNextLine at.rest line (IsToRead reader left) × (size ≡ length line) → line_limit < size →
-    TakesBytes left_old left reader_old.taken reader.taken → HasGiven taken_old taken seen_old seen NotBuilt outcome →
+    TakesBytes left_old left reader_old.taken reader.taken → HasGiven taken_old taken seen_old seen (reply.Refused (refusal.TooLong size)) outcome →
     Turned text before left taken reader held seen outcome
 too_long_at text before left_old left taken_old taken reader_old reader held seen_old seen size outcome at (line, next, is) long took given =
     let over : line_limit < length line = omega (arith, is, long) in
-    answered_at text before left_old left taken_old taken reader_old reader held held seen_old seen line NotBuilt at.history outcome at next (omega (arith, over))
-    (rw (too_long_asks line over) (inl (refl, refl))) at.holds took given
+    answered_at text before left_old left taken_old taken reader_old reader held held seen_old seen line (reply.Refused (refusal.TooLong size)) at.history outcome at next (omega (arith, over))
+    (rw (too_long_asks line over) (inl (ap (λ n. reply.Refused (refusal.TooLong n)) is, refl))) at.holds took given
 
 -- The lines that weren't answered are those of what is to be read.
 stops : (text before : List ℕ) (left taken : Option (List ℕ)) (reader : Reader) (held : Holding) (seen : Seen) (ending : Ending)

@@ -1,4 +1,2 @@
 pub mod Holding
-pub mod Words
-pub mod Few
 pub mod Turn

@@ -1,26 +1,22 @@
 -- What a turn of a session does: one line is read and answered, and its reply written.
-use Rattle.std.specs.Prelude.{◌≡◌, ◌⊎◌, ℕ, List, [], ◌∷◌, ◌++◌, Bool, true, false, Option, Some, None, take, if◌then◌else◌}
+use Rattle.std.specs.Prelude.{◌≡◌, ℕ, List, ◌++◌, ◌||◌, Option, Some, None, if◌then◌else◌}
 use Rattle.std.specs.List.{list_any}
 use Rattle.std.specs.Io.KnownBytes.{Appends}
 use Rattle.io_edges.specs.Devices.{AppendsPrefix}
 use Rattle.io_edges.specs.Reader.{Reader, IsToRead, TakesBytes}
 use Rattle.session_meaning.specs.declared.ending.Ending.{Ending}
-use Rattle.session_meaning.specs.declared.ending.Ending.TheVariants.{Answered, BadWords, ReadFault, Refused, Spent, Starved, WriteFault}
-use Rattle.session_meaning.specs.declared.reply.Reply.{Reply}
-use Rattle.session_meaning.specs.declared.reply.Reply.TheVariants.{Pushed, Traced, NotBuilt, NoMemory}
+use Rattle.session_meaning.specs.declared.ending.Ending.TheVariants.{Answered, Refused, Starved, WriteFault}
+use Rattle.session_text.specs.declared.reply.Reply.{Reply}
 use Rattle.session_meaning.specs.History.{History}
-use Rattle.session_meaning.specs.Replies.{is_refusal, is_for_memory, reply_text, reply_texts}
-use Rattle.session_meaning.specs.Session.{HasRun}
+use Rattle.session_text.specs.Replies.{reply_text}
+use Rattle.session_meaning.specs.Session.{HasRun, is_for_memory, is_refusal, reply_texts}
 use Rattle.session_meaning.specs.SessionLaws.{Progress}
 use Rattle.trace_shell.specs.declared.session.Seen.{Seen}
 use Rattle.trace_shell.specs.Holding.{Holding, Holds}
 
 -- Which refusals are among the replies, after one more.
 abbrev pub seen_with : Seen → Reply → Seen
-seen_with seen (Pushed _ _ _ _) = seen
-seen_with seen (Traced _ _) = seen
-seen_with seen NotBuilt = record seen { refused = true }
-seen_with seen NoMemory = record seen { starved = true }
+seen_with seen reply = record { refused = seen.refused || is_refusal reply; starved = seen.starved || is_for_memory reply }
 
 -- How a session ends whose input was read to its end.
 abbrev pub ending_of : Seen → Ending

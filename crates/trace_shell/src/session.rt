@@ -1,25 +1,25 @@
 //! A session: the lines of a source are answered in order, each reply written before the next line is read.
 
-ghost use Rattle.std.specs.Prelude.{◌≡◌, ◌⊎◌, ◌+◌, ◌^◌, ◌<◌, ◌≤◌, ℕ, List, [], Some, None, IfSome, IfNone, length};
+ghost use Rattle.std.specs.Prelude.{◌≡◌, ◌⊎◌, ◌+◌, ◌^◌, ◌<◌, ◌≤◌, ℕ, List, [], Ok, Some, None, IfSome, IfNone, length};
 ghost use Rattle.span_types.specs.Faults.{Rose};
 ghost use Rattle.otlp_spans.specs.Reading.{most_spans};
 ghost use Rattle.io_edges.specs.Lines.{taken_limit};
 ghost use Rattle.io_edges.specs.Reader.{TakesBytes, to_come};
-ghost use Rattle.session_meaning.specs.declared.ending.Ending.TheVariants.{BadWords, ReadFault, Spent, Starved, WriteFault};
-ghost use Rattle.session_meaning.specs.declared.reply.Reply.{Reply};
-ghost use Rattle.session_meaning.specs.declared.request.Request.TheVariants.{Push, Trace};
+ghost use Rattle.session_meaning.specs.declared.ending.Ending.TheVariants.{Answered, BadWords, ReadFault, Refused, Spent, Starved, WriteFault};
+ghost use Rattle.session_text.specs.declared.reply.Reply.{Reply};
+ghost use Rattle.session_text.specs.declared.request.Request.TheVariants.{Push, Trace};
 ghost use Rattle.session_meaning.specs.History.{History};
-ghost use Rattle.session_meaning.specs.Requests.{request_of};
-ghost use Rattle.session_meaning.specs.Session.{HasRun, IsAnsweredOrStarved};
+ghost use Rattle.session_text.specs.Requests.{request_of};
+ghost use Rattle.session_meaning.specs.Session.{AnswersAlone, HasRun, IsAnsweredOrStarved, is_for_memory, is_refusal};
 ghost use Rattle.trace_shell.specs.Holding.{Holds};
 ghost use Rattle.trace_shell.specs.Turn.{seen_with, ending_of, HasGiven, IsAt, Turned};
 
 use crate::held::Held;
-use crate::read_request::{NoRequest, read_request};
-use crate::write_reply::write_reply;
 use io_edges::{Line, LineError, LineReader, Sink, Source};
-use session_meaning::{Ending, Reply, Request};
-use span_types::{Batch, Failed, Memory, TraceId};
+use otlp_spans::Reading;
+use session_meaning::Ending;
+use session_text::{Refusal, Reply, Request, read_request, write_reply};
+use span_types::{Failed, Memory, TraceId};
 use std::alloc::Global;
 
 /// Which refusals are among the replies so far.
@@ -36,11 +36,8 @@ impl Seen {
     fn add(&mut self, reply: &Reply)
         ensures { self.new ≡ seen_with self.old reply.now }
     {
-        match reply {
-            Reply::NotBuilt => self.refused = true,
-            Reply::NoMemory => self.starved = true,
-            Reply::Pushed { .. } | Reply::Traced { .. } => {}
-        }
+        self.refused = self.refused || is_refusal(reply);
+        self.starved = self.starved || is_for_memory(reply);
     }
 
     // How a session ends whose input was read to its end.
@@ -54,6 +51,26 @@ impl Seen {
         } else {
             Ending::Answered
         }
+    }
+}
+
+// Whether a reply is a refusal for another cause than memory.
+fn is_refusal(reply: &Reply) -> bool
+    ensures { result ≡ is_refusal reply.now }
+{
+    match reply {
+        Reply::Pushed { .. } | Reply::Traced { .. } | Reply::Refused(Refusal::Memory) => false,
+        Reply::Refused(_) => true,
+    }
+}
+
+// Whether a reply is a refusal for memory.
+fn is_for_memory(reply: &Reply) -> bool
+    ensures { result ≡ is_for_memory reply.now }
+{
+    match reply {
+        Reply::Refused(Refusal::Memory) => true,
+        _ => false,
     }
 }
 
@@ -76,6 +93,24 @@ pub(crate) fn session<S: Source, K: Sink>(alloc: Global, source: &mut S, sink: &
         if let Some(ending) = turn(alloc, &mut reader, source, &mut held, &mut seen, sink) {
             return ending;
         }
+    }
+}
+
+/// Answers one line, and nothing else: no push came before it.
+pub(crate) fn one_line<K: Sink>(alloc: Global, sink: &mut K, line: &[u8]) -> Ending
+    ensures told { (before : List ℕ) → K.taken sink.old ≡ Some before → AnswersAlone line.now before (K.taken sink.new) result }
+    ensures write_fault { result ≡ WriteFault → Rose (K.faults sink.old) (K.faults sink.new) }
+    ensures endings { (result ≡ WriteFault) ⊎ ((result ≡ Answered) ⊎ ((result ≡ Refused) ⊎ (result ≡ Starved))) }
+{
+    let mut held = Held::new(alloc);
+    let mut seen = Seen {
+        refused: false,
+        starved: false,
+    };
+    let reply = answer(alloc, &mut held, line);
+    match give(alloc, &mut seen, sink, &reply) {
+        Some(ending) => ending,
+        None => seen.ending(),
     }
 }
 
@@ -109,7 +144,12 @@ fn turn<S: Source, K: Sink>(
     };
     match line {
         Line::Whole(bytes) => answer_line(alloc, held, seen, sink, bytes.as_slice()),
-        Line::TooLong { .. } => give(alloc, seen, sink, &Reply::NotBuilt),
+        Line::TooLong { length } => give(
+            alloc,
+            seen,
+            sink,
+            &Reply::Refused(Refusal::TooLong { length }),
+        ),
         Line::End => Some(seen.ending()),
         Line::Spent { .. } => Some(Ending::Spent),
     }
@@ -148,44 +188,43 @@ fn answer(alloc: Global, held: &mut Held, line: &[u8]) -> Reply
     ensures count { held.new.pushes ≤ held.old.pushes + 1 }
 {
     match read_request(alloc, line) {
-        Ok(Request::Push(batch)) => push(held, batch),
+        Ok(Request::Push(reading)) => push(held, reading),
         Ok(Request::Trace(id)) => trace(held, id),
-        Err(NoRequest::NotBuilt) => Reply::NotBuilt,
-        Err(NoRequest::Memory) => Reply::NoMemory,
+        Err(why) => Reply::Refused(why),
     }
 }
 
 // Appends a batch.
-fn push(held: &mut Held, batch: Batch) -> Reply
+fn push(held: &mut Held, reading: Reading) -> Reply
     requires counts { held.old.pushes + 1 < 2 ^ 64 }
-    requires few { length batch.spans ≤ most_spans }
+    requires few { length reading.batch.spans ≤ most_spans }
     ensures answered { (history : History) → Holds held.old history
-        → (after : History) × IsAnsweredOrStarved (Some (Push batch)) history result after × Holds held.new after }
+        → (after : History) × IsAnsweredOrStarved (Ok (Push reading)) history result after × Holds held.new after }
     ensures count { held.new.pushes ≤ held.old.pushes + 1 }
 {
-    let accepted = batch.spans.len() as u64;
-    match held.push(batch) {
+    let accepted = reading.batch.spans.len() as u64;
+    match held.push(reading.batch) {
         Ok(number) => Reply::Pushed {
             number,
             accepted,
-            rejected: 0,
-            skipped: 0,
+            rejected: reading.rejected,
+            skipped: reading.skipped,
         },
-        Err(Memory) => Reply::NoMemory,
+        Err(Memory) => Reply::Refused(Refusal::Memory),
     }
 }
 
 // Tells a trace.
 fn trace(held: &Held, id: TraceId) -> Reply
     ensures answered { (history : History) → Holds held.now history
-        → IsAnsweredOrStarved (Some (Trace id)) history result history }
+        → IsAnsweredOrStarved (Ok (Trace id)) history result history }
 {
     match held.trace(id) {
         Ok(rows) => Reply::Traced {
             as_of: held.pushes(),
             rows,
         },
-        Err(Memory) => Reply::NoMemory,
+        Err(Memory) => Reply::Refused(Refusal::Memory),
     }
 }
 
@@ -201,7 +240,7 @@ fn give<K: Sink>(alloc: Global, seen: &mut Seen, sink: &mut K, reply: &Reply) ->
         Err(Memory) => return Some(Ending::Starved),
     };
     seen.add(reply);
-    match sink.put(text.as_bytes()) {
+    match sink.put(text.as_str().as_bytes()) {
         Ok(()) => None,
         Err(Failed) => Some(Ending::WriteFault),
     }

@@ -74,7 +74,8 @@ fn whole_runs_write_their_exact_bytes(rt: HostRuntime) -> Result<(), Memory> {
     let again_replies = format!(in alloc;
         "ok push 0 accepted=1 rejected=0 skipped=0\nok push 1 accepted=1 rejected=0 skipped=0\nok trace as_of=2 spans=1 {TRACE_X}\nok trace as_of=2 spans=0 {{\"resourceSpans\":[]}}\n"
     )?;
-    let not_built = "refused not-built\nrefused not-built\n";
+    let refusals =
+        "ok push 0 accepted=0 rejected=0 skipped=0\nrefused bad-request at=0\nrefused bad-json\nrefused bad-otlp path=$.resourceSpans[0].scopeSpans\n";
     check(&rt, alloc, &session, "", (&[], &[]), "", 0)?;
     check(
         &rt,
@@ -98,9 +99,9 @@ fn whole_runs_write_their_exact_bytes(rt: HostRuntime) -> Result<(), Memory> {
         &rt,
         alloc,
         &session,
-        "push {}\nsearch { }",
+        "push {}\nsearch { }\npush {\"resourceSpans\":\npush {\"resourceSpans\":[{\"scopeSpans\":7}]}\n",
         (&[], &[]),
-        not_built,
+        refusals,
         7,
     )?;
     check(&rt, alloc, &[], first.as_str(), (&[], &[]), "", 2)?;
@@ -112,6 +113,45 @@ fn whole_runs_write_their_exact_bytes(rt: HostRuntime) -> Result<(), Memory> {
         (&[], &[]),
         "",
         2,
+    )?;
+    Ok(())
+}
+
+#[test]
+fn a_look_up_of_the_command_line_is_answered_alone(rt: HostRuntime) -> Result<(), Memory> {
+    let alloc = rt.alloc();
+    let a1 = "000000000000000000000000000000a1";
+    let none = "ok trace as_of=0 spans=0 {\"resourceSpans\":[]}\n";
+    check(&rt, alloc, &["trace", a1], PUSH_X, (&[1], &[]), none, 0)?;
+    check(
+        &rt,
+        alloc,
+        &["trace", "00"],
+        "",
+        (&[], &[]),
+        "refused bad-request at=6\n",
+        7,
+    )?;
+    check(&rt, alloc, &["trace", a1], "", (&[], &[1]), "", 1)?;
+    check(&rt, alloc, &["trace"], "", (&[], &[]), "", 2)?;
+    Ok(())
+}
+
+#[test]
+fn a_line_over_the_limit_is_refused_with_its_length(rt: HostRuntime) -> Result<(), Memory> {
+    let alloc = rt.alloc();
+    let mut line = String::from_str(alloc, "push {}")?;
+    for _ in 0..16_777_210 {
+        line.push_str(" ")?;
+    }
+    check(
+        &rt,
+        alloc,
+        &["session"],
+        line.as_str(),
+        (&[], &[]),
+        "refused too-long length=16777217\n",
+        7,
     )?;
     Ok(())
 }

@@ -1,18 +1,18 @@
 //! The top call.
 
-ghost use Rattle.std.specs.Prelude.{◌≡◌, ◌≢◌, ◌⊎◌, ◌<◌, ℕ, List, Some, length};
+ghost use Rattle.std.specs.Prelude.{◌≡◌, ◌≢◌, ◌⊎◌, ◌++◌, ◌<◌, ℕ, List, [], Some, codes, length, map, string_bytes};
 ghost use Rattle.span_types.specs.Faults.{Rose};
 ghost use Rattle.io_edges.specs.Lines.{taken_limit};
 ghost use Rattle.io_edges.specs.Reader.{TakesBytes};
 ghost use Rattle.session_meaning.specs.declared.ending.Ending.{Ending};
 ghost use Rattle.session_meaning.specs.Statuses.{status_of};
-ghost use Rattle.session_meaning.specs.Session.{HasRun};
-ghost use Rattle.trace_shell.specs.Words.{IsSession};
+ghost use Rattle.session_meaning.specs.Session.{AnswersAlone, HasRun};
+ghost use Rattle.clap.specs.Words.{fault_of};
+ghost use Rattle.command_words.specs.Spelling.{IsSession, IsTrace};
+ghost use Rattle.command_words.specs.Table.{words_app};
 
-use crate::session::session;
-use crate::words::is_session;
+use crate::command::obey;
 use io_edges::{Clock, Gate, Sink, Source};
-use session_meaning::Ending;
 use std::alloc::Global;
 use std::sync::Wait;
 use std::thread::Threads;
@@ -26,8 +26,8 @@ pub struct Ended<D> {
     pub disk: D,
 }
 
-/// Does what the words of the command line say: the one word `session` answers each line of the source. It needs no
-/// right to wait. The disk is handed back as it came, and the clock and the gate aren't used yet.
+/// Does what the words of the command line say: `session` answers each line of the source, and `trace ID` the one line
+/// `trace ID`. It needs no right to wait. The disk is handed back as it came, and the clock and the gate aren't used yet.
 pub fn run_alone<R: Threads + Sync, S: Source, K: Sink, D, C: Clock, G: Gate>(
     _rt: &R,
     alloc: Global,
@@ -39,25 +39,29 @@ pub fn run_alone<R: Threads + Sync, S: Source, K: Sink, D, C: Clock, G: Gate>(
     _gate: &G,
 ) -> Ended<D>
     ensures disk { result.disk ≡ disk }
-    ensures session { IsSession words.now → (text before : List ℕ) → S.left source.old ≡ Some text → K.taken sink.old ≡ Some before
+    ensures session { IsSession (map string_bytes words.now) → (text before : List ℕ) → S.left source.old ≡ Some text → K.taken sink.old ≡ Some before
         → (ending : Ending) × HasRun text before (S.left source.new) (K.taken sink.new) ending × (result.status ≡ status_of ending) }
+    ensures trace { (id : List ℕ) → IsTrace id (map string_bytes words.now) → (before : List ℕ) → K.taken sink.old ≡ Some before
+        → (ending : Ending) × AnswersAlone (codes "trace " ++ id) before (K.taken sink.new) ending × (result.status ≡ status_of ending) }
+    ensures trace_alone { (id : List ℕ) → IsTrace id (map string_bytes words.now) → (source.new ≡ source.old) × ((result.status ≢ 3) × (result.status ≢ 8)) }
     ensures known { (ending : Ending) × (result.status ≡ status_of ending) }
     ensures clock { clock.new ≡ clock.old }
-    ensures bad_words { (IsSession words.now → ⊥) → (result.status ≡ 2) × (source.new ≡ source.old) × (sink.new ≡ sink.old) }
-    ensures good_words { IsSession words.now → result.status ≢ 2 }
+    ensures bad_words { result.status ≡ 2 → (fault_of words_app (map string_bytes words.now) ≢ []) × ((source.new ≡ source.old) × (sink.new ≡ sink.old)) }
+    ensures refused_words { fault_of words_app (map string_bytes words.now) ≢ []
+        → ((result.status ≡ 2) ⊎ (result.status ≡ 6)) × ((source.new ≡ source.old) × (sink.new ≡ sink.old)) }
+    ensures good_session { IsSession (map string_bytes words.now) → result.status ≢ 2 }
+    ensures good_trace { (id : List ℕ) → IsTrace id (map string_bytes words.now) → result.status ≢ 2 }
     ensures write_fault { result.status ≡ 1 → Rose (K.faults sink.old) (K.faults sink.new) }
     ensures read_fault { result.status ≡ 3 → Rose (S.faults source.old) (S.faults source.new) }
     ensures spent { result.status ≡ 8 → TakesBytes (S.left source.old) (S.left source.new) 0 taken_limit }
-    ensures complete { (text : List ℕ) → IsSession words.now → S.left source.old ≡ Some text → length text < taken_limit
+    ensures complete { (text : List ℕ) → IsSession (map string_bytes words.now) → S.left source.old ≡ Some text → length text < taken_limit
         → (Rose (S.faults source.old) (S.faults source.new) → ⊥) → (Rose (K.faults sink.old) (K.faults sink.new) → ⊥)
+        → (result.status ≡ 0) ⊎ ((result.status ≡ 6) ⊎ (result.status ≡ 7)) }
+    ensures complete_trace { (id : List ℕ) → IsTrace id (map string_bytes words.now) → (Rose (K.faults sink.old) (K.faults sink.new) → ⊥)
         → (result.status ≡ 0) ⊎ ((result.status ≡ 6) ⊎ (result.status ≡ 7)) }
 {
     let _ = clock;
-    let ending = if is_session(words) {
-        session(alloc, source, sink)
-    } else {
-        Ending::BadWords
-    };
+    let ending = obey(alloc, words, source, sink);
     Ended {
         status: ending.status(),
         disk,
@@ -76,17 +80,25 @@ pub fn run<R: Threads + Wait + Sync, S: Source, K: Sink, D, C: Clock, G: Gate>(
     gate: &G,
 ) -> Ended<D>
     ensures disk { result.disk ≡ disk }
-    ensures session { IsSession words.now → (text before : List ℕ) → S.left source.old ≡ Some text → K.taken sink.old ≡ Some before
+    ensures session { IsSession (map string_bytes words.now) → (text before : List ℕ) → S.left source.old ≡ Some text → K.taken sink.old ≡ Some before
         → (ending : Ending) × HasRun text before (S.left source.new) (K.taken sink.new) ending × (result.status ≡ status_of ending) }
+    ensures trace { (id : List ℕ) → IsTrace id (map string_bytes words.now) → (before : List ℕ) → K.taken sink.old ≡ Some before
+        → (ending : Ending) × AnswersAlone (codes "trace " ++ id) before (K.taken sink.new) ending × (result.status ≡ status_of ending) }
+    ensures trace_alone { (id : List ℕ) → IsTrace id (map string_bytes words.now) → (source.new ≡ source.old) × ((result.status ≢ 3) × (result.status ≢ 8)) }
     ensures known { (ending : Ending) × (result.status ≡ status_of ending) }
     ensures clock { clock.new ≡ clock.old }
-    ensures bad_words { (IsSession words.now → ⊥) → (result.status ≡ 2) × (source.new ≡ source.old) × (sink.new ≡ sink.old) }
-    ensures good_words { IsSession words.now → result.status ≢ 2 }
+    ensures bad_words { result.status ≡ 2 → (fault_of words_app (map string_bytes words.now) ≢ []) × ((source.new ≡ source.old) × (sink.new ≡ sink.old)) }
+    ensures refused_words { fault_of words_app (map string_bytes words.now) ≢ []
+        → ((result.status ≡ 2) ⊎ (result.status ≡ 6)) × ((source.new ≡ source.old) × (sink.new ≡ sink.old)) }
+    ensures good_session { IsSession (map string_bytes words.now) → result.status ≢ 2 }
+    ensures good_trace { (id : List ℕ) → IsTrace id (map string_bytes words.now) → result.status ≢ 2 }
     ensures write_fault { result.status ≡ 1 → Rose (K.faults sink.old) (K.faults sink.new) }
     ensures read_fault { result.status ≡ 3 → Rose (S.faults source.old) (S.faults source.new) }
     ensures spent { result.status ≡ 8 → TakesBytes (S.left source.old) (S.left source.new) 0 taken_limit }
-    ensures complete { (text : List ℕ) → IsSession words.now → S.left source.old ≡ Some text → length text < taken_limit
+    ensures complete { (text : List ℕ) → IsSession (map string_bytes words.now) → S.left source.old ≡ Some text → length text < taken_limit
         → (Rose (S.faults source.old) (S.faults source.new) → ⊥) → (Rose (K.faults sink.old) (K.faults sink.new) → ⊥)
+        → (result.status ≡ 0) ⊎ ((result.status ≡ 6) ⊎ (result.status ≡ 7)) }
+    ensures complete_trace { (id : List ℕ) → IsTrace id (map string_bytes words.now) → (Rose (K.faults sink.old) (K.faults sink.new) → ⊥)
         → (result.status ≡ 0) ⊎ ((result.status ≡ 6) ⊎ (result.status ≡ 7)) }
 {
     run_alone(rt, alloc, words, source, sink, disk, clock, gate)

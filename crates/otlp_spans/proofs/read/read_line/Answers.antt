@@ -1,8 +1,8 @@
-use Rattle.std.proofs.Common.{sym, subst}
-use Rattle.std.proofs.Common.{All}
-use Rattle.otlp_spans.specs.Fields.{HasIds}
-use Rattle.otlp_spans.proofs.IdLemmas.{request_of-ids}
+use Rattle.otlp_spans.proofs.ReadableLaws.{few_read, readable_read}
 use Rattle.otlp_spans.proofs.read.read_line.Goals as goal
 
-pub returns-clause-ids : goal.returns-clause-ids
-returns-clause-ids c = subst (All HasIds) (sym c.of.ensures) (request_of-ids _ _ c.in_ok-spans.ensures.ok)
+pub returns-in-Ok-clause-most : goal.returns-in-Ok-clause-most
+returns-in-Ok-clause-most c = few_read _ _ _ c.counted.result c.counted.ensures.spans c.in-Ok.ensures.spans c.in-Ok.ensures.objects
+
+pub returns-in-Ok-clause-readable : goal.returns-in-Ok-clause-readable
+returns-in-Ok-clause-readable c = readable_read _ _ c.in-Ok.gathered.objects c.counted.result c.counted.ensures.spans c.in-Ok.ensures.spans

@@ -1,15 +1,16 @@
-use Rattle.std.proofs.Common.{◌≡◌, ◌++◌, length, map}
+use Rattle.std.proofs.Common.{◌≡◌, ◌++◌, All, length, map}
 use Rattle.serde_json.specs.View.{view}
-use Rattle.otlp_spans.specs.Runs.{runs}
-use Rattle.otlp_spans.specs.Same.{same_resource}
+use Rattle.span_runs.specs.Runs.{runs}
+use Rattle.span_runs.specs.Same.{of_one_resource}
+use Rattle.otlp_spans.specs.Fits.{FitsResourceRun}
 use Rattle.otlp_spans.specs.Writing.{resource_spans_json, spans_in}
 use Rattle.otlp_spans.proofs.write.resources.Given as goal
 
--- The values so far stand before those of the runs that are left.
+-- The values so far stand before those of the runs that are left. All runs fit where those do.
 abbrev pub invariant-loop-rest : goal.invariant-loop-rest
 invariant-loop-rest l =
-    map resource_spans_json (runs same_resource (spans_in l.rows))
-    ≡ map view l.values.items ++ map resource_spans_json (runs same_resource (spans_in l.rest))
+    (map resource_spans_json (runs of_one_resource (spans_in l.rows)) ≡ map view l.values.items ++ map resource_spans_json (runs of_one_resource (spans_in l.rest)))
+    × (All FitsResourceRun (runs of_one_resource (spans_in l.rest)) → All FitsResourceRun (runs of_one_resource (spans_in l.rows)))
 
 abbrev pub decreases-loop-rest : goal.decreases-loop-rest
 decreases-loop-rest l = length l.rest

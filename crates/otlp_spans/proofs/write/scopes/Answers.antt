@@ -1,10 +1,20 @@
+use Rattle.std.proofs.Common.{eqb-true, length, sym}
 use Rattle.serde_json.specs.View.{view}
-use Rattle.otlp_spans.specs.Same.{same_scope}
+use Rattle.span_runs.specs.Same.{of_one_scope}
+use Rattle.otlp_spans.specs.Fits.{FitsScopeRun}
 use Rattle.otlp_spans.specs.Writing.{scope_spans_json}
+use Rattle.otlp_spans.proofs.ReadsBackFits.{no_runs_fit, runs_fit}
 use Rattle.otlp_spans.proofs.RunLemmas.{run_written}
 use Rattle.otlp_spans.proofs.write.scopes.Goals as goal
 
 pub loop-rest-preserved : goal.loop-rest-preserved
-loop-rest-preserved c =
-    run_written same_scope (λ row. row.span) scope_spans_json view c.loop-rest.rest.now _ _ c.scope_run.result _ c.loop-rest.values.items _ _
-    c.loop-rest.invariant c.scope_run.ensures.len c.split_at.ensures.front c.split_at.ensures.back c.in_ok-scope_spans.ensures c.in_ok-push.ensures.items
+loop-rest-preserved c = (
+  run_written of_one_scope (λ row. row.span) scope_spans_json view c.loop-rest.rest.now _ _ c.scope_run.result _ c.loop-rest.values.items _ _
+      c.loop-rest.invariant.0 c.scope_run.ensures.len c.split_at.ensures.front c.split_at.ensures.back c.in_ok-scope_spans.ensures.json c.in_ok-push.ensures.items,
+  λ later. c.loop-rest.invariant.1 (runs_fit FitsScopeRun of_one_scope c.loop-rest.rest.now _ _ c.scope_run.result
+      c.scope_run.ensures.len c.split_at.ensures.front c.split_at.ensures.back c.in_ok-scope_spans.ensures.fits later),
+)
+
+pub returns-clause-fits : goal.returns-clause-fits
+returns-clause-fits c =
+    c.loop-rest.invariant.1 (no_runs_fit FitsScopeRun of_one_scope c.loop-rest.rest.now (eqb-true (length c.loop-rest.rest.now) 0 (sym c.loop-rest-test.ensures)))

@@ -1,19 +1,28 @@
-use Rattle.std.proofs.Common.{◌≡◌, Some, ◌∙◌, ap}
+use Rattle.std.proofs.Common.{◌≡◌, ◌≤◌, List, Some, ◌∙◌, ap, length, subst, arith}
+use Rattle.std.proofs.lemmas.List.Elements.{recursion_from_All}
 use Rattle.std.proofs.lemmas.Str.{IsUtf8-string_bytes}
+use Rattle.span_types.specs.declared.spans.Row.{Row}
+use Rattle.otlp_spans.specs.Fits.{FitsTrace}
 use Rattle.otlp_spans.specs.Json.{json_of}
+use Rattle.otlp_spans.specs.Reading.{IsReadable, most_spans}
 use Rattle.otlp_spans.specs.Writing.{spans_in, trace_json}
 use Rattle.otlp_spans.proofs.FloatLemmas.{written}
-use Rattle.otlp_spans.proofs.ReadBackLemmas.{empty_reads_back, trace_reads_back}
+use Rattle.otlp_spans.proofs.ReadBackLemmas.{trace_reads_back}
+use Rattle.otlp_spans.proofs.ReadsBackTrace.{line_back, mapped}
 use Rattle.otlp_spans.proofs.write.write_trace.Goals as goal
 
 pub returns : goal.returns
 returns c =
-    let is = c.in_ok-value.ensures ∙ ap (λ l. trace_json (spans_in l)) c.as_slice.ensures in
+    let spans = spans_in c.args.rows.now in
+    let is = c.in_ok-value.ensures.json ∙ ap (λ l. trace_json (spans_in l)) c.as_slice.ensures in
     let printed = c.in_ok-to_string.ensures in
-    let json : json_of c.of.result ≡ Some (trace_json (spans_in c.args.rows.now)) = ap json_of c.of.ensures
-    ∙ trace_reads_back (spans_in c.args.rows.now) _ _ is (IsUtf8-string_bytes c.in_ok-to_string.field-0) printed.reads_back in
+    let json : json_of c.of.result ≡ Some (trace_json spans) = ap json_of c.of.ensures
+    ∙ trace_reads_back spans _ _ is (IsUtf8-string_bytes c.in_ok-to_string.field-0) printed.reads_back in
+    let fits : FitsTrace spans = subst (λ (l : List Row). FitsTrace (spans_in l)) c.as_slice.ensures c.in_ok-value.ensures.fits in
     record {
-      text = c.of.ensures ∙ written (spans_in c.args.rows.now) _ _ is printed.text;
+      text = c.of.ensures ∙ written spans _ _ is printed.text;
       json = json;
-      empty = λ none. empty_reads_back c.of.result (json ∙ ap (λ l. Some (trace_json (spans_in l))) none);
+      reads_back = λ few are.
+          let fewer : length spans ≤ most_spans = omega (arith, mapped (λ row. row.span) c.args.rows.now) in
+          line_back c.of.result spans json fits (recursion_from_All IsReadable spans are) fewer;
     }

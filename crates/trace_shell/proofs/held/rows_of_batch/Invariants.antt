@@ -1,5 +1,5 @@
 -- So far the list has the spans that were taken, as rows.
-use Rattle.std.proofs.Common.{◌≡◌, ◌++◌, length}
+use Rattle.std.proofs.Common.{◌≡◌, length}
 use Rattle.session_meaning.specs.History.{rows_from}
 use Rattle.trace_shell.proofs.held.rows_of_batch.Given as goal
 

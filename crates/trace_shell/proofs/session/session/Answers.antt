@@ -1,4 +1,4 @@
-use Rattle.std.proofs.Common.{◌≡◌, sym, subst, ◌∙◌, refl, arith, ap, Some, ◌≤◌}
+use Rattle.std.proofs.Common.{subst, refl, arith, ap, ◌≤◌}
 use Rattle.io_edges.specs.Lines.{taken_limit}
 use Rattle.io_edges.specs.Reader.{TakesBytes, to_come}
 use Rattle.trace_shell.specs.Turn.{Turned}

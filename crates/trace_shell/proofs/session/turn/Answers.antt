@@ -1,7 +1,7 @@
-use Rattle.std.proofs.Common.{◌≡◌, Err, ap, sym, subst}
+use Rattle.std.proofs.Common.{Err, ap, sym, subst}
 use Rattle.io_edges.specs.Reader.{Answers, IsNextLine, IsToRead, IsWithinLimits, WouldAsk}
 use Rattle.session_meaning.specs.Session.{HasRun}
-use Rattle.trace_shell.proofs.TurnLemmas.{ended_at, failed_at, spent_at, starved_at, too_long_at, whole_at}
+use Rattle.trace_shell.proofs.TurnLemmas.{ended_at, failed_at, spent_at, too_long_at, whole_at}
 use Rattle.trace_shell.proofs.session.turn.Goals as goal
 
 pub returns-in-Whole-clause-turned : goal.returns-in-Whole-clause-turned

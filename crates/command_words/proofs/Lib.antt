@@ -1,0 +1,5 @@
+pub mod Found
+pub mod Leaves
+pub mod Spelled
+pub mod Turns
+pub mod Whole

@@ -1,0 +1,12 @@
+use Rattle.std.proofs.Common.{◌∙◌, ap₂}
+use Rattle.std.proofs.lemmas.Result.{IfOk-weaker}
+use Rattle.clap.specs.Words.{with_subcommand}
+use Rattle.command_words.specs.Table.{words_app}
+use Rattle.command_words.proofs.command.whole_command.Goals as goal
+
+pub returns : goal.returns
+unfolding words_app
+returns c =
+    let first = c.in_ok-subcommand.ensures.shape c.session_command.ensures.local ∙ ap₂ with_subcommand c.bare_command.ensures c.session_command.ensures.shape in
+    let given = c.in_ok-trace_command.ensures in
+    IfOk-weaker c.subcommand-2.result _ _ (λ m added. added.shape given.local ∙ ap₂ with_subcommand first given.shape) c.subcommand-2.ensures

@@ -1,0 +1,64 @@
+use Rattle.std.proofs.Common.{◌≡◌, ◌∙◌, ℕ, List, Some, None, Ok, ap, is_some, map, rules, string_bytes, subst, sym}
+use Rattle.std.proofs.lemmas.Result.{IfOk-weaker}
+use Rattle.std.specs.Borrow.{Bor}
+use Rattle.clap.specs.declared.parser.matches.ArgMatches.{ArgMatches}
+use Rattle.command_words.specs.declared.asked.Asked.TheVariants.{Session}
+use Rattle.command_words.proofs.Found.{told, tells_one, tells_session, tells_trace}
+use Rattle.command_words.proofs.Spelled.{never_refused, session_given, trace_asks, trace_given}
+use Rattle.command_words.proofs.Whole.{IsBareTrace}
+use Rattle.command_words.proofs.read.read_words.Goals as goal
+
+pub returns-in_err-matches-clause-session : goal.returns-in_err-matches-clause-session
+returns-in_err-matches-clause-session c = session_given _ c.from_residual.result (search rules) (search rules)
+
+pub returns-in_err-matches-clause-trace : goal.returns-in_err-matches-clause-trace
+returns-in_err-matches-clause-trace c = trace_given _ c.from_residual.result (search rules) (search rules)
+
+pub unreachable-requires : goal.unreachable-requires
+unreachable-requires c =
+    let words = map string_bytes c.args.words.now in
+    told words c.in_ok-matches.matches None c.in_ok-matches.ensures.no_fault c.in_ok-matches.ensures.found c.in_default.ensures.name c.in_default.ensures.rows
+
+pub returns-in-session-clause-only : goal.returns-in-session-clause-only
+returns-in-session-clause-only c =
+    let words = map string_bytes c.args.words.now in
+    let met : Bor (List ℕ) × Bor ArgMatches = (c.in-Some.name, c.in-Some.given) in
+    let tells = told words c.in_ok-matches.matches (Some met) c.in_ok-matches.ensures.no_fault c.in_ok-matches.ensures.found c.in-Some.ensures.name c.in-Some.ensures.rows in
+    tells_session words met tells c.in-session.is
+
+pub returns-in-session-clause-trace : goal.returns-in-session-clause-trace
+returns-in-session-clause-trace c = trace_given (map string_bytes c.args.words.now) (Ok Session) (returns-in-session-clause-only c) (λ e. let bad : ⊥ = cc in absurd bad)
+
+pub id_of-requires : goal.id_of-requires
+id_of-requires c =
+    let words = map string_bytes c.args.words.now in
+    let met : Bor (List ℕ) × Bor ArgMatches = (c.in-Some.name, c.in-Some.given) in
+    let tells = told words c.in_ok-matches.matches (Some met) c.in_ok-matches.ensures.no_fault c.in_ok-matches.ensures.found c.in-Some.ensures.name c.in-Some.ensures.rows in
+    ap is_some (tells_trace words met tells c.in-trace.is).1
+
+pub returns-in-trace-clause-only : goal.returns-in-trace-clause-only
+returns-in-trace-clause-only c =
+    let words = map string_bytes c.args.words.now in
+    let met : Bor (List ℕ) × Bor ArgMatches = (c.in-Some.name, c.in-Some.given) in
+    let tells = told words c.in_ok-matches.matches (Some met) c.in_ok-matches.ensures.no_fault c.in_ok-matches.ensures.found c.in-Some.ensures.name c.in-Some.ensures.rows in
+    let given = tells_trace words met tells c.in-trace.is in
+    let both : Some given.0 ≡ Some c.id_of.result.now = sym given.1 ∙ c.id_of.ensures in
+    let same : given.0 ≡ c.id_of.result.now = cc in
+    IfOk-weaker c.asked_trace.result _ _ (trace_asks words c.id_of.result.now (subst (λ (t : List ℕ). IsBareTrace t words) same given.2)) c.asked_trace.ensures.ok
+
+pub returns-in-trace-clause-session : goal.returns-in-trace-clause-session
+returns-in-trace-clause-session c =
+    session_given (map string_bytes c.args.words.now) c.asked_trace.result (returns-in-trace-clause-only c)
+    (λ e. absurd (never_refused c.asked_trace.result c.asked_trace.ensures.err e))
+
+pub returns-in-trace-clause-trace : goal.returns-in-trace-clause-trace
+returns-in-trace-clause-trace c =
+    trace_given (map string_bytes c.args.words.now) c.asked_trace.result (returns-in-trace-clause-only c)
+    (λ e. absurd (never_refused c.asked_trace.result c.asked_trace.ensures.err e))
+
+pub unreachable-requires-in_default-name : goal.unreachable-requires-in_default-name
+unreachable-requires-in_default-name c =
+    let words = map string_bytes c.args.words.now in
+    let met : Bor (List ℕ) × Bor ArgMatches = (c.in-Some.name, c.in-Some.given) in
+    let tells = told words c.in_ok-matches.matches (Some met) c.in_ok-matches.ensures.no_fault c.in_ok-matches.ensures.found c.in-Some.ensures.name c.in-Some.ensures.rows in
+    tells_one words met tells c.in_default-name.not-session c.in_default-name.not-trace

@@ -1,0 +1,31 @@
+-- The command line, as `clap` sees it.
+use Rattle.std.specs.Prelude.{codes, true, Some}
+use Rattle.clap.specs.Words.{App, Rule, Shape, new_app, new_rule, with_rule, with_subcommand}
+use Rattle.clap.specs.declared.builder.action.ArgAction.TheVariants.{Set}
+
+-- `session`, which takes no words.
+abbrev pub session_shape : Shape
+session_shape = (new_app (codes "session")).top
+
+-- The id of a trace: it is wanted, and is one word.
+abbrev pub id_rule : Rule
+id_rule = record (new_rule (codes "id")) { required = true; action = Some Set }
+
+-- `trace ID`.
+abbrev pub trace_shape : Shape
+trace_shape = (with_rule (new_app (codes "trace")) id_rule).top
+
+-- The command without its subcommands: the words begin with the first, a subcommand is wanted, and there is no help.
+abbrev pub bare_app : App
+bare_app = record (new_app (codes "vurnda")) {
+  top = record (new_app (codes "vurnda")).top {
+    no_binary_name = true;
+    subcommand_required = true;
+    disable_help_flag = true;
+    disable_help_subcommand = true;
+  };
+}
+
+-- The whole command.
+unfoldable pub words_app : App
+words_app = with_subcommand (with_subcommand bare_app session_shape) trace_shape

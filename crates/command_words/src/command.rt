@@ -1,0 +1,46 @@
+//! The command and its subcommands.
+
+ghost use Rattle.std.specs.Prelude.{◌≡◌, IfOk, false};
+ghost use Rattle.clap.specs.Words.{app_of, shape_of};
+ghost use Rattle.clap.specs.declared.builder.command.Command.TheViews.{out-Command as fields_of};
+ghost use Rattle.command_words.specs.Table.{bare_app, session_shape, trace_shape, words_app};
+
+use clap::{Arg, ArgAction, Command};
+use std::alloc::{AllocError, Global};
+
+// The whole command. A subcommand more is a line more here, and a function below.
+pub(crate) fn whole_command<'a>(alloc: Global) -> Result<Command<'a>, AllocError>
+    ensures { IfOk result (λ c. app_of c ≡ words_app) }
+{
+    bare_command(alloc)
+        .subcommand(session_command(alloc))?
+        .subcommand(trace_command(alloc)?)
+}
+
+// The command without subcommands. It wants one, has no help and no version, and reads its words from the first on.
+fn bare_command<'a>(alloc: Global) -> Command<'a>
+    ensures { app_of result ≡ bare_app }
+{
+    Command::new(alloc, "vurnda")
+        .no_binary_name(true)
+        .subcommand_required(true)
+        .disable_help_flag(true)
+        .disable_help_subcommand(true)
+}
+
+// `session` takes no words.
+fn session_command<'a>(alloc: Global) -> Command<'a>
+    ensures shape { shape_of result ≡ session_shape }
+    ensures local { (fields_of result).has_globals ≡ false }
+{
+    Command::new(alloc, "session")
+}
+
+// `trace` takes one id.
+fn trace_command<'a>(alloc: Global) -> Result<Command<'a>, AllocError>
+    ensures shape { IfOk result (λ c. shape_of c ≡ trace_shape) }
+    ensures local { IfOk result (λ c. (fields_of c).has_globals ≡ false) }
+{
+    let id = Arg::new(alloc, "id").required(true).action(ArgAction::Set);
+    Command::new(alloc, "trace").arg(id)
+}

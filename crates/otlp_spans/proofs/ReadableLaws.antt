@@ -1,0 +1,221 @@
+-- What every span of a line has, and how many there are.
+use Rattle.std.proofs.Common.{◌≡◌, ℕ, ◌+◌, ◌≤◌, ◌||◌, Bool, true, false, cond, List, [], ◌∷◌, ◌++◌, All, length, Option, Some, None, Result, Ok, Err, refl, sym, ap, ◌∙◌, subst, arith}
+use Rattle.std.specs.Prelude.{IfOk, IfSome}
+use Rattle.std.specs.List.{cons_option, filter_map, flat_map}
+use Rattle.std.specs.Str.{bytes_eq}
+use Rattle.std.proofs.lemmas.List.{length-append}
+use Rattle.std.proofs.lemmas.List.Elements.{All-append, All-cons, All-nil}
+use Rattle.std.proofs.lemmas.List.Folds.{list_any-append}
+use Rattle.std.proofs.lemmas.Option.{same_Some}
+use Rattle.std.proofs.lemmas.Slice.Eq.{bytes_eq-Decides}
+use Rattle.serde_json.specs.Data.{Data}
+use Rattle.serde_json.specs.Find.{as_str}
+use Rattle.span_types.specs.declared.attrs.Attr.{Attr}
+use Rattle.span_types.specs.declared.attrs.Resource.{Resource}
+use Rattle.span_types.specs.declared.attrs.Scope.{Scope}
+use Rattle.span_types.specs.declared.ids.SpanId.{SpanId}
+use Rattle.span_types.specs.declared.ids.TraceId.{TraceId}
+use Rattle.span_types.specs.declared.spans.Span.{Span}
+use Rattle.otlp_spans.specs.Attributes.{AreDistinctBehind, attrs_in, firsts_behind, has_key, list_in}
+use Rattle.otlp_spans.specs.Fields.{bytes_of, is_zeros, parent_of, span_id_of, trace_id_of, whole_of}
+use Rattle.otlp_spans.specs.Forms.{found}
+use Rattle.otlp_spans.specs.Json.{◌>>=◌, total}
+use Rattle.otlp_spans.specs.Reading.{IsReadable, attrs_from, core_of, most_spans, objects_of, objects_of_resource, parent_from, resource_from, resource_spans, scope_from, scope_spans, span_of, span_with, spans_of}
+use Rattle.otlp_spans.specs.Walk.{Adds}
+use Rattle.otlp_spans.specs.declared.cores.Core.{Core}
+use Rattle.otlp_spans.specs.declared.read.Reading.{Reading}
+use Rattle.otlp_spans.specs.declared.paths.Member.TheVariants as m
+
+-- ---- steps and lists
+
+-- both steps gave a value
+both : {A B : Type 0} (o : Option A) (f : A → Option B) (y : B) → (o >>= f) ≡ Some y → (x : A) × (o ≡ Some x) × (f x ≡ Some y)
+both None f y h = cc h
+both (Some x) f y h = (x, refl, h)
+
+one_more : {B : Type 0} (P : B → Type 0) (o : Option B) (ys : List B) → ((y : B) → o ≡ Some y → P y) → All P ys → All P (cons_option o ys)
+one_more P None ys holds all = all
+one_more P (Some y) ys holds all = All-cons P y ys (holds y refl) all
+
+filter_map-all : {A B : Type 0} (f : A → Option B) (P : B → Type 0) → ((x : A) (y : B) → f x ≡ Some y → P y) → (xs : List A) → All P (filter_map f xs)
+filter_map-all f P holds [] = All-nil P
+filter_map-all f P holds (x ∷ xs) = one_more P (f x) _ (holds x) (filter_map-all f P holds xs)
+
+flat_map-all : {A B : Type 0} (f : A → List B) (P : B → Type 0) → ((x : A) → All P (f x)) → (xs : List A) → All P (flat_map f xs)
+flat_map-all f P holds [] = All-nil P
+flat_map-all f P holds (x ∷ xs) = All-append P (f x) _ (holds x) (flat_map-all f P holds xs)
+
+one_longer : {B : Type 0} (o : Option B) (ys : List B) → length (cons_option o ys) ≤ 1 + length ys
+one_longer None ys = omega arith
+one_longer (Some y) ys = omega arith
+
+filter_map-short : {A B : Type 0} (f : A → Option B) (xs : List A) → length (filter_map f xs) ≤ length xs
+filter_map-short f [] = omega arith
+filter_map-short f (x ∷ xs) = let rest = filter_map-short f xs in let one = one_longer (f x) (filter_map f xs) in omega arith
+
+flat_map-short : {A B : Type 0} (f : A → List B) (n : A → ℕ) → ((x : A) → length (f x) ≤ n x) → (xs : List A) → length (flat_map f xs) ≤ total n xs
+flat_map-short f n short [] = omega arith
+flat_map-short f n short (x ∷ xs) =
+    let rest = flat_map-short f n short xs in let one = short x in let both_parts = length-append (f x) (flat_map f xs) in omega arith
+
+-- ---- how many there are
+
+scope_few : (resource : Resource) (d : Data) → length (scope_spans resource d) ≤ length (list_in m.Spans d)
+unfolding scope_spans
+scope_few resource d = filter_map-short _ (list_in m.Spans d)
+
+resource_few : (d : Data) → length (resource_spans d) ≤ objects_of_resource d
+unfolding resource_spans objects_of_resource
+resource_few d = flat_map-short _ _ (scope_few (resource_from (found m.Resource d))) (list_in m.ScopeSpans d)
+
+pub spans_few : (d : Data) → length (spans_of d) ≤ objects_of d
+unfolding spans_of objects_of
+spans_few d = flat_map-short _ _ resource_few (list_in m.ResourceSpans d)
+
+-- ---- keys
+
+-- the same keys
+abbrev HasSameKeys : List Attr → List Attr → Type 0
+HasSameKeys before kept = (key : List ℕ) → has_key key before ≡ has_key key kept
+
+or-true : (b c : Bool) → (c ≡ true → b ≡ true) → (b || c) ≡ b
+or-true true c h = refl
+or-true false true h = sym (h refl)
+or-true false false h = refl
+
+or-false : (b : Bool) → (b || false) ≡ b
+or-false true = refl
+or-false false = refl
+
+one_key : (key : List ℕ) (a : Attr) (attrs : List Attr) → has_key key (attrs ++ a ∷ []) ≡ (has_key key attrs || bytes_eq a.key key)
+one_key key a attrs = list_any-append (λ x. bytes_eq x.key key) attrs (a ∷ []) ∙ ap (λ c. has_key key attrs || c) (or-false (bytes_eq a.key key))
+
+-- a key that was there already
+no_new_key : (a : Attr) (before kept : List Attr) → has_key a.key before ≡ true → HasSameKeys before kept → HasSameKeys (before ++ a ∷ []) kept
+no_new_key a before kept there same key =
+    one_key key a before
+    ∙ or-true (has_key key before) (bytes_eq a.key key) (λ is. subst (λ k. has_key k before ≡ true) ((bytes_eq-Decides a.key key).0 is) there)
+    ∙ same key
+
+new_key : (a : Attr) (before kept : List Attr) → HasSameKeys before kept → HasSameKeys (before ++ a ∷ []) (kept ++ a ∷ [])
+new_key a before kept same key = one_key key a before ∙ ap (λ b. b || bytes_eq a.key key) (same key) ∙ sym (one_key key a kept)
+
+by_key : (a : Attr) (before kept later : List Attr) (b : Bool) → has_key a.key before ≡ b → HasSameKeys before kept
+    → ((k : List Attr) → HasSameKeys (before ++ a ∷ []) k → AreDistinctBehind k (firsts_behind (before ++ a ∷ []) later))
+    → AreDistinctBehind kept (cond b (firsts_behind (before ++ a ∷ []) later) (a ∷ firsts_behind (before ++ a ∷ []) later))
+by_key a before kept later true is same rest = rest kept (no_new_key a before kept is same)
+by_key a before kept later false is same rest = (sym (same a.key) ∙ is, rest (kept ++ a ∷ []) (new_key a before kept same))
+
+firsts_distinct : (before kept attrs : List Attr) → HasSameKeys before kept → AreDistinctBehind kept (firsts_behind before attrs)
+firsts_distinct before kept [] same = tt
+firsts_distinct before kept (a ∷ later) same =
+    by_key a before kept later (has_key a.key before) refl same (λ k s. firsts_distinct (before ++ a ∷ []) k later s)
+
+attrs_distinct : (d : Data) → AreDistinctBehind [] (attrs_in d)
+unfolding attrs_in
+attrs_distinct d = firsts_distinct [] [] _ (λ key. refl)
+
+from_distinct : (o : Option Data) → AreDistinctBehind [] (attrs_from o)
+from_distinct None = tt
+from_distinct (Some d) = attrs_distinct d
+
+-- ---- ids
+
+named_trace : (bytes : List ℕ) (b : Bool) (t : TraceId) → is_zeros bytes ≡ b → cond b None (Some (record { 0 = bytes })) ≡ Some t → is_zeros t.0 ≡ false
+named_trace bytes true t is h = cc h
+named_trace bytes false t is h = ap (λ (x : TraceId). is_zeros x.0) (sym (same_Some _ _ h)) ∙ is
+
+trace_named : (text : List ℕ) (t : TraceId) → trace_id_of text ≡ Some t → is_zeros t.0 ≡ false
+trace_named text t h = let bytes = both (bytes_of 16 text) _ t h in named_trace bytes.0 (is_zeros bytes.0) t refl bytes.2
+
+named_span : (bytes : List ℕ) (b : Bool) (i : SpanId) → is_zeros bytes ≡ b → cond b None (Some (record { 0 = bytes })) ≡ Some i → is_zeros i.0 ≡ false
+named_span bytes true i is h = cc h
+named_span bytes false i is h = ap (λ (x : SpanId). is_zeros x.0) (sym (same_Some _ _ h)) ∙ is
+
+span_named : (text : List ℕ) (i : SpanId) → span_id_of text ≡ Some i → is_zeros i.0 ≡ false
+span_named text i h = let bytes = both (bytes_of 8 text) _ i h in named_span bytes.0 (is_zeros bytes.0) i refl bytes.2
+
+abbrev IsNamed : Option SpanId → Type 0
+IsNamed p = IfSome p (λ i. is_zeros i.0 ≡ false)
+
+named_parent : (bytes : List ℕ) (b : Bool) → is_zeros bytes ≡ b → IsNamed (cond b None (Some (record { 0 = bytes })))
+named_parent bytes true is = tt
+named_parent bytes false is = is
+
+parent_named : (text : List ℕ) (p : Option SpanId) → parent_of text ≡ Some p → IsNamed p
+parent_named [] p h = subst IsNamed (same_Some _ _ h) tt
+parent_named (c ∷ cs) p h =
+    let bytes = both (bytes_of 8 (c ∷ cs)) _ p h in
+    subst IsNamed (same_Some _ _ bytes.2) (named_parent bytes.0 (is_zeros bytes.0) refl)
+
+from_named : (o : Option Data) (p : Option SpanId) → parent_from o ≡ Some p → IsNamed p
+from_named None p h = subst IsNamed (same_Some _ _ h) tt
+from_named (Some d) p h = let text = both (as_str d) parent_of p h in parent_named text.0 p text.2
+
+-- a core's ids
+record HasNames (core : Core) : Type 0 where
+  trace : is_zeros core.trace.0 ≡ false
+  id : is_zeros core.id.0 ≡ false
+  parent : IsNamed core.parent
+
+core_named : (d : Data) (core : Core) → core_of d ≡ Some core → HasNames core
+unfolding core_of
+core_named d core h =
+    let trace = both (found m.TraceId d >>= as_str >>= trace_id_of) _ core h in
+    let id = both (found m.SpanId d >>= as_str >>= span_id_of) _ core trace.2 in
+    let parent = both (parent_from (found m.ParentSpanId d)) _ core id.2 in
+    let start = both (found m.StartTime d >>= whole_of) _ core parent.2 in
+    let end = both (found m.EndTime d >>= whole_of) _ core start.2 in
+    let trace_text = both (found m.TraceId d >>= as_str) trace_id_of trace.0 trace.1 in
+    let id_text = both (found m.SpanId d >>= as_str) span_id_of id.0 id.1 in
+    subst HasNames (same_Some _ _ end.2) (record {
+      trace = trace_named trace_text.0 trace.0 trace_text.2;
+      id = span_named id_text.0 id.0 id_text.2;
+      parent = from_named (found m.ParentSpanId d) parent.0 parent.1;
+    })
+
+-- ---- spans
+
+with_readable : (resource : Resource) (scope : Scope) (d : Data) (core : Core) → AreDistinctBehind [] resource.attrs → AreDistinctBehind [] scope.attrs
+    → HasNames core → IsReadable (span_with resource scope d core)
+unfolding span_with
+with_readable resource scope d core of_resource of_scope names =
+    record { trace = names.trace; id = names.id; parent = names.parent; attrs = attrs_distinct d; of_resource = of_resource; of_scope = of_scope }
+
+span_readable : (resource : Resource) (scope : Scope) → AreDistinctBehind [] resource.attrs → AreDistinctBehind [] scope.attrs
+    → (d : Data) (s : Span) → span_of resource scope d ≡ Some s → IsReadable s
+span_readable resource scope of_resource of_scope d s h =
+    let core = both (core_of d) _ s h in
+    subst IsReadable (same_Some _ _ core.2) (with_readable resource scope d core.0 of_resource of_scope (core_named d core.0 core.1))
+
+scope_readable : (resource : Resource) → AreDistinctBehind [] resource.attrs → (d : Data) → All IsReadable (scope_spans resource d)
+unfolding scope_spans
+scope_readable resource of_resource d =
+    filter_map-all _ IsReadable (span_readable resource (scope_from (found m.Scope d)) of_resource (from_distinct (found m.Scope d))) (list_in m.Spans d)
+
+resource_readable : (d : Data) → All IsReadable (resource_spans d)
+unfolding resource_spans
+resource_readable d =
+    flat_map-all _ IsReadable (scope_readable (resource_from (found m.Resource d)) (from_distinct (found m.Resource d))) (list_in m.ScopeSpans d)
+
+pub spans_readable : (d : Data) → All IsReadable (spans_of d)
+unfolding spans_of
+spans_readable d = flat_map-all _ IsReadable resource_readable (list_in m.ResourceSpans d)
+
+-- ---- a line
+
+-- there are few, where their count that stands still is small
+pub few_of : (d : Data) (spans : List Span) (objects : ℕ) → spans ≡ spans_of d → Adds 0 objects (objects_of d) → objects ≤ most_spans → length spans ≤ most_spans
+few_of d spans objects is adds small = let few = spans_few d in let len = ap length is in omega arith
+
+-- what is read of a line has few spans, and each is readable
+pub few_read : {E : Type 0} (d : Data) (spans : List Span) (objects : ℕ) (result : Result Reading E)
+    → IfOk result (λ r. (r.batch.spans ≡ spans) × (objects ≤ most_spans)) → spans ≡ spans_of d → Adds 0 objects (objects_of d)
+    → IfOk result (λ r. length r.batch.spans ≤ most_spans)
+few_read d spans objects (Ok r) h is adds = few_of d r.batch.spans objects (h.0 ∙ is) adds h.1
+few_read d spans objects (Err e) h is adds = tt
+
+pub readable_read : {E : Type 0} (d : Data) (spans : List Span) (objects : ℕ) (result : Result Reading E)
+    → IfOk result (λ r. (r.batch.spans ≡ spans) × (objects ≤ most_spans)) → spans ≡ spans_of d → IfOk result (λ r. All IsReadable r.batch.spans)
+readable_read d spans objects (Ok r) h is = subst (All IsReadable) (sym (h.0 ∙ is)) (spans_readable d)
+readable_read d spans objects (Err e) h is = tt

@@ -1,0 +1,6 @@
+use Rattle.otlp_spans.proofs.ReadsBackFits.{scope_run_fits}
+use Rattle.otlp_spans.proofs.write.scope_spans.Goals as goal
+
+pub returns-clause-fits : goal.returns-clause-fits
+returns-clause-fits c =
+    scope_run_fits c.args.rows.now c.index-rows-0.result c.get.result.now c.requires c.get.ensures c.in_ok-scope.ensures.fits c.in_ok-spans.ensures.fit

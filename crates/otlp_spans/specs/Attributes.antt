@@ -1,0 +1,78 @@
+-- What attributes a list of OTLP/JSON has.
+use Rattle.std.specs.Prelude.{◌≡◌, ⊤, ℕ, Bool, false, List, [], ◌∷◌, ◌++◌, length, if◌then◌else◌, Option, Some, None, option_map}
+use Rattle.std.specs.List.{filter, filter_map, list_any}
+use Rattle.std.specs.Option.{is_some, is_none}
+use Rattle.std.specs.Str.{bytes_eq}
+use Rattle.serde_json.specs.Data.{Data}
+use Rattle.serde_json.specs.Find.{as_bool, as_str}
+use Rattle.span_types.specs.declared.attrs.Attr.{Attr}
+use Rattle.span_types.specs.declared.attrs.AttrValue.{AttrValue}
+use Rattle.span_types.specs.declared.attrs.AttrValue.TheVariants.{Text, Whole, Truth}
+use Rattle.otlp_spans.specs.declared.paths.Member.{Member}
+use Rattle.otlp_spans.specs.declared.paths.Member.TheVariants as m
+use Rattle.otlp_spans.specs.Fields.{int_of}
+use Rattle.otlp_spans.specs.Forms.{found}
+use Rattle.otlp_spans.specs.Json.{◌>>=◌, list_of, or_empty}
+
+-- The text that a member is; empty where it is absent.
+abbrev pub text_in : Member → Data → List ℕ
+text_in m d = or_empty (found m d >>= as_str)
+
+-- The items of the list that a member is; none where it is absent.
+abbrev pub list_in : Member → Data → List Data
+list_in m d = or_empty (found m d >>= list_of)
+
+-- The members of which a value has exactly one.
+abbrev pub value_members : List Member
+value_members = m.StringValue ∷ m.BoolValue ∷ m.IntValue ∷ m.DoubleValue ∷ m.ArrayValue ∷ m.KvlistValue ∷ m.BytesValue ∷ []
+
+-- Those that a value has.
+abbrev pub present_in : Data → List Member
+present_in d = filter (λ m. is_some (found m d)) value_members
+
+-- What a value is by its one member: a text, a truth or a whole number. The other four aren't kept.
+abbrev pub value_by : Member → Data → Option AttrValue
+value_by m.StringValue d = option_map Text (as_str d)
+value_by m.BoolValue d = option_map Truth (as_bool d)
+value_by m.IntValue d = option_map Whole (int_of d)
+value_by _ d = None
+
+-- The one item of a list.
+abbrev pub only : {A : Type 0} → List A → Option A
+only (x ∷ []) = Some x
+only _ = None
+
+unfoldable pub value_of : Data → Option AttrValue
+value_of d = do
+  m ← only (present_in d)
+  found m d >>= value_by m
+
+-- An attribute that is kept.
+unfoldable pub attr_of : Data → Option Attr
+attr_of d = do
+  value ← found m.Value d >>= value_of
+  Some (record { key = text_in m.Key d; value = value })
+
+-- One of the attributes has the key.
+abbrev pub has_key : List ℕ → List Attr → Bool
+has_key key attrs = list_any (λ a. bytes_eq a.key key) attrs
+
+-- Of each key the first attribute, where these attributes stand before them.
+abbrev pub firsts_behind : List Attr → List Attr → List Attr
+firsts_behind before [] = []
+firsts_behind before (a ∷ later) =
+    if has_key a.key before then firsts_behind (before ++ a ∷ []) later
+    else a ∷ firsts_behind (before ++ a ∷ []) later
+
+-- The attributes that an object has: of those that are kept the first of each key.
+unfoldable pub attrs_in : Data → List Attr
+attrs_in d = firsts_behind [] (filter_map attr_of (list_in m.Attributes d))
+
+-- How many attributes of an object are skipped: those that aren't kept.
+unfoldable pub skipped_attrs : Data → ℕ
+skipped_attrs d = length (filter (λ a. is_none (attr_of a)) (list_in m.Attributes d))
+
+-- Each key is none of those before it.
+abbrev pub AreDistinctBehind : List Attr → List Attr → Type 0
+AreDistinctBehind before [] = ⊤
+AreDistinctBehind before (a ∷ later) = (has_key a.key before ≡ false) × AreDistinctBehind (before ++ a ∷ []) later

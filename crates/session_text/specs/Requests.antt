@@ -1,0 +1,61 @@
+-- What a line asks, or why it asks nothing.
+use Rattle.std.specs.Prelude.{◌≡◌, ⊤, ℕ, ◌+◌, ◌≤◌, List, [], ◌∷◌, length, codes, nat_le, if◌then◌else◌, Option, Some, None, Result, Ok, Err}
+use Rattle.std.specs.Str.{bytes_eq, is_utf8}
+use Rattle.span_types.specs.declared.ids.TraceId.{TraceId}
+use Rattle.io_edges.specs.Lines.{line_limit}
+use Rattle.otlp_spans.specs.Fields.{trace_id_of}
+use Rattle.otlp_spans.specs.Forms.{path_text}
+use Rattle.otlp_spans.specs.Reading.{Given, NoJson, TooManySpans, WrongForm, most_spans, reading_of}
+use Rattle.otlp_spans.specs.Reading as otlp
+use Rattle.session_text.specs.declared.reply.Refusal.{Refusal}
+use Rattle.session_text.specs.declared.reply.Refusal.TheVariants.{TooLong, BadRequest, BadJson, BadOtlp, TooMany}
+use Rattle.session_text.specs.declared.request.Request.{Request}
+use Rattle.session_text.specs.declared.request.Request.TheVariants.{Push, Trace}
+use Rattle.session_text.specs.Lines.{first_part, other_parts}
+
+-- Why what is pushed gives nothing.
+abbrev pub refusal_of : otlp.Refusal → Refusal
+refusal_of NoJson = BadJson
+refusal_of (WrongForm path) = BadOtlp (path_text path)
+refusal_of (TooManySpans spans) = TooMany spans
+
+-- What is pushed: what the JSON gives.
+abbrev pub pushed : Result Given otlp.Refusal → Result Request Refusal
+pushed (Ok given) = Ok (Push (record { batch = record { spans = given.spans }; rejected = given.rejected; skipped = given.skipped }))
+pushed (Err why) = Err (refusal_of why)
+
+-- A push is the word `push`, one space and the rest of the line, which may be empty. A line of `push` alone lacks a part.
+abbrev pub push_with : ℕ → Option (List ℕ) → Result Request Refusal
+push_with len None = Err (BadRequest len)
+push_with len (Some json) = pushed (reading_of json)
+
+-- The id, and no part behind it. `start` is its first byte.
+abbrev pub with_id : ℕ → List ℕ → Option TraceId → Option (List ℕ) → Result Request Refusal
+with_id start part None more = Err (BadRequest start)
+with_id start part (Some id) None = Ok (Trace id)
+with_id start part (Some id) (Some more) = Err (BadRequest (start + length part + 1))
+
+-- A look-up is the word `trace`, one space and 32 hexadecimal digits of either case that aren't all zeros.
+abbrev pub trace_with : ℕ → Option (List ℕ) → Result Request Refusal
+trace_with len None = Err (BadRequest len)
+trace_with len (Some rest) = with_id 6 (first_part rest) (trace_id_of (first_part rest)) (other_parts rest)
+
+-- A line of UTF-8 that is no push.
+abbrev pub other_request : List ℕ → List ℕ → Option (List ℕ) → Result Request Refusal
+other_request word line rest = if bytes_eq word (codes "trace") then trace_with (length line) rest else Err (BadRequest 0)
+
+-- What a line asks that isn't too long. Only a push may have bytes that aren't UTF-8, and its JSON is then none.
+abbrev pub asked_by : List ℕ → List ℕ → Option (List ℕ) → Result Request Refusal
+asked_by word line rest =
+    if bytes_eq word (codes "push") then push_with (length line) rest
+    else if is_utf8 line then other_request word line rest
+    else Err (BadRequest 0)
+
+-- What a line asks, or why it asks nothing.
+unfoldable pub request_of : List ℕ → Result Request Refusal
+request_of line = if nat_le (length line) line_limit then asked_by (first_part line) line (other_parts line) else Err (TooLong (length line))
+
+-- A push has at most as many spans as a line may have.
+abbrev pub HasFewSpans : Request → Type 0
+HasFewSpans (Push reading) = length reading.batch.spans ≤ most_spans
+HasFewSpans (Trace id) = ⊤

@@ -1,0 +1,74 @@
+-- What a run leaves that answers one line alone.
+use Rattle.std.proofs.Common.{◌≡◌, inl, inr, ℕ, List, [], ◌∷◌, ◌++◌, Bool, true, false, Option, Some, None, Result, Ok, Err, MatchResult, take, refl, sym, ap, ◌∙◌, subst, append-nil, if◌then◌else◌}
+use Rattle.std.specs.Io.KnownBytes.{Appends}
+use Rattle.command_words.specs.declared.asked.WordsError.{WordsError}
+use Rattle.command_words.specs.declared.asked.WordsError.TheVariants as words_error
+use Rattle.session_meaning.specs.declared.ending.Ending.{Ending}
+use Rattle.session_meaning.specs.declared.ending.Ending.TheVariants.{Answered, BadWords, ReadFault, Refused, Spent, Starved, WriteFault}
+use Rattle.session_meaning.specs.Session.{AnswersAlone, EndsAlone, IsWritten, is_for_memory, is_refusal}
+use Rattle.session_text.specs.declared.reply.Refusal.TheVariants as refusal
+use Rattle.session_text.specs.declared.reply.Reply.{Reply}
+use Rattle.session_text.specs.declared.reply.Reply.TheVariants as reply
+use Rattle.session_text.specs.Replies.{reply_text}
+use Rattle.trace_shell.specs.declared.session.Seen.{Seen}
+use Rattle.trace_shell.specs.Holding.{Holding, Holds}
+use Rattle.trace_shell.specs.Turn.{HasGiven, ending_of}
+
+-- nothing is held of no push
+pub holds_nothing : (held : Holding) → held ≡ record { rows = []; pushes = 0 } → Holds held []
+holds_nothing held is = subst (λ h. Holds h []) (sym is) (record { rows_are = refl; count = refl })
+
+-- no reply was seen
+abbrev pub nothing_seen : Seen
+nothing_seen = record { refused = false; starved = false }
+
+put_behind : (before bytes : List ℕ) (old new : Option (List ℕ)) → old ≡ Some before → Appends old new bytes → new ≡ Some (before ++ bytes)
+put_behind before bytes None new is h = cc
+put_behind before bytes (Some xs) None is h = absurd h
+put_behind before bytes (Some xs) (Some ys) is h = ap Some (h ∙ ap (λ zs. zs ++ bytes) (same _ _ is))
+  where
+    same : (a b : List ℕ) → Some a ≡ Some b → a ≡ b
+    same a b e = cc
+
+-- the reply couldn't be given
+pub stopped_alone : (before : List ℕ) (old new : Option (List ℕ)) (seen : Seen) (r : Reply) (ending : Ending) → old ≡ Some before
+    → HasGiven old new nothing_seen seen r (Some ending) → EndsAlone ending before r new
+stopped_alone before old new seen r Starved is given = inr (given ∙ is)
+stopped_alone before old new seen r WriteFault is given = (given.0, put_behind before (take given.0 (reply_text r)) old new is given.1)
+stopped_alone before old new seen r Answered is given = absurd given
+stopped_alone before old new seen r BadWords is given = absurd given
+stopped_alone before old new seen r ReadFault is given = absurd given
+stopped_alone before old new seen r Refused is given = absurd given
+stopped_alone before old new seen r Spent is given = absurd given
+
+by_refusal : (before : List ℕ) (r : Reply) (new : Option (List ℕ)) (a b : Bool) → is_refusal r ≡ a → is_for_memory r ≡ b → IsWritten before (r ∷ []) new
+    → EndsAlone (if a then Refused else if b then Starved else Answered) before r new
+by_refusal before r new true b ea eb written = (written, rw ea refl)
+by_refusal before r new false true ea eb written = inl (written, rw (ea, eb) refl)
+by_refusal before r new false false ea eb written = (written, rw (ea, eb) refl)
+
+-- the reply was given
+pub written_alone : (before : List ℕ) (old new : Option (List ℕ)) (seen : Seen) (r : Reply) → old ≡ Some before → HasGiven old new nothing_seen seen r None
+    → EndsAlone (ending_of seen) before r new
+written_alone before old new seen r is given =
+    let written : IsWritten before (r ∷ []) new =
+    put_behind before (reply_text r) old new is given.0 ∙ ap (λ zs. Some (before ++ zs)) (sym (append-nil (reply_text r))) in
+    subst (λ s. EndsAlone (ending_of s) before r new) (sym given.1) (by_refusal before r new (is_refusal r) (is_for_memory r) refl refl written)
+
+-- nothing was written, since memory was wanted
+pub starved_alone : (line before : List ℕ) (taken : Option (List ℕ)) → taken ≡ Some before → AnswersAlone line before taken Starved
+starved_alone line before taken is = (reply.Refused refusal.Memory, [], inr (refl, refl), inr is)
+
+same_error : {A : Type 0} (r : Result A WordsError) (e f : WordsError) → r ≡ Err e → r ≡ Err f → e ≡ f
+same_error r e f is other = cc
+
+memory_is_no_refusal : words_error.Memory ≡ words_error.Refused → ⊥
+memory_is_no_refusal s = cc
+
+ok_is_no_error : {A : Type 0} (a : A) (r : Result A WordsError) (e : WordsError) → r ≡ Ok a → r ≡ Err e → ⊥
+ok_is_no_error a r e is other = cc
+
+-- words that ask something aren't refused
+pub not_refused : {A : Type 0} (P : A → Type 0) (r : Result A WordsError) → MatchResult r P (λ e. e ≡ words_error.Memory) → r ≡ Err words_error.Refused → ⊥
+not_refused P (Ok a) h is = ok_is_no_error a (Ok a) words_error.Refused refl is
+not_refused P (Err e) h is = memory_is_no_refusal (sym h ∙ same_error (Err e) e words_error.Refused refl is)

@@ -1,0 +1,68 @@
+//! What the words of the command line say is done.
+
+ghost use Rattle.std.specs.Prelude.{◌≡◌, ◌≢◌, ◌⊎◌, ◌++◌, ℕ, List, [], Some, IfOk, codes, map, string_bytes};
+ghost use Rattle.clap.specs.Words.{fault_of};
+ghost use Rattle.command_words.specs.Spelling.{IsSession, IsTrace};
+ghost use Rattle.command_words.specs.Table.{words_app};
+ghost use Rattle.span_types.specs.Faults.{Rose};
+ghost use Rattle.io_edges.specs.Lines.{taken_limit};
+ghost use Rattle.io_edges.specs.Reader.{TakesBytes};
+ghost use Rattle.session_meaning.specs.declared.ending.Ending.TheVariants.{Answered, BadWords, ReadFault, Refused, Spent, Starved, WriteFault};
+ghost use Rattle.session_meaning.specs.Session.{AnswersAlone, HasRun};
+
+use crate::session::{one_line, session};
+use command_words::{Asked, WordsError, read_words};
+use io_edges::{Sink, Source};
+use session_meaning::Ending;
+use span_types::Memory;
+use std::alloc::Global;
+
+/// Does what the words say, and tells how it ended.
+pub(crate) fn obey<S: Source, K: Sink>(
+    alloc: Global,
+    words: &[String],
+    source: &mut S,
+    sink: &mut K,
+) -> Ending
+    ensures session { IsSession (map string_bytes words.now) → (text before : List ℕ) → S.left source.old ≡ Some text → K.taken sink.old ≡ Some before
+        → HasRun text before (S.left source.new) (K.taken sink.new) result }
+    ensures trace { (id : List ℕ) → IsTrace id (map string_bytes words.now) → (before : List ℕ) → K.taken sink.old ≡ Some before
+        → AnswersAlone (codes "trace " ++ id) before (K.taken sink.new) result }
+    ensures trace_alone { (id : List ℕ) → IsTrace id (map string_bytes words.now) → (source.new ≡ source.old) × ((result ≡ ReadFault → ⊥) × (result ≡ Spent → ⊥)) }
+    ensures bad_words { result ≡ BadWords → fault_of words_app (map string_bytes words.now) ≢ [] }
+    ensures nothing_done { result ≡ BadWords → (source.new ≡ source.old) × (sink.new ≡ sink.old) }
+    ensures refused_words { fault_of words_app (map string_bytes words.now) ≢ [] → ((result ≡ BadWords) ⊎ (result ≡ Starved)) × ((source.new ≡ source.old) × (sink.new ≡ sink.old)) }
+    ensures good_session { IsSession (map string_bytes words.now) → result ≢ BadWords }
+    ensures good_trace { (id : List ℕ) → IsTrace id (map string_bytes words.now) → result ≢ BadWords }
+    ensures write_fault { result ≡ WriteFault → Rose (K.faults sink.old) (K.faults sink.new) }
+    ensures read_fault { result ≡ ReadFault → Rose (S.faults source.old) (S.faults source.new) }
+    ensures spent { result ≡ Spent → TakesBytes (S.left source.old) (S.left source.new) 0 taken_limit }
+{
+    match read_words(alloc, words) {
+        Ok(Asked::Session) => session(alloc, source, sink),
+        Ok(Asked::Trace { id }) => look_up(alloc, sink, id.as_str()),
+        Err(WordsError::Refused) => Ending::BadWords,
+        Err(WordsError::Memory) => Ending::Starved,
+    }
+}
+
+/// Answers the session's line `trace ID` alone.
+fn look_up<K: Sink>(alloc: Global, sink: &mut K, id: &str) -> Ending
+    ensures told { (before : List ℕ) → K.taken sink.old ≡ Some before → AnswersAlone (codes "trace " ++ id.now) before (K.taken sink.new) result }
+    ensures write_fault { result ≡ WriteFault → Rose (K.faults sink.old) (K.faults sink.new) }
+    ensures endings { (result ≡ WriteFault) ⊎ ((result ≡ Answered) ⊎ ((result ≡ Refused) ⊎ (result ≡ Starved))) }
+{
+    match line_of(alloc, id) {
+        Ok(line) => one_line(alloc, sink, line.as_bytes()),
+        Err(Memory) => Ending::Starved,
+    }
+}
+
+/// The line `trace ID`.
+fn line_of(alloc: Global, id: &str) -> Result<String, Memory>
+    ensures { IfOk result (λ line. string_bytes line ≡ codes "trace " ++ id.now) }
+{
+    let mut line = String::from_str(alloc, "trace ")?;
+    line.push_str(id)?;
+    Ok(line)
+}
