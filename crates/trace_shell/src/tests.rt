@@ -117,6 +117,47 @@ fn whole_runs_write_their_exact_bytes(rt: HostRuntime) -> Result<(), Memory> {
     Ok(())
 }
 
+/// A server's span as the Collector writes it, and the same in other spellings.
+const SERVER_PUSH: &str =
+    r#"push {"resourceSpans":[{"resource":{"attributes":[{"key":"service.name","value":{"stringValue":"shop"}}]},"scopeSpans":[{"scope":{"name":"lib","version":"1.0"},"spans":[{"traceId":"5B8EFFF798038103D269B633813FC60C","spanId":"EEE19B7EC3C1B174","parentSpanId":"","name":"I'm a server span","startTimeUnixNano":"1544712660000000000","endTimeUnixNano":"1544712661000000000","kind":2,"attributes":[{"key":"my.span.attr","value":{"stringValue":"some value"}},{"key":"load","value":{"doubleValue":0.5}}]}]}]}]}"#;
+
+const OTHER_SPELLINGS: &str =
+    r#"push {"resourceSpans":[{"resource":{"attributes":[{"key":"service.name","value":{"stringValue":"shop"}}]},"scopeSpans":[{"scope":{"name":"lib","version":"1.0"},"spans":[{"traceId":"5b8efff798038103d269b633813fc60c","spanId":"eee19b7ec3c1b174","parentSpanId":null,"name":"I'm a server span","startTimeUnixNano":1544712660000000000,"endTimeUnixNano":1544712661000000000,"kind":"SPAN_KIND_SERVER","status":null,"flags":256,"attributes":[{"key":"my.span.attr","value":{"stringValue":"some value"}},{"key":"load","value":{"doubleValue":0.5}}]}]}]}]}"#;
+
+const SERVER_LOOK: &str = "trace 5b8efff798038103d269b633813fc60c";
+
+const SERVER_TRACE: &str =
+    r#"{"resourceSpans":[{"resource":{"attributes":[{"key":"service.name","value":{"stringValue":"shop"}}]},"scopeSpans":[{"scope":{"attributes":[],"name":"lib","version":"1.0"},"spans":[{"attributes":[{"key":"my.span.attr","value":{"stringValue":"some value"}}],"endTimeUnixNano":"1544712661000000000","kind":2,"name":"I'm a server span","parentSpanId":"","spanId":"eee19b7ec3c1b174","startTimeUnixNano":"1544712660000000000","status":{"code":0,"message":""},"traceId":"5b8efff798038103d269b633813fc60c"}]}]}]}"#;
+
+const ONE_REJECTED: &str =
+    r#"push {"resourceSpans":[{"scopeSpans":[{"spans":[{"traceId":"000000000000000000000000000000a1","spanId":"00000000000000b1","parentSpanId":"","name":"x","startTimeUnixNano":"1","endTimeUnixNano":"2"},{"traceId":"00000000000000000000000000000000","spanId":"00000000000000b2","parentSpanId":"","name":"y","startTimeUnixNano":"1","endTimeUnixNano":"2"}]}]}]}"#;
+
+#[test]
+fn spellings_of_one_span_are_answered_alike(rt: HostRuntime) -> Result<(), Memory> {
+    let alloc = rt.alloc();
+    let session = ["session"];
+    let replies = format!(in alloc;
+        "ok push 0 accepted=1 rejected=0 skipped=1\nok trace as_of=1 spans=1 {SERVER_TRACE}\n"
+    )?;
+    for push in [SERVER_PUSH, OTHER_SPELLINGS] {
+        let lines = format!(in alloc; "{push}\n{SERVER_LOOK}\n")?;
+        check(
+            &rt,
+            alloc,
+            &session,
+            lines.as_str(),
+            (&[], &[]),
+            replies.as_str(),
+            0,
+        )?;
+    }
+    let lines = format!(in alloc; "{ONE_REJECTED}\npush {{}}\n")?;
+    let counts =
+        "ok push 0 accepted=1 rejected=1 skipped=0\nok push 1 accepted=0 rejected=0 skipped=0\n";
+    check(&rt, alloc, &session, lines.as_str(), (&[], &[]), counts, 0)?;
+    Ok(())
+}
+
 #[test]
 fn a_look_up_of_the_command_line_is_answered_alone(rt: HostRuntime) -> Result<(), Memory> {
     let alloc = rt.alloc();
