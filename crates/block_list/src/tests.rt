@@ -187,6 +187,19 @@ fn write_list(
     Ok(commit(disk, &list).is_ok())
 }
 
+/// The same, where every call after that many fails and changes nothing.
+fn write_until(alloc: Global, disk: &mut MemDisk, body: &ListBody, calls: u64) -> Result<bool, Fail>
+    requires { MeetsRules body.now }
+{
+    let found = load(alloc, disk)?;
+    let list = prepare(alloc, body)?;
+    if body.generation != next_generation(&found) {
+        return Ok(false);
+    }
+    disk.stop_after(calls);
+    Ok(commit(disk, &list).is_ok())
+}
+
 /// The next file of the list that an image is loaded as, and 0 where there is none.
 fn next_file_of(alloc: Global, disk: &MemDisk, pick: u64) -> Result<u32, Fail> {
     let mut image = disk.image(pick)?;
@@ -237,6 +250,25 @@ fn a_writing_that_fails_leaves_one_list(rt: HostRuntime) -> Result<(), Fail> {
             assert!(rt;
                 next_file == 3 && failing < 7 || next_file == 5 && 4 < failing,
                 "call {failing}, pick {pick}"
+            );
+        }
+    }
+    Ok(())
+}
+
+#[test]
+fn a_writing_that_is_stopped_leaves_one_list(rt: HostRuntime) -> Result<(), Fail> {
+    let alloc = rt.alloc();
+    for calls in 0..8 {
+        let mut disk = MemDisk::empty(alloc);
+        assert!(rt; write_list(alloc, &mut disk, &new_store(alloc)?, 0)?);
+        let written = write_until(alloc, &mut disk, &next_list(alloc)?, calls)?;
+        assert_eq!(rt; written, calls > 5);
+        for pick in 0..16 {
+            let next_file = next_file_of(alloc, &disk, pick)?;
+            assert!(rt;
+                next_file == 3 && calls < 6 || next_file == 5 && calls > 4,
+                "{calls} calls, pick {pick}"
             );
         }
     }
