@@ -5,7 +5,7 @@ use span_types::Text;
 use std::alloc::Global;
 use std::process::Abort;
 use std::test::Fail;
-use traceql_parse::parse;
+use traceql_parse::{ParseError, parse};
 use traceql_syntax::Field;
 use traceql_tokens::{AttributeScope, Intrinsic};
 
@@ -64,6 +64,247 @@ const ROWS: &str = r#"
 { } | max(.a *2)<=-1us => { } | max (.a * 2) <= - 1000ns
 { } | avg(-.a) = sum(!.b) => { } | avg (- .a) = sum (! .b)
 "#;
+
+/// Every operator beside its neighbours without a space: what is read, printed, or the refusal and its place.
+const NEIGHBOURS: &str = r#"
+{1<-1} => { 1 < - 1 }
+{1<!1} => { 1 < ! 1 }
+{(1)<(1)} => { 1 < 1 }
+{1<=-1} => { 1 <= - 1 }
+{1<=!1} => { 1 <= ! 1 }
+{(1)<=(1)} => { 1 <= 1 }
+{1>-1} => { 1 > - 1 }
+{1>!1} => { 1 > ! 1 }
+{(1)>(1)} => { 1 > 1 }
+{1>=-1} => { 1 >= - 1 }
+{1>=!1} => { 1 >= ! 1 }
+{(1)>=(1)} => { 1 >= 1 }
+{1=-1} => { 1 = - 1 }
+{1=!1} => { 1 = ! 1 }
+{(1)=(1)} => { 1 = 1 }
+{1!=-1} => { 1 != - 1 }
+{1!=!1} => { 1 != ! 1 }
+{(1)!=(1)} => { 1 != 1 }
+{1+-1} => { 1 + - 1 }
+{1+!1} => { 1 + ! 1 }
+{(1)+(1)} => { 1 + 1 }
+{1--1} => { 1 - - 1 }
+{1-!1} => { 1 - ! 1 }
+{(1)-(1)} => { 1 - 1 }
+{1*-1} => { 1 * - 1 }
+{1*!1} => { 1 * ! 1 }
+{(1)*(1)} => { 1 * 1 }
+{1/-1} => { 1 / - 1 }
+{1/!1} => { 1 / ! 1 }
+{(1)/(1)} => { 1 / 1 }
+{1%-1} => { 1 % - 1 }
+{1%!1} => { 1 % ! 1 }
+{(1)%(1)} => { 1 % 1 }
+{1^-1} => { 1 ^ - 1 }
+{1^!1} => { 1 ^ ! 1 }
+{(1)^(1)} => { 1 ^ 1 }
+{1&&-1} => { 1 && - 1 }
+{1&&!1} => { 1 && ! 1 }
+{(1)&&(1)} => { 1 && 1 }
+{1||-1} => { 1 || - 1 }
+{1||!1} => { 1 || ! 1 }
+{(1)||(1)} => { 1 || 1 }
+{--1} => { - - 1 }
+{-!1} => { - ! 1 }
+{-(1)} => { - 1 }
+{!-1} => { ! - 1 }
+{!!1} => { ! ! 1 }
+{!(1)} => { ! 1 }
+{1=~"a"} => { 1 =~ "a" }
+{1!~"a"} => { 1 !~ "a" }
+{1=~"a"=~"b"} => { (1 =~ "a") =~ "b" }
+{1=~"a"="b"} => { (1 =~ "a") = "b" }
+{1=~"a"&&1} => { (1 =~ "a") && 1 }
+{1=~"a"<1} => { (1 =~ "a") < 1 }
+{}>{} => { } > { }
+({})>({}) => { } > { }
+{}>>{} => { } >> { }
+({})>>({}) => { } >> { }
+{}<{} => { } < { }
+({})<({}) => { } < { }
+{}<<{} => { } << { }
+({})<<({}) => { } << { }
+{}~{} => { } ~ { }
+({})~({}) => { } ~ { }
+{}!>{} => { } !> { }
+({})!>({}) => { } !> { }
+{}!>>{} => { } !>> { }
+({})!>>({}) => { } !>> { }
+{}!<{} => { } !< { }
+({})!<({}) => { } !< { }
+{}!<<{} => { } !<< { }
+({})!<<({}) => { } !<< { }
+{}!~{} => { } !~ { }
+({})!~({}) => { } !~ { }
+{}&>{} => { } &> { }
+({})&>({}) => { } &> { }
+{}&>>{} => { } &>> { }
+({})&>>({}) => { } &>> { }
+{}&<{} => { } &< { }
+({})&<({}) => { } &< { }
+{}&<<{} => { } &<< { }
+({})&<<({}) => { } &<< { }
+{}&~{} => { } &~ { }
+({})&~({}) => { } &~ { }
+{}&&{} => { } && { }
+({})&&({}) => { } && { }
+{}||{} => { } || { }
+({})||({}) => { } || { }
+{}|{} => { } | { }
+{}||{}|{} => { } || { } | { }
+{}|count()>1 => { } | count () > 1
+{}|count()>=-1 => { } | count () >= - 1
+{}|count()=-1s => { } | count () = - 1000000000ns
+{}|count()!=1 => { } | count () != 1
+{}|count()<count() => { } | count () < count ()
+{}|by(1)|by(2) => { } | by (1) | by (2)
+{}|select(.a,.b) => { } | select (.a , .b)
+{(1)(1)} => unexpected 4
+{1(1)} => unexpected 2
+{1<<1} => unexpected 2
+{1>>1} => unexpected 2
+{1<>1} => unexpected 3
+{1><1} => unexpected 3
+{1=<1} => unexpected 3
+{1==1} => unexpected 3
+{1<==1} => unexpected 4
+{1>==1} => unexpected 4
+{1!==1} => unexpected 4
+{1=!=1} => unexpected 3
+{1!!1} => unexpected 2
+{1!1} => unexpected 2
+{1~1} => unexpected 2
+{1!>1} => unexpected 2
+{1!<1} => unexpected 2
+{1!>>1} => unexpected 2
+{1!<<1} => unexpected 2
+{1&>1} => unexpected 2
+{1&<1} => unexpected 2
+{1&>>1} => unexpected 2
+{1&<<1} => unexpected 2
+{1&~1} => unexpected 2
+{1&1} => unexpected 2
+{1|1} => unexpected 2
+{1|||1} => unexpected 4
+{1&&&1} => unexpected 4
+{1&&&&1} => unexpected 4
+{1||||1} => unexpected 4
+{1&&||1} => unexpected 4
+{1++1} => unexpected 3
+{1**1} => unexpected 3
+{1//1} => unexpected 3
+{1%%1} => unexpected 3
+{1^^1} => unexpected 3
+{1+*1} => unexpected 3
+{1*+1} => unexpected 3
+{1,1} => unexpected 2
+{+1} => unexpected 1
+{*1} => unexpected 1
+{=1} => unexpected 1
+{1=} => unexpected 3
+{1+} => unexpected 3
+{-} => unexpected 2
+{!} => unexpected 2
+{()} => unexpected 2
+{(} => unexpected 2
+{)} => unexpected 1
+{1=~-1} => unexpected 4
+{1=~=1} => unexpected 4
+{1!~~1} => unexpected 4
+{1=~"a"+1} => unexpected 7
+{1=~"a"^1} => unexpected 7
+{1=~"a"(1)} => unexpected 7
+({})({}) => unexpected 4
+{}{} => unexpected 2
+{}!{} => unexpected 2
+{}&{} => unexpected 2
+{}={} => unexpected 2
+{}!={} => unexpected 2
+{}>={} => unexpected 2
+{}<={} => unexpected 2
+{}=~{} => unexpected 2
+{}>>>{} => unexpected 4
+{}<<<{} => unexpected 4
+{}><{} => unexpected 3
+{}~~{} => unexpected 3
+{}!>>>{} => unexpected 5
+{}&>>>{} => unexpected 5
+{}&&&{} => unexpected 4
+{}&&&>{} => unexpected 4
+{}|||{} => unexpected 4
+{}+{} => unexpected 2
+{}-{} => unexpected 2
+{}*{} => unexpected 2
+{}/{} => unexpected 2
+{}%{} => unexpected 2
+{}^{} => unexpected 2
+{},{} => unexpected 2
+{}){} => unexpected 2
+{}||by(1) => unexpected 4
+{}|{}||{} => unexpected 5
+{}|{}>{} => unexpected 5
+{}|count()>>1 => unexpected 10
+{}|count()=~1 => unexpected 10
+{}|count()+1 => unexpected 10
+{}|count()--1 => unexpected 10
+{}|count()>--1 => unexpected 12
+{}|count()>!1 => unexpected 11
+{}|select(,.a) => unexpected 10
+{}|select(.a,,.b) => unexpected 13
+"#;
+
+/// Refusals at their first and last places.
+const PLACES: &str = r#"
+} => unexpected 0
+{ } } => unexpected 4
+$ => bad-char 0
+{ }$ => bad-char 3
+{9223372036854775808} => number-range 1
+{}|count()>9223372036854775808 => number-range 11
+{0.5} => fraction-literal 1
+{}|count()>0.5 => fraction-literal 11
+"a => unexpected 0
+{"a => unended 1
+{}|by("a => unended 6
+{"\x"} => bad-char 2
+"#;
+
+/// A text's query, printed, or why it is none.
+fn outcome(alloc: Global, text: &str) -> Result<Text, Fail> {
+    let error = match parse(alloc, text) {
+        Ok(query) => return Ok(print_query(alloc, &query)?),
+        Err(error) => error,
+    };
+    let refusal = match error {
+        ParseError::BadChar { at } => format!(in alloc; "bad-char {at}"),
+        ParseError::Unexpected { at } => format!(in alloc; "unexpected {at}"),
+        ParseError::Unended { at } => format!(in alloc; "unended {at}"),
+        ParseError::NumberRange { at } => format!(in alloc; "number-range {at}"),
+        ParseError::FractionLiteral { at } => format!(in alloc; "fraction-literal {at}"),
+        ParseError::TooLong { length } => format!(in alloc; "too-long {length}"),
+        ParseError::TooDeep { at } => format!(in alloc; "too-deep {at}"),
+        ParseError::Memory => String::from_str(alloc, "memory"),
+    };
+    Ok(Text::of(refusal?))
+}
+
+#[test]
+fn operators_side_by_side_are_read_as_worked_out(rt: HostRuntime) -> Result<(), Fail> {
+    for rows in [NEIGHBOURS, PLACES] {
+        for row in rows.lines() {
+            if let Some((text, wanted)) = row.split_once(" => ") {
+                let got = outcome(rt.alloc(), text)?;
+                assert!(rt; got.as_str() == wanted, "{text}");
+            }
+        }
+    }
+    Ok(())
+}
 
 #[test]
 fn queries_are_printed_as_worked_out(rt: HostRuntime) -> Result<(), Fail> {
