@@ -32,6 +32,8 @@ pub(crate) fn obey<S: Source, K: Sink>(
     ensures bad_words { result ≡ BadWords → fault_of words_app (map string_bytes words.now) ≢ [] }
     ensures nothing_done { result ≡ BadWords → (source.new ≡ source.old) × (sink.new ≡ sink.old) }
     ensures refused_words { fault_of words_app (map string_bytes words.now) ≢ [] → ((result ≡ BadWords) ⊎ (result ≡ Starved)) × ((source.new ≡ source.old) × (sink.new ≡ sink.old)) }
+    ensures asked { fault_of words_app (map string_bytes words.now) ≡ []
+        → (result ≡ Starved) ⊎ (IsSession (map string_bytes words.now) ⊎ ((id : List ℕ) × IsTrace id (map string_bytes words.now))) }
     ensures good_session { IsSession (map string_bytes words.now) → result ≢ BadWords }
     ensures good_trace { (id : List ℕ) → IsTrace id (map string_bytes words.now) → result ≢ BadWords }
     ensures write_fault { result ≡ WriteFault → Rose (K.faults sink.old) (K.faults sink.new) }

@@ -49,6 +49,8 @@ pub fn run_alone<R: Threads + Sync, S: Source, K: Sink, D, C: Clock, G: Gate>(
     ensures bad_words { result.status ≡ 2 → (fault_of words_app (map string_bytes words.now) ≢ []) × ((source.new ≡ source.old) × (sink.new ≡ sink.old)) }
     ensures refused_words { fault_of words_app (map string_bytes words.now) ≢ []
         → ((result.status ≡ 2) ⊎ (result.status ≡ 6)) × ((source.new ≡ source.old) × (sink.new ≡ sink.old)) }
+    ensures asked { fault_of words_app (map string_bytes words.now) ≡ []
+        → (result.status ≡ 6) ⊎ (IsSession (map string_bytes words.now) ⊎ ((id : List ℕ) × IsTrace id (map string_bytes words.now))) }
     ensures good_session { IsSession (map string_bytes words.now) → result.status ≢ 2 }
     ensures good_trace { (id : List ℕ) → IsTrace id (map string_bytes words.now) → result.status ≢ 2 }
     ensures write_fault { result.status ≡ 1 → Rose (K.faults sink.old) (K.faults sink.new) }
@@ -90,6 +92,8 @@ pub fn run<R: Threads + Wait + Sync, S: Source, K: Sink, D, C: Clock, G: Gate>(
     ensures bad_words { result.status ≡ 2 → (fault_of words_app (map string_bytes words.now) ≢ []) × ((source.new ≡ source.old) × (sink.new ≡ sink.old)) }
     ensures refused_words { fault_of words_app (map string_bytes words.now) ≢ []
         → ((result.status ≡ 2) ⊎ (result.status ≡ 6)) × ((source.new ≡ source.old) × (sink.new ≡ sink.old)) }
+    ensures asked { fault_of words_app (map string_bytes words.now) ≡ []
+        → (result.status ≡ 6) ⊎ (IsSession (map string_bytes words.now) ⊎ ((id : List ℕ) × IsTrace id (map string_bytes words.now))) }
     ensures good_session { IsSession (map string_bytes words.now) → result.status ≢ 2 }
     ensures good_trace { (id : List ℕ) → IsTrace id (map string_bytes words.now) → result.status ≢ 2 }
     ensures write_fault { result.status ≡ 1 → Rose (K.faults sink.old) (K.faults sink.new) }
