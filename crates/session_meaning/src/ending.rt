@@ -12,7 +12,7 @@ pub enum Ending {
     WriteFault,
     /// The words of the command line are no command. Nothing was taken, and nothing written.
     BadWords,
-    /// The source failed. The replies to the lines before stand written.
+    /// The source failed, once every line that it had ended was answered in writing.
     ReadFault,
     /// Memory was wanted for more than one line's answer; or all was read and written, and the refusals among the
     /// replies, of which there is one, are all for memory.
