@@ -1,6 +1,8 @@
 -- Fractions of whole numbers, and which of them a ratio can hold.
-use Rattle.std.specs.Prelude.{◌≡◌, ℕ, ℤ, pos, ◌*ℤ◌, ◌<◌, ◌^◌, unsigned_abs, FitsSigned}
+use Rattle.std.specs.Prelude.{◌≡◌, ℕ, ℤ, pos, ◌+ℤ◌, ◌-ℤ◌, ◌*ℤ◌, ◌<ℤ◌, ◌*◌, ◌<◌, ◌^◌, unsigned_abs, FitsSigned}
 use Rattle.std.specs.Int.{w64, ◌∣◌}
+use Rattle.std.specs.Ordering.{MatchOrdering}
+use Rattle.std.specs.declared.cmp.Ordering.{Ordering}
 
 pub record Fraction : Type 0 where
   pub numerator : ℤ
@@ -21,6 +23,27 @@ pub record IsRatio (r : Fraction) : Type 0 where
 abbrev pub StandsFor : ℤ → ℤ → Fraction → Type 0
 StandsFor p q r = r.numerator *ℤ q ≡ p *ℤ pos r.denominator
 
+-- a ratio that equals p / q
+abbrev pub IsRatioOf : ℤ → ℤ → Fraction → Type 0
+IsRatioOf p q r = IsRatio r × StandsFor p q r
+
 -- no ratio equals p / q
 abbrev pub NoneStandsFor : ℤ → ℤ → Type 0
 NoneStandsFor p q = (r : Fraction) → IsRatio r → StandsFor p q r → ⊥
+
+-- the product of the denominators, over which a sum and a difference have these numerators
+abbrev pub under : Fraction → Fraction → ℤ
+under a b = pos (a.denominator * b.denominator)
+
+abbrev pub over_sum : Fraction → Fraction → ℤ
+over_sum a b = a.numerator *ℤ pos b.denominator +ℤ b.numerator *ℤ pos a.denominator
+
+abbrev pub over_difference : Fraction → Fraction → ℤ
+over_difference a b = a.numerator *ℤ pos b.denominator -ℤ b.numerator *ℤ pos a.denominator
+
+-- which of two fractions is less, or that they are equal
+abbrev pub Compares : Fraction → Fraction → Ordering → Type 0
+Compares a b order =
+    let left = a.numerator *ℤ pos b.denominator in
+    let right = b.numerator *ℤ pos a.denominator in
+    MatchOrdering order (left <ℤ right) (left ≡ right) (right <ℤ left)

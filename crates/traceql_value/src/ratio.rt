@@ -1,9 +1,10 @@
 //! Exact fractions.
 
-ghost use Rattle.std.specs.Prelude.{ℤ, pos, ◌<◌, ◌^◌, IfSome, IfNone};
-ghost use Rattle.traceql_value.specs.Fractions.{IsRatio, StandsFor, NoneStandsFor};
+ghost use Rattle.std.specs.Prelude.{◌≡◌, ℤ, pos, ◌*ℤ◌, neg_ℤ, ◌<◌, ◌≤◌, ◌-◌, ◌*◌, ◌^◌, unsigned_abs, IfSome, IfNone};
+ghost use Rattle.traceql_value.specs.Fractions.{IsRatio, IsRatioOf, NoneStandsFor, Compares, under, over_sum, over_difference};
 
 use crate::divisor::common_divisor;
+use std::cmp::Ordering;
 use std::marker::Model;
 
 /// A fraction in lowest terms, with a numerator of 64 signed bits and a denominator from 1 to 2^63 - 1.
@@ -25,12 +26,94 @@ impl Model for Ratio {
     ghost inverse = { λ f. record { numerator = f.numerator; denominator = f.denominator } };
 }
 
+/// A numerator, brought to a denominator that is so many times as great.
+fn widened(numerator: i64, times: u64) -> i128
+    requires { times < 2 ^ 63 }
+    ensures value { result ≡ numerator *ℤ pos times }
+    ensures bound { unsigned_abs result ≤ 2 ^ 63 * (2 ^ 63 - 1) }
+{
+    i128::from(numerator) * i128::from(times)
+}
+
 impl Ratio {
+    /// A whole number.
+    pub fn whole(value: i64) -> Ratio
+        ensures value { result ≡ record { numerator = value; denominator = 1 } }
+        ensures ratio { IsRatio result }
+    {
+        Ratio {
+            numerator: value,
+            denominator: 1,
+        }
+    }
+
+    /// The numerator in lowest terms.
+    pub fn numerator(self) -> i64
+        ensures value { result ≡ self.numerator }
+        ensures ratio { IsRatio self }
+    {
+        self.numerator
+    }
+
+    /// The denominator in lowest terms.
+    pub fn denominator(self) -> u64
+        ensures value { result ≡ self.denominator }
+        ensures ratio { IsRatio self }
+    {
+        self.denominator
+    }
+
+    /// The number with the other sign.
+    pub fn neg(self) -> Option<Ratio>
+        ensures value { IfSome result (IsRatioOf (neg_ℤ self.numerator) (pos self.denominator)) }
+        ensures nil { IfNone result (NoneStandsFor (neg_ℤ self.numerator) (pos self.denominator)) }
+    {
+        Ratio::of(-i128::from(self.numerator), u128::from(self.denominator))
+    }
+
+    /// Which of two numbers is less, exactly.
+    pub fn compare(self, other: Ratio) -> Ordering
+        ensures { Compares self other result }
+    {
+        let left = widened(self.numerator, other.denominator);
+        let right = widened(other.numerator, self.denominator);
+        left.cmp(&right)
+    }
+
+    /// The product.
+    pub fn mul(self, other: Ratio) -> Option<Ratio>
+        ensures value { IfSome result (IsRatioOf (self.numerator *ℤ other.numerator) (under self other)) }
+        ensures nil { IfNone result (NoneStandsFor (self.numerator *ℤ other.numerator) (under self other)) }
+    {
+        let up = i128::from(self.numerator) * i128::from(other.numerator);
+        Ratio::of(up, u128::from(self.denominator) * u128::from(other.denominator))
+    }
+
+    /// The sum.
+    pub fn add(self, other: Ratio) -> Option<Ratio>
+        ensures value { IfSome result (IsRatioOf (over_sum self other) (under self other)) }
+        ensures nil { IfNone result (NoneStandsFor (over_sum self other) (under self other)) }
+    {
+        let left = widened(self.numerator, other.denominator);
+        let right = widened(other.numerator, self.denominator);
+        Ratio::of(left + right, u128::from(self.denominator) * u128::from(other.denominator))
+    }
+
+    /// The difference.
+    pub fn sub(self, other: Ratio) -> Option<Ratio>
+        ensures value { IfSome result (IsRatioOf (over_difference self other) (under self other)) }
+        ensures nil { IfNone result (NoneStandsFor (over_difference self other) (under self other)) }
+    {
+        let left = widened(self.numerator, other.denominator);
+        let right = widened(other.numerator, self.denominator);
+        Ratio::of(left - right, u128::from(self.denominator) * u128::from(other.denominator))
+    }
+
     /// The quotient of two whole numbers, where it is within the bounds.
     fn of(numerator: i128, denominator: u128) -> Option<Ratio>
         requires above { 0 < denominator }
         requires below { denominator < 2 ^ 127 }
-        ensures value { IfSome result (λ r. IsRatio r × StandsFor numerator (pos denominator) r) }
+        ensures value { IfSome result (IsRatioOf numerator (pos denominator)) }
         ensures nil { IfNone result (NoneStandsFor numerator (pos denominator)) }
     {
         let common = common_divisor(numerator.unsigned_abs(), denominator);
