@@ -1,5 +1,5 @@
 -- Fractions of whole numbers, and which of them a ratio can hold.
-use Rattle.std.specs.Prelude.{◌≡◌, ℕ, ℤ, pos, ◌+ℤ◌, ◌-ℤ◌, ◌*ℤ◌, ◌<ℤ◌, ◌*◌, ◌<◌, ◌^◌, unsigned_abs, FitsSigned}
+use Rattle.std.specs.Prelude.{◌≡◌, ◌≢◌, ℕ, ℤ, pos, ◌+ℤ◌, ◌-ℤ◌, ◌*ℤ◌, ◌<ℤ◌, ◌*◌, ◌<◌, ◌^◌, unsigned_abs, FitsSigned}
 use Rattle.std.specs.Int.{w64, ◌∣◌}
 use Rattle.std.specs.Ordering.{MatchOrdering}
 use Rattle.std.specs.declared.cmp.Ordering.{Ordering}
@@ -30,6 +30,16 @@ IsRatioOf p q r = IsRatio r × StandsFor p q r
 -- no ratio equals p / q
 abbrev pub NoneStandsFor : ℤ → ℤ → Type 0
 NoneStandsFor p q = (r : Fraction) → IsRatio r → StandsFor p q r → ⊥
+
+abbrev pub whole_fraction : ℤ → Fraction
+whole_fraction n = record { numerator = n; denominator = 1 }
+
+abbrev pub IsWhole : Fraction → Type 0
+IsWhole r = r.denominator ≡ 1
+
+-- both are whole, and the second isn't 0
+abbrev pub HaveRemainder : Fraction → Fraction → Type 0
+HaveRemainder a b = IsWhole a × IsWhole b × (b.numerator ≢ pos 0)
 
 -- the product of the denominators, over which a sum and a difference have these numerators
 abbrev pub under : Fraction → Fraction → ℤ

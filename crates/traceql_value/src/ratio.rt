@@ -1,7 +1,8 @@
 //! Exact fractions.
 
-ghost use Rattle.std.specs.Prelude.{◌≡◌, ℤ, pos, ◌*ℤ◌, neg_ℤ, ◌<◌, ◌≤◌, ◌-◌, ◌*◌, ◌^◌, unsigned_abs, IfSome, IfNone};
-ghost use Rattle.traceql_value.specs.Fractions.{IsRatio, IsRatioOf, NoneStandsFor, Compares, under, over_sum, over_difference};
+ghost use Rattle.std.specs.Prelude.{◌≡◌, ◌≢◌, ℤ, pos, ◌*ℤ◌, neg_ℤ, ◌<◌, ◌≤◌, ◌-◌, ◌*◌, ◌^◌, unsigned_abs, int_rem, IfSome, IfNone, IsNone};
+ghost use Rattle.std.specs.Option.{SomeIff};
+ghost use Rattle.traceql_value.specs.Fractions.{IsRatio, IsRatioOf, NoneStandsFor, Compares, HaveRemainder, whole_fraction, under, over_sum, over_difference};
 
 use crate::divisor::common_divisor;
 use std::cmp::Ordering;
@@ -107,6 +108,45 @@ impl Ratio {
         let left = widened(self.numerator, other.denominator);
         let right = widened(other.numerator, self.denominator);
         Ratio::of(left - right, u128::from(self.denominator) * u128::from(other.denominator))
+    }
+
+    /// The quotient. There is none by 0.
+    pub fn div(self, other: Ratio) -> Option<Ratio>
+        ensures zero { other.numerator ≡ pos 0 → IsNone result }
+        ensures value { IfSome result (IsRatioOf (self.numerator *ℤ pos other.denominator) (other.numerator *ℤ pos self.denominator)) }
+        ensures nil { other.numerator ≢ pos 0 → IfNone result (NoneStandsFor (self.numerator *ℤ pos other.denominator) (other.numerator *ℤ pos self.denominator)) }
+    {
+        if other.numerator == 0 {
+            return None;
+        }
+        let up = widened(self.numerator, other.denominator);
+        let down = widened(other.numerator, self.denominator);
+        Ratio::quotient(up, down)
+    }
+
+    /// The remainder of whole numbers, with the sign of the first. There is none where one isn't whole, or by 0.
+    pub fn rem(self, other: Ratio) -> Option<Ratio>
+        ensures value { SomeIff result (HaveRemainder self other) (whole_fraction (int_rem self.numerator other.numerator)) }
+        ensures ratio { IfSome result IsRatio }
+    {
+        if self.denominator != 1 || other.denominator != 1 || other.numerator == 0 {
+            return None;
+        }
+        Some(Ratio::whole(self.numerator.wrapping_rem(other.numerator)))
+    }
+
+    /// The quotient of two whole numbers, of either sign, where it is within the bounds.
+    fn quotient(numerator: i128, denominator: i128) -> Option<Ratio>
+        requires some { denominator ≢ pos 0 }
+        requires above { unsigned_abs numerator < 2 ^ 127 }
+        requires below { unsigned_abs denominator < 2 ^ 127 }
+        ensures value { IfSome result (IsRatioOf numerator denominator) }
+        ensures nil { IfNone result (NoneStandsFor numerator denominator) }
+    {
+        if denominator < 0 {
+            return Ratio::of(-numerator, denominator.unsigned_abs());
+        }
+        Ratio::of(numerator, denominator.unsigned_abs())
     }
 
     /// The quotient of two whole numbers, where it is within the bounds.
