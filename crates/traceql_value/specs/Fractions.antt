@@ -1,6 +1,6 @@
 -- Fractions of whole numbers, and which of them a ratio can hold.
-use Rattle.std.specs.Prelude.{◌≡◌, ◌≢◌, ℕ, ℤ, pos, ◌+ℤ◌, ◌-ℤ◌, ◌*ℤ◌, ◌<ℤ◌, ◌*◌, ◌<◌, ◌^◌, unsigned_abs, FitsSigned}
-use Rattle.std.specs.Int.{w64, ◌∣◌}
+use Rattle.std.specs.Prelude.{◌≡◌, ◌≢◌, ℕ, ℤ, pos, ◌+ℤ◌, ◌-ℤ◌, ◌*ℤ◌, ◌<ℤ◌, ◌≤ℤ◌, ◌*◌, ◌<◌, ◌^◌, unsigned_abs, FitsSigned}
+use Rattle.std.specs.Int.{w64, ◌∣◌, int_pow}
 use Rattle.std.specs.Ordering.{MatchOrdering}
 use Rattle.std.specs.declared.cmp.Ordering.{Ordering}
 
@@ -40,6 +40,14 @@ IsWhole r = r.denominator ≡ 1
 -- both are whole, and the second isn't 0
 abbrev pub HaveRemainder : Fraction → Fraction → Type 0
 HaveRemainder a b = IsWhole a × IsWhole b × (b.numerator ≢ pos 0)
+
+-- both are whole, and the second isn't negative
+abbrev pub HavePower : Fraction → Fraction → Type 0
+HavePower a b = IsWhole a × IsWhole b × (pos 0 ≤ℤ b.numerator)
+
+-- the first, so many times multiplied by itself as the second says; the power 0 is 1
+abbrev pub power_of : Fraction → Fraction → ℤ
+power_of a b = int_pow a.numerator (unsigned_abs b.numerator)
 
 -- the product of the denominators, over which a sum and a difference have these numerators
 abbrev pub under : Fraction → Fraction → ℤ

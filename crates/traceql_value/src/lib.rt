@@ -5,7 +5,10 @@
 #![tactic(auto)]
 
 mod divisor;
+mod power;
 mod ratio;
 
 pub use ratio::Ratio;
 
+#[cfg(test)]
+mod tests;

@@ -1,10 +1,12 @@
 //! Exact fractions.
 
-ghost use Rattle.std.specs.Prelude.{◌≡◌, ◌≢◌, ℤ, pos, ◌*ℤ◌, neg_ℤ, ◌<◌, ◌≤◌, ◌-◌, ◌*◌, ◌^◌, unsigned_abs, int_rem, IfSome, IfNone, IsNone};
+ghost use Rattle.std.specs.Prelude.{◌≡◌, ◌≢◌, ℤ, pos, ◌*ℤ◌, neg_ℤ, ◌<◌, ◌≤◌, ◌-◌, ◌*◌, ◌^◌, unsigned_abs, int_rem, FitsSigned, IfSome, IfNone, IsNone};
+ghost use Rattle.std.specs.Int.{w64};
 ghost use Rattle.std.specs.Option.{SomeIff};
-ghost use Rattle.traceql_value.specs.Fractions.{IsRatio, IsRatioOf, NoneStandsFor, Compares, HaveRemainder, whole_fraction, under, over_sum, over_difference};
+ghost use Rattle.traceql_value.specs.Fractions.{IsRatio, IsRatioOf, NoneStandsFor, Compares, HaveRemainder, HavePower, power_of, whole_fraction, under, over_sum, over_difference};
 
 use crate::divisor::common_divisor;
+use crate::power::whole_power;
 use std::cmp::Ordering;
 use std::marker::Model;
 
@@ -133,6 +135,18 @@ impl Ratio {
             return None;
         }
         Some(Ratio::whole(self.numerator.wrapping_rem(other.numerator)))
+    }
+
+    /// The power of whole numbers; the power 0 is 1. There is none where one isn't whole, or of a negative exponent.
+    pub fn pow(self, other: Ratio) -> Option<Ratio>
+        ensures value { SomeIff result (HavePower self other × FitsSigned w64 (power_of self other)) (whole_fraction (power_of self other)) }
+        ensures ratio { IfSome result IsRatio }
+    {
+        if self.denominator != 1 || other.denominator != 1 || other.numerator < 0 {
+            return None;
+        }
+        let power = whole_power(self.numerator, other.numerator as u64)?;
+        Some(Ratio::whole(power))
     }
 
     /// The quotient of two whole numbers, of either sign, where it is within the bounds.
