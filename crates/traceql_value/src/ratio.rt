@@ -71,7 +71,11 @@ impl Ratio {
         ensures value { IfSome result (IsRatioOf (neg_ℤ self.numerator) (pos self.denominator)) }
         ensures nil { IfNone result (NoneStandsFor (neg_ℤ self.numerator) (pos self.denominator)) }
     {
-        Ratio::of(-i128::from(self.numerator), u128::from(self.denominator))
+        let numerator = self.numerator.checked_neg()?;
+        Some(Ratio {
+            numerator,
+            denominator: self.denominator,
+        })
     }
 
     /// Which of two numbers is less, exactly.
