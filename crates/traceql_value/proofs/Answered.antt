@@ -1,5 +1,5 @@
 -- The same answer for equal numbers.
-use Rattle.std.proofs.Common.{◌≡◌, ℤ, Option, Some, None, subst, IfNone}
+use Rattle.std.proofs.Common.{◌≡◌, ℤ, Option, subst, IfNone}
 use Rattle.traceql_value.specs.Fractions.{Fraction, NoneStandsFor}
 
 pub IfNone-along : (o : Option Fraction) (p p' q q' : ℤ) → p ≡ p' → q ≡ q' → IfNone o (NoneStandsFor p q) → IfNone o (NoneStandsFor p' q')

@@ -2,7 +2,7 @@
 use Rattle.std.proofs.Common.{◌≡◌, ℕ, zero, suc, ◌+◌, ◌*◌, ◌/◌, ◌%◌, ◌<◌, sym, subst, arith, ◌∙◌, ap}
 use Rattle.std.proofs.Math.Nat.{mul_comm, mul_assoc}
 use Rattle.std.specs.Int.{◌∣◌, IsGcd}
-use Rattle.std.proofs.lemmas.Nat.Gcd.{dvd_refl, dvd-zero, dvd_trans, dvd_antisymm, le_of_dvd}
+use Rattle.std.proofs.lemmas.Nat.Gcd.{dvd_refl, dvd-zero, dvd_antisymm}
 use native.Mathlib.Nat.{dvd-mod_iff, dvd-add_iff_right, dvd-mul_left, dvd-mul_right, dvd-mul_right_of_dvd, eq_of_mul-eq-mul_right, dvd_of_mul-dvd-mul_right, mul-dvd-mul, div-mul_cancel, div-add-mod, add-mul, eq-one_of_dvd-one}
 use Rattle.traceql_value.specs.Fractions.{AreCoprime}
 
@@ -25,7 +25,7 @@ shared (suc n) a (suc b) c d lt h p q =
     let small : a % suc b < n = omega arith in
     let whole : d ∣ suc b * c * (a / suc b) + a % suc b * c = rw (parts a (suc b) c) p in
     shared n (suc b) (a % suc b) c d small (AreCoprime-step a (suc b) h) q
-      ((dvd-add_iff_right d (dvd-mul_right_of_dvd d q (a / suc b))).1 whole)
+    ((dvd-add_iff_right d (dvd-mul_right_of_dvd d q (a / suc b))).1 whole)
 
 -- what divides a product and shares nothing with one factor divides the other
 pub divides_other : (a b c : ℕ) → AreCoprime a b → a ∣ b * c → a ∣ c

@@ -1,8 +1,8 @@
 -- Products of signed numbers.
-use Rattle.std.proofs.Common.{◌≡◌, ℕ, ℤ, pos, negsuc, zero, suc, ◌+◌, ◌*◌, ◌<◌, sym, ap, arith, ◌∙◌, refl}
-use Rattle.std.specs.Prelude.{◌*ℤ◌, neg_ℤ, unsigned_abs}
+use Rattle.std.proofs.Common.{◌≡◌, ℕ, ℤ, pos, negsuc, zero, suc, ◌*◌, ◌<◌, sym, ap, arith, ◌∙◌, refl}
+use Rattle.std.specs.Prelude.{◌*ℤ◌, neg_ℤ}
 use Rattle.std.proofs.lemmas.Int.{ints}
-use Rattle.std.proofs.Math.Nat.{mul_comm, mul_assoc}
+use Rattle.std.proofs.Math.Nat.{mul_assoc}
 use lib.IntN.{neg_ℤ-neg_ℤ}
 use native.Mathlib.Nat.{mul-pos, eq_of_mul-eq-mul_right}
 

@@ -5,9 +5,11 @@
 #![tactic(auto)]
 
 mod divisor;
+mod laws;
 mod power;
 mod ratio;
 
+pub use laws::one_ratio;
 pub use ratio::Ratio;
 
 #[cfg(test)]

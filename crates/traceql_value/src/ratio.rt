@@ -66,7 +66,7 @@ impl Ratio {
         self.denominator
     }
 
-    /// The number with the other sign.
+    /// The number with the other sign. `None` where that is outside of the bounds.
     pub fn neg(self) -> Option<Ratio>
         ensures value { IfSome result (IsRatioOf (neg_ℤ self.numerator) (pos self.denominator)) }
         ensures nil { IfNone result (NoneStandsFor (neg_ℤ self.numerator) (pos self.denominator)) }
@@ -87,36 +87,45 @@ impl Ratio {
         left.cmp(&right)
     }
 
-    /// The product.
+    /// The product. `None` where it is outside of the bounds.
     pub fn mul(self, other: Ratio) -> Option<Ratio>
         ensures value { IfSome result (IsRatioOf (self.numerator *ℤ other.numerator) (under self other)) }
         ensures nil { IfNone result (NoneStandsFor (self.numerator *ℤ other.numerator) (under self other)) }
     {
         let up = i128::from(self.numerator) * i128::from(other.numerator);
-        Ratio::of(up, u128::from(self.denominator) * u128::from(other.denominator))
+        Ratio::of(
+            up,
+            u128::from(self.denominator) * u128::from(other.denominator),
+        )
     }
 
-    /// The sum.
+    /// The sum. `None` where it is outside of the bounds.
     pub fn add(self, other: Ratio) -> Option<Ratio>
         ensures value { IfSome result (IsRatioOf (over_sum self other) (under self other)) }
         ensures nil { IfNone result (NoneStandsFor (over_sum self other) (under self other)) }
     {
         let left = widened(self.numerator, other.denominator);
         let right = widened(other.numerator, self.denominator);
-        Ratio::of(left + right, u128::from(self.denominator) * u128::from(other.denominator))
+        Ratio::of(
+            left + right,
+            u128::from(self.denominator) * u128::from(other.denominator),
+        )
     }
 
-    /// The difference.
+    /// The difference. `None` where it is outside of the bounds.
     pub fn sub(self, other: Ratio) -> Option<Ratio>
         ensures value { IfSome result (IsRatioOf (over_difference self other) (under self other)) }
         ensures nil { IfNone result (NoneStandsFor (over_difference self other) (under self other)) }
     {
         let left = widened(self.numerator, other.denominator);
         let right = widened(other.numerator, self.denominator);
-        Ratio::of(left - right, u128::from(self.denominator) * u128::from(other.denominator))
+        Ratio::of(
+            left - right,
+            u128::from(self.denominator) * u128::from(other.denominator),
+        )
     }
 
-    /// The quotient. There is none by 0.
+    /// The quotient. `None` where it is outside of the bounds, or the other number is 0.
     pub fn div(self, other: Ratio) -> Option<Ratio>
         ensures zero { other.numerator ≡ pos 0 → IsNone result }
         ensures value { IfSome result (IsRatioOf (self.numerator *ℤ pos other.denominator) (other.numerator *ℤ pos self.denominator)) }
@@ -130,7 +139,7 @@ impl Ratio {
         Ratio::quotient(up, down)
     }
 
-    /// The remainder of whole numbers, with the sign of the first. There is none where one isn't whole, or by 0.
+    /// The remainder of whole numbers, with the sign of the first. `None` where one isn't whole, or the other is 0.
     pub fn rem(self, other: Ratio) -> Option<Ratio>
         ensures value { SomeIff result (HaveRemainder self other) (whole_fraction (int_rem self.numerator other.numerator)) }
         ensures ratio { IfSome result IsRatio }
@@ -141,7 +150,8 @@ impl Ratio {
         Some(Ratio::whole(self.numerator.wrapping_rem(other.numerator)))
     }
 
-    /// The power of whole numbers; the power 0 is 1. There is none where one isn't whole, or of a negative exponent.
+    /// The power of whole numbers; the power 0 is 1. `None` where one isn't whole, where the exponent is negative, or where
+    /// the power is outside of the bounds.
     pub fn pow(self, other: Ratio) -> Option<Ratio>
         ensures value { SomeIff result (HavePower self other × FitsSigned w64 (power_of self other)) (whole_fraction (power_of self other)) }
         ensures ratio { IfSome result IsRatio }

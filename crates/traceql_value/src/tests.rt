@@ -5,6 +5,7 @@ use std::cmp::Ordering;
 use std::test::Fail;
 
 const LEAST: i64 = i64::MIN;
+
 const GREATEST: i64 = i64::MAX;
 
 /// Two numbers with an operator between them, and the result in lowest terms.

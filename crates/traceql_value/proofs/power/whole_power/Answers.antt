@@ -2,8 +2,8 @@ use Rattle.std.proofs.Common.{◌≡◌, ◌≢◌, ℕ, zero, suc, ◌*◌, ◌
 use Rattle.std.proofs.lemmas.Bool.{ne_eqb}
 use Rattle.std.specs.Prelude.{neg_ℤ, ◌==◌, Bool, true, false}
 use Rattle.std.specs.Int.{int_pow}
-use Rattle.std.proofs.lemmas.Int.{ints, to_z-of_z}
-use native.Mathlib.Nat.{pow-le-pow_left, pow-le-pow_right, pow-suc, pow-zero}
+use Rattle.std.proofs.lemmas.Int.{to_z-of_z}
+use native.Mathlib.Nat.{pow-le-pow_left, pow-le-pow_right, pow-suc}
 use Rattle.traceql_value.proofs.power.whole_power.Goals as goal
 use Rattle.traceql_value.proofs.power.whole_power.Goals.{then-base-eq0-via-then-base-eq0, then-base-eq0-via-else-base-eq0+then-base-eq1}
 
@@ -57,25 +57,25 @@ pub returns-then-base-eq0 : goal.returns-then-base-eq0
 returns-then-base-eq0 c =
     let up : 0 < c.args.exponent = omega (arith, c.in_default.ensures) in
     kept c.args.base c.args.exponent c.ranges.base up
-      (elim c.then-base-eq0.branch [
-        then-base-eq0-via-then-base-eq0 w ↦ inl (from_bits c.args.base 0 c.ranges.base w.if-base-eq0.true)
-        | then-base-eq0-via-else-base-eq0+then-base-eq1 w ↦ inr (from_bits c.args.base 1 c.ranges.base w.if-base-eq1.true)
-      ])
+    (elim c.then-base-eq0.branch [
+      | then-base-eq0-via-then-base-eq0 w ↦ inl (from_bits c.args.base 0 c.ranges.base w.if-base-eq0.true)
+      | then-base-eq0-via-else-base-eq0+then-base-eq1 w ↦ inr (from_bits c.args.base 1 c.ranges.base w.if-base-eq1.true)
+    ])
 
 pub returns-then-exponent-eq0 : goal.returns-then-exponent-eq0
 returns-then-exponent-eq0 c =
     let is : int_pow c.args.base c.args.exponent ≡ pos 1 =
-        ap (λ z. int_pow z c.args.exponent) (from_bits c.args.base 18446744073709551615 c.ranges.base c.if-base-eqminus1.true) ∙ turned c.args.exponent true (eq-eqb (c.args.exponent % 2) 0 c.if-exponent-eq0.true) in
+    ap (λ z. int_pow z c.args.exponent) (from_bits c.args.base 18446744073709551615 c.ranges.base c.if-base-eqminus1.true) ∙ turned c.args.exponent true (eq-eqb (c.args.exponent % 2) 0 c.if-exponent-eq0.true) in
     (subst (FitsSigned w64) (sym is) fits_one, sym is)
 
 pub returns-else-exponent-eq0 : goal.returns-else-exponent-eq0
 returns-else-exponent-eq0 c =
     let is : int_pow c.args.base c.args.exponent ≡ negsuc 0 =
-        ap (λ z. int_pow z c.args.exponent) (from_bits c.args.base 18446744073709551615 c.ranges.base c.if-base-eqminus1.true) ∙ turned c.args.exponent false (ne_eqb (c.args.exponent % 2) 0 c.if-exponent-eq0.false) in
+    ap (λ z. int_pow z c.args.exponent) (from_bits c.args.base 18446744073709551615 c.ranges.base c.if-base-eqminus1.true) ∙ turned c.args.exponent false (ne_eqb (c.args.exponent % 2) 0 c.if-exponent-eq0.false) in
     (subst (FitsSigned w64) (sym is) fits_minus_one, sym is)
 
 pub returns : goal.returns
 returns c =
     let far : 64 ≤ c.args.exponent = omega (arith, c.in_default.ensures) in
     beyond c.args.base c.args.exponent far
-      (λ e. c.if-base-eq0.false (ap (of_z w64) e)) (λ e. c.if-base-eq1.false (ap (of_z w64) e)) (λ e. c.if-base-eqminus1.false (ap (of_z w64) e))
+    (λ e. c.if-base-eq0.false (ap (of_z w64) e)) (λ e. c.if-base-eq1.false (ap (of_z w64) e)) (λ e. c.if-base-eqminus1.false (ap (of_z w64) e))

@@ -1,13 +1,9 @@
-use Rattle.std.proofs.Common.{◌≡◌, ℕ, ℤ, pos, negsuc, zero, suc, w64, FitsSigned, to_z, of_z, sym, subst, ap, ◌∙◌, refl, arith, rules}
-use Rattle.std.specs.Prelude.{neg_ℤ, unsigned_abs, ◌*ℤ◌, ◌*◌, IfNone}
+use Rattle.std.proofs.Common.{◌≡◌, ℕ, ℤ, pos, negsuc, zero, suc, w64, FitsSigned, to_z, of_z, sym, subst, ap, ◌∙◌, refl}
+use Rattle.std.specs.Prelude.{neg_ℤ, unsigned_abs, ◌*ℤ◌}
 use Rattle.std.proofs.lemmas.Int.{to_z-of_z}
-use Rattle.traceql_value.specs.Fractions.{Fraction, IsRatio, StandsFor, NoneStandsFor, AreCoprime}
-use Rattle.traceql_value.proofs.Reduced.{Reduces, Reduces-alone}
+use Rattle.traceql_value.specs.Fractions.{Fraction, IsRatio, NoneStandsFor, AreCoprime}
+use Rattle.traceql_value.proofs.Reduced.{Reduces-self, Reduces-alone}
 use Rattle.traceql_value.proofs.ratio.Ratio.neg.Goals as goal
-
-times_one : (z : ℤ) → z *ℤ pos 1 ≡ z
-times_one (pos a) = let e : a * 1 ≡ a = omega arith in ap pos e
-times_one (negsuc a) = let e : suc a * 1 ≡ suc a = omega arith in ap (λ n. neg_ℤ (pos n)) e
 
 size : (z : ℤ) → unsigned_abs (neg_ℤ z) ≡ unsigned_abs z
 size (pos zero) = refl
@@ -25,14 +21,7 @@ other_sign z y d is fits e = record {
 -- a number that is in lowest terms is so with the other sign
 alone : (z : ℤ) (d : ℕ) → IsRatio (record { numerator = z; denominator = d }) → (FitsSigned w64 (neg_ℤ z) → ⊥) → NoneStandsFor (neg_ℤ z) (pos d)
 alone z d is out = λ r h e.
-    let one : Reduces (neg_ℤ z) d (neg_ℤ z) d = record {
-      common = 1;
-      some = omega arith;
-      upper = times_one (neg_ℤ z);
-      lower = omega arith;
-      lowest = subst (λ n. AreCoprime n d) (sym (size z)) is.lowest;
-      above = is.above;
-    } in
+    let one = Reduces-self (neg_ℤ z) d is.above (subst (λ n. AreCoprime n d) (sym (size z)) is.lowest) in
     let same = Reduces-alone (neg_ℤ z) d (neg_ℤ z) d one r h e in
     out (subst (FitsSigned w64) same.0 h.signed)
 
@@ -48,20 +37,21 @@ written z f g = subst (λ x. FitsSigned w64 (neg_ℤ x)) (sym (to_z-of_z w64 z f
 pub returns-in_err-numerator-clause-nil : goal.returns-in_err-numerator-clause-nil
 returns-in_err-numerator-clause-nil c =
     let none = alone c.self.inside.numerator c.self.inside.denominator c.self.invariant
-        (λ f. c.in_err-numerator.ensures (written c.self.inside.numerator c.self.invariant.signed f)) in
+    (λ f. c.in_err-numerator.ensures (written c.self.inside.numerator c.self.invariant.signed f)) in
     rw c.from_residual.ensures (subst (λ (f : Fraction). NoneStandsFor (neg_ℤ f.numerator) (pos f.denominator)) c.self.view_is none)
 
 pub invariant_of-result : goal.invariant_of-result
 invariant_of-result c =
     let h = c.in_ok-numerator.ensures in
     other_sign c.self.inside.numerator _ c.self.inside.denominator c.self.invariant
-      (read c.self.inside.numerator c.self.invariant.signed h.0)
-      (code c.self.inside.numerator c.in_ok-numerator.numerator c.self.invariant.signed h.0 h.1)
+    (read c.self.inside.numerator c.self.invariant.signed h.0)
+    (code c.self.inside.numerator c.in_ok-numerator.numerator c.self.invariant.signed h.0 h.1)
 
 pub returns-clause-value : goal.returns-clause-value
 returns-clause-value c =
     let h = c.in_ok-numerator.ensures in
-    let is = code c.self.inside.numerator c.in_ok-numerator.numerator c.self.invariant.signed h.0 h.1 in
-    (other_sign c.self.inside.numerator _ c.self.inside.denominator c.self.invariant (read c.self.inside.numerator c.self.invariant.signed h.0) is,
-     subst (λ (f : Fraction). to_z w64 (of_z w64 c.in_ok-numerator.numerator) *ℤ pos f.denominator ≡ neg_ℤ f.numerator *ℤ pos c.self.inside.denominator)
-       c.self.view_is (ap (λ z. z *ℤ pos c.self.inside.denominator) is))
+    let is = code c.self.inside.numerator c.in_ok-numerator.numerator c.self.invariant.signed h.0 h.1 in (
+      other_sign c.self.inside.numerator _ c.self.inside.denominator c.self.invariant (read c.self.inside.numerator c.self.invariant.signed h.0) is,
+      subst (λ (f : Fraction). to_z w64 (of_z w64 c.in_ok-numerator.numerator) *ℤ pos f.denominator ≡ neg_ℤ f.numerator *ℤ pos c.self.inside.denominator)
+          c.self.view_is (ap (λ z. z *ℤ pos c.self.inside.denominator) is),
+    )

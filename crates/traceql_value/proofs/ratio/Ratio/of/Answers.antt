@@ -1,10 +1,10 @@
 use Rattle.std.proofs.Common.{zero, suc, ℤ, pos, ◌<◌, ◌^◌, ◌≡◌, ℕ, ◌*◌, ◌≤◌, ◌/◌, w64, FitsSigned, to_z, of_z, arith, ap, sym, subst, ◌∙◌}
 use Rattle.std.specs.Prelude.{unsigned_abs, int_div, ◌<ℤ◌}
-use Rattle.std.specs.Int.{w128, IsGcd, ◌∣◌}
+use Rattle.std.specs.Int.{w128, IsGcd}
 use Rattle.std.proofs.lemmas.Int.{ints, to_z-of_z, to_z_pos, quot_fits}
 use Rattle.std.proofs.lemmas.Nat.Gcd.{le_of_dvd}
 use native.Mathlib.Nat.{pos_of_dvd_of_pos}
-use Rattle.traceql_value.specs.Fractions.{Fraction, IsRatio, StandsFor}
+use Rattle.traceql_value.specs.Fractions.{IsRatio}
 use Rattle.traceql_value.proofs.Reduced.{Reduces, Reduces-from_gcd, Reduces-stands, Reduces-alone}
 use Rattle.traceql_value.proofs.ratio.Ratio.of.Goals as goal
 
@@ -75,7 +75,7 @@ invariant_of-result c =
     let is = code _ _ c.ranges.numerator up small in
     let fits : FitsSigned w64 (int_div c.args.numerator (pos c.common_divisor-common.result)) = subst (FitsSigned w64) is c.in-Ok.ensures.0 in
     let same : to_z w64 (of_z w64 c.in-Ok.up) ≡ int_div c.args.numerator (pos c.common_divisor-common.result) =
-        ap (λ z. to_z w64 (of_z w64 z)) (c.in-Ok.ensures.1 ∙ is) ∙ to_z-of_z w64 (int_div c.args.numerator (pos c.common_divisor-common.result)) fits in
+    ap (λ z. to_z w64 (of_z w64 z)) (c.in-Ok.ensures.1 ∙ is) ∙ to_z-of_z w64 (int_div c.args.numerator (pos c.common_divisor-common.result)) fits in
     rw same (ratio_of _ _ _ _ h fits c.if-down.false)
 
 pub returns-clause-value : goal.returns-clause-value
@@ -86,5 +86,5 @@ returns-clause-value c =
     let is = code _ _ c.ranges.numerator up small in
     let fits : FitsSigned w64 (int_div c.args.numerator (pos c.common_divisor-common.result)) = subst (FitsSigned w64) is c.in-Ok.ensures.0 in
     let same : to_z w64 (of_z w64 c.in-Ok.up) ≡ int_div c.args.numerator (pos c.common_divisor-common.result) =
-        ap (λ z. to_z w64 (of_z w64 z)) (c.in-Ok.ensures.1 ∙ is) ∙ to_z-of_z w64 (int_div c.args.numerator (pos c.common_divisor-common.result)) fits in
+    ap (λ z. to_z w64 (of_z w64 z)) (c.in-Ok.ensures.1 ∙ is) ∙ to_z-of_z w64 (int_div c.args.numerator (pos c.common_divisor-common.result)) fits in
     rw same (ratio_of _ _ _ _ h fits c.if-down.false, Reduces-stands _ _ _ _ h)

@@ -1,4 +1,4 @@
-use Rattle.std.proofs.Common.{ℤ, ◌≡◌, w64, FitsSigned, to_z, of_z, sym, subst, arith}
+use Rattle.std.proofs.Common.{ℤ, ◌≡◌, w64, FitsSigned, sym, subst, arith}
 use Rattle.std.proofs.lemmas.Int.{to_z-of_z}
 use native.Mathlib.Nat.{eq-one_of_dvd-one}
 use Rattle.traceql_value.specs.Fractions.{IsRatio}
