@@ -1,0 +1,7 @@
+-- The same answer for equal numbers.
+use Rattle.std.proofs.Common.{◌≡◌, ℤ, Option, subst, IfNone}
+use Rattle.traceql_value.specs.Fractions.{Fraction, NoneStandsFor}
+
+pub IfNone-along : (o : Option Fraction) (p p' q q' : ℤ) → p ≡ p' → q ≡ q' → IfNone o (NoneStandsFor p q) → IfNone o (NoneStandsFor p' q')
+IfNone-along o p p' q q' e f h =
+    subst (λ z. IfNone o (NoneStandsFor z q')) e (subst (λ z. IfNone o (NoneStandsFor p z)) f h)

@@ -1,0 +1,4 @@
+pub mod Divisors
+pub mod Products
+pub mod Reduced
+pub mod Answered

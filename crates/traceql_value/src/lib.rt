@@ -1,0 +1,16 @@
+//! The values that TraceQL's field expressions have.
+//!
+//! Numbers are exact fractions: a [`Ratio`] has a numerator of 64 signed bits and a denominator from 1 to 2^63 - 1, in
+//! lowest terms. A result outside of these bounds is no value. No call takes memory.
+#![tactic(auto)]
+
+mod divisor;
+mod laws;
+mod power;
+mod ratio;
+
+pub use laws::one_ratio;
+pub use ratio::Ratio;
+
+#[cfg(test)]
+mod tests;
