@@ -1,6 +1,6 @@
 //! Kinds and patterns of a query at once.
 
-ghost use Rattle.std.specs.Prelude.{◌≡◌, ℕ, ◌≤◌, List, [], ◌∷◌, ◌++◌, Option, IfOk, IfErr, IsTrue, ◌↔◌, IsSomeAnd};
+ghost use Rattle.std.specs.Prelude.{◌≡◌, ℕ, ◌≤◌, List, [], ◌∷◌, ◌++◌, Option, None, IfOk, IfErr, IsTrue, ◌↔◌, IsSomeAnd};
 ghost use Rattle.span_types.specs.Faults.{Rose};
 ghost use Rattle.traceql_syntax.specs.Trees.{query_tree};
 ghost use Rattle.traceql_types.specs.Asked.{asked_patterns};
@@ -52,6 +52,8 @@ fn make_next<P: PatternMaker>(
         Stands kinds done (Rose before (P.refusals maker.old)) first made.old.items →
         Stands kinds (done ++ shown asked.entry ∷ []) (Rose before (P.refusals maker.new)) now made.new.items) }
     ensures counted { P.refusals maker.old ≤ P.refusals maker.new }
+    ensures none_before { IfOk result (λ now. now ≡ None → first ≡ None) }
+    ensures unrefused { IfOk result (λ now. now ≡ None → P.refusals maker.new ≡ P.refusals maker.old) }
 {
     if goes_before(first, asked.at) {
         return Ok(first);
@@ -79,6 +81,7 @@ fn make_all<P: PatternMaker>(
     ensures first { IfErr result (GoesFirst (query_tree query.now)) }
     ensures after_made { IfErr result (ComesAfterMade (query_tree query.now)) }
     ensures counted { P.refusals maker.old ≤ P.refusals maker.new }
+    ensures unrefused { IfOk result (λ patterns. P.refusals maker.new ≡ P.refusals maker.old) }
 {
     let asked = patterns_of(alloc, query)?;
     let mut first = query_refusal(query);
@@ -106,6 +109,7 @@ pub fn check<P: PatternMaker>(
     ensures first { IfErr result (GoesFirst (query_tree query)) }
     ensures after_made { IfErr result (ComesAfterMade (query_tree query)) }
     ensures counted { P.refusals maker.old ≤ P.refusals maker.new }
+    ensures unrefused { IfOk result (λ c. P.refusals maker.new ≡ P.refusals maker.old) }
 {
     let patterns = make_all(alloc, &query, maker)?;
     Ok(Checked { query, patterns })

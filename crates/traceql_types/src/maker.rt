@@ -24,7 +24,8 @@ pub trait PatternMaker {
         ensures shows { IfOk result (λ p. pattern_text p ≡ text.now) }
         ensures syntax { IsErrOf result MakeError.Syntax → IsNoPattern text.now }
         ensures refused { IsErrOf result MakeError.Refused → Rose (refusals self.old) (refusals self.new) }
-        ensures counted { refusals self.old ≤ refusals self.new };
+        ensures counted { refusals self.old ≤ refusals self.new }
+        ensures steady { IfOk result (λ p. refusals self.new ≡ refusals self.old) };
 }
 
 // The cause of a refusal by the parser of patterns.
@@ -144,6 +145,7 @@ impl PatternMaker for RegexMaker {
         ensures syntax { IsErrOf result MakeError.Syntax → IsNoPattern text.now }
         ensures refused { IsErrOf result MakeError.Refused → Rose self.old self.new }
         ensures counted { self.old ≤ self.new }
+        ensures steady { IfOk result (λ p. self.new ≡ self.old) }
         ensures too_big { IsErrOf result MakeError.Refused → IsReadable (whole_text text.now) }
         ensures count { self.new ≡ count_after self.old result }
     {
@@ -200,6 +202,7 @@ impl PatternMaker for ScriptedMaker {
         ensures syntax { IsErrOf result MakeError.Syntax → IsNoPattern text.now }
         ensures refused { IsErrOf result MakeError.Refused → Rose self.old.refusals self.new.refusals }
         ensures counted { self.old.refusals ≤ self.new.refusals }
+        ensures steady { IfOk result (λ p. self.new.refusals ≡ self.old.refusals) }
         ensures listed { Contains self.old.refused (counted_up self.old.calls) → IsErrOf result MakeError.Refused }
         ensures handed_on { IsErrOf result MakeError.Refused → Contains self.old.refused (counted_up self.old.calls) ⊎ IsReadable (whole_text text.now) }
         ensures count { self.new.refusals ≡ count_after self.old.refusals result }
