@@ -1,7 +1,7 @@
 -- How the making of patterns goes on.
-use Rattle.std.proofs.Common.{◌≡◌, ℕ, ◌<◌, ◌≤◌, ◌⊎◌, inl, inr, List, [], ◌∷◌, ◌++◌, length, take, map, Option, Some, None, refl, sym, ap, ◌∙◌, rules, arith}
+use Rattle.std.proofs.Common.{◌≡◌, ℕ, ◌+◌, ◌-◌, ◌^◌, ◌<◌, ◌≤◌, min, ◌⊎◌, inl, inr, List, [], ◌∷◌, ◌++◌, length, take, map, Option, Some, None, refl, sym, ap, ◌∙◌, rules, arith}
 use Rattle.std.specs.Prelude.{All, Contains, IfSome, IsSomeAnd}
-use Rattle.std.proofs.lemmas.List.{map-append, take_all}
+use Rattle.std.proofs.lemmas.List.{map-append, length-append, take_all}
 use Rattle.std.proofs.lemmas.List.Elements.{All-weaker, All-cons, All-nil, All-push, All-contains, Contains-append_left, Contains-append_right}
 use Rattle.span_types.specs.Faults.{Rose}
 use Rattle.traceql_syntax.specs.Trees.{QueryTree}
@@ -12,6 +12,7 @@ use Rattle.traceql_types.specs.declared.asked.Asked.{Asked}
 use Rattle.traceql_types.specs.Shown.{shown}
 use Rattle.traceql_types.specs.Asked.{PlacedText, asked_patterns}
 use Rattle.traceql_types.specs.Checks.{AreMade, IsMade, HasCause, GoesFirst, ComesAfterMade, IsFound, of_kinds, no_pattern, refused, Found, Stands}
+use Rattle.traceql_types.specs.Makers.{Called}
 use Rattle.traceql_types.specs.Order.{place, number, Precedes, IsFirstOf}
 use Rattle.traceql_types.specs.Patterns.{pattern_text}
 use Rattle.traceql_types.specs.Refusals.{kind_refusals}
@@ -145,6 +146,19 @@ rose_up before a b up h = omega arith
 -- a count that rose after it stood higher
 pub rose_since : (before a b : ℕ) → before ≤ a → Rose a b → Rose before b
 rose_since before a b up h = grind arith
+
+-- one call more
+called-sum : (n a b c : ℕ) → Called n a b → Called 1 b c → Called (n + 1) a c
+called-sum n a b c h k = (low h.0 k.0, high h.1 k.1)
+  where
+    low : min (a + n) (2 ^ 64 - 1) ≤ b → min (b + 1) (2 ^ 64 - 1) ≤ c → min (a + (n + 1)) (2 ^ 64 - 1) ≤ c
+    low x y = grind arith
+
+    high : b ≤ a + n → c ≤ b + 1 → c ≤ a + (n + 1)
+    high x y = omega arith
+
+pub called-more : (done : List PlacedText) (m : PlacedText) (a b c : ℕ) → Called (length done) a b → Called 1 b c → Called (length (done ++ m ∷ [])) a c
+called-more done m a b c h k = rw (length-append done (m ∷ [])) (called-sum (length done) a b c h k)
 
 -- after the last pattern, with no refusal
 pub fits-at_end : (q : QueryTree) (kinds : Option TypeError) (done : List PlacedText) (rose : Type 0) (made : List Pattern) →

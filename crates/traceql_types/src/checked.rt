@@ -1,12 +1,13 @@
 //! Kinds and patterns of a query at once.
 
-ghost use Rattle.std.specs.Prelude.{◌≡◌, ℕ, ◌≤◌, List, [], ◌∷◌, ◌++◌, Option, IfOk, IfErr, IsTrue, ◌↔◌, IsSomeAnd};
+ghost use Rattle.std.specs.Prelude.{◌≡◌, ℕ, ◌≤◌, List, [], ◌∷◌, ◌++◌, Option, None, IfOk, IfErr, IsTrue, ◌↔◌, IsSomeAnd, length};
 ghost use Rattle.span_types.specs.Faults.{Rose};
 ghost use Rattle.traceql_syntax.specs.Trees.{query_tree};
 ghost use Rattle.traceql_types.specs.Asked.{asked_patterns};
 ghost use Rattle.traceql_types.specs.declared.errors.TypeError.{TypeError as Refusal};
 ghost use Rattle.traceql_types.specs.Asked.{PlacedText};
 ghost use Rattle.traceql_types.specs.Checks.{HasCause, GoesFirst, ComesAfterMade, AreMade, Stands};
+ghost use Rattle.traceql_types.specs.Makers.{Called};
 ghost use Rattle.traceql_types.specs.Order.{Precedes};
 ghost use Rattle.traceql_types.specs.Shown.{shown};
 ghost use Rattle.traceql_types.specs.Refusals.{kind_refusals};
@@ -52,6 +53,9 @@ fn make_next<P: PatternMaker>(
         Stands kinds done (Rose before (P.refusals maker.old)) first made.old.items →
         Stands kinds (done ++ shown asked.entry ∷ []) (Rose before (P.refusals maker.new)) now made.new.items) }
     ensures counted { P.refusals maker.old ≤ P.refusals maker.new }
+    ensures none_before { IfOk result (λ now. now ≡ None → first ≡ None) }
+    ensures unrefused { IfOk result (λ now. now ≡ None → P.refusals maker.new ≡ P.refusals maker.old) }
+    ensures asked { IfOk result (λ now. now ≡ None → Called 1 (P.calls maker.old) (P.calls maker.new)) }
 {
     if goes_before(first, asked.at) {
         return Ok(first);
@@ -79,6 +83,8 @@ fn make_all<P: PatternMaker>(
     ensures first { IfErr result (GoesFirst (query_tree query.now)) }
     ensures after_made { IfErr result (ComesAfterMade (query_tree query.now)) }
     ensures counted { P.refusals maker.old ≤ P.refusals maker.new }
+    ensures unrefused { IfOk result (λ patterns. P.refusals maker.new ≡ P.refusals maker.old) }
+    ensures asked { IfOk result (λ patterns. Called (length (asked_patterns (query_tree query.now))) (P.calls maker.old) (P.calls maker.new)) }
 {
     let asked = patterns_of(alloc, query)?;
     let mut first = query_refusal(query);
@@ -93,7 +99,8 @@ fn make_all<P: PatternMaker>(
 }
 
 /// Tests the kinds of a query and makes its patterns. Of several refusals the one of the earliest place is given,
-/// whether it is for kinds or for a pattern. A pattern is asked for only where no refusal goes before one of it.
+/// whether it is for kinds or for a pattern. Where all is made, the maker was called once for each pattern, and it
+/// refused none. That a pattern isn't asked for where a refusal goes before one of it is tested, and no clause says it.
 pub fn check<P: PatternMaker>(
     alloc: Global,
     query: Query,
@@ -106,6 +113,8 @@ pub fn check<P: PatternMaker>(
     ensures first { IfErr result (GoesFirst (query_tree query)) }
     ensures after_made { IfErr result (ComesAfterMade (query_tree query)) }
     ensures counted { P.refusals maker.old ≤ P.refusals maker.new }
+    ensures unrefused { IfOk result (λ c. P.refusals maker.new ≡ P.refusals maker.old) }
+    ensures asked { IfOk result (λ c. Called (length (asked_patterns (query_tree query))) (P.calls maker.old) (P.calls maker.new)) }
 {
     let patterns = make_all(alloc, &query, maker)?;
     Ok(Checked { query, patterns })
