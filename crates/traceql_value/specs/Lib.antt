@@ -1,1 +1,5 @@
+pub mod Arithmetic
 pub mod Fractions
+pub mod Meaning
+pub mod Spans
+pub mod Values

@@ -8,9 +8,11 @@ mod divisor;
 mod laws;
 mod power;
 mod ratio;
+mod value;
 
 pub use laws::one_ratio;
 pub use ratio::Ratio;
+pub use value::{Value, Values};
 
 #[cfg(test)]
 mod tests;

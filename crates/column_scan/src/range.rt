@@ -1,0 +1,25 @@
+//! Ranges of moments.
+
+ghost use Rattle.std.specs.Prelude.{◌≡◌};
+ghost use Rattle.column_scan.specs.Ranges.{is_within};
+
+/// The moments from one on, and before another where there is one. Moments are nanoseconds since 1970.
+#[derive(Clone, Copy, Debug, PartialEq, Eq)]
+pub struct Range {
+    /// The first moment.
+    pub from: u64,
+    /// The first moment behind the range, where it ends.
+    pub until: Option<u64>,
+}
+
+impl Range {
+    /// Whether a moment is in the range.
+    pub fn holds(&self, moment: u64) -> bool
+        ensures { result ≡ is_within self.now moment }
+    {
+        match self.until {
+            None => self.from <= moment,
+            Some(until) => self.from <= moment && moment < until,
+        }
+    }
+}

@@ -1,0 +1,4 @@
+pub mod Outcomes
+pub mod Ranking
+pub mod Sets
+pub mod Stages

@@ -1,0 +1,140 @@
+-- Values, and what operators make of them.
+use Rattle.std.specs.Prelude.{ℕ, ◌^◌, pos, Bool, true, false, not, ◌&&◌, ◌||◌, ◌==◌, nat_lt, Option, Some, None, if◌then◌else◌}
+use Rattle.std.specs.Ordering.{nat_cmp, is_lt, is_le, is_gt, is_ge, is_eq, is_ne, ordering_reverse}
+use Rattle.std.specs.Cmp.Lexicographic.{slice_cmp}
+use Rattle.std.specs.declared.cmp.Ordering.{Ordering}
+use Rattle.std.specs.declared.cmp.Ordering.TheVariants.{Less, Equal, Greater}
+use Rattle.span_types.specs.declared.attrs.AttrValue.{AttrValue}
+use Rattle.span_types.specs.declared.attrs.AttrValue.TheVariants as attr
+use Rattle.span_types.specs.declared.spans.SpanKind.{SpanKind}
+use Rattle.span_types.specs.declared.spans.SpanKind.TheVariants as role
+use Rattle.span_types.specs.declared.spans.StatusCode.{StatusCode}
+use Rattle.span_types.specs.declared.spans.StatusCode.TheVariants as code
+use Rattle.traceql_syntax.specs.declared.field.BinaryOp.{BinaryOp}
+use Rattle.traceql_syntax.specs.declared.field.BinaryOp.TheVariants as binary
+use Rattle.traceql_syntax.specs.declared.field.Comparison.{Comparison}
+use Rattle.traceql_syntax.specs.declared.field.Comparison.TheVariants as comparison
+use Rattle.traceql_syntax.specs.declared.field.UnaryOp.{UnaryOp}
+use Rattle.traceql_syntax.specs.declared.field.UnaryOp.TheVariants as unary
+use Rattle.traceql_value.specs.declared.value.Value.{Value}
+use Rattle.traceql_value.specs.declared.value.Value.TheVariants.{Nil, Truth, Number, Text, Status, Kind}
+use Rattle.traceql_value.specs.Fractions.{Fraction, whole_fraction}
+use Rattle.traceql_value.specs.Arithmetic.{sum_of, difference_of, product_of, quotient_of, remainder_of, power_within, negative_of, fraction_cmp}
+
+-- OTLP's numbers of statuses and of roles, by which they are ordered
+abbrev pub status_number : StatusCode → ℕ
+status_number code.Unset = 0
+status_number code.Fine = 1
+status_number code.Error = 2
+
+abbrev pub kind_number : SpanKind → ℕ
+kind_number role.Unspecified = 0
+kind_number role.Internal = 1
+kind_number role.Server = 2
+kind_number role.Client = 3
+kind_number role.Producer = 4
+kind_number role.Consumer = 5
+
+-- a number, or none where it is outside of the bounds
+abbrev pub number_or_nil : Option Fraction → Value
+number_or_nil None = Nil
+number_or_nil (Some r) = Number r
+
+-- so many nanoseconds, none from 2^63 on
+abbrev pub nanoseconds : ℕ → Value
+nanoseconds n = if nat_lt n (2 ^ 63) then Number (whole_fraction (pos n)) else Nil
+
+-- the value of an attribute
+abbrev pub attr_value : AttrValue → Value
+attr_value (attr.Text text) = Text text
+attr_value (attr.Whole n) = Number (whole_fraction n)
+attr_value (attr.Truth truth) = Truth truth
+
+-- a text that may be absent
+abbrev pub unless_empty : List ℕ → Value
+unless_empty [] = Nil
+unless_empty (b ∷ bs) = Text (b ∷ bs)
+
+abbrev pub is_true : Value → Bool
+is_true (Truth truth) = truth
+is_true _ = false
+
+abbrev pub is_nil : Value → Bool
+is_nil Nil = true
+is_nil _ = false
+
+-- what arithmetic gives: nil where an operand is no number
+abbrev pub arithmetic : (Fraction → Fraction → Option Fraction) → Value → Value → Value
+arithmetic f (Number a) (Number b) = number_or_nil (f a b)
+arithmetic f _ _ = Nil
+
+-- whether a comparison is true of what stands in this order
+abbrev pub accepts : Comparison → Ordering → Bool
+accepts comparison.Equal o = is_eq o
+accepts comparison.NotEqual o = is_ne o
+accepts comparison.Less o = is_lt o
+accepts comparison.AtMost o = is_le o
+accepts comparison.Greater o = is_gt o
+accepts comparison.AtLeast o = is_ge o
+
+-- the same of what is only equal or not
+abbrev pub accepts_equal : Comparison → Bool → Bool
+accepts_equal comparison.Equal same = same
+accepts_equal comparison.NotEqual same = not same
+accepts_equal _ same = false
+
+abbrev pub same_truth : Bool → Bool → Bool
+same_truth true b = b
+same_truth false b = not b
+
+-- Whether a comparison is true. It is false where the kinds differ or a side is nil, whichever comparison it is. Truths,
+-- statuses and roles are equal or not, and none of them is less than another.
+abbrev pub compares : Comparison → Value → Value → Bool
+compares c (Truth a) (Truth b) = accepts_equal c (same_truth a b)
+compares c (Number a) (Number b) = accepts c (fraction_cmp a b)
+compares c (Text a) (Text b) = accepts c (slice_cmp nat_cmp a b)
+compares c (Status a) (Status b) = accepts_equal c (status_number a == status_number b)
+compares c (Kind a) (Kind b) = accepts_equal c (kind_number a == kind_number b)
+compares c _ _ = false
+
+-- what an operator gives that is no comparison with the literal nil
+abbrev pub combined : BinaryOp → Value → Value → Value
+combined binary.Or a b = Truth (is_true a || is_true b)
+combined binary.And a b = Truth (is_true a && is_true b)
+combined (binary.Compare c) a b = Truth (compares c a b)
+combined binary.Add a b = arithmetic sum_of a b
+combined binary.Subtract a b = arithmetic difference_of a b
+combined binary.Multiply a b = arithmetic product_of a b
+combined binary.Divide a b = arithmetic quotient_of a b
+combined binary.Remainder a b = arithmetic remainder_of a b
+combined binary.Power a b = arithmetic power_within a b
+
+-- what a unary operator gives
+abbrev pub turned : UnaryOp → Value → Value
+turned unary.Negate (Number a) = number_or_nil (negative_of a)
+turned unary.Negate _ = Nil
+turned unary.Not (Truth truth) = Truth (not truth)
+turned unary.Not _ = Nil
+
+-- which kind of value stands first
+abbrev pub kind_rank : Value → ℕ
+kind_rank Nil = 0
+kind_rank (Truth truth) = 1
+kind_rank (Number n) = 2
+kind_rank (Text text) = 3
+kind_rank (Status status) = 4
+kind_rank (Kind kind) = 5
+
+abbrev pub truth_number : Bool → ℕ
+truth_number false = 0
+truth_number true = 1
+
+-- The order of values in a grouping: nil, false, true, numbers, texts by their bytes, statuses and then roles by OTLP's
+-- numbers.
+abbrev pub value_cmp : Value → Value → Ordering
+value_cmp (Truth a) (Truth b) = nat_cmp (truth_number a) (truth_number b)
+value_cmp (Number a) (Number b) = fraction_cmp a b
+value_cmp (Text a) (Text b) = slice_cmp nat_cmp a b
+value_cmp (Status a) (Status b) = nat_cmp (status_number a) (status_number b)
+value_cmp (Kind a) (Kind b) = nat_cmp (kind_number a) (kind_number b)
+value_cmp a b = nat_cmp (kind_rank a) (kind_rank b)
