@@ -1,6 +1,6 @@
 -- What a search answers, over the first occurrences of all spans.
-use Rattle.std.specs.Prelude.{◌≡◌, ℕ, List, Bool, true, Some, All, Contains, map, take}
-use Rattle.std.specs.List.{list_any, IsDistinct}
+use Rattle.std.specs.Prelude.{◌≡◌, ◌≢◌, ℕ, List, [], ◌∷◌, Bool, true, Some, All, Contains, map, take}
+use Rattle.std.specs.List.{list_any}
 use Rattle.column_scan.specs.declared.range.Range.{Range}
 use Rattle.column_scan.specs.Ranges.{is_within}
 use Rattle.span_types.specs.declared.ids.TraceId.{TraceId}
@@ -22,11 +22,16 @@ pub record IsResult (ps : List Pattern) (q : QueryTree) (range : Range) (rows : 
   pub within : is_in_range range rows ≡ true
   pub outcome : IsOutcome ps rows q (Some result)
 
+-- No two results are of one trace.
+abbrev pub NoneTwice : List TraceResult → Type 0
+NoneTwice [] = Unit {0}
+NoneTwice (r ∷ rs) = All (λ s. r.trace ≢ s.trace) rs × NoneTwice rs
+
 -- One result for each trace in the range of which the query answers something, and no others.
 pub record AreResults (ps : List Pattern) (q : QueryTree) (range : Range) (rows : List Row) (results : List TraceResult) : Type 0 where
   pub only : All (λ r. IsResult ps q range (rows_of_trace r.trace rows) r) results
   pub whole : (id : TraceId) (r : TraceResult) → IsResult ps q range (rows_of_trace id rows) r → Contains results r
-  pub once : IsDistinct (map (λ r. r.trace) results)
+  pub once : NoneTwice results
 
 -- A spanset as it is shown, with at most so many of its spans. How many it has is told all the same.
 abbrev pub cut_set : ℕ → SetResult → SetResult

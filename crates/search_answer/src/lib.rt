@@ -7,5 +7,3 @@ mod traces;
 
 pub use answer::answer;
 
-#[cfg(test)]
-mod tests;

@@ -74,7 +74,7 @@ follows_later xs up i (suc n) d h = let P : ℕ → Type 0 = λ m. block_order (
     next : (i n : ℕ) → i + suc n + 1 ≡ i + suc (suc n)
     next i n = omega arith
 
-all_pairs : (xs : List Row) → AllAdjacentBelow (λ a b. block_order a b ≡ Less) xs (length xs) → AllPairs (λ a b. block_order a b ≡ Less) xs
+pub all_pairs : (xs : List Row) → AllAdjacentBelow (λ a b. block_order a b ≡ Less) xs (length xs) → AllPairs (λ a b. block_order a b ≡ Less) xs
 all_pairs xs up = λ i j d l h. let P : ℕ → Type 0 = λ m. block_order (slice_index_or xs i d) (slice_index_or xs m d) ≡ Less in
     subst P (apart i j l) (follows_later xs up i (j - suc i) d (omega arith))
   where
