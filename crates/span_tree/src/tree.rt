@@ -7,7 +7,7 @@ ghost use Rattle.span_tree.specs.Marking.{MarksExactly};
 
 use crate::members::{members_of, with_others};
 use crate::{Node, Steps, build, reach};
-use span_types::{Marks, Memory, Rows};
+use span_types::{Marks, Memory, Row, Rows};
 use std::alloc::Global;
 use std::marker::Model;
 use std::sync::ledger::Ledger;
@@ -39,7 +39,15 @@ impl Tree {
         requires { IsOneTrace rows.now }
         ensures { IfOk result (λ tree. tree ≡ nodes_of rows.now) }
     {
-        let nodes = build::nodes(alloc, rows.as_slice())?;
+        Tree::of_slice(alloc, rows.as_slice())
+    }
+
+    /// The same of rows that stand in a longer list.
+    pub fn of_slice(alloc: Global, rows: &[Row]) -> Result<Tree, Memory>
+        requires { IsOneTrace rows.now }
+        ensures { IfOk result (λ tree. tree ≡ nodes_of rows.now) }
+    {
+        let nodes = build::nodes(alloc, rows)?;
         let positions = build::positions(alloc, nodes.as_slice())?;
         let parents = build::parents(alloc, nodes.as_slice(), &positions)?;
         let families = build::families(alloc, nodes.as_slice())?;
