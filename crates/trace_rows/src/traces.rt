@@ -3,7 +3,7 @@
 ghost use Rattle.std.specs.Prelude.{◌≡◌, List, IfOk};
 ghost use Rattle.span_types.specs.declared.spans.Row.{Row};
 ghost use Rattle.span_types.specs.First.{IsFirstOf};
-ghost use Rattle.session_meaning.specs.History.{rows_of_trace};
+ghost use Rattle.trace_rows.specs.Traces.{rows_of_trace};
 
 use span_types::{Memory, Row, TraceId};
 use std::alloc::Global;
