@@ -1,12 +1,14 @@
 //! The JSON values of what a query finds.
 
-ghost use Rattle.std.specs.Prelude.{◌≡◌, ◌==◌, ◌++◌, IfOk, codes, decimal, map, string_bytes};
+ghost use Rattle.std.specs.Prelude.{◌≡◌, IfOk, OnOk, codes, decimal, string_bytes};
 ghost use Rattle.std.specs.Fmt.{signed_decimal};
 ghost use Rattle.std.specs.List.{zip};
-ghost use Rattle.serde_json.specs.View.{view};
+ghost use Rattle.hex.specs.Hex.{encode_lower};
+ghost use Rattle.serde_json.specs.Data.{put, string};
+ghost use Rattle.serde_json.specs.View.{members_view, view};
 ghost use Rattle.search_text.specs.Results.{field_json, fraction_text, hit_json, kind_word, list_json, number_json, status_word, text_json, value_json};
 
-use serde_json::{Value as Json, json};
+use serde_json::{Map, Value as Json, json};
 use span_types::{Memory, SpanKind, StatusCode, Text};
 use spanset_eval::Hit;
 use std::alloc::Global;
@@ -129,21 +131,53 @@ fn fields(alloc: Global, names: &[Text], found: &[Value]) -> Result<Json, Memory
     Ok(Json::from(values))
 }
 
+/// Puts a span's fields, duration and name into its object.
+fn put_hit_first(
+    alloc: Global,
+    object: &mut Map<String, Json>,
+    names: &[Text],
+    hit: &Hit,
+) -> Result<(), Memory>
+    ensures { OnOk result (members_view object.new.entries
+        ≡ put (codes "name") (string hit.now.name)
+        (put (codes "durationNanos") (string (decimal hit.now.duration))
+        (put (codes "attributes") (list_json field_json (zip names.now hit.now.fields))
+        (members_view object.old.entries)))) }
+{
+    let attributes = fields(alloc, names, hit.fields.as_slice())?;
+    let duration = nanos(alloc, hit.duration)?;
+    let name = Json::try_from_str(alloc, hit.name.as_str())?;
+    serde_json::put(object, alloc, "attributes", attributes)?;
+    serde_json::put(object, alloc, "durationNanos", Json::from(duration))?;
+    serde_json::put(object, alloc, "name", name)?;
+    Ok(())
+}
+
+/// Puts a span's id and start into its object.
+fn put_hit_second(
+    alloc: Global,
+    object: &mut Map<String, Json>,
+    hit: &Hit,
+) -> Result<(), Memory>
+    ensures { OnOk result (members_view object.new.entries
+        ≡ put (codes "startTimeUnixNano") (string (decimal hit.now.start))
+        (put (codes "spanId") (string (encode_lower hit.now.id.0))
+        (members_view object.old.entries))) }
+{
+    let id = hex::encode(alloc, hit.id.0.as_slice())?;
+    let start = nanos(alloc, hit.start)?;
+    serde_json::put(object, alloc, "spanId", Json::from(id))?;
+    serde_json::put(object, alloc, "startTimeUnixNano", Json::from(start))?;
+    Ok(())
+}
+
 /// A span.
 #[tactic(auto, unfolding(crate::specs::Results::hit_json))]
 pub(crate) fn hit(alloc: Global, names: &[Text], hit: &Hit) -> Result<Json, Memory>
     ensures { IfOk result (λ v. view v ≡ hit_json names.now hit.now) }
 {
-    let attributes = fields(alloc, names, hit.fields.as_slice())?;
-    let duration = nanos(alloc, hit.duration)?;
-    let start = nanos(alloc, hit.start)?;
-    let id = hex::encode(alloc, hit.id.0.as_slice())?;
-    let name = hit.name.as_str();
-    Ok(json!(in alloc; {
-        "attributes": attributes,
-        "durationNanos": duration,
-        "name": name,
-        "spanId": id,
-        "startTimeUnixNano": start
-    })?)
+    let mut object = Map::new(alloc);
+    put_hit_first(alloc, &mut object, names, hit)?;
+    put_hit_second(alloc, &mut object, hit)?;
+    Ok(Json::from(object))
 }
