@@ -34,7 +34,7 @@ impl Model for Tree {
 }
 
 impl Tree {
-    /// The tree of the rows of one trace, each span at its row's position. It takes time n log n.
+    /// The tree of the rows of one trace, each span at its row's position.
     pub fn of(alloc: Global, rows: &Rows) -> Result<Tree, Memory>
         requires { IsOneTrace rows.now }
         ensures { IfOk result (λ tree. tree ≡ nodes_of rows.now) }
@@ -58,8 +58,8 @@ impl Tree {
         })
     }
 
-    /// Marks on the children of marked spans. It takes at most 8 steps a span, as each of these calls does: a step is one
-    /// visit of a span.
+    /// Marks on the children of marked spans. To look at a span is a step, and none of these five calls makes more than eight
+    /// times as many of them as the tree has spans.
     pub fn mark_children<L: Ledger>(
         &self,
         marked: &Marks,
