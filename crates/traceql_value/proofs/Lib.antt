@@ -2,3 +2,4 @@ pub mod Divisors
 pub mod Products
 pub mod Reduced
 pub mod Answered
+pub mod Searched

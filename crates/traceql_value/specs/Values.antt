@@ -1,5 +1,5 @@
 -- Values, and what operators make of them.
-use Rattle.std.specs.Prelude.{ℕ, ◌^◌, pos, Bool, true, false, not, ◌&&◌, ◌||◌, ◌==◌, nat_lt, Option, Some, None, if◌then◌else◌}
+use Rattle.std.specs.Prelude.{ℕ, ◌^◌, pos, List, [], ◌∷◌, Bool, true, false, not, ◌&&◌, ◌||◌, ◌==◌, nat_lt, Option, Some, None, if◌then◌else◌}
 use Rattle.std.specs.Ordering.{nat_cmp, is_lt, is_le, is_gt, is_ge, is_eq, is_ne, ordering_reverse}
 use Rattle.std.specs.Cmp.Lexicographic.{slice_cmp}
 use Rattle.std.specs.declared.cmp.Ordering.{Ordering}
@@ -108,6 +108,18 @@ combined binary.Multiply a b = arithmetic product_of a b
 combined binary.Divide a b = arithmetic quotient_of a b
 combined binary.Remainder a b = arithmetic remainder_of a b
 combined binary.Power a b = arithmetic power_within a b
+
+-- what an arithmetic operator makes of two numbers; nothing where the operator is another
+abbrev pub calculated : BinaryOp → Fraction → Fraction → Option Fraction
+calculated binary.Or a b = None
+calculated binary.And a b = None
+calculated (binary.Compare c) a b = None
+calculated binary.Add a b = sum_of a b
+calculated binary.Subtract a b = difference_of a b
+calculated binary.Multiply a b = product_of a b
+calculated binary.Divide a b = quotient_of a b
+calculated binary.Remainder a b = remainder_of a b
+calculated binary.Power a b = power_within a b
 
 -- what a unary operator gives
 abbrev pub turned : UnaryOp → Value → Value
