@@ -3,3 +3,5 @@ pub mod Products
 pub mod Reduced
 pub mod Answered
 pub mod Searched
+pub mod Earliest
+pub mod Searching

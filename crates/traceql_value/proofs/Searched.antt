@@ -147,7 +147,7 @@ sound p q n (Some d) r some small is e = sound_at p q (1 + n) d r some small (fo
 placed_at : (r : Fraction) (up : ℤ) → up ≡ r.numerator → FitsSigned w64 r.numerator → cond (fits up) (Some (record { numerator = up; denominator = r.denominator })) None ≡ Some r
 placed_at r up same signed =
     subst (λ z. cond (fits z) (Some (record { numerator = z; denominator = r.denominator })) None ≡ Some r) (sym same) (
-      ap (λ b. cond b (Some r) None) (signed-fits r.numerator signed)
+    ap (λ b. cond b (Some r) None) (signed-fits r.numerator signed)
     )
 
 placed : (p q : ℤ) (r : Fraction) → 0 < unsigned_abs q → (unsigned_abs p * r.denominator) % unsigned_abs q ≡ 0 → FitsSigned w64 r.numerator → StandsFor p q r → over p q r.denominator ≡ Some r

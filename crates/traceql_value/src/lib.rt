@@ -5,15 +5,22 @@
 #![tactic(auto)]
 
 mod divisor;
+mod fields;
 mod laws;
+mod look;
 mod operators;
 mod power;
 mod ratio;
+mod scene;
+mod searches;
 mod seen;
+mod trace;
 mod value;
+mod whole;
 
 pub use laws::one_ratio;
 pub use ratio::Ratio;
+pub use scene::{Scene, field_value};
 pub use value::{Value, Values};
 
 #[cfg(test)]
