@@ -40,9 +40,13 @@ abbrev pub number_or_nil : Option Fraction → Value
 number_or_nil None = Nil
 number_or_nil (Some r) = Number r
 
--- so many nanoseconds, none from 2^63 on
+-- a whole number, none from 2^63 on
+abbrev pub whole_number : ℕ → Value
+whole_number n = if nat_lt n (2 ^ 63) then Number (whole_fraction (pos n)) else Nil
+
+-- so many nanoseconds
 abbrev pub nanoseconds : ℕ → Value
-nanoseconds n = if nat_lt n (2 ^ 63) then Number (whole_fraction (pos n)) else Nil
+nanoseconds n = whole_number n
 
 -- the value of an attribute
 abbrev pub attr_value : AttrValue → Value
