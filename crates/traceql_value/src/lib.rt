@@ -9,6 +9,7 @@ mod fields;
 mod laws;
 mod look;
 mod operators;
+mod order;
 mod power;
 mod ratio;
 mod scene;
@@ -18,7 +19,7 @@ mod trace;
 mod value;
 mod whole;
 
-pub use laws::one_ratio;
+pub use laws::{one_ratio, values_in_order};
 pub use ratio::Ratio;
 pub use scene::{Scene, field_value};
 pub use value::{Value, Values};
