@@ -181,8 +181,8 @@ strict : {K : Type 0} {R : K → K → Ordering} → IsTotalOrder R → IsStrict
 strict {K} {R} o = record {
   one_way = λ x y h. not_both (R y x) (sym (turned (R x y) (R y x) (o.antisymm x y)) ∙ h);
   chain = λ x y z p q.
-    turned (R x z) (R z x) (o.antisymm x z)
-    ∙ upto o z y x (sym (turned (R y z) (R z y) (o.antisymm y z)) ∙ q) (sym (turned (R x y) (R y x) (o.antisymm x y)) ∙ p);
+      turned (R x z) (R z x) (o.antisymm x z)
+      ∙ upto o z y x (sym (turned (R y z) (R z y) (o.antisymm y z)) ∙ q) (sym (turned (R x y) (R y x) (o.antisymm x y)) ∙ p);
 }
 
 pub value_cmp_strict : IsStrictWeakOrder (λ (a b : Value). is_lt (value_cmp a b))

@@ -25,4 +25,6 @@ pub use scene::{Scene, field_value};
 pub use value::{Value, Values};
 
 #[cfg(test)]
+mod scene_tests;
+#[cfg(test)]
 mod tests;
