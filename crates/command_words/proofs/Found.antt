@@ -45,11 +45,14 @@ tells_from words (Some p) (Some q) name rows link (trace id is gives asked) =
 tells_from words (Some p) (Some q) name rows link (search is query) =
     let same : rows_of (found_of p.1.now) ≡ q.1 = cc in
     let value = λ (n : Text). first_value-rows (found_of p.1.now) n ∙ ap (first_of n) same in
-    inr (inr (cc, record {
-      has_query = ap is_some (value (codes "query")) ∙ query;
-      values = λ n. ap (λ (o : Option (Text × List Row)). option_and_then (λ p. first_of n p.1) o) (sym link) ∙ sym (value n);
-      name = ap (option_map (λ p. p.0)) (sym link) ∙ is;
-    }))
+    inr (inr (
+      cc,
+      record {
+        has_query = ap is_some (value (codes "query")) ∙ query;
+        values = λ n. ap (λ (o : Option (Text × List Row)). option_and_then (λ p. first_of n p.1) o) (sym link) ∙ sym (value n);
+        name = ap (option_map (λ p. p.0)) (sym link) ∙ is;
+      },
+    ))
 
 tells : (words : List Text) (m : ArgMatches) (r : Option (Bor Text × Bor ArgMatches)) → option_map (λ p. p.0.now) r ≡ subcommand_name_of m
     → option_map (λ p. rows_of (found_of p.1.now)) r ≡ option_map (λ p. p.1) (subcommand_rows_of m) → subcommand_rows_of m ≡ subcommand_of words_app words → Read words (subcommand_rows_of m) → Tells words r

@@ -137,10 +137,16 @@ search_leaf = leaf search_shape
 search_takes_one : TakeOne search_leaf.rules
 search_takes_one = (
   record { takes = refl; sets = refl; bare = refl; wants = λ again rows h. let bad : ⊥ = cc in bad },
-  (record { takes = refl; sets = refl; bare = refl; wants = λ again rows h. let bad : ⊥ = cc in bad },
-  (record { takes = refl; sets = refl; bare = refl; wants = λ again rows h. let bad : ⊥ = cc in bad },
-  (record { takes = refl; sets = refl; bare = refl; wants = λ again rows h. let bad : ⊥ = cc in bad },
-  (record { takes = refl; sets = refl; bare = refl; wants = λ again rows h. let bad : ⊥ = cc in bad }, tt)))),
+  (
+    record { takes = refl; sets = refl; bare = refl; wants = λ again rows h. let bad : ⊥ = cc in bad },
+    (
+      record { takes = refl; sets = refl; bare = refl; wants = λ again rows h. let bad : ⊥ = cc in bad },
+      (
+        record { takes = refl; sets = refl; bare = refl; wants = λ again rows h. let bad : ⊥ = cc in bad },
+        (record { takes = refl; sets = refl; bare = refl; wants = λ again rows h. let bad : ⊥ = cc in bad }, tt),
+      ),
+    ),
+  ),
 )
 
 query_wanted : (rows : List Row) → check_fault search_leaf rows false ≡ [] → is_given (codes "query") rows ≡ true

@@ -16,11 +16,12 @@ pub fn search_line(
     query: &str,
 ) -> Result<String, AllocError>
     ensures { IfOk result (λ line. string_bytes line ≡ search_line (record {
-        limit = option_map (λ s. s.now) limit.entry;
-        spss = option_map (λ s. s.now) spss.entry;
-        start = option_map (λ s. s.now) start.entry;
-        end = option_map (λ s. s.now) end.entry;
-        query = query.now })) }
+      limit = option_map (λ s. s.now) limit.entry;
+      spss = option_map (λ s. s.now) spss.entry;
+      start = option_map (λ s. s.now) start.entry;
+      end = option_map (λ s. s.now) end.entry;
+      query = query.now;
+    })) }
 {
     let mut line = String::from_str(alloc, "search ")?;
     push_option(&mut line, "limit=", limit)?;

@@ -18,13 +18,15 @@ fn told(alloc: Global, words: &[&str]) -> Option<String> {
     match read_words(alloc, strings.as_slice()) {
         Ok(Asked::Session) => String::from_str(alloc, "session").ok(),
         Ok(Asked::Trace { id }) => format!(in alloc; "trace:{id}").ok(),
-        Ok(Asked::Search {
-            limit,
-            spss,
-            start,
-            end,
-            query,
-        }) => {
+        Ok(
+            Asked::Search {
+                limit,
+                spss,
+                start,
+                end,
+                query,
+            },
+        ) => {
             let limit = limit.as_ref().map_or("-", String::as_str);
             let spss = spss.as_ref().map_or("-", String::as_str);
             let start = start.as_ref().map_or("-", String::as_str);
@@ -75,7 +77,10 @@ fn table(rt: HostRuntime) {
         (&["search", "--limit", "5"], "refused"),
         (&["search", "{ }", "--limit"], "refused"),
         (&["search", "--limit", "-5", "{ }"], "refused"),
-        (&["search", "--limit", "5", "--limit", "6", "{ }"], "refused"),
+        (
+            &["search", "--limit", "5", "--limit", "6", "{ }"],
+            "refused",
+        ),
         (&["search", "{", "}"], "refused"),
         (&["search", "--most", "5", "{ }"], "refused"),
         (&["search", "-l", "{ }"], "refused"),
@@ -93,7 +98,9 @@ fn lines(rt: HostRuntime) {
     let alloc = rt.alloc();
     let none = search_line(alloc, None, None, None, None, "{ }").expect(&rt, "memory");
     assert_eq!(rt; none.as_str(), "search { }");
-    let all = search_line(alloc, Some("5"), Some("6"), Some("7"), Some("8"), "").expect(&rt, "memory");
+    let all = search_line(alloc, Some("5"), Some("6"), Some("7"), Some("8"), "").expect(
+        &rt, "memory",
+    );
     assert_eq!(rt; all.as_str(), "search limit=5 spss=6 start=7 end=8 ");
     let two = search_line(alloc, None, Some("6"), None, Some("8"), "x").expect(&rt, "memory");
     assert_eq!(rt; two.as_str(), "search spss=6 end=8 x");
