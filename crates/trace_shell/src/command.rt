@@ -1,8 +1,9 @@
 //! What the words of the command line say is done.
 
-ghost use Rattle.std.specs.Prelude.{◌≡◌, ◌≢◌, ◌⊎◌, ◌++◌, ℕ, List, [], Some, IfOk, codes, map, string_bytes};
+ghost use Rattle.std.specs.Prelude.{◌≡◌, ◌≢◌, ◌⊎◌, ◌++◌, ℕ, List, [], Some, IfOk, codes, map, option_map, string_bytes};
 ghost use Rattle.clap.specs.Words.{fault_of};
-ghost use Rattle.command_words.specs.Spelling.{IsSession, IsTrace};
+ghost use Rattle.command_words.specs.Spelling.{Given, IsSearch, IsSession, IsTrace, given_of};
+ghost use Rattle.command_words.specs.Spelling as words;
 ghost use Rattle.command_words.specs.Table.{words_app};
 ghost use Rattle.span_types.specs.Faults.{Rose};
 ghost use Rattle.io_edges.specs.Lines.{taken_limit};
@@ -11,7 +12,7 @@ ghost use Rattle.session_meaning.specs.declared.ending.Ending.TheVariants.{Answe
 ghost use Rattle.session_meaning.specs.Session.{AnswersAlone, HasRun};
 
 use crate::session::{one_line, session};
-use command_words::{Asked, WordsError, read_words};
+use command_words::{Asked, WordsError, read_words, search_line};
 use io_edges::{Sink, Source};
 use session_meaning::Ending;
 use span_types::Memory;
@@ -31,13 +32,18 @@ pub(crate) fn obey<S: Source, K: Sink, P: PatternMaker>(
     ensures trace { (id : List ℕ) → IsTrace id (map string_bytes words.now) → (before : List ℕ) → K.taken sink.old ≡ Some before
         → AnswersAlone (codes "trace " ++ id) before (K.taken sink.new) result (P.refusals patterns.old) (P.refusals patterns.new) }
     ensures trace_alone { (id : List ℕ) → IsTrace id (map string_bytes words.now) → (source.new ≡ source.old) × ((result ≡ ReadFault → ⊥) × (result ≡ Spent → ⊥)) }
+    ensures search { (given : Given) → IsSearch given (map string_bytes words.now) → fault_of words_app (map string_bytes words.now) ≡ [] → (before : List ℕ) → K.taken sink.old ≡ Some before
+        → AnswersAlone (words.search_line given) before (K.taken sink.new) result (P.refusals patterns.old) (P.refusals patterns.new) }
+    ensures search_alone { (given : Given) → IsSearch given (map string_bytes words.now) → fault_of words_app (map string_bytes words.now) ≡ []
+        → (source.new ≡ source.old) × ((result ≡ ReadFault → ⊥) × (result ≡ Spent → ⊥)) }
     ensures bad_words { result ≡ BadWords → fault_of words_app (map string_bytes words.now) ≢ [] }
     ensures nothing_done { result ≡ BadWords → (source.new ≡ source.old) × (sink.new ≡ sink.old) }
     ensures refused_words { fault_of words_app (map string_bytes words.now) ≢ [] → ((result ≡ BadWords) ⊎ (result ≡ Starved)) × ((source.new ≡ source.old) × (sink.new ≡ sink.old)) }
     ensures asked { fault_of words_app (map string_bytes words.now) ≡ []
-        → (result ≡ Starved) ⊎ (IsSession (map string_bytes words.now) ⊎ ((id : List ℕ) × IsTrace id (map string_bytes words.now))) }
+        → (result ≡ Starved) ⊎ (IsSession (map string_bytes words.now) ⊎ (((id : List ℕ) × IsTrace id (map string_bytes words.now)) ⊎ ((given : Given) × IsSearch given (map string_bytes words.now)))) }
     ensures good_session { IsSession (map string_bytes words.now) → result ≢ BadWords }
     ensures good_trace { (id : List ℕ) → IsTrace id (map string_bytes words.now) → result ≢ BadWords }
+    ensures good_search { (given : Given) → IsSearch given (map string_bytes words.now) → fault_of words_app (map string_bytes words.now) ≡ [] → result ≢ BadWords }
     ensures write_fault { result ≡ WriteFault → Rose (K.faults sink.old) (K.faults sink.new) }
     ensures read_fault { result ≡ ReadFault → Rose (S.faults source.old) (S.faults source.new) }
     ensures spent { result ≡ Spent → TakesBytes (S.left source.old) (S.left source.new) 0 taken_limit }
@@ -45,6 +51,22 @@ pub(crate) fn obey<S: Source, K: Sink, P: PatternMaker>(
     match read_words(alloc, words) {
         Ok(Asked::Session) => session(alloc, source, sink, patterns),
         Ok(Asked::Trace { id }) => look_up(alloc, sink, patterns, id.as_str()),
+        Ok(Asked::Search {
+            limit,
+            spss,
+            start,
+            end,
+            query,
+        }) => look_for(
+            alloc,
+            sink,
+            patterns,
+            text_of(&limit),
+            text_of(&spss),
+            text_of(&start),
+            text_of(&end),
+            query.as_str(),
+        ),
         Err(WordsError::Refused) => Ending::BadWords,
         Err(WordsError::Memory) => Ending::Starved,
     }
@@ -64,6 +86,43 @@ fn look_up<K: Sink, P: PatternMaker>(
     match line_of(alloc, id) {
         Ok(line) => one_line(alloc, sink, patterns, line.as_bytes()),
         Err(Memory) => Ending::Starved,
+    }
+}
+
+/// A text that may be there.
+fn text_of(text: &Option<String>) -> Option<&str>
+    ensures { option_map (λ s. s.now) result ≡ option_map string_bytes text.now }
+{
+    match text {
+        None => None,
+        Some(text) => Some(text.as_str()),
+    }
+}
+
+/// Answers the session's line `search .. QUERY` alone.
+fn look_for<K: Sink, P: PatternMaker>(
+    alloc: Global,
+    sink: &mut K,
+    patterns: &mut P,
+    limit: Option<&str>,
+    spss: Option<&str>,
+    start: Option<&str>,
+    end: Option<&str>,
+    query: &str,
+) -> Ending
+    ensures told { (before : List ℕ) → K.taken sink.old ≡ Some before → AnswersAlone (words.search_line (record {
+      limit = option_map (λ s. s.now) limit.entry;
+      spss = option_map (λ s. s.now) spss.entry;
+      start = option_map (λ s. s.now) start.entry;
+      end = option_map (λ s. s.now) end.entry;
+      query = query.now;
+    })) before (K.taken sink.new) result (P.refusals patterns.old) (P.refusals patterns.new) }
+    ensures write_fault { result ≡ WriteFault → Rose (K.faults sink.old) (K.faults sink.new) }
+    ensures endings { (result ≡ WriteFault) ⊎ ((result ≡ Answered) ⊎ ((result ≡ Refused) ⊎ (result ≡ Starved))) }
+{
+    match search_line(alloc, limit, spss, start, end, query) {
+        Ok(line) => one_line(alloc, sink, patterns, line.as_bytes()),
+        Err(_) => Ending::Starved,
     }
 }
 

@@ -12,3 +12,14 @@ returns-in-Err-Refused-clause-good_trace g c = λ id is ended.
 
 pub returns-in-Err-Memory-clause-trace : goal.returns-in-Err-Memory-clause-trace
 returns-in-Err-Memory-clause-trace g c = λ id is before taken. starved_alone _ before _ _ taken
+
+pub returns-in-Err-Refused-clause-search : goal.returns-in-Err-Refused-clause-search
+returns-in-Err-Refused-clause-search g c = λ given is none before taken.
+    absurd (not_refused _ c.read_words.result (c.read_words.ensures.search given is none) (c.in-Err-Refused.is ∙ ap Err c.in-Err-Refused.field-0-is))
+
+pub returns-in-Err-Refused-clause-good_search : goal.returns-in-Err-Refused-clause-good_search
+returns-in-Err-Refused-clause-good_search g c = λ given is none ended.
+    not_refused _ c.read_words.result (c.read_words.ensures.search given is none) (c.in-Err-Refused.is ∙ ap Err c.in-Err-Refused.field-0-is)
+
+pub returns-in-Err-Memory-clause-search : goal.returns-in-Err-Memory-clause-search
+returns-in-Err-Memory-clause-search g c = λ given is none before taken. starved_alone _ before _ _ taken

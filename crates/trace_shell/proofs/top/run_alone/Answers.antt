@@ -21,3 +21,23 @@ returns-clause-complete_trace g c = λ id is well.
     let alone = c.obey-ending.ensures.trace_alone id is in
     ended_itself c.status.result c.obey-ending.result c.status.ensures (λ failed. well (c.obey-ending.ensures.write_fault failed))
     (c.obey-ending.ensures.good_trace id is) alone.1.0 alone.1.1
+
+pub returns-clause-search_alone : goal.returns-clause-search_alone
+returns-clause-search_alone g c = λ given is none.
+    let alone = c.obey-ending.ensures.search_alone given is none in (
+      alone.0,
+      (
+        other_status ReadFault c.status.result c.obey-ending.result c.status.ensures alone.1.0,
+        other_status Spent c.status.result c.obey-ending.result c.status.ensures alone.1.1,
+      ),
+    )
+
+pub returns-clause-good_search : goal.returns-clause-good_search
+returns-clause-good_search g c = λ given is none.
+    other_status BadWords c.status.result c.obey-ending.result c.status.ensures (c.obey-ending.ensures.good_search given is none)
+
+pub returns-clause-complete_search : goal.returns-clause-complete_search
+returns-clause-complete_search g c = λ given is none well.
+    let alone = c.obey-ending.ensures.search_alone given is none in
+    ended_itself c.status.result c.obey-ending.result c.status.ensures (λ failed. well (c.obey-ending.ensures.write_fault failed))
+    (c.obey-ending.ensures.good_search given is none) alone.1.0 alone.1.1
