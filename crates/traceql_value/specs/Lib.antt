@@ -3,3 +3,4 @@ pub mod Fractions
 pub mod Meaning
 pub mod Spans
 pub mod Values
+pub mod Scenes

@@ -8,10 +8,12 @@ mod divisor;
 mod laws;
 mod power;
 mod ratio;
+mod scene;
 mod value;
 
 pub use laws::one_ratio;
 pub use ratio::Ratio;
+pub use scene::Scene;
 pub use value::{Value, Values};
 
 #[cfg(test)]

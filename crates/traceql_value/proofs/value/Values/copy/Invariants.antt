@@ -1,6 +1,6 @@
--- So far the new list has the items that were copied.
+-- So far the copies are equal to what they are copies of.
 use Rattle.std.proofs.Common.{◌≡◌, take}
-use Rattle.span_types.proofs.attrs.Attrs.copy.Given as goal
+use Rattle.traceql_value.proofs.value.Values.copy.Given as goal
 
-abbrev pub invariant-loop-attr : goal.invariant-loop-attr
-invariant-loop-attr l = l.inner.items ≡ take l.attr-index l.attr-items
+abbrev pub invariant-loop-value : goal.invariant-loop-value
+invariant-loop-value l = l.inner.items ≡ take l.value-index l.value-items

@@ -1,0 +1,2 @@
+mod MarkLaws
+mod PartLaws
