@@ -1,5 +1,5 @@
 -- Parts of a list by values: joining them in any order gives the same, and what they have in the end.
-use Rattle.std.proofs.Common.{◌≡◌, ℕ, zero, suc, List, [], ◌∷◌, ◌++◌, map, Bool, true, false, cond, refl, sym, ap, ◌∙◌, subst, ◌⊎◌, inl, inr, append_assoc}
+use Rattle.std.proofs.Common.{◌≡◌, ℕ, zero, suc, ◌-◌, ◌<◌, arith, List, [], ◌∷◌, ◌++◌, map, Bool, true, false, cond, refl, sym, ap, ◌∙◌, subst, ◌⊎◌, inl, inr, append_assoc}
 use Rattle.std.specs.Cmp.{IsTotalOrder}
 use Rattle.std.specs.List.{filter}
 use Rattle.std.specs.Ordering.{is_eq, is_lt, ordering_reverse}
@@ -7,7 +7,9 @@ use Rattle.std.specs.declared.cmp.Ordering.{Ordering}
 use Rattle.std.specs.declared.cmp.Ordering.TheVariants.{Less, Equal, Greater}
 use Rattle.std.proofs.lemmas.Cmp.{tied_itself}
 use Rattle.traceql_value.specs.declared.value.Value.{Value}
+use Rattle.traceql_value.specs.declared.value.Value.TheVariants as value
 use Rattle.traceql_value.specs.Values.{value_cmp}
+use Rattle.spanset_eval.specs.declared.groups.Group.{Group}
 use Rattle.spanset_eval.specs.declared.parts.Part.{Part}
 use Rattle.spanset_eval.specs.Parts.{IsSound, sound, sound_cmp, with_former, put_part, put_all, arranged, Above, Ascend}
 use Rattle.spanset_eval.specs.Stages.{occurring, put}
@@ -77,21 +79,21 @@ put_swapped o a p e (r ∷ rs) =
             let first : sound_cmp a.value r.value ≡ Less = alike a.value q in
             ap (put_part a) (put_equal p r rs q) ∙ put_less a (with_former p r) rs first
             ∙ sym (ap (put_part p) (put_less a r rs first) ∙ put_greater p a (r ∷ rs) back ∙ ap (λ xs. a ∷ xs) (put_equal p r rs q))
-        | inr g ↦ ap (put_part a) (put_greater p r rs g) ∙ last g
+        | inr g ↦ ap (put_part a) (put_greater p r rs g) ∙ last g (put_swapped o a p e rs)
       ]
     ]
   where
     alike : (v : Value) → sound_cmp p.value r.value ≡ Equal → sound_cmp a.value r.value ≡ Less
     alike v q = flip_greater o r.value a.value (sym (o.congr p.value r.value a.value q) ∙ flip_less o a.value p.value e)
-    last : sound_cmp p.value r.value ≡ Greater → put_part a (r ∷ put_part p rs) ≡ put_part p (put_part a (r ∷ rs))
-    last g = elim (three (sound_cmp a.value r.value)) as (λ _. put_part a (r ∷ put_part p rs) ≡ put_part p (put_part a (r ∷ rs))) [
+    last : sound_cmp p.value r.value ≡ Greater → put_part a (put_part p rs) ≡ put_part p (put_part a rs) → put_part a (r ∷ put_part p rs) ≡ put_part p (put_part a (r ∷ rs))
+    last g behind = elim (three (sound_cmp a.value r.value)) as (λ _. put_part a (r ∷ put_part p rs) ≡ put_part p (put_part a (r ∷ rs))) [
       | inl l ↦
           put_less a r (put_part p rs) l
           ∙ sym (ap (put_part p) (put_less a r rs l) ∙ put_greater p a (r ∷ rs) (flip_less o a.value p.value e) ∙ ap (λ xs. a ∷ xs) (put_greater p r rs g))
       | inr m ↦ elim m as (λ _. put_part a (r ∷ put_part p rs) ≡ put_part p (put_part a (r ∷ rs))) [
         | inl q ↦ put_equal a r (put_part p rs) q ∙ sym (ap (put_part p) (put_equal a r rs q) ∙ put_greater p (with_former a r) rs g)
         | inr h ↦
-            put_greater a r (put_part p rs) h ∙ ap (λ xs. r ∷ xs) (put_swapped o a p e rs)
+            put_greater a r (put_part p rs) h ∙ ap (λ xs. r ∷ xs) behind
             ∙ sym (ap (put_part p) (put_greater a r rs h) ∙ put_greater p r (put_part a rs) g)
       ]
     ]
@@ -126,7 +128,7 @@ arranged-append o ps qs = put_all_arranged o ps (arranged qs) ∙ sym (put_all-a
 above_put : (v : Value) (p : Part) (ps : List Part) → sound_cmp v p.value ≡ Less → Above v ps → Above v (put_part p ps)
 above_put v p [] l all = (l, tt)
 above_put v p (q ∷ qs) l all = elim (three (sound_cmp p.value q.value)) as (λ _. Above v (put_part p (q ∷ qs))) [
-  | inl e ↦ subst (Above v) (sym (put_less p q qs e)) (l, all.0, all.1)
+  | inl e ↦ subst (Above v) (sym (put_less p q qs e)) (l, all)
   | inr m ↦ elim m as (λ _. Above v (put_part p (q ∷ qs))) [
     | inl e ↦ subst (Above v) (sym (put_equal p q qs e)) (all.0, all.1)
     | inr e ↦ subst (Above v) (sym (put_greater p q qs e)) (all.0, above_put v p qs l all.1)
@@ -227,7 +229,7 @@ differ_put o v u (w ∷ ws) d = elim (three (sound_cmp u w)) as (λ _. (is_eq (s
     | inr e ↦
         let d' : Differ v (w ∷ sound_put u ws) = subst (Differ v) (sp_step u w ws Greater e) d in
         let rest = differ_put o v u ws d'.1 in
-        (rest.0, d'.0, rest.1)
+        (rest.0, (d'.0, rest.1))
   ]
 ]
 
@@ -295,3 +297,72 @@ arranged_whole o f (y ∷ ys) =
     let before = arranged_whole o f ys in
     ap (put_part (single f y)) before
     ∙ put_whole o f y ys (sound_occurring (map f ys)) (subst Ascend before (ascend_arranged o (map (single f) ys))) (none_alike o f (f y) ys)
+
+-- ---- values whose numbers are sound
+
+pub sound_same : (v : Value) → IsSound v → sound v ≡ v
+sound_same value.Nil h = refl
+sound_same (value.Truth b) h = refl
+sound_same (value.Number r) h = ap (λ d. value.Number (record { numerator = r.numerator; denominator = d })) (above r.denominator h)
+  where
+    above : (d : ℕ) → 0 < d → suc (d - 1) ≡ d
+    above d l = omega arith
+sound_same (value.Text t) h = refl
+sound_same (value.Status s) h = refl
+sound_same (value.Kind k) h = refl
+
+pub sound_cmp_same : (v w : Value) → IsSound v → IsSound w → sound_cmp v w ≡ value_cmp v w
+unfolding sound_cmp
+sound_cmp_same v w a b = ap (λ x. value_cmp x (sound w)) (sound_same v a) ∙ ap (λ y. value_cmp v y) (sound_same w b)
+
+abbrev AllSound : List Value → Type 0
+AllSound [] = Unit
+AllSound (v ∷ vs) = IsSound v × AllSound vs
+
+sound_put_same : (v : Value) (ws : List Value) → IsSound v → AllSound ws → (sound_put v ws ≡ put v ws) × AllSound (put v ws)
+sound_put_same v [] a b = (refl, (a, tt))
+sound_put_same v (w ∷ ws) a b =
+    let rest = sound_put_same v ws a b.1 in
+    let same : sound_put v (w ∷ ws) ≡ cond (is_lt (value_cmp v w)) (v ∷ w ∷ ws) (cond (is_eq (value_cmp v w)) (w ∷ ws) (w ∷ put v ws)) =
+      ap (λ o. cond (is_lt o) (v ∷ w ∷ ws) (cond (is_eq o) (w ∷ ws) (w ∷ sound_put v ws))) (sound_cmp_same v w a b.0)
+      ∙ ap (λ xs. cond (is_lt (value_cmp v w)) (v ∷ w ∷ ws) (cond (is_eq (value_cmp v w)) (w ∷ ws) (w ∷ xs))) rest.0 in
+    (same, kept (is_lt (value_cmp v w)) (is_eq (value_cmp v w)) rest.1)
+  where
+    kept : (p q : Bool) → AllSound (put v ws) → AllSound (cond p (v ∷ w ∷ ws) (cond q (w ∷ ws) (w ∷ put v ws)))
+    kept true q h = (a, b)
+    kept false true h = b
+    kept false false h = (b.0, h)
+
+occurring_same : (vs : List Value) → AllSound vs → (sound_occurring vs ≡ occurring vs) × AllSound (occurring vs)
+occurring_same [] a = (refl, tt)
+occurring_same (v ∷ vs) a =
+    let rest = occurring_same vs a.1 in
+    let here = sound_put_same v (occurring vs) a.0 rest.1 in
+    (ap (sound_put v) rest.0 ∙ here.0, here.1)
+
+same_filter : (f : ℕ → Value) (w : Value) (ys : List ℕ) → IsSound w → AllSound (map f ys) →
+    filter (λ y. is_eq (sound_cmp (f y) w)) ys ≡ filter (λ y. is_eq (value_cmp (f y) w)) ys
+same_filter f w [] a b = refl
+same_filter f w (y ∷ ys) a b =
+    ap (λ o. cond (is_eq o) (y ∷ filter (λ z. is_eq (sound_cmp (f z) w)) ys) (filter (λ z. is_eq (sound_cmp (f z) w)) ys)) (sound_cmp_same (f y) w b.0 a)
+    ∙ ap (λ zs. cond (is_eq (value_cmp (f y) w)) (y ∷ zs) zs) (same_filter f w ys a b.1)
+
+abbrev grouped : List Value → Part → Group
+grouped by p = record { by = by ++ p.value ∷ []; members = p.members }
+
+abbrev group_at : (ℕ → Value) → List Value → List ℕ → Value → Group
+group_at f by ys v = record { by = by ++ v ∷ []; members = filter (λ y. is_eq (value_cmp (f y) v)) ys }
+
+groups_same : (f : ℕ → Value) (by : List Value) (ys : List ℕ) (ws : List Value) → AllSound ws → AllSound (map f ys) →
+    map (grouped by) (map (whole_part f ys) ws) ≡ map (group_at f by ys) ws
+groups_same f by ys [] a b = refl
+groups_same f by ys (w ∷ ws) a b =
+    ap (λ ms. record { by = by ++ w ∷ []; members = ms } ∷ map (grouped by) (map (whole_part f ys) ws)) (same_filter f w ys a.0 b)
+    ∙ ap (λ gs. group_at f by ys w ∷ gs) (groups_same f by ys ws a.1 b)
+
+-- The parts of a list are the groups of its values.
+pub groups_are : IsTotalOrder sound_cmp → (f : ℕ → Value) (by : List Value) (ys : List ℕ) → AllSound (map f ys) →
+    map (grouped by) (arranged (map (single f) ys)) ≡ map (group_at f by ys) (occurring (map f ys))
+groups_are o f by ys a =
+    let all = occurring_same (map f ys) a in
+    ap (map (grouped by)) (arranged_whole o f ys ∙ ap (map (whole_part f ys)) all.0) ∙ groups_same f by ys (occurring (map f ys)) all.1 a

@@ -1,6 +1,7 @@
 //! Aggregates of numbers, exactly.
 
-ghost use Rattle.std.specs.Prelude.{◌≡◌, ℕ, ◌<◌, ◌∷◌, pos, ◌*ℤ◌, IfOk, IsTrue, filter_map, Option};
+ghost use Rattle.std.specs.Prelude.{◌≡◌, ◌<◌, ◌++◌, pos, ◌*ℤ◌, ◌+ℤ◌, IfOk, OnOk};
+ghost use Rattle.std.specs.Option.{option_to_list};
 ghost use Rattle.traceql_syntax.specs.Trees.{tree, aggregate_tree, threshold_tree};
 ghost use Rattle.traceql_value.specs.Scenes.{scene_patterns, scene_rows};
 ghost use Rattle.traceql_value.specs.Values.{accepts};
@@ -55,11 +56,19 @@ fn numbers(
     let mut numbers = Vec::new(alloc);
     for position in members {
         let value = look::value_at(scene, rows, expr, *position)?;
-        if let Some(number) = whole_number(value) {
-            numbers.push(number)?;
-        }
+        add_number(&mut numbers, value)?;
     }
     Ok(numbers)
+}
+
+// Adds the number of a value that is a whole one.
+fn add_number(numbers: &mut Vec<i64>, value: Value) -> Result<(), Memory>
+    ensures { OnOk result (numbers.new.items ≡ numbers.old.items ++ option_to_list (whole_number value)) }
+{
+    if let Some(number) = whole_number(value) {
+        numbers.push(number)?;
+    }
+    Ok(())
 }
 
 // The sum of all numbers: fewer than 2^64 of 64 bits fit in 128.
@@ -100,7 +109,7 @@ fn greatest(first: i64, others: &[i64]) -> i64
 }
 
 // What an aggregate makes of numbers, if there are any.
-fn amount(op: AggregateOp, numbers: &[i64]) -> Option<Amount>
+fn amount_from(op: AggregateOp, numbers: &[i64]) -> Option<Amount>
     ensures { result ≡ amount_of op numbers.now }
 {
     let [first, others @ ..] = numbers else {
@@ -133,7 +142,7 @@ fn aggregate(
         Aggregate::Count => Ok(Some(whole(members.len() as i128))),
         Aggregate::Of(op, argument) => {
             let numbers = numbers(alloc, scene, rows, &argument.expr, members)?;
-            Ok(amount(*op, numbers.as_slice()))
+            Ok(amount_from(*op, numbers.as_slice()))
         }
     }
 }
@@ -182,19 +191,37 @@ fn accepts(op: Comparison, order: Ordering) -> bool
     }
 }
 
+// An amount as a whole number and what remains of it.
+#[derive(Clone, Copy)]
+struct Divided {
+    whole: i128,
+    rest: u64,
+}
+
+// The amount, divided.
+fn divided(amount: Amount) -> Divided
+    requires { 0 < amount.bottom }
+    ensures is { amount.top ≡ result.whole *ℤ pos amount.bottom +ℤ pos result.rest }
+    ensures rest { result.rest < amount.bottom }
+{
+    let over = i128::from(amount.bottom);
+    Divided {
+        whole: amount.top.div_euclid(over),
+        rest: amount.top.rem_euclid(over) as u64,
+    }
+}
+
 // Which of two amounts is less, exactly: whole quotients first, and of equal ones what remains of each.
 fn compare(a: Amount, b: Amount) -> Ordering
     requires some_a { 0 < a.bottom }
     requires some_b { 0 < b.bottom }
     ensures { result ≡ amount_cmp a b }
 {
-    let (over_a, over_b) = (i128::from(a.bottom), i128::from(b.bottom));
-    let whole_a = a.top.div_euclid(over_a);
-    let whole_b = b.top.div_euclid(over_b);
-    let rest_a = a.top.rem_euclid(over_a) as u128;
-    let rest_b = b.top.rem_euclid(over_b) as u128;
-    let wholes = whole_a.cmp(&whole_b);
-    wholes.then((rest_a * u128::from(b.bottom)).cmp(&(rest_b * u128::from(a.bottom))))
+    let former = divided(a);
+    let latter = divided(b);
+    let rest = u128::from(former.rest) * u128::from(b.bottom);
+    let other = u128::from(latter.rest) * u128::from(a.bottom);
+    former.whole.cmp(&latter.whole).then(rest.cmp(&other))
 }
 
 /// Whether the comparison of an aggregate over the members is true. It is false where a side has no number.

@@ -2,18 +2,18 @@
 #![tactic(auto)]
 
 mod amounts;
-mod evaluate;
+mod outcome;
 mod groups;
 mod look;
 mod marks;
 mod parts;
 mod pending;
-mod rank;
+mod ranking;
 mod relate;
 mod results;
 mod select;
 mod stages;
 
-pub use evaluate::evaluate;
-pub use rank::rank;
+pub use outcome::evaluate;
+pub use ranking::rank;
 pub use results::{Hit, Hits, Results, SetResult, Sets, TraceResult};

@@ -1,15 +1,15 @@
 //! A list of positions split by values.
 
-ghost use Rattle.std.specs.Prelude.{◌≡◌, ◌+◌, ◌<◌, ◌++◌, IfOk, IfSome, map, reverse, length, vec_len};
+ghost use Rattle.std.specs.Prelude.{◌≡◌, ◌∷◌, [], ◌+◌, ◌<◌, ◌++◌, IfOk, IfSome, map, reverse, length, vec_len};
 ghost use Rattle.std.specs.Option.{option_to_list};
-ghost use Rattle.spanset_eval.specs.Parts.{arranged, put_all, part_of, Ascend};
+ghost use Rattle.spanset_eval.specs.Parts.{arranged, put_all, part_of, sound_cmp, with_former, Ascend, IsSound};
 
 use crate::groups::Members;
 use crate::pending;
 use span_types::Memory;
 use std::alloc::Global;
 use std::cmp::Ordering;
-use traceql_value::Value;
+use traceql_value::{Ratio, Value};
 
 /// A position, and the value that an expression has there.
 #[derive(Drop)]
@@ -77,6 +77,32 @@ fn merged(alloc: Global, left: Vec<Part>, right: Vec<Part>) -> Result<Vec<Part>,
     Ok(merged)
 }
 
+/// A number isn't divided by 0, as its type has it.
+pub fn sound(value: &Value)
+    ensures { IsSound value.now }
+{
+    match value {
+        Value::Number(number) => above_zero(*number),
+        Value::Nil | Value::Truth(_) | Value::Text(_) | Value::Status(_) | Value::Kind(_) => {}
+    }
+}
+
+// The denominator of a number is above 0.
+fn above_zero(number: Ratio)
+    ensures { 0 < number.denominator }
+{
+    number.denominator();
+}
+
+// Which of two values comes first.
+fn order(a: &Value, b: &Value) -> Result<Ordering, Memory>
+    ensures { IfOk result (λ o. o ≡ sound_cmp a.now b.now) }
+{
+    sound(a);
+    sound(b);
+    pending::order(a, b)
+}
+
 // Takes the part that comes first off two lists, the last of each of which comes first in it.
 fn take_next(left: &mut Vec<Part>, right: &mut Vec<Part>) -> Result<Option<Part>, Memory>
     requires left_up { Ascend (reverse left.old.items) }
@@ -91,7 +117,7 @@ fn take_next(left: &mut Vec<Part>, right: &mut Vec<Part>) -> Result<Option<Part>
     let order = match (left.last(), right.last()) {
         (None, _) => return Ok(right.pop()),
         (_, None) => return Ok(left.pop()),
-        (Some(a), Some(b)) => pending::order(&a.value, &b.value)?,
+        (Some(a), Some(b)) => order(&a.value, &b.value)?,
     };
     match order {
         Ordering::Less => Ok(left.pop()),

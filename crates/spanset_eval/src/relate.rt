@@ -1,6 +1,6 @@
 //! Structural operators.
 
-ghost use Rattle.std.specs.Prelude.{◌≡◌, ℕ, IfOk, length};
+ghost use Rattle.std.specs.Prelude.{◌≡◌, ℕ, [], IfOk, length};
 ghost use Rattle.span_tree.specs.Marking.{IsMarked, MarksExactly};
 ghost use Rattle.spanset_eval.specs.Marked.{MarksSet};
 ghost use Rattle.spanset_eval.specs.Relating.{opposite_of};

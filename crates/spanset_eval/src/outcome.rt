@@ -2,6 +2,7 @@
 
 ghost use Rattle.std.specs.Prelude.{◌≡◌, ◌<◌, ◌++◌, IfOk, OnOk, length, map};
 ghost use Rattle.std.specs.List.{filter_map};
+ghost use Rattle.std.specs.Option.{option_to_list};
 ghost use Rattle.span_tree.specs.Nodes.{IsOneTrace, nodes_of};
 ghost use Rattle.span_types.specs.declared.spans.Row.{Row};
 ghost use Rattle.traceql_syntax.specs.Trees.{query_tree, set_tree, stage_tree};
@@ -68,6 +69,17 @@ fn hit(alloc: Global, scene: &Scene<'_>, stages: &[Stage], span: &Span) -> Resul
     })
 }
 
+// Adds the span at a position as it is shown, if there is one.
+fn add_hit(alloc: Global, scene: &Scene<'_>, rows: &[Row], stages: &[Stage], position: usize, hits: &mut Vec<Hit>) -> Result<(), Memory>
+    requires { rows.now ≡ scene_rows scene.now }
+    ensures { OnOk result (hits.new.items ≡ hits.old.items ++ option_to_list (hit_at (selected_fields (map stage_tree stages.now)) (scene_rows scene.now) position)) }
+{
+    if let Some(row) = rows.get(position) {
+        hits.push(hit(alloc, scene, stages, &row.span)?)?;
+    }
+    Ok(())
+}
+
 // The members as they are shown.
 fn hits(alloc: Global, scene: &Scene<'_>, rows: &[Row], stages: &[Stage], members: &[usize]) -> Result<Hits, Memory>
     requires { rows.now ≡ scene_rows scene.now }
@@ -75,9 +87,7 @@ fn hits(alloc: Global, scene: &Scene<'_>, rows: &[Row], stages: &[Stage], member
 {
     let mut hits = Vec::with_capacity(alloc, members.len())?;
     for position in members {
-        if let Some(row) = rows.get(*position) {
-            hits.push(hit(alloc, scene, stages, &row.span)?)?;
-        }
+        add_hit(alloc, scene, rows, stages, *position, &mut hits)?;
     }
     Ok(Hits::of(hits))
 }
