@@ -14,7 +14,7 @@ use Rattle.std.proofs.lemmas.List.{take_more}
 use Rattle.std.proofs.lemmas.List.Elements.{filter_map-append}
 use Rattle.std.proofs.Math.Nat.{mul_assoc, mul_comm, mul-lt-mul_of_pos_right, mod-lt}
 use Rattle.std.proofs.lemmas.Nat.{div-add-mod'}
-use lib.IntN.{suc_ℤ, suc_ℤ-*ℤ, *ℤ-zero}
+use lib.IntN.{suc_ℤ, suc_ℤ-*ℤ, +ℤ-suc_ℤ, *ℤ-zero}
 use Rattle.spanset_eval.specs.Stages.{total_of}
 use Rattle.spanset_eval.proofs.OrderLaws.{product_assoc, times_less, scaled}
 
@@ -38,6 +38,10 @@ filter_map_more {X} {Y} f xs i d l =
 
 -- ---- quotients
 
+-- By the signs: both sides are the same number.
+one_more : (x : ℤ) (r : ℕ) → x +ℤ pos (suc r) ≡ suc_ℤ (x +ℤ pos r)
+one_more x r = +ℤ-suc_ℤ x (pos r)
+
 pub sum_times : (x : ℤ) (r n : ℕ) → (x +ℤ pos r) *ℤ pos n ≡ x *ℤ pos n +ℤ pos (r * n)
 sum_times x zero n =
     let none : x +ℤ pos 0 ≡ x = omega (arith, ints) in
@@ -46,7 +50,7 @@ sum_times x zero n =
     last : (y : ℤ) (m : ℕ) → m ≡ 0 → y ≡ y +ℤ pos m
     last y m e = omega (arith, ints)
 sum_times x (suc r) n =
-    let one : x +ℤ pos (suc r) ≡ suc_ℤ (x +ℤ pos r) = omega (arith, ints) in
+    let one : x +ℤ pos (suc r) ≡ suc_ℤ (x +ℤ pos r) = one_more x r in
     ap (λ z. z *ℤ pos n) one ∙ suc_ℤ-*ℤ (x +ℤ pos r) (pos n) ∙ ap (λ z. z +ℤ pos n) (sum_times x r n) ∙ last (x *ℤ pos n) (r * n) (suc r * n) (omega arith)
   where
     last : (y : ℤ) (m k : ℕ) → k ≡ m + n → (y +ℤ pos m) +ℤ pos n ≡ y +ℤ pos k
@@ -70,10 +74,8 @@ times_le x y (suc k) l = by_cases (int_cmp x y) (int_ranks x y)
   where
     by_cases : (o : Ordering) → MatchOrdering o (x <ℤ y) (x ≡ y) (y <ℤ x) → (x *ℤ pos (suc k)) ≤ℤ (y *ℤ pos (suc k))
     by_cases Less h = let g = times_less x y (suc k) (omega arith) h in omega (arith, ints)
-    by_cases Equal e = subst (λ z. (x *ℤ pos (suc k)) ≤ℤ (z *ℤ pos (suc k))) e (reflexive (x *ℤ pos (suc k)))
+    by_cases Equal e = let same : x *ℤ pos (suc k) ≡ y *ℤ pos (suc k) = ap (λ z. z *ℤ pos (suc k)) e in omega (arith, ints)
     by_cases Greater h = absurd (omega (arith, ints))
-    reflexive : (z : ℤ) → z ≤ℤ z
-    reflexive z = omega (arith, ints)
 
 -- of numbers with one whole part
 same_whole : (z : ℤ) (a b : ℕ) → int_cmp (z +ℤ pos a) (z +ℤ pos b) ≡ nat_cmp a b
@@ -101,7 +103,7 @@ amounts_in_order s t x y m n a b es la et lb =
     step : (u v : ℤ) → u <ℤ v → (u *ℤ pos (m * n) +ℤ pos (m * n)) ≤ℤ (v *ℤ pos (m * n))
     step u v l = let h = times_le (u +ℤ pos 1) v (m * n) (omega (arith, ints)) in let e = sum_times u 1 (m * n) in omega (arith, ints)
     by_whole : (o : Ordering) → MatchOrdering o (x <ℤ y) (x ≡ y) (y <ℤ x) → ordering_then o (nat_cmp (a * n) (b * m)) ≡ int_cmp (s *ℤ pos n) (t *ℤ pos m)
-    by_whole Less l = let h = step x y l in int_cmp_is _ _ Less (omega (arith, ints))
+    by_whole Less l = let h = step x y l in int_cmp_is (s *ℤ pos n) (t *ℤ pos m) Less (omega (arith, ints))
     by_whole Equal e = sym (ap (λ z. int_cmp z (t *ℤ pos m)) left ∙ ap (λ z. int_cmp (x *ℤ pos (m * n) +ℤ pos (a * n)) z) (right ∙ ap (λ z. z *ℤ pos (m * n) +ℤ pos (b * m)) (sym e))
         ∙ same_whole (x *ℤ pos (m * n)) (a * n) (b * m))
-    by_whole Greater l = let h = step y x l in int_cmp_is _ _ Greater (omega (arith, ints))
+    by_whole Greater l = let h = step y x l in int_cmp_is (s *ℤ pos n) (t *ℤ pos m) Greater (omega (arith, ints))

@@ -132,3 +132,56 @@ pub joined_sets : (op : SpansetOp) (nodes : List Node) (count : ℕ) (A B : ℕ 
 joined_sets op nodes count A B left right marks a b is = set_as count (Joined op nodes (IsMarked left) (IsMarked right)) (Joined op nodes A B) marks is
     (λ y h. joined_as op nodes (IsMarked left) (IsMarked right) A B a.only a.whole b.only y h)
     (λ y h. joined_as op nodes A B (IsMarked left) (IsMarked right) a.whole a.only b.whole y h)
+
+-- ---- what the marks of the operators are
+
+by_count : (count n : ℕ) (test : ℕ → Bool) (marks : List Bool) → n ≡ count → MarksBy n test marks → MarksBy count test marks
+by_count count n test marks e by = subst (λ k. MarksBy k test marks) e by
+
+pub right_marks : (count : ℕ) (R : ℕ → ℕ → Type 0) (left right reached marks : List Bool) → length right ≡ count → MarksExactly R count left reached →
+    MarksBy (length right) (λ y. mark_at right y && mark_at reached y) marks → MarksSet count (Structural side.Right R (IsMarked left) (IsMarked right)) marks
+right_marks count R left right reached marks each is by =
+    both_set count right reached (IsMarked right) (IsReached (IsMarked left) R) marks (marked_set count right each) (reached_set R count left reached is)
+    (by_count count (length right) (λ y. mark_at right y && mark_at reached y) marks each by)
+
+pub unrelated_marks : (count : ℕ) (R : ℕ → ℕ → Type 0) (left right reached marks : List Bool) → length right ≡ count → MarksExactly R count left reached →
+    MarksBy (length right) (λ y. mark_at right y && not (mark_at reached y)) marks → MarksSet count (Structural side.Unrelated R (IsMarked left) (IsMarked right)) marks
+unrelated_marks count R left right reached marks each is by =
+    without_set count right reached (IsMarked right) (IsReached (IsMarked left) R) marks (marked_set count right each) (reached_set R count left reached is)
+    (by_count count (length right) (λ y. mark_at right y && not (mark_at reached y)) marks each by)
+
+pub both_marks : (r : Relation) (nodes : List Node) (count : ℕ) (left right reached reaching on_right on_left marks : List Bool) → length left ≡ count → length right ≡ count →
+    MarksExactly (Relates r nodes) count left reached → MarksExactly (Relates (opposite_of r) nodes) count right reaching →
+    MarksBy (length right) (λ y. mark_at right y && mark_at reached y) on_right → MarksBy (length left) (λ y. mark_at left y && mark_at reaching y) on_left →
+    MarksBy (length on_right) (λ y. mark_at on_right y || mark_at on_left y) marks → MarksSet count (Structural side.Both (Relates r nodes) (IsMarked left) (IsMarked right)) marks
+both_marks r nodes count left right reached reaching on_right on_left marks le re is back by_right by_left by =
+    let a = right_marks count (Relates r nodes) left right reached on_right re is by_right in
+    let b : MarksSet count (λ y. IsMarked left y × IsReached (IsMarked right) (λ z x. Relates r nodes x z) y) on_left =
+      both_set count left reaching (IsMarked left) (IsReached (IsMarked right) (λ z x. Relates r nodes x z)) on_left (marked_set count left le)
+      (reached_back r nodes count right reaching back) (by_count count (length left) (λ y. mark_at left y && mark_at reaching y) on_left le by_left) in
+    either_set count on_right on_left (λ y. IsMarked right y × IsReached (IsMarked left) (Relates r nodes) y)
+    (λ y. IsMarked left y × IsReached (IsMarked right) (λ z x. Relates r nodes x z) y) marks a b
+    (by_count count (length on_right) (λ y. mark_at on_right y || mark_at on_left y) marks (a.one_each) by)
+
+pub either_marks : (nodes : List Node) (left right marks : List Bool) → length left ≡ length right →
+    MarksBy (length left) (λ y. mark_at left y || mark_at right y) marks → MarksSet (length left) (Joined set.Or nodes (IsMarked left) (IsMarked right)) marks
+either_marks nodes left right marks e by =
+    either_set (length left) left right (IsMarked left) (IsMarked right) marks (marked_set (length left) left refl) (marked_set (length left) right (sym e)) by
+
+pub and_marks : (left right marks : List Bool) → length left ≡ length right → IsSome (IsMarked left) → IsSome (IsMarked right) →
+    MarksBy (length left) (λ y. mark_at left y || mark_at right y) marks → MarksSet (length left) (Joined set.And [] (IsMarked left) (IsMarked right)) marks
+and_marks left right marks e a b by =
+    set_as (length left) (λ y. IsMarked left y ⊎ IsMarked right y) (Joined set.And [] (IsMarked left) (IsMarked right)) marks (either_marks [] left right marks e by)
+    (λ y h. (a, b, h)) (λ y h. h.2)
+
+pub no_marks : (left right marks : List Bool) → (IsSome (IsMarked left) → IsSome (IsMarked right) → ⊥) →
+    MarksBy (length left) (λ y. false) marks → MarksSet (length left) (Joined set.And [] (IsMarked left) (IsMarked right)) marks
+no_marks left right marks none by = record {
+  one_each = by.one_each;
+  only = λ y h. let clash : true ≡ false = sym h ∙ by.each y (subst (λ n. y < n) by.one_each (in_marks marks y h)) in cc;
+  whole = λ y h. absurd (none h.0 h.1);
+}
+
+-- `&&` doesn't look at the relations.
+pub and_nodes : (nodes : List Node) (count : ℕ) (A B : ℕ → Type 0) (marks : List Bool) → MarksSet count (Joined set.And [] A B) marks → MarksSet count (Joined set.And nodes A B) marks
+and_nodes nodes count A B marks is = record { one_each = is.one_each; only = is.only; whole = is.whole }

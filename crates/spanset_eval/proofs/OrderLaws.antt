@@ -139,7 +139,7 @@ then_nothing Equal = refl
 then_nothing Greater = refl
 
 same_cmp : (a b : Value) → sound_cmp a b ≡ by_parts a b
-unfolding sound_cmp, code_of, text_of, quotient_of
+unfolding sound_cmp code_of text_of quotient_of
 same_cmp value.Nil value.Nil = refl
 same_cmp value.Nil (value.Truth b) = refl
 same_cmp value.Nil (value.Number b) = refl

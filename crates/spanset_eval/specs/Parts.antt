@@ -1,5 +1,6 @@
 -- Positions split by values: the parts of a list, each of one value, in ascending order.
-use Rattle.std.specs.Prelude.{ℕ, suc, ◌-◌, List, [], ◌∷◌, ◌++◌, ◌≡◌, ◌<◌, if◌then◌else◌}
+use Rattle.std.specs.Prelude.{ℕ, suc, ◌-◌, List, [], ◌∷◌, ◌++◌, ◌≡◌, ◌<◌, Option, if◌then◌else◌}
+use Rattle.std.specs.Option.{option_to_list}
 use Rattle.std.specs.Ordering.{is_eq, is_lt}
 use Rattle.std.specs.declared.cmp.Ordering.{Ordering}
 use Rattle.std.specs.declared.cmp.Ordering.TheVariants.{Less}
@@ -57,3 +58,9 @@ Above v (p ∷ ps) = (sound_cmp v p.value ≡ Less) × Above v ps
 abbrev pub Ascend : List Part → Type 0
 Ascend [] = Unit
 Ascend (p ∷ ps) = Above p.value ps × Ascend ps
+
+-- The part that comes first was taken off one of two lists in ascending order, or off both where they had its value.
+pub record Takes (left right : List Part) (next : Option Part) (left' right' : List Part) : Type 0 where
+  pub left_up : Ascend left'
+  pub right_up : Ascend right'
+  pub all : put_all left right ≡ option_to_list next ++ put_all left' right'

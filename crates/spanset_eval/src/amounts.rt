@@ -199,7 +199,7 @@ struct Divided {
 }
 
 // The amount, divided.
-fn divided(amount: Amount) -> Divided
+fn divide(amount: Amount) -> Divided
     requires { 0 < amount.bottom }
     ensures is { amount.top ≡ result.whole *ℤ pos amount.bottom +ℤ pos result.rest }
     ensures rest { result.rest < amount.bottom }
@@ -217,8 +217,8 @@ fn compare(a: Amount, b: Amount) -> Ordering
     requires some_b { 0 < b.bottom }
     ensures { result ≡ amount_cmp a b }
 {
-    let former = divided(a);
-    let latter = divided(b);
+    let former = divide(a);
+    let latter = divide(b);
     let rest = u128::from(former.rest) * u128::from(b.bottom);
     let other = u128::from(latter.rest) * u128::from(a.bottom);
     former.whole.cmp(&latter.whole).then(rest.cmp(&other))

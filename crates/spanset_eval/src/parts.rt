@@ -1,8 +1,7 @@
 //! A list of positions split by values.
 
 ghost use Rattle.std.specs.Prelude.{◌≡◌, ◌∷◌, [], ◌+◌, ◌<◌, ◌++◌, IfOk, IfSome, map, reverse, length, vec_len};
-ghost use Rattle.std.specs.Option.{option_to_list};
-ghost use Rattle.spanset_eval.specs.Parts.{arranged, put_all, part_of, sound_cmp, with_former, Ascend, IsSound};
+ghost use Rattle.spanset_eval.specs.Parts.{arranged, put_all, part_of, sound_cmp, with_former, Ascend, IsSound, Takes};
 
 use crate::groups::Members;
 use crate::pending;
@@ -107,37 +106,36 @@ fn order(a: &Value, b: &Value) -> Result<Ordering, Memory>
 fn take_next(left: &mut Vec<Part>, right: &mut Vec<Part>) -> Result<Option<Part>, Memory>
     requires left_up { Ascend (reverse left.old.items) }
     requires right_up { Ascend (reverse right.old.items) }
-    ensures left_up { IfOk result (λ next. Ascend (reverse left.new.items)) }
-    ensures right_up { IfOk result (λ next. Ascend (reverse right.new.items)) }
-    ensures all { IfOk result (λ next. put_all (reverse left.old.items) (reverse right.old.items)
-        ≡ option_to_list next ++ put_all (reverse left.new.items) (reverse right.new.items)) }
+    ensures takes { IfOk result (λ next. Takes (reverse left.old.items) (reverse right.old.items) next (reverse left.new.items) (reverse right.new.items)) }
     ensures fewer { IfOk result (λ next. IfSome next (λ p. vec_len left.new + vec_len right.new < vec_len left.old + vec_len right.old)) }
     ensures end { IfOk result (λ next. next ≡ None → vec_len left.new + vec_len right.new ≡ 0) }
 {
-    let order = match (left.last(), right.last()) {
-        (None, _) => return Ok(right.pop()),
-        (_, None) => return Ok(left.pop()),
-        (Some(a), Some(b)) => order(&a.value, &b.value)?,
-    };
-    match order {
-        Ordering::Less => Ok(left.pop()),
-        Ordering::Greater => Ok(right.pop()),
-        Ordering::Equal => joined(left.pop(), right.pop()),
+    match (left.pop(), right.pop()) {
+        (None, latter) => Ok(latter),
+        (former, None) => Ok(former),
+        (Some(former), Some(latter)) => match order(&former.value, &latter.value)? {
+            Ordering::Less => {
+                right.push(latter)?;
+                Ok(Some(former))
+            }
+            Ordering::Greater => {
+                left.push(former)?;
+                Ok(Some(latter))
+            }
+            Ordering::Equal => Ok(Some(joined(former, latter)?)),
+        },
     }
 }
 
 // The former's positions before the latter's.
-fn joined(former: Option<Part>, latter: Option<Part>) -> Result<Option<Part>, Memory>
-    ensures { IfOk result (λ next. (a b : Part) → former ≡ Some a → latter ≡ Some b → next ≡ Some (with_former a b)) }
+fn joined(former: Part, latter: Part) -> Result<Part, Memory>
+    ensures { IfOk result (λ part. part ≡ with_former former latter) }
 {
-    let (Some(former), Some(latter)) = (former, latter) else {
-        return Ok(None);
-    };
     let mut members = former.members.into_vec();
     let mut more = latter.members.into_vec();
     members.append(&mut more)?;
-    Ok(Some(Part {
+    Ok(Part {
         value: latter.value,
         members: Members::of(members),
-    }))
+    })
 }

@@ -1,5 +1,5 @@
 -- So far the list has the numbers of the members that were passed.
-use Rattle.std.proofs.Common.{◌≡◌, ℕ, ◌+◌, ◌*◌, ◌<◌, ◌≤◌, ◌++◌, ◌∷◌, [], ◌&&◌, ◌||◌, not, false, length, take, drop, map, reverse}
+use Rattle.std.proofs.Common.{◌≡◌, ℕ, ◌+◌, ◌*◌, ◌<◌, ◌≤◌, ◌++◌, ◌∷◌, [], ◌&&◌, ◌||◌, not, false, All, length, take, drop, map, reverse}
 use Rattle.traceql_syntax.specs.Trees.{tree}
 use Rattle.traceql_value.specs.Scenes.{scene_patterns, scene_rows}
 use Rattle.spanset_eval.specs.Seen.{IsSame}

@@ -1,5 +1,5 @@
 -- So far there is a mark for each row that was passed.
-use Rattle.std.proofs.Common.{◌≡◌, ℕ, ◌+◌, ◌*◌, ◌<◌, ◌≤◌, ◌++◌, ◌∷◌, [], ◌&&◌, ◌||◌, not, false, length, take, drop, map, reverse}
+use Rattle.std.proofs.Common.{◌≡◌, ℕ, ◌+◌, ◌*◌, ◌<◌, ◌≤◌, ◌++◌, ◌∷◌, [], ◌&&◌, ◌||◌, not, false, All, length, take, drop, map, reverse}
 use Rattle.span_types.specs.declared.spans.Row.{Row}
 use Rattle.traceql_syntax.specs.Trees.{placed_option}
 use Rattle.traceql_value.specs.Scenes.{scene_patterns, scene_rows}

@@ -1,5 +1,5 @@
 -- So far the list has the positions with a mark that were passed.
-use Rattle.std.proofs.Common.{◌≡◌, ℕ, ◌+◌, ◌*◌, ◌<◌, ◌≤◌, ◌++◌, ◌∷◌, [], ◌&&◌, ◌||◌, not, false, length, take, drop, map, reverse}
+use Rattle.std.proofs.Common.{◌≡◌, ℕ, ◌+◌, ◌*◌, ◌<◌, ◌≤◌, ◌++◌, ◌∷◌, [], ◌&&◌, ◌||◌, not, false, All, length, take, drop, map, reverse}
 use Rattle.std.specs.List.{filter}
 use Rattle.spanset_eval.specs.Marked.{mark_at}
 use Rattle.spanset_eval.specs.Stages.{positions_from}

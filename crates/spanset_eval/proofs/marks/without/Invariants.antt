@@ -1,5 +1,5 @@
 -- So far there is a mark for each position that was passed.
-use Rattle.std.proofs.Common.{◌≡◌, ℕ, ◌+◌, ◌*◌, ◌<◌, ◌≤◌, ◌++◌, ◌∷◌, [], ◌&&◌, ◌||◌, not, false, length, take, drop, map, reverse}
+use Rattle.std.proofs.Common.{◌≡◌, ℕ, ◌+◌, ◌*◌, ◌<◌, ◌≤◌, ◌++◌, ◌∷◌, [], ◌&&◌, ◌||◌, not, false, All, length, take, drop, map, reverse}
 use Rattle.spanset_eval.specs.Marked.{mark_at}
 use Rattle.spanset_eval.proofs.marks.without.Given as goal
 

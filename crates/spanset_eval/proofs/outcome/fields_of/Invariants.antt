@@ -1,5 +1,5 @@
 -- So far the list has what the fields are of the stages that were passed.
-use Rattle.std.proofs.Common.{◌≡◌, ℕ, ◌+◌, ◌*◌, ◌<◌, ◌≤◌, ◌++◌, ◌∷◌, [], ◌&&◌, ◌||◌, not, false, length, take, drop, map, reverse}
+use Rattle.std.proofs.Common.{◌≡◌, ℕ, ◌+◌, ◌*◌, ◌<◌, ◌≤◌, ◌++◌, ◌∷◌, [], ◌&&◌, ◌||◌, not, false, All, length, take, drop, map, reverse}
 use Rattle.traceql_syntax.specs.Trees.{stage_tree}
 use Rattle.traceql_value.specs.Scenes.{scene_patterns, scene_rows}
 use Rattle.traceql_value.specs.Spans.{field_of_span}

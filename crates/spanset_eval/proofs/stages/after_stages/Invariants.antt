@@ -1,5 +1,5 @@
 -- What the stages ahead make of the spansets is what all make of the first ones.
-use Rattle.std.proofs.Common.{◌≡◌, ℕ, ◌+◌, ◌*◌, ◌<◌, ◌≤◌, ◌++◌, ◌∷◌, [], ◌&&◌, ◌||◌, not, false, length, take, drop, map, reverse}
+use Rattle.std.proofs.Common.{◌≡◌, ℕ, ◌+◌, ◌*◌, ◌<◌, ◌≤◌, ◌++◌, ◌∷◌, [], ◌&&◌, ◌||◌, not, false, All, length, take, drop, map, reverse}
 use Rattle.traceql_syntax.specs.Trees.{stage_tree}
 use Rattle.traceql_value.specs.Scenes.{scene_patterns, scene_rows}
 use Rattle.spanset_eval.specs.Seen.{IsSame}

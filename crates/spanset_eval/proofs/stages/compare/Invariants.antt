@@ -1,5 +1,5 @@
 -- So far the list has the spansets that were passed and kept.
-use Rattle.std.proofs.Common.{◌≡◌, ℕ, ◌+◌, ◌*◌, ◌<◌, ◌≤◌, ◌++◌, ◌∷◌, [], ◌&&◌, ◌||◌, not, false, length, take, drop, map, reverse}
+use Rattle.std.proofs.Common.{◌≡◌, ℕ, ◌+◌, ◌*◌, ◌<◌, ◌≤◌, ◌++◌, ◌∷◌, [], ◌&&◌, ◌||◌, not, false, All, length, take, drop, map, reverse}
 use Rattle.std.specs.List.{filter}
 use Rattle.traceql_syntax.specs.Trees.{aggregate_tree, threshold_tree}
 use Rattle.traceql_value.specs.Scenes.{scene_patterns, scene_rows}

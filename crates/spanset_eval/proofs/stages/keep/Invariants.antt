@@ -1,5 +1,5 @@
 -- So far the list has what is kept of the spansets that were passed.
-use Rattle.std.proofs.Common.{◌≡◌, ℕ, ◌+◌, ◌*◌, ◌<◌, ◌≤◌, ◌++◌, ◌∷◌, [], ◌&&◌, ◌||◌, not, false, length, take, drop, map, reverse}
+use Rattle.std.proofs.Common.{◌≡◌, ℕ, ◌+◌, ◌*◌, ◌<◌, ◌≤◌, ◌++◌, ◌∷◌, [], ◌&&◌, ◌||◌, not, false, All, length, take, drop, map, reverse}
 use Rattle.std.specs.List.{filter}
 use Rattle.traceql_syntax.specs.Trees.{placed_option}
 use Rattle.traceql_value.specs.Scenes.{scene_patterns, scene_rows}

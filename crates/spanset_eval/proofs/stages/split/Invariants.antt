@@ -1,5 +1,5 @@
 -- So far the list has what the spansets were split into that were passed.
-use Rattle.std.proofs.Common.{◌≡◌, ℕ, ◌+◌, ◌*◌, ◌<◌, ◌≤◌, ◌++◌, ◌∷◌, [], ◌&&◌, ◌||◌, not, false, length, take, drop, map, reverse}
+use Rattle.std.proofs.Common.{◌≡◌, ℕ, ◌+◌, ◌*◌, ◌<◌, ◌≤◌, ◌++◌, ◌∷◌, [], ◌&&◌, ◌||◌, not, false, All, length, take, drop, map, reverse}
 use Rattle.std.specs.List.{flat_map}
 use Rattle.traceql_syntax.specs.Trees.{tree}
 use Rattle.traceql_value.specs.Scenes.{scene_patterns, scene_rows}
