@@ -11,8 +11,8 @@ use crate::PreparedList;
 use disk_model::{Device, write_through};
 use span_types::Failed;
 
-/// Closes the slot of the list's generation, syncs, writes the list behind the closed gate, and syncs: four device calls.
-/// It takes no memory. At every moment the slots stand for the list that counted before.
+/// The first half of a commit: a closed gate is put into the slot of the list's generation, and once that lasts the list is
+/// put behind it. It takes no memory. At every moment the slots stand for the list that counted before.
 pub fn lay<D: Device>(disk: &mut D, list: &PreparedList) -> Result<(), Failed>
     requires { IsTrue (D.tells disk.old) → CanLay (D.held disk.old) (D.may_leave disk.old) list.now }
 
@@ -36,8 +36,8 @@ pub fn lay<D: Device>(disk: &mut D, list: &PreparedList) -> Result<(), Failed>
     write_through(disk, slot, 1, list.text())
 }
 
-/// Opens the gate of a list that was laid, and syncs: two device calls. It takes no memory. At every moment the slots
-/// stand for the list that counted before or for this one, and at `Ok` for this one.
+/// The second half of a commit: the gate of a list that was laid is opened, and made to last. It takes no memory. At every
+/// moment the slots stand for the list that counted before or for this one, and at `Ok` for this one.
 pub fn open_gate<D: Device>(disk: &mut D, list: &PreparedList) -> Result<(), Failed>
     requires { IsTrue (D.tells disk.old) → CanOpen (D.held disk.old) (D.may_leave disk.old) list.now }
 

@@ -15,8 +15,8 @@ use disk_model::{Device, cut_through};
 use span_types::Failed;
 use std::alloc::Global;
 
-/// The list that counts, read from the two slots: both are synced and read, and a vacant slot of 30 bytes or more is cut
-/// to its first byte and synced. `None` comes exactly where both are vacant.
+/// The list that counts, or `None` on a disk whose slots have none. The two slots are made to last and then read. A slot
+/// that has no list, though it is long enough for one, is cut down to its gate.
 ///
 /// A closing gate may then be written to a slot whatever stands in it: it is either open, and holds the list before the
 /// one that counts, or too short to hold one. An `Err` leaves the disk for another call.

@@ -6,23 +6,23 @@ ghost use Rattle.disk_model.specs.Crash.{Follows, Within, OnlyBytes, Elapses, Ha
 
 use span_types::Failed;
 
-/// A disk of numbered files. A file that was never written is empty.
+/// A disk whose files have numbers for names. Each number has a file, which is empty to begin with.
 ///
-/// A call that fails raises the count of faults, which stands still at the last value of its type.
+/// Failed calls are counted, up to the last number that the count's type holds.
 pub trait Disk: Send + Drop {
-    /// Whether the contracts speak of the bytes that it holds. No call changes it.
+    /// Whether the contracts speak of the bytes that it holds: of a disk either always or never.
     ghost tells: { Self → Bool };
 
     /// The bytes that it holds, as a read gives them.
     ghost held: { Self → Image };
 
-    /// What a crash may leave now.
+    /// The images that a crash at this moment may leave.
     ghost may_leave: { Self → Image → Type 0 };
 
     /// The moment, as a number that no call lowers.
     ghost moment: { Self → ℕ };
 
-    /// What a crash may have left at some moment since that one, in a call or between two.
+    /// The images that a crash may have left at any moment from that one on. Moments inside of a call count.
     ghost left_since: { Self → ℕ → Image → Type 0 };
 
     /// How many calls have failed.
@@ -54,9 +54,9 @@ pub trait Disk: Send + Drop {
         ensures cause { HasCause (faults self.old) (faults self.new) result }
         ensures one_read { (reads self.old ≤ reads self.new) × (reads self.new ≤ reads self.old + 1) };
 
-    /// Writes the bytes into a file, from the byte `at` on. Past the end a gap becomes zeros; to write no bytes changes
-    /// nothing. A write whose end is 2^63 or more changes nothing and fails. Until a sync of the file, a crash may leave
-    /// any bytes in the range, also where the call failed.
+    /// Writes the bytes into a file, from the byte `at` on. Places between the old end and `at` become zeros; to write no
+    /// bytes changes nothing. No file is let grow to 2^63 bytes: such a write fails, and the disk is as before. Until a sync
+    /// of the file, a crash may leave any bytes in the range, also where the call failed.
     fn write(&mut self, file: u32, at: u64, bytes: &[u8]) -> Result<(), Failed>
         ensures written { IsTrue (tells self.old) → OnOk result (bytes_of (held self.new) file ≡ overwritten (bytes_of (held self.old) file) at bytes.now) }
         ensures near { OnOk result (at + length bytes.now < 2 ^ 63) }
@@ -69,8 +69,8 @@ pub trait Disk: Send + Drop {
         ensures cause { HasCause (faults self.old) (faults self.new) result }
         ensures no_read { reads self.new ≡ reads self.old };
 
-    /// Shortens a file to a length. A file that isn't longer stays as it is. Until a sync of the file, a crash may leave
-    /// any length between the two and any bytes past `len`, also where the call failed.
+    /// Drops what a file has from the byte `len` on, which may be nothing. Until a sync of the file, a crash may leave any
+    /// length between the two and any bytes past `len`, also where the call failed.
     fn cut(&mut self, file: u32, len: u64) -> Result<(), Failed>
         ensures shortened { IsTrue (tells self.old) → OnOk result (bytes_of (held self.new) file ≡ take len (bytes_of (held self.old) file)) }
         ensures besides { IsTrue (tells self.old) → Besides file (held self.old) (held self.new) }
@@ -80,7 +80,8 @@ pub trait Disk: Send + Drop {
         ensures cause { HasCause (faults self.old) (faults self.new) result }
         ensures no_read { reads self.new ≡ reads self.old };
 
-    /// Makes what a file holds last: at `Ok` a crash leaves of this file what a read gives. An `Err` tells nothing.
+    /// Makes what a file holds last: behind an `Ok` a crash can leave nothing else of it, and behind an `Err` whatever it
+    /// could leave before.
     fn sync(&mut self, file: u32) -> Result<(), Failed>
         ensures lasting { IsTrue (tells self.old) → OnOk result (OnlyBytes file (bytes_of (held self.new) file) (may_leave self.new)) }
         ensures same_bytes { IsTrue (tells self.old) → SameBytes (held self.old) (held self.new) }
@@ -90,7 +91,7 @@ pub trait Disk: Send + Drop {
         ensures cause { HasCause (faults self.old) (faults self.new) result }
         ensures no_read { reads self.new ≡ reads self.old };
 
-    /// How many calls have failed. It is no call of the device, and takes no memory.
+    /// The count of failed calls, which is at hand: the device isn't asked for it.
     fn faults(&self) -> u64
         ensures { result ≡ faults self.now };
 

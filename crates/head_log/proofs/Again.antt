@@ -21,7 +21,8 @@ use Rattle.byte_fields.proofs.FieldLaws.{left-ahead, raw_again, byte_again, fixe
 use Rattle.byte_fields.proofs.Texts.{text_at-text}
 use Rattle.head_log.specs.Breaks.{in_part}
 use Rattle.head_log.specs.Bodies.{list_bytes, value_bytes, attr_bytes, attrs_bytes, kind_byte, status_byte, parent_bytes, span_bytes}
-use Rattle.head_log.specs.Sound.{IsWord, IsSoundValue, IsSoundAttr, has_key, AreDistinctAfter, AreSoundAttrs, IsId, IsSoundSpan}
+use Rattle.span_types.specs.Promises.{has_key, AreDistinctAfter}
+use Rattle.head_log.specs.Sound.{IsWord, IsSoundValue, IsSoundAttr, AreSoundAttrs, IsId, IsSoundSpan}
 use Rattle.head_log.specs.Scanning.{truth_at, text_value_at, whole_value_at, truth_value_at, value_at, keyed_at, attr_at, items_at, attrs_at, id_at, trace_id_at, span_id_at, some_id_at, parent_at, kind_at, status_at, span_at}
 use Rattle.head_log.proofs.ReadingLoops.{read_to}
 

@@ -11,3 +11,5 @@ pub mod AgainRecords
 pub mod Meant
 pub mod MeantRuns
 pub mod MeantRecords
+pub mod Promised
+pub mod Distinct

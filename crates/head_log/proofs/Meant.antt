@@ -25,7 +25,8 @@ use Rattle.byte_fields.proofs.FieldLaws.{left_fits, raw_takes, byte_takes, fixed
 use Rattle.byte_fields.proofs.TextLaws.{Passes-then, text_answer}
 use Rattle.head_log.specs.Breaks.{or_place, in_part}
 use Rattle.head_log.specs.Bodies.{list_bytes, value_bytes, attr_bytes, attrs_bytes, kind_byte, status_byte, parent_bytes, span_bytes}
-use Rattle.head_log.specs.Sound.{IsWord, IsSoundValue, IsSoundAttr, has_key, all_zero, AreDistinctAfter, AreSoundAttrs, IsId, IsSoundSpan}
+use Rattle.span_types.specs.Promises.{has_key, all_zero, AreDistinctAfter}
+use Rattle.head_log.specs.Sound.{IsWord, IsSoundValue, IsSoundAttr, AreSoundAttrs, IsId, IsSoundSpan}
 use Rattle.head_log.specs.Scanning.{or_break, truth_of, truth_at, text_value_at, whole_value_at, truth_value_at, value_of, value_at, keyed_at, attr_at, items_at, attrs_at, id_at, trace_id_at, span_id_at, some_id_at, parent_of, parent_at, kind_of, kind_at, status_of, status_at, span_at}
 use Rattle.head_log.proofs.Again.{IsBelow64, IsAny, one_byte, IsOf}
 

@@ -168,3 +168,7 @@ segment_means first bytes found end fit e =
         };
       },
     )
+
+-- a record that is read has few spans
+pub record_few : (number : ℕ) (s : Stand) → IsWithin s.whole s.at → (spans : List Span) (t : Stand) → record_at number s ≡ Ok (spans, t) → length spans ≤ 16384
+record_few number s is spans t e = (record_means number s is spans t e).of.sound.few

@@ -6,8 +6,8 @@ use Rattle.byte_fields.specs.Reading.{Stand}
 use Rattle.head_log.specs.declared.breaks.Break.{Break}
 use Rattle.head_log.specs.declared.breaks.Break.TheVariants as breaks
 
--- The place where a field breaks, which begins where the reader stands. In a part that ends within the file, a field that
--- would pass the part's end breaks at its first byte; elsewhere bytes are missing at the file's length.
+-- The place that is told of a field which can't be read from where the reader stands. Where it is too long for its part and
+-- the file goes on behind the part, the place is its own; where the file doesn't, it is the file's end.
 abbrev pub place_of : Bool → Stand → FieldError → ℕ
 place_of within s (Short at) = if within then s.at else at
 place_of within s (NotShortest at) = at

@@ -1,6 +1,7 @@
 pub mod Records
 pub mod Bodies
 pub mod Sound
+pub mod Written
 pub mod Stands
 pub mod Framing
 pub mod Breaks

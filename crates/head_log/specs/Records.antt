@@ -1,22 +1,22 @@
--- A log segment as records and gates.
+-- The bytes of a log segment: a version, and records behind gates.
 use Rattle.std.specs.Prelude.{◌≡◌, ◌≢◌, ◌⊎◌, ℕ, ◌<◌, ◌^◌, List, [], ◌∷◌, ◌++◌, length}
 use Rattle.std.specs.List.{flat_map, AllByRecursion}
 use Rattle.byte_fields.specs.Spelling.{fixed64_bytes}
 
--- a record: an open gate, the length of its body, and the body
+-- what counts as a record: 1, which opens its gate, and a body behind its length
 unfoldable pub record_bytes : List ℕ → List ℕ
 record_bytes body = 1 ∷ (fixed64_bytes (length body) ++ body)
 
--- the version, and records with these bodies
+-- the bytes of a segment up to its last gate
 abbrev pub written : List (List ℕ) → List ℕ
 written bodies = 1 ∷ flat_map record_bytes bodies
 
--- a body has a length that its field can hold
+-- eight bytes can tell the length
 abbrev pub IsShort : List ℕ → Type 0
 IsShort body = length body < 2 ^ 64
 
--- The bytes are the version, records with these bodies, and a closed gate at this place. What stands behind that gate
--- doesn't count.
+-- The records of these bytes are those with these bodies: the byte behind them, at this place, opens no further one. It
+-- doesn't matter what follows it.
 pub record HasBodies (bodies : List (List ℕ)) (gate : ℕ) (bytes : List ℕ) : Type 0 where
   pub shut : ℕ
   pub rest : List ℕ
@@ -25,14 +25,14 @@ pub record HasBodies (bodies : List (List ℕ)) (gate : ℕ) (bytes : List ℕ) 
   pub place : gate ≡ length (written bodies)
   pub short : AllByRecursion IsShort bodies
 
--- the bytes are a segment with records of just these bodies
+-- the same, wherever that byte stands
 abbrev pub IsSegment : List (List ℕ) → List ℕ → Type 0
 IsSegment bodies bytes = (gate : ℕ) × HasBodies bodies gate bytes
 
--- what is written behind a record's gate: the length of the body, the body, and the next gate, which is closed
+-- a body behind its length, and a byte that opens no further record
 unfoldable pub framed : List ℕ → List ℕ
 framed body = fixed64_bytes (length body) ++ body ++ 0 ∷ []
 
--- the earlier records alone, or these and the new one
+-- a record was added or wasn't, and those before it are there
 abbrev pub IsEarlierOrWith : List (List ℕ) → List ℕ → List ℕ → Type 0
 IsEarlierOrWith bodies body bytes = IsSegment bodies bytes ⊎ IsSegment (bodies ++ body ∷ []) bytes

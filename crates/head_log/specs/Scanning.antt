@@ -16,7 +16,7 @@ use Rattle.span_runs.specs.Same.{same_resource, same_scope}
 use Rattle.byte_fields.specs.Reading.{Stand, ◌>>=◌, raw_at, byte_at, fixed64_at, var_at, zigzag_at, text_at}
 use Rattle.head_log.specs.declared.numbered.NumberedBatch.{NumberedBatch}
 use Rattle.head_log.specs.Breaks.{in_part}
-use Rattle.head_log.specs.Sound.{has_key, all_zero}
+use Rattle.span_types.specs.Promises.{has_key, all_zero}
 
 -- what stands for a byte, or the place of one that stands for nothing
 abbrev pub or_break : {A : Type 0} → ℕ → Option A → Stand → Result (A × Stand) ℕ

@@ -1,12 +1,13 @@
--- Which batches a log can keep: what the types of spans promise.
-use Rattle.std.specs.Prelude.{◌≡◌, ℕ, ◌<◌, ◌≤◌, ◌^◌, ◌==◌, Bool, false, List, [], ◌∷◌, ◌++◌, length, IfSome, FitsSigned}
+-- Which batches a log can keep. The types of spans promise all of it but the number.
+use Rattle.std.specs.Prelude.{◌≡◌, ℕ, ◌<◌, ◌≤◌, ◌^◌, false, List, length, IfSome, FitsSigned}
 use Rattle.std.specs.Int.{w64}
-use Rattle.std.specs.List.{AllByRecursion, list_all, list_any}
-use Rattle.std.specs.Str.{IsUtf8, bytes_eq}
+use Rattle.std.specs.List.{AllByRecursion}
+use Rattle.std.specs.Str.{IsUtf8}
 use Rattle.span_types.specs.declared.attrs.Attr.{Attr}
 use Rattle.span_types.specs.declared.attrs.AttrValue.{AttrValue}
 use Rattle.span_types.specs.declared.attrs.AttrValue.TheVariants.{Text, Whole, Truth}
 use Rattle.span_types.specs.declared.spans.Span.{Span}
+use Rattle.span_types.specs.Promises.{AreDistinct, all_zero}
 use Rattle.byte_fields.specs.Reading.{AreBytes}
 
 -- a text, of a length that its field can hold
@@ -23,23 +24,10 @@ pub record IsSoundAttr (attr : Attr) : Type 0 where
   pub key : IsWord attr.key
   pub value : IsSoundValue attr.value
 
--- one of the attributes has the key
-abbrev pub has_key : List ℕ → List Attr → Bool
-has_key key attrs = list_any (λ attr. bytes_eq attr.key key) attrs
-
--- each key is none of those before it
-abbrev pub AreDistinctAfter : List Attr → List Attr → Type 0
-AreDistinctAfter before [] = Unit {0}
-AreDistinctAfter before (attr ∷ later) = (has_key attr.key before ≡ false) × AreDistinctAfter (before ++ attr ∷ []) later
-
 pub record AreSoundAttrs (attrs : List Attr) : Type 0 where
   pub each : AllByRecursion IsSoundAttr attrs
-  pub distinct : AreDistinctAfter [] attrs
+  pub distinct : AreDistinct attrs
   pub few : length attrs < 2 ^ 64
-
--- all the bytes are zeros
-abbrev pub all_zero : List ℕ → Bool
-all_zero bytes = list_all (λ b. b == 0) bytes
 
 -- so many bytes, which are not all zeros
 pub record IsId (count : ℕ) (bytes : List ℕ) : Type 0 where

@@ -42,8 +42,8 @@ impl<T: Drop> From<AllocFailed<T>> for Break {
     }
 }
 
-/// What a field's error is, where the field begins at `at`. In a part that ends within the file, a field that would pass
-/// the part's end breaks at its first byte; elsewhere bytes are missing at the file's length.
+/// What a field's error is, where the field begins at `at`. A field that is too long for its part is at fault itself, where
+/// the file goes on behind the part; where it doesn't, the file is too short.
 pub fn broken(error: FieldError, at: u64, within: bool) -> Break
     ensures { result ≡ break_of within at error }
 {

@@ -1,13 +1,13 @@
 //! The body of a record, read field by field.
 
-ghost use Rattle.std.specs.Prelude.{◌≡◌, ◌++◌, ◌∷◌, ℕ, List, [], Ok, IfOk, OnOk, IfErr, length, not};
+ghost use Rattle.std.specs.Prelude.{◌≡◌, ◌++◌, ◌∷◌, ℕ, List, [], false, Ok, IfOk, IfSome, OnOk, IfErr, length, not};
 ghost use Rattle.byte_fields.specs.Reading.{Stand};
 ghost use Rattle.span_types.specs.declared.attrs.Attr.{Attr};
 ghost use Rattle.head_log.specs.declared.breaks.Break.TheVariants as broken;
 ghost use Rattle.head_log.specs.Breaks.{Gives};
 ghost use Rattle.head_log.specs.Keys.{HasKeysOf};
 ghost use Rattle.head_log.specs.Scanning.{attr_at, attrs_at, id_at, items_at, keyed_at, kind_at, parent_at, some_id_at, span_at, span_id_at, status_at, text_value_at, trace_id_at, truth_at, truth_value_at, value_at, whole_value_at};
-ghost use Rattle.head_log.specs.Sound.{all_zero, has_key};
+ghost use Rattle.span_types.specs.Promises.{all_zero, has_key};
 
 use crate::breaks::{self, Break};
 use byte_fields::Reader;
@@ -139,6 +139,7 @@ pub fn attrs(alloc: Global, reader: &mut Reader, within: bool) -> Result<Attrs, 
 fn id<'a>(reader: &mut Reader<'a>, within: bool, count: u64) -> Result<&'a [u8], Break>
     ensures gives { Gives (λ x. x.now) result reader.new (id_at count within reader.old) }
     ensures count { IfOk result (λ x. length x.now ≡ count) }
+    ensures some { IfOk result (λ x. all_zero x.now ≡ false) }
 {
     let at = reader.at();
     let bytes = breaks::raw(reader, within, count)?;
@@ -156,7 +157,8 @@ fn all_zero(bytes: &[u8]) -> bool
 
 #[tactic(auto, unfolding(crate::specs::Scanning::trace_id_at))]
 fn trace_id(reader: &mut Reader, within: bool) -> Result<TraceId, Break>
-    ensures { Gives (λ x. x) result reader.new (trace_id_at within reader.old) }
+    ensures gives { Gives (λ x. x) result reader.new (trace_id_at within reader.old) }
+    ensures some { IfOk result (λ id. all_zero id.0 ≡ false) }
 {
     let bytes = id(reader, within, 16)?;
     let mut trace = [0; 16];
@@ -166,7 +168,8 @@ fn trace_id(reader: &mut Reader, within: bool) -> Result<TraceId, Break>
 
 #[tactic(auto, unfolding(crate::specs::Scanning::span_id_at))]
 fn span_id(reader: &mut Reader, within: bool) -> Result<SpanId, Break>
-    ensures { Gives (λ x. x) result reader.new (span_id_at within reader.old) }
+    ensures gives { Gives (λ x. x) result reader.new (span_id_at within reader.old) }
+    ensures some { IfOk result (λ id. all_zero id.0 ≡ false) }
 {
     let bytes = id(reader, within, 8)?;
     let mut span = [0; 8];
@@ -176,7 +179,8 @@ fn span_id(reader: &mut Reader, within: bool) -> Result<SpanId, Break>
 
 #[tactic(auto, unfolding(crate::specs::Scanning::some_id_at))]
 fn some_id(reader: &mut Reader, within: bool) -> Result<Option<SpanId>, Break>
-    ensures { Gives (λ x. x) result reader.new (some_id_at within reader.old) }
+    ensures gives { Gives (λ x. x) result reader.new (some_id_at within reader.old) }
+    ensures some { IfOk result (λ parent. IfSome parent (λ id. all_zero id.0 ≡ false)) }
 {
     let id = span_id(reader, within)?;
     Ok(Some(id))
@@ -184,7 +188,8 @@ fn some_id(reader: &mut Reader, within: bool) -> Result<Option<SpanId>, Break>
 
 #[tactic(auto, unfolding(crate::specs::Scanning::parent_at))]
 fn parent(reader: &mut Reader, within: bool) -> Result<Option<SpanId>, Break>
-    ensures { Gives (λ x. x) result reader.new (parent_at within reader.old) }
+    ensures gives { Gives (λ x. x) result reader.new (parent_at within reader.old) }
+    ensures some { IfOk result (λ parent. IfSome parent (λ id. all_zero id.0 ≡ false)) }
 {
     let at = reader.at();
     match breaks::byte(reader, within)? {

@@ -12,7 +12,7 @@ use byte_fields::Reader;
 use span_types::{Batch, Span, Spans};
 use std::alloc::Global;
 
-/// An open gate. Every other byte is a closed one.
+/// The gate of a record that counts.
 const OPEN: u8 = 1;
 
 /// The version of the format, which is a segment's first byte.

@@ -11,14 +11,13 @@ use crate::Prepared;
 use disk_model::{Device, write_through};
 use span_types::Failed;
 
-/// An open gate. Every other byte is a closed one.
+/// The gate of a record that counts.
 const OPEN: u8 = 1;
 
-/// The bytes of a segment without records: its version, and a closed gate.
+/// What a segment without records is: a version, and a gate that isn't open.
 const EMPTY: [u8; 2] = [1, 0];
 
-/// A log segment: its file, the number of its first record, how many records it has, and the place of its last gate,
-/// which is closed.
+/// A segment of the log that can be written on.
 #[derive(Debug, Drop)]
 pub struct Segment {
     /// The file.
@@ -27,13 +26,13 @@ pub struct Segment {
     pub first: u64,
     /// How many records there are.
     pub count: u64,
-    /// The place of the last gate, a byte of the file.
+    /// Where in the file the next record begins: the byte that is its gate, and is closed so far.
     pub gate: u64,
     ghost near: { gate < 2 ^ 63 },
 }
 
 impl Segment {
-    /// What `create` leaves in a file, with this number for its first record.
+    /// The segment that `create` made of a file, if its first record is to have this number.
     pub fn fresh(file: u32, first: u64) -> Segment
         ensures { (result.file ≡ file) × (result.first ≡ first) × (result.count ≡ 0) × (result.gate ≡ 1) }
     {
@@ -46,7 +45,7 @@ impl Segment {
     }
 }
 
-/// Makes a segment without records of a file: it is emptied, and the version and a closed gate are written and synced.
+/// Turns a file into a segment without records, whatever it held. What is written lasts before `Ok` is answered.
 pub fn create<D: Device>(disk: &mut D, file: u32) -> Result<(), Failed>
     // At `Ok` every image holds the empty segment.
     ensures empty { IsTrue (D.tells disk.old) → OnOk result (StandsFor 0 [] 1 (bytes_of (D.held disk.new) file)
@@ -65,24 +64,23 @@ pub fn create<D: Device>(disk: &mut D, file: u32) -> Result<(), Failed>
     write_through(disk, file, 0, &EMPTY)
 }
 
-/// Adds a record to a segment. It makes four calls of the device: the body with the next gate, which is closed, a sync,
-/// the gate, and a sync. It takes no memory. A refused call leaves `seg` as it was; the file may then hold the record or
-/// not, so no further record is to be added to it before it is scanned again.
+/// Adds a record to a segment: its text is made to last, and then its gate, so that a crash can't open a gate before a body
+/// that didn't get through. Its memory was taken when the record was prepared.
 ///
-/// The gate is written alone, once the body lasts: until then the gate before the body is closed on the disk, whatever a
-/// crash leaves of the body.
+/// A refused call leaves `seg` as it was; the file may then hold the record or not, so no further record is to be added to
+/// it before it is scanned again.
 pub fn append<D: Device>(disk: &mut D, seg: &mut Segment, entry: &Prepared) -> Result<(), Failed>
     requires number { entry.now.number ≡ seg.old.first + seg.old.count }
     requires limit { entry.now.number < 4294967295 }
 
-    // Where the only image of the file holds these batches and then a closed gate at the shown place, every image since
-    // the start holds the earlier batches alone, or these and the new one.
+    // The file stands for these batches whatever a crash leaves of it, with its closed gate where the segment says. Then it
+    // stands for them, with or without the new one, whenever a crash comes in the call.
     ensures any_moment { (batches : List (List Span)) (spans : List Span) (known : List ℕ) → IsTrue (D.tells disk.old)
         → OnlyBytes seg.old.file known (D.may_leave disk.old) → StandsFor seg.old.first batches seg.old.gate known
         → length batches ≡ seg.old.count → IsBody entry.now.number spans entry.now.body
         → Passes D.moment D.left_since D.may_leave seg.old.file (KeepsEarlierOrWith seg.old.first batches spans) (KeepsEarlierOrWith seg.old.first batches spans) disk.old disk.new }
 
-    // At `Ok` every image holds the new one, and the segment shows it.
+    // Behind an `Ok` nothing but the batches and the new one can be left, and the segment counts it.
     ensures acknowledged { (batches : List (List Span)) (spans : List Span) (known : List ℕ) → IsTrue (D.tells disk.old)
         → OnlyBytes seg.old.file known (D.may_leave disk.old) → StandsFor seg.old.first batches seg.old.gate known
         → length batches ≡ seg.old.count → IsBody entry.now.number spans entry.now.body
@@ -103,19 +101,17 @@ pub fn append<D: Device>(disk: &mut D, seg: &mut Segment, entry: &Prepared) -> R
     Ok(())
 }
 
-/// Adds a record to the bytes of a segment: its body behind the closed gate, with the next gate, and then the gate.
-///
-/// Each of the two writes is synced before the next step, so four calls of the device are made. The gate is written
-/// alone: while the body is written, the gate before it is closed on the disk, whatever a crash leaves of the body.
+/// Adds a record to the bytes of a segment: first what stands behind the gate, the next gate among it, and once that lasts
+/// the gate. Until then the gate on the disk is closed, so that it doesn't matter what a crash leaves of the body.
 fn append_record<D: Device>(disk: &mut D, file: u32, gate: u64, text: &[u8]) -> Result<(), Failed>
     requires { gate < 2 ^ 63 }
 
-    // Every image since the start holds the earlier records alone, or these and the new one.
+    // Whenever a crash comes, the earlier records are there, with or without the new one.
     ensures any_moment { (bodies : List (List ℕ)) (body known : List ℕ) → IsTrue (D.tells disk.old) → text.now ≡ framed body → length body < 2 ^ 64
         → OnlyBytes file known (D.may_leave disk.old) → HasBodies bodies gate known
         → Passes D.moment D.left_since D.may_leave file (IsEarlierOrWith bodies body) (IsEarlierOrWith bodies body) disk.old disk.new }
 
-    // At `Ok` every image holds the new one.
+    // Behind an `Ok` the new one can't be lost.
     ensures acknowledged { (bodies : List (List ℕ)) (body known : List ℕ) → IsTrue (D.tells disk.old) → text.now ≡ framed body → length body < 2 ^ 64
         → OnlyBytes file known (D.may_leave disk.old) → HasBodies bodies gate known
         → OnOk result (HasBodies (bodies ++ body ∷ []) (gate + length text.now) (bytes_of (D.held disk.new) file)

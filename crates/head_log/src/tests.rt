@@ -1,3 +1,7 @@
+//! Segments by their bytes, worked out by hand.
+
+ghost use Rattle.span_types.specs.Promises.{AreNames};
+
 use crate::{LogError, Prepared, Segment, append, create, scan};
 use disk_model::{Disk, MemDisk};
 use span_types::{
@@ -9,12 +13,6 @@ use std::test::Fail;
 
 /// A segment after one batch without spans.
 const ONE_EMPTY: [u8; 20] = [1, 1, 9, 0, 0, 0, 0, 0, 0, 0, 0, 0, 0, 0, 0, 0, 0, 0, 0, 0];
-
-/// A segment after three of them.
-const THREE: [u8; 56] = [
-    1, 1, 9, 0, 0, 0, 0, 0, 0, 0, 0, 0, 0, 0, 0, 0, 0, 0, 0, 1, 9, 0, 0, 0, 0, 0, 0, 0, 1, 0, 0, 0,
-    0, 0, 0, 0, 0, 1, 9, 0, 0, 0, 0, 0, 0, 0, 2, 0, 0, 0, 0, 0, 0, 0, 0, 0,
-];
 
 /// `ONE_EMPTY` with a body of ten bytes, in which the count of runs is not in its shortest form.
 const LONG_COUNT: [u8; 21] = [
@@ -37,17 +35,22 @@ fn text(alloc: Global, word: &str) -> Result<Text, Memory> {
     Ok(Text::of(String::from_str(alloc, word)?))
 }
 
-fn no_attrs(alloc: Global) -> Attrs {
-    Attrs::of(Vec::new(alloc))
-}
+const TRACE: TraceId = TraceId([9; 16]);
+
+const FIRST: SpanId = SpanId([1; 8]);
+
+const SECOND: SpanId = SpanId([2; 8]);
 
 fn span(
     alloc: Global,
-    id: u8,
+    trace: TraceId,
+    id: SpanId,
     parent: Option<SpanId>,
     name: &str,
     scope: &str,
-) -> Result<Span, Memory> {
+) -> Result<Span, Memory>
+    requires { AreNames trace id parent }
+{
     let mut attrs = Vec::new(alloc);
     attrs.push(Attr {
         key: text(alloc, "s")?,
@@ -59,27 +62,27 @@ fn span(
     let scope = Scope {
         name: text(alloc, scope)?,
         version: text(alloc, "")?,
-        attrs: no_attrs(alloc),
+        attrs: Attrs::none(alloc),
     };
     Ok(Span {
-        trace: TraceId([9; 16]),
-        id: SpanId([id; 8]),
+        trace,
+        id,
         parent,
         name: text(alloc, name)?,
-        kind: if id == 1 {
+        kind: if parent.is_none() {
             SpanKind::Server
         } else {
             SpanKind::Unspecified
         },
         start: 5,
         end: 6,
-        status: if id == 1 {
+        status: if parent.is_none() {
             StatusCode::Fine
         } else {
             StatusCode::Error
         },
         message: text(alloc, "")?,
-        attrs: no_attrs(alloc),
+        attrs: Attrs::none(alloc),
         resource: SharedResource::of(alloc, resource)?,
         scope: SharedScope::of(alloc, scope)?,
     })
@@ -93,8 +96,8 @@ fn no_spans(alloc: Global) -> Batch {
 
 fn two_spans(alloc: Global) -> Result<Batch, Memory> {
     let mut spans = Vec::new(alloc);
-    spans.push(span(alloc, 1, None, "x", "a")?)?;
-    spans.push(span(alloc, 2, Some(SpanId([1; 8])), "y", "b")?)?;
+    spans.push(span(alloc, TRACE, FIRST, None, "x", "a")?)?;
+    spans.push(span(alloc, TRACE, SECOND, Some(FIRST), "y", "b")?)?;
     Ok(Batch {
         spans: Spans::of(spans),
     })
@@ -141,10 +144,10 @@ fn holding(alloc: Global, bytes: &[u8]) -> Result<MemDisk, Fail> {
     Ok(disk)
 }
 
-/// What a scan of these bytes from number 0 on says: how many records there are, or where it breaks.
-fn outcome(alloc: Global, bytes: &[u8]) -> Result<Result<usize, u64>, Fail> {
+/// What a scan of these bytes from this number on says: how many records there are, or where it breaks.
+fn outcome(alloc: Global, bytes: &[u8], first: u64) -> Result<Result<usize, u64>, Fail> {
     let mut disk = holding(alloc, bytes)?;
-    match scan(alloc, &mut disk, 2, 0) {
+    match scan(alloc, &mut disk, 2, first) {
         Ok((_, batches)) => Ok(Ok(batches.len())),
         Err(LogError::NotLog { at, .. }) => Ok(Err(at)),
         Err(_) => Err(Fail::from("the disk and the memory suffice")),
@@ -183,7 +186,7 @@ fn runs_of_spans_both_ways(rt: HostRuntime) -> Result<(), Fail> {
         assert_eq!(rt; batch.number, 7);
         assert_eq!(rt; batch.batch.spans.len(), 2);
         for span in batch.batch.spans.as_slice() {
-            assert_eq!(rt; span.trace, TraceId([9; 16]));
+            assert_eq!(rt; span.trace, TRACE);
         }
     }
     assert_eq!(rt; disk.starved(), 0);
@@ -210,42 +213,130 @@ fn stopped_after_each_call(rt: HostRuntime) -> Result<(), Fail> {
 
 #[test]
 fn the_count_is_not_in_its_shortest_form(rt: HostRuntime) -> Result<(), Fail> {
-    assert_eq!(rt; outcome(rt.alloc(), &LONG_COUNT)?, Err(18));
+    assert_eq!(rt; outcome(rt.alloc(), &LONG_COUNT, 0)?, Err(18));
     Ok(())
 }
 
-/// What a scan of `THREE` says where the byte at the place is another one. Each record has 18 bytes: its gate, eight of
-/// its length, eight of its number, and the count of its runs.
-fn other_byte(place: u8) -> Result<usize, u64> {
+/// A segment that holds `TWO_SPANS` from its byte 10 on, and behind it the record of a batch without spans.
+fn two_records(alloc: Global) -> Result<Vec<u8>, Fail> {
+    let mut bytes = Vec::new(alloc);
+    bytes.extend_from_slice(&[1, 1, 129, 0, 0, 0, 0, 0, 0, 0])?;
+    bytes.extend_from_slice(&TWO_SPANS)?;
+    bytes.extend_from_slice(&[1, 9, 0, 0, 0, 0, 0, 0, 0, 8, 0, 0, 0, 0, 0, 0, 0, 0, 0])?;
+    Ok(bytes)
+}
+
+/// What a scan of these two records says where the lowest bit of the byte at the place is another one.
+fn other_bit(place: u8) -> Result<usize, u64> {
     match place {
-        // The version, and the last gate, which is closed with every value but 1.
-        0 => return Err(0),
-        55 => return Ok(3),
-        _ => {}
-    }
-    let record = (place - 1) / 18;
-    let start = 1 + 18 * u64::from(record);
-    match (place - 1) % 18 {
+        // The version.
+        0 => Err(0),
         // A closed gate ends the segment.
-        0 => Ok(usize::from(record)),
-        // The number isn't the next one.
-        9..=16 => Err(start + 9),
-        // A longer body has a byte behind its last span, and another run begins where the body ends.
-        _ => Err(start + 18),
+        1 => Ok(0),
+        139 => Ok(1),
+        // An open one at the end has no record.
+        157 => Err(158),
+        // A body of a byte less: its last field doesn't fit.
+        2 => Err(138),
+        140 => Err(156),
+        // A longer body has bytes behind its last span.
+        3..=9 => Err(139),
+        141..=147 => Err(157),
+        // Not the next number.
+        10..=17 => Err(10),
+        148..=155 => Err(148),
+        // No run, though there are bytes; a run more, though there are none.
+        18 => Err(19),
+        26 => Err(139),
+        156 => Err(157),
+        // No run of a scope has no span.
+        31 => Err(31),
+        83 => Err(83),
+        19..=138 => other_bit_of_spans(place),
+        _ => Ok(2),
     }
+}
+
+/// The same within the two spans, their resource and their scopes.
+fn other_bit_of_spans(place: u8) -> Result<usize, u64> {
+    match place {
+        // No attribute: the key's length is the count of scopes, its letter the length of a name of 115 bytes, and at the
+        // end there is no count of spans.
+        19 => Err(139),
+        // A key without letters: its letter is a kind of value.
+        20 => Err(21),
+        // A whole number: the letters are a count of scopes and the length of a name of 107 bytes, behind which stand no
+        // version, no attributes and no spans.
+        22 => Err(135),
+        // A text of three bytes: the scope's letter is the length of a name of 97 bytes, behind which there are six spans,
+        // but no room for a trace.
+        23 => Err(129),
+        // A scope's name without letters: its letter is the length of a version, which is too long for the second scope
+        // and of 97 bytes for the first.
+        27 => Err(127),
+        79 => Err(80),
+        // A version of one byte, or an attribute: a key ends within the trace, whose next byte is no kind of value.
+        29 => Err(42),
+        30 => Err(33),
+        81 => Err(94),
+        82 => Err(85),
+        // A parent, for whom the bytes from the name on are taken: the second trace has a list of attributes, and in the
+        // second id stands a truth that is 2.
+        56 => Err(106),
+        // A name without letters: its letter is the kind.
+        57 => Err(58),
+        117 => Err(118),
+        // A message of one byte: the second scope's letter is the length of a key, which is too long.
+        77 => Err(80),
+        // An attribute, in the second scope's place: the next scope stands in the trace, and in the id a truth that is 2.
+        78 => Err(107),
+        // No parent: its bytes are the name, the kind and the start, and the end's first byte is the status.
+        108 => Err(128),
+        // Not a status.
+        136 => Err(136),
+        // A message, or an attribute, behind the end.
+        137 | 138 => Err(139),
+        // A letter, an id, a kind, a moment or the first status: another span.
+        _ => Ok(2),
+    }
+}
+
+/// The bytes of a segment that is written anew from what was scanned.
+fn written_again(alloc: Global, bytes: &[u8]) -> Result<Vec<u8>, Fail> {
+    let mut disk = holding(alloc, bytes)?;
+    let (_, batches) = scan(alloc, &mut disk, 2, 7)?;
+    let mut copy = MemDisk::empty(alloc);
+    create(&mut copy, 2)?;
+    let mut segment = Segment::fresh(2, 7);
+    for entry in batches.as_slice() {
+        if entry.number < 4_294_967_295 {
+            let entry = Prepared::of(alloc, entry.number, &entry.batch)?;
+            append_next(&mut copy, &mut segment, &entry);
+        }
+    }
+    bytes_of_file(alloc, &mut copy)
 }
 
 #[test]
 fn cut_at_each_length_and_changed_at_each_byte(rt: HostRuntime) -> Result<(), Fail> {
     let alloc = rt.alloc();
-    assert_eq!(rt; outcome(alloc, &THREE)?, Ok(3));
-    for len in 0..56 {
-        assert_eq!(rt; outcome(alloc, &THREE[..len])?, Err(len as u64));
+    let records = two_records(alloc)?;
+    assert_eq!(rt; outcome(alloc, records.as_slice(), 7)?, Ok(2));
+    for len in 0..records.len() {
+        let cut = &records.as_slice()[..len];
+        assert_eq!(rt; outcome(alloc, cut, 7)?, Err(len as u64));
     }
-    for place in 0u8..56 {
-        let mut bytes = THREE;
-        bytes[usize::from(place)] ^= 0x40;
-        assert_eq!(rt; outcome(alloc, &bytes)?, other_byte(place), "at {place}");
+    for place in 0u8..158 {
+        let mut bytes = two_records(alloc)?;
+        if let Some(byte) = bytes.get_mut(usize::from(place)) {
+            *byte ^= 1;
+        }
+        let told = outcome(alloc, bytes.as_slice(), 7)?;
+        assert_eq!(rt; told, other_bit(place), "at {place}");
+        if told == Ok(2) {
+            let again = written_again(alloc, bytes.as_slice())?;
+            assert_eq!(rt; again.as_slice(), bytes.as_slice(), "at {place}");
+        }
     }
     Ok(())
 }

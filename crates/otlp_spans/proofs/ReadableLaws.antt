@@ -16,8 +16,9 @@ use Rattle.span_types.specs.declared.attrs.Scope.{Scope}
 use Rattle.span_types.specs.declared.ids.SpanId.{SpanId}
 use Rattle.span_types.specs.declared.ids.TraceId.{TraceId}
 use Rattle.span_types.specs.declared.spans.Span.{Span}
-use Rattle.otlp_spans.specs.Attributes.{AreDistinctBehind, attrs_in, firsts_behind, has_key, list_in}
-use Rattle.otlp_spans.specs.Fields.{bytes_of, is_zeros, parent_of, span_id_of, trace_id_of, whole_of}
+use Rattle.span_types.specs.Promises.{AreDistinctAfter, AreNames, all_zero, has_key}
+use Rattle.otlp_spans.specs.Attributes.{attrs_in, firsts_behind, list_in}
+use Rattle.otlp_spans.specs.Fields.{bytes_of, parent_of, span_id_of, trace_id_of, whole_of}
 use Rattle.otlp_spans.specs.Forms.{found}
 use Rattle.otlp_spans.specs.Json.{◌>>=◌, total}
 use Rattle.otlp_spans.specs.Reading.{IsReadable, attrs_from, core_of, most_spans, objects_of, objects_of_resource, parent_from, resource_from, resource_spans, scope_from, scope_spans, span_of, span_with, spans_of}
@@ -101,44 +102,44 @@ new_key : (a : Attr) (before kept : List Attr) → HasSameKeys before kept → H
 new_key a before kept same key = one_key key a before ∙ ap (λ b. b || bytes_eq a.key key) (same key) ∙ sym (one_key key a kept)
 
 by_key : (a : Attr) (before kept later : List Attr) (b : Bool) → has_key a.key before ≡ b → HasSameKeys before kept
-    → ((k : List Attr) → HasSameKeys (before ++ a ∷ []) k → AreDistinctBehind k (firsts_behind (before ++ a ∷ []) later))
-    → AreDistinctBehind kept (cond b (firsts_behind (before ++ a ∷ []) later) (a ∷ firsts_behind (before ++ a ∷ []) later))
+    → ((k : List Attr) → HasSameKeys (before ++ a ∷ []) k → AreDistinctAfter k (firsts_behind (before ++ a ∷ []) later))
+    → AreDistinctAfter kept (cond b (firsts_behind (before ++ a ∷ []) later) (a ∷ firsts_behind (before ++ a ∷ []) later))
 by_key a before kept later true is same rest = rest kept (no_new_key a before kept is same)
 by_key a before kept later false is same rest = (sym (same a.key) ∙ is, rest (kept ++ a ∷ []) (new_key a before kept same))
 
-firsts_distinct : (before kept attrs : List Attr) → HasSameKeys before kept → AreDistinctBehind kept (firsts_behind before attrs)
+pub firsts_distinct : (before kept attrs : List Attr) → HasSameKeys before kept → AreDistinctAfter kept (firsts_behind before attrs)
 firsts_distinct before kept [] same = tt
 firsts_distinct before kept (a ∷ later) same =
     by_key a before kept later (has_key a.key before) refl same (λ k s. firsts_distinct (before ++ a ∷ []) k later s)
 
-attrs_distinct : (d : Data) → AreDistinctBehind [] (attrs_in d)
+attrs_distinct : (d : Data) → AreDistinctAfter [] (attrs_in d)
 unfolding attrs_in
 attrs_distinct d = firsts_distinct [] [] _ (λ key. refl)
 
-from_distinct : (o : Option Data) → AreDistinctBehind [] (attrs_from o)
+from_distinct : (o : Option Data) → AreDistinctAfter [] (attrs_from o)
 from_distinct None = tt
 from_distinct (Some d) = attrs_distinct d
 
 -- ---- ids
 
-named_trace : (bytes : List ℕ) (b : Bool) (t : TraceId) → is_zeros bytes ≡ b → cond b None (Some (record { 0 = bytes })) ≡ Some t → is_zeros t.0 ≡ false
+named_trace : (bytes : List ℕ) (b : Bool) (t : TraceId) → all_zero bytes ≡ b → cond b None (Some (record { 0 = bytes })) ≡ Some t → all_zero t.0 ≡ false
 named_trace bytes true t is h = cc h
-named_trace bytes false t is h = ap (λ (x : TraceId). is_zeros x.0) (sym (same_Some _ _ h)) ∙ is
+named_trace bytes false t is h = ap (λ (x : TraceId). all_zero x.0) (sym (same_Some _ _ h)) ∙ is
 
-trace_named : (text : List ℕ) (t : TraceId) → trace_id_of text ≡ Some t → is_zeros t.0 ≡ false
-trace_named text t h = let bytes = both (bytes_of 16 text) _ t h in named_trace bytes.0 (is_zeros bytes.0) t refl bytes.2
+trace_named : (text : List ℕ) (t : TraceId) → trace_id_of text ≡ Some t → all_zero t.0 ≡ false
+trace_named text t h = let bytes = both (bytes_of 16 text) _ t h in named_trace bytes.0 (all_zero bytes.0) t refl bytes.2
 
-named_span : (bytes : List ℕ) (b : Bool) (i : SpanId) → is_zeros bytes ≡ b → cond b None (Some (record { 0 = bytes })) ≡ Some i → is_zeros i.0 ≡ false
+named_span : (bytes : List ℕ) (b : Bool) (i : SpanId) → all_zero bytes ≡ b → cond b None (Some (record { 0 = bytes })) ≡ Some i → all_zero i.0 ≡ false
 named_span bytes true i is h = cc h
-named_span bytes false i is h = ap (λ (x : SpanId). is_zeros x.0) (sym (same_Some _ _ h)) ∙ is
+named_span bytes false i is h = ap (λ (x : SpanId). all_zero x.0) (sym (same_Some _ _ h)) ∙ is
 
-span_named : (text : List ℕ) (i : SpanId) → span_id_of text ≡ Some i → is_zeros i.0 ≡ false
-span_named text i h = let bytes = both (bytes_of 8 text) _ i h in named_span bytes.0 (is_zeros bytes.0) i refl bytes.2
+span_named : (text : List ℕ) (i : SpanId) → span_id_of text ≡ Some i → all_zero i.0 ≡ false
+span_named text i h = let bytes = both (bytes_of 8 text) _ i h in named_span bytes.0 (all_zero bytes.0) i refl bytes.2
 
 abbrev IsNamed : Option SpanId → Type 0
-IsNamed p = IfSome p (λ i. is_zeros i.0 ≡ false)
+IsNamed p = IfSome p (λ i. all_zero i.0 ≡ false)
 
-named_parent : (bytes : List ℕ) (b : Bool) → is_zeros bytes ≡ b → IsNamed (cond b None (Some (record { 0 = bytes })))
+named_parent : (bytes : List ℕ) (b : Bool) → all_zero bytes ≡ b → IsNamed (cond b None (Some (record { 0 = bytes })))
 named_parent bytes true is = tt
 named_parent bytes false is = is
 
@@ -146,19 +147,17 @@ parent_named : (text : List ℕ) (p : Option SpanId) → parent_of text ≡ Some
 parent_named [] p h = subst IsNamed (same_Some _ _ h) tt
 parent_named (c ∷ cs) p h =
     let bytes = both (bytes_of 8 (c ∷ cs)) _ p h in
-    subst IsNamed (same_Some _ _ bytes.2) (named_parent bytes.0 (is_zeros bytes.0) refl)
+    subst IsNamed (same_Some _ _ bytes.2) (named_parent bytes.0 (all_zero bytes.0) refl)
 
 from_named : (o : Option Data) (p : Option SpanId) → parent_from o ≡ Some p → IsNamed p
 from_named None p h = subst IsNamed (same_Some _ _ h) tt
 from_named (Some d) p h = let text = both (as_str d) parent_of p h in parent_named text.0 p text.2
 
 -- a core's ids
-record HasNames (core : Core) : Type 0 where
-  trace : is_zeros core.trace.0 ≡ false
-  id : is_zeros core.id.0 ≡ false
-  parent : IsNamed core.parent
+abbrev HasNames : Core → Type 0
+HasNames core = AreNames core.trace core.id core.parent
 
-core_named : (d : Data) (core : Core) → core_of d ≡ Some core → HasNames core
+pub core_named : (d : Data) (core : Core) → core_of d ≡ Some core → HasNames core
 unfolding core_of
 core_named d core h =
     let trace = both (found m.TraceId d >>= as_str >>= trace_id_of) _ core h in
@@ -169,26 +168,26 @@ core_named d core h =
     let trace_text = both (found m.TraceId d >>= as_str) trace_id_of trace.0 trace.1 in
     let id_text = both (found m.SpanId d >>= as_str) span_id_of id.0 id.1 in
     subst HasNames (same_Some _ _ end.2) (record {
-      trace = trace_named trace_text.0 trace.0 trace_text.2;
-      id = span_named id_text.0 id.0 id_text.2;
-      parent = from_named (found m.ParentSpanId d) parent.0 parent.1;
+      of_trace = trace_named trace_text.0 trace.0 trace_text.2;
+      of_span = span_named id_text.0 id.0 id_text.2;
+      of_parent = from_named (found m.ParentSpanId d) parent.0 parent.1;
     })
 
 -- ---- spans
 
-with_readable : (resource : Resource) (scope : Scope) (d : Data) (core : Core) → AreDistinctBehind [] resource.attrs → AreDistinctBehind [] scope.attrs
+with_readable : (resource : Resource) (scope : Scope) (d : Data) (core : Core) → AreDistinctAfter [] resource.attrs → AreDistinctAfter [] scope.attrs
     → HasNames core → IsReadable (span_with resource scope d core)
 unfolding span_with
 with_readable resource scope d core of_resource of_scope names =
-    record { trace = names.trace; id = names.id; parent = names.parent; attrs = attrs_distinct d; of_resource = of_resource; of_scope = of_scope }
+    record { names = names; attrs = attrs_distinct d; of_resource = of_resource; of_scope = of_scope }
 
-span_readable : (resource : Resource) (scope : Scope) → AreDistinctBehind [] resource.attrs → AreDistinctBehind [] scope.attrs
+span_readable : (resource : Resource) (scope : Scope) → AreDistinctAfter [] resource.attrs → AreDistinctAfter [] scope.attrs
     → (d : Data) (s : Span) → span_of resource scope d ≡ Some s → IsReadable s
 span_readable resource scope of_resource of_scope d s h =
     let core = both (core_of d) _ s h in
     subst IsReadable (same_Some _ _ core.2) (with_readable resource scope d core.0 of_resource of_scope (core_named d core.0 core.1))
 
-scope_readable : (resource : Resource) → AreDistinctBehind [] resource.attrs → (d : Data) → All IsReadable (scope_spans resource d)
+scope_readable : (resource : Resource) → AreDistinctAfter [] resource.attrs → (d : Data) → All IsReadable (scope_spans resource d)
 unfolding scope_spans
 scope_readable resource of_resource d =
     filter_map-all _ IsReadable (span_readable resource (scope_from (found m.Scope d)) of_resource (from_distinct (found m.Scope d))) (list_in m.Spans d)

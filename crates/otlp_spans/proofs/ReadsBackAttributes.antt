@@ -7,8 +7,9 @@ use Rattle.serde_json.specs.Data.{Data}
 use Rattle.span_types.specs.declared.attrs.Attr.{Attr}
 use Rattle.span_types.specs.declared.attrs.AttrValue.{AttrValue}
 use Rattle.span_types.specs.declared.attrs.AttrValue.TheVariants.{Text, Whole, Truth}
+use Rattle.span_types.specs.Promises.{AreDistinctAfter}
 use Rattle.otlp_spans.specs.declared.paths.Member.TheVariants as m
-use Rattle.otlp_spans.specs.Attributes.{AreDistinctBehind, attr_of, attrs_in, firsts_behind, list_in, skipped_attrs, value_of}
+use Rattle.otlp_spans.specs.Attributes.{attr_of, attrs_in, firsts_behind, list_in, skipped_attrs, value_of}
 use Rattle.otlp_spans.specs.Forms.{Form, ListOf, attribute_form, attributes_form, first_in_items, first_wrong}
 use Rattle.otlp_spans.specs.Fits.{FitAttrs, FitsValue}
 use Rattle.otlp_spans.specs.Writing.{attr_json, list_json, value_json}
@@ -37,11 +38,11 @@ none_skipped [] fit = refl
 none_skipped (a ∷ attrs) fit = rw (attr_back a fit.0) (none_skipped attrs fit.1)
 
 -- of attributes with distinct keys each is the first of its key
-firsts_back : (before attrs : List Attr) → AreDistinctBehind before attrs → firsts_behind before attrs ≡ attrs
+firsts_back : (before attrs : List Attr) → AreDistinctAfter before attrs → firsts_behind before attrs ≡ attrs
 firsts_back before [] distinct = refl
 firsts_back before (a ∷ attrs) distinct = rw distinct.0 (ap (λ (l : List Attr). a ∷ l) (firsts_back (before ++ a ∷ []) attrs distinct.1))
 
-pub attrs_back : (d : Data) (attrs : List Attr) → list_in m.Attributes d ≡ map attr_json attrs → FitAttrs attrs → AreDistinctBehind [] attrs → attrs_in d ≡ attrs
+pub attrs_back : (d : Data) (attrs : List Attr) → list_in m.Attributes d ≡ map attr_json attrs → FitAttrs attrs → AreDistinctAfter [] attrs → attrs_in d ≡ attrs
 unfolding attrs_in
 attrs_back d attrs is fit distinct = ap (λ (l : List Data). firsts_behind [] (filter_map attr_of l)) is ∙ ap (λ (l : List Attr). firsts_behind [] l) (kept_back attrs (recursion_from_All (λ a. FitsValue a.value) attrs fit)) ∙ firsts_back [] attrs distinct
 

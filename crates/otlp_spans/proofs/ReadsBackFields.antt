@@ -18,7 +18,8 @@ use Rattle.span_types.specs.declared.spans.SpanKind.{SpanKind}
 use Rattle.span_types.specs.declared.spans.SpanKind.TheVariants.{Unspecified, Internal, Server, Client, Producer, Consumer}
 use Rattle.span_types.specs.declared.spans.StatusCode.{StatusCode}
 use Rattle.span_types.specs.declared.spans.StatusCode.TheVariants.{Unset, Fine, Error}
-use Rattle.otlp_spans.specs.Fields.{after_minus, bytes_of, code_of, int_of, is_zeros, kind_of, moment_of, parent_of, signed_of, span_id_of, trace_id_of, whole_of}
+use Rattle.span_types.specs.Promises.{all_zero}
+use Rattle.otlp_spans.specs.Fields.{after_minus, bytes_of, code_of, int_of, kind_of, moment_of, parent_of, signed_of, span_id_of, trace_id_of, whole_of}
 use Rattle.otlp_spans.specs.Fits.{AreBytes}
 use Rattle.otlp_spans.specs.Writing.{code_number, kind_number, parent_text}
 
@@ -29,17 +30,17 @@ bytes_back n bytes are =
     let twice : length (encode_lower bytes) ≡ 2 * n = omega (arith, length-encode_with lower_digits bytes, are.len) in
     rw (decode_sized-twice (encode_lower bytes) n twice, decode_of-encode_lower bytes are.fit) refl
 
-pub trace_id_back : (id : TraceId) → AreBytes 16 id.0 → is_zeros id.0 ≡ false → trace_id_of (encode_lower id.0) ≡ Some id
+pub trace_id_back : (id : TraceId) → AreBytes 16 id.0 → all_zero id.0 ≡ false → trace_id_of (encode_lower id.0) ≡ Some id
 trace_id_back id are some = rw (bytes_back 16 id.0 are, some) refl
 
-pub span_id_back : (id : SpanId) → AreBytes 8 id.0 → is_zeros id.0 ≡ false → span_id_of (encode_lower id.0) ≡ Some id
+pub span_id_back : (id : SpanId) → AreBytes 8 id.0 → all_zero id.0 ≡ false → span_id_of (encode_lower id.0) ≡ Some id
 span_id_back id are some = rw (bytes_back 8 id.0 are, some) refl
 
-some_parent : (id : SpanId) (text : List ℕ) → 0 < length text → bytes_of 8 text ≡ Some id.0 → is_zeros id.0 ≡ false → parent_of text ≡ Some (Some id)
+some_parent : (id : SpanId) (text : List ℕ) → 0 < length text → bytes_of 8 text ≡ Some id.0 → all_zero id.0 ≡ false → parent_of text ≡ Some (Some id)
 some_parent id [] long is some = absurd (omega arith)
 some_parent id (c ∷ cs) long is some = rw (is, some) refl
 
-pub parent_back : (parent : Option SpanId) → IfSome parent (λ p. AreBytes 8 p.0) → IfSome parent (λ p. is_zeros p.0 ≡ false) → parent_of (parent_text parent) ≡ Some parent
+pub parent_back : (parent : Option SpanId) → IfSome parent (λ p. AreBytes 8 p.0) → IfSome parent (λ p. all_zero p.0 ≡ false) → parent_of (parent_text parent) ≡ Some parent
 parent_back None are some = refl
 parent_back (Some id) are some =
     some_parent id (encode_lower id.0) (omega (arith, length-encode_with lower_digits id.0, are.len)) (bytes_back 8 id.0 are) some

@@ -7,24 +7,24 @@ use Rattle.span_types.specs.declared.spans.Row.{Row}
 use Rattle.span_types.specs.declared.spans.Span.{Span}
 use Rattle.span_runs.specs.Runs.{as_run, run_len, runs}
 use Rattle.span_runs.specs.Same.{of_one_scope}
-use Rattle.otlp_spans.specs.Fits.{FitAttrs, FitsResourceRun, FitsScopeRun, FitsSpan}
+use Rattle.otlp_spans.specs.Fits.{AreFit, FitsResourceRun, FitsScopeRun, FitsSpan}
 use Rattle.otlp_spans.specs.Writing.{spans_in}
 use Rattle.otlp_spans.proofs.RunLemmas.{split_at_len}
 
 pub scope_run_fits : (rows : List Row) (first : Row) (scope : Scope) → 0 < length rows → scope ≡ (get_or rows 0 first).span.scope
-    → FitAttrs scope.attrs → All (λ row. FitsSpan row.span) rows → All FitsScopeRun (as_run (spans_in rows))
+    → AreFit scope.attrs → All (λ row. FitsSpan row.span) rows → All FitsScopeRun (as_run (spans_in rows))
 scope_run_fits [] first scope some of fit each = absurd (omega arith)
 scope_run_fits (r ∷ rows) first scope some of fit each =
     All-cons FitsScopeRun (r.span, spans_in rows) []
-    (record { scope = subst (λ (s : Scope). FitAttrs s.attrs) of fit; spans = All-map FitsSpan (λ row. row.span) (r ∷ rows) each })
+    (record { scope = subst (λ (s : Scope). AreFit s.attrs) of fit; spans = All-map FitsSpan (λ row. row.span) (r ∷ rows) each })
     (All-nil FitsScopeRun)
 
 pub resource_run_fits : (rows : List Row) (first : Row) (resource : Resource) → 0 < length rows → resource ≡ (get_or rows 0 first).span.resource
-    → FitAttrs resource.attrs → All FitsScopeRun (runs of_one_scope (spans_in rows)) → All FitsResourceRun (as_run (spans_in rows))
+    → AreFit resource.attrs → All FitsScopeRun (runs of_one_scope (spans_in rows)) → All FitsResourceRun (as_run (spans_in rows))
 resource_run_fits [] first resource some of fit each = absurd (omega arith)
 resource_run_fits (r ∷ rows) first resource some of fit each =
     All-cons FitsResourceRun (r.span, spans_in rows) []
-    (record { resource = subst (λ (x : Resource). FitAttrs x.attrs) of fit; scopes = each })
+    (record { resource = subst (λ (x : Resource). AreFit x.attrs) of fit; scopes = each })
     (All-nil FitsResourceRun)
 
 -- the first run and those that are left

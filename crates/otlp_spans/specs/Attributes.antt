@@ -8,6 +8,7 @@ use Rattle.serde_json.specs.Find.{as_bool, as_str}
 use Rattle.span_types.specs.declared.attrs.Attr.{Attr}
 use Rattle.span_types.specs.declared.attrs.AttrValue.{AttrValue}
 use Rattle.span_types.specs.declared.attrs.AttrValue.TheVariants.{Text, Whole, Truth}
+use Rattle.span_types.specs.Promises.{has_key}
 use Rattle.otlp_spans.specs.declared.paths.Member.{Member}
 use Rattle.otlp_spans.specs.declared.paths.Member.TheVariants as m
 use Rattle.otlp_spans.specs.Fields.{int_of}
@@ -53,10 +54,6 @@ attr_of d = do
   value ← found m.Value d >>= value_of
   Some (record { key = text_in m.Key d; value = value })
 
--- One of the attributes has the key.
-abbrev pub has_key : List ℕ → List Attr → Bool
-has_key key attrs = list_any (λ a. bytes_eq a.key key) attrs
-
 -- Of each key the first attribute, where these attributes stand before them.
 abbrev pub firsts_behind : List Attr → List Attr → List Attr
 firsts_behind before [] = []
@@ -71,8 +68,3 @@ attrs_in d = firsts_behind [] (filter_map attr_of (list_in m.Attributes d))
 -- How many attributes of an object are skipped: those that aren't kept.
 unfoldable pub skipped_attrs : Data → ℕ
 skipped_attrs d = length (filter (λ a. is_none (attr_of a)) (list_in m.Attributes d))
-
--- Each key is none of those before it.
-abbrev pub AreDistinctBehind : List Attr → List Attr → Type 0
-AreDistinctBehind before [] = ⊤
-AreDistinctBehind before (a ∷ later) = (has_key a.key before ≡ false) × AreDistinctBehind (before ++ a ∷ []) later

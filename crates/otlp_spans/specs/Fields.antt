@@ -15,6 +15,7 @@ use Rattle.span_types.specs.declared.spans.SpanKind.{SpanKind}
 use Rattle.span_types.specs.declared.spans.SpanKind.TheVariants.{Unspecified, Internal, Server, Client, Producer, Consumer}
 use Rattle.span_types.specs.declared.spans.StatusCode.{StatusCode}
 use Rattle.span_types.specs.declared.spans.StatusCode.TheVariants.{Unset, Fine, Error}
+use Rattle.span_types.specs.Promises.{all_zero}
 use Rattle.otlp_spans.specs.Json.{◌>>=◌}
 
 -- ---- ids
@@ -23,28 +24,24 @@ use Rattle.otlp_spans.specs.Json.{◌>>=◌}
 abbrev pub bytes_of : ℕ → List ℕ → Option (List ℕ)
 bytes_of n text = result_ok (decode_sized text n)
 
--- Whether each byte is 0.
-abbrev pub is_zeros : List ℕ → Bool
-is_zeros bytes = list_all (λ b. b == 0) bytes
-
 -- A trace's id is 32 digits and not all zeros.
 abbrev pub trace_id_of : List ℕ → Option TraceId
 trace_id_of text = do
   bytes ← bytes_of 16 text
-  if is_zeros bytes then None else Some (record { 0 = bytes })
+  if all_zero bytes then None else Some (record { 0 = bytes })
 
 -- A span's id is 16 digits and not all zeros.
 abbrev pub span_id_of : List ℕ → Option SpanId
 span_id_of text = do
   bytes ← bytes_of 8 text
-  if is_zeros bytes then None else Some (record { 0 = bytes })
+  if all_zero bytes then None else Some (record { 0 = bytes })
 
 -- A parent is 16 digits. The empty text and sixteen zeros are no parent.
 abbrev pub parent_of : List ℕ → Option (Option SpanId)
 parent_of [] = Some None
 parent_of (c ∷ cs) = do
   bytes ← bytes_of 8 (c ∷ cs)
-  Some (if is_zeros bytes then None else Some (record { 0 = bytes }))
+  Some (if all_zero bytes then None else Some (record { 0 = bytes }))
 
 -- ---- whole numbers
 

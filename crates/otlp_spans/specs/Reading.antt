@@ -14,11 +14,12 @@ use Rattle.span_types.specs.declared.spans.SpanKind.{SpanKind}
 use Rattle.span_types.specs.declared.spans.SpanKind.TheVariants.{Unspecified}
 use Rattle.span_types.specs.declared.spans.StatusCode.{StatusCode}
 use Rattle.span_types.specs.declared.spans.StatusCode.TheVariants.{Unset}
+use Rattle.span_types.specs.Promises.{AreDistinct, AreNames}
 use Rattle.otlp_spans.specs.declared.cores.Core.{Core}
 use Rattle.otlp_spans.specs.declared.paths.Member.TheVariants as m
 use Rattle.otlp_spans.specs.declared.paths.Step.{Step}
-use Rattle.otlp_spans.specs.Attributes.{AreDistinctBehind, attrs_in, list_in, skipped_attrs, text_in}
-use Rattle.otlp_spans.specs.Fields.{code_of, is_zeros, kind_of, parent_of, span_id_of, trace_id_of, whole_of}
+use Rattle.otlp_spans.specs.Attributes.{attrs_in, list_in, skipped_attrs, text_in}
+use Rattle.otlp_spans.specs.Fields.{code_of, kind_of, parent_of, span_id_of, trace_id_of, whole_of}
 use Rattle.otlp_spans.specs.Forms.{first_wrong, found, request_form}
 use Rattle.otlp_spans.specs.Json.{◌>>=◌, json_of, total}
 
@@ -170,9 +171,7 @@ reading_of line = given_by (json_of line)
 
 -- What every span that a line gives has: no id of zeros alone, and each key of a list of attributes once.
 pub record IsReadable (s : Span) : Type 0 where
-  pub trace : is_zeros s.trace.0 ≡ false
-  pub id : is_zeros s.id.0 ≡ false
-  pub parent : IfSome s.parent (λ p. is_zeros p.0 ≡ false)
-  pub attrs : AreDistinctBehind [] s.attrs
-  pub of_resource : AreDistinctBehind [] s.resource.attrs
-  pub of_scope : AreDistinctBehind [] s.scope.attrs
+  pub names : AreNames s.trace s.id s.parent
+  pub attrs : AreDistinct s.attrs
+  pub of_resource : AreDistinct s.resource.attrs
+  pub of_scope : AreDistinct s.scope.attrs

@@ -4,14 +4,15 @@ ghost use Rattle.std.specs.Prelude.{◌≡◌, option_map};
 ghost use Rattle.std.specs.Char.{is_ascii_digit};
 ghost use Rattle.std.specs.List.{list_all};
 ghost use Rattle.serde_json.specs.View.{view};
-ghost use Rattle.otlp_spans.specs.Fields.{after_minus, code_named, code_numbered, code_of, int_of, is_zeros, kind_named, kind_numbered, kind_of, minus_of, moment_of, parent_of, plus_of, signed_of, span_id_of, trace_id_of, whole_of};
+ghost use Rattle.span_types.specs.Promises.{all_zero};
+ghost use Rattle.otlp_spans.specs.Fields.{after_minus, code_named, code_numbered, code_of, int_of, kind_named, kind_numbered, kind_of, minus_of, moment_of, parent_of, plus_of, signed_of, span_id_of, trace_id_of, whole_of};
 
 use hex::FromHex;
 use serde_json::Value;
 use span_types::{SpanId, SpanKind, StatusCode, TraceId};
 
 fn all_zeros(bytes: &[u8]) -> bool
-    ensures { result ≡ is_zeros bytes.now }
+    ensures { result ≡ all_zero bytes.now }
 {
     bytes.iter().all(|b| *b == 0)
 }

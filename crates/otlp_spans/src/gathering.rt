@@ -128,7 +128,7 @@ fn scope_in(alloc: Global, value: &Value) -> Result<ScopeRead, Stop>
         let scope = Scope {
             name: Text::of(String::new(alloc)),
             version: Text::of(String::new(alloc)),
-            attrs: Attrs::of(Vec::new(alloc)),
+            attrs: Attrs::none(alloc),
         };
         return Ok(ScopeRead { scope, skipped: 0 });
     };
@@ -225,7 +225,7 @@ fn resource_in(alloc: Global, value: &Value) -> Result<ResourceRead, Stop>
 {
     let Some(found) = found(value, Member::Resource) else {
         let resource = Resource {
-            attrs: Attrs::of(Vec::new(alloc)),
+            attrs: Attrs::none(alloc),
         };
         return Ok(ResourceRead {
             resource,

@@ -5,6 +5,7 @@ ghost use Rattle.std.specs.List.{cons_option, filter_map, flat_map};
 ghost use Rattle.std.specs.Option.{option_map_or};
 ghost use Rattle.serde_json.specs.Data.{Data};
 ghost use Rattle.serde_json.specs.View.{view};
+ghost use Rattle.span_types.specs.Promises.{AreNames};
 ghost use Rattle.otlp_spans.specs.Forms.{AnyList, Form, IsFirstWrong, ListOf, NumberOrText, Text as AText, attributes_form, behind, first_in_field, first_in_items, first_wrong, found, path_text, request_form, resource_form, resource_spans_form, scope_form, scope_spans_form, span_form, status_form};
 ghost use Rattle.otlp_spans.specs.Json.{json_of, total};
 ghost use Rattle.otlp_spans.specs.Reading.{IsReadable, core_of, kind_in, last64, most_spans, objects_of, objects_of_resource, reading_of, resource_from, resource_spans, scope_from, scope_spans, skipped_from, skipped_of, skipped_of_resource, skipped_of_scope, skipped_of_span, span_of, span_with, spans_of, status_code_in, status_message_in};
@@ -169,6 +170,7 @@ pub(crate) fn span_with(
     head: Head,
     tail: Tail,
 ) -> Result<Span, Memory>
+    requires { AreNames core.trace core.id core.parent }
     ensures { IfOk result (λ s. (d : Data) → head.name ≡ text_in m.Name d → head.kind ≡ kind_in d → head.status.code ≡ status_code_in d
         → head.status.message ≡ status_message_in d → tail.attrs ≡ attrs_in d → s ≡ span_with resource.now scope.now d core) }
 {

@@ -92,6 +92,7 @@ fn read_json(alloc: Global, line: &[u8]) -> Result<Value, OtlpError>
 
 /// What was gathered, where there aren't too many spans.
 fn counted(gathered: Gathered) -> Result<Reading, OtlpError>
+    requires { gathered.objects ≤ most_spans → length gathered.spans.items ≤ most_spans }
     ensures ok { IfOk result (λ r. (d : Data) → gathered.spans.items ≡ spans_of d → Adds 0 gathered.objects (objects_of d) → Adds 0 gathered.skipped (skipped_of d)
         → counted d ≡ Ok (record { spans = r.batch.spans; rejected = r.rejected; skipped = r.skipped })) }
     ensures spans { IfOk result (λ r. (r.batch.spans ≡ gathered.spans.items) × (gathered.objects ≤ most_spans)) }

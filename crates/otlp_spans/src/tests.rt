@@ -1,5 +1,8 @@
 //! Lines and traces with their exact bytes, worked out by hand.
 
+ghost use Rattle.std.specs.Prelude.{◌≡◌, false};
+ghost use Rattle.span_types.specs.Promises.{all_zero};
+
 use crate::{OtlpError, Reading, read_line, write_trace};
 use span_types::{
     Attr, AttrValue, Attrs, Memory, Place, Resource, Row, Rows, Scope, SharedResource, SharedScope,
@@ -500,14 +503,16 @@ fn attr(alloc: Global, key: &str, value: AttrValue) -> Result<Attrs, Memory> {
 /// A row of a span with this id.
 fn row(
     alloc: Global,
-    id: u8,
+    id: SpanId,
     resource: &SharedResource,
     scope: &SharedScope,
     attrs: Attrs,
-) -> Result<Row, Memory> {
+) -> Result<Row, Memory>
+    requires { all_zero id.0 ≡ false }
+{
     let span = Span {
         trace: TraceId([0xa1; 16]),
-        id: SpanId([id; 8]),
+        id,
         parent: Some(SpanId([0xfe; 8])),
         name: text(alloc, "n")?,
         kind: SpanKind::Server,
@@ -538,7 +543,7 @@ fn neighbours_with_equal_resources_and_scopes_are_written_together(
     rt: HostRuntime,
 ) -> Result<(), Fail> {
     let alloc = rt.alloc();
-    let none = Attrs::of(Vec::new(alloc));
+    let none = Attrs::none(alloc);
     let shop = attr(alloc, "service.name", AttrValue::Text(text(alloc, "shop")?))?;
     let shop = SharedResource::of(alloc, Resource { attrs: shop })?;
     let plain = SharedResource::of(
@@ -565,12 +570,12 @@ fn neighbours_with_equal_resources_and_scopes_are_written_together(
     )?;
     let number = attr(alloc, "n", AttrValue::Whole(-7))?;
     let mut rows = Vec::new(alloc);
-    rows.push(row(alloc, 1, &shop, &first, number)?)?;
-    rows.push(row(alloc, 2, &shop, &first, none.copy()?)?)?;
-    rows.push(row(alloc, 3, &shop, &second, none.copy()?)?)?;
-    rows.push(row(alloc, 4, &shop, &first, none.copy()?)?)?;
-    rows.push(row(alloc, 5, &plain, &first, none.copy()?)?)?;
-    rows.push(row(alloc, 6, &shop, &first, none)?)?;
+    rows.push(row(alloc, SpanId([1; 8]), &shop, &first, number)?)?;
+    rows.push(row(alloc, SpanId([2; 8]), &shop, &first, none.copy()?)?)?;
+    rows.push(row(alloc, SpanId([3; 8]), &shop, &second, none.copy()?)?)?;
+    rows.push(row(alloc, SpanId([4; 8]), &shop, &first, none.copy()?)?)?;
+    rows.push(row(alloc, SpanId([5; 8]), &plain, &first, none.copy()?)?)?;
+    rows.push(row(alloc, SpanId([6; 8]), &shop, &first, none)?)?;
     let text = write_trace(alloc, &Rows::of(rows))?;
 
     let shop =

@@ -6,12 +6,13 @@ ghost use Rattle.std.specs.Int.{w64};
 ghost use Rattle.hex.specs.Hex.{encode_lower};
 ghost use Rattle.serde_json.specs.Data.{array, number, put, string, unsigned};
 ghost use Rattle.serde_json.specs.View.{items_view, members_view, view};
-ghost use Rattle.otlp_spans.specs.Fits.{AreBytes, FitAttrs, FitsSpan, FitsValue};
+ghost use Rattle.span_types.specs.Promises.{AreNames};
+ghost use Rattle.otlp_spans.specs.Fits.{AreBytes, AreFit, FitAttrs, FitsSpan, FitsValue};
 ghost use Rattle.otlp_spans.specs.Writing.{attr_json, code_number, kind_number, list_json, parent_text, resource_json, scope_json, span_json, status_json, value_json};
 
 use serde_json::{Map, Value, json};
 use span_types::{
-    Attr, AttrValue, Memory, Resource, Scope, Span, SpanId, SpanKind, StatusCode, TraceId,
+    Attr, AttrValue, Attrs, Memory, Resource, Scope, Span, SpanId, SpanKind, StatusCode, TraceId,
 };
 use std::alloc::Global;
 
@@ -73,7 +74,7 @@ fn attr(alloc: Global, attr: &Attr) -> Result<Value, Memory>
     Ok(json!(in alloc; {"key": attr.key.as_str(), "value": value})?)
 }
 
-/// A list of attributes.
+/// Each attribute of a list.
 fn attrs(alloc: Global, list: &[Attr]) -> Result<Value, Memory>
     ensures json { IfOk result (λ v. view v ≡ list_json attr_json list.now) }
     ensures fit { OnOk result (FitAttrs list.now) }
@@ -85,13 +86,22 @@ fn attrs(alloc: Global, list: &[Attr]) -> Result<Value, Memory>
     Ok(Value::from(values))
 }
 
+/// A list of attributes.
+fn attributes(alloc: Global, list: &Attrs) -> Result<Value, Memory>
+    ensures json { IfOk result (λ v. view v ≡ list_json attr_json list.now) }
+    ensures fit { OnOk result (AreFit list.now) }
+{
+    list.keys_differ();
+    attrs(alloc, list.as_slice())
+}
+
 /// A resource.
 #[tactic(auto, unfolding(crate::specs::Writing::resource_json))]
 pub(crate) fn resource(alloc: Global, resource: &Resource) -> Result<Value, Memory>
     ensures json { IfOk result (λ v. view v ≡ resource_json resource.now) }
-    ensures fits { OnOk result (FitAttrs resource.now.attrs) }
+    ensures fits { OnOk result (AreFit resource.now.attrs) }
 {
-    let attributes = attrs(alloc, resource.attrs.as_slice())?;
+    let attributes = attributes(alloc, &resource.attrs)?;
     Ok(json!(in alloc; {"attributes": attributes})?)
 }
 
@@ -99,9 +109,9 @@ pub(crate) fn resource(alloc: Global, resource: &Resource) -> Result<Value, Memo
 #[tactic(auto, unfolding(crate::specs::Writing::scope_json))]
 pub(crate) fn scope(alloc: Global, scope: &Scope) -> Result<Value, Memory>
     ensures json { IfOk result (λ v. view v ≡ scope_json scope.now) }
-    ensures fits { OnOk result (FitAttrs scope.now.attrs) }
+    ensures fits { OnOk result (AreFit scope.now.attrs) }
 {
-    let attributes = attrs(alloc, scope.attrs.as_slice())?;
+    let attributes = attributes(alloc, &scope.attrs)?;
     let name = scope.name.as_str();
     let version = scope.version.as_str();
     Ok(json!(in alloc; {"attributes": attributes, "name": name, "version": version})?)
@@ -153,7 +163,7 @@ fn parent(alloc: Global, parent: Option<SpanId>) -> Result<String, Memory>
 
 /// Puts a span's attributes, end and kind into its object.
 fn put_first(alloc: Global, object: &mut Map<String, Value>, span: &Span) -> Result<(), Memory>
-    ensures attrs { OnOk result (FitAttrs span.now.attrs) }
+    ensures attrs { OnOk result (AreFit span.now.attrs) }
     ensures end { OnOk result (span.now.end < 2 ^ 64) }
     ensures json { OnOk result (members_view object.new.entries
         ≡ put (codes "kind") (number (unsigned (kind_number span.now.kind)))
@@ -161,7 +171,7 @@ fn put_first(alloc: Global, object: &mut Map<String, Value>, span: &Span) -> Res
         (put (codes "attributes") (list_json attr_json span.now.attrs)
         (members_view object.old.entries)))) }
 {
-    let attributes = attrs(alloc, span.attrs.as_slice())?;
+    let attributes = attributes(alloc, &span.attrs)?;
     let end = moment(alloc, span.end)?;
     let kind = kind_number(span.kind);
     serde_json::put(object, alloc, "attributes", attributes)?;
@@ -193,6 +203,7 @@ fn put_second(alloc: Global, object: &mut Map<String, Value>, span: &Span) -> Re
 fn put_third(alloc: Global, object: &mut Map<String, Value>, span: &Span) -> Result<(), Memory>
     ensures start { OnOk result (span.now.start < 2 ^ 64) }
     ensures trace { OnOk result (AreBytes 16 span.now.trace.0) }
+    ensures names { OnOk result (AreNames span.now.trace span.now.id span.now.parent) }
     ensures json { OnOk result (members_view object.new.entries
         ≡ put (codes "traceId") (string (encode_lower span.now.trace.0))
         (put (codes "status") (status_json span.now.status span.now.message)

@@ -6,7 +6,7 @@ ghost use Rattle.otlp_spans.specs.Json.{json_of};
 ghost use Rattle.span_runs.specs.Runs.{as_run, run_len, runs};
 ghost use Rattle.span_runs.specs.Same.{of_one_resource, of_one_scope};
 ghost use Rattle.otlp_spans.specs.Fits.{FitsResourceRun, FitsScopeRun, FitsSpan, FitsTrace};
-ghost use Rattle.otlp_spans.specs.Reading.{IsReadable, most_spans, reading_of};
+ghost use Rattle.otlp_spans.specs.Reading.{most_spans, reading_of};
 ghost use Rattle.otlp_spans.specs.Writing.{list_json, resource_spans_json, scope_spans_json, span_json, spans_in, trace_json, trace_text};
 
 use crate::values::{resource, scope, span};
@@ -22,13 +22,13 @@ use std::alloc::Global;
 /// empty text for no parent. Moments and whole-number attributes are decimal texts, and kind and status code are numbers.
 ///
 /// The rows of a trace come in order of start, then span id; they are written as they stand. No rows give
-/// `{"resourceSpans":[]}`, which [`read_line`](crate::read_line) reads as no spans. At most 16,384 rows whose ids aren't
-/// all zeros and whose attributes have distinct keys are read back from the text as they were. The one error is want of memory.
+/// `{"resourceSpans":[]}`, which [`read_line`](crate::read_line) reads as no spans. At most 16,384 rows are read
+/// back from the text as they were. The one error is want of memory.
 #[tactic(auto, unfolding(crate::specs::Writing::trace_text))]
 pub fn write_trace(alloc: Global, rows: &Rows) -> Result<Text, Memory>
     ensures text { IfOk result (λ t. t ≡ trace_text (spans_in rows.now)) }
     ensures json { IfOk result (λ t. json_of t ≡ Some (trace_json (spans_in rows.now))) }
-    ensures reads_back { length rows.now ≤ most_spans → All IsReadable (spans_in rows.now)
+    ensures reads_back { length rows.now ≤ most_spans
         → IfOk result (λ t. reading_of t ≡ Ok (record { spans = spans_in rows.now; rejected = 0; skipped = 0 })) }
 {
     let value = trace(alloc, rows.as_slice())?;
@@ -91,7 +91,8 @@ fn resource_spans(alloc: Global, rows: &[Row]) -> Result<Value, Memory>
     ensures json { IfOk result (λ v. view v ∷ [] ≡ map resource_spans_json (as_run (spans_in rows.now))) }
     ensures fits { OnOk result (All FitsResourceRun (as_run (spans_in rows.now))) }
 {
-    let resource = resource(alloc, rows[0].span.resource.get())?;
+    let first = &rows[0];
+    let resource = resource(alloc, first.span.resource.get())?;
     let list = scopes(alloc, rows)?;
     Ok(json!(in alloc; {"resource": resource, "scopeSpans": list})?)
 }
@@ -142,7 +143,8 @@ fn scope_spans(alloc: Global, rows: &[Row]) -> Result<Value, Memory>
     ensures json { IfOk result (λ v. view v ∷ [] ≡ map scope_spans_json (as_run (spans_in rows.now))) }
     ensures fits { OnOk result (All FitsScopeRun (as_run (spans_in rows.now))) }
 {
-    let scope = scope(alloc, rows[0].span.scope.get())?;
+    let first = &rows[0];
+    let scope = scope(alloc, first.span.scope.get())?;
     let spans = spans(alloc, rows)?;
     Ok(json!(in alloc; {"scope": scope, "spans": spans})?)
 }

@@ -1,10 +1,7 @@
--- The history of pushes, and what it holds of a trace.
-use Rattle.std.specs.Prelude.{ℕ, ◌+◌, List, [], ◌∷◌, ◌++◌, filter, Bool}
-use Rattle.std.specs.Ordering.{is_eq}
-use Rattle.span_types.specs.declared.ids.TraceId.{TraceId}
+-- The history of pushes.
+use Rattle.std.specs.Prelude.{ℕ, ◌+◌, List, [], ◌∷◌, ◌++◌}
 use Rattle.span_types.specs.declared.spans.Span.{Span}
 use Rattle.span_types.specs.declared.spans.Row.{Row}
-use Rattle.span_types.specs.Orders.{trace_cmp}
 
 -- What a history gains at a time: the spans of a push that was accepted.
 pub data Entry : Type 0 where
@@ -27,11 +24,3 @@ rows_of_entries number (Accepted spans ∷ later) = rows_from number 0 spans ++ 
 -- All rows of a history, in the order in which they came in.
 abbrev pub history_rows : History → List Row
 history_rows entries = rows_of_entries 0 entries
-
--- The row is of the trace.
-abbrev pub is_of_trace : TraceId → Row → Bool
-is_of_trace id r = is_eq (trace_cmp r.span.trace id)
-
--- The rows of a trace among others, in their order.
-abbrev pub rows_of_trace : TraceId → List Row → List Row
-rows_of_trace id rows = filter (is_of_trace id) rows

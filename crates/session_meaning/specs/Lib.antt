@@ -2,4 +2,3 @@ pub mod History
 pub mod Statuses
 pub mod Session
 pub mod SessionLaws
-pub mod TraceLaws

@@ -1,5 +1,5 @@
 -- What the lines of a session are answered. Each line is answered at the history that the lines before it left.
-use Rattle.std.specs.Prelude.{◌≡◌, ◌⊎◌, ℕ, ◌<◌, ◌≤◌, Bool, true, false, List, [], ◌∷◌, ◌++◌, length, take, Option, Some, Result, Ok, Err, if◌then◌else◌}
+use Rattle.std.specs.Prelude.{◌≡◌, ◌⊎◌, ℕ, ◌+◌, ◌-◌, ◌^◌, ◌<◌, ◌≤◌, min, Bool, true, false, List, [], ◌∷◌, ◌++◌, length, take, count_by, Option, Some, Result, Ok, Err, if◌then◌else◌}
 use Rattle.io_edges.specs.Lines.{lines, taken_limit}
 use Rattle.io_edges.specs.Reader.{HasNoFeed}
 use Rattle.std.specs.List.{list_any}
@@ -7,60 +7,87 @@ use Rattle.span_types.specs.declared.spans.Row.{Row}
 use Rattle.span_types.specs.First.{IsFirstOf}
 use Rattle.session_text.specs.declared.request.Request.{Request}
 use Rattle.session_text.specs.declared.request.Request.TheVariants.{Push, Trace}
+use Rattle.session_text.specs.declared.request.Request.TheVariants as request
+use Rattle.session_text.specs.declared.request.Search.{Search}
 use Rattle.session_text.specs.declared.reply.Reply.{Reply}
-use Rattle.session_text.specs.declared.reply.Refusal.{Refusal}
-use Rattle.session_text.specs.declared.reply.Refusal.TheVariants.{TooLong, BadRequest, BadJson, BadOtlp, TooMany, Memory}
-use Rattle.session_text.specs.declared.reply.Reply.TheVariants.{Pushed, Traced, Refused}
+use Rattle.session_text.specs.declared.refusal.Refusal.{Refusal}
+use Rattle.session_text.specs.declared.refusal.Refusal.TheVariants.{PatternTooBig, Memory}
+use Rattle.session_text.specs.declared.reply.Reply.TheVariants.{Pushed, Traced, Searched, Refused}
 use Rattle.session_meaning.specs.declared.ending.Ending.{Ending}
 use Rattle.session_meaning.specs.declared.ending.Ending.TheVariants.{Answered, BadWords, ReadFault, Spent, Starved, WriteFault}
 use Rattle.session_meaning.specs.declared.ending.Ending.TheVariants as ending
-use Rattle.session_meaning.specs.History.{Accepted, History, history_rows, rows_of_trace}
-use Rattle.session_text.specs.Requests.{request_of}
+use Rattle.session_meaning.specs.History.{Accepted, History, history_rows}
+use Rattle.search_answer.specs.Answers.{IsAnswer}
+use Rattle.search_text.specs.Fields.{printed_fields}
+use Rattle.session_text.specs.Requests.{Asks}
+use Rattle.spanset_eval.specs.declared.results.TraceResult.{TraceResult}
+use Rattle.trace_rows.specs.Traces.{rows_of_trace}
+use Rattle.traceql_syntax.specs.Trees.{query_tree}
 use Rattle.session_text.specs.Replies.{reply_text}
 
 -- A refusal for another cause than memory.
+abbrev pub is_for_other : Refusal → Bool
+is_for_other Memory = false
+is_for_other _ = true
+
 abbrev pub is_refusal : Reply → Bool
-is_refusal (Pushed _ _ _ _) = false
-is_refusal (Traced _ _) = false
-is_refusal (Refused Memory) = false
-is_refusal (Refused (TooLong _)) = true
-is_refusal (Refused (BadRequest _)) = true
-is_refusal (Refused BadJson) = true
-is_refusal (Refused (BadOtlp _)) = true
-is_refusal (Refused (TooMany _)) = true
+is_refusal (Refused why) = is_for_other why
+is_refusal _ = false
 
 -- A refusal for memory.
+abbrev pub is_memory : Refusal → Bool
+is_memory Memory = true
+is_memory _ = false
+
 abbrev pub is_for_memory : Reply → Bool
-is_for_memory (Pushed _ _ _ _) = false
-is_for_memory (Traced _ _) = false
-is_for_memory (Refused Memory) = true
-is_for_memory (Refused (TooLong _)) = false
-is_for_memory (Refused (BadRequest _)) = false
-is_for_memory (Refused BadJson) = false
-is_for_memory (Refused (BadOtlp _)) = false
-is_for_memory (Refused (TooMany _)) = false
+is_for_memory (Refused why) = is_memory why
+is_for_memory _ = false
+
+-- A refusal of a pattern for its size.
+abbrev pub is_size : Refusal → Bool
+is_size (PatternTooBig at) = true
+is_size _ = false
+
+abbrev pub is_too_big : Reply → Bool
+is_too_big (Refused why) = is_size why
+is_too_big _ = false
 
 -- The texts of replies, in order.
 abbrev pub reply_texts : List Reply → List ℕ
 reply_texts [] = []
 reply_texts (r ∷ rs) = reply_text r ++ reply_texts rs
 
+-- What a search finds at a history: its answer over the first occurrences of all spans in it.
+pub record IsFound (s : Search) (history : History) (results : List TraceResult) : Type 0 where
+  pub rows : List Row
+  pub firsts : IsFirstOf (history_rows history) rows
+  pub answer : IsAnswer s.checked.patterns (query_tree s.checked.query) s.range s.limit s.spans_per_set rows results
+
 -- What is asked at a history is answered so, and leaves that history.
 -- A push is told how many entries came before it, how many of its spans are kept and were rejected, and how much was
 -- skipped. Its spans are appended.
 -- A look-up is told the number of entries too, and the first occurrences of the trace's spans in the history.
+-- A search is told that number, and what it finds.
 -- A line that asks nothing is refused for its cause, and appends nothing.
 abbrev pub IsAnswered : Result Request Refusal → History → Reply → History → Type 0
 IsAnswered (Ok (Push reading)) before reply after =
     (reply ≡ Pushed (length before) (length reading.batch.spans) reading.rejected reading.skipped) × (after ≡ before ++ Accepted reading.batch.spans ∷ [])
 IsAnswered (Ok (Trace id)) before reply after =
     (rows : List Row) × IsFirstOf (rows_of_trace id (history_rows before)) rows × (reply ≡ Traced (length before) rows) × (after ≡ before)
+IsAnswered (Ok (request.Search s)) before reply after =
+    (results : List TraceResult) × IsFound s before results × (reply ≡ Searched (length before) (printed_fields (query_tree s.checked.query)) results) × (after ≡ before)
 IsAnswered (Err why) before reply after = (reply ≡ Refused why) × (after ≡ before)
 
--- The same, or memory was wanted: the line is refused for that, and appends nothing.
+-- The same, or memory was wanted: it is refused for that, and nothing is appended.
 abbrev pub IsAnsweredOrStarved : Result Request Refusal → History → Reply → History → Type 0
-IsAnsweredOrStarved request before reply after =
-    IsAnswered request before reply after ⊎ ((reply ≡ Refused Memory) × (after ≡ before))
+IsAnsweredOrStarved asked before reply after =
+    IsAnswered asked before reply after ⊎ ((reply ≡ Refused Memory) × (after ≡ before))
+
+-- The line asks something, or has a cause to be refused, and is answered so. That the maker of patterns counted each
+-- pattern that is refused for its size is said of the whole run.
+abbrev pub IsLineAnswered : List ℕ → History → Reply → History → Type 0
+IsLineAnswered line before reply after =
+    (asked : Result Request Refusal) × Asks line (Unit {0}) asked × IsAnsweredOrStarved asked before reply after
 
 -- The lines are answered in order, from a history to a history. A line without bytes gets no reply.
 abbrev pub Session : History → List (List ℕ) → List Reply → History → Type 0
@@ -68,7 +95,7 @@ Session before [] replies after = (replies ≡ []) × (after ≡ before)
 Session before ([] ∷ lines) replies after = Session before lines replies after
 Session before ((b ∷ bs) ∷ lines) [] after = ⊥
 Session before ((b ∷ bs) ∷ lines) (reply ∷ replies) after =
-    (between : History) × IsAnsweredOrStarved (request_of (b ∷ bs)) before reply between × Session between lines replies after
+    (between : History) × IsLineAnswered (b ∷ bs) before reply between × Session between lines replies after
 
 -- How a session ends whose input was read to its end: with a refusal for another cause than memory among its replies,
 -- else with one for memory among them, else with none.
@@ -114,9 +141,15 @@ Ends ReadFault text later left before replies taken = IsWritten before replies t
 Ends Spent text later left before replies taken = IsWritten before replies taken × IsAllEnded text later left × (taken_limit ≤ length text)
 Ends BadWords text later left before replies taken = ⊥
 
+-- The maker's count of refusals, from `before` to `now`, rose by at least so many. A count of 64 bits stands still at its
+-- end.
+abbrev pub RoseBy : ℕ → ℕ → ℕ → Type 0
+RoseBy n before now = min (before + n) (2 ^ 64 - 1) ≤ now
+
 -- What a session did that read `text` and ended so: the lines of a prefix were answered in order from no push on, and
--- their replies, and nothing else, stand written as the ending says.
-pub record HasRun (text before : List ℕ) (left taken : Option (List ℕ)) (ending : Ending) : Type 0 where
+-- their replies, and nothing else, stand written as the ending says. Each refusal of a pattern for its size was counted by
+-- the maker of patterns, whose counts are told last.
+pub record HasRun (text before : List ℕ) (left taken : Option (List ℕ)) (ending : Ending) (refused_before refused_now : ℕ) : Type 0 where
   pub answered : List (List ℕ)
   pub later : List (List ℕ)
   pub replies : List Reply
@@ -124,6 +157,7 @@ pub record HasRun (text before : List ℕ) (left taken : Option (List ℕ)) (end
   pub lines_are : lines text ≡ answered ++ later
   pub session : Session [] answered replies history
   pub ends : Ends ending text later left before replies taken
+  pub counted : RoseBy (count_by is_too_big replies) refused_before refused_now
 
 -- How a run ends that answers one line alone, and what stands written: the reply; nothing or a first part of it, where
 -- memory was wanted or the sink failed.
@@ -135,5 +169,7 @@ EndsAlone WriteFault before reply taken = (count : ℕ) × (taken ≡ Some (befo
 EndsAlone _ before reply taken = ⊥
 
 -- The line is answered as the first of a session, and alone.
-abbrev pub AnswersAlone : List ℕ → List ℕ → Option (List ℕ) → Ending → Type 0
-AnswersAlone line before taken ending = (reply : Reply) × (after : History) × IsAnsweredOrStarved (request_of line) [] reply after × EndsAlone ending before reply taken
+abbrev pub AnswersAlone : List ℕ → List ℕ → Option (List ℕ) → Ending → ℕ → ℕ → Type 0
+AnswersAlone line before taken ending refused_before refused_now =
+    (reply : Reply) × (after : History) × IsLineAnswered line [] reply after × EndsAlone ending before reply taken
+    × RoseBy (count_by is_too_big (reply ∷ [])) refused_before refused_now

@@ -4,10 +4,9 @@ use Rattle.span_types.specs.declared.spans.Span.{Span}
 use Rattle.io_edges.specs.Lines.{lines}
 use Rattle.session_text.specs.declared.reply.Reply.{Reply}
 use Rattle.session_meaning.specs.History.{Accepted, Entry, History, history_rows, rows_from, rows_of_entries}
-use Rattle.session_text.specs.Requests.{request_of}
 use Rattle.session_text.specs.Replies.{reply_text}
 use Rattle.session_meaning.specs.Session.{reply_texts}
-use Rattle.session_meaning.specs.Session.{IsAnsweredOrStarved, Session}
+use Rattle.session_meaning.specs.Session.{IsLineAnswered, Session}
 
 -- A line without bytes adds no reply.
 pub Session-empty : (before after : History) (lines : List (List ℕ)) (replies : List Reply) →
@@ -19,10 +18,10 @@ Session-empty before after ((b ∷ bs) ∷ lines) (r ∷ rs) h = (h.0, h.1, Sess
 
 -- Any other line adds its reply.
 pub Session-line : (before mid after : History) (lines : List (List ℕ)) (replies : List Reply) (b : ℕ) (bs : List ℕ) (reply : Reply) →
-    Session before lines replies mid → IsAnsweredOrStarved (request_of (b ∷ bs)) mid reply after →
+    Session before lines replies mid → IsLineAnswered (b ∷ bs) mid reply after →
     Session before (lines ++ (b ∷ bs) ∷ []) (replies ++ reply ∷ []) after
 Session-line before mid after [] replies b bs reply h a =
-    rw h.0 (after, subst (λ m. IsAnsweredOrStarved (request_of (b ∷ bs)) m reply after) h.1 a, (refl, refl))
+    rw h.0 (after, subst (λ m. IsLineAnswered (b ∷ bs) m reply after) h.1 a, (refl, refl))
 Session-line before mid after ([] ∷ lines) replies b bs reply h a = Session-line before mid after lines replies b bs reply h a
 Session-line before mid after ((c ∷ cs) ∷ lines) [] b bs reply h a = absurd h
 Session-line before mid after ((c ∷ cs) ∷ lines) (r ∷ rs) b bs reply h a =
@@ -57,7 +56,7 @@ progress_empty text rest past later replies history p parts next = record {
 }
 
 pub progress_line : (text rest past later : List ℕ) (replies : List Reply) (history after : History) (b : ℕ) (bs : List ℕ) (reply : Reply) →
-    Progress text rest replies history → rest ≡ past ++ later → lines rest ≡ (b ∷ bs) ∷ lines later → IsAnsweredOrStarved (request_of (b ∷ bs)) history reply after →
+    Progress text rest replies history → rest ≡ past ++ later → lines rest ≡ (b ∷ bs) ∷ lines later → IsLineAnswered (b ∷ bs) history reply after →
     Progress text later (replies ++ reply ∷ []) after
 progress_line text rest past later replies history after b bs reply p parts next a = record {
   front = p.front ++ past;

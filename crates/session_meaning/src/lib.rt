@@ -4,7 +4,5 @@
 #![tactic(auto)]
 
 mod ending;
-mod traces;
 
 pub use ending::Ending;
-pub use traces::rows_of;

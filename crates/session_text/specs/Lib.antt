@@ -1,3 +1,6 @@
 pub mod Lines
+pub mod Options
+pub mod Seen
+pub mod Searches
 pub mod Requests
 pub mod Replies

@@ -1,10 +1,15 @@
 -- The texts of replies. Each ends with a line feed.
 use Rattle.std.specs.Prelude.{◌≡◌, ℕ, List, [], ◌∷◌, ◌++◌, Bool, true, false, length, codes, decimal}
 use Rattle.otlp_spans.specs.Writing.{spans_in, trace_text}
-use Rattle.session_text.specs.declared.reply.Refusal.{Refusal}
-use Rattle.session_text.specs.declared.reply.Refusal.TheVariants.{TooLong, BadRequest, BadJson, BadOtlp, TooMany, Memory}
+use Rattle.search_text.specs.Results.{results_text}
+use Rattle.session_text.specs.declared.refusal.KindFault.{KindFault}
+use Rattle.session_text.specs.declared.refusal.KindFault.TheVariants as kind
+use Rattle.session_text.specs.declared.refusal.QueryFault.{QueryFault}
+use Rattle.session_text.specs.declared.refusal.QueryFault.TheVariants as query
+use Rattle.session_text.specs.declared.refusal.Refusal.{Refusal}
+use Rattle.session_text.specs.declared.refusal.Refusal.TheVariants.{TooLong, BadRequest, BadJson, BadOtlp, TooMany, BadQuery, BadType, BadPattern, PatternTooBig, Memory}
 use Rattle.session_text.specs.declared.reply.Reply.{Reply}
-use Rattle.session_text.specs.declared.reply.Reply.TheVariants.{Pushed, Traced, Refused}
+use Rattle.session_text.specs.declared.reply.Reply.TheVariants.{Pushed, Traced, Searched, Refused}
 
 -- Texts one after another.
 abbrev pub texts : List (List ℕ) → List ℕ
@@ -23,9 +28,31 @@ abbrev pub traced_text : ℕ → ℕ → List ℕ → List ℕ
 traced_text as_of spans json = texts (
     codes "ok trace as_of=" ∷ decimal as_of ∷ codes " spans=" ∷ decimal spans ∷ codes " " ∷ json ∷ codes "\n" ∷ [])
 
+-- A search at a count of pushes: how many traces are told, and their JSON.
+abbrev pub searched_text : ℕ → ℕ → List ℕ → List ℕ
+searched_text as_of traces json = texts (
+    codes "ok search as_of=" ∷ decimal as_of ∷ codes " traces=" ∷ decimal traces ∷ codes " " ∷ json ∷ codes "\n" ∷ [])
+
 -- A refusal with what it names.
 abbrev pub refused_text : List ℕ → List ℕ → List ℕ
 refused_text why named = texts (codes "refused " ∷ why ∷ named ∷ codes "\n" ∷ [])
+
+-- a text that is no query
+abbrev pub query_text : QueryFault → List ℕ
+query_text (query.BadChar at) = refused_text (codes "bad-query bad-char at=") (decimal at)
+query_text (query.Unexpected at) = refused_text (codes "bad-query unexpected at=") (decimal at)
+query_text (query.Unended at) = refused_text (codes "bad-query unended at=") (decimal at)
+query_text (query.NumberRange at) = refused_text (codes "bad-query number-range at=") (decimal at)
+query_text (query.FractionLiteral at) = refused_text (codes "bad-query fraction-literal at=") (decimal at)
+query_text (query.TooDeep at) = refused_text (codes "bad-query too-deep at=") (decimal at)
+query_text (query.TooLong length) = refused_text (codes "bad-query too-long length=") (decimal length)
+
+-- kinds that don't fit
+abbrev pub kind_text : KindFault → List ℕ
+kind_text (kind.KindClash at) = refused_text (codes "bad-type kind-clash at=") (decimal at)
+kind_text (kind.NotTruth at) = refused_text (codes "bad-type not-truth at=") (decimal at)
+kind_text (kind.DivisionInAggregate at) = refused_text (codes "bad-type division-in-aggregate at=") (decimal at)
+kind_text (kind.NotNumber at) = refused_text (codes "bad-type not-number at=") (decimal at)
 
 abbrev pub refusal_text : Refusal → List ℕ
 refusal_text (TooLong length) = refused_text (codes "too-long length=") (decimal length)
@@ -33,10 +60,15 @@ refusal_text (BadRequest at) = refused_text (codes "bad-request at=") (decimal a
 refusal_text BadJson = refused_text (codes "bad-json") []
 refusal_text (BadOtlp path) = refused_text (codes "bad-otlp path=") path
 refusal_text (TooMany spans) = refused_text (codes "too-many spans=") (decimal spans)
+refusal_text (BadQuery fault) = query_text fault
+refusal_text (BadType fault) = kind_text fault
+refusal_text (BadPattern at) = refused_text (codes "bad-pattern at=") (decimal at)
+refusal_text (PatternTooBig at) = refused_text (codes "pattern-too-big at=") (decimal at)
 refusal_text Memory = refused_text (codes "memory") []
 
 -- The text of a reply.
 abbrev pub reply_text : Reply → List ℕ
 reply_text (Pushed number accepted rejected skipped) = pushed_text number accepted rejected skipped
 reply_text (Traced as_of rows) = traced_text as_of (length rows) (trace_text (spans_in rows))
+reply_text (Searched as_of fields results) = searched_text as_of (length results) (results_text fields results)
 reply_text (Refused why) = refusal_text why

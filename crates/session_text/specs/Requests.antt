@@ -1,5 +1,5 @@
 -- What a line asks, or why it asks nothing.
-use Rattle.std.specs.Prelude.{◌≡◌, ⊤, ℕ, ◌+◌, ◌≤◌, List, [], ◌∷◌, length, codes, nat_le, if◌then◌else◌, Option, Some, None, Result, Ok, Err}
+use Rattle.std.specs.Prelude.{◌≡◌, ◌⊎◌, ⊤, ℕ, ◌+◌, ◌≤◌, List, [], ◌∷◌, length, codes, nat_le, if◌then◌else◌, Option, Some, None, Result, Ok, Err}
 use Rattle.std.specs.Str.{bytes_eq, is_utf8}
 use Rattle.span_types.specs.declared.ids.TraceId.{TraceId}
 use Rattle.io_edges.specs.Lines.{line_limit}
@@ -7,11 +7,13 @@ use Rattle.otlp_spans.specs.Fields.{trace_id_of}
 use Rattle.otlp_spans.specs.Forms.{path_text}
 use Rattle.otlp_spans.specs.Reading.{Given, NoJson, TooManySpans, WrongForm, most_spans, reading_of}
 use Rattle.otlp_spans.specs.Reading as otlp
-use Rattle.session_text.specs.declared.reply.Refusal.{Refusal}
-use Rattle.session_text.specs.declared.reply.Refusal.TheVariants.{TooLong, BadRequest, BadJson, BadOtlp, TooMany}
+use Rattle.session_text.specs.declared.refusal.Refusal.{Refusal}
+use Rattle.session_text.specs.declared.refusal.Refusal.TheVariants.{TooLong, BadRequest, BadJson, BadOtlp, TooMany, Memory}
 use Rattle.session_text.specs.declared.request.Request.{Request}
-use Rattle.session_text.specs.declared.request.Request.TheVariants.{Push, Trace}
+use Rattle.session_text.specs.declared.request.Request.TheVariants.{Push, Trace, Search}
 use Rattle.session_text.specs.Lines.{first_part, other_parts}
+use Rattle.session_text.specs.Options.{SearchLine, search_parts}
+use Rattle.session_text.specs.Searches.{Searches}
 
 -- Why what is pushed gives nothing.
 abbrev pub refusal_of : otlp.Refusal → Refusal
@@ -40,22 +42,52 @@ abbrev pub trace_with : ℕ → Option (List ℕ) → Result Request Refusal
 trace_with len None = Err (BadRequest len)
 trace_with len (Some rest) = with_id 6 (first_part rest) (trace_id_of (first_part rest)) (other_parts rest)
 
+-- What a line is: a search, which may be answered in more than one way, since the patterns that are made of a query
+-- aren't told by its text; or one that asks this or is refused so.
+pub data Line : Type 0 where
+  searched : SearchLine → Line
+  plain : Result Request Refusal → Line
+
+-- A search is the word `search`, its options and its query.
+abbrev pub search_with : Result SearchLine ℕ → Line
+search_with (Ok line) = searched line
+search_with (Err at) = plain (Err (BadRequest at))
+
 -- A line of UTF-8 that is no push.
-abbrev pub other_request : List ℕ → List ℕ → Option (List ℕ) → Result Request Refusal
-other_request word line rest = if bytes_eq word (codes "trace") then trace_with (length line) rest else Err (BadRequest 0)
+abbrev pub other_line : List ℕ → List ℕ → Option (List ℕ) → Line
+other_line word line rest =
+    if bytes_eq word (codes "trace") then plain (trace_with (length line) rest)
+    else if bytes_eq word (codes "search") then search_with (search_parts (length line) rest)
+    else plain (Err (BadRequest 0))
 
--- What a line asks that isn't too long. Only a push may have bytes that aren't UTF-8, and its JSON is then none.
-abbrev pub asked_by : List ℕ → List ℕ → Option (List ℕ) → Result Request Refusal
-asked_by word line rest =
-    if bytes_eq word (codes "push") then push_with (length line) rest
-    else if is_utf8 line then other_request word line rest
-    else Err (BadRequest 0)
+-- What a line is that isn't too long. Only a push may have bytes that aren't UTF-8, and its JSON is then none.
+abbrev pub line_by : List ℕ → List ℕ → Option (List ℕ) → Line
+line_by word line rest =
+    if bytes_eq word (codes "push") then plain (push_with (length line) rest)
+    else if is_utf8 line then other_line word line rest
+    else plain (Err (BadRequest 0))
 
--- What a line asks, or why it asks nothing.
-unfoldable pub request_of : List ℕ → Result Request Refusal
-request_of line = if nat_le (length line) line_limit then asked_by (first_part line) line (other_parts line) else Err (TooLong (length line))
+-- What a line is.
+unfoldable pub line_of : List ℕ → Line
+line_of line = if nat_le (length line) line_limit then line_by (first_part line) line (other_parts line) else plain (Err (TooLong (length line)))
+
+-- a search as an answer to a line
+abbrev pub AsksSearch : SearchLine → Type 0 → Result Request Refusal → Type 0
+AsksSearch line rose (Ok (Search s)) = Searches line rose (Ok s)
+AsksSearch line rose (Ok other) = ⊥
+AsksSearch line rose (Err e) = Searches line rose (Err e)
+
+-- what may be answered to a line of which this is known; want of memory may take the place of any answer
+abbrev pub Answers : Line → Type 0 → Result Request Refusal → Type 0
+Answers (searched line) rose result = AsksSearch line rose result
+Answers (plain answer) rose result = (result ≡ answer) ⊎ (result ≡ Err Memory)
+
+-- What a line asks, or why it asks nothing. `rose` says that the maker of patterns refused one.
+abbrev pub Asks : List ℕ → Type 0 → Result Request Refusal → Type 0
+Asks line rose result = Answers (line_of line) rose result
 
 -- A push has at most as many spans as a line may have.
 abbrev pub HasFewSpans : Request → Type 0
 HasFewSpans (Push reading) = length reading.batch.spans ≤ most_spans
 HasFewSpans (Trace id) = ⊤
+HasFewSpans (Search search) = ⊤

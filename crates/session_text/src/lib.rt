@@ -1,14 +1,18 @@
 //! The texts of a session: what a line asks, and how a reply is written.
 #![tactic(auto)]
 
+mod options;
 mod reading;
+mod refusal;
 mod reply;
 mod request;
+mod searching;
 mod writing;
 
 pub use reading::read_request;
-pub use reply::{Refusal, Reply};
-pub use request::Request;
+pub use refusal::{KindFault, QueryFault, Refusal};
+pub use reply::Reply;
+pub use request::{Request, Search};
 pub use writing::write_reply;
 
 #[cfg(test)]

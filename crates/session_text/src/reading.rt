@@ -1,15 +1,20 @@
 //! What a line asks.
 
-ghost use Rattle.std.specs.Prelude.{◌≡◌, ◌⊎◌, IfOk, Err, Ok, Some, None, option_map, length};
-ghost use Rattle.std.specs.Str.{is_utf8};
-ghost use Rattle.session_text.specs.declared.reply.Refusal.TheVariants.{Memory};
+ghost use Rattle.std.specs.Prelude.{◌≡◌, ◌⊎◌, ◌≤◌, IfOk, Err, Ok, Some, None, option_map, length};
+ghost use Rattle.span_types.specs.Faults.{Rose};
+ghost use Rattle.session_text.specs.declared.refusal.Refusal.TheVariants.{Memory};
 ghost use Rattle.session_text.specs.Lines.{first_part, other_parts};
-ghost use Rattle.session_text.specs.Requests.{HasFewSpans, asked_by, other_request, push_with, request_of, trace_with, with_id};
+ghost use Rattle.session_text.specs.Options.{search_parts};
+ghost use Rattle.session_text.specs.Requests.{Answers, Asks, HasFewSpans, line_by, line_of, other_line, push_with, search_with, trace_with, with_id};
+ghost use Rattle.session_text.specs.Seen.{left_seen};
 
+use crate::options::{search_parts, split_text};
+use crate::searching::search;
 use crate::{Refusal, Request};
 use otlp_spans::{OtlpError, read_line, read_trace_id};
 use span_types::TraceId;
 use std::alloc::Global;
+use traceql_types::PatternMaker;
 
 /// How many bytes a line may have.
 const LINE_LIMIT: usize = 16_777_216;
@@ -18,15 +23,24 @@ const LINE_LIMIT: usize = 16_777_216;
 ///
 /// - `push JSON`: what the JSON gives, or why it gives nothing. The JSON is the rest of the line.
 /// - `trace ID`: an ID is 32 hexadecimal digits of either case that aren't all zeros.
+/// - `search [limit=n] [spss=n] [start=T] [end=T] QUERY`: a search. The options stand in this order, each n is a number
+///   from 1 to 1,000 and each T a count of nanoseconds or a timestamp. The QUERY is the rest of the line. The maker
+///   makes its patterns.
 ///
 /// One space stands between the parts. A line that is none of these is refused at the first byte of the first part that
 /// can't stand there, and at its length where a part is missing. A line that isn't UTF-8 is refused at its first byte,
 /// unless its first part is `push`: then its JSON is none. A line of more than 16,777,216 bytes is too long.
 /// `Memory` comes wherever memory is wanted and not given.
-#[tactic(auto, unfolding(crate::specs::Requests::request_of))]
-pub fn read_request(alloc: Global, line: &[u8]) -> Result<Request, Refusal>
-    ensures asked { (result ≡ request_of line.now) ⊎ (result ≡ Err Memory) }
+#[tactic(auto, unfolding(crate::specs::Requests::line_of))]
+pub fn read_request<P: PatternMaker>(
+    alloc: Global,
+    line: &[u8],
+    maker: &mut P,
+) -> Result<Request, Refusal>
+    ensures asked { Asks line.now (Rose (P.refusals maker.old) (P.refusals maker.new)) result }
     ensures few { IfOk result (λ request. HasFewSpans request) }
+    ensures counted { P.refusals maker.old ≤ P.refusals maker.new }
+    ensures unrefused { IfOk result (λ request. P.refusals maker.new ≡ P.refusals maker.old) }
 {
     if line.len() > LINE_LIMIT {
         return Err(Refusal::TooLong {
@@ -34,7 +48,13 @@ pub fn read_request(alloc: Global, line: &[u8]) -> Result<Request, Refusal>
         });
     }
     let (word, rest) = split(line);
-    asked_by(alloc, word, line, rest)
+    if word == b"push".as_slice() {
+        return push_with(alloc, line.len() as u64, rest);
+    }
+    match std::str::from_utf8(line) {
+        Ok(text) => asked_by(alloc, text, maker),
+        Err(_) => Err(Refusal::BadRequest { at: 0 }),
+    }
 }
 
 /// The first part, and what follows the space behind it.
@@ -50,33 +70,23 @@ fn split(line: &[u8]) -> (&[u8], Option<&[u8]>)
     (line, None)
 }
 
-/// Whether the bytes are UTF-8.
-fn is_text(bytes: &[u8]) -> bool
-    ensures { result ≡ is_utf8 bytes.now }
-{
-    std::str::from_utf8(bytes).is_ok()
-}
-
-/// What a line asks that isn't too long.
-fn asked_by(
+/// What a line of UTF-8 asks that is no push and not too long.
+fn asked_by<P: PatternMaker>(
     alloc: Global,
-    word: &[u8],
-    line: &[u8],
-    rest: Option<&[u8]>,
+    line: &str,
+    maker: &mut P,
 ) -> Result<Request, Refusal>
-    ensures asked { (result ≡ asked_by word.now line.now (option_map (λ s. s.now) rest.entry)) ⊎ (result ≡ Err Memory) }
+    ensures asked { Answers (other_line (first_part line.now) line.now (other_parts line.now)) (Rose (P.refusals maker.old) (P.refusals maker.new)) result }
     ensures few { IfOk result (λ request. HasFewSpans request) }
+    ensures counted { P.refusals maker.old ≤ P.refusals maker.new }
+    ensures unrefused { IfOk result (λ request. P.refusals maker.new ≡ P.refusals maker.old) }
 {
-    if word == b"push".as_slice() {
-        return push_with(alloc, line.len() as u64, rest);
+    let (word, rest) = split_text(line);
+    match word {
+        "trace" => trace_with(line.len() as u64, rest),
+        "search" => search_with(alloc, line.len() as u64, rest, maker),
+        _ => Err(Refusal::BadRequest { at: 0 }),
     }
-    if !is_text(line) {
-        return Err(Refusal::BadRequest { at: 0 });
-    }
-    if word == b"trace".as_slice() {
-        return trace_with(line.len() as u64, rest);
-    }
-    Err(Refusal::BadRequest { at: 0 })
 }
 
 /// A push, in a line of this length.
@@ -97,15 +107,15 @@ fn push_with(alloc: Global, length: u64, rest: Option<&[u8]>) -> Result<Request,
 }
 
 /// A look-up, in a line of this length.
-fn trace_with(length: u64, rest: Option<&[u8]>) -> Result<Request, Refusal>
-    ensures asked { result ≡ trace_with length (option_map (λ s. s.now) rest.entry) }
+fn trace_with(length: u64, rest: Option<&str>) -> Result<Request, Refusal>
+    ensures asked { result ≡ trace_with length (left_seen rest.entry) }
     ensures few { IfOk result (λ request. HasFewSpans request) }
 {
     let Some(rest) = rest else {
         return Err(Refusal::BadRequest { at: length });
     };
-    let (part, more) = split(rest);
-    let Some(id) = read_trace_id(part) else {
+    let (part, more) = split_text(rest);
+    let Some(id) = read_trace_id(part.as_bytes()) else {
         return Err(Refusal::BadRequest { at: 6 });
     };
     match more {
@@ -114,4 +124,24 @@ fn trace_with(length: u64, rest: Option<&[u8]>) -> Result<Request, Refusal>
             at: 7 + part.len() as u64,
         }),
     }
+}
+
+/// A search, in a line of this length.
+fn search_with<P: PatternMaker>(
+    alloc: Global,
+    length: u64,
+    rest: Option<&str>,
+    maker: &mut P,
+) -> Result<Request, Refusal>
+    ensures asked { Answers (search_with (search_parts length (left_seen rest.entry))) (Rose (P.refusals maker.old) (P.refusals maker.new)) result }
+    ensures few { IfOk result (λ request. HasFewSpans request) }
+    ensures counted { P.refusals maker.old ≤ P.refusals maker.new }
+    ensures unrefused { IfOk result (λ request. P.refusals maker.new ≡ P.refusals maker.old) }
+{
+    let line = match search_parts(length, rest) {
+        Ok(line) => line,
+        Err(at) => return Err(Refusal::BadRequest { at }),
+    };
+    let found = search(alloc, line, maker)?;
+    Ok(Request::Search(found))
 }

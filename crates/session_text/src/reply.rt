@@ -1,9 +1,12 @@
 //! What a line may be answered.
 
-use span_types::{Rows, Text};
+use crate::Refusal;
+use search_text::Texts;
+use span_types::Rows;
+use spanset_eval::Results;
 
 /// What a line is answered.
-#[derive(Debug, Drop)]
+#[derive(Drop)]
 pub enum Reply {
     /// The spans of a push were kept.
     Pushed {
@@ -23,35 +26,15 @@ pub enum Reply {
         /// The first occurrences of the trace's spans, in trace order: by start, then span id.
         rows: Rows,
     },
+    /// The results of a search.
+    Searched {
+        /// How many pushes the answer takes account of: those numbered below it.
+        as_of: u64,
+        /// The query's selected fields, printed, in the text's order.
+        fields: Texts,
+        /// What the query leaves of each trace, in the order in which the traces are told.
+        results: Results,
+    },
     /// The line is refused, and nothing was kept.
     Refused(Refusal),
-}
-
-/// Why a line is refused.
-#[derive(Debug, Drop)]
-pub enum Refusal {
-    /// The line has more than 16,777,216 bytes.
-    TooLong {
-        /// How many it has.
-        length: u64,
-    },
-    /// The line is none that can be asked.
-    BadRequest {
-        /// The first byte of the first part that can't stand there, and the line's length where a part is missing.
-        at: u64,
-    },
-    /// What is pushed is no JSON.
-    BadJson,
-    /// What is pushed is JSON, and no trace request.
-    BadOtlp {
-        /// Where the first part of the wrong form stands, as `$.resourceSpans[0].scopeSpans`.
-        path: Text,
-    },
-    /// What is pushed has more than 16,384 span objects.
-    TooMany {
-        /// How many it has.
-        spans: u64,
-    },
-    /// Memory was wanted.
-    Memory,
 }

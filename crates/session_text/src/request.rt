@@ -1,13 +1,30 @@
 //! What a line may ask.
 
+use column_scan::Range;
 use otlp_spans::Reading;
 use span_types::TraceId;
+use traceql_types::Checked;
 
 /// What a line asks.
-#[derive(Debug, Drop)]
+#[derive(Drop)]
 pub enum Request {
     /// `push JSON`: these spans are to be kept.
     Push(Reading),
     /// `trace ID`: the spans of this trace are to be told.
     Trace(TraceId),
+    /// `search .. QUERY`: the traces of which the query leaves something are to be told.
+    Search(Search),
+}
+
+/// A search.
+#[derive(Drop)]
+pub struct Search {
+    /// The query, whose kinds fit, with its patterns.
+    pub checked: Checked,
+    /// When a trace starts that counts.
+    pub range: Range,
+    /// How many traces are told at most, from 1 to 1,000.
+    pub limit: u32,
+    /// How many spans of a spanset are told at most, from 1 to 1,000.
+    pub spans_per_set: u32,
 }

@@ -1,14 +1,35 @@
 //! Lines and replies with their exact bytes, worked out by hand.
 
-use crate::{Refusal, Reply, Request, read_request, write_reply};
-use span_types::{Memory, Rows, Text};
+use crate::{Refusal, Reply, Request, Search, read_request, write_reply};
+use span_types::{Calls, Memory, Rows, Text};
 use std::alloc::Global;
 use std::process::Abort;
 use std::test::Fail;
+use traceql_print::print_query;
+use traceql_types::ScriptedMaker;
 
-/// What a line asks, or the reply that refuses it.
+/// What a search asks: its counts, its range, how many patterns it has, and its query as it is printed.
+fn told(alloc: Global, search: &Search) -> Result<Text, Memory> {
+    let query = print_query(alloc, &search.checked.query)?;
+    let patterns = search.checked.patterns.len();
+    let from = search.range.from;
+    let until = match search.range.until {
+        None => String::from_str(alloc, "-")?,
+        Some(until) => until.to_string(alloc)?,
+    };
+    let limit = search.limit;
+    let spans = search.spans_per_set;
+    Ok(Text::of(format!(in alloc;
+        "search {limit} {spans} {from} {until} {patterns} {}\n",
+        query.as_str()
+    )?))
+}
+
+/// What a line asks, or the reply that refuses it. The maker refuses its second pattern.
 fn asked(alloc: Global, line: &[u8]) -> Result<Text, Memory> {
-    match read_request(alloc, line) {
+    let refused = vec![in alloc; 2]?;
+    let mut maker = ScriptedMaker::new(alloc, Calls::of(refused));
+    match read_request(alloc, line, &mut maker) {
         Ok(Request::Push(reading)) => {
             let spans = reading.batch.spans.len();
             let text = format!(in alloc;
@@ -21,6 +42,7 @@ fn asked(alloc: Global, line: &[u8]) -> Result<Text, Memory> {
             let digits = hex::encode(alloc, id.0.as_slice())?;
             Ok(Text::of(format!(in alloc; "trace {digits}\n")?))
         }
+        Ok(Request::Search(search)) => told(alloc, &search),
         Err(why) => write_reply(alloc, &Reply::Refused(why)),
     }
 }
@@ -65,8 +87,62 @@ trace_000000000000000000000000000000a1_x => refused bad-request at=39
 trace_g_x => refused bad-request at=6
 Trace_000000000000000000000000000000a1 => refused bad-request at=0
 traces_000000000000000000000000000000a1 => refused bad-request at=0
-search_{_} => refused bad-request at=0
-search => refused bad-request at=0
+Search_{_} => refused bad-request at=0
+searches_{_} => refused bad-request at=0
+search => refused bad-request at=6
+search_ => refused bad-query unended at=0
+search__ => refused bad-query unended at=1
+search_{_} => search 20 3 0 - 0 { }
+search__{_} => search 20 3 0 - 0 { }
+search_{_}_ => search 20 3 0 - 0 { }
+search_limit=5 => refused bad-request at=14
+search_limit=5_ => refused bad-query unended at=0
+search_limit=5__{_} => search 5 3 0 - 0 { }
+search_limit=5_{_} => search 5 3 0 - 0 { }
+search_limit=1_spss=1000_{_} => search 1 1000 0 - 0 { }
+search_limit=0020_{_} => search 20 3 0 - 0 { }
+search_limit=1000_spss=1_start=7_end=9_{_} => search 1000 1 7 9 0 { }
+search_spss=2_end=9_{_} => search 20 2 0 9 0 { }
+search_end=0_{_} => search 20 3 0 0 0 { }
+search_limit=0_{_} => refused bad-request at=7
+search_limit=1001_{_} => refused bad-request at=7
+search_limit=_{_} => refused bad-request at=7
+search_limit=+5_{_} => refused bad-request at=7
+search_limit=-5_{_} => refused bad-request at=7
+search_limit=5{_} => refused bad-request at=7
+search_limit=99999999999999999999_{_} => refused bad-request at=7
+search_limit=5_spss=x_{_} => refused bad-request at=15
+search_limit=5_spss=0 => refused bad-request at=15
+search_limit=5_spss=6 => refused bad-request at=21
+search_limit=5_end=x_{_} => refused bad-request at=15
+search_limit=5_start=1_end=2 => refused bad-request at=28
+search_spss=2_limit=5_{_} => refused bad-query bad-char at=0
+search_limit=5_limit=6_{_} => refused bad-query bad-char at=0
+search_end=1_start=2_{_} => refused bad-query bad-char at=0
+search_Limit=5_{_} => refused bad-query bad-char at=0
+search_limits=5_{_} => refused bad-query bad-char at=0
+search_start=18446744073709551615_{_} => search 20 3 18446744073709551615 - 0 { }
+search_start=18446744073709551616_{_} => refused bad-request at=7
+search_start=1970-01-01T00:00:00Z_{_} => search 20 3 0 - 0 { }
+search_start=1970-01-01T00:00:01.5Z_end=1970-01-01T01:00:02+01:00_{_} => search 20 3 1500000000 2000000000 0 { }
+search_start=1969-12-31T23:59:59Z_{_} => refused bad-request at=7
+search_end=2554-07-21T23:34:33.709551615Z_{_} => search 20 3 0 18446744073709551615 0 { }
+search_end=2554-07-21T23:34:33.709551616Z_{_} => refused bad-request at=7
+search_start=1970-01-01_{_} => refused bad-request at=7
+search_start=_{_} => refused bad-request at=7
+search_{__.a_=_1_} => search 20 3 0 - 0 { .a = 1 }
+search_{_.a_=~_"x"_} => search 20 3 0 - 1 { .a =~ "x" }
+search_? => refused bad-query bad-char at=0
+search_{_} } => refused bad-query unexpected at=4
+search_{_.a_=_"x_} => refused bad-query unended at=7
+search_{_.a_=_9223372036854775808_} => refused bad-query number-range at=7
+search_{_.a_=_1.5_} => refused bad-query fraction-literal at=7
+search_{_status_=_1_} => refused bad-type kind-clash at=9
+search_{_1_} => refused bad-type not-truth at=2
+search_{_}_|_avg(duration_/_2)_>_1 => refused bad-type division-in-aggregate at=19
+search_{_}_|_avg(name)_>_1 => refused bad-type not-number at=10
+search_limit=5_{_.a_=~_"("_} => refused bad-pattern at=8
+search_{_.a_=~_"x"_&&_.b_=~_"y"_} => refused pattern-too-big at=21
 cut => refused bad-request at=0
 cutall => refused bad-request at=0
 flush => refused bad-request at=0
@@ -90,13 +166,14 @@ fn lines_ask_or_are_refused(rt: HostRuntime) -> Result<(), Fail> {
             check_line(&rt, line.as_bytes(), wanted)?;
         }
     }
-    let bytes: [(&[u8], &str); 8] = [
+    let bytes: [(&[u8], &str); 9] = [
         (b"\xff", "refused bad-request at=0"),
         (b"trace \xff", "refused bad-request at=0"),
         (
             b"trace 000000000000000000000000000000a1 \xff",
             "refused bad-request at=0",
         ),
+        (b"search \xff", "refused bad-request at=0"),
         (b"push\xff", "refused bad-request at=0"),
         (b"push \xff", "refused bad-json"),
         (b"push\t{}", "refused bad-request at=0"),

@@ -1,12 +1,14 @@
 //! The texts of replies.
 
 ghost use Rattle.std.specs.Prelude.{◌≡◌, IfOk, codes, string_bytes};
-ghost use Rattle.session_text.specs.declared.reply.Reply.TheVariants.{Traced};
-ghost use Rattle.session_text.specs.Replies.{pushed_text, refusal_text, refused_text, reply_text, traced_text};
+ghost use Rattle.session_text.specs.declared.reply.Reply.TheVariants.{Searched, Traced};
+ghost use Rattle.session_text.specs.Replies.{kind_text, pushed_text, query_text, refusal_text, refused_text, reply_text, searched_text, traced_text};
 
-use crate::{Refusal, Reply};
+use crate::{KindFault, QueryFault, Refusal, Reply};
 use otlp_spans::write_trace;
+use search_text::{Texts, write_results};
 use span_types::{Memory, Rows, Text};
+use spanset_eval::Results;
 use std::alloc::{AllocError, Global};
 
 /// The text of a reply, with its line feed. The one error is want of memory.
@@ -30,6 +32,11 @@ fn text_of(alloc: Global, reply: &Reply) -> Result<String, Memory>
             skipped,
         } => Ok(pushed(alloc, *number, *accepted, *rejected, *skipped)?),
         Reply::Traced { as_of, rows } => write_traced(alloc, *as_of, rows),
+        Reply::Searched {
+            as_of,
+            fields,
+            results,
+        } => write_searched(alloc, *as_of, fields, results),
         Reply::Refused(why) => Ok(refused(alloc, why)?),
     }
 }
@@ -64,6 +71,26 @@ fn traced(alloc: Global, as_of: u64, spans: usize, json: &str) -> Result<String,
     format!(in alloc; "ok trace as_of={as_of} spans={spans} {json}\n")
 }
 
+/// The reply to a search.
+fn write_searched(
+    alloc: Global,
+    as_of: u64,
+    fields: &Texts,
+    results: &Results,
+) -> Result<String, Memory>
+    ensures { IfOk result (λ text. string_bytes text ≡ reply_text (Searched as_of fields.now results.now)) }
+{
+    let json = write_results(alloc, fields, results)?;
+    let text = searched(alloc, as_of, results.len(), json.as_str())?;
+    Ok(text)
+}
+
+fn searched(alloc: Global, as_of: u64, traces: usize, json: &str) -> Result<String, AllocError>
+    ensures { IfOk result (λ text. string_bytes text ≡ searched_text as_of traces json.now) }
+{
+    format!(in alloc; "ok search as_of={as_of} traces={traces} {json}\n")
+}
+
 /// A refusal.
 fn refused(alloc: Global, why: &Refusal) -> Result<String, AllocError>
     ensures { IfOk result (λ text. string_bytes text ≡ refusal_text why.now) }
@@ -74,6 +101,10 @@ fn refused(alloc: Global, why: &Refusal) -> Result<String, AllocError>
         Refusal::BadJson => String::from_str(alloc, "refused bad-json\n"),
         Refusal::BadOtlp { path } => bad_otlp(alloc, path.as_str()),
         Refusal::TooMany { spans } => format!(in alloc; "refused too-many spans={spans}\n"),
+        Refusal::BadQuery(fault) => bad_query(alloc, *fault),
+        Refusal::BadType(fault) => bad_type(alloc, *fault),
+        Refusal::BadPattern { at } => format!(in alloc; "refused bad-pattern at={at}\n"),
+        Refusal::PatternTooBig { at } => format!(in alloc; "refused pattern-too-big at={at}\n"),
         Refusal::Memory => String::from_str(alloc, "refused memory\n"),
     }
 }
@@ -82,4 +113,41 @@ fn bad_otlp(alloc: Global, path: &str) -> Result<String, AllocError>
     ensures { IfOk result (λ text. string_bytes text ≡ refused_text (codes "bad-otlp path=") path.now) }
 {
     format!(in alloc; "refused bad-otlp path={path}\n")
+}
+
+/// The refusal of a text that is no query.
+fn bad_query(alloc: Global, fault: QueryFault) -> Result<String, AllocError>
+    ensures { IfOk result (λ text. string_bytes text ≡ query_text fault) }
+{
+    match fault {
+        QueryFault::BadChar { at } => format!(in alloc; "refused bad-query bad-char at={at}\n"),
+        QueryFault::Unexpected { at } => {
+            format!(in alloc; "refused bad-query unexpected at={at}\n")
+        }
+        QueryFault::Unended { at } => format!(in alloc; "refused bad-query unended at={at}\n"),
+        QueryFault::NumberRange { at } => {
+            format!(in alloc; "refused bad-query number-range at={at}\n")
+        }
+        QueryFault::FractionLiteral { at } => {
+            format!(in alloc; "refused bad-query fraction-literal at={at}\n")
+        }
+        QueryFault::TooDeep { at } => format!(in alloc; "refused bad-query too-deep at={at}\n"),
+        QueryFault::TooLong { length } => {
+            format!(in alloc; "refused bad-query too-long length={length}\n")
+        }
+    }
+}
+
+/// The refusal of a query whose kinds don't fit.
+fn bad_type(alloc: Global, fault: KindFault) -> Result<String, AllocError>
+    ensures { IfOk result (λ text. string_bytes text ≡ kind_text fault) }
+{
+    match fault {
+        KindFault::KindClash { at } => format!(in alloc; "refused bad-type kind-clash at={at}\n"),
+        KindFault::NotTruth { at } => format!(in alloc; "refused bad-type not-truth at={at}\n"),
+        KindFault::DivisionInAggregate { at } => {
+            format!(in alloc; "refused bad-type division-in-aggregate at={at}\n")
+        }
+        KindFault::NotNumber { at } => format!(in alloc; "refused bad-type not-number at={at}\n"),
+    }
 }

@@ -1,7 +1,8 @@
 //! The five relations over traces that were worked out by hand.
 
-ghost use Rattle.std.specs.Prelude.{◌≡◌, ◌+◌, ◌*◌, ◌<◌, ◌≤◌, IfOk, length, replicate};
+ghost use Rattle.std.specs.Prelude.{◌≡◌, ◌+◌, ◌*◌, ◌<◌, ◌≤◌, IfOk, IfSome, false, length, replicate};
 ghost use Rattle.std.specs.Int.{to_be_bytes, w64};
+ghost use Rattle.span_types.specs.Promises.{all_zero};
 ghost use Rattle.span_tree.specs.Nodes.{IsOneTrace};
 
 use crate::*;
@@ -13,30 +14,49 @@ use std::alloc::Global;
 use std::marker::Brand;
 use std::sync::ledger::{Blank, Ledger};
 
-// The row of a span whose id is a number.
+// The id that a number is, unless that is 0.
+fn id_of(number: u64) -> Option<SpanId>
+    ensures id { IfSome result (λ id. id.0 ≡ to_be_bytes w64 number) }
+    ensures some { IfSome result (λ id. all_zero id.0 ≡ false) }
+{
+    let bytes = number.to_be_bytes();
+    if bytes.iter().all(|b| *b == 0) {
+        return None;
+    }
+    Some(SpanId(bytes))
+}
+
+// The row of a span whose id is a number, which isn't 0.
 fn row(alloc: Global, id: u64, parent: Option<u64>) -> Result<Row, Memory>
     ensures trace { IfOk result (λ r. r.span.trace.0 ≡ replicate 16 7) }
     ensures id { IfOk result (λ r. r.span.id.0 ≡ to_be_bytes w64 id) }
 {
+    let Some(id) = id_of(id) else {
+        return Err(Memory);
+    };
+    let parent = match parent {
+        Some(parent) => id_of(parent),
+        None => None,
+    };
     let resource = Resource {
-        attrs: Attrs::of(Vec::new(alloc)),
+        attrs: Attrs::none(alloc),
     };
     let scope = Scope {
         name: Text::of(String::new(alloc)),
         version: Text::of(String::new(alloc)),
-        attrs: Attrs::of(Vec::new(alloc)),
+        attrs: Attrs::none(alloc),
     };
     let span = Span {
         trace: TraceId([7; 16]),
-        id: SpanId(id.to_be_bytes()),
-        parent: parent.map(|p| SpanId(p.to_be_bytes())),
+        id,
+        parent,
         name: Text::of(String::new(alloc)),
         kind: SpanKind::Internal,
         start: 1,
         end: 2,
         status: StatusCode::Unset,
         message: Text::of(String::new(alloc)),
-        attrs: Attrs::of(Vec::new(alloc)),
+        attrs: Attrs::none(alloc),
         resource: SharedResource::of(alloc, resource)?,
         scope: SharedScope::of(alloc, scope)?,
     };

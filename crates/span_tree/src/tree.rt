@@ -7,7 +7,7 @@ ghost use Rattle.span_tree.specs.Marking.{MarksExactly};
 
 use crate::members::{members_of, with_others};
 use crate::{Node, Steps, build, reach};
-use span_types::{Marks, Memory, Rows};
+use span_types::{Marks, Memory, Row, Rows};
 use std::alloc::Global;
 use std::marker::Model;
 use std::sync::ledger::Ledger;
@@ -34,12 +34,20 @@ impl Model for Tree {
 }
 
 impl Tree {
-    /// The tree of the rows of one trace, each span at its row's position. It takes time n log n.
+    /// The tree of the rows of one trace, each span at its row's position.
     pub fn of(alloc: Global, rows: &Rows) -> Result<Tree, Memory>
         requires { IsOneTrace rows.now }
         ensures { IfOk result (λ tree. tree ≡ nodes_of rows.now) }
     {
-        let nodes = build::nodes(alloc, rows.as_slice())?;
+        Tree::of_slice(alloc, rows.as_slice())
+    }
+
+    /// The same of rows that stand in a longer list.
+    pub fn of_slice(alloc: Global, rows: &[Row]) -> Result<Tree, Memory>
+        requires { IsOneTrace rows.now }
+        ensures { IfOk result (λ tree. tree ≡ nodes_of rows.now) }
+    {
+        let nodes = build::nodes(alloc, rows)?;
         let positions = build::positions(alloc, nodes.as_slice())?;
         let parents = build::parents(alloc, nodes.as_slice(), &positions)?;
         let families = build::families(alloc, nodes.as_slice())?;
@@ -50,8 +58,8 @@ impl Tree {
         })
     }
 
-    /// Marks on the children of marked spans. It takes at most 8 steps a span, as each of these calls does: a step is one
-    /// visit of a span.
+    /// Marks on the children of marked spans. To look at a span is a step, and none of these five calls makes more than eight
+    /// times as many of them as the tree has spans.
     pub fn mark_children<L: Ledger>(
         &self,
         marked: &Marks,

@@ -1,7 +1,7 @@
 -- Laws of first occurrences.
-use Rattle.std.proofs.Common.{◌≡◌, ℕ, List, [], ◌∷◌, ◌++◌, Option, None, Some, Bool, true, false, refl, sym, ◌∙◌, ap, arith, rules, cond, if◌then◌else◌, subst, ◌+◌, ◌<◌, zero, suc, length, map, All, Contains, slice_index_or, add-one, ◌⊎◌, inl, inr}
+use Rattle.std.proofs.Common.{◌≡◌, ℕ, List, [], ◌∷◌, ◌++◌, Option, None, Some, Bool, true, false, refl, sym, ◌∙◌, ap, arith, cond, if◌then◌else◌, subst, ◌+◌, ◌<◌, zero, suc, length, map, All, slice_index_or, add-one, ◌⊎◌, inl, inr}
 use Rattle.std.specs.List.{IsDistinct, AllAdjacentBelow, AllByRecursion}
-use Rattle.std.specs.List.Sorted.{IsSortedBy, IsPermutation, IsStrictlySortedBy}
+use Rattle.std.specs.List.Sorted.{IsSortedBy, IsPermutation}
 use Rattle.std.specs.BTreeMap.{BTreeMap, get, values, keys, IsOrdered}
 use Rattle.std.specs.Map.{values_of, keys_of}
 use Rattle.std.specs.declared.cmp.Ordering.{Ordering}

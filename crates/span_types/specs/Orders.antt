@@ -1,5 +1,4 @@
 -- The orders of ids, keys, places and rows. An id is ordered by its bytes.
-use Rattle.std.specs.Prelude.{ℕ, List}
 use Rattle.std.specs.declared.cmp.Ordering.{Ordering}
 use Rattle.std.specs.Ordering.{nat_cmp, ordering_then}
 use Rattle.std.specs.Cmp.Lexicographic.{slice_cmp}
@@ -8,7 +7,6 @@ use Rattle.span_types.specs.declared.ids.SpanId.{SpanId}
 use Rattle.span_types.specs.declared.ids.Key.{Key}
 use Rattle.span_types.specs.declared.ids.Place.{Place}
 use Rattle.span_types.specs.declared.spans.Row.{Row}
-use Rattle.span_types.specs.Keys.{row_key}
 
 -- Trace ids by their bytes.
 abbrev pub trace_cmp : TraceId → TraceId → Ordering

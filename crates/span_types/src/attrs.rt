@@ -1,8 +1,10 @@
 //! Attributes, and what they belong to besides spans: resources and scopes.
 
-ghost use Rattle.std.specs.Prelude.{◌≡◌, IfOk, length};
+ghost use Rattle.std.specs.Prelude.{◌≡◌, [], IfOk, length};
+ghost use Rattle.span_types.specs.Promises.{AreDistinct};
 
 use crate::{Memory, Text};
+use std::alloc::Global;
 use std::marker::Model;
 
 /// An attribute's value: a text, a whole number or a truth.
@@ -49,7 +51,7 @@ impl Attr {
     }
 }
 
-/// A list of attributes, in the order in which they came.
+/// A list of attributes, in the order in which they came. No two of them have one key.
 #[derive(Debug, Drop)]
 pub struct Attrs {
     inner: Vec<Attr>,
@@ -62,14 +64,35 @@ impl Model for Attrs {
     ghost Value = { List Attr };
 
     ghost view = { λ l. l.inner.items };
+
+    ghost use Rattle.span_types.specs.Promises.{AreDistinct};
+
+    ghost invariant = { λ l. AreDistinct l.inner.items };
 }
 
 impl Attrs {
+    /// No attributes.
+    pub fn none(alloc: Global) -> Attrs
+        ensures { result ≡ [] }
+    {
+        Attrs {
+            inner: Vec::new(alloc),
+        }
+    }
+
     /// The list of a vector's items, which are moved and not copied.
     pub fn of(inner: Vec<Attr>) -> Attrs
+        requires { AreDistinct inner.items }
         ensures { result ≡ inner.items }
     {
         Attrs { inner }
+    }
+
+    /// What each list promises, for the proof of its caller: no two attributes have one key. It does nothing.
+    pub fn keys_differ(&self)
+        ensures { AreDistinct self.now }
+    {
+        let _ = &self.inner;
     }
 
     /// The vector again, without a copy.

@@ -13,8 +13,9 @@ use std::alloc::Global;
 use std::cmp::Ordering;
 use std::collections::BTreeMap;
 
-/// For each key the row of the least place, and nothing else, in block order: by trace id, start and span id. Of rows
-/// at one place the earliest in the list counts. It takes time n log n.
+/// The first occurrences among the rows: where several rows are of one span, the row that came in first stays and the others
+/// go. What stays is in block order, which is by trace, then by start, then by span. Should rows of one span have the same
+/// place, the one nearest the list's beginning stays.
 pub fn first_rows(alloc: Global, rows: Rows) -> Result<Rows, Memory>
     ensures { IfOk result (λ firsts. IsFirstOf rows firsts) }
 {

@@ -1,7 +1,8 @@
 //! Spans, rows and what they are made of, and the small types that every crate above shares.
 //!
-//! Text and lists in public types are small types of their own, which contracts see as lists. An id is shown as its
-//! bytes, a key and a place as their parts.
+//! A text is seen in contracts as the list of its bytes, and each of the types that hold a vector as the list of its items. A
+//! span and a batch are seen as their parts. What these types promise holds of every value of them: the keys of attributes
+//! differ, the ids of a span and of its parent have a byte that isn't zero, and a batch has no more than 16,384 spans.
 #![tactic(auto)]
 
 mod attrs;

@@ -34,7 +34,7 @@ pub enum StatusCode {
     Error,
 }
 
-/// One span. Neither of its ids is all zeros, nor is its parent's.
+/// One span. Its ids, and its parent's, each have a byte that isn't zero.
 #[derive(Debug, Drop)]
 pub struct Span {
     /// The trace.
@@ -61,6 +61,19 @@ pub struct Span {
     pub resource: SharedResource,
     /// The instrumentation that made it.
     pub scope: SharedScope,
+}
+
+impl Model for Span {
+    ghost use Rattle.span_types.specs.SpanParts.{SpanParts};
+    ghost use Rattle.span_types.specs.Promises.{AreNames};
+
+    ghost Value = { SpanParts };
+
+    ghost view = { λ s. record { trace = s.trace; id = s.id; parent = s.parent; name = s.name; kind = s.kind; start = s.start; end = s.end; status = s.status; message = s.message; attrs = s.attrs; resource = s.resource; scope = s.scope } };
+
+    ghost invariant = { λ s. AreNames s.trace s.id s.parent };
+
+    ghost inverse = { λ s. record { trace = s.trace; id = s.id; parent = s.parent; name = s.name; kind = s.kind; start = s.start; end = s.end; status = s.status; message = s.message; attrs = s.attrs; resource = s.resource; scope = s.scope } };
 }
 
 impl Span {
@@ -157,11 +170,24 @@ impl Spans {
     }
 }
 
-/// The spans of one push, in the order in which they came. There are at most 16,384.
+/// The spans of one push, in the order in which they came: 16,384 or fewer.
 #[derive(Debug, Drop)]
 pub struct Batch {
     /// The spans.
     pub spans: Spans,
+}
+
+impl Model for Batch {
+    ghost use Rattle.std.specs.Prelude.{length, ◌≤◌};
+    ghost use Rattle.span_types.specs.BatchParts.{BatchParts};
+
+    ghost Value = { BatchParts };
+
+    ghost view = { λ b. record { spans = b.spans } };
+
+    ghost invariant = { λ b. length b.spans ≤ 16384 };
+
+    ghost inverse = { λ b. record { spans = b.spans } };
 }
 
 impl Batch {

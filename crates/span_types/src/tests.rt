@@ -1,36 +1,50 @@
 //! First occurrences and copies on small lists.
 
+ghost use Rattle.std.specs.Prelude.{None};
+ghost use Rattle.span_types.specs.Promises.{AreNames};
+
 use crate::*;
 use std::alloc::Global;
+
+const EARLY: Key = Key {
+    trace: TraceId([2; 16]),
+    span: SpanId([1; 8]),
+};
+
+const FORMER: Key = Key {
+    trace: TraceId([1; 16]),
+    span: SpanId([2; 8]),
+};
+
+const ALONE: Key = Key {
+    trace: TraceId([1; 16]),
+    span: SpanId([3; 8]),
+};
 
 fn text(alloc: Global, word: &str) -> Result<Text, Memory> {
     Ok(Text::of(String::from_str(alloc, word)?))
 }
 
-fn row(
-    alloc: Global,
-    ids: (u8, u8),
-    place: (u64, u32),
-    start: u64,
-    name: &str,
-) -> Result<Row, Memory> {
-    let attrs = Attrs::of(Vec::new(alloc));
+fn row(alloc: Global, key: Key, place: (u64, u32), start: u64, name: &str) -> Result<Row, Memory>
+    requires { AreNames key.trace key.span None }
+{
+    let attrs = Attrs::none(alloc);
     let resource = Resource { attrs };
-    let attrs = Attrs::of(Vec::new(alloc));
+    let attrs = Attrs::none(alloc);
     let scope = Scope {
         name: text(alloc, "")?,
         version: text(alloc, "")?,
         attrs,
     };
-    let key = Attr {
+    let attr = Attr {
         key: text(alloc, "k")?,
         value: AttrValue::Whole(-1),
     };
     let mut attrs = Vec::new(alloc);
-    attrs.push(key)?;
+    attrs.push(attr)?;
     let span = Span {
-        trace: TraceId([ids.0; 16]),
-        id: SpanId([ids.1; 8]),
+        trace: key.trace,
+        id: key.span,
         parent: None,
         name: text(alloc, name)?,
         kind: SpanKind::Server,
@@ -52,11 +66,11 @@ fn row(
 // Five rows of three keys: a key whose least place comes last, one at a repeated place, one alone.
 fn five_rows(alloc: Global) -> Result<Rows, Memory> {
     let mut rows = Vec::new(alloc);
-    rows.push(row(alloc, (2, 1), (1, 0), 7, "late")?)?;
-    rows.push(row(alloc, (1, 2), (0, 1), 9, "former")?)?;
-    rows.push(row(alloc, (1, 2), (0, 1), 3, "latter")?)?;
-    rows.push(row(alloc, (1, 3), (0, 2), 4, "alone")?)?;
-    rows.push(row(alloc, (2, 1), (0, 3), 8, "early")?)?;
+    rows.push(row(alloc, EARLY, (1, 0), 7, "late")?)?;
+    rows.push(row(alloc, FORMER, (0, 1), 9, "former")?)?;
+    rows.push(row(alloc, FORMER, (0, 1), 3, "latter")?)?;
+    rows.push(row(alloc, ALONE, (0, 2), 4, "alone")?)?;
+    rows.push(row(alloc, EARLY, (0, 3), 8, "early")?)?;
     Ok(Rows::of(rows))
 }
 

@@ -1,15 +1,17 @@
 -- What a run leaves that answers one line alone.
-use Rattle.std.proofs.Common.{◌≡◌, inl, inr, ℕ, List, [], ◌∷◌, ◌++◌, Bool, true, false, Option, Some, None, Result, Ok, Err, MatchResult, take, refl, sym, ap, ◌∙◌, subst, append-nil, if◌then◌else◌}
+use Rattle.std.proofs.Common.{◌≡◌, inl, inr, ℕ, List, [], ◌∷◌, ◌++◌, Bool, true, false, Option, Some, None, Result, Ok, Err, MatchResult, take, refl, sym, ap, ◌∙◌, subst, append-nil, arith, if◌then◌else◌}
 use Rattle.std.specs.Io.KnownBytes.{Appends}
 use Rattle.command_words.specs.declared.asked.WordsError.{WordsError}
 use Rattle.command_words.specs.declared.asked.WordsError.TheVariants as words_error
 use Rattle.session_meaning.specs.declared.ending.Ending.{Ending}
 use Rattle.session_meaning.specs.declared.ending.Ending.TheVariants.{Answered, BadWords, ReadFault, Refused, Spent, Starved, WriteFault}
 use Rattle.session_meaning.specs.Session.{AnswersAlone, EndsAlone, IsWritten, is_for_memory, is_refusal}
-use Rattle.session_text.specs.declared.reply.Refusal.TheVariants as refusal
+use Rattle.session_text.specs.declared.refusal.Refusal.TheVariants as refusal
 use Rattle.session_text.specs.declared.reply.Reply.{Reply}
 use Rattle.session_text.specs.declared.reply.Reply.TheVariants as reply
 use Rattle.session_text.specs.Replies.{reply_text}
+use Rattle.session_text.specs.Requests.{Answers, Line, line_of, plain, searched}
+use Rattle.traceql_syntax.specs.declared.errors.ParseError.TheVariants as parse
 use Rattle.trace_shell.specs.declared.session.Seen.{Seen}
 use Rattle.trace_shell.specs.Holding.{Holding, Holds}
 use Rattle.trace_shell.specs.Turn.{HasGiven, ending_of}
@@ -55,9 +57,15 @@ written_alone before old new seen r is given =
     put_behind before (reply_text r) old new is given.0 ∙ ap (λ zs. Some (before ++ zs)) (sym (append-nil (reply_text r))) in
     subst (λ s. EndsAlone (ending_of s) before r new) (sym given.1) (by_refusal before r new (is_refusal r) (is_for_memory r) refl refl written)
 
+-- want of memory may be the answer to any line
+memory_answers : (l : Line) → Answers l (Unit {0}) (Err refusal.Memory)
+memory_answers (searched line) = inl (record { why = parse.Memory; is = refl; right = tt })
+memory_answers (plain answer) = inr refl
+
 -- nothing was written, since memory was wanted
-pub starved_alone : (line before : List ℕ) (taken : Option (List ℕ)) → taken ≡ Some before → AnswersAlone line before taken Starved
-starved_alone line before taken is = (reply.Refused refusal.Memory, [], inr (refl, refl), inr is)
+pub starved_alone : (line before : List ℕ) (taken : Option (List ℕ)) (count : ℕ) → taken ≡ Some before → AnswersAlone line before taken Starved count count
+starved_alone line before taken count is =
+    (reply.Refused refusal.Memory, [], (Err refusal.Memory, memory_answers (line_of line), inr (refl, refl)), inr is, omega arith)
 
 same_error : {A : Type 0} (r : Result A WordsError) (e f : WordsError) → r ≡ Err e → r ≡ Err f → e ≡ f
 same_error r e f is other = cc

@@ -1,4 +1,4 @@
--- What a push and a look-up answer, from what is held.
+-- What a push, a look-up and a search answer, from what is held.
 use Rattle.std.proofs.Common.{◌≡◌, inl, ℕ, ◌+◌, List, [], ◌∷◌, ◌++◌, Ok, length, refl, sym, ◌∙◌, ap, subst, arith, length-append}
 use Rattle.span_types.specs.declared.ids.TraceId.{TraceId}
 use Rattle.otlp_spans.specs.declared.read.Reading.{Reading}
@@ -6,8 +6,15 @@ use Rattle.span_types.specs.declared.spans.Row.{Row}
 use Rattle.span_types.specs.declared.spans.Span.{Span}
 use Rattle.span_types.specs.First.{IsFirstOf}
 use Rattle.session_text.specs.declared.request.Request.TheVariants.{Push, Trace}
-use Rattle.session_text.specs.declared.reply.Reply.TheVariants.{Pushed, Traced}
-use Rattle.session_meaning.specs.History.{Accepted, History, history_rows, rows_from, rows_of_trace}
+use Rattle.session_text.specs.declared.request.Request.TheVariants as request
+use Rattle.session_text.specs.declared.request.Search.{Search}
+use Rattle.session_text.specs.declared.reply.Reply.TheVariants.{Pushed, Traced, Searched}
+use Rattle.search_answer.specs.Answers.{IsAnswer}
+use Rattle.search_text.specs.Fields.{printed_fields}
+use Rattle.spanset_eval.specs.declared.results.TraceResult.{TraceResult}
+use Rattle.traceql_syntax.specs.Trees.{query_tree}
+use Rattle.session_meaning.specs.History.{Accepted, History, history_rows, rows_from}
+use Rattle.trace_rows.specs.Traces.{rows_of_trace}
 use Rattle.session_meaning.specs.Session.{IsAnsweredOrStarved}
 use Rattle.session_meaning.specs.SessionLaws.{history_rows-push}
 use Rattle.trace_shell.specs.Holding.{Holding, Holds}
@@ -34,3 +41,15 @@ pub traced_on : (held : Holding) (history : History) (id : TraceId) (rows : List
     IsAnsweredOrStarved (Ok (Trace id)) history (Traced n rows) history
 traced_on held history id rows n h firsts is_n =
     inl (rows, subst (λ rs. IsFirstOf (rows_of_trace id rs) rows) h.rows_are firsts, ap (λ k. Traced k rows) (is_n ∙ h.count), refl)
+
+pub searched_on : (held : Holding) (history : History) (s : Search) (rows : List Row) (fields : List (List ℕ)) (results : List TraceResult) (n : ℕ) → Holds held history →
+    IsFirstOf held.rows rows → IsAnswer s.checked.patterns (query_tree s.checked.query) s.range s.limit s.spans_per_set rows results →
+    fields ≡ printed_fields (query_tree s.checked.query) → n ≡ held.pushes →
+    IsAnsweredOrStarved (Ok (request.Search s)) history (Searched n fields results) history
+searched_on held history s rows fields results n h firsts answer printed is_n =
+    inl (
+      results,
+      record { rows = rows; firsts = subst (λ rs. IsFirstOf rs rows) h.rows_are firsts; answer = answer },
+      ap (λ k. Searched k fields results) (is_n ∙ h.count) ∙ ap (λ fs. Searched (length history) fs results) printed,
+      refl,
+    )

@@ -1,6 +1,7 @@
 -- What a turn leaves, from what its steps did.
-use Rattle.std.proofs.Common.{◌≡◌, inl, inr, ℕ, ◌+◌, ◌<◌, ◌≤◌, List, [], ◌∷◌, ◌++◌, Option, Some, None, Err, Bool, true, false, ◌||◌, nat_le, length, take, refl, sym, ◌∙◌, ap, subst, arith, length-append, append_assoc, append-nil, if◌then◌else◌}
+use Rattle.std.proofs.Common.{◌≡◌, inl, inr, ℕ, ◌+◌, ◌-◌, ◌^◌, min, count_by, cond, ◌<◌, ◌≤◌, List, [], ◌∷◌, ◌++◌, Option, Some, None, Err, Bool, true, false, ◌||◌, nat_le, length, take, refl, sym, ◌∙◌, ap, subst, arith, length-append, append_assoc, append-nil, if◌then◌else◌}
 use Rattle.std.specs.List.{list_any}
+use Rattle.std.proofs.lemmas.List.Sums.{sum_by-append}
 use Rattle.std.specs.Io.KnownBytes.{Appends, Consumes}
 use Rattle.io_edges.specs.Lines.{lines, line_limit, taken_limit}
 use Rattle.io_edges.specs.declared.begun.Begun.{Begun}
@@ -9,12 +10,14 @@ use Rattle.io_edges.specs.Reader.{Reader, HoldsNoFeed, IsBegun, IsNextLine, IsTo
 use Rattle.session_meaning.specs.declared.ending.Ending.{Ending}
 use Rattle.session_meaning.specs.declared.ending.Ending.TheVariants.{Answered, BadWords, ReadFault, Refused, Spent, Starved, WriteFault}
 use Rattle.session_text.specs.declared.reply.Reply.{Reply}
-use Rattle.session_text.specs.declared.reply.Refusal.TheVariants as refusal
+use Rattle.session_text.specs.declared.refusal.Refusal.TheVariants as refusal
+use Rattle.session_text.specs.declared.refusal.Refusal.{Refusal}
+use Rattle.session_text.specs.declared.request.Request.{Request}
 use Rattle.session_text.specs.declared.reply.Reply.TheVariants as reply
 use Rattle.session_meaning.specs.History.{History}
-use Rattle.session_text.specs.Requests.{request_of}
+use Rattle.session_text.specs.Requests.{Asks, Line, line_of, plain}
 use Rattle.session_text.specs.Replies.{reply_text}
-use Rattle.session_meaning.specs.Session.{Ends, HasRun, IsAllEnded, IsAllRead, IsAnsweredOrStarved, IsCutOff, end_of, is_for_memory, is_refusal, reply_texts}
+use Rattle.session_meaning.specs.Session.{Ends, HasRun, IsAllEnded, IsAllRead, IsLineAnswered, IsCutOff, RoseBy, end_of, is_for_memory, is_refusal, is_too_big, reply_texts}
 use Rattle.session_meaning.specs.SessionLaws.{Progress, progress_begins, progress_empty, progress_line, reply_texts-push}
 use Rattle.trace_shell.specs.declared.session.Seen.{Seen}
 use Rattle.trace_shell.specs.Holding.{Holding, Holds}
@@ -88,20 +91,33 @@ seen_of : (p : Reply → Bool) (now : Bool) (replies : List Reply) (reply : Repl
     next ≡ list_any p (replies ++ reply ∷ [])
 seen_of p now replies reply next h step = step ∙ ap (λ b. b || p reply) h ∙ sym (list_any-push p replies reply)
 
+-- The maker's count rose by the refusals of one reply more.
+counted_on : (replies : List Reply) (reply : Reply) (start old now : ℕ) → RoseBy (count_by is_too_big replies) start old →
+    RoseBy (count_by is_too_big (reply ∷ [])) old now → RoseBy (count_by is_too_big (replies ++ reply ∷ [])) start now
+counted_on replies reply start old now before one =
+    let both = sum_by-append (λ x. cond (is_too_big x) 1 0) replies (reply ∷ []) in
+    added start old now (count_by is_too_big replies) (count_by is_too_big (reply ∷ [])) (count_by is_too_big (replies ++ reply ∷ [])) both before one
+  where
+    added : (start old now a b c : ℕ) → c ≡ a + b → RoseBy a start old → RoseBy b old now → RoseBy c start now
+    added start old now a b c is before one = omega (arith, is, before, one)
+
 -- A line was answered at a history, and its reply given.
 pub answered_at : (text before : List ℕ) (left_old left taken_old taken : Option (List ℕ)) (reader_old reader : Reader) (held_old held : Holding) (seen_old seen : Seen)
-    (line : List ℕ) (reply : Reply) (after : History) (outcome : Option Ending) (at : IsAt text before left_old taken_old reader_old held_old seen_old) →
-    IsNextLine at.rest line (IsToRead reader left) → 0 < length line → IsAnsweredOrStarved (request_of line) at.history reply after → Holds held after →
-    TakesBytes left_old left reader_old.taken reader.taken → HasGiven taken_old taken seen_old seen reply outcome →
-    Turned text before left taken reader held seen outcome
-answered_at text before left_old left taken_old taken reader_old reader held_old held seen_old seen [] reply after outcome at next some a h took given = absurd (omega arith)
-answered_at text before left_old left taken_old taken reader_old reader held_old held seen_old seen (b ∷ bs) reply after outcome at next some a h took given =
+    (line : List ℕ) (reply : Reply) (after : History) (outcome : Option Ending) (start old now : ℕ) (at : IsAt text before left_old taken_old reader_old held_old seen_old start old) →
+    IsNextLine at.rest line (IsToRead reader left) → 0 < length line → IsLineAnswered line at.history reply after → Holds held after →
+    TakesBytes left_old left reader_old.taken reader.taken → HasGiven taken_old taken seen_old seen reply outcome → RoseBy (count_by is_too_big (reply ∷ [])) old now →
+    Turned text before left taken reader held seen start now outcome
+answered_at text before left_old left taken_old taken reader_old reader held_old held seen_old seen [] reply after outcome start old now at next some a h took given counted = absurd (omega arith)
+answered_at text before left_old left taken_old taken reader_old reader held_old held seen_old seen (b ∷ bs) reply after outcome start old now at next some a h took given counted =
     turned outcome given
   where
     progress : Progress text next.rest (at.replies ++ reply ∷ []) after
     progress = progress_line text at.rest next.past next.rest at.replies at.history after b bs reply at.progress next.parts next.first a
 
-    turned : (o : Option Ending) → HasGiven taken_old taken seen_old seen reply o → Turned text before left taken reader held seen o
+    sum : RoseBy (count_by is_too_big (at.replies ++ reply ∷ [])) start now
+    sum = counted_on at.replies reply start old now at.counted counted
+
+    turned : (o : Option Ending) → HasGiven taken_old taken seen_old seen reply o → Turned text before left taken reader held seen start now o
     turned None g = record {
       rest = next.rest;
       replies = at.replies ++ reply ∷ [];
@@ -113,6 +129,7 @@ answered_at text before left_old left taken_old taken reader_old reader held_old
       refused = ap (λ s. s.refused) g.1 ∙ seen_of is_refusal seen_old.refused at.replies reply (seen_with seen_old reply).refused at.refused refl;
       starved = ap (λ s. s.starved) g.1 ∙ seen_of is_for_memory seen_old.starved at.replies reply (seen_with seen_old reply).starved at.starved refl;
       took = took_more text left_old left 0 reader_old.taken reader.taken at.took took;
+      counted = sum;
     }
     turned (Some Starved) g = record {
       answered = progress.answered;
@@ -127,6 +144,7 @@ answered_at text before left_old left taken_old taken reader_old reader held_old
         replies_are = refl;
         taken_is = g ∙ at.written ∙ ap Some (sym (append-nil (before ++ reply_texts at.replies)));
       }));
+      counted = sum;
     }
     turned (Some WriteFault) g = record {
       answered = progress.answered;
@@ -136,6 +154,7 @@ answered_at text before left_old left taken_old taken reader_old reader held_old
       lines_are = progress.lines_are;
       session = progress.session;
       ends = (g.0, cut_off before at.replies reply taken_old taken g.0 at.written g.1);
+      counted = sum;
     }
     turned (Some Answered) g = absurd g
     turned (Some BadWords) g = absurd g
@@ -145,10 +164,10 @@ answered_at text before left_old left taken_old taken reader_old reader held_old
 
 -- A line without bytes was passed over.
 pub passed_at : (text before : List ℕ) (left_old left taken_old taken : Option (List ℕ)) (reader_old reader : Reader) (held_old held : Holding) (seen_old seen : Seen)
-    (at : IsAt text before left_old taken_old reader_old held_old seen_old) →
+    (start old now : ℕ) (at : IsAt text before left_old taken_old reader_old held_old seen_old start old) →
     IsNextLine at.rest [] (IsToRead reader left) → held ≡ held_old → seen ≡ seen_old → taken ≡ taken_old →
-    TakesBytes left_old left reader_old.taken reader.taken → IsAt text before left taken reader held seen
-passed_at text before left_old left taken_old taken reader_old reader held_old held seen_old seen at next same_held same_seen same_taken took = record {
+    TakesBytes left_old left reader_old.taken reader.taken → now ≡ old → IsAt text before left taken reader held seen start now
+passed_at text before left_old left taken_old taken reader_old reader held_old held seen_old seen start old now at next same_held same_seen same_taken took same_count = record {
   rest = next.rest;
   replies = at.replies;
   history = at.history;
@@ -159,48 +178,52 @@ passed_at text before left_old left taken_old taken reader_old reader held_old h
   refused = ap (λ s. s.refused) same_seen ∙ at.refused;
   starved = ap (λ s. s.starved) same_seen ∙ at.starved;
   took = took_more text left_old left 0 reader_old.taken reader.taken at.took took;
+  counted = subst (λ n. RoseBy (count_by is_too_big at.replies) start n) (sym same_count) at.counted;
 }
 
 -- A whole line was read, and answered where it has bytes.
 pub whole_at : (text before : List ℕ) (left_old left taken_old taken : Option (List ℕ)) (reader_old reader : Reader) (held_old held : Holding) (seen_old seen : Seen)
-    (line : List ℕ) (outcome : Option Ending) (at : IsAt text before left_old taken_old reader_old held_old seen_old) →
+    (line : List ℕ) (outcome : Option Ending) (start old now : ℕ) (at : IsAt text before left_old taken_old reader_old held_old seen_old start old) →
     IsNextLine at.rest line (IsToRead reader left) → TakesBytes left_old left reader_old.taken reader.taken →
-    (line ≡ [] → (outcome ≡ None) × (held ≡ held_old) × (seen ≡ seen_old) × (taken ≡ taken_old)) →
+    (line ≡ [] → (outcome ≡ None) × (held ≡ held_old) × (seen ≡ seen_old) × (taken ≡ taken_old) × (now ≡ old)) →
     (0 < length line → (history : History) → Holds held_old history → (reply : Reply) × (after : History)
-    × IsAnsweredOrStarved (request_of line) history reply after × Holds held after × HasGiven taken_old taken seen_old seen reply outcome) →
-    Turned text before left taken reader held seen outcome
-whole_at text before left_old left taken_old taken reader_old reader held_old held seen_old seen [] outcome at next took none some =
+    × IsLineAnswered line history reply after × Holds held after × HasGiven taken_old taken seen_old seen reply outcome × RoseBy (count_by is_too_big (reply ∷ [])) old now) →
+    Turned text before left taken reader held seen start now outcome
+whole_at text before left_old left taken_old taken reader_old reader held_old held seen_old seen [] outcome start old now at next took none some =
     let same = none refl in
-    rw same.0 (passed_at text before left_old left taken_old taken reader_old reader held_old held seen_old seen at next same.1 same.2 same.3 took)
-whole_at text before left_old left taken_old taken reader_old reader held_old held seen_old seen (b ∷ bs) outcome at next took none some =
+    rw same.0 (passed_at text before left_old left taken_old taken reader_old reader held_old held seen_old seen start old now at next same.1 same.2 same.3 took same.4)
+whole_at text before left_old left taken_old taken reader_old reader held_old held seen_old seen (b ∷ bs) outcome start old now at next took none some =
     let given = some (omega arith) at.history at.holds in
-    answered_at text before left_old left taken_old taken reader_old reader held_old held seen_old seen (b ∷ bs) given.0 given.1 outcome at next (omega arith)
-    given.2 given.3 took given.4
+    answered_at text before left_old left taken_old taken reader_old reader held_old held seen_old seen (b ∷ bs) given.0 given.1 outcome start old now at next (omega arith)
+    given.2 given.3 took given.4 given.5
 
 -- A line of too many bytes asks nothing.
-too_long_asks : (line : List ℕ) → line_limit < length line → request_of line ≡ Err (refusal.TooLong (length line))
-unfolding request_of
-too_long_asks line long = rw (not_within (length line) long) refl
+too_long_line : (line : List ℕ) → line_limit < length line → line_of line ≡ plain (Err (refusal.TooLong (length line)))
+unfolding line_of
+too_long_line line long = rw (not_within (length line) long) refl
   where
     not_within : (n : ℕ) → line_limit < n → nat_le n line_limit ≡ false
     not_within n h = grind arith
 
+too_long_asks : (line : List ℕ) → line_limit < length line → Asks line (Unit {0}) (Err (refusal.TooLong (length line)))
+too_long_asks line long = rw (too_long_line line long) (inl refl)
+
 -- A line of too many bytes was read, and refused.
 pub too_long_at : (text before : List ℕ) (left_old left taken_old taken : Option (List ℕ)) (reader_old reader : Reader) (held : Holding) (seen_old seen : Seen)
-    (size : ℕ) (outcome : Option Ending) (at : IsAt text before left_old taken_old reader_old held seen_old) →
+    (size : ℕ) (outcome : Option Ending) (start old now : ℕ) (at : IsAt text before left_old taken_old reader_old held seen_old start old) →
     (line : List ℕ) × IsNextLine at.rest line (IsToRead reader left) × (size ≡ length line) → line_limit < size →
-    TakesBytes left_old left reader_old.taken reader.taken → HasGiven taken_old taken seen_old seen (reply.Refused (refusal.TooLong size)) outcome →
-    Turned text before left taken reader held seen outcome
-too_long_at text before left_old left taken_old taken reader_old reader held seen_old seen size outcome at (line, next, is) long took given =
+    TakesBytes left_old left reader_old.taken reader.taken → HasGiven taken_old taken seen_old seen (reply.Refused (refusal.TooLong size)) outcome → now ≡ old →
+    Turned text before left taken reader held seen start now outcome
+too_long_at text before left_old left taken_old taken reader_old reader held seen_old seen size outcome start old now at (line, next, is) long took given same =
     let over : line_limit < length line = omega (arith, is, long) in
-    answered_at text before left_old left taken_old taken reader_old reader held held seen_old seen line (reply.Refused (refusal.TooLong size)) at.history outcome at next (omega (arith, over))
-    (rw (too_long_asks line over) (inl (ap (λ n. reply.Refused (refusal.TooLong n)) is, refl))) at.holds took given
+    answered_at text before left_old left taken_old taken reader_old reader held held seen_old seen line (reply.Refused (refusal.TooLong size)) at.history outcome start old now at next (omega (arith, over))
+    (Err (refusal.TooLong (length line)), too_long_asks line over, inl (ap (λ n. reply.Refused (refusal.TooLong n)) is, refl)) at.holds took given (omega (arith, same))
 
 -- The lines that weren't answered are those of what is to be read.
 stops : (text before : List ℕ) (left taken : Option (List ℕ)) (reader : Reader) (held : Holding) (seen : Seen) (ending : Ending)
-    (new : Option (List ℕ)) (at : IsAt text before left taken reader held seen) → Ends ending text (lines at.rest) new before at.replies taken →
-    HasRun text before new taken ending
-stops text before left taken reader held seen ending new at ends = record {
+    (new : Option (List ℕ)) (start now : ℕ) (at : IsAt text before left taken reader held seen start now) → Ends ending text (lines at.rest) new before at.replies taken →
+    HasRun text before new taken ending start now
+stops text before left taken reader held seen ending new start now at ends = record {
   answered = at.progress.answered;
   later = lines at.rest;
   replies = at.replies;
@@ -208,6 +231,7 @@ stops text before left taken reader held seen ending new at ends = record {
   lines_are = at.progress.lines_are;
   session = at.progress.session;
   ends = ends;
+  counted = at.counted;
 }
 
 ends_all_read : (text : List ℕ) (later : List (List ℕ)) (left : Option (List ℕ)) (before : List ℕ) (replies : List Reply) (taken : Option (List ℕ)) →
@@ -223,14 +247,14 @@ ends_all_read text later left before replies taken all =
 
 -- All was read.
 pub ended_at : (text before : List ℕ) (left_old left taken : Option (List ℕ)) (reader_old reader : Reader) (held : Holding) (seen : Seen)
-    (at : IsAt text before left_old taken reader_old held seen) → (at.rest ≡ []) × IsToRead reader left [] → reader.taken < taken_limit →
-    TakesBytes left_old left reader_old.taken reader.taken → HasRun text before left taken (ending_of seen)
-ended_at text before left_old left taken reader_old reader held seen at (none, to_read) fewer took =
+    (start now : ℕ) (at : IsAt text before left_old taken reader_old held seen start now) → (at.rest ≡ []) × IsToRead reader left [] → reader.taken < taken_limit →
+    TakesBytes left_old left reader_old.taken reader.taken → HasRun text before left taken (ending_of seen) start now
+ended_at text before left_old left taken reader_old reader held seen start now at (none, to_read) fewer took =
     let read = took_more text left_old left 0 reader_old.taken reader.taken at.took took in
     let no_more : left ≡ Some [] = nothing_left reader left to_read in
     let size : length text ≡ reader.taken = taken_all text left reader.taken read no_more in
     let all : IsAllRead text (lines at.rest) before at.replies taken = (ap lines none, subst (λ n. n < taken_limit) (sym size) fewer, at.written) in
-    stops text before left_old taken reader_old held seen (ending_of seen) left at
+    stops text before left_old taken reader_old held seen (ending_of seen) left start now at
     (subst (λ e. Ends e text (lines at.rest) left before at.replies taken) (sym (same_ending seen at.replies at.refused at.starved))
     (ends_all_read text (lines at.rest) left before at.replies taken all))
   where
@@ -260,10 +284,10 @@ all_ended text front reader left rest is to_read waiting = record {
 
 -- As many bytes were taken as are ever taken.
 pub spent_at : (text before : List ℕ) (left_old left taken : Option (List ℕ)) (reader_old reader : Reader) (held : Holding) (seen : Seen)
-    (at : IsAt text before left_old taken reader_old held seen) → reader.taken ≡ taken_limit →
-    TakesBytes left_old left reader_old.taken reader.taken → IsToRead reader left at.rest → HoldsNoFeed reader → HasRun text before left taken Spent
-spent_at text before left_old left taken reader_old reader held seen at all took to_read waiting =
-    stops text before left_old taken reader_old held seen Spent left at (
+    (start now : ℕ) (at : IsAt text before left_old taken reader_old held seen start now) → reader.taken ≡ taken_limit →
+    TakesBytes left_old left reader_old.taken reader.taken → IsToRead reader left at.rest → HoldsNoFeed reader → HasRun text before left taken Spent start now
+spent_at text before left_old left taken reader_old reader held seen start now at all took to_read waiting =
+    stops text before left_old taken reader_old held seen Spent left start now at (
       at.written,
       all_ended text at.progress.front reader left at.rest at.progress.text_is to_read waiting,
       subst (λ n. n ≤ length text) all (taken_within text left reader.taken (took_more text left_old left 0 reader_old.taken reader.taken at.took took)),
@@ -271,14 +295,14 @@ spent_at text before left_old left taken reader_old reader held seen at all took
 
 -- The source failed.
 pub failed_at : (text before : List ℕ) (left_old left taken : Option (List ℕ)) (reader_old reader : Reader) (held : Holding) (seen : Seen)
-    (at : IsAt text before left_old taken reader_old held seen) → IsToRead reader left at.rest → HoldsNoFeed reader → HasRun text before left taken ReadFault
-failed_at text before left_old left taken reader_old reader held seen at to_read waiting =
-    stops text before left_old taken reader_old held seen ReadFault left at (at.written, all_ended text at.progress.front reader left at.rest at.progress.text_is to_read waiting)
+    (start now : ℕ) (at : IsAt text before left_old taken reader_old held seen start now) → IsToRead reader left at.rest → HoldsNoFeed reader → HasRun text before left taken ReadFault start now
+failed_at text before left_old left taken reader_old reader held seen start now at to_read waiting =
+    stops text before left_old taken reader_old held seen ReadFault left start now at (at.written, all_ended text at.progress.front reader left at.rest at.progress.text_is to_read waiting)
 
 -- Memory was wanted for a line.
-pub starved_at : (text before : List ℕ) (left_old left taken : Option (List ℕ)) (reader : Reader) (held : Holding) (seen : Seen) →
-    IsAt text before left_old taken reader held seen → HasRun text before left taken Starved
-starved_at text before left_old left taken reader held seen at = stops text before left_old taken reader held seen Starved left at (inr (inl at.written))
+pub starved_at : (text before : List ℕ) (left_old left taken : Option (List ℕ)) (reader : Reader) (held : Holding) (seen : Seen) (start now : ℕ) →
+    IsAt text before left_old taken reader held seen start now → HasRun text before left taken Starved start now
+starved_at text before left_old left taken reader held seen start now at = stops text before left_old taken reader held seen Starved left start now at (inr (inl at.written))
 
 -- Bytes taken in two steps, wherever they came from.
 pub took_on : (start left new : Option (List ℕ)) (a b c : ℕ) → TakesBytes start left a b → TakesBytes left new b c → TakesBytes start new a c
@@ -308,10 +332,10 @@ nothing_to_come reader h = omega (arith, held_none reader.begun h.holds.piece re
     held_none (Dropped size r) (x ∷ xs) pending b e = cc
 
 -- A session begins.
-pub begins_at : (text before : List ℕ) (left taken : Option (List ℕ)) (reader : Reader) (held : Holding) (seen : Seen) →
+pub begins_at : (text before : List ℕ) (left taken : Option (List ℕ)) (reader : Reader) (held : Holding) (seen : Seen) (start : ℕ) →
     left ≡ Some text → taken ≡ Some before → IsToRead reader (Some text) text → reader.taken ≡ 0 → held ≡ record { rows = []; pushes = 0 } →
-    seen.refused ≡ false → seen.starved ≡ false → IsAt text before left taken reader held seen
-begins_at text before left taken reader held seen told gave to_read none_taken nothing no_refusal no_hunger = record {
+    seen.refused ≡ false → seen.starved ≡ false → IsAt text before left taken reader held seen start start
+begins_at text before left taken reader held seen start told gave to_read none_taken nothing no_refusal no_hunger = record {
   rest = text;
   replies = [];
   history = [];
@@ -322,6 +346,7 @@ begins_at text before left taken reader held seen told gave to_read none_taken n
   refused = no_refusal;
   starved = no_hunger;
   took = ([], subst (λ l. Consumes (Some text) l []) (sym told) refl, none_taken ∙ refl);
+  counted = omega arith;
 }
 
 -- Nothing was taken.

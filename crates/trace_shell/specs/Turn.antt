@@ -1,5 +1,5 @@
 -- What a turn of a session does: one line is read and answered, and its reply written.
-use Rattle.std.specs.Prelude.{◌≡◌, ℕ, List, ◌++◌, ◌||◌, Option, Some, None, if◌then◌else◌}
+use Rattle.std.specs.Prelude.{◌≡◌, ℕ, List, ◌++◌, ◌||◌, count_by, Option, Some, None, if◌then◌else◌}
 use Rattle.std.specs.List.{list_any}
 use Rattle.std.specs.Io.KnownBytes.{Appends}
 use Rattle.io_edges.specs.Devices.{AppendsPrefix}
@@ -9,7 +9,7 @@ use Rattle.session_meaning.specs.declared.ending.Ending.TheVariants.{Answered, R
 use Rattle.session_text.specs.declared.reply.Reply.{Reply}
 use Rattle.session_meaning.specs.History.{History}
 use Rattle.session_text.specs.Replies.{reply_text}
-use Rattle.session_meaning.specs.Session.{HasRun, is_for_memory, is_refusal, reply_texts}
+use Rattle.session_meaning.specs.Session.{HasRun, RoseBy, is_for_memory, is_refusal, is_too_big, reply_texts}
 use Rattle.session_meaning.specs.SessionLaws.{Progress}
 use Rattle.trace_shell.specs.declared.session.Seen.{Seen}
 use Rattle.trace_shell.specs.Holding.{Holding, Holds}
@@ -30,9 +30,9 @@ HasGiven old new seen_old seen_new reply (Some Starved) = new ≡ old
 HasGiven old new seen_old seen_new reply (Some WriteFault) = AppendsPrefix old new (reply_text reply)
 HasGiven old new seen_old seen_new reply (Some _) = ⊥
 
--- Where a session is between two lines: what is to be read, how far it came in `text`, what is held, and what stands
--- written after `before`.
-pub record IsAt (text before : List ℕ) (left taken : Option (List ℕ)) (reader : Reader) (held : Holding) (seen : Seen) : Type 0 where
+-- Where a session is between two lines: what is to be read, how far it came in `text`, what is held, what stands written
+-- after `before`, and how far the maker's count of refusals came.
+pub record IsAt (text before : List ℕ) (left taken : Option (List ℕ)) (reader : Reader) (held : Holding) (seen : Seen) (start now : ℕ) : Type 0 where
   pub rest : List ℕ
   pub replies : List Reply
   pub history : History
@@ -43,8 +43,9 @@ pub record IsAt (text before : List ℕ) (left taken : Option (List ℕ)) (reade
   pub refused : seen.refused ≡ list_any is_refusal replies
   pub starved : seen.starved ≡ list_any is_for_memory replies
   pub took : TakesBytes (Some text) left 0 reader.taken
+  pub counted : RoseBy (count_by is_too_big replies) start now
 
 -- What a turn leaves: the session is at its next line, or it ended.
-abbrev pub Turned : List ℕ → List ℕ → Option (List ℕ) → Option (List ℕ) → Reader → Holding → Seen → Option Ending → Type 0
-Turned text before left taken reader held seen None = IsAt text before left taken reader held seen
-Turned text before left taken reader held seen (Some ending) = HasRun text before left taken ending
+abbrev pub Turned : List ℕ → List ℕ → Option (List ℕ) → Option (List ℕ) → Reader → Holding → Seen → ℕ → ℕ → Option Ending → Type 0
+Turned text before left taken reader held seen start now None = IsAt text before left taken reader held seen start now
+Turned text before left taken reader held seen start now (Some ending) = HasRun text before left taken ending start now

@@ -16,18 +16,20 @@ use io_edges::{Sink, Source};
 use session_meaning::Ending;
 use span_types::Memory;
 use std::alloc::Global;
+use traceql_types::PatternMaker;
 
 /// Does what the words say, and tells how it ended.
-pub(crate) fn obey<S: Source, K: Sink>(
+pub(crate) fn obey<S: Source, K: Sink, P: PatternMaker>(
     alloc: Global,
     words: &[String],
     source: &mut S,
     sink: &mut K,
+    patterns: &mut P,
 ) -> Ending
     ensures session { IsSession (map string_bytes words.now) → (text before : List ℕ) → S.left source.old ≡ Some text → K.taken sink.old ≡ Some before
-        → HasRun text before (S.left source.new) (K.taken sink.new) result }
+        → HasRun text before (S.left source.new) (K.taken sink.new) result (P.refusals patterns.old) (P.refusals patterns.new) }
     ensures trace { (id : List ℕ) → IsTrace id (map string_bytes words.now) → (before : List ℕ) → K.taken sink.old ≡ Some before
-        → AnswersAlone (codes "trace " ++ id) before (K.taken sink.new) result }
+        → AnswersAlone (codes "trace " ++ id) before (K.taken sink.new) result (P.refusals patterns.old) (P.refusals patterns.new) }
     ensures trace_alone { (id : List ℕ) → IsTrace id (map string_bytes words.now) → (source.new ≡ source.old) × ((result ≡ ReadFault → ⊥) × (result ≡ Spent → ⊥)) }
     ensures bad_words { result ≡ BadWords → fault_of words_app (map string_bytes words.now) ≢ [] }
     ensures nothing_done { result ≡ BadWords → (source.new ≡ source.old) × (sink.new ≡ sink.old) }
@@ -41,21 +43,26 @@ pub(crate) fn obey<S: Source, K: Sink>(
     ensures spent { result ≡ Spent → TakesBytes (S.left source.old) (S.left source.new) 0 taken_limit }
 {
     match read_words(alloc, words) {
-        Ok(Asked::Session) => session(alloc, source, sink),
-        Ok(Asked::Trace { id }) => look_up(alloc, sink, id.as_str()),
+        Ok(Asked::Session) => session(alloc, source, sink, patterns),
+        Ok(Asked::Trace { id }) => look_up(alloc, sink, patterns, id.as_str()),
         Err(WordsError::Refused) => Ending::BadWords,
         Err(WordsError::Memory) => Ending::Starved,
     }
 }
 
 /// Answers the session's line `trace ID` alone.
-fn look_up<K: Sink>(alloc: Global, sink: &mut K, id: &str) -> Ending
-    ensures told { (before : List ℕ) → K.taken sink.old ≡ Some before → AnswersAlone (codes "trace " ++ id.now) before (K.taken sink.new) result }
+fn look_up<K: Sink, P: PatternMaker>(
+    alloc: Global,
+    sink: &mut K,
+    patterns: &mut P,
+    id: &str,
+) -> Ending
+    ensures told { (before : List ℕ) → K.taken sink.old ≡ Some before → AnswersAlone (codes "trace " ++ id.now) before (K.taken sink.new) result (P.refusals patterns.old) (P.refusals patterns.new) }
     ensures write_fault { result ≡ WriteFault → Rose (K.faults sink.old) (K.faults sink.new) }
     ensures endings { (result ≡ WriteFault) ⊎ ((result ≡ Answered) ⊎ ((result ≡ Refused) ⊎ (result ≡ Starved))) }
 {
     match line_of(alloc, id) {
-        Ok(line) => one_line(alloc, sink, line.as_bytes()),
+        Ok(line) => one_line(alloc, sink, patterns, line.as_bytes()),
         Err(Memory) => Ending::Starved,
     }
 }

@@ -2,12 +2,13 @@
 
 ghost use Rattle.std.specs.Prelude.{◌≡◌, ◌+◌, ◌^◌, ◌<◌, ◌≤◌, [], ◌++◌, length, IfOk, OnErr, MatchResult};
 ghost use Rattle.span_types.specs.First.{IsFirstOf};
-ghost use Rattle.session_meaning.specs.History.{rows_from, rows_of_trace};
+ghost use Rattle.session_meaning.specs.History.{rows_from};
+ghost use Rattle.trace_rows.specs.Traces.{rows_of_trace};
 
-use session_meaning::rows_of;
 use span_types::{Batch, Memory, Place, Row, Rows, TraceId, first_rows};
 use std::alloc::Global;
 use std::marker::Model;
+use trace_rows::rows_of;
 
 /// The rows of all pushes so far, in order, and how many pushes there were.
 #[derive(Debug, Drop)]
@@ -62,12 +63,32 @@ impl Held {
         Ok(firsts)
     }
 
+    /// The first occurrences of all spans, in block order.
+    pub(crate) fn firsts(&self) -> Result<Rows, Memory>
+        ensures { IfOk result (λ rows. IsFirstOf self.now.rows rows) }
+    {
+        let rows = copies_of(self.alloc, self.rows.as_slice())?;
+        let firsts = first_rows(self.alloc, Rows::of(rows))?;
+        Ok(firsts)
+    }
+
     /// How many pushes there were.
     pub(crate) fn pushes(&self) -> u64
         ensures { result ≡ self.now.pushes }
     {
         self.pushes
     }
+}
+
+// Second rows equal to these. A span's resource and scope are shared and not copied.
+fn copies_of(alloc: Global, rows: &[Row]) -> Result<Vec<Row>, Memory>
+    ensures { IfOk result (λ copies. copies.items ≡ rows.now) }
+{
+    let mut copies = Vec::with_capacity(alloc, rows.len())?;
+    for row in rows {
+        copies.push(row.copy()?)?;
+    }
+    Ok(copies)
 }
 
 // The spans of the push with this number as rows.

@@ -1,6 +1,6 @@
 //! A session: the lines of a source are answered in order, each reply written before the next line is read.
 
-ghost use Rattle.std.specs.Prelude.{◌≡◌, ◌⊎◌, ◌+◌, ◌^◌, ◌<◌, ◌≤◌, ℕ, List, [], Ok, Some, None, IfSome, IfNone, length};
+ghost use Rattle.std.specs.Prelude.{◌≡◌, ◌⊎◌, ◌+◌, ◌^◌, ◌<◌, ◌≤◌, ℕ, List, [], ◌∷◌, Ok, Some, None, IfSome, IfNone, count_by, length};
 ghost use Rattle.span_types.specs.Faults.{Rose};
 ghost use Rattle.otlp_spans.specs.Reading.{most_spans};
 ghost use Rattle.io_edges.specs.Lines.{taken_limit};
@@ -8,19 +8,22 @@ ghost use Rattle.io_edges.specs.Reader.{TakesBytes, to_come};
 ghost use Rattle.session_meaning.specs.declared.ending.Ending.TheVariants.{Answered, BadWords, ReadFault, Refused, Spent, Starved, WriteFault};
 ghost use Rattle.session_text.specs.declared.reply.Reply.{Reply};
 ghost use Rattle.session_text.specs.declared.request.Request.TheVariants.{Push, Trace};
+ghost use Rattle.session_text.specs.declared.request.Request.TheVariants as request;
 ghost use Rattle.session_meaning.specs.History.{History};
-ghost use Rattle.session_text.specs.Requests.{request_of};
-ghost use Rattle.session_meaning.specs.Session.{AnswersAlone, HasRun, IsAnsweredOrStarved, is_for_memory, is_refusal};
+ghost use Rattle.session_meaning.specs.Session.{AnswersAlone, HasRun, IsAnsweredOrStarved, IsLineAnswered, RoseBy, is_for_memory, is_refusal, is_too_big};
 ghost use Rattle.trace_shell.specs.Holding.{Holds};
 ghost use Rattle.trace_shell.specs.Turn.{seen_with, ending_of, HasGiven, IsAt, Turned};
 
 use crate::held::Held;
 use io_edges::{Line, LineError, LineReader, Sink, Source};
 use otlp_spans::Reading;
+use search_answer::answer as search_answer;
+use search_text::printed_fields;
 use session_meaning::Ending;
-use session_text::{Refusal, Reply, Request, read_request, write_reply};
+use session_text::{Refusal, Reply, Request, Search, read_request, write_reply};
 use span_types::{Failed, Memory, TraceId};
 use std::alloc::Global;
+use traceql_types::PatternMaker;
 
 /// Which refusals are among the replies so far.
 #[derive(Clone, Copy, Debug)]
@@ -59,8 +62,9 @@ fn is_refusal(reply: &Reply) -> bool
     ensures { result ≡ is_refusal reply.now }
 {
     match reply {
-        Reply::Pushed { .. } | Reply::Traced { .. } | Reply::Refused(Refusal::Memory) => false,
+        Reply::Refused(Refusal::Memory) => false,
         Reply::Refused(_) => true,
+        _ => false,
     }
 }
 
@@ -75,9 +79,15 @@ fn is_for_memory(reply: &Reply) -> bool
 }
 
 /// Answers the lines of the source in order, from no push on, and writes each reply before it reads the next line.
-pub(crate) fn session<S: Source, K: Sink>(alloc: Global, source: &mut S, sink: &mut K) -> Ending
+pub(crate) fn session<S: Source, K: Sink, P: PatternMaker>(
+    alloc: Global,
+    source: &mut S,
+    sink: &mut K,
+    patterns: &mut P,
+) -> Ending
     ensures ran { (text before : List ℕ) → S.left source.old ≡ Some text → K.taken sink.old ≡ Some before
-        → HasRun text before (S.left source.new) (K.taken sink.new) result }
+        → HasRun text before (S.left source.new) (K.taken sink.new) result (P.refusals patterns.old) (P.refusals patterns.new) }
+    ensures maker_counted { P.refusals patterns.old ≤ P.refusals patterns.new }
     ensures write_fault { result ≡ WriteFault → Rose (K.faults sink.old) (K.faults sink.new) }
     ensures read_fault { result ≡ ReadFault → Rose (S.faults source.old) (S.faults source.new) }
     ensures spent { result ≡ Spent → TakesBytes (S.left source.old) (S.left source.new) 0 taken_limit }
@@ -90,15 +100,29 @@ pub(crate) fn session<S: Source, K: Sink>(alloc: Global, source: &mut S, sink: &
         starved: false,
     };
     'lines: loop {
-        if let Some(ending) = turn(alloc, &mut reader, source, &mut held, &mut seen, sink) {
+        if let Some(ending) = turn(
+            alloc,
+            &mut reader,
+            source,
+            &mut held,
+            &mut seen,
+            sink,
+            patterns,
+        ) {
             return ending;
         }
     }
 }
 
 /// Answers one line, and nothing else: no push came before it.
-pub(crate) fn one_line<K: Sink>(alloc: Global, sink: &mut K, line: &[u8]) -> Ending
-    ensures told { (before : List ℕ) → K.taken sink.old ≡ Some before → AnswersAlone line.now before (K.taken sink.new) result }
+pub(crate) fn one_line<K: Sink, P: PatternMaker>(
+    alloc: Global,
+    sink: &mut K,
+    patterns: &mut P,
+    line: &[u8],
+) -> Ending
+    ensures told { (before : List ℕ) → K.taken sink.old ≡ Some before → AnswersAlone line.now before (K.taken sink.new) result (P.refusals patterns.old) (P.refusals patterns.new) }
+    ensures maker_counted { P.refusals patterns.old ≤ P.refusals patterns.new }
     ensures write_fault { result ≡ WriteFault → Rose (K.faults sink.old) (K.faults sink.new) }
     ensures endings { (result ≡ WriteFault) ⊎ ((result ≡ Answered) ⊎ ((result ≡ Refused) ⊎ (result ≡ Starved))) }
 {
@@ -107,7 +131,7 @@ pub(crate) fn one_line<K: Sink>(alloc: Global, sink: &mut K, line: &[u8]) -> End
         refused: false,
         starved: false,
     };
-    let reply = answer(alloc, &mut held, line);
+    let reply = answer(alloc, &mut held, patterns, line);
     match give(alloc, &mut seen, sink, &reply) {
         Some(ending) => ending,
         None => seen.ending(),
@@ -115,22 +139,24 @@ pub(crate) fn one_line<K: Sink>(alloc: Global, sink: &mut K, line: &[u8]) -> End
 }
 
 // Reads the next line, answers it and writes the reply. Gives how the session ends, where it does.
-fn turn<S: Source, K: Sink>(
+fn turn<S: Source, K: Sink, P: PatternMaker>(
     alloc: Global,
     reader: &mut LineReader,
     source: &mut S,
     held: &mut Held,
     seen: &mut Seen,
     sink: &mut K,
+    patterns: &mut P,
 ) -> Option<Ending>
     requires room { held.old.pushes + to_come reader.old ≤ taken_limit }
-    ensures turned { (text before : List ℕ)
-        → IsAt text before (S.left source.old) (K.taken sink.old) reader.old held.old seen.old
-        → Turned text before (S.left source.new) (K.taken sink.new) reader.new held.new seen.new result }
+    ensures turned { (text before : List ℕ) (start : ℕ)
+        → IsAt text before (S.left source.old) (K.taken sink.old) reader.old held.old seen.old start (P.refusals patterns.old)
+        → Turned text before (S.left source.new) (K.taken sink.new) reader.new held.new seen.new start (P.refusals patterns.new) result }
     ensures room { IfNone result (held.new.pushes + to_come reader.new ≤ taken_limit) }
     ensures nearer { IfNone result (to_come reader.new < to_come reader.old) }
     ensures source_counted { S.faults source.old ≤ S.faults source.new }
     ensures sink_counted { K.faults sink.old ≤ K.faults sink.new }
+    ensures maker_counted { P.refusals patterns.old ≤ P.refusals patterns.new }
     ensures write_fault { IfSome result (λ ending. ending ≡ WriteFault → Rose (K.faults sink.old) (K.faults sink.new)) }
     ensures read_fault { IfSome result (λ ending. ending ≡ ReadFault → Rose (S.faults source.old) (S.faults source.new)) }
     ensures took { TakesBytes (S.left source.old) (S.left source.new) reader.old.taken reader.new.taken }
@@ -143,7 +169,7 @@ fn turn<S: Source, K: Sink>(
         Err(LineError::Memory) => return Some(Ending::Starved),
     };
     match line {
-        Line::Whole(bytes) => answer_line(alloc, held, seen, sink, bytes.as_slice()),
+        Line::Whole(bytes) => answer_line(alloc, held, seen, sink, patterns, bytes.as_slice()),
         Line::TooLong { length } => give(
             alloc,
             seen,
@@ -156,40 +182,51 @@ fn turn<S: Source, K: Sink>(
 }
 
 // Answers a line and writes the reply. A line without bytes gets none.
-fn answer_line<K: Sink>(
+fn answer_line<K: Sink, P: PatternMaker>(
     alloc: Global,
     held: &mut Held,
     seen: &mut Seen,
     sink: &mut K,
+    patterns: &mut P,
     line: &[u8],
 ) -> Option<Ending>
     requires { held.old.pushes + 1 < 2 ^ 64 }
-    ensures empty { line.now ≡ [] → (result ≡ None) × (held.new ≡ held.old) × (seen.new ≡ seen.old) × (K.taken sink.new ≡ K.taken sink.old) }
+    ensures empty { line.now ≡ [] → (result ≡ None) × (held.new ≡ held.old) × (seen.new ≡ seen.old) × (K.taken sink.new ≡ K.taken sink.old) × (P.refusals patterns.new ≡ P.refusals patterns.old) }
     ensures answered { 0 < length line.now → (history : History) → Holds held.old history
-        → (reply : Reply) × (after : History) × IsAnsweredOrStarved (request_of line.now) history reply after
-        × Holds held.new after × HasGiven (K.taken sink.old) (K.taken sink.new) seen.old seen.new reply result }
+        → (reply : Reply) × (after : History) × IsLineAnswered line.now history reply after
+        × Holds held.new after × HasGiven (K.taken sink.old) (K.taken sink.new) seen.old seen.new reply result
+        × RoseBy (count_by is_too_big (reply ∷ [])) (P.refusals patterns.old) (P.refusals patterns.new) }
     ensures count { held.new.pushes ≤ held.old.pushes + 1 }
     ensures sink_counted { K.faults sink.old ≤ K.faults sink.new }
+    ensures maker_counted { P.refusals patterns.old ≤ P.refusals patterns.new }
     ensures write_fault { IfSome result (λ ending. ending ≡ WriteFault → Rose (K.faults sink.old) (K.faults sink.new)) }
     ensures endings { IfSome result (λ ending. (ending ≡ WriteFault) ⊎ (ending ≡ Starved)) }
 {
     if line.is_empty() {
         return None;
     }
-    let reply = answer(alloc, held, line);
+    let reply = answer(alloc, held, patterns, line);
     give(alloc, seen, sink, &reply)
 }
 
 // Answers a line.
-fn answer(alloc: Global, held: &mut Held, line: &[u8]) -> Reply
+fn answer<P: PatternMaker>(
+    alloc: Global,
+    held: &mut Held,
+    patterns: &mut P,
+    line: &[u8],
+) -> Reply
     requires { held.old.pushes + 1 < 2 ^ 64 }
     ensures answered { (history : History) → Holds held.old history
-        → (after : History) × IsAnsweredOrStarved (request_of line.now) history result after × Holds held.new after }
+        → (after : History) × IsLineAnswered line.now history result after × Holds held.new after }
     ensures count { held.new.pushes ≤ held.old.pushes + 1 }
+    ensures maker_counted { P.refusals patterns.old ≤ P.refusals patterns.new }
+    ensures too_big { RoseBy (count_by is_too_big (result ∷ [])) (P.refusals patterns.old) (P.refusals patterns.new) }
 {
-    match read_request(alloc, line) {
+    match read_request(alloc, line, patterns) {
         Ok(Request::Push(reading)) => push(held, reading),
         Ok(Request::Trace(id)) => trace(held, id),
+        Ok(Request::Search(search)) => found(alloc, held, &search),
         Err(why) => Reply::Refused(why),
     }
 }
@@ -201,6 +238,7 @@ fn push(held: &mut Held, reading: Reading) -> Reply
     ensures answered { (history : History) → Holds held.old history
         → (after : History) × IsAnsweredOrStarved (Ok (Push reading)) history result after × Holds held.new after }
     ensures count { held.new.pushes ≤ held.old.pushes + 1 }
+    ensures small { is_too_big result ≡ false }
 {
     let accepted = reading.batch.spans.len() as u64;
     match held.push(reading.batch) {
@@ -218,6 +256,7 @@ fn push(held: &mut Held, reading: Reading) -> Reply
 fn trace(held: &Held, id: TraceId) -> Reply
     ensures answered { (history : History) → Holds held.now history
         → IsAnsweredOrStarved (Ok (Trace id)) history result history }
+    ensures small { is_too_big result ≡ false }
 {
     match held.trace(id) {
         Ok(rows) => Reply::Traced {
@@ -226,6 +265,41 @@ fn trace(held: &Held, id: TraceId) -> Reply
         },
         Err(Memory) => Reply::Refused(Refusal::Memory),
     }
+}
+
+// Tells what a search finds.
+fn found(alloc: Global, held: &Held, search: &Search) -> Reply
+    ensures answered { (history : History) → Holds held.now history
+        → IsAnsweredOrStarved (Ok (request.Search search.now)) history result history }
+    ensures small { is_too_big result ≡ false }
+{
+    match results_of(alloc, held, search) {
+        Ok(reply) => reply,
+        Err(Memory) => Reply::Refused(Refusal::Memory),
+    }
+}
+
+// What a search finds among the first occurrences of all spans, as a reply.
+fn results_of(alloc: Global, held: &Held, search: &Search) -> Result<Reply, Memory>
+    ensures answered { IfOk result (λ reply. (history : History) → Holds held.now history
+        → IsAnsweredOrStarved (Ok (request.Search search.now)) history reply history) }
+    ensures small { IfOk result (λ reply. is_too_big reply ≡ false) }
+{
+    let rows = held.firsts()?;
+    let results = search_answer(
+        alloc,
+        &search.checked,
+        search.range,
+        search.limit,
+        search.spans_per_set,
+        rows.as_slice(),
+    )?;
+    let fields = printed_fields(alloc, &search.checked.query)?;
+    Ok(Reply::Searched {
+        as_of: held.pushes(),
+        fields,
+        results,
+    })
 }
 
 // Writes a reply. Gives how the session ends, where it can't be written.

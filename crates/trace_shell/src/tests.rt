@@ -8,6 +8,7 @@ use std::io::{self, Read, Write};
 use std::process::Abort;
 use std::sync::Wait;
 use std::thread::Threads;
+use traceql_types::RegexMaker;
 
 const PUSH_X: &str =
     r#"push {"resourceSpans":[{"scopeSpans":[{"spans":[{"traceId":"000000000000000000000000000000a1","spanId":"00000000000000b1","parentSpanId":"","name":"x","startTimeUnixNano":"1","endTimeUnixNano":"2"}]}]}]}"#;
@@ -53,6 +54,7 @@ fn check<R: Threads + Wait + Sync + Abort>(
         &mut sink,
         7u8,
         &mut clock,
+        &mut RegexMaker::new(alloc),
         &OpenGate,
     );
     assert!(rt; sink.taken() == wanted.as_bytes(), "at {input}");
@@ -234,6 +236,7 @@ fn no_command_needs_a_right_to_wait_yet(rt: HostRuntime) -> Result<(), Memory> {
         &mut sink,
         (),
         &mut clock,
+        &mut RegexMaker::new(alloc),
         &OpenGate,
     );
     assert_eq!(rt; status, 2);

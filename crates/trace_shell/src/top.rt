@@ -16,6 +16,7 @@ use io_edges::{Clock, Gate, Sink, Source};
 use std::alloc::Global;
 use std::sync::Wait;
 use std::thread::Threads;
+use traceql_types::PatternMaker;
 
 /// How a run ended, and the disk that it was given.
 #[derive(Debug)]
@@ -28,7 +29,7 @@ pub struct Ended<D> {
 
 /// Does what the words of the command line say: `session` answers each line of the source, and `trace ID` the one line
 /// `trace ID`. It needs no right to wait. The disk is handed back as it came, and the clock and the gate aren't used yet.
-pub fn run_alone<R: Threads + Sync, S: Source, K: Sink, D, C: Clock, G: Gate>(
+pub fn run_alone<R: Threads + Sync, S: Source, K: Sink, D, C: Clock, P: PatternMaker, G: Gate>(
     _rt: &R,
     alloc: Global,
     words: &[String],
@@ -36,13 +37,14 @@ pub fn run_alone<R: Threads + Sync, S: Source, K: Sink, D, C: Clock, G: Gate>(
     sink: &mut K,
     disk: D,
     clock: &mut C,
+    patterns: &mut P,
     _gate: &G,
 ) -> Ended<D>
     ensures disk { result.disk ≡ disk }
     ensures session { IsSession (map string_bytes words.now) → (text before : List ℕ) → S.left source.old ≡ Some text → K.taken sink.old ≡ Some before
-        → (ending : Ending) × HasRun text before (S.left source.new) (K.taken sink.new) ending × (result.status ≡ status_of ending) }
+        → (ending : Ending) × HasRun text before (S.left source.new) (K.taken sink.new) ending (P.refusals patterns.old) (P.refusals patterns.new) × (result.status ≡ status_of ending) }
     ensures trace { (id : List ℕ) → IsTrace id (map string_bytes words.now) → (before : List ℕ) → K.taken sink.old ≡ Some before
-        → (ending : Ending) × AnswersAlone (codes "trace " ++ id) before (K.taken sink.new) ending × (result.status ≡ status_of ending) }
+        → (ending : Ending) × AnswersAlone (codes "trace " ++ id) before (K.taken sink.new) ending (P.refusals patterns.old) (P.refusals patterns.new) × (result.status ≡ status_of ending) }
     ensures trace_alone { (id : List ℕ) → IsTrace id (map string_bytes words.now) → (source.new ≡ source.old) × ((result.status ≢ 3) × (result.status ≢ 8)) }
     ensures known { (ending : Ending) × (result.status ≡ status_of ending) }
     ensures clock { clock.new ≡ clock.old }
@@ -63,7 +65,7 @@ pub fn run_alone<R: Threads + Sync, S: Source, K: Sink, D, C: Clock, G: Gate>(
         → (result.status ≡ 0) ⊎ ((result.status ≡ 6) ⊎ (result.status ≡ 7)) }
 {
     let _ = clock;
-    let ending = obey(alloc, words, source, sink);
+    let ending = obey(alloc, words, source, sink, patterns);
     Ended {
         status: ending.status(),
         disk,
@@ -71,7 +73,7 @@ pub fn run_alone<R: Threads + Sync, S: Source, K: Sink, D, C: Clock, G: Gate>(
 }
 
 /// The top call: as `run_alone`, and from the first command on that needs threads it will wait for them.
-pub fn run<R: Threads + Wait + Sync, S: Source, K: Sink, D, C: Clock, G: Gate>(
+pub fn run<R: Threads + Wait + Sync, S: Source, K: Sink, D, C: Clock, P: PatternMaker, G: Gate>(
     rt: &R,
     alloc: Global,
     words: &[String],
@@ -79,13 +81,14 @@ pub fn run<R: Threads + Wait + Sync, S: Source, K: Sink, D, C: Clock, G: Gate>(
     sink: &mut K,
     disk: D,
     clock: &mut C,
+    patterns: &mut P,
     gate: &G,
 ) -> Ended<D>
     ensures disk { result.disk ≡ disk }
     ensures session { IsSession (map string_bytes words.now) → (text before : List ℕ) → S.left source.old ≡ Some text → K.taken sink.old ≡ Some before
-        → (ending : Ending) × HasRun text before (S.left source.new) (K.taken sink.new) ending × (result.status ≡ status_of ending) }
+        → (ending : Ending) × HasRun text before (S.left source.new) (K.taken sink.new) ending (P.refusals patterns.old) (P.refusals patterns.new) × (result.status ≡ status_of ending) }
     ensures trace { (id : List ℕ) → IsTrace id (map string_bytes words.now) → (before : List ℕ) → K.taken sink.old ≡ Some before
-        → (ending : Ending) × AnswersAlone (codes "trace " ++ id) before (K.taken sink.new) ending × (result.status ≡ status_of ending) }
+        → (ending : Ending) × AnswersAlone (codes "trace " ++ id) before (K.taken sink.new) ending (P.refusals patterns.old) (P.refusals patterns.new) × (result.status ≡ status_of ending) }
     ensures trace_alone { (id : List ℕ) → IsTrace id (map string_bytes words.now) → (source.new ≡ source.old) × ((result.status ≢ 3) × (result.status ≢ 8)) }
     ensures known { (ending : Ending) × (result.status ≡ status_of ending) }
     ensures clock { clock.new ≡ clock.old }
@@ -105,5 +108,5 @@ pub fn run<R: Threads + Wait + Sync, S: Source, K: Sink, D, C: Clock, G: Gate>(
     ensures complete_trace { (id : List ℕ) → IsTrace id (map string_bytes words.now) → (Rose (K.faults sink.old) (K.faults sink.new) → ⊥)
         → (result.status ≡ 0) ⊎ ((result.status ≡ 6) ⊎ (result.status ≡ 7)) }
 {
-    run_alone(rt, alloc, words, source, sink, disk, clock, gate)
+    run_alone(rt, alloc, words, source, sink, disk, clock, patterns, gate)
 }

@@ -74,8 +74,9 @@ fn parse_tokens(alloc: Global, tokens: &[Token], length: u64) -> Result<Query, P
 
 /// The query that a text is, each of its parts with its place.
 ///
-/// The text is a query where the grammar of `traceql_syntax` says so, at most 64 constructs are open at one place, and
-/// it has at most 8,192 bytes. Else the refusal is that of the earliest place. `Memory` may come in place of either.
+/// What a query is, the grammar of `traceql_syntax` says. Two limits come on top: 64 constructs that are open inside of one
+/// another, and 8,192 bytes. Of several faults the one that a reader meets first is told. For want of memory there may be
+/// neither.
 pub fn parse(alloc: Global, text: &str) -> Result<Query, ParseError>
     ensures too_long { BYTES < length text.now → result ≡ Err (ParseError.TooLong (length text.now)) }
     // What is read is in the grammar, within the limits.

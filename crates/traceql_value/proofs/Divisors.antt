@@ -31,7 +31,7 @@ shared (suc n) a (suc b) c d lt h p q =
 pub divides_other : (a b c : ℕ) → AreCoprime a b → a ∣ b * c → a ∣ c
 divides_other a b c h q = shared (suc b) a b c a (omega arith) h (dvd-mul_right a c) q
 
-AreCoprime-swap : (a b : ℕ) → AreCoprime a b → AreCoprime b a
+pub AreCoprime-swap : (a b : ℕ) → AreCoprime a b → AreCoprime b a
 AreCoprime-swap a b h = λ d p q. h d q p
 
 -- two fractions in lowest terms that are equal are one

@@ -2,3 +2,6 @@ pub mod Divisors
 pub mod Products
 pub mod Reduced
 pub mod Answered
+pub mod Searched
+pub mod Earliest
+pub mod Searching

@@ -1,5 +1,5 @@
 -- What a field expression is for a span in its trace, by recursion on the expression.
-use Rattle.std.specs.Prelude.{ℕ, List, [], ◌∷◌, Bool, true, false, not, pos, is_some, if◌then◌else◌}
+use Rattle.std.specs.Prelude.{ℕ, List, [], ◌∷◌, Bool, true, false, not, is_some, if◌then◌else◌}
 use Rattle.std.specs.Str.{bytes_eq}
 use Rattle.regex.specs.Patterns.{find_str}
 use Rattle.span_types.specs.declared.spans.Row.{Row}
@@ -14,16 +14,15 @@ use Rattle.traceql_syntax.specs.Trees.{Tree, Literally, Asks, Unary, Binary, Mat
 use Rattle.traceql_types.specs.declared.pattern.Pattern.{Pattern}
 use Rattle.traceql_types.specs.Patterns.{pattern_text, pattern_re}
 use Rattle.traceql_value.specs.declared.value.Value.{Value}
-use Rattle.traceql_value.specs.declared.value.Value.TheVariants.{Nil, Truth, Number, Text, Status, Kind}
-use Rattle.traceql_value.specs.Fractions.{whole_fraction}
+use Rattle.traceql_value.specs.declared.value.Value.TheVariants.{Nil, Truth, Text, Status, Kind}
 use Rattle.traceql_value.specs.Spans.{field_of_span}
-use Rattle.traceql_value.specs.Values.{combined, turned, is_nil, is_true}
+use Rattle.traceql_value.specs.Values.{combined, turned, is_nil, is_true, whole_number, nanoseconds}
 
--- the value of a literal
+-- The value of a literal. The numbers in a query's text are below 2^63.
 abbrev pub literal_value : Literal → Value
 literal_value (literal.Text text) = Text text
-literal_value (literal.Number n) = Number (whole_fraction (pos n))
-literal_value (literal.Duration n) = Number (whole_fraction (pos n))
+literal_value (literal.Number n) = whole_number n
+literal_value (literal.Duration n) = nanoseconds n
 literal_value (literal.Truth truth) = Truth truth
 literal_value literal.Nil = Nil
 literal_value (literal.Status status) = Status status

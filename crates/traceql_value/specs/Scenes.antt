@@ -1,13 +1,13 @@
--- What a scene was made of.
+-- What clauses see of a scene.
 use Rattle.std.specs.Prelude.{List}
 use Rattle.span_types.specs.declared.spans.Row.{Row}
 use Rattle.traceql_types.specs.declared.pattern.Pattern.{Pattern}
 use Rattle.traceql_value.specs.declared.scene.Scene.{Scene}
 
--- the query's patterns
+-- the patterns that are ready to search
 abbrev pub scene_patterns : Scene → List Pattern
-scene_patterns s = s.checked.now.patterns
+scene_patterns s = s.searches.patterns.now
 
--- the trace's rows
+-- the rows of the trace
 abbrev pub scene_rows : Scene → List Row
-scene_rows s = s.rows.now
+scene_rows s = s.trace.rows.now

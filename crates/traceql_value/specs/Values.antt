@@ -1,5 +1,5 @@
 -- Values, and what operators make of them.
-use Rattle.std.specs.Prelude.{ℕ, List, [], ◌∷◌, ◌^◌, pos, Bool, true, false, not, ◌&&◌, ◌||◌, ◌==◌, nat_lt, Option, Some, None, if◌then◌else◌}
+use Rattle.std.specs.Prelude.{ℕ, ◌^◌, pos, List, [], ◌∷◌, Bool, true, false, not, ◌&&◌, ◌||◌, ◌==◌, nat_lt, Option, Some, None, if◌then◌else◌}
 use Rattle.std.specs.Ordering.{nat_cmp, is_lt, is_le, is_gt, is_ge, is_eq, is_ne, ordering_reverse}
 use Rattle.std.specs.Cmp.Lexicographic.{slice_cmp}
 use Rattle.std.specs.declared.cmp.Ordering.{Ordering}
@@ -40,9 +40,13 @@ abbrev pub number_or_nil : Option Fraction → Value
 number_or_nil None = Nil
 number_or_nil (Some r) = Number r
 
--- so many nanoseconds, none from 2^63 on
+-- a whole number, none from 2^63 on
+abbrev pub whole_number : ℕ → Value
+whole_number n = if nat_lt n (2 ^ 63) then Number (whole_fraction (pos n)) else Nil
+
+-- so many nanoseconds
 abbrev pub nanoseconds : ℕ → Value
-nanoseconds n = if nat_lt n (2 ^ 63) then Number (whole_fraction (pos n)) else Nil
+nanoseconds n = whole_number n
 
 -- the value of an attribute
 abbrev pub attr_value : AttrValue → Value
@@ -108,6 +112,18 @@ combined binary.Multiply a b = arithmetic product_of a b
 combined binary.Divide a b = arithmetic quotient_of a b
 combined binary.Remainder a b = arithmetic remainder_of a b
 combined binary.Power a b = arithmetic power_within a b
+
+-- what an arithmetic operator makes of two numbers; nothing where the operator is another
+abbrev pub calculated : BinaryOp → Fraction → Fraction → Option Fraction
+calculated binary.Or a b = None
+calculated binary.And a b = None
+calculated (binary.Compare c) a b = None
+calculated binary.Add a b = sum_of a b
+calculated binary.Subtract a b = difference_of a b
+calculated binary.Multiply a b = product_of a b
+calculated binary.Divide a b = quotient_of a b
+calculated binary.Remainder a b = remainder_of a b
+calculated binary.Power a b = power_within a b
 
 -- what a unary operator gives
 abbrev pub turned : UnaryOp → Value → Value

@@ -1,19 +1,26 @@
 //! The values that TraceQL's field expressions have.
 //!
 //! Numbers are exact fractions: a [`Ratio`] has a numerator of 64 signed bits and a denominator from 1 to 2^63 - 1, in
-//! lowest terms. A result outside of these bounds is no value. No call takes memory.
+//! lowest terms. A result outside of these bounds is no value. A [`Scene`] says what an expression is for a span.
 #![tactic(auto)]
 
 mod divisor;
+mod fields;
 mod laws;
+mod look;
+mod operators;
 mod power;
 mod ratio;
 mod scene;
+mod searches;
+mod seen;
+mod trace;
 mod value;
+mod whole;
 
 pub use laws::one_ratio;
 pub use ratio::Ratio;
-pub use scene::Scene;
+pub use scene::{Scene, field_value};
 pub use value::{Value, Values};
 
 #[cfg(test)]

@@ -4,6 +4,7 @@ ghost use Rattle.std.specs.Prelude.{◌≡◌, ◌≢◌, ℤ, pos, ◌*ℤ◌, 
 ghost use Rattle.std.specs.Int.{w64};
 ghost use Rattle.std.specs.Option.{SomeIff};
 ghost use Rattle.traceql_value.specs.Fractions.{IsRatio, IsRatioOf, NoneStandsFor, Compares, HaveRemainder, HavePower, power_of, whole_fraction, under, over_sum, over_difference};
+ghost use Rattle.traceql_value.specs.Arithmetic.{ratio_of, sum_of, difference_of, product_of, quotient_of, remainder_of, power_within, negative_of, fraction_cmp};
 
 use crate::divisor::common_divisor;
 use crate::power::whole_power;
@@ -70,6 +71,7 @@ impl Ratio {
     pub fn neg(self) -> Option<Ratio>
         ensures value { IfSome result (IsRatioOf (neg_ℤ self.numerator) (pos self.denominator)) }
         ensures nil { IfNone result (NoneStandsFor (neg_ℤ self.numerator) (pos self.denominator)) }
+        ensures exact { result ≡ negative_of self }
     {
         let numerator = self.numerator.checked_neg()?;
         Some(Ratio {
@@ -80,7 +82,8 @@ impl Ratio {
 
     /// Which of two numbers is less, exactly.
     pub fn compare(self, other: Ratio) -> Ordering
-        ensures { Compares self other result }
+        ensures compares { Compares self other result }
+        ensures exact { result ≡ fraction_cmp self other }
     {
         let left = widened(self.numerator, other.denominator);
         let right = widened(other.numerator, self.denominator);
@@ -91,6 +94,7 @@ impl Ratio {
     pub fn mul(self, other: Ratio) -> Option<Ratio>
         ensures value { IfSome result (IsRatioOf (self.numerator *ℤ other.numerator) (under self other)) }
         ensures nil { IfNone result (NoneStandsFor (self.numerator *ℤ other.numerator) (under self other)) }
+        ensures exact { result ≡ product_of self other }
     {
         let up = i128::from(self.numerator) * i128::from(other.numerator);
         Ratio::of(
@@ -103,6 +107,7 @@ impl Ratio {
     pub fn add(self, other: Ratio) -> Option<Ratio>
         ensures value { IfSome result (IsRatioOf (over_sum self other) (under self other)) }
         ensures nil { IfNone result (NoneStandsFor (over_sum self other) (under self other)) }
+        ensures exact { result ≡ sum_of self other }
     {
         let left = widened(self.numerator, other.denominator);
         let right = widened(other.numerator, self.denominator);
@@ -116,6 +121,7 @@ impl Ratio {
     pub fn sub(self, other: Ratio) -> Option<Ratio>
         ensures value { IfSome result (IsRatioOf (over_difference self other) (under self other)) }
         ensures nil { IfNone result (NoneStandsFor (over_difference self other) (under self other)) }
+        ensures exact { result ≡ difference_of self other }
     {
         let left = widened(self.numerator, other.denominator);
         let right = widened(other.numerator, self.denominator);
@@ -130,6 +136,7 @@ impl Ratio {
         ensures zero { other.numerator ≡ pos 0 → IsNone result }
         ensures value { IfSome result (IsRatioOf (self.numerator *ℤ pos other.denominator) (other.numerator *ℤ pos self.denominator)) }
         ensures nil { other.numerator ≢ pos 0 → IfNone result (NoneStandsFor (self.numerator *ℤ pos other.denominator) (other.numerator *ℤ pos self.denominator)) }
+        ensures exact { result ≡ quotient_of self other }
     {
         if other.numerator == 0 {
             return None;
@@ -143,6 +150,7 @@ impl Ratio {
     pub fn rem(self, other: Ratio) -> Option<Ratio>
         ensures value { SomeIff result (HaveRemainder self other) (whole_fraction (int_rem self.numerator other.numerator)) }
         ensures ratio { IfSome result IsRatio }
+        ensures exact { result ≡ remainder_of self other }
     {
         if self.denominator != 1 || other.denominator != 1 || other.numerator == 0 {
             return None;
@@ -155,6 +163,7 @@ impl Ratio {
     pub fn pow(self, other: Ratio) -> Option<Ratio>
         ensures value { SomeIff result (HavePower self other × FitsSigned w64 (power_of self other)) (whole_fraction (power_of self other)) }
         ensures ratio { IfSome result IsRatio }
+        ensures exact { result ≡ power_within self other }
     {
         if self.denominator != 1 || other.denominator != 1 || other.numerator < 0 {
             return None;
@@ -170,6 +179,7 @@ impl Ratio {
         requires below { unsigned_abs denominator < 2 ^ 127 }
         ensures value { IfSome result (IsRatioOf numerator denominator) }
         ensures nil { IfNone result (NoneStandsFor numerator denominator) }
+        ensures exact { result ≡ ratio_of numerator denominator }
     {
         if denominator < 0 {
             return Ratio::of(-numerator, denominator.unsigned_abs());
@@ -179,6 +189,17 @@ impl Ratio {
 
     /// The quotient of two whole numbers, where it is within the bounds.
     fn of(numerator: i128, denominator: u128) -> Option<Ratio>
+        requires above { 0 < denominator }
+        requires below { denominator < 2 ^ 127 }
+        ensures value { IfSome result (IsRatioOf numerator (pos denominator)) }
+        ensures nil { IfNone result (NoneStandsFor numerator (pos denominator)) }
+        ensures exact { result ≡ ratio_of numerator (pos denominator) }
+    {
+        Ratio::reduced(numerator, denominator)
+    }
+
+    /// The same, by the greatest common divisor.
+    fn reduced(numerator: i128, denominator: u128) -> Option<Ratio>
         requires above { 0 < denominator }
         requires below { denominator < 2 ^ 127 }
         ensures value { IfSome result (IsRatioOf numerator (pos denominator)) }

@@ -1,69 +1,111 @@
-//! A stand-in for scenes, until they are proved: each call gives up for want of memory.
+//! A trace and a query's patterns, ready to evaluate.
 
-ghost use Rattle.std.specs.Prelude.{◌≡◌, IfOk};
+ghost use Rattle.std.specs.Prelude.{◌≡◌, ◌<◌, IfOk, IfSome, length, slice_get};
 ghost use Rattle.traceql_syntax.specs.Trees.{tree};
 ghost use Rattle.traceql_value.specs.Meaning.{value_of, is_so};
-ghost use Rattle.traceql_value.specs.Spans.{field_of_span, root_name, root_service, start_of, trace_nanos};
 ghost use Rattle.traceql_value.specs.Scenes.{scene_patterns, scene_rows};
+ghost use Rattle.traceql_value.specs.Spans.{field_of_span, root_name, root_service, start_of, trace_nanos};
 
 use crate::Value;
-use span_types::{Memory, Row, Span};
+use crate::look::look;
+use crate::operators::is_true;
+use crate::searches::Searches;
+use crate::trace::{Trace, field};
+use span_types::{Memory, Row, Rows, Span};
 use std::alloc::Global;
 use traceql_syntax::{Field, FieldExpr};
 use traceql_types::Checked;
 
-/// A trace under a query.
+/// A trace, and a query's patterns ready to search: what is computed once for a trace and not for each span.
 #[derive(Drop)]
 pub struct Scene<'a> {
-    checked: &'a Checked,
-    rows: &'a [Row],
+    alloc: Global,
+    trace: Trace<'a>,
+    searches: Searches<'a>,
 }
 
 impl<'a> Scene<'a> {
-    /// Stand-in.
-    pub fn of(_alloc: Global, _checked: &'a Checked, _rows: &'a [Row]) -> Result<Scene<'a>, Memory>
-        ensures patterns { IfOk result (λ s. scene_patterns s ≡ _checked.entry.now.patterns) }
-        ensures rows { IfOk result (λ s. scene_rows s ≡ _rows.entry.now) }
+    /// The scene of a query's patterns and the rows of a trace.
+    pub fn of(alloc: Global, checked: &'a Checked, rows: &'a [Row]) -> Result<Scene<'a>, Memory>
+        ensures patterns { IfOk result (λ s. scene_patterns s ≡ checked.now.patterns) }
+        ensures rows { IfOk result (λ s. scene_rows s ≡ rows.now) }
     {
-        Err(Memory)
+        let searches = Searches::of(alloc, checked.patterns.as_slice())?;
+        Ok(Scene {
+            alloc,
+            trace: Trace::of(rows),
+            searches,
+        })
     }
 
-    /// Stand-in.
-    pub fn value(&mut self, _expr: &FieldExpr, _span: &Span) -> Result<Value, Memory>
-        ensures value { IfOk result (λ v. v ≡ value_of (scene_patterns self.old) (scene_rows self.old) _span.now (tree _expr.now)) }
+    /// What an expression is for a span of the trace.
+    pub fn value(&mut self, expr: &FieldExpr, span: &Span) -> Result<Value, Memory>
+        ensures value { IfOk result (λ v. v ≡ value_of (scene_patterns self.old) (scene_rows self.old) span.now (tree expr.now)) }
         ensures patterns { scene_patterns self.new ≡ scene_patterns self.old }
         ensures rows { scene_rows self.new ≡ scene_rows self.old }
     {
-        Err(Memory)
+        let seen = look(self.alloc, &self.trace, &mut self.searches, expr, span)?;
+        seen.into_value(self.alloc)
     }
 
-    /// Stand-in.
-    pub fn is_so(&mut self, _expr: &FieldExpr, _span: &Span) -> Result<bool, Memory>
-        ensures value { IfOk result (λ b. b ≡ is_so (scene_patterns self.old) (scene_rows self.old) _span.now (tree _expr.now)) }
+    /// Whether a condition is true of a span of the trace.
+    pub fn is_so(&mut self, expr: &FieldExpr, span: &Span) -> Result<bool, Memory>
+        ensures value { IfOk result (λ b. b ≡ is_so (scene_patterns self.old) (scene_rows self.old) span.now (tree expr.now)) }
         ensures patterns { scene_patterns self.new ≡ scene_patterns self.old }
         ensures rows { scene_rows self.new ≡ scene_rows self.old }
     {
-        Err(Memory)
+        let seen = look(self.alloc, &self.trace, &mut self.searches, expr, span)?;
+        Ok(is_true(&seen))
     }
 
-    /// Stand-in.
-    pub fn field(&self, _field: &Field, _span: &Span) -> Result<Value, Memory>
-        ensures { IfOk result (λ v. v ≡ field_of_span _field.now (scene_rows self.now) _span.now) }
+    /// What a field is for a span of the trace.
+    pub fn field(&self, asked: &Field, span: &Span) -> Result<Value, Memory>
+        ensures { IfOk result (λ v. v ≡ field_of_span asked.now (scene_rows self.now) span.now) }
     {
-        Err(Memory)
+        field(self.alloc, asked, &self.trace, span)?.into_value(self.alloc)
     }
 
-    /// Stand-in.
+    /// The name of the trace's root; nil where there is no root.
     pub fn root_name(&self) -> Result<Value, Memory>
         ensures { IfOk result (λ v. v ≡ root_name (scene_rows self.now)) }
     {
-        Err(Memory)
+        self.trace.root_name().into_value(self.alloc)
     }
 
-    /// Stand-in.
+    /// What the root's resource calls its service; nil where that is no text.
     pub fn root_service(&self) -> Result<Value, Memory>
         ensures { IfOk result (λ v. v ≡ root_service (scene_rows self.now)) }
     {
-        Err(Memory)
+        self.trace.root_service().into_value(self.alloc)
     }
+
+    /// When the trace starts: the earliest start, in nanoseconds since 1970.
+    pub fn start(&self) -> u64
+        ensures { result ≡ start_of (scene_rows self.now) }
+    {
+        self.trace.start
+    }
+
+    /// How long the trace lasts, in nanoseconds: from its start to the greatest of all starts and ends.
+    pub fn nanos(&self) -> u64
+        ensures { result ≡ trace_nanos (scene_rows self.now) }
+    {
+        self.trace.nanos
+    }
+}
+
+/// What an expression is for the span at this position of a trace.
+pub fn field_value(
+    alloc: Global,
+    expr: &FieldExpr,
+    checked: &Checked,
+    trace: &Rows,
+    span: u64,
+) -> Result<Value, Memory>
+    requires { span < length trace.now }
+    ensures { IfOk result (λ v. IfSome (slice_get trace.now span) (λ row. v ≡ value_of checked.now.patterns trace.now row.span (tree expr.now))) }
+{
+    let rows = trace.as_slice();
+    let mut scene = Scene::of(alloc, checked, rows)?;
+    scene.value(expr, &rows[span as usize].span)
 }

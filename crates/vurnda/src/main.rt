@@ -7,6 +7,7 @@ use std::process::ExitCode;
 use std::rt::Env;
 use std::{env, io};
 use trace_shell::{Ended, StdinSource, StdoutSink, run};
+use traceql_types::RegexMaker;
 
 // The status of a faulty command line, and of want of memory.
 const BAD_WORDS: u8 = 2;
@@ -25,6 +26,7 @@ fn main(rt: HostRuntime) -> ExitCode {
     let mut source = StdinSource::new(rt.stdin());
     let mut sink = StdoutSink::new(rt.stdout());
     let mut clock = FixedClock::new(Moments::of(Vec::new(rt.alloc())));
+    let mut patterns = RegexMaker::new(rt.alloc());
     let Ended { status, disk: () } = run(
         &rt,
         rt.alloc(),
@@ -33,6 +35,7 @@ fn main(rt: HostRuntime) -> ExitCode {
         &mut sink,
         (),
         &mut clock,
+        &mut patterns,
         &OpenGate,
     );
     ExitCode::from(status)

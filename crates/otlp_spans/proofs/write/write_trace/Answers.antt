@@ -1,10 +1,9 @@
 use Rattle.std.proofs.Common.{◌≡◌, ◌≤◌, List, Some, ◌∙◌, ap, length, subst, arith}
-use Rattle.std.proofs.lemmas.List.Elements.{recursion_from_All}
 use Rattle.std.proofs.lemmas.Str.{IsUtf8-string_bytes}
 use Rattle.span_types.specs.declared.spans.Row.{Row}
 use Rattle.otlp_spans.specs.Fits.{FitsTrace}
 use Rattle.otlp_spans.specs.Json.{json_of}
-use Rattle.otlp_spans.specs.Reading.{IsReadable, most_spans}
+use Rattle.otlp_spans.specs.Reading.{most_spans}
 use Rattle.otlp_spans.specs.Writing.{spans_in, trace_json}
 use Rattle.otlp_spans.proofs.FloatLemmas.{written}
 use Rattle.otlp_spans.proofs.ReadBackLemmas.{trace_reads_back}
@@ -22,7 +21,7 @@ returns c =
     record {
       text = c.of.ensures ∙ written spans _ _ is printed.text;
       json = json;
-      reads_back = λ few are.
+      reads_back = λ few.
           let fewer : length spans ≤ most_spans = omega (arith, mapped (λ row. row.span) c.args.rows.now) in
-          line_back c.of.result spans json fits (recursion_from_All IsReadable spans are) fewer;
+          line_back c.of.result spans json fits fewer;
     }

@@ -1,4 +1,4 @@
-use Rattle.std.proofs.Common.{rules, ◌≡◌, ◌∙◌, sym, subst, arith}
+use Rattle.std.proofs.Common.{rules, sym, subst}
 use Rattle.std.specs.BTreeMap.{values}
 use Rattle.std.specs.Ordering.{is_lt}
 use Rattle.std.specs.List.Sorted.{IsPermutation}

@@ -1,5 +1,4 @@
 use Rattle.std.proofs.Common.{ap, sym, ◌∙◌}
-use Rattle.std.specs.BTreeMap.{get}
 use Rattle.span_types.specs.First.{lesser, row_at}
 use Rattle.span_types.specs.FirstLaws.{first_at-push}
 use Rattle.span_types.proofs.first.firsts_by_key.Goals as goal

@@ -11,4 +11,4 @@ returns-in-Err-Refused-clause-good_trace g c = λ id is ended.
     not_refused _ c.read_words.result (c.read_words.ensures.trace id is) (c.in-Err-Refused.is ∙ ap Err c.in-Err-Refused.field-0-is)
 
 pub returns-in-Err-Memory-clause-trace : goal.returns-in-Err-Memory-clause-trace
-returns-in-Err-Memory-clause-trace g c = λ id is before taken. starved_alone _ before _ taken
+returns-in-Err-Memory-clause-trace g c = λ id is before taken. starved_alone _ before _ _ taken

@@ -11,7 +11,7 @@ returns-in-Some-clause-told g c = λ before taken.
     let new = g.K.Sink.taken c.give.new.sink in
     let given : HasGiven old new nothing_seen c.give.new.seen c.answer-reply.result (Some c.in-Some.ending) =
     subst (λ o. HasGiven old new nothing_seen c.give.new.seen c.answer-reply.result o) c.in-Some.is c.give.ensures.given in
-    (c.answer-reply.result, answered.0, answered.1, stopped_alone before old new c.give.new.seen c.answer-reply.result c.in-Some.ending taken given)
+    (c.answer-reply.result, answered.0, answered.1, stopped_alone before old new c.give.new.seen c.answer-reply.result c.in-Some.ending taken given, c.answer-reply.ensures.too_big)
 
 pub returns-clause-told : goal.returns-clause-told
 returns-clause-told g c = λ before taken.
@@ -21,4 +21,4 @@ returns-clause-told g c = λ before taken.
     let given : HasGiven old new nothing_seen c.give.new.seen c.answer-reply.result None =
     subst (λ o. HasGiven old new nothing_seen c.give.new.seen c.answer-reply.result o) c.in-None.is c.give.ensures.given in
     let ended = written_alone before old new c.give.new.seen c.answer-reply.result taken given in
-    (c.answer-reply.result, answered.0, answered.1, subst (λ e. EndsAlone e before c.answer-reply.result new) (sym c.ending.ensures) ended)
+    (c.answer-reply.result, answered.0, answered.1, subst (λ e. EndsAlone e before c.answer-reply.result new) (sym c.ending.ensures) ended, c.answer-reply.ensures.too_big)

@@ -9,21 +9,24 @@ pub lines-init : goal.lines-init
 lines-init g c =
     let few : to_come c.new-reader.result ≤ taken_limit = nothing_to_come c.new-reader.result (c.new-reader.ensures.to_read _) in
     record {
-      at = λ text before told gave. begins_at text before _ _ _ _ _ told gave (c.new-reader.ensures.to_read text) c.new-reader.ensures.taken c.new-held.ensures refl refl;
+      at = λ text before told gave. begins_at text before _ _ _ _ _ _ told gave (c.new-reader.ensures.to_read text) c.new-reader.ensures.taken c.new-held.ensures refl refl;
       room = omega (arith, few, ap (λ h. h.pushes) c.new-held.ensures);
       source_counted = omega arith;
       sink_counted = omega arith;
+      maker_counted = omega arith;
       took = took_none _ _ c.new-reader.ensures.taken;
     }
 
 pub lines-preserved : goal.lines-preserved
 lines-preserved g c = record {
   at = λ text before told gave.
-      subst (λ o. Turned text before (g.S.Source.left c.turn.new.source) (g.K.Sink.taken c.turn.new.sink) c.turn.new.reader c.turn.new.held c.turn.new.seen o)
-      c.in_default.is (c.turn.ensures.turned text before (c.lines.invariant.at text before told gave));
+      subst (λ o. Turned text before (g.S.Source.left c.turn.new.source) (g.K.Sink.taken c.turn.new.sink) c.turn.new.reader c.turn.new.held c.turn.new.seen
+      (g.P.PatternMaker.refusals c.args.patterns.now) (g.P.PatternMaker.refusals c.turn.new.patterns) o)
+      c.in_default.is (c.turn.ensures.turned text before (g.P.PatternMaker.refusals c.args.patterns.now) (c.lines.invariant.at text before told gave));
   room = c.in_default.ensures.room;
   source_counted = omega (arith, c.lines.invariant.source_counted, c.turn.ensures.source_counted);
   sink_counted = omega (arith, c.lines.invariant.sink_counted, c.turn.ensures.sink_counted);
+  maker_counted = omega (arith, c.lines.invariant.maker_counted, c.turn.ensures.maker_counted);
   took = took_on _ _ _ 0 c.lines.reader.taken c.turn.new.reader.taken c.lines.invariant.took c.turn.ensures.took;
 }
 

@@ -1,4 +1,4 @@
--- So far the copies are equal to what they are copies of.
+-- So far the new list has the values that were copied.
 use Rattle.std.proofs.Common.{◌≡◌, take}
 use Rattle.traceql_value.proofs.value.Values.copy.Given as goal
 

@@ -1,0 +1,28 @@
+-- First occurrences are sorted.
+use Rattle.std.proofs.Common.{◌≡◌, ℕ, ◌<◌, List, Some, sym, ◌∙◌, ap, subst, arith, length, slice_index_or}
+use Rattle.std.specs.declared.cmp.Ordering.{Ordering}
+use Rattle.std.specs.declared.cmp.Ordering.TheVariants.{Less, Equal, Greater}
+use Rattle.std.proofs.lemmas.Cmp.{tied_itself}
+use Rattle.span_types.specs.declared.spans.Row.{Row}
+use Rattle.span_types.specs.Keys.{row_key}
+use Rattle.span_types.specs.Orders.{block_order}
+use Rattle.span_types.specs.First.{IsFirstOf, first_at}
+use Rattle.span_types.specs.FirstLaws.{block_order_total}
+use Rattle.trace_rows.specs.TraceLaws.{all_pairs}
+use Rattle.search_answer.specs.Traces.{IsSorted}
+
+equal_less : Equal ≡ Less → ⊥
+equal_less e = cc
+
+pub firsts_are_sorted : (all rows : List Row) → IsFirstOf all rows → IsSorted rows
+firsts_are_sorted all rows is = record {
+  ordered = all_pairs rows is.ordered;
+  apart = λ i j d l h same.
+      let one = is.only i d (omega arith) in
+      let other = is.only j d h in
+      let rows_same : slice_index_or rows i d ≡ slice_index_or rows j d = inside _ _ (sym one ∙ ap (λ k. first_at k all) same ∙ other) in
+      equal_less (sym (tied_itself block_order_total (slice_index_or rows j d)) ∙ ap (λ r. block_order r (slice_index_or rows j d)) (sym rows_same) ∙ all_pairs rows is.ordered i j d l h);
+}
+  where
+    inside : (a b : Row) → Some a ≡ Some b → a ≡ b
+    inside a b e = cc

@@ -1,0 +1,4 @@
+pub mod OneList
+pub mod Fronts
+pub mod Steps
+pub mod Firsts

@@ -1,0 +1,193 @@
+-- The results of rows: those of the first trace, and those of the rows behind it.
+use Rattle.std.proofs.Common.{◌≡◌, ◌≢◌, ◌⊎◌, inl, inr, ℕ, zero, suc, ◌<◌, take, drop, slice_index_or, slice_get, List, [], ◌∷◌, ◌++◌, Bool, true, false, Option, Some, None, refl, sym, ◌∙◌, ap, subst, arith, All, Contains, length, append_assoc}
+use Rattle.std.specs.List.{list_any}
+use Rattle.std.specs.Option.{option_to_list}
+use Rattle.std.specs.Ordering.{is_eq}
+use Rattle.std.proofs.lemmas.Bool.{cases_order}
+use Rattle.std.proofs.lemmas.Cmp.{tied_itself}
+use Rattle.std.proofs.lemmas.List.Elements.{All-append, Contains-append_right}
+use Rattle.std.proofs.lemmas.List.{get_or-take, length-take}
+use Rattle.std.proofs.lemmas.Option.{get_or_from_slice_get, slice_get_within}
+use Rattle.span_tree.specs.Nodes.{IsOneTrace}
+use Rattle.span_types.specs.Keys.{row_key}
+use Rattle.column_scan.specs.declared.range.Range.{Range}
+use Rattle.span_types.specs.declared.ids.TraceId.{TraceId}
+use Rattle.span_types.specs.declared.spans.Row.{Row}
+use Rattle.span_types.specs.Orders.{trace_cmp}
+use Rattle.spanset_eval.specs.declared.results.TraceResult.{TraceResult}
+use Rattle.spanset_eval.specs.Outcomes.{IsOutcome, shown}
+use Rattle.spanset_eval.specs.Stages.{Group, remaining, selected_fields}
+use Rattle.traceql_syntax.specs.declared.field.Field.{Field}
+use Rattle.traceql_syntax.specs.Trees.{QueryTree}
+use Rattle.traceql_types.specs.declared.pattern.Pattern.{Pattern}
+use Rattle.trace_rows.specs.Traces.{is_of_trace, rows_of_trace}
+use Rattle.search_answer.specs.Answers.{AreResults, IsResult, NoneTwice, is_in_range}
+use Rattle.search_answer.specs.Traces.{AddsOf, Gives, IsSorted}
+use Rattle.search_answer.proofs.Fronts.{Cut, Splits, none_later, rows_here, rows_of_other, same_trace, trace_cmp_total}
+use Rattle.search_answer.proofs.OneList.{one_outcome}
+
+true_false : true ≡ false → ⊥
+true_false e = cc
+
+-- What is shown of a trace tells its id.
+told : (fields : List Field) (id : TraceId) (rows : List Row) (groups : List Group) (r : TraceResult) →
+    ((row : Row) (rest : List Row) → rows ≡ row ∷ rest → row.span.trace ≡ id) → Some r ≡ shown fields rows groups → r.trace ≡ id
+told fields id [] groups r h e = absurd (some_none e)
+  where
+    some_none : Some r ≡ None → ⊥
+    some_none e = cc
+told fields id (row ∷ rows) [] r h e = absurd (some_none e)
+  where
+    some_none : Some r ≡ None → ⊥
+    some_none e = cc
+told fields id (row ∷ rows) (g ∷ groups) r h e = same_id e ∙ h row rows refl
+  where
+    inside : (x y : TraceResult) → Some x ≡ Some y → x.trace ≡ y.trace
+    inside x y e = let is : x ≡ y = cc in ap (λ z. z.trace) is
+
+    same_id : Some r ≡ shown fields (row ∷ rows) (g ∷ groups) → r.trace ≡ row.span.trace
+    same_id e = inside _ _ e
+
+first_is : (id : TraceId) (front later : List Row) → Splits id front later → (row : Row) (rest : List Row) → front ≡ row ∷ rest → row.span.trace ≡ id
+first_is id [] later s row rest e = cc
+first_is id (x ∷ xs) later s row rest e =
+    let same : x ≡ row = cc in
+    ap (λ y. y.span.trace) (sym same) ∙ same_trace x.span.trace id (s.here 0 x (omega arith))
+
+pub trace_told : (ps : List Pattern) (q : QueryTree) (range : Range) (id : TraceId) (front later : List Row) (r : TraceResult) → Splits id front later →
+    IsResult ps q range front r → r.trace ≡ id
+trace_told ps q range id front later r s is =
+    told (selected_fields q.stages) id front (remaining ps front q.stages is.outcome.selected) r (first_is id front later s) is.outcome.is
+
+-- A trace without rows has no result.
+no_result : (ps : List Pattern) (q : QueryTree) (range : Range) (rows : List Row) (r : TraceResult) → rows ≡ [] → IsResult ps q range rows r → ⊥
+no_result ps q range rows r none is = true_false (sym is.within ∙ ap (is_in_range range) none)
+
+-- a result of the rows behind is of another trace
+other_trace : (ps : List Pattern) (q : QueryTree) (range : Range) (id : TraceId) (front later : List Row) (r : TraceResult) (other : TraceId) → Splits id front later →
+    IsResult ps q range (rows_of_trace other later) r → is_eq (trace_cmp id other) ≡ false
+other_trace ps q range id front later r other s is =
+    elim (is_eq (trace_cmp id other)) as (λ t. is_eq (trace_cmp id other) ≡ t → t ≡ false) [
+      | true ↦ λ e. absurd (no_result ps q range (rows_of_trace other later) r (ap (λ t. rows_of_trace t later) (sym (same_trace id other e)) ∙ none_later id front later s) is)
+      | false ↦ λ e. refl
+    ] refl
+
+single : (P : TraceResult → Type 0) (r : TraceResult) → P r → All P (r ∷ [])
+single P r h = λ k d l. at k d l
+  where
+    at : (k : ℕ) (d : TraceResult) → k < 1 → P (slice_index_or (r ∷ []) k d)
+    at zero d l = h
+    at (suc k) d l = absurd (omega arith)
+
+-- a result among those of these rows
+abbrev Right : List Pattern → QueryTree → Range → List Row → TraceResult → Type 0
+Right ps q range rows r = IsResult ps q range (rows_of_trace r.trace rows) r
+
+-- one result of the first trace before the results behind it
+with_first : (ps : List Pattern) (q : QueryTree) (range : Range) (id : TraceId) (front later : List Row) (outcome : Option TraceResult) (more : List TraceResult) → Splits id front later →
+    Gives ps q range front outcome → AreResults ps q range later more → AreResults ps q range (front ++ later) (option_to_list outcome ++ more)
+with_first ps q range id front later outcome more s gives are = record {
+  only = All-append (Right ps q range (front ++ later)) (option_to_list outcome) more (only_first outcome gives) (λ k d l. moved _ (are.only k d l));
+  whole = λ other r is. found other r is (is_eq (trace_cmp id other)) refl;
+  once = once_first outcome gives;
+}
+  where
+    placed : (r : TraceResult) → IsResult ps q range front r → IsResult ps q range (rows_of_trace r.trace (front ++ later)) r
+    placed r is =
+        let here : rows_of_trace r.trace (front ++ later) ≡ front =
+        ap (λ t. rows_of_trace t (front ++ later)) (trace_told ps q range id front later r s is) ∙ rows_here id front later s in
+        subst (λ rows. IsResult ps q range rows r) (sym here) is
+
+    only_first : (o : Option TraceResult) → Gives ps q range front o → All (Right ps q range (front ++ later)) (option_to_list o)
+    only_first None g = λ k d l. absurd (omega arith)
+    only_first (Some r) g = single (Right ps q range (front ++ later)) r (placed r (g.only r refl))
+
+    moved : (r : TraceResult) → IsResult ps q range (rows_of_trace r.trace later) r → Right ps q range (front ++ later) r
+    moved r is = subst (λ rows. IsResult ps q range rows r) (sym (rows_of_other id r.trace front later s (other_trace ps q range id front later r r.trace s is))) is
+
+    found : (other : TraceId) (r : TraceResult) → IsResult ps q range (rows_of_trace other (front ++ later)) r → (b : Bool) → is_eq (trace_cmp id other) ≡ b →
+        Contains (option_to_list outcome ++ more) r
+    found other r is true e =
+        let here : rows_of_trace other (front ++ later) ≡ front = ap (λ t. rows_of_trace t (front ++ later)) (sym (same_trace id other e)) ∙ rows_here id front later s in
+        let some : outcome ≡ Some r = gives.whole r (subst (λ rows. IsResult ps q range rows r) here is) in
+        subst (λ o. Contains (option_to_list o ++ more) r) (sym some) (0, omega arith, refl)
+    found other r is false e =
+        Contains-append_right (option_to_list outcome) more r
+        (are.whole other r (subst (λ rows. IsResult ps q range rows r) (rows_of_other id other front later s e) is))
+
+    once_first : (o : Option TraceResult) → Gives ps q range front o → NoneTwice (option_to_list o ++ more)
+    once_first None g = are.once
+    once_first (Some r) g = (λ k d l. differs (slice_index_or more k d) (are.only k d l), are.once)
+      where
+        differs : (x : TraceResult) → IsResult ps q range (rows_of_trace x.trace later) x → r.trace ≡ x.trace → ⊥
+        differs x is same =
+            true_false (equal (trace_told ps q range id front later r s (g.only r refl)) same ∙ other_trace ps q range id front later x x.trace s is)
+          where
+            equal : r.trace ≡ id → r.trace ≡ x.trace → true ≡ is_eq (trace_cmp id x.trace)
+            equal a b = sym (ap is_eq (tied_itself trace_cmp_total id)) ∙ ap (λ t. is_eq (trace_cmp id t)) (sym a ∙ b)
+
+-- No rows have no results.
+pub no_rows : (ps : List Pattern) (q : QueryTree) (range : Range) (rows : List Row) → rows ≡ [] → AreResults ps q range rows []
+no_rows ps q range rows none = record {
+  only = λ k d l. absurd (omega arith);
+  whole = λ id r is. absurd (no_result ps q range (rows_of_trace id rows) r (ap (rows_of_trace id) none) is);
+  once = tt;
+}
+
+-- A step of the walk: what completes the rows behind completes all.
+pub walked : (ps : List Pattern) (q : QueryTree) (range : Range) (rows rest front later : List Row) (n : ℕ) (before after : List TraceResult) → Cut rest n →
+    front ≡ take n rest → later ≡ drop n rest → AddsOf ps q range front before after →
+    ((more : List TraceResult) → AreResults ps q range rest more → AreResults ps q range rows (before ++ more)) →
+    (more : List TraceResult) → AreResults ps q range later more → AreResults ps q range rows (after ++ more)
+walked ps q range rows rest front later n before after cut is_front is_later (outcome, gives, is) so_far more are =
+    let here : Gives ps q range (take n rest) outcome = subst (λ part. Gives ps q range part outcome) is_front gives in
+    let behind : AreResults ps q range (drop n rest) more = subst (λ part. AreResults ps q range part more) is_later are in
+    let joined : AreResults ps q range rest (option_to_list outcome ++ more) =
+    subst (λ part. AreResults ps q range part (option_to_list outcome ++ more)) cut.whole
+      (with_first ps q range cut.id (take n rest) (drop n rest) outcome more cut.splits here behind) in
+    subst (λ all. AreResults ps q range rows all) (sym (append_assoc before (option_to_list outcome) more) ∙ ap (λ all. all ++ more) (sym is)) (so_far (option_to_list outcome ++ more) joined)
+
+-- The rows of the front are of one trace, and no two of them are of one span.
+pub front_is_one : (rest front : List Row) (n : ℕ) → Cut rest n → IsSorted rest → front ≡ take n rest → IsOneTrace front
+front_is_one rest front n cut sorted is = subst (λ part. IsOneTrace part) (sym is) (record {
+  together = λ i j a b x y. of_it i a x ∙ sym (of_it j b y);
+  apart = λ i j a b x y same. one i j a b x y same;
+})
+  where
+    of_it : (i : ℕ) (a : Row) → slice_get (take n rest) i ≡ Some a → a.span.trace ≡ cut.id
+    of_it i a x =
+        ap (λ r. r.span.trace) (sym (get_or_from_slice_get (take n rest) i a a x))
+        ∙ same_trace _ cut.id (cut.splits.here i a (slice_get_within (take n rest) i a x))
+
+    key_at : (i : ℕ) (a d : Row) → slice_get (take n rest) i ≡ Some a → row_key (slice_index_or rest i d) ≡ row_key a
+    key_at i a d x =
+        ap row_key (sym (get_or-take n rest i d (omega (arith, slice_get_within (take n rest) i a x, length-take n rest)))
+        ∙ get_or_from_slice_get (take n rest) i a d x)
+
+    below : (i j : ℕ) (a b : Row) → slice_get (take n rest) i ≡ Some a → slice_get (take n rest) j ≡ Some b → row_key a ≡ row_key b → i < j → ⊥
+    below i j a b x y same l =
+        sorted.apart i j a l (omega (arith, slice_get_within (take n rest) j b y, length-take n rest))
+        (key_at i a a x ∙ same ∙ sym (key_at j b a y))
+
+    one : (i j : ℕ) (a b : Row) → slice_get (take n rest) i ≡ Some a → slice_get (take n rest) j ≡ Some b → row_key a ≡ row_key b → i ≡ j
+    one i j a b x y same = decided (cases_order i j)
+      where
+        decided : (i ≡ j) ⊎ ((i < j) ⊎ (j < i)) → i ≡ j
+        decided (inl e) = e
+        decided (inr (inl l)) = absurd (below i j a b x y same l)
+        decided (inr (inr l)) = absurd (below j i b a y x (sym same) l)
+
+-- The result of a trace, from what was evaluated.
+pub evaluated : (ps : List Pattern) (q : QueryTree) (range : Range) (part : List Row) (outcome : Option TraceResult) → is_in_range range part ≡ true →
+    IsOutcome ps part q outcome → Gives ps q range part outcome
+evaluated ps q range part outcome within is = record {
+  only = λ r e. record { within = within; outcome = subst (λ o. IsOutcome ps part q o) e is };
+  whole = λ r one. one_outcome ps part q outcome (Some r) is one.outcome;
+}
+
+-- A trace that isn't in the range has no result.
+pub out_of_range : (ps : List Pattern) (q : QueryTree) (range : Range) (part : List Row) → is_in_range range part ≡ false → Gives ps q range part None
+out_of_range ps q range part without = record {
+  only = λ r e. cc;
+  whole = λ r one. absurd (true_false (sym one.within ∙ without));
+}

@@ -1,0 +1,17 @@
+-- What completes the rows that are left completes all rows.
+use Rattle.std.proofs.Common.{◌++◌, List, length}
+use Rattle.spanset_eval.specs.declared.results.TraceResult.{TraceResult}
+use Rattle.traceql_syntax.specs.Trees.{query_tree}
+use Rattle.search_answer.specs.Answers.{AreResults}
+use Rattle.search_answer.specs.Traces.{IsSorted}
+use Rattle.search_answer.proofs.answer.results_of.Given as goal
+
+abbrev pub invariant-loop-rest : goal.invariant-loop-rest
+invariant-loop-rest l = record {
+  so_far : (more : List TraceResult) → AreResults l.checked.patterns (query_tree l.checked.query) l.range l.rest more
+      → AreResults l.checked.patterns (query_tree l.checked.query) l.range l.rows (l.all.items ++ more);
+  sorted : IsSorted l.rest;
+}
+
+abbrev pub decreases-loop-rest : goal.decreases-loop-rest
+decreases-loop-rest l = length l.rest

@@ -1,0 +1,50 @@
+-- What a search answers, over the first occurrences of all spans.
+use Rattle.std.specs.Prelude.{◌≡◌, ◌≢◌, ℕ, List, [], ◌∷◌, Bool, true, Some, All, Contains, map, take}
+use Rattle.std.specs.List.{list_any}
+use Rattle.column_scan.specs.declared.range.Range.{Range}
+use Rattle.column_scan.specs.Ranges.{is_within}
+use Rattle.span_types.specs.declared.ids.TraceId.{TraceId}
+use Rattle.span_types.specs.declared.spans.Row.{Row}
+use Rattle.spanset_eval.specs.declared.results.SetResult.{SetResult}
+use Rattle.spanset_eval.specs.declared.results.TraceResult.{TraceResult}
+use Rattle.spanset_eval.specs.Outcomes.{IsOutcome}
+use Rattle.spanset_eval.specs.Ranking.{AreFirst}
+use Rattle.traceql_syntax.specs.Trees.{QueryTree}
+use Rattle.traceql_types.specs.declared.pattern.Pattern.{Pattern}
+use Rattle.trace_rows.specs.Traces.{rows_of_trace}
+
+-- A trace is in a range where one of its spans starts in it.
+abbrev pub is_in_range : Range → List Row → Bool
+is_in_range range rows = list_any (λ r. is_within range r.span.start) rows
+
+-- What the query answers of a trace that is in the range, where it answers something. The rows are those of the trace.
+pub record IsResult (ps : List Pattern) (q : QueryTree) (range : Range) (rows : List Row) (result : TraceResult) : Type 0 where
+  pub within : is_in_range range rows ≡ true
+  pub outcome : IsOutcome ps rows q (Some result)
+
+-- No two results are of one trace.
+abbrev pub NoneTwice : List TraceResult → Type 0
+NoneTwice [] = Unit {0}
+NoneTwice (r ∷ rs) = All (λ s. r.trace ≢ s.trace) rs × NoneTwice rs
+
+-- One result for each trace in the range of which the query answers something, and no others.
+pub record AreResults (ps : List Pattern) (q : QueryTree) (range : Range) (rows : List Row) (results : List TraceResult) : Type 0 where
+  pub only : All (λ r. IsResult ps q range (rows_of_trace r.trace rows) r) results
+  pub whole : (id : TraceId) (r : TraceResult) → IsResult ps q range (rows_of_trace id rows) r → Contains results r
+  pub once : NoneTwice results
+
+-- A spanset as it is shown, with at most so many of its spans. How many it has is told all the same.
+abbrev pub cut_set : ℕ → SetResult → SetResult
+cut_set most s = record { by = s.by; matched = s.matched; spans = take most s.spans }
+
+abbrev pub cut : ℕ → TraceResult → TraceResult
+cut most r = record { trace = r.trace; root_name = r.root_name; root_service = r.root_service; start = r.start; duration = r.duration; sets = map (cut_set most) r.sets }
+
+-- What a search shows: of all results the first ones, at most `limit`, and of each spanset the first spans, at most `most`.
+-- `rows` are the first occurrences of all spans.
+pub record IsAnswer (ps : List Pattern) (q : QueryTree) (range : Range) (limit most : ℕ) (rows : List Row) (answer : List TraceResult) : Type 0 where
+  pub all : List TraceResult
+  pub results : AreResults ps q range rows all
+  pub first : List TraceResult
+  pub ranked : AreFirst all limit first
+  pub is : answer ≡ map (cut most) first

@@ -1,0 +1,14 @@
+//! What a search answers, as a text: the JSON of its results, and its selected fields in their printed form.
+#![tactic(auto)]
+
+mod printed;
+mod results;
+mod texts;
+mod values;
+
+pub use printed::printed_fields;
+pub use results::write_results;
+pub use texts::Texts;
+
+#[cfg(test)]
+mod tests;

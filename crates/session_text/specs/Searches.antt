@@ -1,0 +1,72 @@
+-- What a search's line may be answered.
+use Rattle.std.specs.Prelude.{◌≡◌, ◌≤◌, ◌⊎◌, ℕ, List, length, Result, Ok, Err}
+use Rattle.traceql_syntax.specs.declared.errors.ParseError.{ParseError}
+use Rattle.traceql_syntax.specs.declared.errors.ParseError.TheVariants as parse
+use Rattle.traceql_syntax.specs.Refusals.{BYTES, DEPTH, IsRefusal, Reads}
+use Rattle.traceql_syntax.specs.Trees.{QueryTree, query_tree}
+use Rattle.traceql_types.specs.declared.errors.TypeError.{TypeError}
+use Rattle.traceql_types.specs.declared.errors.TypeError.TheVariants as type
+use Rattle.traceql_types.specs.Checks.{ComesAfterMade, GoesFirst, HasCause}
+use Rattle.session_text.specs.declared.refusal.KindFault.TheVariants as kind
+use Rattle.session_text.specs.declared.refusal.QueryFault.TheVariants as query
+use Rattle.session_text.specs.declared.refusal.Refusal.{Refusal}
+use Rattle.session_text.specs.declared.refusal.Refusal.TheVariants.{BadQuery, BadType, BadPattern, PatternTooBig, Memory}
+use Rattle.session_text.specs.declared.request.Request.{Request}
+use Rattle.session_text.specs.declared.request.Request.TheVariants as request
+use Rattle.session_text.specs.declared.request.Search.{Search}
+use Rattle.session_text.specs.Options.{SearchLine}
+
+-- the refusal of a text that is no query
+abbrev pub of_parse : ParseError → Refusal
+of_parse (parse.BadChar at) = BadQuery (query.BadChar at)
+of_parse (parse.Unexpected at) = BadQuery (query.Unexpected at)
+of_parse (parse.Unended at) = BadQuery (query.Unended at)
+of_parse (parse.NumberRange at) = BadQuery (query.NumberRange at)
+of_parse (parse.FractionLiteral at) = BadQuery (query.FractionLiteral at)
+of_parse (parse.TooLong length) = BadQuery (query.TooLong length)
+of_parse (parse.TooDeep at) = BadQuery (query.TooDeep at)
+of_parse parse.Memory = Memory
+
+-- the refusal of a query for its kinds or its patterns
+abbrev pub of_check : TypeError → Refusal
+of_check (type.KindClash at) = BadType (kind.KindClash at)
+of_check (type.NotTruth at) = BadType (kind.NotTruth at)
+of_check (type.DivisionInAggregate at) = BadType (kind.DivisionInAggregate at)
+of_check (type.NotNumber at) = BadType (kind.NotNumber at)
+of_check (type.BadPattern at) = BadPattern at
+of_check (type.PatternTooBig at) = PatternTooBig at
+of_check type.Memory = Memory
+
+-- the text is this query, within the limits of a query
+pub record IsQuery (text : List ℕ) (q : QueryTree) : Type 0 where
+  pub short : length text ≤ BYTES
+  pub reads : Reads DEPTH text q
+
+-- The search is the one that the line asks for. That its kinds fit and its patterns were made a `Checked` itself says.
+pub record IsSearch (line : SearchLine) (s : Search) : Type 0 where
+  pub query : IsQuery line.query (query_tree s.checked.query)
+  pub range : s.range ≡ line.range
+  pub limit : s.limit ≡ line.limit
+  pub spans_per_set : s.spans_per_set ≡ line.spans_per_set
+
+-- The text is no query, and this is the right refusal of it. Want of memory is always a cause.
+pub record IsNoQuery (text : List ℕ) (e : Refusal) : Type 0 where
+  pub why : ParseError
+  pub is : e ≡ of_parse why
+  pub right : IsRefusal text why
+
+-- The text is a query whose kinds don't fit or whose patterns weren't all made, and this is the first refusal of it.
+-- `rose` says that the maker of patterns refused one.
+pub record DoesNotFit (text : List ℕ) (rose : Type 0) (e : Refusal) : Type 0 where
+  pub tree : QueryTree
+  pub query : IsQuery text tree
+  pub why : TypeError
+  pub is : e ≡ of_check why
+  pub cause : HasCause tree rose why
+  pub first : GoesFirst tree why
+  pub after_made : ComesAfterMade tree why
+
+-- what a search's line may be answered
+abbrev pub Searches : SearchLine → Type 0 → Result Search Refusal → Type 0
+Searches line rose (Ok s) = IsSearch line s
+Searches line rose (Err e) = IsNoQuery line.query e ⊎ DoesNotFit line.query rose e

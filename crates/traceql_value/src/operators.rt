@@ -1,0 +1,173 @@
+//! What operators make of values.
+
+ghost use Rattle.std.specs.Prelude.{◌≡◌};
+ghost use Rattle.std.specs.Cmp.Lexicographic.{slice_cmp};
+ghost use Rattle.std.specs.Ordering.{nat_cmp};
+ghost use Rattle.traceql_value.specs.Meaning.{tests_nil, applied};
+ghost use Rattle.traceql_value.specs.Seen.{seen_value};
+ghost use Rattle.traceql_value.specs.Values.{number_or_nil, is_true, is_nil, accepts, accepts_equal, compares, arithmetic, calculated, combined, turned};
+
+use crate::seen::Seen;
+use crate::{Ratio, Value};
+use std::cmp::Ordering;
+use traceql_syntax::{BinaryOp, Comparison, UnaryOp};
+
+// A number, or none where it is outside of the bounds.
+fn number_or_nil(number: Option<Ratio>) -> Value
+    ensures { result ≡ number_or_nil number }
+{
+    match number {
+        None => Value::Nil,
+        Some(number) => Value::Number(number),
+    }
+}
+
+/// Whether a value is `true`.
+pub(crate) fn is_true(value: &Seen<'_>) -> bool
+    ensures { result ≡ is_true (seen_value value.now) }
+{
+    match value {
+        Seen::Truth(truth) => *truth,
+        _ => false,
+    }
+}
+
+// Whether there is no value.
+fn is_nil(value: &Seen<'_>) -> bool
+    ensures { result ≡ is_nil (seen_value value.now) }
+{
+    match value {
+        Seen::Nil => true,
+        _ => false,
+    }
+}
+
+// Whether a comparison is true of what stands in this order.
+fn accepts(op: Comparison, order: Ordering) -> bool
+    ensures { result ≡ accepts op order }
+{
+    match op {
+        Comparison::Equal => order.is_eq(),
+        Comparison::NotEqual => order.is_ne(),
+        Comparison::Less => order.is_lt(),
+        Comparison::AtMost => order.is_le(),
+        Comparison::Greater => order.is_gt(),
+        Comparison::AtLeast => order.is_ge(),
+    }
+}
+
+// Whether a comparison is true of what is only equal or not.
+fn accepts_equal(op: Comparison, same: bool) -> bool
+    ensures { result ≡ accepts_equal op same }
+{
+    match op {
+        Comparison::Equal => same,
+        Comparison::NotEqual => !same,
+        Comparison::Less | Comparison::AtMost | Comparison::Greater | Comparison::AtLeast => false,
+    }
+}
+
+// The order of two texts by their bytes.
+fn order(left: &str, right: &str) -> Ordering
+    ensures { result ≡ slice_cmp nat_cmp left.now right.now }
+{
+    left.cmp(right)
+}
+
+// Whether a comparison of two values is true.
+fn compares(op: Comparison, left: &Seen<'_>, right: &Seen<'_>) -> bool
+    ensures { result ≡ compares op (seen_value left.now) (seen_value right.now) }
+{
+    match (left, right) {
+        (Seen::Truth(a), Seen::Truth(b)) => accepts_equal(op, *a == *b),
+        (Seen::Number(a), Seen::Number(b)) => accepts(op, a.compare(*b)),
+        (Seen::Text(a), Seen::Text(b)) => accepts(op, order(a, b)),
+        (Seen::Text(a), Seen::Made(b)) => accepts(op, order(a, b.as_str())),
+        (Seen::Made(a), Seen::Text(b)) => accepts(op, order(a.as_str(), b)),
+        (Seen::Made(a), Seen::Made(b)) => accepts(op, order(a.as_str(), b.as_str())),
+        (Seen::Status(a), Seen::Status(b)) => accepts_equal(op, *a == *b),
+        (Seen::Kind(a), Seen::Kind(b)) => accepts_equal(op, *a == *b),
+        _ => false,
+    }
+}
+
+// What an arithmetic operator makes of two numbers.
+fn calculated(op: BinaryOp, left: Ratio, right: Ratio) -> Option<Ratio>
+    ensures { result ≡ calculated op left right }
+{
+    match op {
+        BinaryOp::Or | BinaryOp::And | BinaryOp::Compare(_) => None,
+        BinaryOp::Add => left.add(right),
+        BinaryOp::Subtract => left.sub(right),
+        BinaryOp::Multiply => left.mul(right),
+        BinaryOp::Divide => left.div(right),
+        BinaryOp::Remainder => left.rem(right),
+        BinaryOp::Power => left.pow(right),
+    }
+}
+
+// What an arithmetic operator gives: nil where an operand is no number.
+fn arithmetic(op: BinaryOp, left: &Seen<'_>, right: &Seen<'_>) -> Value
+    ensures { result ≡ arithmetic (calculated op) (seen_value left.now) (seen_value right.now) }
+{
+    match (left, right) {
+        (Seen::Number(a), Seen::Number(b)) => number_or_nil(calculated(op, *a, *b)),
+        _ => Value::Nil,
+    }
+}
+
+// What an operator gives that is no comparison with the literal `nil`.
+fn combined(op: BinaryOp, left: &Seen<'_>, right: &Seen<'_>) -> Value
+    ensures { result ≡ combined op (seen_value left.now) (seen_value right.now) }
+{
+    match op {
+        BinaryOp::Or => Value::Truth(is_true(left) || is_true(right)),
+        BinaryOp::And => Value::Truth(is_true(left) && is_true(right)),
+        BinaryOp::Compare(comparison) => Value::Truth(compares(comparison, left, right)),
+        BinaryOp::Add
+        | BinaryOp::Subtract
+        | BinaryOp::Multiply
+        | BinaryOp::Divide
+        | BinaryOp::Remainder
+        | BinaryOp::Power => arithmetic(op, left, right),
+    }
+}
+
+// What a comparison with the literal `nil` gives of the other operand.
+fn tests_nil(op: Comparison, value: &Seen<'_>) -> bool
+    ensures { result ≡ tests_nil op (seen_value value.now) }
+{
+    match op {
+        Comparison::Equal => is_nil(value),
+        Comparison::NotEqual => !is_nil(value),
+        Comparison::Less | Comparison::AtMost | Comparison::Greater | Comparison::AtLeast => false,
+    }
+}
+
+/// What a binary operator gives, where the operands may be the literal `nil`.
+pub(crate) fn applied(
+    op: BinaryOp,
+    nil_left: bool,
+    nil_right: bool,
+    left: &Seen<'_>,
+    right: &Seen<'_>,
+) -> Value
+    ensures { result ≡ applied op nil_left nil_right (seen_value left.now) (seen_value right.now) }
+{
+    match (op, nil_left, nil_right) {
+        (BinaryOp::Compare(comparison), true, _) => Value::Truth(tests_nil(comparison, right)),
+        (BinaryOp::Compare(comparison), false, true) => Value::Truth(tests_nil(comparison, left)),
+        _ => combined(op, left, right),
+    }
+}
+
+/// What a unary operator gives.
+pub(crate) fn turned(op: UnaryOp, value: &Seen<'_>) -> Value
+    ensures { result ≡ turned op (seen_value value.now) }
+{
+    match (op, value) {
+        (UnaryOp::Negate, Seen::Number(number)) => number_or_nil(number.neg()),
+        (UnaryOp::Not, Seen::Truth(truth)) => Value::Truth(!*truth),
+        _ => Value::Nil,
+    }
+}
