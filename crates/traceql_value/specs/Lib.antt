@@ -6,4 +6,3 @@ pub mod Searches
 pub mod Seen
 pub mod Spans
 pub mod Values
-pub mod Scenes
