@@ -15,10 +15,10 @@ use Rattle.span_types.specs.declared.spans.SpanKind.{SpanKind}
 use Rattle.span_types.specs.declared.spans.StatusCode.{StatusCode}
 use Rattle.traceql_value.specs.declared.value.Value.{Value}
 use Rattle.traceql_value.specs.declared.value.Value.TheVariants as value
-use Rattle.traceql_value.specs.Fractions.{Fraction}
+use Rattle.traceql_value.specs.Fractions.{Fraction, Compares}
 use Rattle.traceql_value.specs.Arithmetic.{fraction_cmp}
 use Rattle.traceql_value.specs.Values.{value_cmp, kind_rank, kind_number, status_number, truth_number}
-use Rattle.spanset_eval.specs.Parts.{sound, sound_cmp}
+use Rattle.spanset_eval.specs.Parts.{code_of, fraction_of, sound, sound_cmp, text_of}
 
 -- ---- products of signed numbers
 
@@ -109,19 +109,8 @@ quotient_total = record {
 
 -- ---- values
 
-code_of : Value → ℕ
-code_of (value.Truth b) = truth_number b
-code_of (value.Status s) = status_number s
-code_of (value.Kind k) = kind_number k
-code_of _ = 0
-
-text_of : Value → List ℕ
-text_of (value.Text t) = t
-text_of _ = []
-
-quotient_of : Value → Quotient
-quotient_of (value.Number r) = record { top = r.numerator; less_one = r.denominator - 1 }
-quotient_of _ = record { top = pos 0; less_one = 0 }
+abbrev quotient_of : Value → Quotient
+quotient_of v = record { top = (fraction_of v).numerator; less_one = (fraction_of v).denominator - 1 }
 
 abbrev by_parts : Value → Value → Ordering
 by_parts a b =
@@ -139,7 +128,7 @@ then_nothing Equal = refl
 then_nothing Greater = refl
 
 same_cmp : (a b : Value) → sound_cmp a b ≡ by_parts a b
-unfolding sound_cmp code_of text_of quotient_of
+unfolding sound_cmp
 same_cmp value.Nil value.Nil = refl
 same_cmp value.Nil (value.Truth b) = refl
 same_cmp value.Nil (value.Number b) = refl
@@ -183,3 +172,16 @@ sound_total = record {
   trans = λ a b c p q. same_cmp a c ∙ by_parts_total.trans a b c (sym (same_cmp a b) ∙ p) (sym (same_cmp b c) ∙ q);
   congr = λ a b c e. same_cmp a c ∙ by_parts_total.congr a b c (sym (same_cmp a b) ∙ e) ∙ sym (same_cmp b c);
 }
+
+-- What is compared part by part.
+pub in_order : (a b : Value) (o : Ordering) → 0 < (fraction_of a).denominator → 0 < (fraction_of b).denominator → Compares (fraction_of a) (fraction_of b) o →
+    ordering_then (nat_cmp (kind_rank a) (kind_rank b)) (ordering_then (nat_cmp (code_of a) (code_of b)) (ordering_then (slice_cmp nat_cmp (text_of a) (text_of b)) o)) ≡ sound_cmp a b
+in_order a b o l m by =
+    ap (λ q. ordering_then (nat_cmp (kind_rank a) (kind_rank b)) (ordering_then (nat_cmp (code_of a) (code_of b)) (ordering_then (slice_cmp nat_cmp (text_of a) (text_of b)) q)))
+    (int_cmp_is ((fraction_of a).numerator *ℤ pos (fraction_of b).denominator) ((fraction_of b).numerator *ℤ pos (fraction_of a).denominator) o by
+      ∙ ap (λ d. int_cmp ((fraction_of a).numerator *ℤ pos d) ((fraction_of b).numerator *ℤ pos (fraction_of a).denominator)) (above (fraction_of b).denominator m)
+      ∙ ap (λ d. int_cmp ((fraction_of a).numerator *ℤ pos (suc ((fraction_of b).denominator - 1))) ((fraction_of b).numerator *ℤ pos d)) (above (fraction_of a).denominator l))
+    ∙ sym (same_cmp a b)
+  where
+    above : (d : ℕ) → 0 < d → d ≡ suc (d - 1)
+    above d h = omega arith

@@ -1,7 +1,9 @@
 -- Parts of a list by values: joining them in any order gives the same, and what they have in the end.
-use Rattle.std.proofs.Common.{◌≡◌, ℕ, zero, suc, ◌-◌, ◌<◌, arith, List, [], ◌∷◌, ◌++◌, map, Bool, true, false, cond, refl, sym, ap, ◌∙◌, subst, ◌⊎◌, inl, inr, append_assoc}
+use Rattle.std.proofs.Common.{◌≡◌, ℕ, zero, suc, ◌-◌, ◌<◌, arith, All, Option, Some, None, reverse, List, [], ◌∷◌, ◌++◌, map, Bool, true, false, cond, refl, sym, ap, ◌∙◌, subst, ◌⊎◌, inl, inr, append_assoc}
 use Rattle.std.specs.Cmp.{IsTotalOrder}
 use Rattle.std.specs.List.{filter}
+use Rattle.std.specs.Option.{option_to_list}
+use Rattle.std.proofs.lemmas.List.{append-nil, reverse-append}
 use Rattle.std.specs.Ordering.{is_eq, is_lt, ordering_reverse}
 use Rattle.std.specs.declared.cmp.Ordering.{Ordering}
 use Rattle.std.specs.declared.cmp.Ordering.TheVariants.{Less, Equal, Greater}
@@ -11,7 +13,8 @@ use Rattle.traceql_value.specs.declared.value.Value.TheVariants as value
 use Rattle.traceql_value.specs.Values.{value_cmp}
 use Rattle.spanset_eval.specs.declared.groups.Group.{Group}
 use Rattle.spanset_eval.specs.declared.parts.Part.{Part}
-use Rattle.spanset_eval.specs.Parts.{IsSound, sound, sound_cmp, with_former, put_part, put_all, arranged, Above, Ascend}
+use Rattle.spanset_eval.specs.declared.parts.Valued.{Valued}
+use Rattle.spanset_eval.specs.Parts.{IsSound, sound, sound_cmp, with_former, part_of, put_part, put_all, arranged, Above, Ascend, Takes}
 use Rattle.spanset_eval.specs.Stages.{occurring, put}
 
 pub three : (o : Ordering) → (o ≡ Less) ⊎ ((o ≡ Equal) ⊎ (o ≡ Greater))
@@ -366,3 +369,66 @@ pub groups_are : IsTotalOrder sound_cmp → (f : ℕ → Value) (by : List Value
 groups_are o f by ys a =
     let all = occurring_same (map f ys) a in
     ap (map (grouped by)) (arranged_whole o f ys ∙ ap (map (whole_part f ys)) all.0) ∙ groups_same f by ys (occurring (map f ys)) all.1 a
+
+all_sound : (f : ℕ → Value) (ys : List ℕ) → All (λ (v : Valued). IsSound v.value) (map (λ y. record { value = f y; position = y }) ys) → AllSound (map f ys)
+all_sound f [] h = tt
+all_sound f (y ∷ ys) h = (h zero (record { value = f y; position = y }) (omega arith), all_sound f ys (λ k d l. h (suc k) d (omega arith)))
+
+singles_are : (f : ℕ → Value) (ys : List ℕ) → map part_of (map (λ y. record { value = f y; position = y }) ys) ≡ map (single f) ys
+singles_are f [] = refl
+singles_are f (y ∷ ys) = ap (λ ps. single f y ∷ ps) (singles_are f ys)
+
+-- What the arranged parts of the valued members are as groups.
+pub split_is : IsTotalOrder sound_cmp → (f : ℕ → Value) (by : List Value) (ys : List ℕ) (vs : List Valued) (ps : List Part) →
+    vs ≡ map (λ y. record { value = f y; position = y }) ys → All (λ (v : Valued). IsSound v.value) vs → ps ≡ arranged (map part_of vs) →
+    map (grouped by) ps ≡ map (group_at f by ys) (occurring (map f ys))
+split_is o f by ys vs ps is fair parts =
+    ap (map (grouped by)) (parts ∙ ap (λ xs. arranged (map part_of xs)) is ∙ ap arranged (singles_are f ys))
+    ∙ groups_are o f by ys (all_sound f ys (subst (All (λ (v : Valued). IsSound v.value)) is fair))
+
+-- ---- a step of a merge of two lists that are turned round
+
+Ascend-tail : (p : Part) (ps : List Part) → Ascend (p ∷ ps) → Ascend ps
+Ascend-tail p ps h = h.1
+
+pub takes_former : (a b : Part) (ps qs : List Part) → Ascend (a ∷ ps) → Ascend (b ∷ qs) → sound_cmp a.value b.value ≡ Less → IsTotalOrder sound_cmp →
+    Takes (a ∷ ps) (b ∷ qs) (Some a) ps (b ∷ qs)
+takes_former a b ps qs up vp e o = record { left_up = up.1; right_up = vp; all = takes_left o a b ps qs up vp e }
+
+pub takes_latter : (a b : Part) (ps qs : List Part) → Ascend (a ∷ ps) → Ascend (b ∷ qs) → sound_cmp a.value b.value ≡ Greater → IsTotalOrder sound_cmp →
+    Takes (a ∷ ps) (b ∷ qs) (Some b) (a ∷ ps) qs
+takes_latter a b ps qs up vp e o = record { left_up = up; right_up = vp.1; all = takes_right o a b ps qs up e }
+
+pub takes_joined : (a b : Part) (ps qs : List Part) → Ascend (a ∷ ps) → Ascend (b ∷ qs) → sound_cmp a.value b.value ≡ Equal → IsTotalOrder sound_cmp →
+    Takes (a ∷ ps) (b ∷ qs) (Some (with_former a b)) ps qs
+takes_joined a b ps qs up vp e o = record { left_up = up.1; right_up = vp.1; all = takes_both o a b ps qs up e }
+
+-- where one list is empty
+pub takes_rest : (ls rs ls' rs' : List Part) (r : Option Part) → ls ≡ [] → ls' ≡ [] → rs ≡ option_to_list r ++ rs' → Ascend rs → Takes ls rs r ls' rs'
+takes_rest ls rs ls' rs' r el el' er up = record {
+  left_up = subst Ascend (sym el') tt;
+  right_up = behind r (subst Ascend er up);
+  all = ap (λ xs. put_all xs rs) el ∙ er ∙ ap (λ xs. option_to_list r ++ put_all xs rs') (sym el');
+}
+  where
+    behind : (o : Option Part) → Ascend (option_to_list o ++ rs') → Ascend rs'
+    behind None h = h
+    behind (Some p) h = h.1
+
+pub takes_first : (ls rs ls' rs' : List Part) (r : Option Part) → rs ≡ [] → rs' ≡ [] → ls ≡ option_to_list r ++ ls' → Ascend ls → Takes ls rs r ls' rs'
+takes_first ls rs ls' rs' r er er' el up = record {
+  left_up = behind;
+  right_up = subst Ascend (sym er') tt;
+  all = ap (put_all ls) er ∙ put_all_nil ls up ∙ el ∙ ap (λ xs. option_to_list r ++ xs) (sym (put_all_nil ls' behind)) ∙ ap (λ xs. option_to_list r ++ put_all ls' xs) (sym er');
+}
+  where
+    after : (o : Option Part) → Ascend (option_to_list o ++ ls') → Ascend ls'
+    after None h = h
+    after (Some p) h = h.1
+    behind : Ascend ls'
+    behind = after r (subst Ascend el up)
+
+-- A list turned round begins with what was its end.
+pub turned : (xs ys : List Part) (r : Option Part) → xs ≡ ys ++ option_to_list r → reverse xs ≡ option_to_list r ++ reverse ys
+turned xs ys None e = ap reverse (e ∙ append-nil ys)
+turned xs ys (Some p) e = ap reverse e ∙ reverse-append ys (p ∷ [])

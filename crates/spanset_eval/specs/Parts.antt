@@ -1,12 +1,13 @@
 -- Positions split by values: the parts of a list, each of one value, in ascending order.
-use Rattle.std.specs.Prelude.{ℕ, suc, ◌-◌, List, [], ◌∷◌, ◌++◌, ◌≡◌, ◌<◌, Option, if◌then◌else◌}
+use Rattle.std.specs.Prelude.{ℕ, suc, ◌-◌, List, [], ◌∷◌, ◌++◌, ◌≡◌, ◌<◌, pos, Option, if◌then◌else◌}
 use Rattle.std.specs.Option.{option_to_list}
 use Rattle.std.specs.Ordering.{is_eq, is_lt}
 use Rattle.std.specs.declared.cmp.Ordering.{Ordering}
 use Rattle.std.specs.declared.cmp.Ordering.TheVariants.{Less}
 use Rattle.traceql_value.specs.declared.value.Value.{Value}
 use Rattle.traceql_value.specs.declared.value.Value.TheVariants as value
-use Rattle.traceql_value.specs.Values.{value_cmp}
+use Rattle.traceql_value.specs.Fractions.{Fraction, whole_fraction}
+use Rattle.traceql_value.specs.Values.{kind_number, status_number, truth_number, value_cmp}
 use Rattle.spanset_eval.specs.declared.parts.Part.{Part}
 use Rattle.spanset_eval.specs.declared.parts.Valued.{Valued}
 
@@ -23,6 +24,21 @@ sound v = v
 -- the order of values, a total one also where a denominator were 0
 unfoldable pub sound_cmp : Value → Value → Ordering
 sound_cmp a b = value_cmp (sound a) (sound b)
+
+-- a value as the number of a truth, a status or a role, as a text and as a fraction; 0, an empty text and 0 where it is none
+abbrev pub code_of : Value → ℕ
+code_of (value.Truth b) = truth_number b
+code_of (value.Status s) = status_number s
+code_of (value.Kind k) = kind_number k
+code_of _ = 0
+
+abbrev pub text_of : Value → List ℕ
+text_of (value.Text t) = t
+text_of _ = []
+
+abbrev pub fraction_of : Value → Fraction
+fraction_of (value.Number r) = r
+fraction_of _ = whole_fraction (pos 0)
 
 -- the part of one position
 abbrev pub part_of : Valued → Part

@@ -7,13 +7,13 @@ mod groups;
 mod look;
 mod marks;
 mod parts;
-mod pending;
 mod ranking;
 mod relate;
 mod results;
 mod select;
 mod stages;
+mod values;
 
-pub use outcome::evaluate;
+pub use outcome::{evaluate, evaluate_rows};
 pub use ranking::rank;
 pub use results::{Hit, Hits, Results, SetResult, Sets, TraceResult};

@@ -14,13 +14,13 @@ ghost use Rattle.spanset_eval.specs.Sets.{Selects};
 ghost use Rattle.spanset_eval.specs.Stages.{fields_of_stage, remaining, selected_fields};
 
 use crate::groups::{Group, Members};
-use crate::{Hit, Hits, SetResult, Sets, TraceResult, marks, pending, select, stages};
+use crate::{Hit, Hits, SetResult, Sets, TraceResult, marks, select, stages};
 use span_tree::{Steps, Tree};
 use span_types::{Memory, Row, Rows, Span};
 use std::alloc::Global;
 use std::marker::Brand;
 use std::sync::ledger::{Blank, Ledger};
-use traceql_syntax::{Field, Query, SpansetExpr, Stage};
+use traceql_syntax::{Field, SpansetExpr, Stage};
 use traceql_types::Checked;
 use traceql_value::{Scene, Value, Values};
 
@@ -132,21 +132,21 @@ fn shown(alloc: Global, scene: &Scene<'_>, rows: &[Row], stages: &[Stage], group
         trace: first.span.trace,
         root_name: scene.root_name()?,
         root_service: scene.root_service()?,
-        start: pending::start(scene)?,
-        duration: pending::nanos(scene)?,
+        start: scene.start(),
+        duration: scene.nanos(),
         sets: sets(alloc, scene, rows, stages, groups)?,
     }))
 }
 
 // The positions of the spans that the expression selects.
-fn selected(alloc: Global, scene: &mut Scene<'_>, trace: &Rows, expr: &SpansetExpr) -> Result<Members, Memory>
-    requires rows { trace.now ≡ scene_rows scene.old }
-    requires one { IsOneTrace trace.now }
-    ensures positions { IfOk result (IsListOf (Selects (scene_patterns scene.old) trace.now (set_tree expr.now))) }
+fn selected(alloc: Global, scene: &mut Scene<'_>, rows: &[Row], expr: &SpansetExpr) -> Result<Members, Memory>
+    requires rows { rows.now ≡ scene_rows scene.old }
+    requires one { IsOneTrace rows.now }
+    ensures positions { IfOk result (IsListOf (Selects (scene_patterns scene.old) rows.now (set_tree expr.now))) }
     ensures scene { IsSame scene.old scene.new }
 {
-    let tree = Tree::of(alloc, trace)?;
-    counted::<Brand>(alloc, scene, trace.as_slice(), &tree, expr, Blank::new(1))
+    let tree = Tree::of_slice(alloc, rows)?;
+    counted::<Brand>(alloc, scene, rows, &tree, expr, Blank::new(1))
 }
 
 // The same with a count of steps, which no one reads.
@@ -180,11 +180,21 @@ pub fn evaluate(
     requires { IsOneTrace trace.now }
     ensures { IfOk result (IsOutcome checked.now.patterns trace.now (query_tree checked.now.query)) }
 {
-    let rows = trace.as_slice();
-    let query = &checked.query;
-    let stages = query.stages.as_slice();
+    evaluate_rows(alloc, checked, trace.as_slice())
+}
+
+/// The same of a slice of rows.
+pub fn evaluate_rows(
+    alloc: Global,
+    checked: &Checked,
+    rows: &[Row],
+) -> Result<Option<TraceResult>, Memory>
+    requires { IsOneTrace rows.now }
+    ensures { IfOk result (IsOutcome checked.now.patterns rows.now (query_tree checked.now.query)) }
+{
     let mut scene = Scene::of(alloc, checked, rows)?;
-    let members = selected(alloc, &mut scene, trace, &query.spansets)?;
+    let stages = checked.query.stages.as_slice();
+    let members = selected(alloc, &mut scene, rows, &checked.query.spansets)?;
     let groups = stages::left(stages::single(alloc, members)?);
     let groups = stages::after_stages(alloc, &mut scene, rows, stages, groups)?;
     shown(alloc, &scene, rows, stages, groups)

@@ -4,7 +4,7 @@ ghost use Rattle.std.specs.Prelude.{◌≡◌, ◌∷◌, [], ◌+◌, ◌<◌, 
 ghost use Rattle.spanset_eval.specs.Parts.{arranged, put_all, part_of, sound_cmp, with_former, Ascend, IsSound, Takes};
 
 use crate::groups::Members;
-use crate::pending;
+use crate::values::order;
 use span_types::Memory;
 use std::alloc::Global;
 use std::cmp::Ordering;
@@ -93,15 +93,6 @@ fn above_zero(number: Ratio)
     number.denominator();
 }
 
-// Which of two values comes first.
-fn order(a: &Value, b: &Value) -> Result<Ordering, Memory>
-    ensures { IfOk result (λ o. o ≡ sound_cmp a.now b.now) }
-{
-    sound(a);
-    sound(b);
-    pending::order(a, b)
-}
-
 // Takes the part that comes first off two lists, the last of each of which comes first in it.
 fn take_next(left: &mut Vec<Part>, right: &mut Vec<Part>) -> Result<Option<Part>, Memory>
     requires left_up { Ascend (reverse left.old.items) }
@@ -113,7 +104,7 @@ fn take_next(left: &mut Vec<Part>, right: &mut Vec<Part>) -> Result<Option<Part>
     match (left.pop(), right.pop()) {
         (None, latter) => Ok(latter),
         (former, None) => Ok(former),
-        (Some(former), Some(latter)) => match order(&former.value, &latter.value)? {
+        (Some(former), Some(latter)) => match order(&former.value, &latter.value) {
             Ordering::Less => {
                 right.push(latter)?;
                 Ok(Some(former))
