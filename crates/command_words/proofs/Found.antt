@@ -1,22 +1,30 @@
 -- What the matches of a parse tell of the words.
 use Rattle.std.proofs.Common.{◌≡◌, ◌⊎◌, ◌∙◌, ℕ, List, [], Option, Some, None, refl, sym, subst, ap, inl, inr}
 use Rattle.std.specs.Borrow.{Bor}
-use Rattle.std.specs.Prelude.{Box, codes, option_map}
+use Rattle.std.specs.Prelude.{Box, codes, is_some, option_and_then, option_map, true}
 use Rattle.std.specs.Box.{box_value}
 use Rattle.clap.specs.Words.{Row, Text, fault_of, first_of, first_value, found_of, rows_of, subcommand_name_of, subcommand_of, subcommand_rows, subcommand_rows_of}
 use Rattle.clap.specs.declared.parser.matches.ArgMatches.{ArgMatches}
 use Rattle.clap.specs.declared.parser.matches.ArgMatches.TheViews.{out-ArgMatches, out-SubCommand}
+use Rattle.clap.specs.declared.parser.matches.Found.{Found}
 use Rattle.clap.specs.declared.parser.matches.SubCommand.{SubCommand}
 use Rattle.clap.proofs.WalkLemmas.{first_value-rows}
-use Rattle.command_words.specs.Spelling.{IsSession}
+use Rattle.command_words.specs.Spelling.{IsSession, found_value}
 use Rattle.command_words.specs.Table.{words_app}
-use Rattle.command_words.proofs.Whole.{IsBareTrace, Read, read_from, session, trace}
+use Rattle.command_words.proofs.Whole.{IsBareTrace, Read, read_from, search, session, trace}
+
+-- The matches are those of a search that the words name.
+pub record FindsSearch (words : List Text) (found : Found) : Type 0 where
+  pub has_query : is_some (first_value found (codes "query")) ≡ true
+  pub values : (name : Text) → found_value words name ≡ first_value found name
+  pub name : option_map (λ p. p.0) (subcommand_of words_app words) ≡ Some (codes "search")
 
 -- What the subcommand that a parse gives, with its matches, tells of the words.
 abbrev pub Tells : List Text → Option (Bor Text × Bor ArgMatches) → Type 0
 Tells words None = ⊥
 Tells words (Some p) = ((p.0.now ≡ codes "session") × IsSession words)
-    ⊎ ((p.0.now ≡ codes "trace") × ((id : List ℕ) × (first_value (found_of p.1.now) (codes "id") ≡ Some id) × IsBareTrace id words))
+    ⊎ (((p.0.now ≡ codes "trace") × ((id : List ℕ) × (first_value (found_of p.1.now) (codes "id") ≡ Some id) × IsBareTrace id words))
+    ⊎ ((p.0.now ≡ codes "search") × FindsSearch words (found_of p.1.now)))
 
 name-rows : {Z : Type 0} (o : Option (Box SubCommand Z)) → option_map (λ b. (out-SubCommand (box_value b)).name.now) o ≡ option_map (λ p. p.0) (subcommand_rows o)
 name-rows None = refl
@@ -24,37 +32,58 @@ name-rows (Some b) = refl
 
 tells_from : (words : List Text) (r : Option (Bor Text × Bor ArgMatches)) (o : Option (Text × List Row))
     → option_map (λ p. p.0.now) r ≡ option_map (λ p. p.0) o → option_map (λ p. rows_of (found_of p.1.now)) r ≡ option_map (λ p. p.1) o
-    → Read words o → Tells words r
-tells_from words None None name rows (session is asked) = cc
-tells_from words None None name rows (trace id is gives asked) = cc
-tells_from words None (Some q) name rows read = cc
-tells_from words (Some p) None name rows read = cc
-tells_from words (Some p) (Some q) name rows (session is asked) = inl (cc, asked)
-tells_from words (Some p) (Some q) name rows (trace id is gives asked) =
+    → o ≡ subcommand_of words_app words → Read words o → Tells words r
+tells_from words None None name rows link (session is asked) = cc
+tells_from words None None name rows link (trace id is gives asked) = cc
+tells_from words None None name rows link (search is query) = cc
+tells_from words None (Some q) name rows link read = cc
+tells_from words (Some p) None name rows link read = cc
+tells_from words (Some p) (Some q) name rows link (session is asked) = inl (cc, asked)
+tells_from words (Some p) (Some q) name rows link (trace id is gives asked) =
     let same : rows_of (found_of p.1.now) ≡ q.1 = cc in
-    inr (cc, (id, first_value-rows (found_of p.1.now) (codes "id") ∙ ap (first_of (codes "id")) same ∙ gives, asked))
+    inr (inl (cc, (id, first_value-rows (found_of p.1.now) (codes "id") ∙ ap (first_of (codes "id")) same ∙ gives, asked)))
+tells_from words (Some p) (Some q) name rows link (search is query) =
+    let same : rows_of (found_of p.1.now) ≡ q.1 = cc in
+    let value = λ (n : Text). first_value-rows (found_of p.1.now) n ∙ ap (first_of n) same in
+    inr (inr (
+      cc,
+      record {
+        has_query = ap is_some (value (codes "query")) ∙ query;
+        values = λ n. ap (λ (o : Option (Text × List Row)). option_and_then (λ p. first_of n p.1) o) (sym link) ∙ sym (value n);
+        name = ap (option_map (λ p. p.0)) (sym link) ∙ is;
+      },
+    ))
 
 tells : (words : List Text) (m : ArgMatches) (r : Option (Bor Text × Bor ArgMatches)) → option_map (λ p. p.0.now) r ≡ subcommand_name_of m
-    → option_map (λ p. rows_of (found_of p.1.now)) r ≡ option_map (λ p. p.1) (subcommand_rows_of m) → Read words (subcommand_rows_of m) → Tells words r
-tells words m r name rows read = tells_from words r (subcommand_rows_of m) (name ∙ name-rows (out-ArgMatches m).subcommand) rows read
+    → option_map (λ p. rows_of (found_of p.1.now)) r ≡ option_map (λ p. p.1) (subcommand_rows_of m) → subcommand_rows_of m ≡ subcommand_of words_app words → Read words (subcommand_rows_of m) → Tells words r
+tells words m r name rows link read = tells_from words r (subcommand_rows_of m) (name ∙ name-rows (out-ArgMatches m).subcommand) rows link read
 
 -- What the subcommand that was met tells of words without fault.
 pub told : (words : List Text) (m : ArgMatches) (r : Option (Bor Text × Bor ArgMatches)) → fault_of words_app words ≡ []
     → subcommand_rows_of m ≡ subcommand_of words_app words → option_map (λ p. p.0.now) r ≡ subcommand_name_of m
     → option_map (λ p. rows_of (found_of p.1.now)) r ≡ option_map (λ p. p.1) (subcommand_rows_of m) → Tells words r
-told words m r clean found name rows = tells words m r name rows (subst (λ (o : Option (Text × List Row)). Read words o) (sym found) (read_from words clean))
+told words m r clean found name rows = tells words m r name rows found (subst (λ (o : Option (Text × List Row)). Read words o) (sym found) (read_from words clean))
 
 -- ---- by the subcommand's name
 
 pub tells_session : (words : List Text) (p : Bor Text × Bor ArgMatches) → Tells words (Some p) → p.0.now ≡ codes "session" → IsSession words
 tells_session words p (inl told) is = told.1
-tells_session words p (inr told) is = let told_is = told.0 in let bad : ⊥ = cc in absurd bad
+tells_session words p (inr (inl told)) is = let told_is = told.0 in let bad : ⊥ = cc in absurd bad
+tells_session words p (inr (inr told)) is = let told_is = told.0 in let bad : ⊥ = cc in absurd bad
 
 pub tells_trace : (words : List Text) (p : Bor Text × Bor ArgMatches) → Tells words (Some p) → p.0.now ≡ codes "trace"
     → (id : List ℕ) × (first_value (found_of p.1.now) (codes "id") ≡ Some id) × IsBareTrace id words
 tells_trace words p (inl told) is = let told_is = told.0 in let bad : ⊥ = cc in absurd bad
-tells_trace words p (inr told) is = told.1
+tells_trace words p (inr (inl told)) is = told.1
+tells_trace words p (inr (inr told)) is = let told_is = told.0 in let bad : ⊥ = cc in absurd bad
 
-pub tells_one : (words : List Text) (p : Bor Text × Bor ArgMatches) → Tells words (Some p) → (p.0.now ≡ codes "session" → ⊥) → (p.0.now ≡ codes "trace" → ⊥) → ⊥
-tells_one words p (inl told) not_session not_trace = not_session told.0
-tells_one words p (inr told) not_session not_trace = not_trace told.0
+pub tells_search : (words : List Text) (p : Bor Text × Bor ArgMatches) → Tells words (Some p) → p.0.now ≡ codes "search" → FindsSearch words (found_of p.1.now)
+tells_search words p (inl told) is = let told_is = told.0 in let bad : ⊥ = cc in absurd bad
+tells_search words p (inr (inl told)) is = let told_is = told.0 in let bad : ⊥ = cc in absurd bad
+tells_search words p (inr (inr told)) is = told.1
+
+pub tells_one : (words : List Text) (p : Bor Text × Bor ArgMatches) → Tells words (Some p) → (p.0.now ≡ codes "session" → ⊥) → (p.0.now ≡ codes "trace" → ⊥)
+    → (p.0.now ≡ codes "search" → ⊥) → ⊥
+tells_one words p (inl told) session_not trace_not search_not = session_not told.0
+tells_one words p (inr (inl told)) session_not trace_not search_not = trace_not told.0
+tells_one words p (inr (inr told)) session_not trace_not search_not = search_not told.0

@@ -1,17 +1,19 @@
 -- What the words after a subcommand's name are, where `clap` finds no fault.
 use Rattle.std.proofs.Common.{◌≡◌, ◌⊎◌, ◌∙◌, ℕ, Bool, true, false, List, [], ◌∷◌, Some, None, refl, sym, subst, ap, ap₂, inl, inr}
-use Rattle.std.specs.Prelude.{◌==◌, codes, slice_get}
+use Rattle.std.specs.Prelude.{◌==◌, codes, is_some, slice_get}
 use Rattle.std.specs.Char.{encode_utf8}
 use Rattle.std.specs.Str.{IsUtf8, bytes_eq, chars}
 use Rattle.std.proofs.lemmas.Bool.{eqb-true}
 use Rattle.std.proofs.lemmas.Str.{IsUtf8-past_char, encodes-chars}
 use Rattle.clap.specs.Lexer.{long_of, name_and_value, short_of}
 use Rattle.clap.specs.Kinds.{Kinds, or_else}
-use Rattle.clap.specs.Faults.{defaults_fault, level_fault, turn_fault, walk_fault}
+use Rattle.clap.specs.Takes.{is_given}
+use Rattle.clap.specs.Faults.{check_fault, defaults_fault, level_fault, settle_fault, turn_fault, walk_fault}
 use Rattle.clap.specs.Simple.{Shape, built_leaf, inherited}
-use Rattle.clap.specs.Walk.{Held, Text, Walk, first_of, nothing_held, rows_after, walk_from, walked}
+use Rattle.clap.specs.Walk.{Held, Row, Text, Walk, finished, first_of, nothing_held, settled, walk, rows_after, walk_from, walked}
 use Rattle.command_words.specs.Spelling.{is_flag}
-use Rattle.command_words.specs.Table.{bare_app, session_shape, trace_shape}
+use Rattle.command_words.specs.Table.{bare_app, search_shape, session_shape, trace_shape}
+use Rattle.command_words.proofs.Full.{TakeOne, ends_full, given_is_found}
 use Rattle.command_words.proofs.Turns.{HasNoFlags, IsBare, dashes, dashes_text, flag, holding, leaf_end_fault, leaf_ends, none_first, placed, standing, stray_is_fault, trailing_none, turned, walk_next}
 
 -- A subcommand as it is built under the command.
@@ -126,6 +128,46 @@ trace_rest (w ∷ rest) h =
         subst (λ (xs : List Text). level_fault trace_leaf [] nothing_held (w ∷ xs) false [] ≡ []) none h in
         let missing : leaf_end_fault trace_leaf (standing nothing_held 1 true) ≡ [] = leaf_ends trace_leaf (w ∷ []) _ after alone in
         cc
+
+-- ---- searches
+
+abbrev pub search_leaf : Shape
+search_leaf = leaf search_shape
+
+search_takes_one : TakeOne search_leaf.rules
+search_takes_one = (
+  record { takes = refl; sets = refl; bare = refl; wants = λ again rows h. let bad : ⊥ = cc in bad },
+  (
+    record { takes = refl; sets = refl; bare = refl; wants = λ again rows h. let bad : ⊥ = cc in bad },
+    (
+      record { takes = refl; sets = refl; bare = refl; wants = λ again rows h. let bad : ⊥ = cc in bad },
+      (
+        record { takes = refl; sets = refl; bare = refl; wants = λ again rows h. let bad : ⊥ = cc in bad },
+        (record { takes = refl; sets = refl; bare = refl; wants = λ again rows h. let bad : ⊥ = cc in bad }, tt),
+      ),
+    ),
+  ),
+)
+
+query_wanted : (rows : List Row) → check_fault search_leaf rows false ≡ [] → is_given (codes "query") rows ≡ true
+query_wanted rows h = go (is_given (codes "query") rows) refl
+  where
+    go : (b : Bool) → is_given (codes "query") rows ≡ b → b ≡ true
+    go true is = refl
+    go false is = let bad = rw is at h in cc
+
+-- Where nothing is at fault, the words give a query.
+pub search_rest : (rest : List Text) → level_fault search_leaf [] nothing_held rest false [] ≡ []
+    → is_some (first_of (codes "query") (rows_after search_leaf.rules [] rest)) ≡ true
+search_rest rest h =
+    let end = walk search_leaf.rules [] nothing_held rest in
+    let clean : leaf_end_fault search_leaf end ≡ [] = leaf_ends search_leaf rest end refl h in
+    let settle = none_first (settle_fault search_leaf.rules search_leaf.args_override_self end.held)
+    (or_else (defaults_fault (settled search_leaf.rules end.held).rows search_leaf.rules) (check_fault search_leaf (finished search_leaf.rules end.held) false)) clean in
+    let checked = none_first (defaults_fault (settled search_leaf.rules end.held).rows search_leaf.rules)
+    (check_fault search_leaf (finished search_leaf.rules end.held) false) settle.1 in
+    let full = ends_full search_leaf rest search_takes_one (λ c. refl) (none_first _ _ h).0 settle.0 in
+    given_is_found (codes "query") (finished search_leaf.rules end.held) full (query_wanted (finished search_leaf.rules end.held) checked.1)
 
 -- ---- words that ask something
 

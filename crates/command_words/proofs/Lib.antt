@@ -2,4 +2,5 @@ pub mod Found
 pub mod Leaves
 pub mod Spelled
 pub mod Turns
+pub mod Full
 pub mod Whole

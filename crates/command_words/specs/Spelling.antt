@@ -1,7 +1,11 @@
 -- The words that ask each thing.
-use Rattle.std.specs.Prelude.{◌≡◌, ◌⊎◌, ◌==◌, ℕ, Bool, false, List, [], ◌∷◌, codes, string_bytes}
+use Rattle.std.specs.Prelude.{◌≡◌, ◌⊎◌, ◌==◌, ℕ, Bool, false, List, [], ◌∷◌, ◌++◌, Option, Some, None, option_map, option_and_then, codes, String, string_bytes}
+use Rattle.clap.specs.Words.{first_of, first_value, subcommand_of}
+use Rattle.clap.specs.declared.parser.matches.Found.{Found}
+use Rattle.std.specs.declared.alloc.Global.{Global}
+use Rattle.command_words.specs.Table.{words_app}
 use Rattle.command_words.specs.declared.asked.Asked.{Asked}
-use Rattle.command_words.specs.declared.asked.Asked.TheVariants.{Session, Trace}
+use Rattle.command_words.specs.declared.asked.Asked.TheVariants.{Session, Trace, Search}
 
 -- The text is a flag: a hyphen with something behind it.
 abbrev pub is_flag : List ℕ → Bool
@@ -18,12 +22,78 @@ IsTrace id words = ((words ≡ codes "trace" ∷ id ∷ []) × (is_flag id ≡ f
     ⊎ ((words ≡ codes "trace" ∷ codes "--" ∷ id ∷ [])
     ⊎ ((words ≡ codes "trace" ∷ id ∷ codes "--" ∷ []) × (is_flag id ≡ false)))
 
+-- ---- searches
+
+-- what a search may be given
+pub record Given : Type 0 where
+  pub limit : Option (List ℕ)
+  pub spss : Option (List ℕ)
+  pub start : Option (List ℕ)
+  pub end : Option (List ℕ)
+  pub query : List ℕ
+
+-- an option in a request line, where it is given
+abbrev pub option_text : List ℕ → Option (List ℕ) → List ℕ
+option_text name None = []
+option_text name (Some value) = name ++ (value ++ codes " ")
+
+-- The request line of a search: the options that are given, in this order, and the query.
+abbrev pub search_line : Given → List ℕ
+search_line given =
+    codes "search "
+    ++ option_text (codes "limit=") given.limit
+    ++ option_text (codes "spss=") given.spss
+    ++ option_text (codes "start=") given.start
+    ++ option_text (codes "end=") given.end
+    ++ given.query
+
+-- the value that `clap` by its own definition finds for an argument of the subcommand that the words name
+abbrev pub found_value : List (List ℕ) → List ℕ → Option (List ℕ)
+found_value words name = option_and_then (λ p. first_of name p.1) (subcommand_of words_app words)
+
+-- By `clap`'s definition the words name `search` and give it this. Options may stand in any order and in any form that
+-- `clap` takes, as `--limit=5` or behind the query.
+pub record IsSearch (given : Given) (words : List (List ℕ)) : Type 0 where
+  pub name : option_map (λ p. p.0) (subcommand_of words_app words) ≡ Some (codes "search")
+  pub limit : found_value words (codes "limit") ≡ given.limit
+  pub spss : found_value words (codes "spss") ≡ given.spss
+  pub start : found_value words (codes "start") ≡ given.start
+  pub end : found_value words (codes "end") ≡ given.end
+  pub query : found_value words (codes "query") ≡ Some given.query
+
+-- what the matches of the subcommand give
+abbrev pub given_in : Found → List ℕ → Given
+given_in found query = record {
+  limit = first_value found (codes "limit");
+  spss = first_value found (codes "spss");
+  start = first_value found (codes "start");
+  end = first_value found (codes "end");
+  query = query;
+}
+
+abbrev pub given_of : (limit spss start end : Option (String Global)) → (query : String Global) → Given
+given_of limit spss start end query = record {
+  limit = option_map string_bytes limit;
+  spss = option_map string_bytes spss;
+  start = option_map string_bytes start;
+  end = option_map string_bytes end;
+  query = string_bytes query;
+}
+
+-- ---- what is asked
+
 -- The words ask this.
 abbrev pub Asks : List (List ℕ) → Asked → Type 0
 Asks words Session = IsSession words
 Asks words (Trace id) = IsTrace (string_bytes id) words
+Asks words (Search limit spss start end query) = IsSearch (given_of limit spss start end query) words
 
 -- The trace of this id is asked for.
 abbrev pub GivesTrace : List ℕ → Asked → Type 0
-GivesTrace id Session = ⊥
 GivesTrace id (Trace given) = string_bytes given ≡ id
+GivesTrace id _ = ⊥
+
+-- This search is asked for.
+abbrev pub GivesSearch : Given → Asked → Type 0
+GivesSearch given (Search limit spss start end query) = given_of limit spss start end query ≡ given
+GivesSearch given _ = ⊥

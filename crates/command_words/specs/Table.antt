@@ -1,5 +1,5 @@
 -- The command line, as `clap` sees it.
-use Rattle.std.specs.Prelude.{codes, true, Some}
+use Rattle.std.specs.Prelude.{ℕ, List, codes, true, Some}
 use Rattle.clap.specs.Words.{App, Rule, Shape, new_app, new_rule, with_rule, with_subcommand}
 use Rattle.clap.specs.declared.builder.action.ArgAction.TheVariants.{Set}
 
@@ -15,6 +15,20 @@ id_rule = record (new_rule (codes "id")) { required = true; action = Some Set }
 abbrev pub trace_shape : Shape
 trace_shape = (with_rule (new_app (codes "trace")) id_rule).top
 
+-- An option `--name` with one value.
+abbrev pub option_rule : List ℕ → Rule
+option_rule name = record (new_rule name) { long = Some name; action = Some Set }
+
+-- The query of a search: it is wanted, and is one word.
+abbrev pub query_rule : Rule
+query_rule = record (new_rule (codes "query")) { required = true; action = Some Set }
+
+-- `search` with its options.
+abbrev pub search_shape : Shape
+search_shape =
+    (with_rule (with_rule (with_rule (with_rule (with_rule (new_app (codes "search"))
+    (option_rule (codes "limit"))) (option_rule (codes "spss"))) (option_rule (codes "start"))) (option_rule (codes "end"))) query_rule).top
+
 -- The command without its subcommands: the words begin with the first, a subcommand is wanted, and there is no help.
 abbrev pub bare_app : App
 bare_app = record (new_app (codes "vurnda")) {
@@ -28,4 +42,4 @@ bare_app = record (new_app (codes "vurnda")) {
 
 -- The whole command.
 unfoldable pub words_app : App
-words_app = with_subcommand (with_subcommand bare_app session_shape) trace_shape
+words_app = with_subcommand (with_subcommand (with_subcommand bare_app session_shape) trace_shape) search_shape

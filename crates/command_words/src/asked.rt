@@ -12,6 +12,20 @@ pub enum Asked {
         /// The text of the id as it was given, whatever it is.
         id: String,
     },
+    /// Answer the one request `search` with these options and this query. Each is a text as it was given, whatever it
+    /// says.
+    Search {
+        /// How many traces are wanted at most.
+        limit: Option<String>,
+        /// How many spans of a spanset are wanted at most.
+        spss: Option<String>,
+        /// Only traces that start at this time or later are wanted.
+        start: Option<String>,
+        /// Only traces that start before this time are wanted.
+        end: Option<String>,
+        /// The query.
+        query: String,
+    },
 }
 
 /// Why words are not read.

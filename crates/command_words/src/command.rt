@@ -1,9 +1,9 @@
 //! The command and its subcommands.
 
 ghost use Rattle.std.specs.Prelude.{◌≡◌, IfOk, false};
-ghost use Rattle.clap.specs.Words.{app_of, shape_of};
+ghost use Rattle.clap.specs.Words.{app_of, rule_of, shape_of};
 ghost use Rattle.clap.specs.declared.builder.command.Command.TheViews.{out-Command as fields_of};
-ghost use Rattle.command_words.specs.Table.{bare_app, session_shape, trace_shape, words_app};
+ghost use Rattle.command_words.specs.Table.{bare_app, option_rule, query_rule, search_shape, session_shape, trace_shape, words_app};
 
 use clap::{Arg, ArgAction, Command};
 use std::alloc::{AllocError, Global};
@@ -14,7 +14,8 @@ pub(crate) fn whole_command<'a>(alloc: Global) -> Result<Command<'a>, AllocError
 {
     bare_command(alloc)
         .subcommand(session_command(alloc))?
-        .subcommand(trace_command(alloc)?)
+        .subcommand(trace_command(alloc)?)?
+        .subcommand(search_command(alloc)?)
 }
 
 // The command without subcommands. It wants one, has no help and no version, and reads its words from the first on.
@@ -43,4 +44,35 @@ fn trace_command<'a>(alloc: Global) -> Result<Command<'a>, AllocError>
 {
     let id = Arg::new(alloc, "id").required(true).action(ArgAction::Set);
     Command::new(alloc, "trace").arg(id)
+}
+
+// `search` takes four options and a query.
+fn search_command<'a>(alloc: Global) -> Result<Command<'a>, AllocError>
+    ensures shape { IfOk result (λ c. shape_of c ≡ search_shape) }
+    ensures local { IfOk result (λ c. (fields_of c).has_globals ≡ false) }
+{
+    Command::new(alloc, "search")
+        .arg(option(alloc, "limit"))?
+        .arg(option(alloc, "spss"))?
+        .arg(option(alloc, "start"))?
+        .arg(option(alloc, "end"))?
+        .arg(query(alloc))
+}
+
+// An option with one value.
+fn option<'a>(alloc: Global, name: &'a str) -> Arg<'a>
+    ensures rule { rule_of result ≡ option_rule name.entry.now }
+    ensures local { result.global ≡ false }
+{
+    Arg::new(alloc, name).long(name).action(ArgAction::Set)
+}
+
+// The query, which is wanted.
+fn query<'a>(alloc: Global) -> Arg<'a>
+    ensures rule { rule_of result ≡ query_rule }
+    ensures local { result.global ≡ false }
+{
+    Arg::new(alloc, "query")
+        .required(true)
+        .action(ArgAction::Set)
 }

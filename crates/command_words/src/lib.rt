@@ -4,9 +4,11 @@
 
 mod asked;
 mod command;
+mod line;
 mod read;
 
 pub use asked::{Asked, WordsError};
+pub use line::search_line;
 pub use read::read_words;
 
 #[cfg(test)]

@@ -4,7 +4,8 @@ ghost use Rattle.std.specs.Prelude.{◌≡◌, ◌≢◌, ℕ, List, [], Some, t
 ghost use Rattle.std.specs.Prelude.{IfOk, IfErr, MatchResult};
 ghost use Rattle.clap.specs.Words.{fault_of, first_value, found_of, kind_of, subcommand_of, subcommand_rows_of};
 ghost use Rattle.clap.specs.declared.error.kind.ErrorKind.TheVariants.{OutOfMemory};
-ghost use Rattle.command_words.specs.Spelling.{Asks, GivesTrace, IsSession, IsTrace};
+ghost use Rattle.std.specs.Prelude.{option_map};
+ghost use Rattle.command_words.specs.Spelling.{Asks, Given, GivesSearch, GivesTrace, IsSearch, IsSession, IsTrace, given_in};
 ghost use Rattle.command_words.specs.Table.{words_app};
 
 use crate::asked::{Asked, WordsError};
@@ -25,6 +26,8 @@ pub fn read_words(alloc: Global, words: &[String]) -> Result<Asked, WordsError>
         → MatchResult result (λ asked. asked ≡ Asked.Session) (λ error. error ≡ WordsError.Memory) }
     ensures trace { (id : List ℕ) → IsTrace id (map string_bytes words.now)
         → MatchResult result (GivesTrace id) (λ error. error ≡ WordsError.Memory) }
+    ensures search { (given : Given) → IsSearch given (map string_bytes words.now) → fault_of words_app (map string_bytes words.now) ≡ []
+        → MatchResult result (GivesSearch given) (λ error. error ≡ WordsError.Memory) }
     ensures only { IfOk result (Asks (map string_bytes words.now)) }
 {
     let matches = matches_of(alloc, words)?;
@@ -34,6 +37,7 @@ pub fn read_words(alloc: Global, words: &[String]) -> Result<Asked, WordsError>
     match name {
         "session" => Ok(Asked::Session),
         "trace" => asked_trace(alloc, id_of(given)),
+        "search" => asked_search(alloc, given),
         _ => unreachable!(),
     }
 }
@@ -72,6 +76,44 @@ fn asked_trace(alloc: Global, id: &str) -> Result<Asked, WordsError>
     match String::from_str(alloc, id) {
         Ok(id) => Ok(Asked::Trace { id }),
         Err(_) => Err(WordsError::Memory),
+    }
+}
+
+// The search that is asked for.
+fn asked_search(alloc: Global, given: &ArgMatches<'_>) -> Result<Asked, WordsError>
+    requires { is_some (first_value (found_of given.now) (codes "query")) ≡ true }
+    ensures ok { IfOk result (λ asked. (query : List ℕ) → first_value (found_of given.now) (codes "query") ≡ Some query
+        → GivesSearch (given_in (found_of given.now) query) asked) }
+    ensures err { IfErr result (λ error. error ≡ WordsError.Memory) }
+{
+    let Some(query) = given.get_str("query") else {
+        unreachable!();
+    };
+    Ok(Asked::Search {
+        limit: copied(alloc, given.get_str("limit"))?,
+        spss: copied(alloc, given.get_str("spss"))?,
+        start: copied(alloc, given.get_str("start"))?,
+        end: copied(alloc, given.get_str("end"))?,
+        query: copy_of(alloc, query)?,
+    })
+}
+
+// A copy of a text.
+fn copy_of(alloc: Global, text: &str) -> Result<String, WordsError>
+    ensures ok { IfOk result (λ s. string_bytes s ≡ text.now) }
+    ensures err { IfErr result (λ error. error ≡ WordsError.Memory) }
+{
+    String::from_str(alloc, text).map_err(|_| WordsError::Memory)
+}
+
+// A copy of a text that may be there.
+fn copied(alloc: Global, text: Option<&str>) -> Result<Option<String>, WordsError>
+    ensures ok { IfOk result (λ o. option_map string_bytes o ≡ option_map (λ s. s.now) text.entry) }
+    ensures err { IfErr result (λ error. error ≡ WordsError.Memory) }
+{
+    match text {
+        None => Ok(None),
+        Some(text) => Ok(Some(copy_of(alloc, text)?)),
     }
 }
 

@@ -61,7 +61,8 @@ fn one_trace(alloc: Global, by: Values) -> Result<TraceResult, AllocError> {
     })
 }
 
-const WRITTEN: &str = r#"{"traces":[{"durationNanos":"2","rootName":"root","rootService":null,"spanSets":[{"by":[null,{"boolValue":true},{"intValue":"-7"},{"ratioValue":"-1/2"},{"stringValue":"a\"b"},{"statusValue":"unset"},{"statusValue":"ok"},{"statusValue":"error"},{"kindValue":"unspecified"},{"kindValue":"internal"},{"kindValue":"server"},{"kindValue":"client"},{"kindValue":"producer"},{"kindValue":"consumer"}],"matched":3,"spans":[{"attributes":[{"key":".x","value":{"boolValue":false}},{"key":"duration","value":{"intValue":"0"}}],"durationNanos":"0","name":"get","spanId":"00000000000000b1","startTimeUnixNano":"18446744073709551615"}]}],"startTimeUnixNano":"1","traceId":"000000000000000000000000000000a1"}]}"#;
+const WRITTEN: &str =
+    r#"{"traces":[{"durationNanos":"2","rootName":"root","rootService":null,"spanSets":[{"by":[null,{"boolValue":true},{"intValue":"-7"},{"ratioValue":"-1/2"},{"stringValue":"a\"b"},{"statusValue":"unset"},{"statusValue":"ok"},{"statusValue":"error"},{"kindValue":"unspecified"},{"kindValue":"internal"},{"kindValue":"server"},{"kindValue":"client"},{"kindValue":"producer"},{"kindValue":"consumer"}],"matched":3,"spans":[{"attributes":[{"key":".x","value":{"boolValue":false}},{"key":"duration","value":{"intValue":"0"}}],"durationNanos":"0","name":"get","spanId":"00000000000000b1","startTimeUnixNano":"18446744073709551615"}]}],"startTimeUnixNano":"1","traceId":"000000000000000000000000000000a1"}]}"#;
 
 #[test]
 fn results_are_written(rt: HostRuntime) -> Result<(), Fail> {

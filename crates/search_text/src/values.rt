@@ -154,11 +154,7 @@ fn put_hit_first(
 }
 
 /// Puts a span's id and start into its object.
-fn put_hit_second(
-    alloc: Global,
-    object: &mut Map<String, Json>,
-    hit: &Hit,
-) -> Result<(), Memory>
+fn put_hit_second(alloc: Global, object: &mut Map<String, Json>, hit: &Hit) -> Result<(), Memory>
     ensures { OnOk result (members_view object.new.entries
         ≡ put (codes "startTimeUnixNano") (string (decimal hit.now.start))
         (put (codes "spanId") (string (encode_lower hit.now.id.0))

@@ -1,14 +1,32 @@
--- The test of UTF-8 by what `from_utf8` answers.
-use Rattle.std.proofs.Common.{◌≡◌, ℕ, Bool, true, false, List, Result, Ok, Err, MatchResult, refl, sym}
-use Rattle.std.specs.Result.{is_ok}
-use Rattle.std.specs.Str.{is_utf8, IsUtf8}
+-- Lines that are UTF-8, and lines that aren't.
+use Rattle.std.proofs.Common.{◌≡◌, ◌≤◌, ◌∙◌, ℕ, Bool, true, false, List, Err, codes, length, refl, sym, ap}
+use Rattle.std.specs.Prelude.{nat_le}
+use Rattle.std.specs.Str.{bytes_eq, is_utf8, IsUtf8}
+use Rattle.std.proofs.lemmas.Bool.{le-leb}
 use Rattle.std.proofs.lemmas.Str.{IsUtf8-from_is_utf8, is_utf8-from_IsUtf8}
+use Rattle.io_edges.specs.Lines.{line_limit}
+use Rattle.session_text.specs.declared.refusal.Refusal.TheVariants.{BadRequest}
+use Rattle.session_text.specs.Lines.{first_part, other_parts}
+use Rattle.session_text.specs.Requests.{Line, line_of, other_line, plain}
 
-not_text : (bytes : List ℕ) (b : Bool) → is_utf8 bytes ≡ b → (IsUtf8 bytes → ⊥) → false ≡ b
-not_text bytes true is h = absurd (h (IsUtf8-from_is_utf8 bytes is))
-not_text bytes false is h = refl
+no_text : (bytes : List ℕ) → (IsUtf8 bytes → ⊥) → is_utf8 bytes ≡ false
+no_text bytes h = go (is_utf8 bytes) refl
+  where
+    go : (b : Bool) → is_utf8 bytes ≡ b → b ≡ false
+    go true is = absurd (h (IsUtf8-from_is_utf8 bytes is))
+    go false is = refl
 
-pub tested : {A E : Type 0} (P : A → Type 0) (Q : E → Type 0) (bytes : List ℕ) (r : Result A E)
-    → MatchResult r (λ a. P a × IsUtf8 bytes) (λ e. (IsUtf8 bytes → ⊥) × Q e) → is_ok r ≡ is_utf8 bytes
-tested P Q bytes (Ok a) h = sym (is_utf8-from_IsUtf8 bytes h.1)
-tested P Q bytes (Err e) h = not_text bytes (is_utf8 bytes) refl h.0
+-- what a line is that isn't too long and no push, where it is the text
+pub of_text : (line text : List ℕ) → length line ≤ line_limit → bytes_eq (first_part line) (codes "push") ≡ false → (text ≡ line) × IsUtf8 line
+    → line_of line ≡ other_line (first_part text) text (other_parts text)
+unfolding line_of
+of_text line text short other is =
+    let fits : nat_le (length line) line_limit ≡ true = le-leb (length line) line_limit short in
+    rw (fits, other, is_utf8-from_IsUtf8 line is.1) (ap (λ (l : List ℕ). other_line (first_part l) l (other_parts l)) (sym is.0))
+
+-- the same where it is no text
+pub of_bytes : (line : List ℕ) → length line ≤ line_limit → bytes_eq (first_part line) (codes "push") ≡ false → (IsUtf8 line → ⊥) → line_of line ≡ plain (Err (BadRequest 0))
+unfolding line_of
+of_bytes line short other not =
+    let fits : nat_le (length line) line_limit ≡ true = le-leb (length line) line_limit short in
+    rw (fits, other, no_text line not) refl

@@ -71,11 +71,7 @@ fn split(line: &[u8]) -> (&[u8], Option<&[u8]>)
 }
 
 /// What a line of UTF-8 asks that is no push and not too long.
-fn asked_by<P: PatternMaker>(
-    alloc: Global,
-    line: &str,
-    maker: &mut P,
-) -> Result<Request, Refusal>
+fn asked_by<P: PatternMaker>(alloc: Global, line: &str, maker: &mut P) -> Result<Request, Refusal>
     ensures asked { Answers (other_line (first_part line.now) line.now (other_parts line.now)) (Rose (P.refusals maker.old) (P.refusals maker.new)) result }
     ensures few { IfOk result (λ request. HasFewSpans request) }
     ensures counted { P.refusals maker.old ≤ P.refusals maker.new }

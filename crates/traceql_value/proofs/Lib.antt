@@ -5,3 +5,4 @@ pub mod Answered
 pub mod Searched
 pub mod Earliest
 pub mod Searching
+pub mod Orders

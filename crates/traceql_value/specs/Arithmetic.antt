@@ -1,5 +1,5 @@
 -- Arithmetic of exact fractions: what comes out, where it is within the bounds.
-use Rattle.std.specs.Prelude.{◌≡◌, ℕ, zero, suc, ◌+◌, ◌-◌, ◌*◌, ◌%◌, ◌^◌, ◌==◌, ℤ, pos, ◌+ℤ◌, ◌-ℤ◌, ◌*ℤ◌, neg_ℤ, unsigned_abs, int_div, int_rem, int_le, Bool, ◌&&◌, not, Option, Some, None, if◌then◌else◌}
+use Rattle.std.specs.Prelude.{ℕ, zero, suc, max, ◌+◌, ◌-◌, ◌*◌, ◌%◌, ◌^◌, ◌==◌, ℤ, pos, ◌+ℤ◌, ◌-ℤ◌, ◌*ℤ◌, neg_ℤ, unsigned_abs, int_div, int_rem, int_le, Bool, ◌&&◌, not, Option, Some, None, if◌then◌else◌}
 use Rattle.std.specs.Option.{option_and_then}
 use Rattle.std.specs.Ordering.{int_cmp}
 use Rattle.std.specs.declared.cmp.Ordering.{Ordering}
@@ -54,6 +54,7 @@ power_within a b =
 abbrev pub negative_of : Fraction → Option Fraction
 negative_of a = if fits (neg_ℤ a.numerator) then Some (record { numerator = neg_ℤ a.numerator; denominator = a.denominator }) else None
 
--- which of two fractions is less
+-- Which of two fractions is less. No ratio has the denominator 0; it would count as 1, so that this is an order of all
+-- fractions.
 abbrev pub fraction_cmp : Fraction → Fraction → Ordering
-fraction_cmp a b = int_cmp (a.numerator *ℤ pos b.denominator) (b.numerator *ℤ pos a.denominator)
+fraction_cmp a b = int_cmp (a.numerator *ℤ pos (max 1 b.denominator)) (b.numerator *ℤ pos (max 1 a.denominator))

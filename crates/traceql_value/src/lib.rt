@@ -9,6 +9,7 @@ mod fields;
 mod laws;
 mod look;
 mod operators;
+mod order;
 mod power;
 mod ratio;
 mod scene;
@@ -18,10 +19,12 @@ mod trace;
 mod value;
 mod whole;
 
-pub use laws::one_ratio;
+pub use laws::{one_ratio, values_in_order};
 pub use ratio::Ratio;
 pub use scene::{Scene, field_value};
 pub use value::{Value, Values};
 
+#[cfg(test)]
+mod scene_tests;
 #[cfg(test)]
 mod tests;

@@ -1,12 +1,11 @@
 //! What operators make of values.
 
 ghost use Rattle.std.specs.Prelude.{◌≡◌};
-ghost use Rattle.std.specs.Cmp.Lexicographic.{slice_cmp};
-ghost use Rattle.std.specs.Ordering.{nat_cmp};
 ghost use Rattle.traceql_value.specs.Meaning.{tests_nil, applied};
 ghost use Rattle.traceql_value.specs.Seen.{seen_value};
 ghost use Rattle.traceql_value.specs.Values.{number_or_nil, is_true, is_nil, accepts, accepts_equal, compares, arithmetic, calculated, combined, turned};
 
+use crate::order::text_order;
 use crate::seen::Seen;
 use crate::{Ratio, Value};
 use std::cmp::Ordering;
@@ -67,13 +66,6 @@ fn accepts_equal(op: Comparison, same: bool) -> bool
     }
 }
 
-// The order of two texts by their bytes.
-fn order(left: &str, right: &str) -> Ordering
-    ensures { result ≡ slice_cmp nat_cmp left.now right.now }
-{
-    left.cmp(right)
-}
-
 // Whether a comparison of two values is true.
 fn compares(op: Comparison, left: &Seen<'_>, right: &Seen<'_>) -> bool
     ensures { result ≡ compares op (seen_value left.now) (seen_value right.now) }
@@ -81,10 +73,10 @@ fn compares(op: Comparison, left: &Seen<'_>, right: &Seen<'_>) -> bool
     match (left, right) {
         (Seen::Truth(a), Seen::Truth(b)) => accepts_equal(op, *a == *b),
         (Seen::Number(a), Seen::Number(b)) => accepts(op, a.compare(*b)),
-        (Seen::Text(a), Seen::Text(b)) => accepts(op, order(a, b)),
-        (Seen::Text(a), Seen::Made(b)) => accepts(op, order(a, b.as_str())),
-        (Seen::Made(a), Seen::Text(b)) => accepts(op, order(a.as_str(), b)),
-        (Seen::Made(a), Seen::Made(b)) => accepts(op, order(a.as_str(), b.as_str())),
+        (Seen::Text(a), Seen::Text(b)) => accepts(op, text_order(a, b)),
+        (Seen::Text(a), Seen::Made(b)) => accepts(op, text_order(a, b.as_str())),
+        (Seen::Made(a), Seen::Text(b)) => accepts(op, text_order(a.as_str(), b)),
+        (Seen::Made(a), Seen::Made(b)) => accepts(op, text_order(a.as_str(), b.as_str())),
         (Seen::Status(a), Seen::Status(b)) => accepts_equal(op, *a == *b),
         (Seen::Kind(a), Seen::Kind(b)) => accepts_equal(op, *a == *b),
         _ => false,

@@ -7,6 +7,13 @@ ghost use Rattle.traceql_value.specs.Spans.{or_root, root_of, earliest, latest};
 use span_types::Row;
 use std::cmp::Ordering;
 
+// When a row's span starts.
+fn start_of(row: &Row) -> u64
+    ensures { result ≡ row.now.span.start }
+{
+    row.span.start
+}
+
 // Two rows in trace order: by their start, then by their span's id.
 fn trace_order(left: &Row, right: &Row) -> Ordering
     ensures { result ≡ trace_order left.now right.now }
@@ -61,7 +68,7 @@ pub(crate) fn earliest(known: u64, rows: &[Row]) -> u64
 {
     let mut earliest = known;
     for row in rows {
-        earliest = earliest.min(row.span.start);
+        earliest = earliest.min(start_of(row));
     }
     earliest
 }

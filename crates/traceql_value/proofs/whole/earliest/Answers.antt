@@ -12,6 +12,6 @@ loop-row-preserved c =
     let known = c.loop-row.earliest in
     let row = c.row-item.result in
     let rest = drop (i + 1) rows in
-    ap (λ n. earliest n rest) c.min-earliest.ensures ∙ earliest_later known row.span.start rest
+    ap (λ n. earliest n rest) (c.min-earliest.ensures ∙ ap (λ s. min known s) c.start_of.ensures) ∙ earliest_later known row.span.start rest
     ∙ ap (λ (r : Row). min r.span.start (earliest known rest)) c.row-item.is
     ∙ sym (at_drop_more (earliest known) rows i row c.loop-row-test.true) ∙ c.loop-row.invariant
