@@ -1,4 +1,8 @@
+pub mod Marked
 pub mod Outcomes
+pub mod Parts
 pub mod Ranking
+pub mod Relating
+pub mod Seen
 pub mod Sets
 pub mod Stages

@@ -14,7 +14,8 @@ use Rattle.spanset_eval.specs.declared.results.Hit.{Hit}
 use Rattle.spanset_eval.specs.declared.results.SetResult.{SetResult}
 use Rattle.spanset_eval.specs.declared.results.TraceResult.{TraceResult}
 use Rattle.spanset_eval.specs.Sets.{Selects}
-use Rattle.spanset_eval.specs.Stages.{Group, remaining, selected_fields}
+use Rattle.spanset_eval.specs.declared.groups.Group.{Group}
+use Rattle.spanset_eval.specs.Stages.{remaining, selected_fields}
 
 -- a span as it is shown, with these fields
 abbrev pub hit_of : List Field → List Row → Span → Hit

@@ -15,12 +15,9 @@ use Rattle.traceql_value.specs.declared.value.Value.{Value}
 use Rattle.traceql_value.specs.declared.value.Value.TheVariants as value
 use Rattle.traceql_value.specs.Meaning.{value_of}
 use Rattle.traceql_value.specs.Values.{accepts, value_cmp}
+use Rattle.spanset_eval.specs.declared.amounts.Amount.{Amount}
+use Rattle.spanset_eval.specs.declared.groups.Group.{Group}
 use Rattle.spanset_eval.specs.Sets.{keeps}
-
--- a spanset, and the values by which it was split off
-pub record Group : Type 0 where
-  pub by : List Value
-  pub members : List ℕ
 
 -- the value of an expression for the span at a position; nil where there is none
 abbrev pub value_at : List Pattern → List Row → Tree → ℕ → Value
@@ -66,11 +63,6 @@ unfoldable pub joined : List Row → List Group → List Group
 joined rows groups = record { by = []; members = filter (is_in_some groups) (positions_from 0 (length rows)) } ∷ []
 
 -- ---- aggregates
-
--- An exact number, as a quotient: the bottom is at least 1.
-pub record Amount : Type 0 where
-  pub top : ℤ
-  pub bottom : ℕ
 
 -- A number of an aggregate's argument, which has no division: it is whole.
 abbrev pub whole_number : Value → Option ℤ

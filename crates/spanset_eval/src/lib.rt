@@ -1,6 +1,19 @@
 //! What a query makes of a trace: which spans it selects, what its stages leave of them, and which traces come first.
 #![tactic(auto)]
 
+mod amounts;
+mod outcome;
+mod groups;
+mod look;
+mod marks;
+mod parts;
+mod ranking;
+mod relate;
 mod results;
+mod select;
+mod stages;
+mod values;
 
+pub use outcome::{evaluate, evaluate_rows};
+pub use ranking::rank;
 pub use results::{Hit, Hits, Results, SetResult, Sets, TraceResult};

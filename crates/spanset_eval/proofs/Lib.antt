@@ -1,0 +1,5 @@
+mod AmountLaws
+mod MarkLaws
+mod OrderLaws
+mod PartLaws
+mod SelectLaws

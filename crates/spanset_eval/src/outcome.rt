@@ -1,0 +1,201 @@
+//! What a query answers of a trace.
+
+ghost use Rattle.std.specs.Prelude.{◌≡◌, ◌<◌, ◌++◌, IfOk, OnOk, length, map};
+ghost use Rattle.std.specs.List.{filter_map};
+ghost use Rattle.std.specs.Option.{option_to_list};
+ghost use Rattle.span_tree.specs.Nodes.{IsOneTrace, nodes_of};
+ghost use Rattle.span_types.specs.declared.spans.Row.{Row};
+ghost use Rattle.traceql_syntax.specs.Trees.{query_tree, set_tree, stage_tree};
+ghost use Rattle.traceql_value.specs.Scenes.{scene_patterns, scene_rows};
+ghost use Rattle.traceql_value.specs.Spans.{field_of_span, span_nanos};
+ghost use Rattle.spanset_eval.specs.Outcomes.{hit_at, hit_of, set_result, shown, IsListOf, IsOutcome};
+ghost use Rattle.spanset_eval.specs.Seen.{IsSame};
+ghost use Rattle.spanset_eval.specs.Sets.{Selects};
+ghost use Rattle.spanset_eval.specs.Stages.{fields_of_stage, remaining, selected_fields};
+
+use crate::groups::{Group, Members};
+use crate::{Hit, Hits, SetResult, Sets, TraceResult, marks, select, stages};
+use span_tree::{Steps, Tree};
+use span_types::{Memory, Row, Rows, Span};
+use std::alloc::Global;
+use std::marker::Brand;
+use std::sync::ledger::{Blank, Ledger};
+use traceql_syntax::{Field, SpansetExpr, Stage};
+use traceql_types::Checked;
+use traceql_value::{Scene, Value, Values};
+
+// Adds what the fields are for a span.
+fn add_fields(scene: &Scene<'_>, fields: &[Field], span: &Span, values: &mut Vec<Value>) -> Result<(), Memory>
+    ensures { OnOk result (values.new.items ≡ values.old.items ++ map (λ f. field_of_span f (scene_rows scene.now) span.now) fields.now) }
+{
+    for field in fields {
+        values.push(scene.field(field, span)?)?;
+    }
+    Ok(())
+}
+
+// Adds what the fields of a stage are for a span.
+fn add_stage_fields(scene: &Scene<'_>, stage: &Stage, span: &Span, values: &mut Vec<Value>) -> Result<(), Memory>
+    ensures { OnOk result (values.new.items ≡ values.old.items ++ map (λ f. field_of_span f (scene_rows scene.now) span.now) (fields_of_stage (stage_tree stage.now))) }
+{
+    match stage {
+        Stage::Select(fields) => add_fields(scene, fields.as_slice(), span, values),
+        _ => Ok(()),
+    }
+}
+
+// What the selected fields are for a span.
+fn fields_of(alloc: Global, scene: &Scene<'_>, stages: &[Stage], span: &Span) -> Result<Values, Memory>
+    ensures { IfOk result (λ values. values ≡ map (λ f. field_of_span f (scene_rows scene.now) span.now) (selected_fields (map stage_tree stages.now))) }
+{
+    let mut values = Vec::new(alloc);
+    for stage in stages {
+        add_stage_fields(scene, stage, span, &mut values)?;
+    }
+    Ok(Values::of(values))
+}
+
+// A span as it is shown.
+fn hit(alloc: Global, scene: &Scene<'_>, stages: &[Stage], span: &Span) -> Result<Hit, Memory>
+    ensures { IfOk result (λ hit. hit ≡ hit_of (selected_fields (map stage_tree stages.now)) (scene_rows scene.now) span.now) }
+{
+    let fields = fields_of(alloc, scene, stages, span)?;
+    Ok(Hit {
+        id: span.id,
+        name: span.name.copy()?,
+        start: span.start,
+        duration: span.end.saturating_sub(span.start),
+        fields,
+    })
+}
+
+// Adds the span at a position as it is shown, if there is one.
+fn add_hit(alloc: Global, scene: &Scene<'_>, rows: &[Row], stages: &[Stage], position: usize, hits: &mut Vec<Hit>) -> Result<(), Memory>
+    requires { rows.now ≡ scene_rows scene.now }
+    ensures { OnOk result (hits.new.items ≡ hits.old.items ++ option_to_list (hit_at (selected_fields (map stage_tree stages.now)) (scene_rows scene.now) position)) }
+{
+    if let Some(row) = rows.get(position) {
+        hits.push(hit(alloc, scene, stages, &row.span)?)?;
+    }
+    Ok(())
+}
+
+// The members as they are shown.
+fn hits(alloc: Global, scene: &Scene<'_>, rows: &[Row], stages: &[Stage], members: &[usize]) -> Result<Hits, Memory>
+    requires { rows.now ≡ scene_rows scene.now }
+    ensures { IfOk result (λ hits. hits ≡ filter_map (hit_at (selected_fields (map stage_tree stages.now)) (scene_rows scene.now)) members.now) }
+{
+    let mut hits = Vec::with_capacity(alloc, members.len())?;
+    for position in members {
+        add_hit(alloc, scene, rows, stages, *position, &mut hits)?;
+    }
+    Ok(Hits::of(hits))
+}
+
+// A spanset as it is shown.
+fn set_result(alloc: Global, scene: &Scene<'_>, rows: &[Row], stages: &[Stage], group: Group) -> Result<SetResult, Memory>
+    requires { rows.now ≡ scene_rows scene.now }
+    ensures { IfOk result (λ set. set ≡ set_result (selected_fields (map stage_tree stages.now)) (scene_rows scene.now) group) }
+{
+    let spans = hits(alloc, scene, rows, stages, group.members.as_slice())?;
+    Ok(SetResult {
+        by: group.by,
+        matched: group.members.len() as u64,
+        spans,
+    })
+}
+
+// Spansets as they are shown.
+fn sets(alloc: Global, scene: &Scene<'_>, rows: &[Row], stages: &[Stage], groups: Vec<Group>) -> Result<Sets, Memory>
+    requires { rows.now ≡ scene_rows scene.now }
+    ensures { IfOk result (λ sets. sets ≡ map (set_result (selected_fields (map stage_tree stages.now)) (scene_rows scene.now)) groups.items) }
+{
+    let mut sets = Vec::with_capacity(alloc, groups.len())?;
+    for group in groups {
+        sets.push(set_result(alloc, scene, rows, stages, group)?)?;
+    }
+    Ok(Sets::of(sets))
+}
+
+// What is shown of a trace: nothing where no spanset is left.
+fn shown(alloc: Global, scene: &Scene<'_>, rows: &[Row], stages: &[Stage], groups: Vec<Group>) -> Result<Option<TraceResult>, Memory>
+    requires { rows.now ≡ scene_rows scene.now }
+    ensures { IfOk result (λ outcome. outcome ≡ shown (selected_fields (map stage_tree stages.now)) rows.now groups.items) }
+{
+    let [first, ..] = rows else {
+        return Ok(None);
+    };
+    if groups.is_empty() {
+        return Ok(None);
+    }
+    Ok(Some(TraceResult {
+        trace: first.span.trace,
+        root_name: scene.root_name()?,
+        root_service: scene.root_service()?,
+        start: scene.start(),
+        duration: scene.nanos(),
+        sets: sets(alloc, scene, rows, stages, groups)?,
+    }))
+}
+
+// The positions of the spans that the expression selects.
+fn selected(alloc: Global, scene: &mut Scene<'_>, rows: &[Row], expr: &SpansetExpr) -> Result<Members, Memory>
+    requires rows { rows.now ≡ scene_rows scene.old }
+    requires one { IsOneTrace rows.now }
+    ensures positions { IfOk result (IsListOf (Selects (scene_patterns scene.old) rows.now (set_tree expr.now))) }
+    ensures scene { IsSame scene.old scene.new }
+{
+    let tree = Tree::of_slice(alloc, rows)?;
+    counted::<Brand>(alloc, scene, rows, &tree, expr, Blank::new(1))
+}
+
+// The same with a count of steps, which no one reads.
+fn counted<L: Ledger>(
+    alloc: Global,
+    scene: &mut Scene<'_>,
+    rows: &[Row],
+    tree: &Tree,
+    expr: &SpansetExpr,
+    blank: Blank,
+) -> Result<Members, Memory>
+    requires rows { rows.now ≡ scene_rows scene.old }
+    requires tree { tree.now ≡ nodes_of rows.now }
+    requires name { blank.name ≡ L.name }
+    requires parts { blank.parts ≡ L.parts }
+    requires some { 0 < L.parts }
+    ensures positions { IfOk result (IsListOf (Selects (scene_patterns scene.old) rows.now (set_tree expr.now))) }
+    ensures scene { IsSame scene.old scene.new }
+{
+    let mut steps: Steps<L> = Steps::of(blank);
+    let marks = select::select(alloc, scene, rows, tree, expr, &mut steps)?;
+    marks::marked(alloc, &marks)
+}
+
+/// What a query answers of a trace, whose rows are all of one trace: nothing where no spanset is left.
+pub fn evaluate(
+    alloc: Global,
+    checked: &Checked,
+    trace: &Rows,
+) -> Result<Option<TraceResult>, Memory>
+    requires { IsOneTrace trace.now }
+    ensures { IfOk result (IsOutcome checked.now.patterns trace.now (query_tree checked.now.query)) }
+{
+    evaluate_rows(alloc, checked, trace.as_slice())
+}
+
+/// The same of a slice of rows.
+pub fn evaluate_rows(
+    alloc: Global,
+    checked: &Checked,
+    rows: &[Row],
+) -> Result<Option<TraceResult>, Memory>
+    requires { IsOneTrace rows.now }
+    ensures { IfOk result (IsOutcome checked.now.patterns rows.now (query_tree checked.now.query)) }
+{
+    let mut scene = Scene::of(alloc, checked, rows)?;
+    let stages = checked.query.stages.as_slice();
+    let members = selected(alloc, &mut scene, rows, &checked.query.spansets)?;
+    let groups = stages::left(stages::single(alloc, members)?);
+    let groups = stages::after_stages(alloc, &mut scene, rows, stages, groups)?;
+    shown(alloc, &scene, rows, stages, groups)
+}

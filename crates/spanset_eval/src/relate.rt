@@ -1,0 +1,107 @@
+//! Structural operators.
+
+ghost use Rattle.std.specs.Prelude.{◌≡◌, ℕ, [], IfOk, length};
+ghost use Rattle.span_tree.specs.Marking.{IsMarked, MarksExactly};
+ghost use Rattle.spanset_eval.specs.Marked.{MarksSet};
+ghost use Rattle.spanset_eval.specs.Relating.{opposite_of};
+ghost use Rattle.spanset_eval.specs.Sets.{Relates, Structural, Joined};
+
+use crate::marks;
+use span_tree::{Steps, Tree};
+use span_types::{Marks, Memory};
+use std::alloc::Global;
+use std::sync::ledger::Ledger;
+use traceql_syntax::{Relation, Side, SpansetOp};
+
+// Marks on the spans to which a marked one stands in the relation.
+fn related<L: Ledger>(
+    tree: &Tree,
+    relation: Relation,
+    marked: &Marks,
+    steps: &mut Steps<L>,
+) -> Result<Marks, Memory>
+    requires { length marked.now ≡ length tree.now }
+    ensures { IfOk result (MarksExactly (Relates relation tree.now) (length tree.now) marked.now) }
+{
+    match relation {
+        Relation::Child => tree.mark_children(marked, steps),
+        Relation::Descendant => tree.mark_descendants(marked, steps),
+        Relation::Parent => tree.mark_parents(marked, steps),
+        Relation::Ancestor => tree.mark_ancestors(marked, steps),
+        Relation::Sibling => tree.mark_siblings(marked, steps),
+    }
+}
+
+// The relation seen from the other side.
+fn opposite(relation: Relation) -> Relation
+    ensures { result ≡ opposite_of relation }
+{
+    match relation {
+        Relation::Child => Relation::Parent,
+        Relation::Descendant => Relation::Ancestor,
+        Relation::Parent => Relation::Child,
+        Relation::Ancestor => Relation::Descendant,
+        Relation::Sibling => Relation::Sibling,
+    }
+}
+
+// Marks on what a structural operator selects.
+fn structural<L: Ledger>(
+    alloc: Global,
+    tree: &Tree,
+    relation: Relation,
+    side: Side,
+    left: &Marks,
+    right: &Marks,
+    steps: &mut Steps<L>,
+) -> Result<Marks, Memory>
+    requires left_each { length left.now ≡ length tree.now }
+    requires right_each { length right.now ≡ length tree.now }
+    ensures { IfOk result (MarksSet (length tree.now) (Structural side (Relates relation tree.now) (IsMarked left.now) (IsMarked right.now))) }
+{
+    let reached = related(tree, relation, left, steps)?;
+    match side {
+        Side::Right => marks::both(alloc, right, &reached),
+        Side::Unrelated => marks::without(alloc, right, &reached),
+        Side::Both => {
+            let reaching = related(tree, opposite(relation), right, steps)?;
+            let on_right = marks::both(alloc, right, &reached)?;
+            let on_left = marks::both(alloc, left, &reaching)?;
+            marks::either(alloc, &on_right, &on_left)
+        }
+    }
+}
+
+// Marks on the spans of both sides where neither is empty.
+fn together(alloc: Global, left: &Marks, right: &Marks) -> Result<Marks, Memory>
+    requires { length left.now ≡ length right.now }
+    ensures { IfOk result (MarksSet (length left.now) (Joined SpansetOp.And [] (IsMarked left.now) (IsMarked right.now))) }
+{
+    if marks::any(left) && marks::any(right) {
+        marks::either(alloc, left, right)
+    } else {
+        marks::none(alloc, left.len())
+    }
+}
+
+/// Marks on what an operator between two spansets selects of the marked spans.
+pub fn joined<L: Ledger>(
+    alloc: Global,
+    tree: &Tree,
+    op: SpansetOp,
+    left: &Marks,
+    right: &Marks,
+    steps: &mut Steps<L>,
+) -> Result<Marks, Memory>
+    requires left_each { length left.now ≡ length tree.now }
+    requires right_each { length right.now ≡ length tree.now }
+    ensures { IfOk result (MarksSet (length tree.now) (Joined op tree.now (IsMarked left.now) (IsMarked right.now))) }
+{
+    match op {
+        SpansetOp::And => together(alloc, left, right),
+        SpansetOp::Or => marks::either(alloc, left, right),
+        SpansetOp::Related(relation, side) => {
+            structural(alloc, tree, relation, side, left, right, steps)
+        }
+    }
+}

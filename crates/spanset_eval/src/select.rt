@@ -1,0 +1,41 @@
+//! Which spans an expression over spansets selects.
+
+ghost use Rattle.std.specs.Prelude.{◌≡◌, IfOk, length};
+ghost use Rattle.span_tree.specs.Nodes.{nodes_of};
+ghost use Rattle.traceql_syntax.specs.Trees.{set_tree};
+ghost use Rattle.traceql_value.specs.Scenes.{scene_patterns, scene_rows};
+ghost use Rattle.spanset_eval.specs.Marked.{MarksSet};
+ghost use Rattle.spanset_eval.specs.Seen.{IsSame};
+ghost use Rattle.spanset_eval.specs.Sets.{Selects};
+
+use crate::{look, relate};
+use span_tree::{Steps, Tree};
+use span_types::{Marks, Memory, Row};
+use std::alloc::Global;
+use std::sync::ledger::Ledger;
+use traceql_syntax::SpansetExpr;
+use traceql_value::Scene;
+
+/// Marks on the spans that the expression selects.
+pub fn select<L: Ledger>(
+    alloc: Global,
+    scene: &mut Scene<'_>,
+    rows: &[Row],
+    tree: &Tree,
+    expr: &SpansetExpr,
+    steps: &mut Steps<L>,
+) -> Result<Marks, Memory>
+    requires rows { rows.now ≡ scene_rows scene.old }
+    requires tree { tree.now ≡ nodes_of rows.now }
+    ensures marks { IfOk result (MarksSet (length rows.now) (Selects (scene_patterns scene.old) rows.now (set_tree expr.now))) }
+    ensures scene { IsSame scene.old scene.new }
+{
+    match expr {
+        SpansetExpr::Filter { condition, .. } => look::kept(alloc, scene, rows, condition),
+        SpansetExpr::Join { op, left, right, .. } => {
+            let left = select(alloc, scene, rows, tree, left, steps)?;
+            let right = select(alloc, scene, rows, tree, right, steps)?;
+            relate::joined(alloc, tree, *op, &left, &right, steps)
+        }
+    }
+}
