@@ -1,7 +1,9 @@
 //! Lines and replies with their exact bytes, worked out by hand.
 
-use crate::{Refusal, Reply, Request, Search, read_request, write_reply};
+use crate::{QueryFault, Refusal, Reply, Request, Search, read_request, write_reply};
+use search_text::Texts;
 use span_types::{Calls, Memory, Rows, Text};
+use spanset_eval::Results;
 use std::alloc::Global;
 use std::process::Abort;
 use std::test::Fail;
@@ -222,6 +224,25 @@ fn replies_are_written(rt: HostRuntime) -> Result<(), Fail> {
     assert_eq!(rt;
         write_reply(alloc, &traced)?.as_str(),
         "ok trace as_of=3 spans=0 {\"resourceSpans\":[]}\n"
+    );
+    let searched = Reply::Searched {
+        as_of: 4,
+        fields: Texts::of(Vec::new(alloc)),
+        results: Results::of(Vec::new(alloc)),
+    };
+    assert_eq!(rt;
+        write_reply(alloc, &searched)?.as_str(),
+        "ok search as_of=4 traces=0 {\"traces\":[]}\n"
+    );
+    let long = Reply::Refused(Refusal::BadQuery(QueryFault::TooLong { length: 8193 }));
+    assert_eq!(rt;
+        write_reply(alloc, &long)?.as_str(),
+        "refused bad-query too-long length=8193\n"
+    );
+    let deep = Reply::Refused(Refusal::BadQuery(QueryFault::TooDeep { at: 66 }));
+    assert_eq!(rt;
+        write_reply(alloc, &deep)?.as_str(),
+        "refused bad-query too-deep at=66\n"
     );
     let memory = Reply::Refused(Refusal::Memory);
     assert_eq!(rt; write_reply(alloc, &memory)?.as_str(), "refused memory\n");
