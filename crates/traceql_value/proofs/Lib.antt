@@ -6,3 +6,4 @@ pub mod Searched
 pub mod Earliest
 pub mod Searching
 pub mod Orders
+pub mod Undivided

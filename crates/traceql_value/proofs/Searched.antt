@@ -1,6 +1,6 @@
 -- The least denominator, and the ratio that a quotient is.
-use Rattle.std.proofs.Common.{◌≡◌, inl, inr, rules, ℕ, zero, suc, ◌+◌, ◌-◌, ◌*◌, ◌/◌, ◌%◌, ◌^◌, ◌<◌, ◌≤◌, ◌==◌, ◌&&◌, ℤ, pos, negsuc, Bool, true, false, cond, Option, Some, None, IsSome, IfSome, IfNone, w64, FitsSigned, sym, subst, ap, arith, ◌∙◌, refl}
-use Rattle.std.specs.Prelude.{◌*ℤ◌, ◌+ℤ◌, neg_ℤ, unsigned_abs, int_div, int_rem, int_le}
+use Rattle.std.proofs.Common.{◌≡◌, inl, inr, rules, ℕ, zero, suc, ◌+◌, ◌-◌, ◌*◌, ◌/◌, ◌%◌, ◌^◌, ◌<◌, ◌≤◌, ◌==◌, ℤ, pos, negsuc, Bool, true, false, cond, Option, Some, None, IsSome, IfSome, IfNone, w64, FitsSigned, sym, subst, ap, arith, ◌∙◌, refl}
+use Rattle.std.specs.Prelude.{◌*ℤ◌, ◌+ℤ◌, neg_ℤ, unsigned_abs, int_div, int_rem}
 use Rattle.std.specs.Int.{◌∣◌}
 use Rattle.std.specs.Option.{option_and_then}
 use Rattle.std.proofs.lemmas.Bool.{eqb-true}

@@ -10,7 +10,7 @@ use Rattle.traceql_syntax.specs.declared.field.Comparison.{Comparison}
 use Rattle.traceql_syntax.specs.declared.field.Comparison.TheVariants as comparison
 use Rattle.traceql_syntax.specs.declared.field.Literal.{Literal}
 use Rattle.traceql_syntax.specs.declared.field.Literal.TheVariants as literal
-use Rattle.traceql_syntax.specs.Trees.{Tree, Literally, Asks, Unary, Binary, Match, Placed}
+use Rattle.traceql_syntax.specs.Trees.{Tree, Literally, Asks, Unary, Binary, Match}
 use Rattle.traceql_types.specs.declared.pattern.Pattern.{Pattern}
 use Rattle.traceql_types.specs.Patterns.{pattern_text, pattern_re}
 use Rattle.traceql_value.specs.declared.value.Value.{Value}

@@ -1,5 +1,5 @@
 -- What a field is for a span in its trace.
-use Rattle.std.specs.Prelude.{ℕ, ◌-◌, min, max, List, [], ◌∷◌, Option, Some, None, codes, find, Bool, if◌then◌else◌}
+use Rattle.std.specs.Prelude.{ℕ, ◌-◌, min, max, List, [], ◌∷◌, Option, Some, None, codes, find, if◌then◌else◌}
 use Rattle.std.specs.Option.{option_map, option_map_or}
 use Rattle.std.specs.Ordering.{is_lt}
 use Rattle.std.specs.Str.{bytes_eq}
@@ -18,7 +18,7 @@ use Rattle.traceql_tokens.specs.declared.fixed.Intrinsic.TheVariants as intrinsi
 use Rattle.traceql_syntax.specs.declared.field.Field.{Field}
 use Rattle.traceql_syntax.specs.declared.field.Field.TheVariants as field
 use Rattle.traceql_value.specs.declared.value.Value.{Value}
-use Rattle.traceql_value.specs.declared.value.Value.TheVariants.{Nil, Truth, Number, Text, Status, Kind}
+use Rattle.traceql_value.specs.declared.value.Value.TheVariants.{Nil, Text, Status, Kind}
 use Rattle.traceql_value.specs.Values.{attr_value, nanoseconds, unless_empty}
 
 -- ---- the whole trace

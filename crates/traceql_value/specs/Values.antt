@@ -1,9 +1,8 @@
 -- Values, and what operators make of them.
 use Rattle.std.specs.Prelude.{ℕ, ◌^◌, pos, List, [], ◌∷◌, Bool, true, false, not, ◌&&◌, ◌||◌, ◌==◌, nat_lt, Option, Some, None, if◌then◌else◌}
-use Rattle.std.specs.Ordering.{nat_cmp, is_lt, is_le, is_gt, is_ge, is_eq, is_ne, ordering_reverse}
+use Rattle.std.specs.Ordering.{nat_cmp, is_lt, is_le, is_gt, is_ge, is_eq, is_ne}
 use Rattle.std.specs.Cmp.Lexicographic.{slice_cmp}
 use Rattle.std.specs.declared.cmp.Ordering.{Ordering}
-use Rattle.std.specs.declared.cmp.Ordering.TheVariants.{Less, Equal, Greater}
 use Rattle.span_types.specs.declared.attrs.AttrValue.{AttrValue}
 use Rattle.span_types.specs.declared.attrs.AttrValue.TheVariants as attr
 use Rattle.span_types.specs.declared.spans.SpanKind.{SpanKind}
@@ -66,6 +65,11 @@ is_true _ = false
 abbrev pub is_nil : Value → Bool
 is_nil Nil = true
 is_nil _ = false
+
+-- the fact, where the value is a number
+abbrev pub IfNumber : Value → (Fraction → Type 0) → Type 0
+IfNumber (Number n) P = P n
+IfNumber _ P = Unit {0}
 
 -- what arithmetic gives: nil where an operand is no number
 abbrev pub arithmetic : (Fraction → Fraction → Option Fraction) → Value → Value → Value

@@ -1,10 +1,16 @@
 //! Laws about ratios and values.
 
-ghost use Rattle.std.specs.Prelude.{◌≡◌, pos, ◌*ℤ◌};
+ghost use Rattle.std.specs.Prelude.{◌≡◌, List, [], pos, ◌*ℤ◌};
 ghost use Rattle.std.specs.Cmp.{IsTotalOrder, IsStrictWeakOrder};
 ghost use Rattle.std.specs.Ordering.{is_lt};
-ghost use Rattle.traceql_value.specs.Fractions.{Fraction, IsRatio};
-ghost use Rattle.traceql_value.specs.Values.{value_cmp};
+ghost use Rattle.span_types.specs.declared.spans.Row.{Row};
+ghost use Rattle.span_types.specs.declared.spans.Span.{Span};
+ghost use Rattle.traceql_syntax.specs.Trees.{Tree};
+ghost use Rattle.traceql_types.specs.declared.pattern.Pattern.{Pattern};
+ghost use Rattle.traceql_types.specs.Refusals.{divisions};
+ghost use Rattle.traceql_value.specs.Fractions.{Fraction, IsRatio, IsWhole};
+ghost use Rattle.traceql_value.specs.Meaning.{value_of};
+ghost use Rattle.traceql_value.specs.Values.{IfNumber, value_cmp};
 
 /// Ratios that are equal as fractions are one, so `==` and an `Equal` of `compare` say the same.
 pub fn one_ratio()
@@ -15,4 +21,9 @@ pub fn one_ratio()
 pub fn values_in_order()
     ensures total { IsTotalOrder value_cmp }
     ensures strict { IsStrictWeakOrder (λ a b. is_lt (value_cmp a b)) }
+{}
+
+/// A number that is computed without a division is whole, as an aggregate's argument is.
+pub fn whole_without_division()
+    ensures { (ps : List Pattern) (rows : List Row) (s : Span) (e : Tree) → divisions e ≡ [] → IfNumber (value_of ps rows s e) IsWhole }
 {}

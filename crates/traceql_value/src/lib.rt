@@ -19,7 +19,7 @@ mod trace;
 mod value;
 mod whole;
 
-pub use laws::{one_ratio, values_in_order};
+pub use laws::{one_ratio, values_in_order, whole_without_division};
 pub use ratio::Ratio;
 pub use scene::{Scene, field_value};
 pub use value::{Value, Values};

@@ -1,6 +1,4 @@
-use Rattle.std.proofs.Common.{rules, arith}
-use Rattle.std.proofs.lemmas.Int.{ints}
-use Rattle.std.proofs.lemmas.Grind.{common_steps}
+use Rattle.std.proofs.Common.{rules}
 use Rattle.traceql_value.proofs.Searched.{ratio_of-exact, some_size}
 use Rattle.traceql_value.proofs.ratio.Ratio.quotient.Goals as goal
 

@@ -1,4 +1,4 @@
-use Rattle.std.proofs.Common.{List, length, map, drop, sym, subst, ap, ◌∙◌, rules, arith}
+use Rattle.std.proofs.Common.{List, length, map, drop, sym, subst, ap, ◌∙◌, rules}
 use Rattle.regex.specs.Strings.{matcher_pattern}
 use Rattle.regex.specs.declared.string.matcher.Matcher.{Matcher}
 use Rattle.traceql_value.specs.Searches.{SearchFor}
