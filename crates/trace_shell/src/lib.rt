@@ -11,4 +11,6 @@ pub use real::{StdinSource, StdoutSink};
 pub use top::{Ended, run, run_alone};
 
 #[cfg(test)]
+mod search_tests;
+#[cfg(test)]
 mod tests;

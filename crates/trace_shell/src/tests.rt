@@ -29,7 +29,7 @@ fn calls(alloc: Global, numbers: &[u64]) -> Result<Calls, Memory> {
 
 // Runs the words over an input, with a source and a sink that fail at the listed calls, and asserts what is written and
 // the status.
-fn check<R: Threads + Wait + Sync + Abort>(
+pub(crate) fn check<R: Threads + Wait + Sync + Abort>(
     rt: &R,
     alloc: Global,
     words: &[&str],
@@ -101,7 +101,7 @@ fn whole_runs_write_their_exact_bytes(rt: HostRuntime) -> Result<(), Memory> {
         &rt,
         alloc,
         &session,
-        "push {}\nsearch { }\npush {\"resourceSpans\":\npush {\"resourceSpans\":[{\"scopeSpans\":7}]}\n",
+        "push {}\npull\npush {\"resourceSpans\":\npush {\"resourceSpans\":[{\"scopeSpans\":7}]}\n",
         (&[], &[]),
         refusals,
         7,
