@@ -16,7 +16,7 @@ use Rattle.std.proofs.Math.Nat.{mul_assoc, mul_comm, mul-lt-mul_of_pos_right, mo
 use Rattle.std.proofs.lemmas.Nat.{div-add-mod'}
 use lib.IntN.{suc_ℤ, suc_ℤ-*ℤ, +ℤ-suc_ℤ, *ℤ-zero}
 use Rattle.spanset_eval.specs.Stages.{total_of}
-use Rattle.spanset_eval.proofs.OrderLaws.{product_assoc, times_less, scaled}
+use Rattle.spanset_eval.proofs.ProductLaws.{product_assoc, times_less, scaled}
 
 total_of-push : (xs : List ℤ) (x : ℤ) → total_of (xs ++ x ∷ []) ≡ total_of xs +ℤ x
 total_of-push [] x = omega (arith, ints)

@@ -1,5 +1,5 @@
 mod AmountLaws
 mod MarkLaws
-mod OrderLaws
 mod PartLaws
+mod ProductLaws
 mod SelectLaws

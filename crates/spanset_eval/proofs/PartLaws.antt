@@ -1,5 +1,5 @@
 -- Parts of a list by values: joining them in any order gives the same, and what they have in the end.
-use Rattle.std.proofs.Common.{◌≡◌, ℕ, zero, suc, ◌-◌, ◌<◌, arith, All, Option, Some, None, reverse, List, [], ◌∷◌, ◌++◌, map, Bool, true, false, cond, refl, sym, ap, ◌∙◌, subst, ◌⊎◌, inl, inr, append_assoc}
+use Rattle.std.proofs.Common.{◌≡◌, ℕ, Option, Some, None, reverse, List, [], ◌∷◌, ◌++◌, map, Bool, true, false, cond, refl, sym, ap, ◌∙◌, subst, ◌⊎◌, inl, inr, append_assoc}
 use Rattle.std.specs.Cmp.{IsTotalOrder}
 use Rattle.std.specs.List.{filter}
 use Rattle.std.specs.Option.{option_to_list}
@@ -9,12 +9,11 @@ use Rattle.std.specs.declared.cmp.Ordering.{Ordering}
 use Rattle.std.specs.declared.cmp.Ordering.TheVariants.{Less, Equal, Greater}
 use Rattle.std.proofs.lemmas.Cmp.{tied_itself}
 use Rattle.traceql_value.specs.declared.value.Value.{Value}
-use Rattle.traceql_value.specs.declared.value.Value.TheVariants as value
 use Rattle.traceql_value.specs.Values.{value_cmp}
 use Rattle.spanset_eval.specs.declared.groups.Group.{Group}
 use Rattle.spanset_eval.specs.declared.parts.Part.{Part}
 use Rattle.spanset_eval.specs.declared.parts.Valued.{Valued}
-use Rattle.spanset_eval.specs.Parts.{IsSound, sound, sound_cmp, with_former, part_of, put_part, put_all, arranged, Above, Ascend, Takes}
+use Rattle.spanset_eval.specs.Parts.{with_former, part_of, put_part, put_all, arranged, Above, Ascend, Takes}
 use Rattle.spanset_eval.specs.Stages.{occurring, put}
 
 pub three : (o : Ordering) → (o ≡ Less) ⊎ ((o ≡ Equal) ⊎ (o ≡ Greater))
@@ -27,34 +26,34 @@ three Greater = inr (inr refl)
 put_step : Part → Part → List Part → Ordering → List Part
 put_step p q qs o = cond (is_lt o) (p ∷ q ∷ qs) (cond (is_eq o) (with_former p q ∷ qs) (q ∷ put_part p qs))
 
-put_less : (p q : Part) (qs : List Part) → sound_cmp p.value q.value ≡ Less → put_part p (q ∷ qs) ≡ p ∷ q ∷ qs
+put_less : (p q : Part) (qs : List Part) → value_cmp p.value q.value ≡ Less → put_part p (q ∷ qs) ≡ p ∷ q ∷ qs
 unfolding put_step
 put_less p q qs e = ap (put_step p q qs) e
 
-put_equal : (p q : Part) (qs : List Part) → sound_cmp p.value q.value ≡ Equal → put_part p (q ∷ qs) ≡ with_former p q ∷ qs
+put_equal : (p q : Part) (qs : List Part) → value_cmp p.value q.value ≡ Equal → put_part p (q ∷ qs) ≡ with_former p q ∷ qs
 unfolding put_step
 put_equal p q qs e = ap (put_step p q qs) e
 
-put_greater : (p q : Part) (qs : List Part) → sound_cmp p.value q.value ≡ Greater → put_part p (q ∷ qs) ≡ q ∷ put_part p qs
+put_greater : (p q : Part) (qs : List Part) → value_cmp p.value q.value ≡ Greater → put_part p (q ∷ qs) ≡ q ∷ put_part p qs
 unfolding put_step
 put_greater p q qs e = ap (put_step p q qs) e
 
 -- ---- the order
 
-flip_less : IsTotalOrder sound_cmp → (v w : Value) → sound_cmp v w ≡ Less → sound_cmp w v ≡ Greater
+flip_less : IsTotalOrder value_cmp → (v w : Value) → value_cmp v w ≡ Less → value_cmp w v ≡ Greater
 flip_less o v w e = o.antisymm w v ∙ ap ordering_reverse e
 
-flip_greater : IsTotalOrder sound_cmp → (v w : Value) → sound_cmp v w ≡ Greater → sound_cmp w v ≡ Less
+flip_greater : IsTotalOrder value_cmp → (v w : Value) → value_cmp v w ≡ Greater → value_cmp w v ≡ Less
 flip_greater o v w e = o.antisymm w v ∙ ap ordering_reverse e
 
 -- ---- putting in any order
 
 -- Parts of one value may be joined before.
-put_same : IsTotalOrder sound_cmp → (p a : Part) → sound_cmp p.value a.value ≡ Equal → (rs : List Part) → put_part p (put_part a rs) ≡ put_part (with_former p a) rs
+put_same : IsTotalOrder value_cmp → (p a : Part) → value_cmp p.value a.value ≡ Equal → (rs : List Part) → put_part p (put_part a rs) ≡ put_part (with_former p a) rs
 put_same o p a e [] = put_equal p a [] e
 put_same o p a e (r ∷ rs) =
-    let like : sound_cmp p.value r.value ≡ sound_cmp a.value r.value = o.congr p.value a.value r.value e in
-    elim (three (sound_cmp a.value r.value)) as (λ _. put_part p (put_part a (r ∷ rs)) ≡ put_part (with_former p a) (r ∷ rs)) [
+    let like : value_cmp p.value r.value ≡ value_cmp a.value r.value = o.congr p.value a.value r.value e in
+    elim (three (value_cmp a.value r.value)) as (λ _. put_part p (put_part a (r ∷ rs)) ≡ put_part (with_former p a) (r ∷ rs)) [
       | inl l ↦ ap (put_part p) (put_less a r rs l) ∙ put_equal p a (r ∷ rs) e ∙ sym (put_less (with_former p a) r rs l)
       | inr m ↦ elim m as (λ _. put_part p (put_part a (r ∷ rs)) ≡ put_part (with_former p a) (r ∷ rs)) [
         | inl q ↦
@@ -68,28 +67,28 @@ put_same o p a e (r ∷ rs) =
     ]
 
 -- Parts of two values may be put in either order.
-put_swapped : IsTotalOrder sound_cmp → (a p : Part) → sound_cmp a.value p.value ≡ Less → (rs : List Part) → put_part a (put_part p rs) ≡ put_part p (put_part a rs)
+put_swapped : IsTotalOrder value_cmp → (a p : Part) → value_cmp a.value p.value ≡ Less → (rs : List Part) → put_part a (put_part p rs) ≡ put_part p (put_part a rs)
 put_swapped o a p e [] = put_less a p [] e ∙ sym (put_greater p a [] (flip_less o a.value p.value e))
 put_swapped o a p e (r ∷ rs) =
-    let back : sound_cmp p.value a.value ≡ Greater = flip_less o a.value p.value e in
-    elim (three (sound_cmp p.value r.value)) as (λ _. put_part a (put_part p (r ∷ rs)) ≡ put_part p (put_part a (r ∷ rs))) [
+    let back : value_cmp p.value a.value ≡ Greater = flip_less o a.value p.value e in
+    elim (three (value_cmp p.value r.value)) as (λ _. put_part a (put_part p (r ∷ rs)) ≡ put_part p (put_part a (r ∷ rs))) [
       | inl l ↦
-          let first : sound_cmp a.value r.value ≡ Less = o.trans a.value p.value r.value e l in
+          let first : value_cmp a.value r.value ≡ Less = o.trans a.value p.value r.value e l in
           ap (put_part a) (put_less p r rs l) ∙ put_less a p (r ∷ rs) e
           ∙ sym (ap (put_part p) (put_less a r rs first) ∙ put_greater p a (r ∷ rs) back ∙ ap (λ xs. a ∷ xs) (put_less p r rs l))
       | inr m ↦ elim m as (λ _. put_part a (put_part p (r ∷ rs)) ≡ put_part p (put_part a (r ∷ rs))) [
         | inl q ↦
-            let first : sound_cmp a.value r.value ≡ Less = alike a.value q in
+            let first : value_cmp a.value r.value ≡ Less = alike a.value q in
             ap (put_part a) (put_equal p r rs q) ∙ put_less a (with_former p r) rs first
             ∙ sym (ap (put_part p) (put_less a r rs first) ∙ put_greater p a (r ∷ rs) back ∙ ap (λ xs. a ∷ xs) (put_equal p r rs q))
         | inr g ↦ ap (put_part a) (put_greater p r rs g) ∙ last g (put_swapped o a p e rs)
       ]
     ]
   where
-    alike : (v : Value) → sound_cmp p.value r.value ≡ Equal → sound_cmp a.value r.value ≡ Less
+    alike : (v : Value) → value_cmp p.value r.value ≡ Equal → value_cmp a.value r.value ≡ Less
     alike v q = flip_greater o r.value a.value (sym (o.congr p.value r.value a.value q) ∙ flip_less o a.value p.value e)
-    last : sound_cmp p.value r.value ≡ Greater → put_part a (put_part p rs) ≡ put_part p (put_part a rs) → put_part a (r ∷ put_part p rs) ≡ put_part p (put_part a (r ∷ rs))
-    last g behind = elim (three (sound_cmp a.value r.value)) as (λ _. put_part a (r ∷ put_part p rs) ≡ put_part p (put_part a (r ∷ rs))) [
+    last : value_cmp p.value r.value ≡ Greater → put_part a (put_part p rs) ≡ put_part p (put_part a rs) → put_part a (r ∷ put_part p rs) ≡ put_part p (put_part a (r ∷ rs))
+    last g behind = elim (three (value_cmp a.value r.value)) as (λ _. put_part a (r ∷ put_part p rs) ≡ put_part p (put_part a (r ∷ rs))) [
       | inl l ↦
           put_less a r (put_part p rs) l
           ∙ sym (ap (put_part p) (put_less a r rs l) ∙ put_greater p a (r ∷ rs) (flip_less o a.value p.value e) ∙ ap (λ xs. a ∷ xs) (put_greater p r rs g))
@@ -102,9 +101,9 @@ put_swapped o a p e (r ∷ rs) =
     ]
 
 -- A part put among some is put among all.
-put_all_put : IsTotalOrder sound_cmp → (p : Part) (ps qs : List Part) → put_all (put_part p ps) qs ≡ put_part p (put_all ps qs)
+put_all_put : IsTotalOrder value_cmp → (p : Part) (ps qs : List Part) → put_all (put_part p ps) qs ≡ put_part p (put_all ps qs)
 put_all_put o p [] qs = refl
-put_all_put o p (a ∷ ps) qs = elim (three (sound_cmp p.value a.value)) as (λ _. put_all (put_part p (a ∷ ps)) qs ≡ put_part p (put_all (a ∷ ps) qs)) [
+put_all_put o p (a ∷ ps) qs = elim (three (value_cmp p.value a.value)) as (λ _. put_all (put_part p (a ∷ ps)) qs ≡ put_part p (put_all (a ∷ ps) qs)) [
   | inl l ↦ ap (λ xs. put_all xs qs) (put_less p a ps l)
   | inr m ↦ elim m as (λ _. put_all (put_part p (a ∷ ps)) qs ≡ put_part p (put_all (a ∷ ps) qs)) [
     | inl e ↦ ap (λ xs. put_all xs qs) (put_equal p a ps e) ∙ sym (put_same o p a e (put_all ps qs))
@@ -114,7 +113,7 @@ put_all_put o p (a ∷ ps) qs = elim (three (sound_cmp p.value a.value)) as (λ 
   ]
 ]
 
-put_all_arranged : IsTotalOrder sound_cmp → (ps qs : List Part) → put_all (arranged ps) qs ≡ put_all ps qs
+put_all_arranged : IsTotalOrder value_cmp → (ps qs : List Part) → put_all (arranged ps) qs ≡ put_all ps qs
 put_all_arranged o [] qs = refl
 put_all_arranged o (p ∷ ps) qs = put_all_put o p (arranged ps) qs ∙ ap (put_part p) (put_all_arranged o ps qs)
 
@@ -123,14 +122,14 @@ put_all-append [] qs rs = refl
 put_all-append (p ∷ ps) qs rs = ap (put_part p) (put_all-append ps qs rs)
 
 -- Two halves may be arranged first.
-pub arranged-append : IsTotalOrder sound_cmp → (ps qs : List Part) → put_all (arranged ps) (arranged qs) ≡ arranged (ps ++ qs)
+pub arranged-append : IsTotalOrder value_cmp → (ps qs : List Part) → put_all (arranged ps) (arranged qs) ≡ arranged (ps ++ qs)
 arranged-append o ps qs = put_all_arranged o ps (arranged qs) ∙ sym (put_all-append ps qs [])
 
 -- ---- ascending parts
 
-above_put : (v : Value) (p : Part) (ps : List Part) → sound_cmp v p.value ≡ Less → Above v ps → Above v (put_part p ps)
+above_put : (v : Value) (p : Part) (ps : List Part) → value_cmp v p.value ≡ Less → Above v ps → Above v (put_part p ps)
 above_put v p [] l all = (l, tt)
-above_put v p (q ∷ qs) l all = elim (three (sound_cmp p.value q.value)) as (λ _. Above v (put_part p (q ∷ qs))) [
+above_put v p (q ∷ qs) l all = elim (three (value_cmp p.value q.value)) as (λ _. Above v (put_part p (q ∷ qs))) [
   | inl e ↦ subst (Above v) (sym (put_less p q qs e)) (l, all)
   | inr m ↦ elim m as (λ _. Above v (put_part p (q ∷ qs))) [
     | inl e ↦ subst (Above v) (sym (put_equal p q qs e)) (all.0, all.1)
@@ -142,17 +141,17 @@ above_all : (v : Value) (ps qs : List Part) → Above v ps → Above v qs → Ab
 above_all v [] qs a b = b
 above_all v (p ∷ ps) qs a b = above_put v p (put_all ps qs) a.0 (above_all v ps qs a.1 b)
 
-above_less : IsTotalOrder sound_cmp → (v w : Value) (ps : List Part) → sound_cmp v w ≡ Less → Above w ps → Above v ps
+above_less : IsTotalOrder value_cmp → (v w : Value) (ps : List Part) → value_cmp v w ≡ Less → Above w ps → Above v ps
 above_less o v w [] e a = tt
 above_less o v w (p ∷ ps) e a = (o.trans v w p.value e a.0, above_less o v w ps e a.1)
 
-above_equal : IsTotalOrder sound_cmp → (v w : Value) (ps : List Part) → sound_cmp w v ≡ Equal → Above w ps → Above v ps
+above_equal : IsTotalOrder value_cmp → (v w : Value) (ps : List Part) → value_cmp w v ≡ Equal → Above w ps → Above v ps
 above_equal o v w [] e a = tt
 above_equal o v w (p ∷ ps) e a = (sym (o.congr w v p.value e) ∙ a.0, above_equal o v w ps e a.1)
 
-ascend_put : IsTotalOrder sound_cmp → (p : Part) (ps : List Part) → Ascend ps → Ascend (put_part p ps)
+ascend_put : IsTotalOrder value_cmp → (p : Part) (ps : List Part) → Ascend ps → Ascend (put_part p ps)
 ascend_put o p [] up = (tt, tt)
-ascend_put o p (q ∷ qs) up = elim (three (sound_cmp p.value q.value)) as (λ _. Ascend (put_part p (q ∷ qs))) [
+ascend_put o p (q ∷ qs) up = elim (three (value_cmp p.value q.value)) as (λ _. Ascend (put_part p (q ∷ qs))) [
   | inl e ↦ subst Ascend (sym (put_less p q qs e)) ((e, above_less o p.value q.value qs e up.0), up)
   | inr m ↦ elim m as (λ _. Ascend (put_part p (q ∷ qs))) [
     | inl e ↦ subst Ascend (sym (put_equal p q qs e)) (up.0, up.1)
@@ -160,7 +159,7 @@ ascend_put o p (q ∷ qs) up = elim (three (sound_cmp p.value q.value)) as (λ _
   ]
 ]
 
-pub ascend_arranged : IsTotalOrder sound_cmp → (ps : List Part) → Ascend (arranged ps)
+pub ascend_arranged : IsTotalOrder value_cmp → (ps : List Part) → Ascend (arranged ps)
 ascend_arranged o [] = tt
 ascend_arranged o (p ∷ ps) = ascend_put o p (arranged ps) (ascend_arranged o ps)
 
@@ -173,102 +172,94 @@ put_all_nil [] up = refl
 put_all_nil (p ∷ ps) up = ap (put_part p) (put_all_nil ps up.1) ∙ put_front p ps up.0
 
 -- The least part goes to the front.
-put_all_front : IsTotalOrder sound_cmp → (b : Part) (ps qs : List Part) → Above b.value ps → put_all ps (b ∷ qs) ≡ b ∷ put_all ps qs
+put_all_front : IsTotalOrder value_cmp → (b : Part) (ps qs : List Part) → Above b.value ps → put_all ps (b ∷ qs) ≡ b ∷ put_all ps qs
 put_all_front o b [] qs a = refl
 put_all_front o b (p ∷ ps) qs a = ap (put_part p) (put_all_front o b ps qs a.1) ∙ put_greater p b (put_all ps qs) (flip_less o b.value p.value a.0)
 
 -- ---- the steps of a merge
 
-pub takes_left : IsTotalOrder sound_cmp → (a b : Part) (ps qs : List Part) → Ascend (a ∷ ps) → Ascend (b ∷ qs) → sound_cmp a.value b.value ≡ Less →
+pub takes_left : IsTotalOrder value_cmp → (a b : Part) (ps qs : List Part) → Ascend (a ∷ ps) → Ascend (b ∷ qs) → value_cmp a.value b.value ≡ Less →
     put_all (a ∷ ps) (b ∷ qs) ≡ a ∷ put_all ps (b ∷ qs)
 takes_left o a b ps qs up vp e = put_front a (put_all ps (b ∷ qs)) (above_all a.value ps (b ∷ qs) up.0 (e, above_less o a.value b.value qs e vp.0))
 
-pub takes_right : IsTotalOrder sound_cmp → (a b : Part) (ps qs : List Part) → Ascend (a ∷ ps) → sound_cmp a.value b.value ≡ Greater →
+pub takes_right : IsTotalOrder value_cmp → (a b : Part) (ps qs : List Part) → Ascend (a ∷ ps) → value_cmp a.value b.value ≡ Greater →
     put_all (a ∷ ps) (b ∷ qs) ≡ b ∷ put_all (a ∷ ps) qs
 takes_right o a b ps qs up e =
-    let less : sound_cmp b.value a.value ≡ Less = flip_greater o a.value b.value e in
+    let less : value_cmp b.value a.value ≡ Less = flip_greater o a.value b.value e in
     put_all_front o b (a ∷ ps) qs (less, above_less o b.value a.value ps less up.0)
 
-pub takes_both : IsTotalOrder sound_cmp → (a b : Part) (ps qs : List Part) → Ascend (a ∷ ps) → sound_cmp a.value b.value ≡ Equal →
+pub takes_both : IsTotalOrder value_cmp → (a b : Part) (ps qs : List Part) → Ascend (a ∷ ps) → value_cmp a.value b.value ≡ Equal →
     put_all (a ∷ ps) (b ∷ qs) ≡ with_former a b ∷ put_all ps qs
 takes_both o a b ps qs up e =
     ap (put_part a) (put_all_front o b ps qs (above_equal o b.value a.value ps e up.0)) ∙ put_equal a b (put_all ps qs) e
 
 -- ---- what the parts are in the end
 
-abbrev sound_put : Value → List Value → List Value
-sound_put v [] = v ∷ []
-sound_put v (w ∷ ws) = cond (is_lt (sound_cmp v w)) (v ∷ w ∷ ws) (cond (is_eq (sound_cmp v w)) (w ∷ ws) (w ∷ sound_put v ws))
-
-abbrev sound_occurring : List Value → List Value
-sound_occurring [] = []
-sound_occurring (v ∷ vs) = sound_put v (sound_occurring vs)
-
 abbrev single : (ℕ → Value) → ℕ → Part
 single f y = record { value = f y; members = y ∷ [] }
 
 abbrev whole_part : (ℕ → Value) → List ℕ → Value → Part
-whole_part f ys v = record { value = v; members = filter (λ y. is_eq (sound_cmp (f y) v)) ys }
+whole_part f ys v = record { value = v; members = filter (λ y. is_eq (value_cmp (f y) v)) ys }
 
 abbrev Differ : Value → List Value → Type 0
 Differ v [] = Unit
-Differ v (w ∷ ws) = (is_eq (sound_cmp w v) ≡ false) × Differ v ws
+Differ v (w ∷ ws) = (is_eq (value_cmp w v) ≡ false) × Differ v ws
 
 step_of : Value → Value → List Value → Ordering → List Value
-step_of v w ws o = cond (is_lt o) (v ∷ w ∷ ws) (cond (is_eq o) (w ∷ ws) (w ∷ sound_put v ws))
+step_of v w ws o = cond (is_lt o) (v ∷ w ∷ ws) (cond (is_eq o) (w ∷ ws) (w ∷ put v ws))
 
-sp_step : (v w : Value) (ws : List Value) (o : Ordering) → sound_cmp v w ≡ o → sound_put v (w ∷ ws) ≡ step_of v w ws o
+sp_step : (v w : Value) (ws : List Value) (o : Ordering) → value_cmp v w ≡ o → put v (w ∷ ws) ≡ step_of v w ws o
 unfolding step_of
 sp_step v w ws o e = ap (step_of v w ws) e
 
 -- A value that differs from all that occur differs from each.
-differ_put : IsTotalOrder sound_cmp → (v u : Value) (ws : List Value) → Differ v (sound_put u ws) → (is_eq (sound_cmp u v) ≡ false) × Differ v ws
+differ_put : IsTotalOrder value_cmp → (v u : Value) (ws : List Value) → Differ v (put u ws) → (is_eq (value_cmp u v) ≡ false) × Differ v ws
 unfolding step_of
 differ_put o v u [] d = d
-differ_put o v u (w ∷ ws) d = elim (three (sound_cmp u w)) as (λ _. (is_eq (sound_cmp u v) ≡ false) × Differ v (w ∷ ws)) [
+differ_put o v u (w ∷ ws) d = elim (three (value_cmp u w)) as (λ _. (is_eq (value_cmp u v) ≡ false) × Differ v (w ∷ ws)) [
   | inl e ↦ subst (Differ v) (sp_step u w ws Less e) d
-  | inr m ↦ elim m as (λ _. (is_eq (sound_cmp u v) ≡ false) × Differ v (w ∷ ws)) [
+  | inr m ↦ elim m as (λ _. (is_eq (value_cmp u v) ≡ false) × Differ v (w ∷ ws)) [
     | inl e ↦ let d' : Differ v (w ∷ ws) = subst (Differ v) (sp_step u w ws Equal e) d in (ap is_eq (o.congr u w v e) ∙ d'.0, d')
     | inr e ↦
-        let d' : Differ v (w ∷ sound_put u ws) = subst (Differ v) (sp_step u w ws Greater e) d in
+        let d' : Differ v (w ∷ put u ws) = subst (Differ v) (sp_step u w ws Greater e) d in
         let rest = differ_put o v u ws d'.1 in
         (rest.0, (d'.0, rest.1))
   ]
 ]
 
-none_alike : IsTotalOrder sound_cmp → (f : ℕ → Value) (v : Value) (ys : List ℕ) → Differ v (sound_occurring (map f ys)) → filter (λ y. is_eq (sound_cmp (f y) v)) ys ≡ []
+none_alike : IsTotalOrder value_cmp → (f : ℕ → Value) (v : Value) (ys : List ℕ) → Differ v (occurring (map f ys)) → filter (λ y. is_eq (value_cmp (f y) v)) ys ≡ []
 none_alike o f v [] d = refl
 none_alike o f v (y ∷ ys) d =
-    let both = differ_put o v (f y) (sound_occurring (map f ys)) d in
-    ap (λ b. cond b (y ∷ filter (λ z. is_eq (sound_cmp (f z) v)) ys) (filter (λ z. is_eq (sound_cmp (f z) v)) ys)) both.0 ∙ none_alike o f v ys both.1
+    let both = differ_put o v (f y) (occurring (map f ys)) d in
+    ap (λ b. cond b (y ∷ filter (λ z. is_eq (value_cmp (f z) v)) ys) (filter (λ z. is_eq (value_cmp (f z) v)) ys)) both.0 ∙ none_alike o f v ys both.1
 
 -- A position adds nothing to a part of another value.
-other_part : (f : ℕ → Value) (y : ℕ) (ys : List ℕ) (w : Value) → is_eq (sound_cmp (f y) w) ≡ false → whole_part f (y ∷ ys) w ≡ whole_part f ys w
+other_part : (f : ℕ → Value) (y : ℕ) (ys : List ℕ) (w : Value) → is_eq (value_cmp (f y) w) ≡ false → whole_part f (y ∷ ys) w ≡ whole_part f ys w
 other_part f y ys w e =
-    ap (λ b. record { value = w; members = cond b (y ∷ filter (λ z. is_eq (sound_cmp (f z) w)) ys) (filter (λ z. is_eq (sound_cmp (f z) w)) ys) }) e
+    ap (λ b. record { value = w; members = cond b (y ∷ filter (λ z. is_eq (value_cmp (f z) w)) ys) (filter (λ z. is_eq (value_cmp (f z) w)) ys) }) e
 
-own_part : (f : ℕ → Value) (y : ℕ) (ys : List ℕ) (w : Value) → is_eq (sound_cmp (f y) w) ≡ true →
-    whole_part f (y ∷ ys) w ≡ record { value = w; members = y ∷ filter (λ z. is_eq (sound_cmp (f z) w)) ys }
+own_part : (f : ℕ → Value) (y : ℕ) (ys : List ℕ) (w : Value) → is_eq (value_cmp (f y) w) ≡ true →
+    whole_part f (y ∷ ys) w ≡ record { value = w; members = y ∷ filter (λ z. is_eq (value_cmp (f z) w)) ys }
 own_part f y ys w e =
-    ap (λ b. record { value = w; members = cond b (y ∷ filter (λ z. is_eq (sound_cmp (f z) w)) ys) (filter (λ z. is_eq (sound_cmp (f z) w)) ys) }) e
+    ap (λ b. record { value = w; members = cond b (y ∷ filter (λ z. is_eq (value_cmp (f z) w)) ys) (filter (λ z. is_eq (value_cmp (f z) w)) ys) }) e
 
 others_same : (f : ℕ → Value) (y : ℕ) (ys : List ℕ) (ws : List Value) → Above (f y) (map (whole_part f ys) ws) → map (whole_part f (y ∷ ys)) ws ≡ map (whole_part f ys) ws
 others_same f y ys [] a = refl
 others_same f y ys (w ∷ ws) a = let head = other_part f y ys w (ap is_eq a.0) in let rest = others_same f y ys ws a.1 in cc
 
-differ_above : IsTotalOrder sound_cmp → (v : Value) (f : ℕ → Value) (ys : List ℕ) (ws : List Value) → Above v (map (whole_part f ys) ws) → Differ v ws
+differ_above : IsTotalOrder value_cmp → (v : Value) (f : ℕ → Value) (ys : List ℕ) (ws : List Value) → Above v (map (whole_part f ys) ws) → Differ v ws
 differ_above o v f ys [] a = tt
 differ_above o v f ys (w ∷ ws) a = (ap is_eq (flip_less o v w a.0), differ_above o v f ys ws a.1)
 
-new_part : IsTotalOrder sound_cmp → (f : ℕ → Value) (y : ℕ) (ys : List ℕ) → filter (λ z. is_eq (sound_cmp (f z) (f y))) ys ≡ [] → whole_part f (y ∷ ys) (f y) ≡ single f y
+new_part : IsTotalOrder value_cmp → (f : ℕ → Value) (y : ℕ) (ys : List ℕ) → filter (λ z. is_eq (value_cmp (f z) (f y))) ys ≡ [] → whole_part f (y ∷ ys) (f y) ≡ single f y
 new_part o f y ys none = own_part f y ys (f y) (ap is_eq (tied_itself o (f y))) ∙ ap (λ zs. record { value = f y; members = y ∷ zs }) none
 
-put_whole : IsTotalOrder sound_cmp → (f : ℕ → Value) (y : ℕ) (ys : List ℕ) (ws : List Value) → Ascend (map (whole_part f ys) ws) →
-    (Differ (f y) ws → filter (λ z. is_eq (sound_cmp (f z) (f y))) ys ≡ []) →
-    put_part (single f y) (map (whole_part f ys) ws) ≡ map (whole_part f (y ∷ ys)) (sound_put (f y) ws)
+put_whole : IsTotalOrder value_cmp → (f : ℕ → Value) (y : ℕ) (ys : List ℕ) (ws : List Value) → Ascend (map (whole_part f ys) ws) →
+    (Differ (f y) ws → filter (λ z. is_eq (value_cmp (f z) (f y))) ys ≡ []) →
+    put_part (single f y) (map (whole_part f ys) ws) ≡ map (whole_part f (y ∷ ys)) (put (f y) ws)
 unfolding step_of
 put_whole o f y ys [] up none = ap (λ p. p ∷ []) (sym (new_part o f y ys (none tt)))
-put_whole o f y ys (w ∷ ws) up none = elim (three (sound_cmp (f y) w)) as (λ _. put_part (single f y) (map (whole_part f ys) (w ∷ ws)) ≡ map (whole_part f (y ∷ ys)) (sound_put (f y) (w ∷ ws))) [
+put_whole o f y ys (w ∷ ws) up none = elim (three (value_cmp (f y) w)) as (λ _. put_part (single f y) (map (whole_part f ys) (w ∷ ws)) ≡ map (whole_part f (y ∷ ys)) (put (f y) (w ∷ ws))) [
   | inl e ↦
       let above : Above (f y) (map (whole_part f ys) (w ∷ ws)) = (e, above_less o (f y) w (map (whole_part f ys) ws) e up.0) in
       let new = new_part o f y ys (none (differ_above o (f y) f ys (w ∷ ws) above)) in
@@ -276,7 +267,7 @@ put_whole o f y ys (w ∷ ws) up none = elim (three (sound_cmp (f y) w)) as (λ 
       put_less (single f y) (whole_part f ys w) (map (whole_part f ys) ws) e
       ∙ ap (λ p. p ∷ map (whole_part f ys) (w ∷ ws)) (sym new) ∙ ap (λ ps. whole_part f (y ∷ ys) (f y) ∷ ps) (sym same)
       ∙ ap (map (whole_part f (y ∷ ys))) (sym (sp_step (f y) w ws Less e))
-  | inr m ↦ elim m as (λ _. put_part (single f y) (map (whole_part f ys) (w ∷ ws)) ≡ map (whole_part f (y ∷ ys)) (sound_put (f y) (w ∷ ws))) [
+  | inr m ↦ elim m as (λ _. put_part (single f y) (map (whole_part f ys) (w ∷ ws)) ≡ map (whole_part f (y ∷ ys)) (put (f y) (w ∷ ws))) [
     | inl e ↦
         let above : Above (f y) (map (whole_part f ys) ws) = above_equal o (f y) w (map (whole_part f ys) ws) (back_equal e) up.0 in
         put_equal (single f y) (whole_part f ys w) (map (whole_part f ys) ws) e
@@ -286,69 +277,20 @@ put_whole o f y ys (w ∷ ws) up none = elim (three (sound_cmp (f y) w)) as (λ 
     | inr e ↦
         put_greater (single f y) (whole_part f ys w) (map (whole_part f ys) ws) e
         ∙ ap (λ ps. whole_part f ys w ∷ ps) (put_whole o f y ys ws up.1 (λ d. none (ap is_eq (flip_greater o (f y) w e), d)))
-        ∙ ap (λ p. p ∷ map (whole_part f (y ∷ ys)) (sound_put (f y) ws)) (sym (other_part f y ys w (ap is_eq e)))
+        ∙ ap (λ p. p ∷ map (whole_part f (y ∷ ys)) (put (f y) ws)) (sym (other_part f y ys w (ap is_eq e)))
         ∙ ap (map (whole_part f (y ∷ ys))) (sym (sp_step (f y) w ws Greater e))
   ]
 ]
   where
-    back_equal : sound_cmp (f y) w ≡ Equal → sound_cmp w (f y) ≡ Equal
+    back_equal : value_cmp (f y) w ≡ Equal → value_cmp w (f y) ≡ Equal
     back_equal e = o.antisymm w (f y) ∙ ap ordering_reverse e
 
-arranged_whole : IsTotalOrder sound_cmp → (f : ℕ → Value) (ys : List ℕ) → arranged (map (single f) ys) ≡ map (whole_part f ys) (sound_occurring (map f ys))
+arranged_whole : IsTotalOrder value_cmp → (f : ℕ → Value) (ys : List ℕ) → arranged (map (single f) ys) ≡ map (whole_part f ys) (occurring (map f ys))
 arranged_whole o f [] = refl
 arranged_whole o f (y ∷ ys) =
     let before = arranged_whole o f ys in
     ap (put_part (single f y)) before
-    ∙ put_whole o f y ys (sound_occurring (map f ys)) (subst Ascend before (ascend_arranged o (map (single f) ys))) (none_alike o f (f y) ys)
-
--- ---- values whose numbers are sound
-
-pub sound_same : (v : Value) → IsSound v → sound v ≡ v
-sound_same value.Nil h = refl
-sound_same (value.Truth b) h = refl
-sound_same (value.Number r) h = ap (λ d. value.Number (record { numerator = r.numerator; denominator = d })) (above r.denominator h)
-  where
-    above : (d : ℕ) → 0 < d → suc (d - 1) ≡ d
-    above d l = omega arith
-sound_same (value.Text t) h = refl
-sound_same (value.Status s) h = refl
-sound_same (value.Kind k) h = refl
-
-pub sound_cmp_same : (v w : Value) → IsSound v → IsSound w → sound_cmp v w ≡ value_cmp v w
-unfolding sound_cmp
-sound_cmp_same v w a b = ap (λ x. value_cmp x (sound w)) (sound_same v a) ∙ ap (λ y. value_cmp v y) (sound_same w b)
-
-abbrev AllSound : List Value → Type 0
-AllSound [] = Unit
-AllSound (v ∷ vs) = IsSound v × AllSound vs
-
-sound_put_same : (v : Value) (ws : List Value) → IsSound v → AllSound ws → (sound_put v ws ≡ put v ws) × AllSound (put v ws)
-sound_put_same v [] a b = (refl, (a, tt))
-sound_put_same v (w ∷ ws) a b =
-    let rest = sound_put_same v ws a b.1 in
-    let same : sound_put v (w ∷ ws) ≡ cond (is_lt (value_cmp v w)) (v ∷ w ∷ ws) (cond (is_eq (value_cmp v w)) (w ∷ ws) (w ∷ put v ws)) =
-      ap (λ o. cond (is_lt o) (v ∷ w ∷ ws) (cond (is_eq o) (w ∷ ws) (w ∷ sound_put v ws))) (sound_cmp_same v w a b.0)
-      ∙ ap (λ xs. cond (is_lt (value_cmp v w)) (v ∷ w ∷ ws) (cond (is_eq (value_cmp v w)) (w ∷ ws) (w ∷ xs))) rest.0 in
-    (same, kept (is_lt (value_cmp v w)) (is_eq (value_cmp v w)) rest.1)
-  where
-    kept : (p q : Bool) → AllSound (put v ws) → AllSound (cond p (v ∷ w ∷ ws) (cond q (w ∷ ws) (w ∷ put v ws)))
-    kept true q h = (a, b)
-    kept false true h = b
-    kept false false h = (b.0, h)
-
-occurring_same : (vs : List Value) → AllSound vs → (sound_occurring vs ≡ occurring vs) × AllSound (occurring vs)
-occurring_same [] a = (refl, tt)
-occurring_same (v ∷ vs) a =
-    let rest = occurring_same vs a.1 in
-    let here = sound_put_same v (occurring vs) a.0 rest.1 in
-    (ap (sound_put v) rest.0 ∙ here.0, here.1)
-
-same_filter : (f : ℕ → Value) (w : Value) (ys : List ℕ) → IsSound w → AllSound (map f ys) →
-    filter (λ y. is_eq (sound_cmp (f y) w)) ys ≡ filter (λ y. is_eq (value_cmp (f y) w)) ys
-same_filter f w [] a b = refl
-same_filter f w (y ∷ ys) a b =
-    ap (λ o. cond (is_eq o) (y ∷ filter (λ z. is_eq (sound_cmp (f z) w)) ys) (filter (λ z. is_eq (sound_cmp (f z) w)) ys)) (sound_cmp_same (f y) w b.0 a)
-    ∙ ap (λ zs. cond (is_eq (value_cmp (f y) w)) (y ∷ zs) zs) (same_filter f w ys a b.1)
+    ∙ put_whole o f y ys (occurring (map f ys)) (subst Ascend before (ascend_arranged o (map (single f) ys))) (none_alike o f (f y) ys)
 
 abbrev grouped : List Value → Part → Group
 grouped by p = record { by = by ++ p.value ∷ []; members = p.members }
@@ -356,50 +298,41 @@ grouped by p = record { by = by ++ p.value ∷ []; members = p.members }
 abbrev group_at : (ℕ → Value) → List Value → List ℕ → Value → Group
 group_at f by ys v = record { by = by ++ v ∷ []; members = filter (λ y. is_eq (value_cmp (f y) v)) ys }
 
-groups_same : (f : ℕ → Value) (by : List Value) (ys : List ℕ) (ws : List Value) → AllSound ws → AllSound (map f ys) →
-    map (grouped by) (map (whole_part f ys) ws) ≡ map (group_at f by ys) ws
-groups_same f by ys [] a b = refl
-groups_same f by ys (w ∷ ws) a b =
-    ap (λ ms. record { by = by ++ w ∷ []; members = ms } ∷ map (grouped by) (map (whole_part f ys) ws)) (same_filter f w ys a.0 b)
-    ∙ ap (λ gs. group_at f by ys w ∷ gs) (groups_same f by ys ws a.1 b)
+groups_same : (f : ℕ → Value) (by : List Value) (ys : List ℕ) (ws : List Value) → map (grouped by) (map (whole_part f ys) ws) ≡ map (group_at f by ys) ws
+groups_same f by ys [] = refl
+groups_same f by ys (w ∷ ws) = ap (λ gs. group_at f by ys w ∷ gs) (groups_same f by ys ws)
 
 -- The parts of a list are the groups of its values.
-pub groups_are : IsTotalOrder sound_cmp → (f : ℕ → Value) (by : List Value) (ys : List ℕ) → AllSound (map f ys) →
+groups_are : IsTotalOrder value_cmp → (f : ℕ → Value) (by : List Value) (ys : List ℕ) →
     map (grouped by) (arranged (map (single f) ys)) ≡ map (group_at f by ys) (occurring (map f ys))
-groups_are o f by ys a =
-    let all = occurring_same (map f ys) a in
-    ap (map (grouped by)) (arranged_whole o f ys ∙ ap (map (whole_part f ys)) all.0) ∙ groups_same f by ys (occurring (map f ys)) all.1 a
-
-all_sound : (f : ℕ → Value) (ys : List ℕ) → All (λ (v : Valued). IsSound v.value) (map (λ y. record { value = f y; position = y }) ys) → AllSound (map f ys)
-all_sound f [] h = tt
-all_sound f (y ∷ ys) h = (h zero (record { value = f y; position = y }) (omega arith), all_sound f ys (λ k d l. h (suc k) d (omega arith)))
+groups_are o f by ys = ap (map (grouped by)) (arranged_whole o f ys) ∙ groups_same f by ys (occurring (map f ys))
 
 singles_are : (f : ℕ → Value) (ys : List ℕ) → map part_of (map (λ y. record { value = f y; position = y }) ys) ≡ map (single f) ys
 singles_are f [] = refl
 singles_are f (y ∷ ys) = ap (λ ps. single f y ∷ ps) (singles_are f ys)
 
 -- What the arranged parts of the valued members are as groups.
-pub split_is : IsTotalOrder sound_cmp → (f : ℕ → Value) (by : List Value) (ys : List ℕ) (vs : List Valued) (ps : List Part) →
-    vs ≡ map (λ y. record { value = f y; position = y }) ys → All (λ (v : Valued). IsSound v.value) vs → ps ≡ arranged (map part_of vs) →
+pub split_is : IsTotalOrder value_cmp → (f : ℕ → Value) (by : List Value) (ys : List ℕ) (vs : List Valued) (ps : List Part) →
+    vs ≡ map (λ y. record { value = f y; position = y }) ys → ps ≡ arranged (map part_of vs) →
     map (grouped by) ps ≡ map (group_at f by ys) (occurring (map f ys))
-split_is o f by ys vs ps is fair parts =
+split_is o f by ys vs ps is parts =
     ap (map (grouped by)) (parts ∙ ap (λ xs. arranged (map part_of xs)) is ∙ ap arranged (singles_are f ys))
-    ∙ groups_are o f by ys (all_sound f ys (subst (All (λ (v : Valued). IsSound v.value)) is fair))
+    ∙ groups_are o f by ys
 
 -- ---- a step of a merge of two lists that are turned round
 
 Ascend-tail : (p : Part) (ps : List Part) → Ascend (p ∷ ps) → Ascend ps
 Ascend-tail p ps h = h.1
 
-pub takes_former : (a b : Part) (ps qs : List Part) → Ascend (a ∷ ps) → Ascend (b ∷ qs) → sound_cmp a.value b.value ≡ Less → IsTotalOrder sound_cmp →
+pub takes_former : (a b : Part) (ps qs : List Part) → Ascend (a ∷ ps) → Ascend (b ∷ qs) → value_cmp a.value b.value ≡ Less → IsTotalOrder value_cmp →
     Takes (a ∷ ps) (b ∷ qs) (Some a) ps (b ∷ qs)
 takes_former a b ps qs up vp e o = record { left_up = up.1; right_up = vp; all = takes_left o a b ps qs up vp e }
 
-pub takes_latter : (a b : Part) (ps qs : List Part) → Ascend (a ∷ ps) → Ascend (b ∷ qs) → sound_cmp a.value b.value ≡ Greater → IsTotalOrder sound_cmp →
+pub takes_latter : (a b : Part) (ps qs : List Part) → Ascend (a ∷ ps) → Ascend (b ∷ qs) → value_cmp a.value b.value ≡ Greater → IsTotalOrder value_cmp →
     Takes (a ∷ ps) (b ∷ qs) (Some b) (a ∷ ps) qs
 takes_latter a b ps qs up vp e o = record { left_up = up; right_up = vp.1; all = takes_right o a b ps qs up e }
 
-pub takes_joined : (a b : Part) (ps qs : List Part) → Ascend (a ∷ ps) → Ascend (b ∷ qs) → sound_cmp a.value b.value ≡ Equal → IsTotalOrder sound_cmp →
+pub takes_joined : (a b : Part) (ps qs : List Part) → Ascend (a ∷ ps) → Ascend (b ∷ qs) → value_cmp a.value b.value ≡ Equal → IsTotalOrder value_cmp →
     Takes (a ∷ ps) (b ∷ qs) (Some (with_former a b)) ps qs
 takes_joined a b ps qs up vp e o = record { left_up = up.1; right_up = vp.1; all = takes_both o a b ps qs up e }
 

@@ -1,44 +1,12 @@
 -- Positions split by values: the parts of a list, each of one value, in ascending order.
-use Rattle.std.specs.Prelude.{ℕ, suc, ◌-◌, List, [], ◌∷◌, ◌++◌, ◌≡◌, ◌<◌, pos, Option, if◌then◌else◌}
+use Rattle.std.specs.Prelude.{ℕ, List, [], ◌∷◌, ◌++◌, ◌≡◌, Option, if◌then◌else◌}
 use Rattle.std.specs.Option.{option_to_list}
 use Rattle.std.specs.Ordering.{is_eq, is_lt}
-use Rattle.std.specs.declared.cmp.Ordering.{Ordering}
 use Rattle.std.specs.declared.cmp.Ordering.TheVariants.{Less}
 use Rattle.traceql_value.specs.declared.value.Value.{Value}
-use Rattle.traceql_value.specs.declared.value.Value.TheVariants as value
-use Rattle.traceql_value.specs.Fractions.{Fraction, whole_fraction}
-use Rattle.traceql_value.specs.Values.{kind_number, status_number, truth_number, value_cmp}
+use Rattle.traceql_value.specs.Values.{value_cmp}
 use Rattle.spanset_eval.specs.declared.parts.Part.{Part}
 use Rattle.spanset_eval.specs.declared.parts.Valued.{Valued}
-
--- A number isn't divided by 0.
-abbrev pub IsSound : Value → Type 0
-IsSound (value.Number r) = 0 < r.denominator
-IsSound _ = Unit
-
--- the value, with a denominator above 0
-abbrev pub sound : Value → Value
-sound (value.Number r) = value.Number (record { numerator = r.numerator; denominator = suc (r.denominator - 1) })
-sound v = v
-
--- the order of values, a total one also where a denominator were 0
-unfoldable pub sound_cmp : Value → Value → Ordering
-sound_cmp a b = value_cmp (sound a) (sound b)
-
--- a value as the number of a truth, a status or a role, as a text and as a fraction; 0, an empty text and 0 where it is none
-abbrev pub code_of : Value → ℕ
-code_of (value.Truth b) = truth_number b
-code_of (value.Status s) = status_number s
-code_of (value.Kind k) = kind_number k
-code_of _ = 0
-
-abbrev pub text_of : Value → List ℕ
-text_of (value.Text t) = t
-text_of _ = []
-
-abbrev pub fraction_of : Value → Fraction
-fraction_of (value.Number r) = r
-fraction_of _ = whole_fraction (pos 0)
 
 -- the part of one position
 abbrev pub part_of : Valued → Part
@@ -52,8 +20,8 @@ with_former a b = record { value = b.value; members = a.members ++ b.members }
 abbrev pub put_part : Part → List Part → List Part
 put_part p [] = p ∷ []
 put_part p (q ∷ qs) =
-    if is_lt (sound_cmp p.value q.value) then p ∷ q ∷ qs
-    else if is_eq (sound_cmp p.value q.value) then with_former p q ∷ qs
+    if is_lt (value_cmp p.value q.value) then p ∷ q ∷ qs
+    else if is_eq (value_cmp p.value q.value) then with_former p q ∷ qs
     else q ∷ put_part p qs
 
 -- all of some parts among others
@@ -68,7 +36,7 @@ arranged ps = put_all ps []
 -- All parts are of greater values.
 abbrev pub Above : Value → List Part → Type 0
 Above v [] = Unit
-Above v (p ∷ ps) = (sound_cmp v p.value ≡ Less) × Above v ps
+Above v (p ∷ ps) = (value_cmp v p.value ≡ Less) × Above v ps
 
 -- Each part is of a lower value than all behind it.
 abbrev pub Ascend : List Part → Type 0

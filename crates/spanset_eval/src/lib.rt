@@ -12,7 +12,6 @@ mod relate;
 mod results;
 mod select;
 mod stages;
-mod values;
 
 pub use outcome::{evaluate, evaluate_rows};
 pub use ranking::rank;

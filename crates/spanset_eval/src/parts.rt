@@ -1,14 +1,13 @@
 //! A list of positions split by values.
 
 ghost use Rattle.std.specs.Prelude.{◌≡◌, ◌∷◌, [], ◌+◌, ◌<◌, ◌++◌, IfOk, IfSome, map, reverse, length, vec_len};
-ghost use Rattle.spanset_eval.specs.Parts.{arranged, put_all, part_of, sound_cmp, with_former, Ascend, IsSound, Takes};
+ghost use Rattle.spanset_eval.specs.Parts.{arranged, put_all, part_of, with_former, Ascend, Takes};
 
 use crate::groups::Members;
-use crate::values::order;
 use span_types::Memory;
 use std::alloc::Global;
 use std::cmp::Ordering;
-use traceql_value::{Ratio, Value};
+use traceql_value::Value;
 
 /// A position, and the value that an expression has there.
 #[derive(Drop)]
@@ -76,23 +75,6 @@ fn merged(alloc: Global, left: Vec<Part>, right: Vec<Part>) -> Result<Vec<Part>,
     Ok(merged)
 }
 
-/// A number isn't divided by 0, as its type has it.
-pub fn sound(value: &Value)
-    ensures { IsSound value.now }
-{
-    match value {
-        Value::Number(number) => above_zero(*number),
-        Value::Nil | Value::Truth(_) | Value::Text(_) | Value::Status(_) | Value::Kind(_) => {}
-    }
-}
-
-// The denominator of a number is above 0.
-fn above_zero(number: Ratio)
-    ensures { 0 < number.denominator }
-{
-    number.denominator();
-}
-
 // Takes the part that comes first off two lists, the last of each of which comes first in it.
 fn take_next(left: &mut Vec<Part>, right: &mut Vec<Part>) -> Result<Option<Part>, Memory>
     requires left_up { Ascend (reverse left.old.items) }
@@ -104,7 +86,7 @@ fn take_next(left: &mut Vec<Part>, right: &mut Vec<Part>) -> Result<Option<Part>
     match (left.pop(), right.pop()) {
         (None, latter) => Ok(latter),
         (former, None) => Ok(former),
-        (Some(former), Some(latter)) => match order(&former.value, &latter.value) {
+        (Some(former), Some(latter)) => match former.value.order(&latter.value) {
             Ordering::Less => {
                 right.push(latter)?;
                 Ok(Some(former))

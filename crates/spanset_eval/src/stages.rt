@@ -1,19 +1,17 @@
 //! What a query's stages make of spansets.
 
-ghost use Rattle.std.specs.Prelude.{◌≡◌, ℕ, ◌<◌, ◌==◌, ◌||◌, ◌++◌, ◌∷◌, [], All, IfOk, OnOk, length, map, filter};
+ghost use Rattle.std.specs.Prelude.{◌≡◌, ℕ, ◌<◌, ◌==◌, ◌||◌, ◌++◌, ◌∷◌, [], IfOk, OnOk, length, map, filter};
 ghost use Rattle.std.specs.List.{flat_map, list_any};
 ghost use Rattle.span_types.specs.declared.spans.Row.{Row};
 ghost use Rattle.traceql_syntax.specs.Trees.{tree, placed_option, aggregate_tree, threshold_tree, stage_tree};
 ghost use Rattle.traceql_value.specs.Scenes.{scene_patterns, scene_rows};
 ghost use Rattle.spanset_eval.specs.Marked.{mark_at, MarksBy};
-ghost use Rattle.spanset_eval.specs.declared.parts.Valued.{Valued as WithValue};
-ghost use Rattle.spanset_eval.specs.Parts.{IsSound};
 ghost use Rattle.spanset_eval.specs.Seen.{IsSame};
 ghost use Rattle.spanset_eval.specs.Stages.{after_stage, after_stages, aggregate_of, amounts_compare, is_in_some, is_left, joined, keeps_at, left, split_by, threshold_of, value_at};
 ghost use Rattle.spanset_eval.specs.declared.groups.Group.{Group as Spanset};
 
 use crate::groups::{Group, Members};
-use crate::parts::{Part, Valued, arranged, sound};
+use crate::parts::{Part, Valued, arranged};
 use crate::{amounts, look, marks};
 use span_types::{Marks, Memory, Row};
 use std::alloc::Global;
@@ -53,13 +51,11 @@ fn valued(
 ) -> Result<Vec<Valued>, Memory>
     requires { rows.now ≡ scene_rows scene.old }
     ensures valued { IfOk result (λ valued. valued.items ≡ map (λ y. record { value = value_at (scene_patterns scene.old) (scene_rows scene.old) (tree expr.now) y; position = y }) members.now) }
-    ensures sound { IfOk result (λ valued. All (λ (v : WithValue). IsSound v.value) valued.items) }
     ensures scene { IsSame scene.old scene.new }
 {
     let mut valued = Vec::with_capacity(alloc, members.len())?;
     for position in members {
         let value = look::value_at(scene, rows, expr, *position)?;
-        sound(&value);
         valued.push(Valued {
             value,
             position: *position,

@@ -2,7 +2,7 @@ use Rattle.std.proofs.Common.{◌≡◌, ℕ, List, ◌/◌, ◌++◌, ◌∙◌
 use Rattle.std.proofs.lemmas.List.{map-append, take-append-drop}
 use Rattle.spanset_eval.specs.declared.parts.Part.{Part}
 use Rattle.spanset_eval.specs.Parts.{Ascend, arranged, part_of, put_all}
-use Rattle.spanset_eval.proofs.OrderLaws.{sound_total}
+use Rattle.traceql_value.proofs.Orders.{value_cmp_total}
 use Rattle.spanset_eval.proofs.PartLaws.{ascend_arranged, arranged-append}
 use Rattle.spanset_eval.proofs.SelectLaws.{if_ok}
 use Rattle.spanset_eval.proofs.parts.+arranged.Goals as goal
@@ -11,10 +11,10 @@ halves : {X : Type 0} (xs fs bs : List X) (n : ℕ) → fs ≡ take n xs → bs 
 halves xs fs bs n f b = ap (λ ys. ys ++ bs) f ∙ ap (λ ys. take n xs ++ ys) b ∙ take-append-drop n xs
 
 pub merged-requires-clause-left_up : goal.merged-requires-clause-left_up
-merged-requires-clause-left_up t c = subst Ascend (sym c.in_ok-left-in_default.ensures) (ascend_arranged sound_total (map part_of c.split_at.result.0.now))
+merged-requires-clause-left_up t c = subst Ascend (sym c.in_ok-left-in_default.ensures) (ascend_arranged value_cmp_total (map part_of c.split_at.result.0.now))
 
 pub merged-requires-clause-right_up : goal.merged-requires-clause-right_up
-merged-requires-clause-right_up t c = subst Ascend (sym c.in_ok-right-in_default.ensures) (ascend_arranged sound_total (map part_of c.split_at.result.1.now))
+merged-requires-clause-right_up t c = subst Ascend (sym c.in_ok-right-in_default.ensures) (ascend_arranged value_cmp_total (map part_of c.split_at.result.1.now))
 
 pub returns-in_ok-right-in_default : goal.returns-in_ok-right-in_default
 returns-in_ok-right-in_default t c =
@@ -25,5 +25,5 @@ returns-in_ok-right-in_default t c =
     if_ok c.merged.result (λ parts. parts.items ≡ put_all c.in_ok-left-in_default.left.items c.in_ok-right-in_default.right.items) (λ parts. parts.items ≡ arranged (map part_of c.args.valued.now))
     (λ parts e.
       e ∙ ap (λ xs. put_all xs c.in_ok-right-in_default.right.items) c.in_ok-left-in_default.ensures ∙ ap (put_all (arranged (map part_of fs))) c.in_ok-right-in_default.ensures
-      ∙ arranged-append sound_total (map part_of fs) (map part_of bs) ∙ ap arranged whole)
+      ∙ arranged-append value_cmp_total (map part_of fs) (map part_of bs) ∙ ap arranged whole)
     c.merged.ensures

@@ -5,7 +5,7 @@ use Rattle.spanset_eval.specs.declared.groups.Group.{Group}
 use Rattle.spanset_eval.specs.declared.parts.Part.{Part}
 use Rattle.spanset_eval.specs.Parts.{arranged, part_of}
 use Rattle.spanset_eval.specs.Stages.{split_by, value_at}
-use Rattle.spanset_eval.proofs.OrderLaws.{sound_total}
+use Rattle.traceql_value.proofs.Orders.{value_cmp_total}
 use Rattle.spanset_eval.proofs.PartLaws.{split_is}
 use Rattle.spanset_eval.proofs.SelectLaws.{on_ok}
 use Rattle.spanset_eval.proofs.stages.add_split.Goals as goal
@@ -18,6 +18,6 @@ returns-clause-found c =
     let valued = c.in_ok-valued.valued.items in
     on_ok c.add_parts.result (c.add_parts.new.found.items ≡ c.args.found.now.items ++ map (λ (p : Part). record { by = g.by ++ p.value ∷ []; members = p.members }) c.in_ok-parts.parts.items)
     (c.add_parts.new.found.items ≡ c.args.found.now.items ++ split_by (scene_patterns c.args.scene.now) (scene_rows c.args.scene.now) (tree c.args.expr.now) g)
-    (λ e. e ∙ ap (λ gs. c.args.found.now.items ++ gs) (split_is sound_total f g.by g.members valued c.in_ok-parts.parts.items
-      ? c.in_ok-valued.ensures.sound ?))
+    (λ e. e ∙ ap (λ gs. c.args.found.now.items ++ gs) (split_is value_cmp_total f g.by g.members valued c.in_ok-parts.parts.items
+      ? ?))
     c.add_parts.ensures

@@ -3,12 +3,11 @@ use Rattle.std.proofs.Common.{◌≡◌, ℕ, ◌+◌, ◌*◌, ◌<◌, ◌≤�
 use Rattle.traceql_syntax.specs.Trees.{tree}
 use Rattle.traceql_value.specs.Scenes.{scene_patterns, scene_rows}
 use Rattle.spanset_eval.specs.declared.parts.Valued.{Valued}
-use Rattle.spanset_eval.specs.Parts.{IsSound}
 use Rattle.spanset_eval.specs.Seen.{IsSame}
 use Rattle.spanset_eval.specs.Stages.{value_at}
 use Rattle.spanset_eval.proofs.stages.valued.Given as goal
 
 abbrev pub invariant-loop-position : goal.invariant-loop-position
 invariant-loop-position l =
-    record { valued : l.valued.items ≡ map (λ y. record { value = value_at (scene_patterns l.fn.scene) (scene_rows l.fn.scene) (tree l.expr) y; position = y }) (take l.position-index l.members); sound : All (λ (v : Valued). IsSound v.value) l.valued.items; scene : IsSame l.fn.scene l.scene }
+    record { valued : l.valued.items ≡ map (λ y. record { value = value_at (scene_patterns l.fn.scene) (scene_rows l.fn.scene) (tree l.expr) y; position = y }) (take l.position-index l.members); scene : IsSame l.fn.scene l.scene }
 
