@@ -1,5 +1,5 @@
 -- What is written for a resource, a scope and a span reads back, nothing of it is skipped, and no part of it has a wrong form.
-use Rattle.std.proofs.Common.{◌≡◌, [], map, Some, None, refl}
+use Rattle.std.proofs.Common.{◌≡◌, map, Some, None, refl}
 use Rattle.span_types.specs.declared.attrs.Resource.{Resource}
 use Rattle.span_types.specs.declared.attrs.Scope.{Scope}
 use Rattle.span_types.specs.declared.spans.Span.{Span}

@@ -1,6 +1,6 @@
 -- What spans a line of OTLP/JSON has. Each level of the request is a function of its JSON value, for values of any form:
 -- a part of the wrong form is read as absent, and the line is then refused.
-use Rattle.std.specs.Prelude.{◌≡◌, ℕ, ◌+◌, ◌-◌, ◌^◌, min, false, IfSome, List, [], length, nat_le, if◌then◌else◌, Option, Some, None, Result, Ok, Err}
+use Rattle.std.specs.Prelude.{ℕ, ◌+◌, ◌-◌, ◌^◌, min, List, [], length, nat_le, if◌then◌else◌, Option, Some, None, Result, Ok, Err}
 use Rattle.std.specs.List.{filter_map, flat_map}
 use Rattle.std.specs.Option.{option_map_or}
 use Rattle.serde_json.specs.Data.{Data}
