@@ -3,7 +3,7 @@
 ghost use Rattle.std.specs.Prelude.{◌≡◌, ◌≢◌, ◌≤◌, ◌<◌, ℕ, All, length, take, slice_get, Some};
 ghost use Rattle.column_scan.specs.Ranges.{is_within};
 ghost use Rattle.search_answer.specs.Answers.{is_in_range};
-ghost use Rattle.search_answer.specs.Traces.{IsFront};
+ghost use Rattle.search_answer.specs.Traces.{IsFront, of_one_trace};
 
 use column_scan::Range;
 use span_types::Row;
@@ -16,11 +16,18 @@ pub(crate) fn trace_len(rows: &[Row]) -> usize
     ensures front { IsFront rows.now result }
 {
     for i in 1..rows.len() {
-        if !rows[i].span.trace.cmp(&rows[0].span.trace).is_eq() {
+        if !of_one_trace(&rows[i], &rows[0]) {
             return i;
         }
     }
     rows.len()
+}
+
+// Whether two rows are of one trace.
+fn of_one_trace(a: &Row, b: &Row) -> bool
+    ensures { result ≡ of_one_trace a.now b.now }
+{
+    a.span.trace.cmp(&b.span.trace).is_eq()
 }
 
 // Whether one of the rows starts in the range.
