@@ -1,8 +1,9 @@
 -- Parts of a list by values: joining them in any order gives the same, and what they have in the end.
-use Rattle.std.proofs.Common.{◌≡◌, ℕ, Option, Some, None, reverse, List, [], ◌∷◌, ◌++◌, map, Bool, true, false, cond, refl, sym, ap, ◌∙◌, subst, ◌⊎◌, inl, inr, append_assoc}
+use Rattle.std.proofs.Common.{◌≡◌, ℕ, zero, suc, ◌<◌, arith, length, Option, Some, None, reverse, List, [], ◌∷◌, ◌++◌, map, Bool, true, false, cond, refl, sym, ap, ◌∙◌, subst, ◌⊎◌, inl, inr, append_assoc}
 use Rattle.std.specs.Cmp.{IsTotalOrder}
 use Rattle.std.specs.List.{filter}
-use Rattle.std.specs.Option.{option_to_list}
+use Rattle.std.specs.Option.{option_to_list, MatchOption}
+use Rattle.traceql_value.proofs.Orders.{value_cmp_total}
 use Rattle.std.proofs.lemmas.List.{append-nil, reverse-append}
 use Rattle.std.specs.Ordering.{is_eq, is_lt, ordering_reverse}
 use Rattle.std.specs.declared.cmp.Ordering.{Ordering}
@@ -365,3 +366,52 @@ takes_first ls rs ls' rs' r er er' el up = record {
 pub turned : (xs ys : List Part) (r : Option Part) → xs ≡ ys ++ option_to_list r → reverse xs ≡ option_to_list r ++ reverse ys
 turned xs ys None e = ap reverse (e ∙ append-nil ys)
 turned xs ys (Some p) e = ap reverse e ∙ reverse-append ys (p ∷ [])
+
+-- ---- the arms of a step, over lists that are turned round
+
+pub less_arm : (lo ro l r ro' : List Part) (a b : Part) → lo ≡ l ++ a ∷ [] → ro ≡ r ++ b ∷ [] → ro' ≡ r ++ b ∷ [] → Ascend (reverse lo) → Ascend (reverse ro) →
+    value_cmp a.value b.value ≡ Less → Takes (reverse lo) (reverse ro) (Some a) (reverse l) (reverse ro')
+less_arm lo ro l r ro' a b el er er' ul ur e =
+    let tl : reverse lo ≡ a ∷ reverse l = turned lo l (Some a) el in
+    let tr : reverse ro ≡ b ∷ reverse r = turned ro r (Some b) er in
+    let tr' : reverse ro' ≡ b ∷ reverse r = turned ro' r (Some b) er' in
+    subst (λ x. Takes x (reverse ro) (Some a) (reverse l) (reverse ro')) (sym tl)
+    (subst (λ y. Takes (a ∷ reverse l) y (Some a) (reverse l) (reverse ro')) (sym tr)
+    (subst (λ z. Takes (a ∷ reverse l) (b ∷ reverse r) (Some a) (reverse l) z) (sym tr')
+    (takes_former a b (reverse l) (reverse r) (subst Ascend tl ul) (subst Ascend tr ur) e value_cmp_total)))
+
+pub greater_arm : (lo ro l r lo' : List Part) (a b : Part) → lo ≡ l ++ a ∷ [] → ro ≡ r ++ b ∷ [] → lo' ≡ l ++ a ∷ [] → Ascend (reverse lo) → Ascend (reverse ro) →
+    value_cmp a.value b.value ≡ Greater → Takes (reverse lo) (reverse ro) (Some b) (reverse lo') (reverse r)
+greater_arm lo ro l r lo' a b el er el' ul ur e =
+    let tl : reverse lo ≡ a ∷ reverse l = turned lo l (Some a) el in
+    let tr : reverse ro ≡ b ∷ reverse r = turned ro r (Some b) er in
+    let tl' : reverse lo' ≡ a ∷ reverse l = turned lo' l (Some a) el' in
+    subst (λ x. Takes x (reverse ro) (Some b) (reverse lo') (reverse r)) (sym tl)
+    (subst (λ y. Takes (a ∷ reverse l) y (Some b) (reverse lo') (reverse r)) (sym tr)
+    (subst (λ z. Takes (a ∷ reverse l) (b ∷ reverse r) (Some b) z (reverse r)) (sym tl')
+    (takes_latter a b (reverse l) (reverse r) (subst Ascend tl ul) (subst Ascend tr ur) e value_cmp_total)))
+
+pub equal_arm : (lo ro l r : List Part) (a b p : Part) → lo ≡ l ++ a ∷ [] → ro ≡ r ++ b ∷ [] → p ≡ with_former a b → Ascend (reverse lo) → Ascend (reverse ro) →
+    value_cmp a.value b.value ≡ Equal → Takes (reverse lo) (reverse ro) (Some p) (reverse l) (reverse r)
+equal_arm lo ro l r a b p el er ep ul ur e =
+    let tl : reverse lo ≡ a ∷ reverse l = turned lo l (Some a) el in
+    let tr : reverse ro ≡ b ∷ reverse r = turned ro r (Some b) er in
+    subst (λ x. Takes x (reverse ro) (Some p) (reverse l) (reverse r)) (sym tl)
+    (subst (λ y. Takes (a ∷ reverse l) y (Some p) (reverse l) (reverse r)) (sym tr)
+    (subst (λ q. Takes (a ∷ reverse l) (b ∷ reverse r) (Some q) (reverse l) (reverse r)) (sym ep)
+    (takes_joined a b (reverse l) (reverse r) (subst Ascend tl ul) (subst Ascend tr ur) e value_cmp_total)))
+
+nil_of : (xs : List Part) → length xs ≡ 0 → xs ≡ []
+nil_of [] e = refl
+nil_of (x ∷ xs) e = absurd (omega arith)
+
+-- where the right list is empty
+pub first_arm : (lo ro l r : List Part) (found next : Option Part) → lo ≡ l ++ option_to_list found → length ro ≡ 0 → length r ≡ 0 → found ≡ next → Ascend (reverse lo) →
+    Takes (reverse lo) (reverse ro) next (reverse l) (reverse r)
+first_arm lo ro l r found next el er er' same ul =
+    subst (λ o. Takes (reverse lo) (reverse ro) o (reverse l) (reverse r)) same
+    (takes_first (reverse lo) (reverse ro) (reverse l) (reverse r) found (ap reverse (nil_of ro er)) (ap reverse (nil_of r er')) (turned lo l found el) ul)
+
+pub at_none : (o : Option Part) (P : Type 0) (Q : Part → Type 0) → o ≡ None → MatchOption o P Q → P
+at_none None P Q e h = h
+at_none (Some x) P Q e h = cc

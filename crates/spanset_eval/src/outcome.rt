@@ -69,15 +69,34 @@ fn hit(alloc: Global, scene: &Scene<'_>, stages: &[Stage], span: &Span) -> Resul
     })
 }
 
+// The span at a position as it is shown, if there is one.
+fn hit_at(alloc: Global, scene: &Scene<'_>, rows: &[Row], stages: &[Stage], position: usize) -> Result<Option<Hit>, Memory>
+    requires { rows.now ≡ scene_rows scene.now }
+    ensures { IfOk result (λ found. found ≡ hit_at (selected_fields (map stage_tree stages.now)) (scene_rows scene.now) position) }
+{
+    match rows.get(position) {
+        None => Ok(None),
+        Some(row) => Ok(Some(hit(alloc, scene, stages, &row.span)?)),
+    }
+}
+
+// Adds one more hit, if there is one.
+fn extend(hits: &mut Vec<Hit>, more: Option<Hit>) -> Result<(), Memory>
+    ensures { OnOk result (hits.new.items ≡ hits.old.items ++ option_to_list more) }
+{
+    if let Some(hit) = more {
+        hits.push(hit)?;
+    }
+    Ok(())
+}
+
 // Adds the span at a position as it is shown, if there is one.
 fn add_hit(alloc: Global, scene: &Scene<'_>, rows: &[Row], stages: &[Stage], position: usize, hits: &mut Vec<Hit>) -> Result<(), Memory>
     requires { rows.now ≡ scene_rows scene.now }
     ensures { OnOk result (hits.new.items ≡ hits.old.items ++ option_to_list (hit_at (selected_fields (map stage_tree stages.now)) (scene_rows scene.now) position)) }
 {
-    if let Some(row) = rows.get(position) {
-        hits.push(hit(alloc, scene, stages, &row.span)?)?;
-    }
-    Ok(())
+    let found = hit_at(alloc, scene, rows, stages, position)?;
+    extend(hits, found)
 }
 
 // The members as they are shown.

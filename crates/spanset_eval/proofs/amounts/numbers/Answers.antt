@@ -8,9 +8,18 @@ use Rattle.spanset_eval.proofs.amounts.numbers.Goals as goal
 
 pub loop-position-preserved : goal.loop-position-preserved
 loop-position-preserved c =
-    let more = filter_map_more (λ y. whole_number (value_at (scene_patterns c.args.scene.now) (scene_rows c.args.scene.now) (tree c.args.expr.now) y)) c.args.members.now c.loop-position.position-index 0
-      c.loop-position-test.true in
+    let ps = scene_patterns c.args.scene.now in
+    let rows = scene_rows c.args.scene.now in
+    let e = tree c.args.expr.now in
+    let i = c.loop-position.position-index in
+    let y = get_or c.args.members.now i 0 in
+    let more = filter_map_more (λ z. whole_number (value_at ps rows e z)) c.args.members.now i 0 c.loop-position-test.true in
+    let value_is : c.in_ok-value.value ≡ value_at ps rows e y =
+      c.in_ok-value.ensures.value ∙ ap (λ qs. value_at qs (scene_rows c.loop-position.scene) e y) c.loop-position.invariant.scene.patterns
+      ∙ ap (λ rs. value_at ps rs e y) c.loop-position.invariant.scene.rows in
     record {
-      numbers = ?;
+      numbers =
+        c.in_ok-add_number.ensures ∙ ap (λ xs. xs ++ option_to_list (whole_number c.in_ok-value.value)) c.loop-position.invariant.numbers
+        ∙ ap (λ v. numbers_of ps rows e (take i c.args.members.now) ++ option_to_list (whole_number v)) value_is ∙ sym more;
       scene = record { patterns = c.value_at.ensures.scene.patterns ∙ c.loop-position.invariant.scene.patterns; rows = c.value_at.ensures.scene.rows ∙ c.loop-position.invariant.scene.rows };
     }
