@@ -1,5 +1,5 @@
 -- The results of rows: those of the first trace, and those of the rows behind it.
-use Rattle.std.proofs.Common.{◌≡◌, ◌≢◌, ◌⊎◌, inl, inr, ℕ, zero, suc, ◌<◌, take, drop, slice_index_or, slice_get, List, [], ◌∷◌, ◌++◌, Bool, true, false, Option, Some, None, refl, sym, ◌∙◌, ap, subst, arith, All, Contains, length, append_assoc}
+use Rattle.std.proofs.Common.{◌≡◌, ◌≢◌, ◌⊎◌, inl, inr, ℕ, zero, suc, ◌<◌, take, drop, slice_index_or, slice_get, ◌==◌, eqb-true, List, [], ◌∷◌, ◌++◌, Bool, true, false, Option, Some, None, refl, sym, ◌∙◌, ap, subst, arith, All, Contains, length, append_assoc}
 use Rattle.std.specs.List.{list_any}
 use Rattle.std.specs.Option.{option_to_list}
 use Rattle.std.specs.Ordering.{is_eq}
@@ -16,8 +16,7 @@ use Rattle.span_types.specs.declared.spans.Row.{Row}
 use Rattle.span_types.specs.Orders.{trace_cmp}
 use Rattle.spanset_eval.specs.declared.results.TraceResult.{TraceResult}
 use Rattle.spanset_eval.specs.Outcomes.{IsOutcome, shown}
-use Rattle.spanset_eval.specs.Stages.{Group, remaining, selected_fields}
-use Rattle.traceql_syntax.specs.declared.field.Field.{Field}
+use Rattle.spanset_eval.specs.Stages.{remaining, selected_fields}
 use Rattle.traceql_syntax.specs.Trees.{QueryTree}
 use Rattle.traceql_types.specs.declared.pattern.Pattern.{Pattern}
 use Rattle.trace_rows.specs.Traces.{is_of_trace, rows_of_trace}
@@ -30,34 +29,20 @@ true_false : true ≡ false → ⊥
 true_false e = cc
 
 -- What is shown of a trace tells its id.
-told : (fields : List Field) (id : TraceId) (rows : List Row) (groups : List Group) (r : TraceResult) →
-    ((row : Row) (rest : List Row) → rows ≡ row ∷ rest → row.span.trace ≡ id) → Some r ≡ shown fields rows groups → r.trace ≡ id
-told fields id [] groups r h e = absurd (some_none e)
-  where
-    some_none : Some r ≡ None → ⊥
-    some_none e = cc
-told fields id (row ∷ rows) [] r h e = absurd (some_none e)
-  where
-    some_none : Some r ≡ None → ⊥
-    some_none e = cc
-told fields id (row ∷ rows) (g ∷ groups) r h e = same_id e ∙ h row rows refl
-  where
-    inside : (x y : TraceResult) → Some x ≡ Some y → x.trace ≡ y.trace
-    inside x y e = let is : x ≡ y = cc in ap (λ z. z.trace) is
-
-    same_id : Some r ≡ shown fields (row ∷ rows) (g ∷ groups) → r.trace ≡ row.span.trace
-    same_id e = inside _ _ e
-
-first_is : (id : TraceId) (front later : List Row) → Splits id front later → (row : Row) (rest : List Row) → front ≡ row ∷ rest → row.span.trace ≡ id
-first_is id [] later s row rest e = cc
-first_is id (x ∷ xs) later s row rest e =
-    let same : x ≡ row = cc in
-    ap (λ y. y.span.trace) (sym same) ∙ same_trace x.span.trace id (s.here 0 x (omega arith))
-
 pub trace_told : (ps : List Pattern) (q : QueryTree) (range : Range) (id : TraceId) (front later : List Row) (r : TraceResult) → Splits id front later →
     IsResult ps q range front r → r.trace ≡ id
-trace_told ps q range id front later r s is =
-    told (selected_fields q.stages) id front (remaining ps front q.stages is.outcome.selected) r (first_is id front later s) is.outcome.is
+trace_told ps q range id [] later r s is = absurd (true_false (sym is.within))
+trace_told ps q range id (row ∷ rows) later r s is =
+    (elim (remaining ps (row ∷ rows) q.stages is.outcome.selected) as (λ gs. Some r ≡ shown (selected_fields q.stages) (row ∷ rows) gs → r.trace ≡ row.span.trace) [
+      | [] ↦ λ e. absurd (some_none e)
+      | g ∷ gs ↦ λ e. inside _ _ e
+    ]) is.outcome.is ∙ same_trace row.span.trace id (s.here 0 row (omega arith))
+  where
+    some_none : Some r ≡ None → ⊥
+    some_none e = cc
+
+    inside : (x y : TraceResult) → Some x ≡ Some y → x.trace ≡ y.trace
+    inside x y e = let is : x ≡ y = cc in ap (λ z. z.trace) is
 
 -- A trace without rows has no result.
 no_result : (ps : List Pattern) (q : QueryTree) (range : Range) (rows : List Row) (r : TraceResult) → rows ≡ [] → IsResult ps q range rows r → ⊥
@@ -191,3 +176,12 @@ out_of_range ps q range part without = record {
   only = λ r e. cc;
   whole = λ r one. absurd (true_false (sym one.within ∙ without));
 }
+
+-- A test for a length of 0.
+pub empty : (rows : List Row) → (length rows == 0) ≡ true → rows ≡ []
+empty [] h = refl
+empty (r ∷ rs) h = let e = eqb-true (length (r ∷ rs)) 0 h in absurd (omega arith)
+
+pub some_rows : (rows : List Row) → (length rows == 0) ≡ false → 0 < length rows
+some_rows [] h = absurd (true_false h)
+some_rows (r ∷ rs) h = omega arith

@@ -1,9 +1,9 @@
 //! What a search answers over rows in memory.
 #![tactic(auto)]
 
-mod answer;
+mod search;
 mod shown;
 mod traces;
 
-pub use answer::answer;
+pub use search::answer;
 

@@ -1,8 +1,9 @@
 //! The answer to a search.
 
-ghost use Rattle.std.specs.Prelude.{◌≡◌, ◌≢◌, ℕ, List, IfOk, OnOk, ◌×◌};
+ghost use Rattle.std.specs.Prelude.{◌≡◌, ◌≢◌, ℕ, List, IfOk, OnOk};
 ghost use Rattle.std.specs.List.{AllPairs};
 ghost use Rattle.std.specs.declared.cmp.Ordering.TheVariants.{Less};
+ghost use Rattle.span_tree.specs.Nodes.{IsOneTrace};
 ghost use Rattle.span_types.specs.First.{IsFirstOf};
 ghost use Rattle.span_types.specs.Keys.{row_key};
 ghost use Rattle.span_types.specs.Orders.{block_order};
@@ -68,6 +69,7 @@ fn add_result(
     part: &[Row],
     all: &mut Vec<TraceResult>,
 ) -> Result<(), Memory>
+    requires { IsOneTrace part.now }
     ensures { OnOk result (AddsOf checked.now.patterns (query_tree checked.now.query) range part.now all.old.items all.new.items) }
 {
     if !starts_in(range, part) {

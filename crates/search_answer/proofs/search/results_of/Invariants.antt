@@ -4,7 +4,7 @@ use Rattle.spanset_eval.specs.declared.results.TraceResult.{TraceResult}
 use Rattle.traceql_syntax.specs.Trees.{query_tree}
 use Rattle.search_answer.specs.Answers.{AreResults}
 use Rattle.search_answer.specs.Traces.{IsSorted}
-use Rattle.search_answer.proofs.answer.results_of.Given as goal
+use Rattle.search_answer.proofs.search.results_of.Given as goal
 
 abbrev pub invariant-loop-rest : goal.invariant-loop-rest
 invariant-loop-rest l = record {
