@@ -1,5 +1,5 @@
 -- Sums, and the order of quotients.
-use Rattle.std.proofs.Common.{◌≡◌, ℕ, ℤ, pos, negsuc, zero, suc, ◌+◌, ◌-◌, ◌*◌, ◌/◌, ◌%◌, ◌<◌, ◌≤◌, ◌++◌, List, [], ◌∷◌, length, take, get_or, sym, ap, arith, ◌∙◌, refl, subst, Option, Some, None, Bool, true, false, cond}
+use Rattle.std.proofs.Common.{◌≡◌, ℕ, ℤ, pos, negsuc, zero, suc, ◌+◌, ◌*◌, ◌/◌, ◌%◌, ◌<◌, ◌++◌, List, [], ◌∷◌, length, take, get_or, sym, ap, arith, ◌∙◌, refl, subst, Option, Some, None}
 use Rattle.std.specs.Prelude.{◌*ℤ◌, ◌+ℤ◌, ◌<ℤ◌, ◌≤ℤ◌}
 use Rattle.std.specs.Cmp.{int_cmp_is, int_ranks}
 use Rattle.std.specs.Int.{int_div_euclid, int_rem_euclid}
@@ -12,11 +12,11 @@ use Rattle.std.proofs.lemmas.Cmp.{ranked}
 use Rattle.std.proofs.lemmas.Int.{ints}
 use Rattle.std.proofs.lemmas.List.{take_more}
 use Rattle.std.proofs.lemmas.List.Elements.{filter_map-append}
-use Rattle.std.proofs.Math.Nat.{mul_assoc, mul_comm, mul-lt-mul_of_pos_right, mod-lt}
+use Rattle.std.proofs.Math.Nat.{mul_comm, mul-lt-mul_of_pos_right, mod-lt}
 use Rattle.std.proofs.lemmas.Nat.{div-add-mod'}
 use lib.IntN.{suc_ℤ, suc_ℤ-*ℤ, +ℤ-suc_ℤ, *ℤ-zero}
 use Rattle.spanset_eval.specs.Stages.{total_of}
-use Rattle.spanset_eval.proofs.ProductLaws.{product_assoc, times_less, scaled}
+use Rattle.spanset_eval.proofs.ProductLaws.{product_assoc, times_less}
 
 total_of-push : (xs : List ℤ) (x : ℤ) → total_of (xs ++ x ∷ []) ≡ total_of xs +ℤ x
 total_of-push [] x = omega (arith, ints)
@@ -94,14 +94,19 @@ amounts_in_order s t x y m n a b es la et lb =
   where
     left : s *ℤ pos n ≡ x *ℤ pos (m * n) +ℤ pos (a * n)
     left = ap (λ z. z *ℤ pos n) es ∙ sum_times (x *ℤ pos m) a n ∙ ap (λ z. z +ℤ pos (a * n)) (product_assoc x m n)
+
     right : t *ℤ pos m ≡ y *ℤ pos (m * n) +ℤ pos (b * m)
     right = ap (λ z. z *ℤ pos m) et ∙ sum_times (y *ℤ pos n) b m ∙ ap (λ z. z +ℤ pos (b * m)) (product_assoc y n m ∙ ap (λ k. y *ℤ pos k) (mul_comm n m))
+
     small : a * n < m * n
     small = mul-lt-mul_of_pos_right la (omega arith)
+
     small' : b * m < m * n
     small' = subst (λ k. b * m < k) (mul_comm n m) (mul-lt-mul_of_pos_right lb (omega arith))
+
     step : (u v : ℤ) → u <ℤ v → (u *ℤ pos (m * n) +ℤ pos (m * n)) ≤ℤ (v *ℤ pos (m * n))
     step u v l = let h = times_le (u +ℤ pos 1) v (m * n) (omega (arith, ints)) in let e = sum_times u 1 (m * n) in omega (arith, ints)
+
     by_whole : (o : Ordering) → MatchOrdering o (x <ℤ y) (x ≡ y) (y <ℤ x) → ordering_then o (nat_cmp (a * n) (b * m)) ≡ int_cmp (s *ℤ pos n) (t *ℤ pos m)
     by_whole Less l = let h = step x y l in let e = left in let f = right in let g = small in int_cmp_is (s *ℤ pos n) (t *ℤ pos m) Less (omega (arith, ints))
     by_whole Equal e = sym (ap (λ z. int_cmp z (t *ℤ pos m)) left ∙ ap (λ z. int_cmp (x *ℤ pos (m * n) +ℤ pos (a * n)) z) (right ∙ ap (λ z. z *ℤ pos (m * n) +ℤ pos (b * m)) (sym e))

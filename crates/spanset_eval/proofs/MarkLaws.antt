@@ -1,10 +1,10 @@
 -- Marks, and the sets for which they stand.
-use Rattle.std.proofs.Common.{◌≡◌, ℕ, zero, suc, ◌+◌, ◌<◌, ◌≤◌, List, [], ◌∷◌, ◌++◌, length, get_or, Contains, All, Bool, true, false, not, ◌&&◌, ◌||◌, cond, refl, sym, ap, ◌∙◌, subst, ◌⊎◌, inl, inr, arith}
-use Rattle.std.proofs.lemmas.Bool.{and_parts, and_from, or_cases, or_left, or_right, not-true, not_from_false, false_from_ne_true, cases_Bool}
+use Rattle.std.proofs.Common.{◌≡◌, ℕ, ◌<◌, ◌≤◌, List, [], length, Bool, true, false, not, ◌&&◌, ◌||◌, refl, sym, ◌∙◌, subst, ◌⊎◌, inl, inr, arith}
+use Rattle.std.proofs.lemmas.Bool.{and_parts, and_from, or_cases, or_left, or_right, not-true, not_from_false, false_from_ne_true}
 use Rattle.std.proofs.lemmas.List.{get_or_past}
 use Rattle.span_tree.specs.declared.node.Node.{Node}
 use Rattle.span_tree.specs.Marking.{IsMarked, MarksExactly}
-use Rattle.span_tree.specs.Relations.{IsParent, IsAncestor, IsSibling}
+use Rattle.span_tree.specs.Relations.{IsSibling}
 use Rattle.traceql_syntax.specs.declared.query.Relation.{Relation}
 use Rattle.traceql_syntax.specs.declared.query.Relation.TheVariants as relation
 use Rattle.traceql_syntax.specs.declared.query.Side.{Side}
@@ -45,9 +45,9 @@ pub without_set : (count : ℕ) (left right : List Bool) (A B : ℕ → Type 0) 
     MarksSet count A left → MarksSet count B right → MarksBy count (λ y. mark_at left y && not (mark_at right y)) marks → MarksSet count (λ y. A y × (B y → ⊥)) marks
 without_set count left right A B marks a b by = set_by count (λ y. mark_at left y && not (mark_at right y)) (λ y. A y × (B y → ⊥)) marks by
     (λ y h. let p = and_parts (mark_at left y) (not (mark_at right y)) h in
-      (a.only y p.0, λ is. let clash : false ≡ true = sym (not-true (mark_at right y) p.1) ∙ b.whole y is in cc))
+    (a.only y p.0, λ is. let clash : false ≡ true = sym (not-true (mark_at right y) p.1) ∙ b.whole y is in cc))
     (λ y h. and_from (mark_at left y) (not (mark_at right y)) (a.whole y h.0)
-      (not_from_false (mark_at right y) (false_from_ne_true (mark_at right y) (λ m. h.1 (b.only y m)))))
+    (not_from_false (mark_at right y) (false_from_ne_true (mark_at right y) (λ m. h.1 (b.only y m)))))
     (λ y h. subst (λ n. y < n) a.one_each (in_marks left y (a.whole y h.0)))
 
 pub either_set : (count : ℕ) (left right : List Bool) (A B : ℕ → Type 0) (marks : List Bool) →
@@ -157,8 +157,8 @@ pub both_marks : (r : Relation) (nodes : List Node) (count : ℕ) (left right re
 both_marks r nodes count left right reached reaching on_right on_left marks le re is back by_right by_left by =
     let a = right_marks count (Relates r nodes) left right reached on_right re is by_right in
     let b : MarksSet count (λ y. IsMarked left y × IsReached (IsMarked right) (λ z x. Relates r nodes x z) y) on_left =
-      both_set count left reaching (IsMarked left) (IsReached (IsMarked right) (λ z x. Relates r nodes x z)) on_left (marked_set count left le)
-      (reached_back r nodes count right reaching back) (by_count count (length left) (λ y. mark_at left y && mark_at reaching y) on_left le by_left) in
+    both_set count left reaching (IsMarked left) (IsReached (IsMarked right) (λ z x. Relates r nodes x z)) on_left (marked_set count left le)
+    (reached_back r nodes count right reaching back) (by_count count (length left) (λ y. mark_at left y && mark_at reaching y) on_left le by_left) in
     either_set count on_right on_left (λ y. IsMarked right y × IsReached (IsMarked left) (Relates r nodes) y)
     (λ y. IsMarked left y × IsReached (IsMarked right) (λ z x. Relates r nodes x z) y) marks a b
     (by_count count (length on_right) (λ y. mark_at on_right y || mark_at on_left y) marks (a.one_each) by)

@@ -1,5 +1,5 @@
 -- Parts of a list by values: joining them in any order gives the same, and what they have in the end.
-use Rattle.std.proofs.Common.{◌≡◌, ℕ, zero, suc, ◌<◌, arith, length, Option, Some, None, reverse, List, [], ◌∷◌, ◌++◌, map, Bool, true, false, cond, refl, sym, ap, ◌∙◌, subst, ◌⊎◌, inl, inr, append_assoc}
+use Rattle.std.proofs.Common.{◌≡◌, ℕ, arith, length, Option, Some, None, reverse, List, [], ◌∷◌, ◌++◌, map, true, false, cond, refl, sym, ap, ◌∙◌, subst, ◌⊎◌, inl, inr, append_assoc}
 use Rattle.std.specs.Cmp.{IsTotalOrder}
 use Rattle.std.specs.List.{filter}
 use Rattle.std.specs.Option.{option_to_list, MatchOption}
@@ -88,6 +88,7 @@ put_swapped o a p e (r ∷ rs) =
   where
     alike : (v : Value) → value_cmp p.value r.value ≡ Equal → value_cmp a.value r.value ≡ Less
     alike v q = flip_greater o r.value a.value (sym (o.congr p.value r.value a.value q) ∙ flip_less o a.value p.value e)
+
     last : value_cmp p.value r.value ≡ Greater → put_part a (put_part p rs) ≡ put_part p (put_part a rs) → put_part a (r ∷ put_part p rs) ≡ put_part p (put_part a (r ∷ rs))
     last g behind = elim (three (value_cmp a.value r.value)) as (λ _. put_part a (r ∷ put_part p rs) ≡ put_part p (put_part a (r ∷ rs))) [
       | inl l ↦
@@ -359,6 +360,7 @@ takes_first ls rs ls' rs' r er er' el up = record {
     after : (o : Option Part) → Ascend (option_to_list o ++ ls') → Ascend ls'
     after None h = h
     after (Some p) h = h.1
+
     behind : Ascend ls'
     behind = after r (subst Ascend el up)
 

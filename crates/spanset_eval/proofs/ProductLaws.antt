@@ -1,12 +1,10 @@
 -- Products of signed numbers.
-use Rattle.std.proofs.Common.{◌≡◌, ℕ, ℤ, pos, negsuc, zero, suc, ◌+◌, ◌-◌, ◌*◌, ◌<◌, List, [], ◌∷◌, sym, ap, arith, ◌∙◌, refl, subst, true, false}
+use Rattle.std.proofs.Common.{◌≡◌, ℕ, ℤ, pos, negsuc, zero, suc, ◌*◌, ◌<◌, sym, ap, arith, ◌∙◌, refl}
 use Rattle.std.specs.Prelude.{◌*ℤ◌, ◌<ℤ◌}
-use Rattle.std.specs.Cmp.{IsTotalOrder, int_cmp_is, int_ranks}
-use Rattle.std.specs.Cmp.Lexicographic.{slice_cmp}
-use Rattle.std.specs.Ordering.{int_cmp, nat_cmp, ordering_then, ordering_reverse, MatchOrdering, on}
+use Rattle.std.specs.Cmp.{int_cmp_is, int_ranks}
+use Rattle.std.specs.Ordering.{int_cmp, MatchOrdering}
 use Rattle.std.specs.declared.cmp.Ordering.{Ordering}
 use Rattle.std.specs.declared.cmp.Ordering.TheVariants.{Less, Equal, Greater}
-use Rattle.std.proofs.lemmas.Cmp.{by_ranked, then_total, on_total, nat_cmp_total, int_cmp_total, nat_list_cmp_total}
 use Rattle.std.proofs.lemmas.Int.{ints}
 use Rattle.std.proofs.Math.Nat.{mul_assoc, mul_comm, mul-lt-mul_of_pos_right, mul-pos}
 use lib.IntN.{neg_ℤ-neg_ℤ}

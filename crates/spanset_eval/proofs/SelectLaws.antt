@@ -1,16 +1,15 @@
 -- What an expression over spansets selects, by marks.
-use Rattle.std.proofs.Common.{◌≡◌, ℕ, zero, suc, ◌+◌, ◌<◌, ◌≤◌, List, [], ◌∷◌, ◌++◌, length, get_or, map, Contains, Bool, true, false, cond, Option, Some, None, Result, Ok, Err, refl, sym, ap, ◌∙◌, subst, ◌⊎◌, inl, inr, arith}
+use Rattle.std.proofs.Common.{◌≡◌, ℕ, zero, suc, ◌+◌, ◌<◌, ◌≤◌, List, [], ◌∷◌, ◌++◌, length, get_or, map, Contains, Bool, true, false, cond, Option, Some, Result, Ok, Err, refl, sym, ap, ◌∙◌, subst, ◌⊎◌, inl, inr, arith}
 use Rattle.std.proofs.Common.{slice_get}
 use Rattle.std.specs.List.{filter}
 use Rattle.std.specs.Result.{IfOk, OnOk}
 use Rattle.std.specs.List.Sorted.{IsStrictlyIncreasing}
-use Rattle.std.proofs.lemmas.Option.{same_Some, none-some}
+use Rattle.std.proofs.lemmas.Option.{same_Some}
 use Rattle.std.proofs.lemmas.List.{length-map, append-nil}
 use Rattle.std.proofs.lemmas.List.Elements.{filter-append}
 use Rattle.span_types.specs.declared.spans.Row.{Row}
-use Rattle.traceql_syntax.specs.Trees.{Placed, SetTree, Filter, Join}
+use Rattle.traceql_syntax.specs.Trees.{Placed}
 use Rattle.traceql_types.specs.declared.pattern.Pattern.{Pattern}
-use Rattle.span_tree.specs.Marking.{IsMarked}
 use Rattle.spanset_eval.specs.Marked.{mark_at, MarksSet}
 use Rattle.spanset_eval.specs.Outcomes.{IsListOf}
 use Rattle.spanset_eval.specs.Sets.{keeps, IsKept}
@@ -42,10 +41,10 @@ pub kept_set : (ps : List Pattern) (rows : List Row) (condition : Option Placed)
 kept_set ps rows condition marks is = record {
   one_each = ap length is ∙ length-map rows (λ (r : Row). keeps ps rows condition r.span);
   only = λ y h.
-    let w = kept_only (λ (r : Row). keeps ps rows condition r.span) rows y (subst (λ ms. get_or ms y false ≡ true) is h) in
-    record { row = w.0; is = w.1; kept = w.2 };
+      let w = kept_only (λ (r : Row). keeps ps rows condition r.span) rows y (subst (λ ms. get_or ms y false ≡ true) is h) in
+      record { row = w.0; is = w.1; kept = w.2 };
   whole = λ y h.
-    subst (λ ms. get_or ms y false ≡ true) (sym is) (kept_whole (λ (r : Row). keeps ps rows condition r.span) rows y h.row h.is h.kept);
+      subst (λ ms. get_or ms y false ≡ true) (sym is) (kept_whole (λ (r : Row). keeps ps rows condition r.span) rows y h.row h.is h.kept);
 }
 
 -- ---- lists of positions
@@ -66,6 +65,7 @@ positions_more n = ap (positions_from 0) (same n) ∙ positions_next 0 n ∙ ap 
   where
     same : (k : ℕ) → k + 1 ≡ suc k
     same k = omega arith
+
     none : (k : ℕ) → 0 + k ≡ k
     none k = omega arith
 
@@ -124,6 +124,7 @@ positions_contain first (suc n) y a b = elim (at_or_past first y a) as (λ _. Co
   where
     at_or_past : (m k : ℕ) → m ≤ k → (m ≡ k) ⊎ (suc m ≤ k)
     at_or_past m k l = grind arith
+
     moved : (m i k : ℕ) → k < m + suc i → k < suc m + i
     moved m i k l = omega arith
 
@@ -165,9 +166,9 @@ list_of_marks count A marks members is set = subst (IsListOf A) (sym is) (record
   ascending = rises_strictly 0 (filter (mark_at marks) (positions_from 0 (length marks))) (rises_filter (mark_at marks) 0 (length marks));
   only = λ y h. set.only y (filter_only (mark_at marks) (positions_from 0 (length marks)) y h);
   whole = λ y a.
-    let m = set.whole y a in
-    let l = in_marks marks y m in
-    filter_whole (mark_at marks) (positions_from 0 (length marks)) y m (positions_contain 0 (length marks) y (omega arith) (omega arith));
+      let m = set.whole y a in
+      let l = in_marks marks y m in
+      filter_whole (mark_at marks) (positions_from 0 (length marks)) y m (positions_contain 0 (length marks) y (omega arith) (omega arith));
 })
 
 -- A filter by another test that says the same up to a bound.

@@ -1,5 +1,5 @@
 -- Marks on the spans of a trace, and the sets for which they stand.
-use Rattle.std.specs.Prelude.{◌≡◌, ℕ, ◌<◌, List, Bool, true, false, length, slice_index_or}
+use Rattle.std.specs.Prelude.{◌≡◌, ℕ, ◌<◌, List, Bool, false, length, slice_index_or}
 use Rattle.span_tree.specs.Marking.{IsMarked}
 
 -- whether a position has a mark

@@ -2,10 +2,10 @@
 #![tactic(auto)]
 
 mod amounts;
-mod outcome;
 mod groups;
 mod look;
 mod marks;
+mod outcome;
 mod parts;
 mod ranking;
 mod relate;

@@ -25,7 +25,12 @@ use traceql_types::Checked;
 use traceql_value::{Scene, Value, Values};
 
 // Adds what the fields are for a span.
-fn add_fields(scene: &Scene<'_>, fields: &[Field], span: &Span, values: &mut Vec<Value>) -> Result<(), Memory>
+fn add_fields(
+    scene: &Scene<'_>,
+    fields: &[Field],
+    span: &Span,
+    values: &mut Vec<Value>,
+) -> Result<(), Memory>
     ensures { OnOk result (values.new.items ≡ values.old.items ++ map (λ f. field_of_span f (scene_rows scene.now) span.now) fields.now) }
 {
     for field in fields {
@@ -35,7 +40,12 @@ fn add_fields(scene: &Scene<'_>, fields: &[Field], span: &Span, values: &mut Vec
 }
 
 // Adds what the fields of a stage are for a span.
-fn add_stage_fields(scene: &Scene<'_>, stage: &Stage, span: &Span, values: &mut Vec<Value>) -> Result<(), Memory>
+fn add_stage_fields(
+    scene: &Scene<'_>,
+    stage: &Stage,
+    span: &Span,
+    values: &mut Vec<Value>,
+) -> Result<(), Memory>
     ensures { OnOk result (values.new.items ≡ values.old.items ++ map (λ f. field_of_span f (scene_rows scene.now) span.now) (fields_of_stage (stage_tree stage.now))) }
 {
     match stage {
@@ -45,7 +55,12 @@ fn add_stage_fields(scene: &Scene<'_>, stage: &Stage, span: &Span, values: &mut 
 }
 
 // What the selected fields are for a span.
-fn fields_of(alloc: Global, scene: &Scene<'_>, stages: &[Stage], span: &Span) -> Result<Values, Memory>
+fn fields_of(
+    alloc: Global,
+    scene: &Scene<'_>,
+    stages: &[Stage],
+    span: &Span,
+) -> Result<Values, Memory>
     ensures { IfOk result (λ values. values ≡ map (λ f. field_of_span f (scene_rows scene.now) span.now) (selected_fields (map stage_tree stages.now))) }
 {
     let mut values = Vec::new(alloc);
@@ -70,7 +85,13 @@ fn hit(alloc: Global, scene: &Scene<'_>, stages: &[Stage], span: &Span) -> Resul
 }
 
 // The span at a position as it is shown, if there is one.
-fn hit_at(alloc: Global, scene: &Scene<'_>, rows: &[Row], stages: &[Stage], position: usize) -> Result<Option<Hit>, Memory>
+fn hit_at(
+    alloc: Global,
+    scene: &Scene<'_>,
+    rows: &[Row],
+    stages: &[Stage],
+    position: usize,
+) -> Result<Option<Hit>, Memory>
     requires { rows.now ≡ scene_rows scene.now }
     ensures { IfOk result (λ found. found ≡ hit_at (selected_fields (map stage_tree stages.now)) (scene_rows scene.now) position) }
 {
@@ -91,7 +112,14 @@ fn extend(hits: &mut Vec<Hit>, more: Option<Hit>) -> Result<(), Memory>
 }
 
 // Adds the span at a position as it is shown, if there is one.
-fn add_hit(alloc: Global, scene: &Scene<'_>, rows: &[Row], stages: &[Stage], position: usize, hits: &mut Vec<Hit>) -> Result<(), Memory>
+fn add_hit(
+    alloc: Global,
+    scene: &Scene<'_>,
+    rows: &[Row],
+    stages: &[Stage],
+    position: usize,
+    hits: &mut Vec<Hit>,
+) -> Result<(), Memory>
     requires { rows.now ≡ scene_rows scene.now }
     ensures { OnOk result (hits.new.items ≡ hits.old.items ++ option_to_list (hit_at (selected_fields (map stage_tree stages.now)) (scene_rows scene.now) position)) }
 {
@@ -100,7 +128,13 @@ fn add_hit(alloc: Global, scene: &Scene<'_>, rows: &[Row], stages: &[Stage], pos
 }
 
 // The members as they are shown.
-fn hits(alloc: Global, scene: &Scene<'_>, rows: &[Row], stages: &[Stage], members: &[usize]) -> Result<Hits, Memory>
+fn hits(
+    alloc: Global,
+    scene: &Scene<'_>,
+    rows: &[Row],
+    stages: &[Stage],
+    members: &[usize],
+) -> Result<Hits, Memory>
     requires { rows.now ≡ scene_rows scene.now }
     ensures { IfOk result (λ hits. hits ≡ filter_map (hit_at (selected_fields (map stage_tree stages.now)) (scene_rows scene.now)) members.now) }
 {
@@ -112,7 +146,13 @@ fn hits(alloc: Global, scene: &Scene<'_>, rows: &[Row], stages: &[Stage], member
 }
 
 // A spanset as it is shown.
-fn set_result(alloc: Global, scene: &Scene<'_>, rows: &[Row], stages: &[Stage], group: Group) -> Result<SetResult, Memory>
+fn set_result(
+    alloc: Global,
+    scene: &Scene<'_>,
+    rows: &[Row],
+    stages: &[Stage],
+    group: Group,
+) -> Result<SetResult, Memory>
     requires { rows.now ≡ scene_rows scene.now }
     ensures { IfOk result (λ set. set ≡ set_result (selected_fields (map stage_tree stages.now)) (scene_rows scene.now) group) }
 {
@@ -125,7 +165,13 @@ fn set_result(alloc: Global, scene: &Scene<'_>, rows: &[Row], stages: &[Stage], 
 }
 
 // Spansets as they are shown.
-fn sets(alloc: Global, scene: &Scene<'_>, rows: &[Row], stages: &[Stage], groups: Vec<Group>) -> Result<Sets, Memory>
+fn sets(
+    alloc: Global,
+    scene: &Scene<'_>,
+    rows: &[Row],
+    stages: &[Stage],
+    groups: Vec<Group>,
+) -> Result<Sets, Memory>
     requires { rows.now ≡ scene_rows scene.now }
     ensures { IfOk result (λ sets. sets ≡ map (set_result (selected_fields (map stage_tree stages.now)) (scene_rows scene.now)) groups.items) }
 {
@@ -137,7 +183,13 @@ fn sets(alloc: Global, scene: &Scene<'_>, rows: &[Row], stages: &[Stage], groups
 }
 
 // What is shown of a trace: nothing where no spanset is left.
-fn shown(alloc: Global, scene: &Scene<'_>, rows: &[Row], stages: &[Stage], groups: Vec<Group>) -> Result<Option<TraceResult>, Memory>
+fn shown(
+    alloc: Global,
+    scene: &Scene<'_>,
+    rows: &[Row],
+    stages: &[Stage],
+    groups: Vec<Group>,
+) -> Result<Option<TraceResult>, Memory>
     requires { rows.now ≡ scene_rows scene.now }
     ensures { IfOk result (λ outcome. outcome ≡ shown (selected_fields (map stage_tree stages.now)) rows.now groups.items) }
 {
@@ -158,7 +210,12 @@ fn shown(alloc: Global, scene: &Scene<'_>, rows: &[Row], stages: &[Stage], group
 }
 
 // The positions of the spans that the expression selects.
-fn selected(alloc: Global, scene: &mut Scene<'_>, rows: &[Row], expr: &SpansetExpr) -> Result<Members, Memory>
+fn selected(
+    alloc: Global,
+    scene: &mut Scene<'_>,
+    rows: &[Row],
+    expr: &SpansetExpr,
+) -> Result<Members, Memory>
     requires rows { rows.now ≡ scene_rows scene.old }
     requires one { IsOneTrace rows.now }
     ensures positions { IfOk result (IsListOf (Selects (scene_patterns scene.old) rows.now (set_tree expr.now))) }

@@ -32,7 +32,12 @@ pub fn select<L: Ledger>(
 {
     match expr {
         SpansetExpr::Filter { condition, .. } => look::kept(alloc, scene, rows, condition),
-        SpansetExpr::Join { op, left, right, .. } => {
+        SpansetExpr::Join {
+            op,
+            left,
+            right,
+            ..
+        } => {
             let left = select(alloc, scene, rows, tree, left, steps)?;
             let right = select(alloc, scene, rows, tree, right, steps)?;
             relate::joined(alloc, tree, *op, &left, &right, steps)

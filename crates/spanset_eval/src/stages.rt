@@ -184,7 +184,15 @@ fn compare(
 {
     let mut kept = Vec::new(alloc);
     for group in groups {
-        if amounts::is_true(alloc, scene, rows, left, op, right, group.members.as_slice())? {
+        if amounts::is_true(
+            alloc,
+            scene,
+            rows,
+            left,
+            op,
+            right,
+            group.members.as_slice(),
+        )? {
             kept.push(group)?;
         }
     }
@@ -209,9 +217,12 @@ fn after_stage(
         Stage::By(operand) => split(alloc, scene, rows, &operand.expr, groups.as_slice()),
         Stage::Coalesce => coalesce(alloc, rows, groups.as_slice()),
         Stage::Select(_) => Ok(groups),
-        Stage::Compare { left, op, right, .. } => {
-            compare(alloc, scene, rows, left, *op, right, groups)
-        }
+        Stage::Compare {
+            left,
+            op,
+            right,
+            ..
+        } => { compare(alloc, scene, rows, left, *op, right, groups) }
     }
 }
 

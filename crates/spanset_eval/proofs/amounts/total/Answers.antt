@@ -1,4 +1,4 @@
-use Rattle.std.proofs.Common.{arith, length, ℤ, pos}
+use Rattle.std.proofs.Common.{arith}
 use Rattle.std.proofs.lemmas.Int.{ints, to_z-of_z}
 use Rattle.spanset_eval.proofs.AmountLaws.{total_more}
 use Rattle.spanset_eval.proofs.amounts.total.Goals as goal

@@ -1,5 +1,5 @@
 -- So far there is a mark for each row that was passed.
-use Rattle.std.proofs.Common.{◌≡◌, ℕ, ◌+◌, ◌*◌, ◌<◌, ◌≤◌, ◌++◌, ◌∷◌, [], ◌&&◌, ◌||◌, not, false, All, length, take, drop, map, reverse}
+use Rattle.std.proofs.Common.{◌≡◌, take, map}
 use Rattle.span_types.specs.declared.spans.Row.{Row}
 use Rattle.traceql_syntax.specs.Trees.{placed_option}
 use Rattle.traceql_value.specs.Scenes.{scene_patterns, scene_rows}
@@ -10,4 +10,3 @@ use Rattle.spanset_eval.proofs.look.kept.Given as goal
 abbrev pub invariant-loop-row : goal.invariant-loop-row
 invariant-loop-row l =
     record { marks : l.marks.items ≡ map (λ (r : Row). keeps (scene_patterns l.fn.scene) (scene_rows l.fn.scene) (placed_option l.condition) r.span) (take l.row-index l.rows); scene : IsSame l.fn.scene l.scene }
-

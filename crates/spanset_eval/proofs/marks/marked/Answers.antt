@@ -1,5 +1,3 @@
-use Rattle.std.proofs.Common.{◌≡◌, ◌∙◌, ap, sym, ℕ, Bool, true, false, ◌++◌, ◌∷◌, []}
-use Rattle.std.proofs.lemmas.List.{get_or_read}
 use Rattle.spanset_eval.specs.Marked.{mark_at}
 use Rattle.spanset_eval.proofs.marks.marked.Goals as goal
 use Rattle.spanset_eval.proofs.marks.marked.Goals.{then-mark+in_ok-push, else-mark}

@@ -1,5 +1,5 @@
 -- So far the list has the positions with a mark that were passed.
-use Rattle.std.proofs.Common.{◌≡◌, ℕ, ◌+◌, ◌*◌, ◌<◌, ◌≤◌, ◌++◌, ◌∷◌, [], ◌&&◌, ◌||◌, not, false, All, length, take, drop, map, reverse}
+use Rattle.std.proofs.Common.{◌≡◌}
 use Rattle.std.specs.List.{filter}
 use Rattle.spanset_eval.specs.Marked.{mark_at}
 use Rattle.spanset_eval.specs.Stages.{positions_from}
@@ -8,4 +8,3 @@ use Rattle.spanset_eval.proofs.marks.marked.Given as goal
 abbrev pub invariant-loop-position : goal.invariant-loop-position
 invariant-loop-position l =
     l.members.items ≡ filter (mark_at l.mark-items) (positions_from 0 l.position)
-

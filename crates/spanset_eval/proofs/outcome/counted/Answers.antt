@@ -1,7 +1,7 @@
 use Rattle.std.proofs.Common.{◌≡◌, length}
 use Rattle.std.specs.List.{filter}
 use Rattle.traceql_syntax.specs.Trees.{set_tree}
-use Rattle.traceql_value.specs.Scenes.{scene_patterns, scene_rows}
+use Rattle.traceql_value.specs.Scenes.{scene_patterns}
 use Rattle.spanset_eval.specs.Marked.{mark_at}
 use Rattle.spanset_eval.specs.Outcomes.{IsListOf}
 use Rattle.spanset_eval.specs.Sets.{Selects}

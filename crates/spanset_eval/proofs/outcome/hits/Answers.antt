@@ -1,4 +1,4 @@
-use Rattle.std.proofs.Common.{◌≡◌, ◌++◌, ℕ, ◌∙◌, ap, sym, map}
+use Rattle.std.proofs.Common.{map}
 use Rattle.traceql_syntax.specs.Trees.{stage_tree}
 use Rattle.traceql_value.specs.Scenes.{scene_rows}
 use Rattle.spanset_eval.specs.Outcomes.{hit_at}
@@ -9,5 +9,5 @@ use Rattle.spanset_eval.proofs.outcome.hits.Goals as goal
 pub loop-position-preserved : goal.loop-position-preserved
 loop-position-preserved c =
     let more = filter_map_more (hit_at (selected_fields (map stage_tree c.args.stages.now)) (scene_rows c.args.scene.now)) c.args.members.now c.loop-position.position-index 0
-      c.loop-position-test.true in
+    c.loop-position-test.true in
     cc c.in_ok-add_hit.ensures

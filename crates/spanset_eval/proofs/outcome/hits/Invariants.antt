@@ -1,8 +1,8 @@
 -- So far the list has the members that were passed.
-use Rattle.std.proofs.Common.{◌≡◌, ℕ, ◌+◌, ◌*◌, ◌<◌, ◌≤◌, ◌++◌, ◌∷◌, [], ◌&&◌, ◌||◌, not, false, All, length, take, drop, map, reverse}
+use Rattle.std.proofs.Common.{◌≡◌, take, map}
 use Rattle.std.specs.List.{filter_map}
 use Rattle.traceql_syntax.specs.Trees.{stage_tree}
-use Rattle.traceql_value.specs.Scenes.{scene_patterns, scene_rows}
+use Rattle.traceql_value.specs.Scenes.{scene_rows}
 use Rattle.spanset_eval.specs.Outcomes.{hit_at}
 use Rattle.spanset_eval.specs.Stages.{selected_fields}
 use Rattle.spanset_eval.proofs.outcome.hits.Given as goal
@@ -10,4 +10,3 @@ use Rattle.spanset_eval.proofs.outcome.hits.Given as goal
 abbrev pub invariant-loop-position : goal.invariant-loop-position
 invariant-loop-position l =
     l.hits.items ≡ filter_map (hit_at (selected_fields (map stage_tree l.stages)) (scene_rows l.scene)) (take l.position-index l.members)
-

@@ -1,5 +1,5 @@
 -- What was taken and what is ahead is all, in order.
-use Rattle.std.proofs.Common.{◌≡◌, ℕ, ◌+◌, ◌*◌, ◌<◌, ◌≤◌, ◌++◌, ◌∷◌, [], ◌&&◌, ◌||◌, not, false, All, length, take, drop, map, reverse}
+use Rattle.std.proofs.Common.{◌≡◌, ◌+◌, ◌++◌, reverse}
 use Rattle.spanset_eval.specs.Parts.{put_all, Ascend}
 use Rattle.spanset_eval.proofs.parts.merged.Given as goal
 
@@ -9,4 +9,3 @@ invariant-loop-merged l =
 
 abbrev pub decreases-loop-merged : goal.decreases-loop-merged
 decreases-loop-merged l = l.left.len + l.right.len
-

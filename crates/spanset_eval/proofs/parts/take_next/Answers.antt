@@ -1,6 +1,4 @@
-use Rattle.std.proofs.Common.{◌≡◌, ◌∙◌, sym, arith, ◌<◌, ◌+◌, length}
-use Rattle.std.specs.Vec.{vec_len}
-use Rattle.spanset_eval.specs.declared.parts.Part.{Part}
+use Rattle.std.proofs.Common.{◌∙◌, sym, arith}
 use Rattle.spanset_eval.proofs.PartLaws.{less_arm, greater_arm, equal_arm, first_arm, at_none}
 use Rattle.spanset_eval.proofs.parts.take_next.Goals as goal
 

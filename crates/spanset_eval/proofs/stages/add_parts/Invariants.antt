@@ -1,10 +1,8 @@
 -- So far a spanset was added for each part that was passed.
-use Rattle.std.proofs.Common.{◌≡◌, ℕ, ◌+◌, ◌*◌, ◌<◌, ◌≤◌, ◌++◌, ◌∷◌, [], ◌&&◌, ◌||◌, not, false, All, length, take, drop, map, reverse}
-use Rattle.spanset_eval.specs.declared.groups.Group.{Group}
+use Rattle.std.proofs.Common.{◌≡◌, ◌++◌, ◌∷◌, [], map}
 use Rattle.spanset_eval.specs.declared.parts.Part.{Part}
 use Rattle.spanset_eval.proofs.stages.add_parts.Given as goal
 
 abbrev pub invariant-loop-part : goal.invariant-loop-part
 invariant-loop-part l =
     l.found.items ≡ l.fn.found.items ++ map (λ (p : Part). record { by = l.by ++ p.value ∷ []; members = p.members }) l.yielded
-

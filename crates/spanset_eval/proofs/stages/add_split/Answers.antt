@@ -1,7 +1,6 @@
-use Rattle.std.proofs.Common.{◌≡◌, ◌++◌, ◌∷◌, [], ◌∙◌, ap, sym, map, subst, All}
+use Rattle.std.proofs.Common.{◌≡◌, ◌++◌, ◌∷◌, [], ◌∙◌, ap, map}
 use Rattle.traceql_syntax.specs.Trees.{tree}
 use Rattle.traceql_value.specs.Scenes.{scene_patterns, scene_rows}
-use Rattle.spanset_eval.specs.declared.groups.Group.{Group}
 use Rattle.spanset_eval.specs.declared.parts.Part.{Part}
 use Rattle.spanset_eval.specs.Parts.{arranged, part_of}
 use Rattle.spanset_eval.specs.Stages.{split_by, value_at}
@@ -19,6 +18,6 @@ returns-clause-found c =
     on_ok c.add_parts.result (c.add_parts.new.found.items ≡ c.args.found.now.items ++ map (λ (p : Part). record { by = g.by ++ p.value ∷ []; members = p.members }) c.in_ok-parts.parts.items)
     (c.add_parts.new.found.items ≡ c.args.found.now.items ++ split_by (scene_patterns c.args.scene.now) (scene_rows c.args.scene.now) (tree c.args.expr.now) g)
     (λ e. e ∙ ap (λ gs. c.args.found.now.items ++ gs) (split_is value_cmp_total f g.by g.members valued c.in_ok-parts.parts.items
-      (c.in_ok-valued.ensures.valued ∙ ap (map (λ y. record { value = f y; position = y })) c.as_slice.ensures)
-      (c.in_ok-parts.ensures ∙ ap (λ vs. arranged (map part_of vs)) c.as_slice-2.ensures.value)))
+    (c.in_ok-valued.ensures.valued ∙ ap (map (λ y. record { value = f y; position = y })) c.as_slice.ensures)
+    (c.in_ok-parts.ensures ∙ ap (λ vs. arranged (map part_of vs)) c.as_slice-2.ensures.value)))
     c.add_parts.ensures

@@ -1,4 +1,4 @@
-use Rattle.std.proofs.Common.{◌≡◌, ◌∙◌, ap, sym, subst, length, ℕ, ◌<◌, ◌+◌, ◌∷◌, [], arith, List, Bool}
+use Rattle.std.proofs.Common.{◌≡◌, ◌∙◌, ap, length, ℕ, ◌∷◌, [], arith, List, Bool}
 use Rattle.std.specs.List.{filter}
 use Rattle.spanset_eval.specs.declared.groups.Group.{Group}
 use Rattle.spanset_eval.specs.Marked.{mark_at, MarksBy}

@@ -1,5 +1,5 @@
 -- So far the list has what is kept of the spansets that were passed.
-use Rattle.std.proofs.Common.{◌≡◌, ℕ, ◌+◌, ◌*◌, ◌<◌, ◌≤◌, ◌++◌, ◌∷◌, [], ◌&&◌, ◌||◌, not, false, All, length, take, drop, map, reverse}
+use Rattle.std.proofs.Common.{◌≡◌, map}
 use Rattle.std.specs.List.{filter}
 use Rattle.traceql_syntax.specs.Trees.{placed_option}
 use Rattle.traceql_value.specs.Scenes.{scene_patterns, scene_rows}
@@ -11,4 +11,3 @@ use Rattle.spanset_eval.proofs.stages.keep.Given as goal
 abbrev pub invariant-loop-group : goal.invariant-loop-group
 invariant-loop-group l =
     record { kept : l.kept.items ≡ map (λ (g : Group). record { by = g.by; members = filter (keeps_at (scene_patterns l.fn.scene) (scene_rows l.fn.scene) (placed_option l.condition)) g.members }) l.yielded; scene : IsSame l.fn.scene l.scene }
-

@@ -1,4 +1,4 @@
-use Rattle.std.proofs.Common.{◌∙◌, rules}
+use Rattle.std.proofs.Common.{rules}
 use Rattle.std.proofs.lemmas.List.Elements.{filter_from_retain}
 use Rattle.spanset_eval.specs.Stages.{is_left}
 use Rattle.spanset_eval.proofs.stages.left.Goals as goal
