@@ -3,3 +3,4 @@ pub mod SessionLemmas
 pub mod TurnLemmas
 pub mod AloneLemmas
 pub mod StatusLemmas
+pub mod SizeLemmas

@@ -3,7 +3,7 @@
 ghost use Rattle.std.specs.Prelude.{◌≡◌, ◌≢◌, ◌⊎◌, ◌++◌, ℕ, List, [], Some, IfOk, codes, map, option_map, string_bytes};
 ghost use Rattle.clap.specs.Words.{fault_of};
 ghost use Rattle.command_words.specs.Spelling.{Given, IsSearch, IsSession, IsTrace, given_of};
-ghost use Rattle.command_words.specs.Spelling as words;
+ghost use Rattle.command_words.specs.Spelling as spelled;
 ghost use Rattle.command_words.specs.Table.{words_app};
 ghost use Rattle.span_types.specs.Faults.{Rose};
 ghost use Rattle.io_edges.specs.Lines.{taken_limit};
@@ -33,7 +33,7 @@ pub(crate) fn obey<S: Source, K: Sink, P: PatternMaker>(
         → AnswersAlone (codes "trace " ++ id) before (K.taken sink.new) result (P.refusals patterns.old) (P.refusals patterns.new) }
     ensures trace_alone { (id : List ℕ) → IsTrace id (map string_bytes words.now) → (source.new ≡ source.old) × ((result ≡ ReadFault → ⊥) × (result ≡ Spent → ⊥)) }
     ensures search { (given : Given) → IsSearch given (map string_bytes words.now) → fault_of words_app (map string_bytes words.now) ≡ [] → (before : List ℕ) → K.taken sink.old ≡ Some before
-        → AnswersAlone (words.search_line given) before (K.taken sink.new) result (P.refusals patterns.old) (P.refusals patterns.new) }
+        → AnswersAlone (spelled.search_line given) before (K.taken sink.new) result (P.refusals patterns.old) (P.refusals patterns.new) }
     ensures search_alone { (given : Given) → IsSearch given (map string_bytes words.now) → fault_of words_app (map string_bytes words.now) ≡ []
         → (source.new ≡ source.old) × ((result ≡ ReadFault → ⊥) × (result ≡ Spent → ⊥)) }
     ensures bad_words { result ≡ BadWords → fault_of words_app (map string_bytes words.now) ≢ [] }
@@ -61,11 +61,11 @@ pub(crate) fn obey<S: Source, K: Sink, P: PatternMaker>(
             alloc,
             sink,
             patterns,
-            text_of(&limit),
-            text_of(&spss),
-            text_of(&start),
-            text_of(&end),
-            query.as_str(),
+            &limit,
+            &spss,
+            &start,
+            &end,
+            &query,
         ),
         Err(WordsError::Refused) => Ending::BadWords,
         Err(WordsError::Memory) => Ending::Starved,
@@ -99,30 +99,43 @@ fn text_of(text: &Option<String>) -> Option<&str>
     }
 }
 
+/// The line of a search.
+fn line_for(
+    alloc: Global,
+    limit: &Option<String>,
+    spss: &Option<String>,
+    start: &Option<String>,
+    end: &Option<String>,
+    query: &String,
+) -> Result<String, Memory>
+    ensures { IfOk result (λ line. string_bytes line ≡ spelled.search_line (given_of limit.now spss.now start.now end.now query.now)) }
+{
+    let limit = text_of(limit);
+    let spss = text_of(spss);
+    let start = text_of(start);
+    let end = text_of(end);
+    let line = search_line(alloc, limit, spss, start, end, query.as_str())?;
+    Ok(line)
+}
+
 /// Answers the session's line `search .. QUERY` alone.
 fn look_for<K: Sink, P: PatternMaker>(
     alloc: Global,
     sink: &mut K,
     patterns: &mut P,
-    limit: Option<&str>,
-    spss: Option<&str>,
-    start: Option<&str>,
-    end: Option<&str>,
-    query: &str,
+    limit: &Option<String>,
+    spss: &Option<String>,
+    start: &Option<String>,
+    end: &Option<String>,
+    query: &String,
 ) -> Ending
-    ensures told { (before : List ℕ) → K.taken sink.old ≡ Some before → AnswersAlone (words.search_line (record {
-      limit = option_map (λ s. s.now) limit.entry;
-      spss = option_map (λ s. s.now) spss.entry;
-      start = option_map (λ s. s.now) start.entry;
-      end = option_map (λ s. s.now) end.entry;
-      query = query.now;
-    })) before (K.taken sink.new) result (P.refusals patterns.old) (P.refusals patterns.new) }
+    ensures told { (before : List ℕ) → K.taken sink.old ≡ Some before → AnswersAlone (spelled.search_line (given_of limit.now spss.now start.now end.now query.now)) before (K.taken sink.new) result (P.refusals patterns.old) (P.refusals patterns.new) }
     ensures write_fault { result ≡ WriteFault → Rose (K.faults sink.old) (K.faults sink.new) }
     ensures endings { (result ≡ WriteFault) ⊎ ((result ≡ Answered) ⊎ ((result ≡ Refused) ⊎ (result ≡ Starved))) }
 {
-    match search_line(alloc, limit, spss, start, end, query) {
+    match line_for(alloc, limit, spss, start, end, query) {
         Ok(line) => one_line(alloc, sink, patterns, line.as_bytes()),
-        Err(_) => Ending::Starved,
+        Err(Memory) => Ending::Starved,
     }
 }
 

@@ -1,6 +1,6 @@
 //! A session: the lines of a source are answered in order, each reply written before the next line is read.
 
-ghost use Rattle.std.specs.Prelude.{◌≡◌, ◌⊎◌, ◌+◌, ◌^◌, ◌<◌, ◌≤◌, ℕ, List, [], ◌∷◌, Ok, Some, None, IfSome, IfNone, count_by, length};
+ghost use Rattle.std.specs.Prelude.{◌≡◌, ◌⊎◌, ◌+◌, ◌^◌, ◌<◌, ◌≤◌, ℕ, List, [], ◌∷◌, Ok, Some, None, false, IfOk, IfSome, IfNone, count_by, length};
 ghost use Rattle.span_types.specs.Faults.{Rose};
 ghost use Rattle.otlp_spans.specs.Reading.{most_spans};
 ghost use Rattle.io_edges.specs.Lines.{taken_limit};
@@ -21,7 +21,7 @@ use search_answer::answer as search_answer;
 use search_text::printed_fields;
 use session_meaning::Ending;
 use session_text::{Refusal, Reply, Request, Search, read_request, write_reply};
-use span_types::{Failed, Memory, TraceId};
+use span_types::{Batch, Failed, Memory, TraceId};
 use std::alloc::Global;
 use traceql_types::PatternMaker;
 
@@ -231,6 +231,13 @@ fn answer<P: PatternMaker>(
     }
 }
 
+// How many spans a batch has.
+fn count_of(batch: &Batch) -> u64
+    ensures { result ≡ length batch.now.spans }
+{
+    batch.spans.len() as u64
+}
+
 // Appends a batch.
 fn push(held: &mut Held, reading: Reading) -> Reply
     requires counts { held.old.pushes + 1 < 2 ^ 64 }
@@ -240,7 +247,7 @@ fn push(held: &mut Held, reading: Reading) -> Reply
     ensures count { held.new.pushes ≤ held.old.pushes + 1 }
     ensures small { is_too_big result ≡ false }
 {
-    let accepted = reading.batch.spans.len() as u64;
+    let accepted = count_of(&reading.batch);
     match held.push(reading.batch) {
         Ok(number) => Reply::Pushed {
             number,

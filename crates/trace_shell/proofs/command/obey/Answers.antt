@@ -1,4 +1,7 @@
-use Rattle.std.proofs.Common.{Err, ap, ◌∙◌}
+use Rattle.std.proofs.Common.{◌≡◌, Ok, Err, MatchResult, ap, subst, ◌∙◌}
+use Rattle.command_words.specs.declared.asked.WordsError.TheVariants as error
+use Rattle.command_words.specs.Spelling.{GivesSearch, GivesTrace, given_of, search_line}
+use Rattle.session_meaning.specs.Session.{AnswersAlone}
 use Rattle.trace_shell.proofs.AloneLemmas.{not_refused, starved_alone}
 use Rattle.trace_shell.proofs.command.obey.Goals as goal
 
@@ -23,3 +26,13 @@ returns-in-Err-Refused-clause-good_search g c = λ given is none ended.
 
 pub returns-in-Err-Memory-clause-search : goal.returns-in-Err-Memory-clause-search
 returns-in-Err-Memory-clause-search g c = λ given is none before taken. starved_alone _ before _ _ taken
+
+pub returns-in-Ok-Search-clause-trace : goal.returns-in-Ok-Search-clause-trace
+returns-in-Ok-Search-clause-trace g c = λ id is before taken.
+    absurd (subst (λ r. MatchResult r (GivesTrace id) (λ e. e ≡ error.Memory)) (c.in-Ok-Search.is ∙ ap Ok c.in-Ok-Search.field-0-is) (c.read_words.ensures.trace id is))
+
+pub returns-in-Ok-Search-clause-search : goal.returns-in-Ok-Search-clause-search
+returns-in-Ok-Search-clause-search g c = λ given is none before taken.
+    let same = subst (λ r. MatchResult r (GivesSearch given) (λ e. e ≡ error.Memory)) (c.in-Ok-Search.is ∙ ap Ok c.in-Ok-Search.field-0-is) (c.read_words.ensures.search given is none) in
+    subst (λ asked. AnswersAlone (search_line asked) before (g.K.Sink.taken c.look_for.new.sink) c.look_for.result (g.P.PatternMaker.refusals c.args.patterns.now) (g.P.PatternMaker.refusals c.look_for.new.patterns))
+      same (c.look_for.ensures.told before taken)
