@@ -50,8 +50,8 @@ one (x ∷ xs) (y ∷ ys) a b f g =
     let of_y = g y (0, omega arith, refl) in
     let same : x ≡ y = heads x xs y ys a b (split y ys x of_x.0 of_x.1 of_x.2) (split x xs y of_y.0 of_y.1 of_y.2) in
     let rest : xs ≡ ys = one xs ys (tail x xs a) (tail y ys b)
-      (λ n c. let d = f n (there x xs n c) in moved x xs y ys a same n c (split y ys n d.0 d.1 d.2))
-      (λ n c. let d = g n (there y ys n c) in moved y ys x xs b (sym same) n c (split x xs n d.0 d.1 d.2)) in
+    (λ n c. let d = f n (there x xs n c) in moved x xs y ys a same n c (split y ys n d.0 d.1 d.2))
+    (λ n c. let d = g n (there y ys n c) in moved y ys x xs b (sym same) n c (split x xs n d.0 d.1 d.2)) in
     ap (λ n. n ∷ xs) same ∙ ap (λ l. y ∷ l) rest
 
 pub one_list : (A : ℕ → Type 0) (xs ys : List ℕ) → IsListOf A xs → IsListOf A ys → xs ≡ ys

@@ -129,7 +129,7 @@ walked ps q range rows rest front later n before after cut is_front is_later (ou
     let behind : AreResults ps q range (drop n rest) more = subst (λ part. AreResults ps q range part more) is_later are in
     let joined : AreResults ps q range rest (option_to_list outcome ++ more) =
     subst (λ part. AreResults ps q range part (option_to_list outcome ++ more)) cut.whole
-      (with_first ps q range cut.id (take n rest) (drop n rest) outcome more cut.splits here behind) in
+    (with_first ps q range cut.id (take n rest) (drop n rest) outcome more cut.splits here behind) in
     subst (λ all. AreResults ps q range rows all) (sym (append_assoc before (option_to_list outcome) more) ∙ ap (λ all. all ++ more) (sym is)) (so_far (option_to_list outcome ++ more) joined)
 
 -- The rows of the front are of one trace, and no two of them are of one span.

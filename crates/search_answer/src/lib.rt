@@ -6,4 +6,3 @@ mod shown;
 mod traces;
 
 pub use search::answer;
-

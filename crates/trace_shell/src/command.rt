@@ -51,22 +51,15 @@ pub(crate) fn obey<S: Source, K: Sink, P: PatternMaker>(
     match read_words(alloc, words) {
         Ok(Asked::Session) => session(alloc, source, sink, patterns),
         Ok(Asked::Trace { id }) => look_up(alloc, sink, patterns, id.as_str()),
-        Ok(Asked::Search {
-            limit,
-            spss,
-            start,
-            end,
-            query,
-        }) => look_for(
-            alloc,
-            sink,
-            patterns,
-            &limit,
-            &spss,
-            &start,
-            &end,
-            &query,
-        ),
+        Ok(
+            Asked::Search {
+                limit,
+                spss,
+                start,
+                end,
+                query,
+            },
+        ) => look_for(alloc, sink, patterns, &limit, &spss, &start, &end, &query),
         Err(WordsError::Refused) => Ending::BadWords,
         Err(WordsError::Memory) => Ending::Starved,
     }

@@ -128,11 +128,49 @@ refused bad-request at=6
 "#,
 );
 
+/// Each operator over a chain `a`, `b`, `c` with a sibling `s` of `b`, a ring of `p` and `q` with a tail `t`, the orphans `o` and `n` of one parent, and `l` alone.
+const OPERATORS: (&str, &str) = (
+    r#"push {"resourceSpans":[{"scopeSpans":[{"spans":[{"traceId":"000000000000000000000000000000a1","spanId":"0000000000000001","parentSpanId":"","name":"a","startTimeUnixNano":"1","endTimeUnixNano":"2"},{"traceId":"000000000000000000000000000000a1","spanId":"0000000000000002","parentSpanId":"0000000000000001","name":"b","startTimeUnixNano":"1","endTimeUnixNano":"2"},{"traceId":"000000000000000000000000000000a1","spanId":"0000000000000003","parentSpanId":"0000000000000002","name":"c","startTimeUnixNano":"1","endTimeUnixNano":"2"},{"traceId":"000000000000000000000000000000a1","spanId":"0000000000000004","parentSpanId":"0000000000000001","name":"s","startTimeUnixNano":"1","endTimeUnixNano":"2"},{"traceId":"000000000000000000000000000000a1","spanId":"0000000000000005","parentSpanId":"0000000000000006","name":"p","startTimeUnixNano":"1","endTimeUnixNano":"2"},{"traceId":"000000000000000000000000000000a1","spanId":"0000000000000006","parentSpanId":"0000000000000005","name":"q","startTimeUnixNano":"1","endTimeUnixNano":"2"},{"traceId":"000000000000000000000000000000a1","spanId":"0000000000000007","parentSpanId":"0000000000000005","name":"t","startTimeUnixNano":"1","endTimeUnixNano":"2"},{"traceId":"000000000000000000000000000000a1","spanId":"0000000000000008","parentSpanId":"0000000000000099","name":"o","startTimeUnixNano":"1","endTimeUnixNano":"2"},{"traceId":"000000000000000000000000000000a1","spanId":"0000000000000009","parentSpanId":"0000000000000099","name":"n","startTimeUnixNano":"1","endTimeUnixNano":"2"},{"traceId":"000000000000000000000000000000a1","spanId":"000000000000000a","parentSpanId":"","name":"l","startTimeUnixNano":"1","endTimeUnixNano":"2"}]}]}]}
+search spss=20 { name =~ "b|p|o|l" } > { }
+search spss=20 { name =~ "b|p|o|l" } >> { }
+search spss=20 { name =~ "b|p|o|l" } < { }
+search spss=20 { name =~ "b|p|o|l" } << { }
+search spss=20 { name =~ "b|p|o|l" } ~ { }
+search spss=20 { name =~ "b|p|o|l" } !> { }
+search spss=20 { name =~ "b|p|o|l" } !>> { }
+search spss=20 { name =~ "b|p|o|l" } !< { }
+search spss=20 { name =~ "b|p|o|l" } !<< { }
+search spss=20 { name =~ "b|p|o|l" } !~ { }
+search spss=20 { name =~ "b|p|o|l" } &> { }
+search spss=20 { name =~ "b|p|o|l" } &>> { }
+search spss=20 { name =~ "b|p|o|l" } &< { }
+search spss=20 { name =~ "b|p|o|l" } &<< { }
+search spss=20 { name =~ "b|p|o|l" } &~ { }
+"#,
+    r#"ok push 0 accepted=10 rejected=0 skipped=0
+ok search as_of=1 traces=1 {"traces":[{"durationNanos":"1","rootName":"a","rootService":null,"spanSets":[{"by":[],"matched":3,"spans":[{"attributes":[],"durationNanos":"1","name":"c","spanId":"0000000000000003","startTimeUnixNano":"1"},{"attributes":[],"durationNanos":"1","name":"q","spanId":"0000000000000006","startTimeUnixNano":"1"},{"attributes":[],"durationNanos":"1","name":"t","spanId":"0000000000000007","startTimeUnixNano":"1"}]}],"startTimeUnixNano":"1","traceId":"000000000000000000000000000000a1"}]}
+ok search as_of=1 traces=1 {"traces":[{"durationNanos":"1","rootName":"a","rootService":null,"spanSets":[{"by":[],"matched":4,"spans":[{"attributes":[],"durationNanos":"1","name":"c","spanId":"0000000000000003","startTimeUnixNano":"1"},{"attributes":[],"durationNanos":"1","name":"p","spanId":"0000000000000005","startTimeUnixNano":"1"},{"attributes":[],"durationNanos":"1","name":"q","spanId":"0000000000000006","startTimeUnixNano":"1"},{"attributes":[],"durationNanos":"1","name":"t","spanId":"0000000000000007","startTimeUnixNano":"1"}]}],"startTimeUnixNano":"1","traceId":"000000000000000000000000000000a1"}]}
+ok search as_of=1 traces=1 {"traces":[{"durationNanos":"1","rootName":"a","rootService":null,"spanSets":[{"by":[],"matched":2,"spans":[{"attributes":[],"durationNanos":"1","name":"a","spanId":"0000000000000001","startTimeUnixNano":"1"},{"attributes":[],"durationNanos":"1","name":"q","spanId":"0000000000000006","startTimeUnixNano":"1"}]}],"startTimeUnixNano":"1","traceId":"000000000000000000000000000000a1"}]}
+ok search as_of=1 traces=1 {"traces":[{"durationNanos":"1","rootName":"a","rootService":null,"spanSets":[{"by":[],"matched":3,"spans":[{"attributes":[],"durationNanos":"1","name":"a","spanId":"0000000000000001","startTimeUnixNano":"1"},{"attributes":[],"durationNanos":"1","name":"p","spanId":"0000000000000005","startTimeUnixNano":"1"},{"attributes":[],"durationNanos":"1","name":"q","spanId":"0000000000000006","startTimeUnixNano":"1"}]}],"startTimeUnixNano":"1","traceId":"000000000000000000000000000000a1"}]}
+ok search as_of=1 traces=1 {"traces":[{"durationNanos":"1","rootName":"a","rootService":null,"spanSets":[{"by":[],"matched":2,"spans":[{"attributes":[],"durationNanos":"1","name":"s","spanId":"0000000000000004","startTimeUnixNano":"1"},{"attributes":[],"durationNanos":"1","name":"n","spanId":"0000000000000009","startTimeUnixNano":"1"}]}],"startTimeUnixNano":"1","traceId":"000000000000000000000000000000a1"}]}
+ok search as_of=1 traces=1 {"traces":[{"durationNanos":"1","rootName":"a","rootService":null,"spanSets":[{"by":[],"matched":7,"spans":[{"attributes":[],"durationNanos":"1","name":"a","spanId":"0000000000000001","startTimeUnixNano":"1"},{"attributes":[],"durationNanos":"1","name":"b","spanId":"0000000000000002","startTimeUnixNano":"1"},{"attributes":[],"durationNanos":"1","name":"s","spanId":"0000000000000004","startTimeUnixNano":"1"},{"attributes":[],"durationNanos":"1","name":"p","spanId":"0000000000000005","startTimeUnixNano":"1"},{"attributes":[],"durationNanos":"1","name":"o","spanId":"0000000000000008","startTimeUnixNano":"1"},{"attributes":[],"durationNanos":"1","name":"n","spanId":"0000000000000009","startTimeUnixNano":"1"},{"attributes":[],"durationNanos":"1","name":"l","spanId":"000000000000000a","startTimeUnixNano":"1"}]}],"startTimeUnixNano":"1","traceId":"000000000000000000000000000000a1"}]}
+ok search as_of=1 traces=1 {"traces":[{"durationNanos":"1","rootName":"a","rootService":null,"spanSets":[{"by":[],"matched":6,"spans":[{"attributes":[],"durationNanos":"1","name":"a","spanId":"0000000000000001","startTimeUnixNano":"1"},{"attributes":[],"durationNanos":"1","name":"b","spanId":"0000000000000002","startTimeUnixNano":"1"},{"attributes":[],"durationNanos":"1","name":"s","spanId":"0000000000000004","startTimeUnixNano":"1"},{"attributes":[],"durationNanos":"1","name":"o","spanId":"0000000000000008","startTimeUnixNano":"1"},{"attributes":[],"durationNanos":"1","name":"n","spanId":"0000000000000009","startTimeUnixNano":"1"},{"attributes":[],"durationNanos":"1","name":"l","spanId":"000000000000000a","startTimeUnixNano":"1"}]}],"startTimeUnixNano":"1","traceId":"000000000000000000000000000000a1"}]}
+ok search as_of=1 traces=1 {"traces":[{"durationNanos":"1","rootName":"a","rootService":null,"spanSets":[{"by":[],"matched":8,"spans":[{"attributes":[],"durationNanos":"1","name":"b","spanId":"0000000000000002","startTimeUnixNano":"1"},{"attributes":[],"durationNanos":"1","name":"c","spanId":"0000000000000003","startTimeUnixNano":"1"},{"attributes":[],"durationNanos":"1","name":"s","spanId":"0000000000000004","startTimeUnixNano":"1"},{"attributes":[],"durationNanos":"1","name":"p","spanId":"0000000000000005","startTimeUnixNano":"1"},{"attributes":[],"durationNanos":"1","name":"t","spanId":"0000000000000007","startTimeUnixNano":"1"},{"attributes":[],"durationNanos":"1","name":"o","spanId":"0000000000000008","startTimeUnixNano":"1"},{"attributes":[],"durationNanos":"1","name":"n","spanId":"0000000000000009","startTimeUnixNano":"1"},{"attributes":[],"durationNanos":"1","name":"l","spanId":"000000000000000a","startTimeUnixNano":"1"}]}],"startTimeUnixNano":"1","traceId":"000000000000000000000000000000a1"}]}
+ok search as_of=1 traces=1 {"traces":[{"durationNanos":"1","rootName":"a","rootService":null,"spanSets":[{"by":[],"matched":7,"spans":[{"attributes":[],"durationNanos":"1","name":"b","spanId":"0000000000000002","startTimeUnixNano":"1"},{"attributes":[],"durationNanos":"1","name":"c","spanId":"0000000000000003","startTimeUnixNano":"1"},{"attributes":[],"durationNanos":"1","name":"s","spanId":"0000000000000004","startTimeUnixNano":"1"},{"attributes":[],"durationNanos":"1","name":"t","spanId":"0000000000000007","startTimeUnixNano":"1"},{"attributes":[],"durationNanos":"1","name":"o","spanId":"0000000000000008","startTimeUnixNano":"1"},{"attributes":[],"durationNanos":"1","name":"n","spanId":"0000000000000009","startTimeUnixNano":"1"},{"attributes":[],"durationNanos":"1","name":"l","spanId":"000000000000000a","startTimeUnixNano":"1"}]}],"startTimeUnixNano":"1","traceId":"000000000000000000000000000000a1"}]}
+ok search as_of=1 traces=1 {"traces":[{"durationNanos":"1","rootName":"a","rootService":null,"spanSets":[{"by":[],"matched":8,"spans":[{"attributes":[],"durationNanos":"1","name":"a","spanId":"0000000000000001","startTimeUnixNano":"1"},{"attributes":[],"durationNanos":"1","name":"b","spanId":"0000000000000002","startTimeUnixNano":"1"},{"attributes":[],"durationNanos":"1","name":"c","spanId":"0000000000000003","startTimeUnixNano":"1"},{"attributes":[],"durationNanos":"1","name":"p","spanId":"0000000000000005","startTimeUnixNano":"1"},{"attributes":[],"durationNanos":"1","name":"q","spanId":"0000000000000006","startTimeUnixNano":"1"},{"attributes":[],"durationNanos":"1","name":"t","spanId":"0000000000000007","startTimeUnixNano":"1"},{"attributes":[],"durationNanos":"1","name":"o","spanId":"0000000000000008","startTimeUnixNano":"1"},{"attributes":[],"durationNanos":"1","name":"l","spanId":"000000000000000a","startTimeUnixNano":"1"}]}],"startTimeUnixNano":"1","traceId":"000000000000000000000000000000a1"}]}
+ok search as_of=1 traces=1 {"traces":[{"durationNanos":"1","rootName":"a","rootService":null,"spanSets":[{"by":[],"matched":5,"spans":[{"attributes":[],"durationNanos":"1","name":"b","spanId":"0000000000000002","startTimeUnixNano":"1"},{"attributes":[],"durationNanos":"1","name":"c","spanId":"0000000000000003","startTimeUnixNano":"1"},{"attributes":[],"durationNanos":"1","name":"p","spanId":"0000000000000005","startTimeUnixNano":"1"},{"attributes":[],"durationNanos":"1","name":"q","spanId":"0000000000000006","startTimeUnixNano":"1"},{"attributes":[],"durationNanos":"1","name":"t","spanId":"0000000000000007","startTimeUnixNano":"1"}]}],"startTimeUnixNano":"1","traceId":"000000000000000000000000000000a1"}]}
+ok search as_of=1 traces=1 {"traces":[{"durationNanos":"1","rootName":"a","rootService":null,"spanSets":[{"by":[],"matched":5,"spans":[{"attributes":[],"durationNanos":"1","name":"b","spanId":"0000000000000002","startTimeUnixNano":"1"},{"attributes":[],"durationNanos":"1","name":"c","spanId":"0000000000000003","startTimeUnixNano":"1"},{"attributes":[],"durationNanos":"1","name":"p","spanId":"0000000000000005","startTimeUnixNano":"1"},{"attributes":[],"durationNanos":"1","name":"q","spanId":"0000000000000006","startTimeUnixNano":"1"},{"attributes":[],"durationNanos":"1","name":"t","spanId":"0000000000000007","startTimeUnixNano":"1"}]}],"startTimeUnixNano":"1","traceId":"000000000000000000000000000000a1"}]}
+ok search as_of=1 traces=1 {"traces":[{"durationNanos":"1","rootName":"a","rootService":null,"spanSets":[{"by":[],"matched":4,"spans":[{"attributes":[],"durationNanos":"1","name":"a","spanId":"0000000000000001","startTimeUnixNano":"1"},{"attributes":[],"durationNanos":"1","name":"b","spanId":"0000000000000002","startTimeUnixNano":"1"},{"attributes":[],"durationNanos":"1","name":"p","spanId":"0000000000000005","startTimeUnixNano":"1"},{"attributes":[],"durationNanos":"1","name":"q","spanId":"0000000000000006","startTimeUnixNano":"1"}]}],"startTimeUnixNano":"1","traceId":"000000000000000000000000000000a1"}]}
+ok search as_of=1 traces=1 {"traces":[{"durationNanos":"1","rootName":"a","rootService":null,"spanSets":[{"by":[],"matched":4,"spans":[{"attributes":[],"durationNanos":"1","name":"a","spanId":"0000000000000001","startTimeUnixNano":"1"},{"attributes":[],"durationNanos":"1","name":"b","spanId":"0000000000000002","startTimeUnixNano":"1"},{"attributes":[],"durationNanos":"1","name":"p","spanId":"0000000000000005","startTimeUnixNano":"1"},{"attributes":[],"durationNanos":"1","name":"q","spanId":"0000000000000006","startTimeUnixNano":"1"}]}],"startTimeUnixNano":"1","traceId":"000000000000000000000000000000a1"}]}
+ok search as_of=1 traces=1 {"traces":[{"durationNanos":"1","rootName":"a","rootService":null,"spanSets":[{"by":[],"matched":4,"spans":[{"attributes":[],"durationNanos":"1","name":"b","spanId":"0000000000000002","startTimeUnixNano":"1"},{"attributes":[],"durationNanos":"1","name":"s","spanId":"0000000000000004","startTimeUnixNano":"1"},{"attributes":[],"durationNanos":"1","name":"o","spanId":"0000000000000008","startTimeUnixNano":"1"},{"attributes":[],"durationNanos":"1","name":"n","spanId":"0000000000000009","startTimeUnixNano":"1"}]}],"startTimeUnixNano":"1","traceId":"000000000000000000000000000000a1"}]}
+"#,
+);
+
 #[test]
 fn searches_are_answered(rt: HostRuntime) -> Result<(), Memory> {
     let alloc = rt.alloc();
     let session = ["session"];
-    for (input, wanted) in [RANKED, MISSING, RINGS, SUMS, GROUPS] {
+    for (input, wanted) in [RANKED, MISSING, RINGS, SUMS, GROUPS, OPERATORS] {
         check(&rt, alloc, &session, input, (&[], &[]), wanted, 0)?;
     }
     for (input, wanted) in [AVERAGES, REFUSED] {
@@ -165,10 +203,20 @@ fn words_make_the_line_of_a_search(rt: HostRuntime) -> Result<(), Memory> {
     let alloc = rt.alloc();
     let empty = "ok search as_of=0 traces=0 {\"traces\":[]}\n";
     check(&rt, alloc, &["search", "{ }"], "", (&[], &[]), empty, 0)?;
-    let all = ["search", "--limit", "5", "--spss", "1", "--start", "1", "--end", "2", "{ }"];
+    let all = [
+        "search", "--limit", "5", "--spss", "1", "--start", "1", "--end", "2", "{ }",
+    ];
     check(&rt, alloc, &all, "", (&[], &[]), empty, 0)?;
     let bad = ["search", "--limit", "0", "{ }"];
-    check(&rt, alloc, &bad, "", (&[], &[]), "refused bad-request at=7\n", 7)?;
+    check(
+        &rt,
+        alloc,
+        &bad,
+        "",
+        (&[], &[]),
+        "refused bad-request at=7\n",
+        7,
+    )?;
     check(&rt, alloc, &["search"], "", (&[], &[]), "", 2)
 }
 

@@ -210,12 +210,7 @@ fn answer_line<K: Sink, P: PatternMaker>(
 }
 
 // Answers a line.
-fn answer<P: PatternMaker>(
-    alloc: Global,
-    held: &mut Held,
-    patterns: &mut P,
-    line: &[u8],
-) -> Reply
+fn answer<P: PatternMaker>(alloc: Global, held: &mut Held, patterns: &mut P, line: &[u8]) -> Reply
     requires { held.old.pushes + 1 < 2 ^ 64 }
     ensures answered { (history : History) → Holds held.old history
         → (after : History) × IsLineAnswered line.now history result after × Holds held.new after }

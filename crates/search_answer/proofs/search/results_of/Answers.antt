@@ -17,8 +17,8 @@ pub add_result-requires : goal.add_result-requires
 add_result-requires c =
     let some : 0 < length c.loop-rest.rest.now = some_rows c.loop-rest.rest.now (sym c.is_empty.ensures ∙ c.loop-rest-test.true) in
     front_is_one c.loop-rest.rest.now c.split_at.result.0.now c.trace_len.result
-      (cut_front c.loop-rest.rest.now c.trace_len.result some c.trace_len.ensures.some c.trace_len.ensures.front c.loop-rest.invariant.sorted)
-      c.loop-rest.invariant.sorted c.split_at.ensures.front
+    (cut_front c.loop-rest.rest.now c.trace_len.result some c.trace_len.ensures.some c.trace_len.ensures.front c.loop-rest.invariant.sorted)
+    c.loop-rest.invariant.sorted c.split_at.ensures.front
 
 pub loop-rest-preserved : goal.loop-rest-preserved
 loop-rest-preserved c =
@@ -34,4 +34,4 @@ loop-rest-preserved c =
 pub returns : goal.returns
 returns c =
     subst (λ l. AreResults c.args.checked.now.patterns (query_tree c.args.checked.now.query) c.args.range c.args.rows.now l) (append-nil c.loop-rest.all.items)
-      (c.loop-rest.invariant.so_far [] (no_rows _ _ c.args.range c.loop-rest.rest.now (empty c.loop-rest.rest.now (sym c.is_empty.ensures ∙ c.loop-rest-test.false))))
+    (c.loop-rest.invariant.so_far [] (no_rows _ _ c.args.range c.loop-rest.rest.now (empty c.loop-rest.rest.now (sym c.is_empty.ensures ∙ c.loop-rest-test.false))))

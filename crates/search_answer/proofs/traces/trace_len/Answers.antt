@@ -9,4 +9,4 @@ pub loop-i-init : goal.loop-i-init
 loop-i-init c = λ k d l.
     let zero : 0 ≡ k = omega arith in
     subst (λ m. of_one_trace (slice_index_or c.args.rows.now m d) (slice_index_or c.args.rows.now 0 d) ≡ true) zero
-      (ap is_eq (tied_itself trace_cmp_total (slice_index_or c.args.rows.now 0 d).span.trace))
+    (ap is_eq (tied_itself trace_cmp_total (slice_index_or c.args.rows.now 0 d).span.trace))
