@@ -1,10 +1,8 @@
 -- First occurrences are sorted.
-use Rattle.std.proofs.Common.{◌≡◌, ℕ, ◌<◌, List, Some, sym, ◌∙◌, ap, subst, arith, length, slice_index_or}
-use Rattle.std.specs.declared.cmp.Ordering.{Ordering}
-use Rattle.std.specs.declared.cmp.Ordering.TheVariants.{Less, Equal, Greater}
+use Rattle.std.proofs.Common.{◌≡◌, List, Some, sym, ◌∙◌, ap, arith, slice_index_or}
+use Rattle.std.specs.declared.cmp.Ordering.TheVariants.{Less, Equal}
 use Rattle.std.proofs.lemmas.Cmp.{tied_itself}
 use Rattle.span_types.specs.declared.spans.Row.{Row}
-use Rattle.span_types.specs.Keys.{row_key}
 use Rattle.span_types.specs.Orders.{block_order}
 use Rattle.span_types.specs.First.{IsFirstOf, first_at}
 use Rattle.span_types.specs.FirstLaws.{block_order_total}

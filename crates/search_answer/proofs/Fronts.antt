@@ -1,5 +1,5 @@
 -- The first trace of rows in block order, and the rows behind it.
-use Rattle.std.proofs.Common.{◌≡◌, ◌≢◌, ◌⊎◌, inl, inr, ℕ, zero, suc, ◌+◌, ◌-◌, ◌<◌, ◌≤◌, List, [], ◌∷◌, ◌++◌, Bool, true, false, refl, sym, ◌∙◌, ap, subst, arith, length, take, drop, filter, slice_index_or, if◌then◌else◌}
+use Rattle.std.proofs.Common.{◌≡◌, ◌≢◌, ◌⊎◌, inl, inr, ℕ, zero, suc, ◌+◌, ◌<◌, List, [], ◌∷◌, ◌++◌, Bool, true, false, refl, sym, ◌∙◌, ap, arith, length, take, drop, filter, slice_index_or}
 use Rattle.std.specs.List.{AllPairs}
 use Rattle.std.specs.Ordering.{is_eq, ordering_then, ordering_reverse}
 use Rattle.std.specs.declared.cmp.Ordering.{Ordering}
@@ -12,8 +12,7 @@ use Rattle.std.proofs.lemmas.Map.Lookups.{exact_bytes}
 use Rattle.span_types.specs.declared.ids.TraceId.{TraceId}
 use Rattle.span_types.specs.declared.spans.Row.{Row}
 use Rattle.span_types.specs.Keys.{row_key}
-use Rattle.span_types.specs.Orders.{block_order, trace_cmp, trace_order}
-use Rattle.span_tree.specs.Nodes.{IsOneTrace}
+use Rattle.span_types.specs.Orders.{block_order, trace_cmp}
 use Rattle.trace_rows.specs.Traces.{is_of_trace, rows_of_trace}
 use Rattle.search_answer.specs.Traces.{IsFront, IsSorted}
 

@@ -1,6 +1,5 @@
 -- The results of rows: those of the first trace, and those of the rows behind it.
-use Rattle.std.proofs.Common.{◌≡◌, ◌≢◌, ◌⊎◌, inl, inr, ℕ, zero, suc, ◌<◌, take, drop, slice_index_or, slice_get, ◌==◌, eqb-true, List, [], ◌∷◌, ◌++◌, Bool, true, false, Option, Some, None, refl, sym, ◌∙◌, ap, subst, arith, All, Contains, length, append_assoc}
-use Rattle.std.specs.List.{list_any}
+use Rattle.std.proofs.Common.{◌≡◌, ◌⊎◌, inl, inr, ℕ, zero, suc, ◌<◌, take, drop, slice_index_or, slice_get, ◌==◌, eqb-true, List, [], ◌∷◌, ◌++◌, Bool, true, false, Option, Some, None, refl, sym, ◌∙◌, ap, subst, arith, All, Contains, length, append_assoc}
 use Rattle.std.specs.Option.{option_to_list}
 use Rattle.std.specs.Ordering.{is_eq}
 use Rattle.std.proofs.lemmas.Bool.{cases_order}
@@ -19,7 +18,7 @@ use Rattle.spanset_eval.specs.Outcomes.{IsOutcome, shown}
 use Rattle.spanset_eval.specs.Stages.{remaining, selected_fields}
 use Rattle.traceql_syntax.specs.Trees.{QueryTree}
 use Rattle.traceql_types.specs.declared.pattern.Pattern.{Pattern}
-use Rattle.trace_rows.specs.Traces.{is_of_trace, rows_of_trace}
+use Rattle.trace_rows.specs.Traces.{rows_of_trace}
 use Rattle.search_answer.specs.Answers.{AreResults, IsResult, NoneTwice, is_in_range}
 use Rattle.search_answer.specs.Traces.{AddsOf, Gives, IsSorted}
 use Rattle.search_answer.proofs.Fronts.{Cut, Splits, none_later, rows_here, rows_of_other, same_trace, trace_cmp_total}

@@ -17,7 +17,7 @@ ghost use Rattle.trace_shell.specs.Turn.{seen_with, ending_of, HasGiven, IsAt, T
 use crate::held::Held;
 use io_edges::{Line, LineError, LineReader, Sink, Source};
 use otlp_spans::Reading;
-use search_answer::answer as search_answer;
+use search_answer::answer as shown_for;
 use search_text::printed_fields;
 use session_meaning::Ending;
 use session_text::{Refusal, Reply, Request, Search, read_request, write_reply};
@@ -288,7 +288,7 @@ fn results_of(alloc: Global, held: &Held, search: &Search) -> Result<Reply, Memo
     ensures small { IfOk result (λ reply. is_too_big reply ≡ false) }
 {
     let rows = held.firsts()?;
-    let results = search_answer(
+    let results = shown_for(
         alloc,
         &search.checked,
         search.range,

@@ -1,5 +1,4 @@
-use Rattle.std.proofs.Common.{◌≡◌, ◌++◌, [], List, ℕ, ◌<◌, sym, subst, ap, ◌∙◌, arith, eqb-true, length, append-nil}
-use Rattle.spanset_eval.specs.declared.results.TraceResult.{TraceResult}
+use Rattle.std.proofs.Common.{◌++◌, [], ◌<◌, sym, subst, ◌∙◌, length, append-nil}
 use Rattle.traceql_syntax.specs.Trees.{query_tree}
 use Rattle.search_answer.specs.Answers.{AreResults}
 use Rattle.search_answer.specs.Traces.{IsSorted}

@@ -1,4 +1,4 @@
-use Rattle.std.proofs.Common.{◌≡◌, ℕ, ap, arith, subst, true, slice_index_or}
+use Rattle.std.proofs.Common.{◌≡◌, ap, arith, subst, true, slice_index_or}
 use Rattle.std.proofs.lemmas.Cmp.{tied_itself}
 use Rattle.std.specs.Ordering.{is_eq}
 use Rattle.search_answer.specs.Traces.{of_one_trace}
