@@ -1,5 +1,5 @@
 -- A line is refused for a pattern's size only where the maker of patterns refused one.
-use Rattle.std.proofs.Common.{◌≡◌, ℕ, ◌+◌, ◌-◌, ◌^◌, ◌≤◌, min, count_by, cond, List, [], ◌∷◌, Option, Some, None, Result, Ok, Err, Bool, true, false, refl, sym, ◌∙◌, ap, subst, arith, inl, inr, length, nat_le, if◌then◌else◌}
+use Rattle.std.proofs.Common.{◌≡◌, ℕ, ◌+◌, ◌≤◌, count_by, cond, List, [], ◌∷◌, Option, Some, None, Result, Ok, Err, Bool, true, false, refl, sym, ◌∙◌, ap, arith, inl, inr, length, nat_le, if◌then◌else◌}
 use Rattle.std.specs.Prelude.{codes}
 use Rattle.std.specs.Str.{bytes_eq, is_utf8}
 use Rattle.io_edges.specs.Lines.{line_limit}
@@ -15,7 +15,7 @@ use Rattle.session_text.specs.declared.reply.Reply.TheVariants as reply
 use Rattle.session_text.specs.Lines.{first_part, other_parts}
 use Rattle.session_text.specs.Options.{SearchLine, search_parts}
 use Rattle.session_text.specs.Requests.{Answers, Asks, Line, line_by, line_of, other_line, plain, push_with, pushed, search_with, searched, trace_with, with_id}
-use Rattle.session_text.specs.Searches.{DoesNotFit, IsNoQuery, of_check, of_parse}
+use Rattle.session_text.specs.Searches.{of_check, of_parse}
 use Rattle.traceql_syntax.specs.declared.errors.ParseError.{ParseError}
 use Rattle.traceql_syntax.specs.declared.errors.ParseError.TheVariants as parse
 use Rattle.traceql_syntax.specs.Trees.{QueryTree}

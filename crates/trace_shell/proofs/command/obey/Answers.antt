@@ -1,6 +1,6 @@
 use Rattle.std.proofs.Common.{◌≡◌, Ok, Err, MatchResult, ap, subst, ◌∙◌}
 use Rattle.command_words.specs.declared.asked.WordsError.TheVariants as error
-use Rattle.command_words.specs.Spelling.{GivesSearch, GivesTrace, given_of, search_line}
+use Rattle.command_words.specs.Spelling.{GivesSearch, GivesTrace, search_line}
 use Rattle.session_meaning.specs.Session.{AnswersAlone}
 use Rattle.trace_shell.proofs.AloneLemmas.{not_refused, starved_alone}
 use Rattle.trace_shell.proofs.command.obey.Goals as goal
