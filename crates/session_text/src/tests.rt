@@ -204,52 +204,67 @@ fn lines_may_have_16777216_bytes(rt: HostRuntime) -> Result<(), Fail> {
     Ok(())
 }
 
+fn check_reply(rt: &(impl Abort + AllocGlobal), reply: &Reply, wanted: &str) -> Result<(), Memory> {
+    let text = write_reply(rt.alloc(), reply)?;
+    assert!(rt; text.as_str() == wanted, "{wanted}");
+    Ok(())
+}
+
 #[test]
-fn replies_are_written(rt: HostRuntime) -> Result<(), Fail> {
-    let alloc = rt.alloc();
+fn a_push_is_acknowledged(rt: HostRuntime) -> Result<(), Fail> {
     let pushed = Reply::Pushed {
         number: 18_446_744_073_709_551_615,
         accepted: 2,
         rejected: 4_294_967_295,
         skipped: 0,
     };
-    assert_eq!(rt;
-        write_reply(alloc, &pushed)?.as_str(),
-        "ok push 18446744073709551615 accepted=2 rejected=4294967295 skipped=0\n"
-    );
+    let wanted = "ok push 18446744073709551615 accepted=2 rejected=4294967295 skipped=0\n";
+    check_reply(&rt, &pushed, wanted)?;
+    Ok(())
+}
+
+#[test]
+fn a_trace_without_spans_is_written(rt: HostRuntime) -> Result<(), Fail> {
     let traced = Reply::Traced {
         as_of: 3,
-        rows: Rows::of(Vec::new(alloc)),
+        rows: Rows::of(Vec::new(rt.alloc())),
     };
-    assert_eq!(rt;
-        write_reply(alloc, &traced)?.as_str(),
-        "ok trace as_of=3 spans=0 {\"resourceSpans\":[]}\n"
-    );
+    let wanted = "ok trace as_of=3 spans=0 {\"resourceSpans\":[]}\n";
+    check_reply(&rt, &traced, wanted)?;
+    Ok(())
+}
+
+#[test]
+fn a_search_without_results_is_written(rt: HostRuntime) -> Result<(), Fail> {
     let searched = Reply::Searched {
         as_of: 4,
-        fields: Texts::of(Vec::new(alloc)),
-        results: Results::of(Vec::new(alloc)),
+        fields: Texts::of(Vec::new(rt.alloc())),
+        results: Results::of(Vec::new(rt.alloc())),
     };
-    assert_eq!(rt;
-        write_reply(alloc, &searched)?.as_str(),
-        "ok search as_of=4 traces=0 {\"traces\":[]}\n"
-    );
-    let long = Reply::Refused(Refusal::BadQuery(QueryFault::TooLong { length: 8193 }));
-    assert_eq!(rt;
-        write_reply(alloc, &long)?.as_str(),
-        "refused bad-query too-long length=8193\n"
-    );
-    let deep = Reply::Refused(Refusal::BadQuery(QueryFault::TooDeep { at: 66 }));
-    assert_eq!(rt;
-        write_reply(alloc, &deep)?.as_str(),
-        "refused bad-query too-deep at=66\n"
-    );
-    let memory = Reply::Refused(Refusal::Memory);
-    assert_eq!(rt; write_reply(alloc, &memory)?.as_str(), "refused memory\n");
-    let spans = Reply::Refused(Refusal::TooMany { spans: 16_385 });
-    assert_eq!(rt;
-        write_reply(alloc, &spans)?.as_str(),
-        "refused too-many spans=16385\n"
-    );
+    check_reply(
+        &rt,
+        &searched,
+        "ok search as_of=4 traces=0 {\"traces\":[]}\n",
+    )?;
+    Ok(())
+}
+
+fn check_refusal(
+    rt: &(impl Abort + AllocGlobal),
+    why: Refusal,
+    wanted: &str,
+) -> Result<(), Memory> {
+    check_reply(rt, &Reply::Refused(why), wanted)
+}
+
+#[test]
+fn refusals_are_written(rt: HostRuntime) -> Result<(), Fail> {
+    let long = Refusal::BadQuery(QueryFault::TooLong { length: 8193 });
+    check_refusal(&rt, long, "refused bad-query too-long length=8193\n")?;
+    let deep = Refusal::BadQuery(QueryFault::TooDeep { at: 66 });
+    check_refusal(&rt, deep, "refused bad-query too-deep at=66\n")?;
+    check_refusal(&rt, Refusal::Memory, "refused memory\n")?;
+    let spans = Refusal::TooMany { spans: 16_385 };
+    check_refusal(&rt, spans, "refused too-many spans=16385\n")?;
     Ok(())
 }
