@@ -1,7 +1,7 @@
 //! The relations among the spans of one trace: children, descendants, parents, ancestors and siblings.
 //!
 //! A [`Tree`] is made once of a trace's rows. Each of its five calls takes marks, one for each row, and marks the spans
-//! that stand in the relation to a marked one, in steps linear in the rows. Any rows of one trace will do: with spans
+//! that stand in the relation to a marked one, in at most eight [`Steps`] a row. Any rows of one trace will do: with spans
 //! whose parent isn't there, with several roots, with spans that are their own parents, and with rings of spans.
 #![tactic(auto)]
 
@@ -11,6 +11,7 @@ mod node;
 mod reach;
 mod steps;
 mod tree;
+mod visits;
 
 pub use node::Node;
 pub use steps::Steps;

@@ -1,12 +1,13 @@
 //! The members of groups, in the order of their positions.
 
-ghost use Rattle.std.specs.Prelude.{◌≡◌, ◌+◌, ◌<◌, ◌≤◌, ℕ, Some, false, IfOk, length, slice_index_or, slice_set};
+ghost use Rattle.std.specs.Prelude.{◌≡◌, ◌+◌, ◌*◌, ◌<◌, ◌≤◌, ℕ, Some, false, IfOk, OnOk, length, slice_index_or, slice_set};
 ghost use Rattle.std.specs.Option.{option_and_then, option_map_or};
 ghost use Rattle.span_tree.specs.Tables.{at};
 ghost use Rattle.span_tree.specs.Reach.{LeadsWithin};
 ghost use Rattle.span_tree.specs.Members.{HasMembers, shows_other};
 
 use crate::Steps;
+use crate::visits::{Found, Table};
 use span_types::Memory;
 use std::alloc::Global;
 use std::sync::ledger::Ledger;
@@ -14,78 +15,94 @@ use std::sync::ledger::Ledger;
 /// For each group its last member, and for each member the one before it in its group.
 #[derive(Drop)]
 pub struct Members {
-    pub last: Vec<Option<usize>>,
-    pub before: Vec<Option<usize>>,
+    pub last: Table,
+    pub before: Table,
 }
 
-/// The members of the groups, of which the table has one for each position, or none. A step is one entry of the table.
+/// The members of the groups, of which the table has one for each position, or none. Each position is visited twice, and
+/// between these visits its group, where it has one.
 pub fn members_of<L: Ledger>(
     alloc: Global,
-    groups: &[Option<usize>],
+    groups: &Table,
     steps: &mut Steps<L>,
 ) -> Result<Members, Memory>
     requires { LeadsWithin groups.now (length groups.now) }
-    ensures members { IfOk result (λ m. HasMembers groups.now (length groups.now) m.last.items m.before.items) }
-    ensures last_each { IfOk result (λ m. length m.last.items ≡ length groups.now) }
-    ensures before_each { IfOk result (λ m. length m.before.items ≡ length groups.now) }
-    ensures steps { steps.new ≤ steps.old + length groups.now }
+    ensures members { IfOk result (λ m. HasMembers groups.now (length groups.now) m.last m.before) }
+    ensures last_each { IfOk result (λ m. length m.last ≡ length groups.now) }
+    ensures before_each { IfOk result (λ m. length m.before ≡ length groups.now) }
+    ensures steps { steps.new ≤ steps.old + 3 * length groups.now }
+    ensures forward { steps.old ≤ steps.new }
+    ensures least { OnOk result (steps.old + 2 * length groups.now ≤ steps.new) }
 {
-    let mut last = vec![in alloc; None; groups.len()]?;
-    let mut before = Vec::with_capacity(alloc, groups.len())?;
-    for (position, group) in groups.iter().enumerate() {
-        steps.tick();
-        let earlier = join(last.as_mut_slice(), *group, position);
-        before.push(earlier)?;
+    let mut last = Table::blank(alloc, groups.len())?;
+    let mut before = Table::with_room(alloc, groups.len())?;
+    for position in 0..groups.len() {
+        let group = groups.look(position, steps);
+        let earlier = join(&mut last, group, position, steps);
+        before.push(earlier, steps)?;
     }
     Ok(Members { last, before })
 }
 
-// The position becomes the last member of the group, where there is one. The answer is the last one before.
-fn join(last: &mut [Option<usize>], group: Option<usize>, position: usize) -> Option<usize>
+// The position becomes the last member of the group, where there is one, which is visited. The answer is the last one
+// before.
+fn join<L: Ledger>(
+    last: &mut Table,
+    group: Option<usize>,
+    position: usize,
+    steps: &mut Steps<L>,
+) -> Option<usize>
     requires { (g : ℕ) → group ≡ Some g → g < length last.old }
     ensures earlier { result ≡ option_and_then (λ g. at last.old g) group }
     ensures after { last.new ≡ option_map_or (λ g. slice_set last.old g (Some position)) group last.old }
+    ensures steps { steps.new ≤ steps.old + 1 }
+    ensures forward { steps.old ≤ steps.new }
 {
     let group = group?;
-    let earlier = last[group];
-    last[group] = Some(position);
-    earlier
+    last.exchange(group, Some(position), steps)
 }
 
-/// Marks on the positions whose group has a member that stands elsewhere. A step is one entry of the table.
+/// Marks on the positions whose group has a member that stands elsewhere. Each position is visited twice, and between
+/// these visits its group, where it has one.
 pub fn with_others<L: Ledger>(
     alloc: Global,
-    groups: &[Option<usize>],
+    groups: &Table,
     members: &Members,
     steps: &mut Steps<L>,
-) -> Result<Vec<bool>, Memory>
-    requires last_each { length members.now.last.items ≡ length groups.now }
-    requires before_each { length members.now.before.items ≡ length groups.now }
-    requires within { LeadsWithin groups.now (length groups.now) }
-    ensures one_each { IfOk result (λ found. length found.items ≡ length groups.now) }
+) -> Result<Found, Memory>
+    ensures one_each { IfOk result (λ found. length found ≡ length groups.now) }
     ensures marks { IfOk result (λ found. (y : ℕ) → y < length groups.now
-        → slice_index_or found.items y false ≡ shows_other members.now.last.items members.now.before.items (at groups.now y) y) }
-    ensures steps { steps.new ≤ steps.old + length groups.now }
+        → slice_index_or found y false ≡ shows_other members.now.last members.now.before (at groups.now y) y) }
+    ensures steps { steps.new ≤ steps.old + 3 * length groups.now }
+    ensures forward { steps.old ≤ steps.new }
+    ensures least { OnOk result (steps.old + 2 * length groups.now ≤ steps.new) }
 {
-    let mut found = Vec::with_capacity(alloc, groups.len())?;
-    for (position, group) in groups.iter().enumerate() {
-        steps.tick();
-        found.push(has_other(members, *group, position))?;
+    let mut found = Found::with_room(alloc, groups.len())?;
+    for position in 0..groups.len() {
+        let mark = has_other(groups, members, position, steps);
+        found.push(mark, steps)?;
     }
     Ok(found)
 }
 
-// Whether the group has a member that stands elsewhere than at the position.
-fn has_other(members: &Members, group: Option<usize>, position: usize) -> bool
-    requires within { (g : ℕ) → group ≡ Some g → g < length members.now.last.items }
-    requires place { position < length members.now.before.items }
-    ensures { result ≡ shows_other members.now.last.items members.now.before.items group position }
+// Whether the position's group has a member that stands elsewhere. The position is visited, and its group where it has
+// one.
+fn has_other<L: Ledger>(
+    groups: &Table,
+    members: &Members,
+    position: usize,
+    steps: &mut Steps<L>,
+) -> bool
+    ensures shown { result ≡ shows_other members.now.last members.now.before (at groups.now position) position }
+    ensures steps { steps.new ≤ steps.old + 2 }
+    ensures least { steps.old + 1 ≤ steps.new }
 {
+    let (group, earlier) = groups.look_in_both(&members.before, position, steps);
     let Some(group) = group else {
         return false;
     };
-    match members.last[group] {
+    match members.last.look(group, steps) {
         None => false,
-        Some(last) => last != position || members.before[position].is_some(),
+        Some(last) => last != position || earlier.is_some(),
     }
 }

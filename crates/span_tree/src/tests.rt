@@ -1,6 +1,6 @@
 //! The five relations over traces that were worked out by hand.
 
-ghost use Rattle.std.specs.Prelude.{◌≡◌, ◌+◌, ◌*◌, ◌<◌, ◌≤◌, IfOk, IfSome, false, length, replicate};
+ghost use Rattle.std.specs.Prelude.{◌≡◌, ◌+◌, ◌*◌, ◌<◌, ◌≤◌, IfOk, IfSome, OnOk, false, length, replicate};
 ghost use Rattle.std.specs.Int.{to_be_bytes, w64};
 ghost use Rattle.span_types.specs.Promises.{all_zero};
 ghost use Rattle.span_tree.specs.Nodes.{IsOneTrace};
@@ -99,14 +99,16 @@ fn are(marks: &Marks, text: &str) -> bool {
             .all(|(mark, byte)| *mark == (*byte == b'1'))
 }
 
-// The children, descendants, parents, ancestors and siblings of the marked spans, in at most 8 steps a span for each.
+// The children, descendants, parents, ancestors and siblings of the marked spans, in at most 8 steps a span for each, and
+// at least 2, 3, 1, 1 and 6.
 fn relatives<L: Ledger>(
     tree: &Tree,
     marked: &Marks,
     steps: &mut Steps<L>,
 ) -> Result<[Marks; 5], Memory>
     requires { length marked.now ≡ length tree.now }
-    ensures { steps.new ≤ steps.old + 40 * length tree.now }
+    ensures most { steps.new ≤ steps.old + 40 * length tree.now }
+    ensures least { OnOk result (steps.old + 13 * length tree.now ≤ steps.new) }
 {
     let children = tree.mark_children(marked, steps)?;
     let descendants = tree.mark_descendants(marked, steps)?;

@@ -1,12 +1,13 @@
 //! Trees of spans.
 
-ghost use Rattle.std.specs.Prelude.{◌≡◌, ◌+◌, ◌*◌, ◌≤◌, IfOk, length};
+ghost use Rattle.std.specs.Prelude.{◌≡◌, ◌+◌, ◌*◌, ◌≤◌, IfOk, OnOk, length};
 ghost use Rattle.span_tree.specs.Nodes.{nodes_of, IsOneTrace};
 ghost use Rattle.span_tree.specs.Relations.{IsParent, IsAncestor, IsSibling};
 ghost use Rattle.span_tree.specs.Marking.{MarksExactly};
 
 use crate::members::{members_of, with_others};
-use crate::{Node, Steps, build, reach};
+use crate::visits::{Marked, Spans, Table};
+use crate::{Steps, build, reach};
 use span_types::{Marks, Memory, Row, Rows};
 use std::alloc::Global;
 use std::marker::Model;
@@ -14,11 +15,16 @@ use std::sync::ledger::Ledger;
 
 /// The spans of one trace by position, with where each one's parent stands. Contracts see it as the list of the spans'
 /// own ids and their parents'.
+///
+/// Five calls mark what stands in a relation to marked spans, in at most eight steps for each span of the tree. A step is
+/// one visit of a span: it reads or writes entries and marks of this one span, so that going on to another span, or back
+/// to one, is another step. The calls reach entries and marks by such visits alone, so a call that answers takes at least
+/// the steps that its clause `least` says. To build the tree counts as no step.
 #[derive(Debug, Drop)]
 pub struct Tree {
-    nodes: Vec<Node>,
-    parents: Vec<Option<usize>>,
-    families: Vec<Option<usize>>,
+    spans: Spans,
+    parents: Table,
+    families: Table,
 }
 
 impl Model for Tree {
@@ -28,9 +34,9 @@ impl Model for Tree {
 
     ghost Value = { List Node };
 
-    ghost view = { λ t. t.nodes.items };
+    ghost view = { λ t. t.spans };
 
-    ghost invariant = { λ t. IsLinked t.nodes.items t.parents.items t.families.items };
+    ghost invariant = { λ t. IsLinked t.spans t.parents t.families };
 }
 
 impl Tree {
@@ -52,14 +58,13 @@ impl Tree {
         let parents = build::parents(alloc, nodes.as_slice(), &positions)?;
         let families = build::families(alloc, nodes.as_slice())?;
         Ok(Tree {
-            nodes,
-            parents,
-            families,
+            spans: Spans::of(nodes),
+            parents: Table::of(parents),
+            families: Table::of(families),
         })
     }
 
-    /// Marks on the children of marked spans. To look at a span is a step, and none of these five calls makes more than eight
-    /// times as many of them as the tree has spans.
+    /// Marks on the children of marked spans. Each span is visited twice, and in between its parent, where that is there.
     pub fn mark_children<L: Ledger>(
         &self,
         marked: &Marks,
@@ -69,13 +74,16 @@ impl Tree {
         ensures marks { IfOk result (λ found.
             MarksExactly (λ x y. IsParent self.now x y) (length self.now) marked.now found) }
         ensures steps { steps.new ≤ steps.old + 8 * length self.now }
+        ensures forward { steps.old ≤ steps.new }
+        ensures least { OnOk result (steps.old + 2 * length self.now ≤ steps.new) }
     {
-        let alloc = *self.nodes.allocator();
-        let found = reach::led_to(alloc, self.parents.as_slice(), marked.as_slice(), steps)?;
-        Ok(Marks::of(found))
+        let alloc = self.spans.allocator();
+        let marked = Marked::of(marked);
+        let found = reach::led_to(alloc, &self.parents, &marked, steps)?;
+        Ok(found.into_marks())
     }
 
-    /// Marks on the parents of marked spans.
+    /// Marks on the parents of marked spans. Each span is visited once, and then each marked one's parent.
     pub fn mark_parents<L: Ledger>(
         &self,
         marked: &Marks,
@@ -85,14 +93,19 @@ impl Tree {
         ensures marks { IfOk result (λ found.
             MarksExactly (λ x y. IsParent self.now y x) (length self.now) marked.now found) }
         ensures steps { steps.new ≤ steps.old + 8 * length self.now }
+        ensures forward { steps.old ≤ steps.new }
+        ensures least { OnOk result (steps.old + length self.now ≤ steps.new) }
     {
-        let alloc = *self.nodes.allocator();
-        let ends = reach::ends(alloc, self.parents.as_slice(), marked.as_slice(), steps)?;
-        let found = reach::reached(alloc, self.nodes.len(), ends, &[], &[], steps)?;
-        Ok(Marks::of(found))
+        let alloc = self.spans.allocator();
+        let marked = Marked::of(marked);
+        let ends = reach::ends(alloc, &self.parents, &marked, steps)?;
+        let nowhere = Table::nowhere(alloc);
+        let found = reach::reached(alloc, self.spans.len(), ends, &nowhere, &nowhere, steps)?;
+        Ok(found.into_marks())
     }
 
-    /// Marks on the ancestors of marked spans. In a ring of parents a span is its own ancestor.
+    /// Marks on the ancestors of marked spans. In a ring of parents a span is its own ancestor. Each span is visited once,
+    /// and then the walk goes up from the marked ones, and on from a span only once.
     pub fn mark_ancestors<L: Ledger>(
         &self,
         marked: &Marks,
@@ -102,15 +115,21 @@ impl Tree {
         ensures marks { IfOk result (λ found.
             MarksExactly (λ x y. IsAncestor self.now y x) (length self.now) marked.now found) }
         ensures steps { steps.new ≤ steps.old + 8 * length self.now }
+        ensures forward { steps.old ≤ steps.new }
+        ensures least { OnOk result (steps.old + length self.now ≤ steps.new) }
     {
-        let alloc = *self.nodes.allocator();
-        let parents = self.parents.as_slice();
-        let ends = reach::ends(alloc, parents, marked.as_slice(), steps)?;
-        let found = reach::reached(alloc, self.nodes.len(), ends, parents, &[], steps)?;
-        Ok(Marks::of(found))
+        let parents = &self.parents;
+        let alloc = self.spans.allocator();
+        let marked = Marked::of(marked);
+        let ends = reach::ends(alloc, parents, &marked, steps)?;
+        let nowhere = Table::nowhere(alloc);
+        let found = reach::reached(alloc, self.spans.len(), ends, parents, &nowhere, steps)?;
+        Ok(found.into_marks())
     }
 
-    /// Marks on the descendants of marked spans, the spans that have a marked ancestor.
+    /// Marks on the descendants of marked spans, the spans that have a marked ancestor. Each span is visited twice, and in
+    /// between its parent, to find each one's children, and once more for its mark. Then the walk goes down from the
+    /// marked ones, and on from a span only once.
     pub fn mark_descendants<L: Ledger>(
         &self,
         marked: &Marks,
@@ -120,23 +139,22 @@ impl Tree {
         ensures marks { IfOk result (λ found.
             MarksExactly (λ x y. IsAncestor self.now x y) (length self.now) marked.now found) }
         ensures steps { steps.new ≤ steps.old + 8 * length self.now }
+        ensures forward { steps.old ≤ steps.new }
+        ensures least { OnOk result (steps.old + 3 * length self.now ≤ steps.new) }
     {
-        let alloc = *self.nodes.allocator();
-        let children = members_of(alloc, self.parents.as_slice(), steps)?;
-        let last = children.last.as_slice();
-        let ends = reach::ends(alloc, last, marked.as_slice(), steps)?;
-        let found = reach::reached(
-            alloc,
-            self.nodes.len(),
-            ends,
-            last,
-            children.before.as_slice(),
-            steps,
-        )?;
-        Ok(Marks::of(found))
+        let alloc = self.spans.allocator();
+        let marked = Marked::of(marked);
+        let children = members_of(alloc, &self.parents, steps)?;
+        let last = &children.last;
+        let before = &children.before;
+        let ends = reach::ends(alloc, last, &marked, steps)?;
+        let found = reach::reached(alloc, self.spans.len(), ends, last, before, steps)?;
+        Ok(found.into_marks())
     }
 
     /// Marks on the siblings of marked spans: the other spans that name the same parent, whether that is there or not.
+    /// Each span is visited twice for its mark, twice to find which marked spans are of its family, and twice to see
+    /// whether another than itself is. Both of the latter times the span that stands for the family is visited in between.
     pub fn mark_siblings<L: Ledger>(
         &self,
         marked: &Marks,
@@ -146,12 +164,15 @@ impl Tree {
         ensures marks { IfOk result (λ found.
             MarksExactly (λ x y. IsSibling self.now x y) (length self.now) marked.now found) }
         ensures steps { steps.new ≤ steps.old + 8 * length self.now }
+        ensures forward { steps.old ≤ steps.new }
+        ensures least { OnOk result (steps.old + 6 * length self.now ≤ steps.new) }
     {
-        let alloc = *self.nodes.allocator();
-        let families = self.families.as_slice();
-        let kin = reach::where_marked(alloc, families, marked.as_slice(), steps)?;
-        let members = members_of(alloc, kin.as_slice(), steps)?;
+        let alloc = self.spans.allocator();
+        let marked = Marked::of(marked);
+        let families = &self.families;
+        let kin = reach::where_marked(alloc, families, &marked, steps)?;
+        let members = members_of(alloc, &kin, steps)?;
         let found = with_others(alloc, families, &members, steps)?;
-        Ok(Marks::of(found))
+        Ok(found.into_marks())
     }
 }
