@@ -2,8 +2,8 @@
 //!
 //! A step is one visit of a span: it reads or writes entries and marks of this one span, so that going on to another
 //! span, or back to one, is another step. The modules that walk see no entry and no mark but by a visit: the fields are
-//! private here, and each function that touches some takes one position, or the first that has nothing yet, touches what
-//! belongs to the span there, and takes one step. A table in which nothing stands yet is made without a visit.
+//! private here, and each function that touches some takes one position, or that at which they end, touches what belongs
+//! to the span there, and takes one step. A table in which nothing stands yet is made without a visit.
 
 ghost use Rattle.std.specs.Prelude.{◌≡◌, ◌+◌, ◌<◌, [], ◌∷◌, ◌++◌, Some, None, false, true, IfOk, OnOk, length, replicate, slice_index_or, slice_set, if◌then◌else◌};
 ghost use Rattle.span_tree.specs.Tables.{at};
@@ -158,7 +158,7 @@ impl Table {
         old
     }
 
-    /// One visit: the first span that had no entry gets one.
+    /// One visit: the span at which the table ends gets its entry.
     pub fn push<L: Ledger>(
         &mut self,
         entry: Option<usize>,
@@ -268,7 +268,7 @@ impl Found {
         })
     }
 
-    /// One visit: the first span of which nothing was said yet has a mark, or has none.
+    /// One visit: the span at which the marks end gets a mark, or none.
     pub fn push<L: Ledger>(&mut self, mark: bool, steps: &mut Steps<L>) -> Result<(), Memory>
         ensures marks { OnOk result (self.new ≡ self.old ++ mark ∷ []) }
         ensures step { steps.new ≡ steps.old + 1 }
