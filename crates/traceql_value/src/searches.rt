@@ -10,11 +10,12 @@ use crate::seen::Seen;
 use regex::Matcher;
 use span_types::Memory;
 use std::alloc::Global;
-use traceql_types::Pattern;
+use traceql_types::{Checked, Pattern};
 
-/// A query's patterns, and what searches for each.
+/// A query's patterns, and what searches for each: made once for a query, and handed on from one trace's scene to the
+/// next one's.
 #[derive(Drop)]
-pub(crate) struct Searches<'a> {
+pub struct Searches<'a> {
     pub(crate) patterns: &'a [Pattern],
     pub(crate) matchers: Vec<Matcher<'a>>,
     ghost tied: { SearchFor matchers.items patterns.now },
@@ -44,10 +45,13 @@ fn is_match(patterns: &[Pattern], matchers: &mut [Matcher<'_>], string: &str, te
 }
 
 impl<'a> Searches<'a> {
-    /// Makes what searches for each of these patterns.
-    pub(crate) fn of(alloc: Global, patterns: &'a [Pattern]) -> Result<Searches<'a>, Memory>
-        ensures { IfOk result (λ s. s.patterns.now ≡ patterns.now) }
+    ghost use Rattle.traceql_value.specs.Scenes.{searches_patterns};
+
+    /// Makes what searches for each of a query's patterns.
+    pub fn of(alloc: Global, checked: &'a Checked) -> Result<Searches<'a>, Memory>
+        ensures { IfOk result (λ s. searches_patterns s ≡ checked.now.patterns) }
     {
+        let patterns = checked.patterns.as_slice();
         let mut matchers = Vec::new(alloc);
         for pattern in patterns {
             matchers.push(pattern.matcher(alloc)?)?;

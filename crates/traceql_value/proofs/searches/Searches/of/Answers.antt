@@ -6,7 +6,7 @@ use Rattle.traceql_value.proofs.searches.Searches.of.Goals as goal
 
 pub invariant_of-result : goal.invariant_of-result
 invariant_of-result c =
-    let ps = c.args.patterns.now in
+    let ps = c.as_slice-patterns.result.now in
     record {
       tied = SearchFor-from_patterns c.loop-pattern.matchers.items ps (c.loop-pattern.invariant ∙ ap (map pattern_re) (take_all c.loop-pattern.pattern-index ps c.loop-pattern-test.false));
     }
