@@ -20,7 +20,7 @@ mod trace;
 mod value;
 mod whole;
 
-pub use laws::{one_ratio, values_in_order, whole_without_division};
+pub use laws::{one_ratio, strings_are_answered, values_in_order, whole_without_division};
 pub use ratio::Ratio;
 pub use scene::{Scene, field_value};
 pub use searches::Searches;
