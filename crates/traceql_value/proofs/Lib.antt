@@ -7,3 +7,4 @@ pub mod Earliest
 pub mod Searching
 pub mod Orders
 pub mod Undivided
+pub mod Answering

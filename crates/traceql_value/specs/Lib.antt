@@ -1,6 +1,7 @@
 pub mod Arithmetic
 pub mod Fractions
 pub mod Meaning
+pub mod Readings
 pub mod Scenes
 pub mod Searches
 pub mod Seen

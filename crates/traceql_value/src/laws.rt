@@ -1,15 +1,18 @@
-//! Laws about ratios and values.
+//! Laws about ratios, values and patterns.
 
-ghost use Rattle.std.specs.Prelude.{◌≡◌, List, [], pos, ◌*ℤ◌};
+ghost use Rattle.std.specs.Prelude.{◌≡◌, List, [], All, pos, ◌*ℤ◌};
 ghost use Rattle.std.specs.Cmp.{IsTotalOrder, IsStrictWeakOrder};
 ghost use Rattle.std.specs.Ordering.{is_lt};
 ghost use Rattle.span_types.specs.declared.spans.Row.{Row};
 ghost use Rattle.span_types.specs.declared.spans.Span.{Span};
-ghost use Rattle.traceql_syntax.specs.Trees.{Tree};
+ghost use Rattle.traceql_syntax.specs.Trees.{Tree, query_tree};
+ghost use Rattle.traceql_types.specs.Asked.{asked_patterns};
+ghost use Rattle.traceql_types.specs.declared.checked.Checked.{Checked};
 ghost use Rattle.traceql_types.specs.declared.pattern.Pattern.{Pattern};
 ghost use Rattle.traceql_types.specs.Refusals.{divisions};
 ghost use Rattle.traceql_value.specs.Fractions.{Fraction, IsRatio, IsWhole};
 ghost use Rattle.traceql_value.specs.Meaning.{value_of};
+ghost use Rattle.traceql_value.specs.Readings.{IsAnswered};
 ghost use Rattle.traceql_value.specs.Values.{IfNumber, value_cmp};
 
 /// Ratios that are equal as fractions are one, so `==` and an `Equal` of `compare` say the same.
@@ -26,4 +29,10 @@ pub fn values_in_order()
 /// A number that is computed without a division is whole, as an aggregate's argument is.
 pub fn whole_without_division()
     ensures { (ps : List Pattern) (rows : List Row) (s : Span) (e : Tree) → divisions e ≡ [] → IfNumber (value_of ps rows s e) IsWhole }
+{}
+
+/// Each string that a checked query asks for is answered by a pattern of the query: `regex` reads it in the string between
+/// `\A(?:` and `)\z`, and the string matches a text exactly where that reading finds a match.
+pub fn strings_are_answered()
+    ensures { (c : Checked) → All (λ asked. IsAnswered c.patterns asked.1) (asked_patterns (query_tree c.query)) }
 {}

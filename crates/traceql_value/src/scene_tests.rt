@@ -1,13 +1,13 @@
 //! Expressions over a small trace, worked out by hand.
 
-use crate::{Ratio, Scene, Value, Values, field_value};
+use crate::{Ratio, Scene, Searches, Value, Values, field_value};
 use otlp_spans::read_line;
 use span_types::{Place, Row, Rows, SpanKind, StatusCode, Text};
 use std::alloc::{AllocError, Global};
 use std::process::Abort;
 use std::test::Fail;
 use traceql_parse::parse;
-use traceql_syntax::{Field, Stage};
+use traceql_syntax::{Field, FieldExpr, Stage};
 use traceql_tokens::Intrinsic;
 use traceql_types::{Checked, RegexMaker, check};
 
@@ -41,6 +41,10 @@ instrumentation.lang => "rust"
 nil != .v => true
 (nil) = .none => true
 1 / 0 = nil => true
+nil = .v => false
+.none = .none => false
+.none != .none => false
+1 / 0 = 1 / 0 => false
 name =~ "p|q" => false
 name =~ "p.*" => true
 name !~ "p.*" => false
@@ -97,9 +101,13 @@ status = .v => false
 !.none => nil
 .none && true => false
 true && .flag => true
+true && .none => false
 .none || true => true
 .v || .flag => true
 .none || .v => false
+true || .none => true
+false || .none => false
+!true => false
 !(.none && true) => true
 name => "pay"
 span:name => "pay"
@@ -130,6 +138,44 @@ status => unset
 kind => unspecified
 statusMessage => ""
 .v => "far"
+"#;
+
+/// A root that lasts 2^63 - 1 nanoseconds, of no service and no scope.
+const LONG: &str =
+    r#"{"resourceSpans":[{"scopeSpans":[{"spans":[{"traceId":"000102030405060708090a0b0c0d0e0f","spanId":"0000000000000001","name":"long","startTimeUnixNano":"1","endTimeUnixNano":"9223372036854775808"}]}]}]}"#;
+
+/// What expressions are for the span of the long trace.
+const OF_LONG: &str = r#"
+duration => 9223372036854775807
+traceDuration => 9223372036854775807
+span:parentID => nil
+rootName => "long"
+rootServiceName => nil
+instrumentation:name => nil
+"#;
+
+/// A span that lasts 2^63 nanoseconds, whose parent is missing.
+const LONGER: &str =
+    r#"{"resourceSpans":[{"resource":{"attributes":[{"key":"service.name","value":{"stringValue":"shop"}}]},"scopeSpans":[{"spans":[{"traceId":"000102030405060708090a0b0c0d0e0f","spanId":"0000000000000001","parentSpanId":"00000000000000ff","startTimeUnixNano":"1","endTimeUnixNano":"9223372036854775809"}]}]}]}"#;
+
+/// What expressions are for the span of the longer trace.
+const OF_LONGER: &str = r#"
+duration => nil
+traceDuration => nil
+rootName => nil
+rootServiceName => nil
+resource.service.name => "shop"
+"#;
+
+/// A root whose service is a number.
+const NUMBERED: &str =
+    r#"{"resourceSpans":[{"resource":{"attributes":[{"key":"service.name","value":{"intValue":"7"}}]},"scopeSpans":[{"spans":[{"traceId":"000102030405060708090a0b0c0d0e0f","spanId":"0000000000000001","startTimeUnixNano":"1","endTimeUnixNano":"1"}]}]}]}"#;
+
+/// What expressions are for the span of the trace whose service is a number.
+const OF_NUMBERED: &str = r#"
+resource.service.name => 7
+rootServiceName => nil
+rootName => ""
 "#;
 
 /// The rows of a line, as the first push.
@@ -197,12 +243,32 @@ fn outcome(alloc: Global, expr: &str, trace: &Rows, position: u64) -> Result<Str
     Ok(shown(alloc, &value)?)
 }
 
-fn check_rows(rt: &(impl Abort + AllocGlobal), table: &str, position: u64) -> Result<(), Fail> {
-    let trace = rows(rt.alloc(), LINE)?;
+/// Compares what a row's expression is for a span with what the row says.
+fn check_row(
+    rt: &(impl Abort + AllocGlobal),
+    row: &str,
+    trace: &Rows,
+    position: u64,
+) -> Result<(), Fail> {
+    let Some((expr, wanted)) = row.split_once(" => ") else {
+        return Err(Fail::new("a row says no value"));
+    };
+    let got = outcome(rt.alloc(), expr, trace, position)?;
+    assert!(rt; got.as_str() == wanted, "{expr} gives {got}");
+    Ok(())
+}
+
+/// Compares each row of a table for the span at this position of a line's trace.
+fn check_rows(
+    rt: &(impl Abort + AllocGlobal),
+    line: &str,
+    table: &str,
+    position: u64,
+) -> Result<(), Fail> {
+    let trace = rows(rt.alloc(), line)?;
     for row in table.lines() {
-        if let Some((expr, wanted)) = row.split_once(" => ") {
-            let got = outcome(rt.alloc(), expr, &trace, position)?;
-            assert!(rt; got.as_str() == wanted, "{expr} gives {got}");
+        if !row.is_empty() {
+            check_row(rt, row, &trace, position)?;
         }
     }
     Ok(())
@@ -210,12 +276,62 @@ fn check_rows(rt: &(impl Abort + AllocGlobal), table: &str, position: u64) -> Re
 
 #[test]
 fn fifth_span(rt: HostRuntime) -> Result<(), Fail> {
-    check_rows(&rt, FIFTH, 4)
+    check_rows(&rt, LINE, FIFTH, 4)
 }
 
 #[test]
 fn fourth_span(rt: HostRuntime) -> Result<(), Fail> {
-    check_rows(&rt, FOURTH, 3)
+    check_rows(&rt, LINE, FOURTH, 3)
+}
+
+#[test]
+fn spans_alone(rt: HostRuntime) -> Result<(), Fail> {
+    check_rows(&rt, LONG, OF_LONG, 0)?;
+    check_rows(&rt, LONGER, OF_LONGER, 0)?;
+    check_rows(&rt, NUMBERED, OF_NUMBERED, 0)
+}
+
+/// Adds what a condition is for each span of a line's trace, and gives the searches back.
+fn add_truths<'q>(
+    alloc: Global,
+    searches: Searches<'q>,
+    condition: &FieldExpr,
+    line: &str,
+    so: &mut Vec<bool>,
+) -> Result<Searches<'q>, Fail> {
+    let trace = rows(alloc, line)?;
+    let mut scene = Scene::of(alloc, searches, trace.as_slice());
+    for row in trace.as_slice() {
+        let Ok(truth) = scene.is_so(condition, &row.span) else {
+            return Err(Fail::new("no memory"));
+        };
+        so.push(truth)?;
+    }
+    Ok(scene.leave())
+}
+
+#[test]
+fn searches_go_on(rt: HostRuntime) -> Result<(), Fail> {
+    let alloc = rt.alloc();
+    let checked = grouping(
+        alloc,
+        r#"name =~ "p.*" || name =~ "lo.*" || .none =~ "p.*""#,
+    )?;
+    let [Stage::By(operand)] = checked.query.stages.as_slice() else {
+        return Err(Fail::new("the query has another stage"));
+    };
+    let Ok(searches) = Searches::of(alloc, &checked) else {
+        return Err(Fail::new("no memory"));
+    };
+    let mut so = Vec::new(alloc);
+    let searches = add_truths(alloc, searches, &operand.expr, LINE, &mut so)?;
+    let searches = add_truths(alloc, searches, &operand.expr, LONG, &mut so)?;
+    add_truths(alloc, searches, &operand.expr, LINE, &mut so)?;
+    let wanted = [
+        false, false, false, false, true, true, false, false, false, false, true,
+    ];
+    assert!(rt; so.as_slice() == wanted.as_slice());
+    Ok(())
 }
 
 #[test]
@@ -226,9 +342,10 @@ fn scene_of_a_trace(rt: HostRuntime) -> Result<(), Fail> {
     let [Stage::By(operand)] = checked.query.stages.as_slice() else {
         return Err(Fail::new("the query has another stage"));
     };
-    let Ok(mut scene) = Scene::of(alloc, &checked, trace.as_slice()) else {
+    let Ok(searches) = Searches::of(alloc, &checked) else {
         return Err(Fail::new("no memory"));
     };
+    let mut scene = Scene::of(alloc, searches, trace.as_slice());
     assert_eq!(rt; scene.start(), 50);
     assert_eq!(rt; scene.nanos(), 350);
     let mut so = Vec::new(alloc);
