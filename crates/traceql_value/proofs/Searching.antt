@@ -1,46 +1,101 @@
 -- What searches for patterns, and the patterns.
-use Rattle.std.proofs.Common.{◌≡◌, ℕ, ◌+◌, ◌<◌, Bool, true, cond, List, [], ◌∷◌, ◌++◌, length, get_or, take, drop, map, sym, subst, ap, ◌∙◌, refl}
-use Rattle.std.proofs.lemmas.List.{at_drop_more, get_or-map, length-map}
-use Rattle.std.proofs.Math.Seq.{take-append_seam}
-use Rattle.std.specs.Str.{bytes_eq}
+use Rattle.std.proofs.Common.{◌≡◌, ℕ, Bool, true, false, cond, List, [], ◌∷◌, ◌++◌, Option, Some, None, bytes_eq, sym, ap, ◌∙◌, refl}
+use Rattle.std.specs.Cmp.Lexicographic.{bytes_decides}
+use Rattle.std.specs.Map.{update}
+use Rattle.std.specs.Option.{option_map, option_map_or, option_or}
+use Rattle.std.specs.Prelude.{is_some}
+use Rattle.regex.specs.Patterns.{Re}
 use Rattle.regex.specs.Strings.{matcher_pattern}
 use Rattle.regex.specs.declared.string.matcher.Matcher.{Matcher}
 use Rattle.traceql_types.specs.declared.pattern.Pattern.{Pattern}
 use Rattle.traceql_types.specs.Patterns.{pattern_text, pattern_re}
 use Rattle.traceql_value.specs.Meaning.{matches}
-use Rattle.traceql_value.specs.Searches.{finds, SearchFor}
+use Rattle.traceql_value.specs.Searches.{Matchers, matcher_of, searched, finds, SearchFor}
 
-by_matcher : (ms : List Matcher) (text : List ℕ) → map (λ m. finds (matcher_pattern m) text) ms ≡ map (λ re. finds re text) (map matcher_pattern ms)
-by_matcher [] text = refl
-by_matcher (m ∷ ms) text = ap (λ bs. finds (matcher_pattern m) text ∷ bs) (by_matcher ms text)
+-- ---- the first pattern of a string answers for it
 
-by_pattern : (ps : List Pattern) (text : List ℕ) → map (λ p. finds (pattern_re p) text) ps ≡ map (λ re. finds re text) (map pattern_re ps)
-by_pattern [] text = refl
-by_pattern (p ∷ ps) text = ap (λ bs. finds (pattern_re p) text ∷ bs) (by_pattern ps text)
+-- the regular expression of the first pattern of this string
+abbrev pub first_re : List Pattern → List ℕ → Option Re
+first_re [] string = None
+first_re (p ∷ ps) string = cond (bytes_eq (pattern_text p) string) (Some (pattern_re p)) (first_re ps string)
 
--- what has the patterns' regular expressions searches for them
-pub SearchFor-from_patterns : (ms : List Matcher) (ps : List Pattern) → map matcher_pattern ms ≡ map pattern_re ps → SearchFor ms ps
-SearchFor-from_patterns ms ps e = λ text. by_matcher ms text ∙ ap (λ res. map (λ re. finds re text) res) e ∙ sym (by_pattern ps text)
+-- whether there is a match of what is searched for, if anything is
+abbrev answer : Option Re → List ℕ → Bool
+answer o text = option_map_or (λ re. finds re text) o false
 
--- and so does what has the regular expressions of what did before
-pub SearchFor-kept : (ms old : List Matcher) (ps : List Pattern) → map matcher_pattern ms ≡ map matcher_pattern old → SearchFor old ps → SearchFor ms ps
-SearchFor-kept ms old ps e h = λ text. by_matcher ms text ∙ ap (λ res. map (λ re. finds re text) res) e ∙ sym (by_matcher old text) ∙ h text
+answer_step : (b rest : Bool) (re : Re) (text : List ℕ) (o : Option Re) → rest ≡ answer o text → cond b (finds re text) rest ≡ answer (cond b (Some re) o) text
+answer_step true rest re text o e = refl
+answer_step false rest re text o e = e
 
-pub same_count : (ms : List Matcher) (ps : List Pattern) → SearchFor ms ps → length ms ≡ length ps
-same_count ms ps h = sym (length-map ms (λ m. finds (matcher_pattern m) [])) ∙ ap length (h []) ∙ length-map ps (λ p. finds (pattern_re p) [])
+matches_first : (ps : List Pattern) (string text : List ℕ) → matches ps string text ≡ answer (first_re ps string) text
+matches_first [] string text = refl
+matches_first (p ∷ ps) string text =
+    answer_step (bytes_eq (pattern_text p) string) (matches ps string text) (pattern_re p) text (first_re ps string) (matches_first ps string text)
 
-tested : (b : Bool) (found rest : Bool) → b ≡ true → cond b found rest ≡ found
-tested b found rest e = ap (λ t. cond t found rest) e
+-- what searches for each string's first pattern searches for the patterns
+pub SearchFor-first : (ms : Matchers) (ps : List Pattern) → ((string : List ℕ) → searched ms string ≡ first_re ps string) → SearchFor ms ps
+SearchFor-first ms ps h = λ string text. ap (λ o. answer o text) (h string) ∙ sym (matches_first ps string text)
 
--- the first pattern of a string answers for it
-pub matches_here : (ms : List Matcher) (ps : List Pattern) (i : ℕ) (p : Pattern) (string text : List ℕ) (b : Bool) → SearchFor ms ps → i < length ps → p ≡ get_or ps i p → bytes_eq (pattern_text p) string ≡ true → b ≡ get_or (map (λ m. finds (matcher_pattern m) text) ms) i b → matches (drop i ps) string text ≡ matches ps string text → b ≡ matches ps string text
-matches_here ms ps i p string text b h lt is same found rest =
-    let at : matches (drop i ps) string text ≡ matches (p ∷ drop (i + 1) ps) string text =
-    at_drop_more (λ l. matches l string text) ps i p lt ∙ ap (λ q. matches (q ∷ drop (i + 1) ps) string text) (sym is) in
-    let answer : b ≡ finds (pattern_re p) text =
-    found ∙ ap (λ bs. get_or bs i b) (h text) ∙ get_or-map (λ q. finds (pattern_re q) text) ps i p b lt ∙ ap (λ q. finds (pattern_re q) text) (sym is) in
-    answer ∙ sym (tested (bytes_eq (pattern_text p) string) (finds (pattern_re p) text) (matches (drop (i + 1) ps) string text) same) ∙ sym at ∙ rest
+-- and so does what searches for the same as what did before
+pub SearchFor-kept : (ms old : Matchers) (ps : List Pattern) → ((string : List ℕ) → searched ms string ≡ searched old string) → SearchFor old ps → SearchFor ms ps
+SearchFor-kept ms old ps e h = λ string text. ap (λ o. answer o text) (e string) ∙ h string text
 
--- what was written back over a whole list is the list
-pub written_back : (n : ℕ) (ms rest : List Matcher) → length ms ≡ n → take n (ms ++ rest) ≡ ms
-written_back n ms rest e = subst (λ k. take k (ms ++ rest) ≡ ms) e (take-append_seam ms rest)
+-- ---- one pattern more
+
+last_step : (b : Bool) (re : Re) (whole rest last : Option Re) → whole ≡ option_or rest last → cond b (Some re) whole ≡ option_or (cond b (Some re) rest) last
+last_step true re whole rest last e = refl
+last_step false re whole rest last e = e
+
+first_re-last : (ps : List Pattern) (p : Pattern) (s : List ℕ) → first_re (ps ++ p ∷ []) s ≡ option_or (first_re ps s) (cond (bytes_eq (pattern_text p) s) (Some (pattern_re p)) None)
+first_re-last [] p s = refl
+first_re-last (q ∷ ps) p s =
+    last_step (bytes_eq (pattern_text q) s) (pattern_re q) (first_re (ps ++ p ∷ []) s) (first_re ps s)
+    (cond (bytes_eq (pattern_text p) s) (Some (pattern_re p)) None) (first_re-last ps p s)
+
+or_none : (o : Option Re) → option_or o None ≡ o
+or_none None = refl
+or_none (Some re) = refl
+
+again_step : (b : Bool) (o : Option Re) (re : Re) → (b ≡ true → is_some o ≡ true) → option_or o (cond b (Some re) None) ≡ o
+again_step true None re h = absurd (let e : false ≡ true = h refl in cc)
+again_step true (Some x) re h = refl
+again_step false o re h = or_none o
+
+there : (o : Option Matcher) → is_some o ≡ true → is_some (option_map matcher_pattern o) ≡ true
+there None e = e
+there (Some m) e = refl
+
+-- a pattern whose string has its search already
+pub searched_again : (ms : Matchers) (ps : List Pattern) (p : Pattern) (string : List ℕ) → string ≡ pattern_text p → ((s : List ℕ) → searched ms s ≡ first_re ps s) → is_some (matcher_of ms string) ≡ true → (s : List ℕ) → searched ms s ≡ first_re (ps ++ p ∷ []) s
+searched_again ms ps p string e h has = λ s.
+    h s ∙ sym (first_re-last ps p s ∙ again_step (bytes_eq (pattern_text p) s) (first_re ps s) (pattern_re p)
+    (λ t. ap is_some (sym (h s)) ∙ ap (λ q. is_some (searched ms q)) (sym (e ∙ (bytes_decides (pattern_text p) s).0 t)) ∙ there (matcher_of ms string) has))
+
+absent : (o : Option Matcher) → is_some o ≡ false → option_map matcher_pattern o ≡ None
+absent None e = refl
+absent (Some m) e = absurd cc
+
+added_step : (b : Bool) (m : Matcher) (o : Option Matcher) (re : Re) (f : Option Re) → option_map matcher_pattern o ≡ f → (b ≡ true → f ≡ None) → matcher_pattern m ≡ re → option_map matcher_pattern (cond b (Some m) o) ≡ option_or f (cond b (Some re) None)
+added_step true m o re f e none same = ap Some same ∙ sym (ap (λ g. option_or g (Some re)) (none refl))
+added_step false m o re f e none same = e ∙ sym (or_none f)
+
+-- a pattern whose string has none yet
+pub searched_added : (old new : Matchers) (ps : List Pattern) (p : Pattern) (string : List ℕ) (m : Matcher) → string ≡ pattern_text p → ((s : List ℕ) → searched old s ≡ first_re ps s) → is_some (matcher_of old string) ≡ false → matcher_pattern m ≡ pattern_re p → ((s : List ℕ) → matcher_of new s ≡ update bytes_eq (matcher_of old) string (Some m) s) → (s : List ℕ) → searched new s ≡ first_re (ps ++ p ∷ []) s
+searched_added old new ps p string m e h lacks same put = λ s.
+    ap (option_map matcher_pattern) (put s)
+    ∙ ap (λ q. option_map matcher_pattern (cond (bytes_eq q s) (Some m) (matcher_of old s))) e
+    ∙ added_step (bytes_eq (pattern_text p) s) m (matcher_of old s) (pattern_re p) (first_re ps s) (h s)
+    (λ t. sym (h s) ∙ ap (searched old) (sym (e ∙ (bytes_decides (pattern_text p) s).0 t)) ∙ absent (matcher_of old string) lacks) same
+    ∙ sym (first_re-last ps p s)
+
+-- ---- a search
+
+kept_step : (b : Bool) (w o : Matcher) (found : Option Matcher) → (b ≡ true → found ≡ Some o) → matcher_pattern w ≡ matcher_pattern o → option_map matcher_pattern (cond b (Some w) found) ≡ option_map matcher_pattern found
+kept_step true w o found at same = ap Some same ∙ sym (ap (option_map matcher_pattern) (at refl))
+kept_step false w o found at same = refl
+
+-- what searched once searches for the same
+pub searched_kept : (old new : Matchers) (string : List ℕ) (o w : Matcher) → matcher_of old string ≡ Some o → matcher_pattern w ≡ matcher_pattern o → ((s : List ℕ) → matcher_of new s ≡ update bytes_eq (matcher_of old) string (Some w) s) → (s : List ℕ) → searched new s ≡ searched old s
+searched_kept old new string o w at same put = λ s.
+    ap (option_map matcher_pattern) (put s)
+    ∙ kept_step (bytes_eq string s) w o (matcher_of old s) (λ t. ap (matcher_of old) (sym ((bytes_decides string s).0 t)) ∙ at) same

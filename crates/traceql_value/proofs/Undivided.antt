@@ -1,5 +1,5 @@
 -- What is computed without a division is whole.
-use Rattle.std.proofs.Common.{◌≡◌, ℕ, ◌*◌, ◌^◌, nat_lt, Bool, true, false, cond, ℤ, pos, List, [], ◌∷◌, ◌++◌, Option, Some, None, IfSome, codes, sym, subst, ap, arith, ◌∙◌, refl}
+use Rattle.std.proofs.Common.{◌≡◌, ℕ, ◌*◌, ◌^◌, nat_lt, Bool, true, false, cond, ℤ, pos, List, [], ◌∷◌, ◌++◌, Option, Some, None, IfSome, sym, subst, ap, arith, ◌∙◌, refl}
 use Rattle.std.specs.Prelude.{◌*ℤ◌, unsigned_abs, int_rem, neg_ℤ}
 use Rattle.std.specs.Int.{◌∣◌}
 use Rattle.std.specs.Option.{option_map_or}
@@ -35,7 +35,7 @@ use Rattle.traceql_value.specs.declared.value.Value.TheVariants.{Nil, Truth, Num
 use Rattle.traceql_value.specs.Fractions.{Fraction, IsWhole, whole_fraction, power_of, under, over_sum, over_difference}
 use Rattle.traceql_value.specs.Arithmetic.{ratio_of, sum_of, difference_of, product_of, remainder_of, power_within, negative_of}
 use Rattle.traceql_value.specs.Values.{IfNumber, number_or_nil, attr_value, unless_empty, arithmetic, turned}
-use Rattle.traceql_value.specs.Spans.{attr_named, value_named, or_else, attribute_of, text_or_nil, root_of, span_nanos, trace_nanos, intrinsic_of, field_of_span}
+use Rattle.traceql_value.specs.Spans.{attr_named, value_named, or_else, attribute_of, text_or_nil, root_of, service_of, span_nanos, trace_nanos, intrinsic_of, field_of_span}
 use Rattle.traceql_value.specs.Meaning.{literal_value, is_literal_nil, applied, value_of}
 use Rattle.traceql_value.proofs.Searched.{ratio_of-sound}
 
@@ -165,8 +165,8 @@ intrinsic_whole intrinsic.TraceDuration rows s = whole_number_whole (nat_lt (tra
 intrinsic_whole intrinsic.TraceColonDuration rows s = whole_number_whole (nat_lt (trace_nanos rows) (2 ^ 63)) (trace_nanos rows)
 intrinsic_whole intrinsic.RootName rows s = row_whole (λ r. Text r.span.name) (λ r. tt) (root_of rows)
 intrinsic_whole intrinsic.TraceRootName rows s = row_whole (λ r. Text r.span.name) (λ r. tt) (root_of rows)
-intrinsic_whole intrinsic.RootServiceName rows s = row_whole (λ r. text_or_nil (attr_named (codes "service.name") r.span.resource.attrs)) (λ r. text_whole (attr_named (codes "service.name") r.span.resource.attrs)) (root_of rows)
-intrinsic_whole intrinsic.TraceRootService rows s = row_whole (λ r. text_or_nil (attr_named (codes "service.name") r.span.resource.attrs)) (λ r. text_whole (attr_named (codes "service.name") r.span.resource.attrs)) (root_of rows)
+intrinsic_whole intrinsic.RootServiceName rows s = text_whole (service_of (root_of rows))
+intrinsic_whole intrinsic.TraceRootService rows s = text_whole (service_of (root_of rows))
 intrinsic_whole intrinsic.InstrumentationName rows s = empty_whole s.scope.name
 intrinsic_whole intrinsic.InstrumentationVersion rows s = empty_whole s.scope.version
 

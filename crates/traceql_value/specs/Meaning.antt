@@ -1,5 +1,5 @@
 -- What a field expression is for a span in its trace, by recursion on the expression.
-use Rattle.std.specs.Prelude.{ℕ, List, [], ◌∷◌, Bool, true, false, not, is_some, if◌then◌else◌}
+use Rattle.std.specs.Prelude.{ℕ, List, [], ◌∷◌, Bool, true, false, not, Option, Some, None, is_some, if◌then◌else◌}
 use Rattle.std.specs.Str.{bytes_eq}
 use Rattle.regex.specs.Patterns.{find_str}
 use Rattle.span_types.specs.declared.spans.Row.{Row}
@@ -55,6 +55,12 @@ abbrev pub applied : BinaryOp → Bool → Bool → Value → Value → Value
 applied (binary.Compare c) true nil_right a b = Truth (tests_nil c b)
 applied (binary.Compare c) false true a b = Truth (tests_nil c a)
 applied op nil_left nil_right a b = combined op a b
+
+-- what `&&` and `||` give by their left side alone: `&&` is false where that isn't true, and `||` is true where it is
+abbrev pub decided : BinaryOp → Value → Option Bool
+decided binary.And a = if is_true a then None else Some false
+decided binary.Or a = if is_true a then Some true else None
+decided op a = None
 
 -- the value of an expression for a span, under a query's patterns and in the trace of these rows
 unfoldable pub value_of : List Pattern → List Row → Span → Tree → Value

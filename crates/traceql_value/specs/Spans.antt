@@ -1,6 +1,6 @@
 -- What a field is for a span in its trace.
 use Rattle.std.specs.Prelude.{ℕ, ◌-◌, min, max, List, [], ◌∷◌, Option, Some, None, codes, find, if◌then◌else◌}
-use Rattle.std.specs.Option.{option_map, option_map_or}
+use Rattle.std.specs.Option.{option_map, option_map_or, option_and_then}
 use Rattle.std.specs.Ordering.{is_lt}
 use Rattle.std.specs.Str.{bytes_eq}
 use Rattle.hex.specs.Hex.{encode_lower}
@@ -91,9 +91,13 @@ text_or_nil _ = Nil
 abbrev pub root_name : List Row → Value
 root_name rows = option_map_or (λ r. Text r.span.name) (root_of rows) Nil
 
+-- the attribute in which the root's resource names its service
+abbrev pub service_of : Option Row → Option AttrValue
+service_of root = option_and_then (λ r. attr_named (codes "service.name") r.span.resource.attrs) root
+
 -- what the root's resource calls its service, where that is a text
 abbrev pub root_service : List Row → Value
-root_service rows = option_map_or (λ r. text_or_nil (attr_named (codes "service.name") r.span.resource.attrs)) (root_of rows) Nil
+root_service rows = text_or_nil (service_of (root_of rows))
 
 abbrev pub intrinsic_of : Intrinsic → List Row → Span → Value
 intrinsic_of intrinsic.Name rows s = Text s.name

@@ -1,7 +1,8 @@
 //! The values that TraceQL's field expressions have.
 //!
 //! Numbers are exact fractions: a [`Ratio`] has a numerator of 64 signed bits and a denominator from 1 to 2^63 - 1, in
-//! lowest terms. A result outside of these bounds is no value. A [`Scene`] says what an expression is for a span.
+//! lowest terms. A result outside of these bounds is no value. A [`Scene`] says what an expression is for a span of one trace.
+//! [`Searches`] are made once for a query, and go from one trace's scene to the next one's.
 #![tactic(auto)]
 
 mod divisor;
@@ -22,6 +23,7 @@ mod whole;
 pub use laws::{one_ratio, values_in_order, whole_without_division};
 pub use ratio::Ratio;
 pub use scene::{Scene, field_value};
+pub use searches::Searches;
 pub use value::{Value, Values};
 
 #[cfg(test)]

@@ -6,7 +6,7 @@ ghost use Rattle.traceql_value.specs.Meaning.{literal_value, is_literal_nil, val
 ghost use Rattle.traceql_value.specs.Seen.{seen_value};
 
 use crate::fields::whole_number;
-use crate::operators::{applied, turned};
+use crate::operators::{applied, decided, turned};
 use crate::searches::Searches;
 use crate::seen::Seen;
 use crate::trace::{Trace, field};
@@ -68,6 +68,9 @@ pub(crate) fn look<'s>(
             ..
         } => {
             let a = look(alloc, trace, searches, &left.expr, span)?;
+            if let Some(truth) = decided(*op, &a) {
+                return Ok(Seen::Truth(truth));
+            }
             let b = look(alloc, trace, searches, &right.expr, span)?;
             let nil_left = is_literal_nil(&left.expr);
             let nil_right = is_literal_nil(&right.expr);

@@ -1,7 +1,7 @@
 //! What operators make of values.
 
-ghost use Rattle.std.specs.Prelude.{◌≡◌};
-ghost use Rattle.traceql_value.specs.Meaning.{tests_nil, applied};
+ghost use Rattle.std.specs.Prelude.{◌≡◌, Bool, IfSome};
+ghost use Rattle.traceql_value.specs.Meaning.{tests_nil, applied, decided};
 ghost use Rattle.traceql_value.specs.Seen.{seen_value};
 ghost use Rattle.traceql_value.specs.Values.{number_or_nil, is_true, is_nil, accepts, accepts_equal, compares, arithmetic, calculated, combined, turned};
 
@@ -133,6 +133,18 @@ fn tests_nil(op: Comparison, value: &Seen<'_>) -> bool
         Comparison::Equal => is_nil(value),
         Comparison::NotEqual => !is_nil(value),
         Comparison::Less | Comparison::AtMost | Comparison::Greater | Comparison::AtLeast => false,
+    }
+}
+
+/// What `&&` and `||` give by their left side alone: the right side doesn't matter then.
+pub(crate) fn decided(op: BinaryOp, left: &Seen<'_>) -> Option<bool>
+    ensures decided { result ≡ decided op (seen_value left.now) }
+    ensures value { IfSome result (λ truth. (nil_left nil_right : Bool) (right : Value) → applied op nil_left nil_right (seen_value left.now) right ≡ Value.Truth truth) }
+{
+    match op {
+        BinaryOp::And if !is_true(left) => Some(false),
+        BinaryOp::Or if is_true(left) => Some(true),
+        _ => None,
     }
 }
 

@@ -3,7 +3,7 @@
 ghost use Rattle.std.specs.Prelude.{◌≡◌, ◌<◌, IfOk, IfSome, length, slice_get};
 ghost use Rattle.traceql_syntax.specs.Trees.{tree};
 ghost use Rattle.traceql_value.specs.Meaning.{value_of, is_so};
-ghost use Rattle.traceql_value.specs.Scenes.{scene_patterns, scene_rows};
+ghost use Rattle.traceql_value.specs.Scenes.{searches_patterns, scene_patterns, scene_rows};
 ghost use Rattle.traceql_value.specs.Spans.{field_of_span, root_name, root_service, start_of, trace_nanos};
 
 use crate::Value;
@@ -16,26 +16,33 @@ use std::alloc::Global;
 use traceql_syntax::{Field, FieldExpr};
 use traceql_types::Checked;
 
-/// A trace, and a query's patterns ready to search: what is computed once for a trace and not for each span.
+/// A trace, and a query's patterns ready to search: what is computed once and not for each span. The patterns may live
+/// longer than the trace's rows: `leave` gives their searches back, for the next trace's scene.
 #[derive(Drop)]
-pub struct Scene<'a> {
+pub struct Scene<'q, 't> {
     alloc: Global,
-    trace: Trace<'a>,
-    searches: Searches<'a>,
+    trace: Trace<'t>,
+    searches: Searches<'q>,
 }
 
-impl<'a> Scene<'a> {
-    /// The scene of a query's patterns and the rows of a trace.
-    pub fn of(alloc: Global, checked: &'a Checked, rows: &'a [Row]) -> Result<Scene<'a>, Memory>
-        ensures patterns { IfOk result (λ s. scene_patterns s ≡ checked.now.patterns) }
-        ensures rows { IfOk result (λ s. scene_rows s ≡ rows.now) }
+impl<'q, 't> Scene<'q, 't> {
+    /// The scene of a query's searches and the rows of a trace. It takes no memory.
+    pub fn of(alloc: Global, searches: Searches<'q>, rows: &'t [Row]) -> Scene<'q, 't>
+        ensures patterns { scene_patterns result ≡ searches_patterns searches.entry }
+        ensures rows { scene_rows result ≡ rows.now }
     {
-        let searches = Searches::of(alloc, checked.patterns.as_slice())?;
-        Ok(Scene {
+        Scene {
             alloc,
             trace: Trace::of(rows),
             searches,
-        })
+        }
+    }
+
+    /// The query's searches again, for the next trace.
+    pub fn leave(self) -> Searches<'q>
+        ensures { searches_patterns result ≡ scene_patterns self.entry }
+    {
+        self.searches
     }
 
     /// What an expression is for a span of the trace.
@@ -106,6 +113,6 @@ pub fn field_value(
     ensures { IfOk result (λ v. IfSome (slice_get trace.now span) (λ row. v ≡ value_of checked.now.patterns trace.now row.span (tree expr.now))) }
 {
     let rows = trace.as_slice();
-    let mut scene = Scene::of(alloc, checked, rows)?;
+    let mut scene = Scene::of(alloc, Searches::of(alloc, checked)?, rows);
     scene.value(expr, &rows[span as usize].span)
 }

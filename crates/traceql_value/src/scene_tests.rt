@@ -1,6 +1,6 @@
 //! Expressions over a small trace, worked out by hand.
 
-use crate::{Ratio, Scene, Value, Values, field_value};
+use crate::{Ratio, Scene, Searches, Value, Values, field_value};
 use otlp_spans::read_line;
 use span_types::{Place, Row, Rows, SpanKind, StatusCode, Text};
 use std::alloc::{AllocError, Global};
@@ -226,9 +226,10 @@ fn scene_of_a_trace(rt: HostRuntime) -> Result<(), Fail> {
     let [Stage::By(operand)] = checked.query.stages.as_slice() else {
         return Err(Fail::new("the query has another stage"));
     };
-    let Ok(mut scene) = Scene::of(alloc, &checked, trace.as_slice()) else {
+    let Ok(searches) = Searches::of(alloc, &checked) else {
         return Err(Fail::new("no memory"));
     };
+    let mut scene = Scene::of(alloc, searches, trace.as_slice());
     assert_eq!(rt; scene.start(), 50);
     assert_eq!(rt; scene.nanos(), 350);
     let mut so = Vec::new(alloc);

@@ -1,56 +1,51 @@
 //! A query's patterns, ready to search.
 
-ghost use Rattle.std.specs.Prelude.{◌≡◌, ◌<◌, IfOk, map, length, slice_index_or, not, if◌then◌else◌};
-ghost use Rattle.regex.specs.Strings.{matcher_pattern};
+ghost use Rattle.std.specs.Prelude.{◌≡◌, ℕ, List, IfOk, not, if◌then◌else◌};
 ghost use Rattle.traceql_value.specs.Meaning.{matches, matched};
-ghost use Rattle.traceql_value.specs.Searches.{finds, SearchFor};
+ghost use Rattle.traceql_value.specs.Searches.{searched, found_by, SearchFor};
 ghost use Rattle.traceql_value.specs.Seen.{seen_value};
 
 use crate::seen::Seen;
 use regex::Matcher;
 use span_types::Memory;
 use std::alloc::Global;
-use traceql_types::Pattern;
+use std::collections::BTreeMap;
+use traceql_types::{Checked, Pattern};
 
-/// A query's patterns, and what searches for each.
+/// A query's patterns, and what searches for each string of them: made once for a query, and handed on from one trace's
+/// scene to the next one's.
 #[derive(Drop)]
-pub(crate) struct Searches<'a> {
+pub struct Searches<'a> {
     pub(crate) patterns: &'a [Pattern],
-    pub(crate) matchers: Vec<Matcher<'a>>,
-    ghost tied: { SearchFor matchers.items patterns.now },
+    pub(crate) matchers: BTreeMap<&'a str, Matcher<'a>>,
+    ghost tied: { SearchFor matchers patterns.now },
 }
 
-// Searches a text by the matcher at this position.
-fn finds_at(matchers: &mut [Matcher<'_>], position: usize, text: &str) -> bool
-    requires { position < length matchers.old }
-    ensures found { result ≡ slice_index_or (map (λ m. finds (matcher_pattern m) text.now) matchers.old) position result }
-    ensures same { map matcher_pattern matchers.new ≡ map matcher_pattern matchers.old }
+// Searches a text for the pattern of this string.
+fn is_match(matchers: &mut BTreeMap<&str, Matcher<'_>>, string: &str, text: &str) -> bool
+    ensures found { result ≡ found_by matchers.old string.now text.now }
+    ensures same { (s : List ℕ) → searched matchers.new s ≡ searched matchers.old s }
 {
-    matchers[position].is_match(text)
-}
-
-// Searches a text for the first pattern of this string.
-fn is_match(patterns: &[Pattern], matchers: &mut [Matcher<'_>], string: &str, text: &str) -> bool
-    requires { SearchFor matchers.old patterns.now }
-    ensures found { result ≡ matches patterns.now string.now text.now }
-    ensures same { map matcher_pattern matchers.new ≡ map matcher_pattern matchers.old }
-{
-    for (i, pattern) in patterns.iter().enumerate() {
-        if pattern.as_str() == string {
-            return finds_at(matchers, i, text);
-        }
+    match matchers.get_mut(string) {
+        Some(matcher) => matcher.is_match(text),
+        None => false,
     }
-    false
 }
 
 impl<'a> Searches<'a> {
-    /// Makes what searches for each of these patterns.
-    pub(crate) fn of(alloc: Global, patterns: &'a [Pattern]) -> Result<Searches<'a>, Memory>
-        ensures { IfOk result (λ s. s.patterns.now ≡ patterns.now) }
+    ghost use Rattle.traceql_value.specs.Scenes.{searches_patterns};
+
+    /// Makes what searches for a query's patterns: one search for each string, however often the query asks for it.
+    pub fn of(alloc: Global, checked: &'a Checked) -> Result<Searches<'a>, Memory>
+        ensures { IfOk result (λ s. searches_patterns s ≡ checked.now.patterns) }
     {
-        let mut matchers = Vec::new(alloc);
+        let patterns = checked.patterns.as_slice();
+        let mut matchers = BTreeMap::new(alloc);
         for pattern in patterns {
-            matchers.push(pattern.matcher(alloc)?)?;
+            let string = pattern.as_str();
+            if !matchers.contains_key(string) {
+                matchers.insert(string, pattern.matcher(alloc)?)?;
+            }
         }
         Ok(Searches { patterns, matchers })
     }
@@ -60,7 +55,7 @@ impl<'a> Searches<'a> {
         ensures value { result ≡ (if negated then not (matches self.old.patterns.now string.now text.now) else matches self.old.patterns.now string.now text.now) }
         ensures same { self.new.patterns.now ≡ self.old.patterns.now }
     {
-        is_match(self.patterns, &mut self.matchers, string, text) != negated
+        is_match(&mut self.matchers, string, text) != negated
     }
 
     /// What a match with a pattern gives, or its opposite: what is no text neither matches nor differs.

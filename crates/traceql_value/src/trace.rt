@@ -4,7 +4,7 @@ ghost use Rattle.std.specs.Prelude.{◌≡◌, IfOk, option_map};
 ghost use Rattle.std.specs.Option.{option_map_or};
 ghost use Rattle.hex.specs.Hex.{encode_lower};
 ghost use Rattle.traceql_value.specs.Seen.{seen_value};
-ghost use Rattle.traceql_value.specs.Spans.{root_of, root_name, root_service, start_of, trace_nanos, intrinsic_of, field_of_span};
+ghost use Rattle.traceql_value.specs.Spans.{root_of, root_name, service_of, root_service, start_of, trace_nanos, intrinsic_of, field_of_span};
 
 use crate::Value;
 use crate::fields::{
@@ -12,21 +12,32 @@ use crate::fields::{
 };
 use crate::seen::Seen;
 use crate::whole::{earliest, latest, root_of};
-use span_types::{Memory, Row, Span, SpanId};
+use span_types::{AttrValue, Memory, Row, Span, SpanId};
 use std::alloc::Global;
 use traceql_syntax::Field;
 use traceql_tokens::Intrinsic;
 
-/// The rows of a trace, its root, and when it starts and how long it lasts.
+/// The rows of a trace, its root and the attribute that names the root's service, and when the trace starts and how long
+/// it lasts.
 #[derive(Drop)]
 pub(crate) struct Trace<'a> {
     pub(crate) rows: &'a [Row],
     pub(crate) root: Option<&'a Row>,
+    pub(crate) service: Option<&'a AttrValue>,
     pub(crate) start: u64,
     pub(crate) nanos: u64,
     ghost rooted: { option_map (λ r. r.now) root ≡ root_of rows.now },
+    ghost served: { option_map (λ v. v.now) service ≡ service_of (root_of rows.now) },
     ghost started: { start ≡ start_of rows.now },
     ghost lasted: { nanos ≡ trace_nanos rows.now },
+}
+
+// The attribute in which the root's resource names its service.
+fn service_of<'a>(root: Option<&'a Row>) -> Option<&'a AttrValue>
+    ensures { option_map (λ v. v.now) result ≡ service_of (option_map (λ r. r.now) root.entry) }
+{
+    let resource = root?.span.resource.get();
+    attr_named(resource.attrs.as_slice(), "service.name")
 }
 
 impl<'a> Trace<'a> {
@@ -36,9 +47,11 @@ impl<'a> Trace<'a> {
     {
         let end = latest(rows);
         let start = earliest(end, rows);
+        let root = root_of(rows);
         Trace {
             rows,
-            root: root_of(rows),
+            root,
+            service: service_of(root),
             start,
             nanos: end.saturating_sub(start),
         }
@@ -58,13 +71,7 @@ impl<'a> Trace<'a> {
     pub(crate) fn root_service(&self) -> Seen<'_>
         ensures { seen_value result ≡ root_service self.now.rows.now }
     {
-        match self.root {
-            Some(root) => text_or_nil(attr_named(
-                root.span.resource.get().attrs.as_slice(),
-                "service.name",
-            )),
-            None => Seen::Nil,
-        }
+        text_or_nil(self.service)
     }
 }
 

@@ -1,8 +1,8 @@
--- So far each pattern has what searches for it.
-use Rattle.std.proofs.Common.{◌≡◌, take, map}
-use Rattle.regex.specs.Strings.{matcher_pattern}
-use Rattle.traceql_types.specs.Patterns.{pattern_re}
+-- So far each string's first pattern has its search.
+use Rattle.std.proofs.Common.{◌≡◌, ℕ, List, take}
+use Rattle.traceql_value.specs.Searches.{searched}
+use Rattle.traceql_value.proofs.Searching.{first_re}
 use Rattle.traceql_value.proofs.searches.Searches.of.Given as goal
 
 abbrev pub invariant-loop-pattern : goal.invariant-loop-pattern
-invariant-loop-pattern l = map matcher_pattern l.matchers.items ≡ map pattern_re (take l.pattern-index l.patterns)
+invariant-loop-pattern l = (s : List ℕ) → searched l.matchers s ≡ first_re (take l.pattern-index l.patterns) s
