@@ -6,7 +6,7 @@ ghost use Rattle.std.specs.Option.{option_map, option_to_list};
 ghost use Rattle.span_tree.specs.Nodes.{IsOneTrace};
 ghost use Rattle.span_types.specs.declared.spans.Row.{Row};
 ghost use Rattle.traceql_syntax.specs.Trees.{query_tree, set_tree, stage_tree};
-ghost use Rattle.traceql_value.specs.Scenes.{scene_patterns, scene_rows};
+ghost use Rattle.traceql_value.specs.Scenes.{scene_patterns, scene_rows, searches_patterns};
 ghost use Rattle.traceql_value.specs.Spans.{field_of_span, span_nanos};
 ghost use Rattle.spanset_eval.specs.Outcomes.{at_most, cut, cut_set, has_room, hit_at, hit_of, set_result, shown, IsCutOutcome, IsListOf, IsOutcome};
 ghost use Rattle.spanset_eval.specs.Seen.{IsSame};
@@ -20,13 +20,13 @@ use span_types::{Memory, Row, Rows, Span};
 use std::alloc::Global;
 use std::marker::Brand;
 use std::sync::ledger::{Blank, Ledger};
-use traceql_syntax::{Field, SpansetExpr, Stage};
+use traceql_syntax::{Field, Query, SpansetExpr, Stage};
 use traceql_types::Checked;
-use traceql_value::{Scene, Value, Values};
+use traceql_value::{Scene, Searches, Value, Values};
 
 // Adds what the fields are for a span.
 fn add_fields(
-    scene: &Scene<'_>,
+    scene: &Scene<'_, '_>,
     fields: &[Field],
     span: &Span,
     values: &mut Vec<Value>,
@@ -41,7 +41,7 @@ fn add_fields(
 
 // Adds what the fields of a stage are for a span.
 fn add_stage_fields(
-    scene: &Scene<'_>,
+    scene: &Scene<'_, '_>,
     stage: &Stage,
     span: &Span,
     values: &mut Vec<Value>,
@@ -57,7 +57,7 @@ fn add_stage_fields(
 // What the selected fields are for a span.
 fn fields_of(
     alloc: Global,
-    scene: &Scene<'_>,
+    scene: &Scene<'_, '_>,
     stages: &[Stage],
     span: &Span,
 ) -> Result<Values, Memory>
@@ -71,7 +71,7 @@ fn fields_of(
 }
 
 // A span as it is shown.
-fn hit(alloc: Global, scene: &Scene<'_>, stages: &[Stage], span: &Span) -> Result<Hit, Memory>
+fn hit(alloc: Global, scene: &Scene<'_, '_>, stages: &[Stage], span: &Span) -> Result<Hit, Memory>
     ensures { IfOk result (λ hit. hit ≡ hit_of (selected_fields (map stage_tree stages.now)) (scene_rows scene.now) span.now) }
 {
     let fields = fields_of(alloc, scene, stages, span)?;
@@ -87,7 +87,7 @@ fn hit(alloc: Global, scene: &Scene<'_>, stages: &[Stage], span: &Span) -> Resul
 // The span at a position as it is shown, if there is one.
 fn hit_at(
     alloc: Global,
-    scene: &Scene<'_>,
+    scene: &Scene<'_, '_>,
     rows: &[Row],
     stages: &[Stage],
     position: usize,
@@ -124,7 +124,7 @@ fn has_room(most: Option<usize>, length: usize) -> bool
 // Adds the span at a position as it is shown, if there is one and fewer than so many were added.
 fn add_hit(
     alloc: Global,
-    scene: &Scene<'_>,
+    scene: &Scene<'_, '_>,
     rows: &[Row],
     stages: &[Stage],
     most: Option<usize>,
@@ -146,7 +146,7 @@ fn add_hit(
 // The first members as they are shown, at most so many.
 fn hits(
     alloc: Global,
-    scene: &Scene<'_>,
+    scene: &Scene<'_, '_>,
     rows: &[Row],
     stages: &[Stage],
     most: Option<usize>,
@@ -165,7 +165,7 @@ fn hits(
 // A spanset as it is shown, with at most so many of its spans.
 fn set_result(
     alloc: Global,
-    scene: &Scene<'_>,
+    scene: &Scene<'_, '_>,
     rows: &[Row],
     stages: &[Stage],
     most: Option<usize>,
@@ -185,7 +185,7 @@ fn set_result(
 // Spansets as they are shown, with at most so many spans of each.
 fn sets(
     alloc: Global,
-    scene: &Scene<'_>,
+    scene: &Scene<'_, '_>,
     rows: &[Row],
     stages: &[Stage],
     most: Option<usize>,
@@ -204,7 +204,7 @@ fn sets(
 // What is shown of a trace, with at most so many spans of each spanset: nothing where no spanset is left.
 fn shown(
     alloc: Global,
-    scene: &Scene<'_>,
+    scene: &Scene<'_, '_>,
     rows: &[Row],
     stages: &[Stage],
     most: Option<usize>,
@@ -232,7 +232,7 @@ fn shown(
 // The positions of the spans that the expression selects.
 fn selected(
     alloc: Global,
-    scene: &mut Scene<'_>,
+    scene: &mut Scene<'_, '_>,
     rows: &[Row],
     expr: &SpansetExpr,
 ) -> Result<Members, Memory>
@@ -247,7 +247,7 @@ fn selected(
 // The same with a count of steps, which no one reads.
 fn counted<L: Ledger>(
     alloc: Global,
-    scene: &mut Scene<'_>,
+    scene: &mut Scene<'_, '_>,
     rows: &[Row],
     expr: &SpansetExpr,
     blank: Blank,
@@ -275,37 +275,46 @@ pub fn evaluate(
     requires { IsOneTrace trace.now }
     ensures { IfOk result (IsOutcome checked.now.patterns trace.now (query_tree checked.now.query)) }
 {
-    outcome(alloc, checked, trace.as_slice(), None)
+    let searches = Searches::of(alloc, checked)?;
+    let mut scene = Scene::of(alloc, searches, trace.as_slice());
+    outcome(alloc, &checked.query, &mut scene, trace.as_slice(), None)
 }
 
 /// The same of a slice of rows, with at most so many spans of each spanset: the first ones. How many a spanset has is told
-/// all the same.
-pub fn evaluate_rows(
+/// all the same. The searches are those of the query's patterns; they are given back for the next trace.
+pub fn evaluate_rows<'q>(
     alloc: Global,
     checked: &Checked,
+    searches: Searches<'q>,
     rows: &[Row],
     most: usize,
-) -> Result<Option<TraceResult>, Memory>
-    requires { IsOneTrace rows.now }
-    ensures { IfOk result (IsCutOutcome (Some most) checked.now.patterns rows.now (query_tree checked.now.query)) }
+) -> Result<(Option<TraceResult>, Searches<'q>), Memory>
+    requires one { IsOneTrace rows.now }
+    requires patterns { searches_patterns searches ≡ checked.now.patterns }
+    ensures outcome { IfOk result (λ found. IsCutOutcome (Some most) checked.now.patterns rows.now (query_tree checked.now.query) found.0) }
+    ensures searches { IfOk result (λ found. searches_patterns found.1 ≡ checked.now.patterns) }
 {
-    outcome(alloc, checked, rows, Some(most))
+    let mut scene = Scene::of(alloc, searches, rows);
+    let found = outcome(alloc, &checked.query, &mut scene, rows, Some(most))?;
+    Ok((found, scene.leave()))
 }
 
 // What a query answers of a trace, with at most so many spans of each spanset.
 fn outcome(
     alloc: Global,
-    checked: &Checked,
+    query: &Query,
+    scene: &mut Scene<'_, '_>,
     rows: &[Row],
     most: Option<usize>,
 ) -> Result<Option<TraceResult>, Memory>
-    requires { IsOneTrace rows.now }
-    ensures { IfOk result (IsCutOutcome most checked.now.patterns rows.now (query_tree checked.now.query)) }
+    requires one { IsOneTrace rows.now }
+    requires rows { rows.now ≡ scene_rows scene.old }
+    ensures outcome { IfOk result (IsCutOutcome most (scene_patterns scene.old) rows.now (query_tree query.now)) }
+    ensures scene { IsSame scene.old scene.new }
 {
-    let mut scene = Scene::of(alloc, checked, rows)?;
-    let stages = checked.query.stages.as_slice();
-    let members = selected(alloc, &mut scene, rows, &checked.query.spansets)?;
+    let stages = query.stages.as_slice();
+    let members = selected(alloc, scene, rows, &query.spansets)?;
     let groups = stages::left(stages::single(alloc, members)?);
-    let groups = stages::after_stages(alloc, &mut scene, rows, stages, groups)?;
-    shown(alloc, &scene, rows, stages, most, groups)
+    let groups = stages::after_stages(alloc, scene, rows, stages, groups)?;
+    shown(alloc, scene, rows, stages, most, groups)
 }

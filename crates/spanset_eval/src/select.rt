@@ -20,7 +20,7 @@ use traceql_value::Scene;
 /// call.
 pub fn select<L: Ledger>(
     alloc: Global,
-    scene: &mut Scene<'_>,
+    scene: &mut Scene<'_, '_>,
     rows: &[Row],
     made: &mut Option<Tree>,
     expr: &SpansetExpr,
