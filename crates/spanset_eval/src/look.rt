@@ -15,7 +15,11 @@ use traceql_syntax::{FieldExpr, Operand};
 use traceql_value::{Scene, Value};
 
 // Whether the condition is true of a span; each passes where there is none.
-fn keeps(scene: &mut Scene<'_, '_>, condition: &Option<Operand>, span: &Span) -> Result<bool, Memory>
+fn keeps(
+    scene: &mut Scene<'_, '_>,
+    condition: &Option<Operand>,
+    span: &Span,
+) -> Result<bool, Memory>
     ensures kept { IfOk result (λ b. b ≡ keeps (scene_patterns scene.old) (scene_rows scene.old) (placed_option condition.now) span.now) }
     ensures scene { IsSame scene.old scene.new }
 {
