@@ -1,4 +1,5 @@
 pub mod OneList
+mod Ranks
 pub mod Fronts
 pub mod Steps
 pub mod Firsts

@@ -1,6 +1,6 @@
 -- The results of rows: those of the first trace, and those of the rows behind it.
-use Rattle.std.proofs.Common.{◌≡◌, ◌⊎◌, inl, inr, ℕ, zero, suc, ◌<◌, take, drop, slice_index_or, slice_get, ◌==◌, eqb-true, List, [], ◌∷◌, ◌++◌, Bool, true, false, Option, Some, None, refl, sym, ◌∙◌, ap, subst, arith, All, Contains, length, append_assoc}
-use Rattle.std.specs.Option.{option_to_list}
+use Rattle.std.proofs.Common.{◌≡◌, ◌⊎◌, inl, inr, ℕ, zero, suc, ◌<◌, take, drop, slice_index_or, slice_get, ◌==◌, eqb-true, List, [], ◌∷◌, ◌++◌, Bool, true, false, Option, Some, None, refl, sym, ◌∙◌, ap, subst, arith, All, Contains, length, map, append_assoc}
+use Rattle.std.specs.Option.{option_map, option_to_list}
 use Rattle.std.specs.Ordering.{is_eq}
 use Rattle.std.proofs.lemmas.Bool.{cases_order}
 use Rattle.std.proofs.lemmas.Cmp.{tied_itself}
@@ -14,13 +14,13 @@ use Rattle.span_types.specs.declared.ids.TraceId.{TraceId}
 use Rattle.span_types.specs.declared.spans.Row.{Row}
 use Rattle.span_types.specs.Orders.{trace_cmp}
 use Rattle.spanset_eval.specs.declared.results.TraceResult.{TraceResult}
-use Rattle.spanset_eval.specs.Outcomes.{IsOutcome, shown}
+use Rattle.spanset_eval.specs.Outcomes.{IsCutOutcome, IsOutcome, cut, shown}
 use Rattle.spanset_eval.specs.Stages.{remaining, selected_fields}
 use Rattle.traceql_syntax.specs.Trees.{QueryTree}
 use Rattle.traceql_types.specs.declared.pattern.Pattern.{Pattern}
 use Rattle.trace_rows.specs.Traces.{rows_of_trace}
 use Rattle.search_answer.specs.Answers.{AreResults, IsResult, NoneTwice, is_in_range}
-use Rattle.search_answer.specs.Traces.{AddsOf, Gives, IsSorted}
+use Rattle.search_answer.specs.Traces.{AddsOf, AreCutResults, Gives, IsSorted}
 use Rattle.search_answer.proofs.Fronts.{Cut, Splits, none_later, rows_here, rows_of_other, same_trace, trace_cmp_total}
 use Rattle.search_answer.proofs.OneList.{one_outcome}
 
@@ -111,25 +111,37 @@ with_first ps q range id front later outcome more s gives are = record {
             equal a b = sym (ap is_eq (tied_itself trace_cmp_total id)) ∙ ap (λ t. is_eq (trace_cmp id t)) (sym a ∙ b)
 
 -- No rows have no results.
-pub no_rows : (ps : List Pattern) (q : QueryTree) (range : Range) (rows : List Row) → rows ≡ [] → AreResults ps q range rows []
-no_rows ps q range rows none = record {
-  only = λ k d l. absurd (omega arith);
-  whole = λ id r is. absurd (no_result ps q range (rows_of_trace id rows) r (ap (rows_of_trace id) none) is);
-  once = tt;
+pub no_rows : (ps : List Pattern) (q : QueryTree) (range : Range) (most : ℕ) (rows : List Row) → rows ≡ [] → AreCutResults ps q range most rows []
+no_rows ps q range most rows none = record {
+  whole = [];
+  are = record {
+    only = λ k d l. absurd (omega arith);
+    whole = λ id r is. absurd (no_result ps q range (rows_of_trace id rows) r (ap (rows_of_trace id) none) is);
+    once = tt;
+  };
+  is = refl;
 }
 
 -- A step of the walk: what completes the rows behind completes all.
-pub walked : (ps : List Pattern) (q : QueryTree) (range : Range) (rows rest front later : List Row) (n : ℕ) (before after : List TraceResult) → Cut rest n →
-    front ≡ take n rest → later ≡ drop n rest → AddsOf ps q range front before after →
-    ((more : List TraceResult) → AreResults ps q range rest more → AreResults ps q range rows (before ++ more)) →
-    (more : List TraceResult) → AreResults ps q range later more → AreResults ps q range rows (after ++ more)
-walked ps q range rows rest front later n before after cut is_front is_later (outcome, gives, is) so_far more are =
+pub walked : (ps : List Pattern) (q : QueryTree) (range : Range) (most : ℕ) (rows rest front later : List Row) (n : ℕ) (before after : List TraceResult) → Cut rest n →
+    front ≡ take n rest → later ≡ drop n rest → AddsOf ps q range most front before after →
+    ((more : List TraceResult) → AreCutResults ps q range most rest more → AreCutResults ps q range most rows (before ++ more)) →
+    (more : List TraceResult) → AreCutResults ps q range most later more → AreCutResults ps q range most rows (after ++ more)
+walked ps q range most rows rest front later n before after place is_front is_later (outcome, gives, is) so_far more found =
     let here : Gives ps q range (take n rest) outcome = subst (λ part. Gives ps q range part outcome) is_front gives in
-    let behind : AreResults ps q range (drop n rest) more = subst (λ part. AreResults ps q range part more) is_later are in
-    let joined : AreResults ps q range rest (option_to_list outcome ++ more) =
-    subst (λ part. AreResults ps q range part (option_to_list outcome ++ more)) cut.whole
-    (with_first ps q range cut.id (take n rest) (drop n rest) outcome more cut.splits here behind) in
-    subst (λ all. AreResults ps q range rows all) (sym (append_assoc before (option_to_list outcome) more) ∙ ap (λ all. all ++ more) (sym is)) (so_far (option_to_list outcome ++ more) joined)
+    let behind : AreResults ps q range (drop n rest) found.whole = subst (λ part. AreResults ps q range part found.whole) is_later found.are in
+    let joined : AreResults ps q range rest (option_to_list outcome ++ found.whole) =
+    subst (λ part. AreResults ps q range part (option_to_list outcome ++ found.whole)) place.whole
+    (with_first ps q range place.id (take n rest) (drop n rest) outcome found.whole place.splits here behind) in
+    let cut_one : List TraceResult = option_to_list (option_map (cut (Some most)) outcome) in
+    let cut_all : AreCutResults ps q range most rest (cut_one ++ more) =
+    record { whole = option_to_list outcome ++ found.whole; are = joined; is = ap (λ ms. cut_one ++ ms) found.is ∙ cut_first outcome found.whole } in
+    subst (λ all. AreCutResults ps q range most rows all) (sym (append_assoc before cut_one more) ∙ ap (λ all. all ++ more) (sym is)) (so_far (cut_one ++ more) cut_all)
+  where
+    cut_first : (o : Option TraceResult) (rs : List TraceResult)
+        → option_to_list (option_map (cut (Some most)) o) ++ map (cut (Some most)) rs ≡ map (cut (Some most)) (option_to_list o ++ rs)
+    cut_first None rs = refl
+    cut_first (Some r) rs = refl
 
 -- The rows of the front are of one trace, and no two of them are of one span.
 pub front_is_one : (rest front : List Row) (n : ℕ) → Cut rest n → IsSorted rest → front ≡ take n rest → IsOneTrace front
@@ -162,12 +174,18 @@ front_is_one rest front n cut sorted is = subst (λ part. IsOneTrace part) (sym 
         decided (inr (inr l)) = absurd (below j i b a y x (sym same) l)
 
 -- The result of a trace, from what was evaluated.
-pub evaluated : (ps : List Pattern) (q : QueryTree) (range : Range) (part : List Row) (outcome : Option TraceResult) → is_in_range range part ≡ true →
+evaluated : (ps : List Pattern) (q : QueryTree) (range : Range) (part : List Row) (outcome : Option TraceResult) → is_in_range range part ≡ true →
     IsOutcome ps part q outcome → Gives ps q range part outcome
 evaluated ps q range part outcome within is = record {
   only = λ r e. record { within = within; outcome = subst (λ o. IsOutcome ps part q o) e is };
   whole = λ r one. one_outcome ps part q outcome (Some r) is one.outcome;
 }
+
+-- What was evaluated is added.
+pub adds : (ps : List Pattern) (q : QueryTree) (range : Range) (most : ℕ) (part : List Row) (found : Option TraceResult) (before after : List TraceResult) →
+    is_in_range range part ≡ true → IsCutOutcome (Some most) ps part q found → after ≡ before ++ option_to_list found → AddsOf ps q range most part before after
+adds ps q range most part found before after within outcome is =
+    (outcome.whole, evaluated ps q range part outcome.whole within outcome.is_outcome, is ∙ ap (λ o. before ++ option_to_list o) outcome.is)
 
 -- A trace that isn't in the range has no result.
 pub out_of_range : (ps : List Pattern) (q : QueryTree) (range : Range) (part : List Row) → is_in_range range part ≡ false → Gives ps q range part None

@@ -1,13 +1,12 @@
 -- What a search answers, over the first occurrences of all spans.
-use Rattle.std.specs.Prelude.{◌≡◌, ◌≢◌, ℕ, List, [], ◌∷◌, Bool, true, Some, All, Contains, map, take}
+use Rattle.std.specs.Prelude.{◌≡◌, ◌≢◌, ℕ, List, [], ◌∷◌, Bool, true, Some, All, Contains, map}
 use Rattle.std.specs.List.{list_any}
 use Rattle.column_scan.specs.declared.range.Range.{Range}
 use Rattle.column_scan.specs.Ranges.{is_within}
 use Rattle.span_types.specs.declared.ids.TraceId.{TraceId}
 use Rattle.span_types.specs.declared.spans.Row.{Row}
-use Rattle.spanset_eval.specs.declared.results.SetResult.{SetResult}
 use Rattle.spanset_eval.specs.declared.results.TraceResult.{TraceResult}
-use Rattle.spanset_eval.specs.Outcomes.{IsOutcome}
+use Rattle.spanset_eval.specs.Outcomes.{IsOutcome, cut}
 use Rattle.spanset_eval.specs.Ranking.{AreFirst}
 use Rattle.traceql_syntax.specs.Trees.{QueryTree}
 use Rattle.traceql_types.specs.declared.pattern.Pattern.{Pattern}
@@ -33,13 +32,6 @@ pub record AreResults (ps : List Pattern) (q : QueryTree) (range : Range) (rows 
   pub whole : (id : TraceId) (r : TraceResult) → IsResult ps q range (rows_of_trace id rows) r → Contains results r
   pub once : NoneTwice results
 
--- A spanset as it is shown, with at most so many of its spans. How many it has is told all the same.
-abbrev pub cut_set : ℕ → SetResult → SetResult
-cut_set most s = record { by = s.by; matched = s.matched; spans = take most s.spans }
-
-abbrev pub cut : ℕ → TraceResult → TraceResult
-cut most r = record { trace = r.trace; root_name = r.root_name; root_service = r.root_service; start = r.start; duration = r.duration; sets = map (cut_set most) r.sets }
-
 -- What a search shows: of all results the first ones, at most `limit`, and of each spanset the first spans, at most `most`.
 -- `rows` are the first occurrences of all spans.
 pub record IsAnswer (ps : List Pattern) (q : QueryTree) (range : Range) (limit most : ℕ) (rows : List Row) (answer : List TraceResult) : Type 0 where
@@ -47,4 +39,4 @@ pub record IsAnswer (ps : List Pattern) (q : QueryTree) (range : Range) (limit m
   pub results : AreResults ps q range rows all
   pub first : List TraceResult
   pub ranked : AreFirst all limit first
-  pub is : answer ≡ map (cut most) first
+  pub is : answer ≡ map (cut (Some most)) first

@@ -2,7 +2,9 @@
 #![tactic(auto)]
 
 mod search;
-mod shown;
 mod traces;
 
 pub use search::answer;
+
+#[cfg(test)]
+mod tests;

@@ -1,30 +1,29 @@
 //! The answer to a search.
 
-ghost use Rattle.std.specs.Prelude.{◌≡◌, ◌≢◌, ℕ, List, IfOk, OnOk};
-ghost use Rattle.std.specs.List.{AllPairs};
-ghost use Rattle.std.specs.declared.cmp.Ordering.TheVariants.{Less};
+ghost use Rattle.std.specs.Prelude.{◌≡◌, ◌++◌, List, IfOk, OnOk};
+ghost use Rattle.std.specs.Option.{option_to_list};
 ghost use Rattle.span_tree.specs.Nodes.{IsOneTrace};
 ghost use Rattle.span_types.specs.First.{IsFirstOf};
-ghost use Rattle.span_types.specs.Keys.{row_key};
-ghost use Rattle.span_types.specs.Orders.{block_order};
 ghost use Rattle.span_types.specs.declared.spans.Row.{Row};
 ghost use Rattle.traceql_syntax.specs.Trees.{query_tree};
-ghost use Rattle.search_answer.specs.Answers.{AreResults, IsAnswer};
-ghost use Rattle.search_answer.specs.Traces.{AddsOf, IsSorted};
+ghost use Rattle.traceql_value.specs.Scenes.{searches_patterns};
+ghost use Rattle.search_answer.specs.Answers.{IsAnswer};
+ghost use Rattle.search_answer.specs.Traces.{AddsOf, AreCutResults, IsSorted};
 
-use crate::shown::shown;
 use crate::traces::{starts_in, trace_len};
 use column_scan::Range;
 use span_types::{Memory, Row};
 use spanset_eval::{Results, TraceResult, evaluate_rows, rank};
 use std::alloc::Global;
 use traceql_types::Checked;
+use traceql_value::Searches;
 
 /// What a search shows: one result for each trace of which a span starts in the range and of which the query answers
 /// something; of these the first `limit`, the latest start first and of one start by trace id; and of each spanset the
 /// first `most` spans.
 ///
-/// The rows are first occurrences in block order. Each trace is evaluated once and whole, and no row is copied.
+/// The rows are first occurrences in block order. Each trace is evaluated once and whole, no row is copied, and no more
+/// spans are than are shown. What searches for the query's patterns is made once.
 pub fn answer(
     alloc: Global,
     checked: &Checked,
@@ -36,9 +35,8 @@ pub fn answer(
     requires { (all : List Row) × IsFirstOf all rows.now }
     ensures { IfOk result (IsAnswer checked.now.patterns (query_tree checked.now.query) range limit most rows.now) }
 {
-    let all = results_of(alloc, checked, range, rows)?;
-    let first = rank(alloc, Results::of(all), limit)?;
-    shown(alloc, first, most as usize)
+    let all = results_of(alloc, checked, range, most as usize, rows)?;
+    rank(alloc, Results::of(all), limit)
 }
 
 // The results of all traces in the range.
@@ -46,36 +44,51 @@ fn results_of(
     alloc: Global,
     checked: &Checked,
     range: Range,
+    most: usize,
     rows: &[Row],
 ) -> Result<Vec<TraceResult>, Memory>
     requires { IsSorted rows.now }
-    ensures { IfOk result (λ all. AreResults checked.now.patterns (query_tree checked.now.query) range rows.now all.items) }
+    ensures { IfOk result (λ all. AreCutResults checked.now.patterns (query_tree checked.now.query) range most rows.now all.items) }
 {
     let mut all = Vec::new(alloc);
+    let mut searches = Searches::of(alloc, checked)?;
     let mut rest = rows;
     while !rest.is_empty() {
         let (part, later) = rest.split_at(trace_len(rest));
-        add_result(alloc, checked, range, part, &mut all)?;
+        searches = add_result(alloc, checked, searches, range, most, part, &mut all)?;
         rest = later;
     }
     Ok(all)
 }
 
-// Adds the result of a trace, where it is in the range and the query answers something of it.
-fn add_result(
+// Adds the result of a trace, where it is in the range and the query answers something of it. Gives the searches back.
+fn add_result<'q>(
     alloc: Global,
     checked: &Checked,
+    searches: Searches<'q>,
     range: Range,
+    most: usize,
     part: &[Row],
     all: &mut Vec<TraceResult>,
-) -> Result<(), Memory>
-    requires { IsOneTrace part.now }
-    ensures { OnOk result (AddsOf checked.now.patterns (query_tree checked.now.query) range part.now all.old.items all.new.items) }
+) -> Result<Searches<'q>, Memory>
+    requires one { IsOneTrace part.now }
+    requires patterns { searches_patterns searches ≡ checked.now.patterns }
+    ensures added { OnOk result (AddsOf checked.now.patterns (query_tree checked.now.query) range most part.now all.old.items all.new.items) }
+    ensures searches { IfOk result (λ s. searches_patterns s ≡ checked.now.patterns) }
 {
     if !starts_in(range, part) {
-        return Ok(());
+        return Ok(searches);
     }
-    if let Some(result) = evaluate_rows(alloc, checked, part)? {
+    let (found, searches) = evaluate_rows(alloc, checked, searches, part, most)?;
+    extend(all, found)?;
+    Ok(searches)
+}
+
+// Adds a result at the end, if there is one.
+fn extend(all: &mut Vec<TraceResult>, more: Option<TraceResult>) -> Result<(), Memory>
+    ensures { OnOk result (all.new.items ≡ all.old.items ++ option_to_list more) }
+{
+    if let Some(result) = more {
         all.push(result)?;
     }
     Ok(())

@@ -1,4 +1,5 @@
 mod AmountLaws
+mod CutLaws
 mod MarkLaws
 mod PartLaws
 mod ProductLaws

@@ -1,5 +1,5 @@
 -- What a query answers of a trace.
-use Rattle.std.specs.Prelude.{◌≡◌, ℕ, List, [], ◌∷◌, Option, Some, None, map, length, slice_get, Contains}
+use Rattle.std.specs.Prelude.{◌≡◌, ℕ, List, [], ◌∷◌, Bool, true, Option, Some, None, map, take, length, nat_lt, slice_get, Contains}
 use Rattle.std.specs.List.{filter_map}
 use Rattle.std.specs.List.Sorted.{IsStrictlyIncreasing}
 use Rattle.std.specs.Option.{option_map}
@@ -57,3 +57,28 @@ pub record IsOutcome (ps : List Pattern) (rows : List Row) (q : QueryTree) (outc
   pub selected : List ℕ
   pub lists : IsListOf (Selects ps rows q.spansets) selected
   pub is : outcome ≡ shown (selected_fields q.stages) rows (remaining ps rows q.stages selected)
+
+-- ---- with fewer spans
+
+-- the first ones of a list, at most so many; all of them where no number is said
+abbrev pub at_most : {X : Type 0} → Option ℕ → List X → List X
+at_most None xs = xs
+at_most (Some n) xs = take n xs
+
+-- whether a list of this length may have one more
+abbrev pub has_room : Option ℕ → ℕ → Bool
+has_room None length = true
+has_room (Some n) length = nat_lt length n
+
+-- A spanset as it is shown, with at most so many of its spans. How many it has is told all the same.
+abbrev pub cut_set : Option ℕ → SetResult → SetResult
+cut_set most s = record { by = s.by; matched = s.matched; spans = at_most most s.spans }
+
+abbrev pub cut : Option ℕ → TraceResult → TraceResult
+cut most r = record { trace = r.trace; root_name = r.root_name; root_service = r.root_service; start = r.start; duration = r.duration; sets = map (cut_set most) r.sets }
+
+-- What a query answers of the trace, with at most so many spans of each spanset.
+pub record IsCutOutcome (most : Option ℕ) (ps : List Pattern) (rows : List Row) (q : QueryTree) (outcome : Option TraceResult) : Type 0 where
+  pub whole : Option TraceResult
+  pub is_outcome : IsOutcome ps rows q whole
+  pub is : outcome ≡ option_map (cut most) whole

@@ -44,7 +44,7 @@ fn whole_number(value: Value) -> Option<i64>
 // The numbers that the argument has for the members.
 fn numbers(
     alloc: Global,
-    scene: &mut Scene<'_>,
+    scene: &mut Scene<'_, '_>,
     rows: &[Row],
     expr: &FieldExpr,
     members: &[usize],
@@ -129,7 +129,7 @@ fn amount_from(op: AggregateOp, numbers: &[i64]) -> Option<Amount>
 // An aggregate over the members.
 fn aggregate(
     alloc: Global,
-    scene: &mut Scene<'_>,
+    scene: &mut Scene<'_, '_>,
     rows: &[Row],
     aggregate: &Aggregate,
     members: &[usize],
@@ -161,7 +161,7 @@ fn signed(negative: bool, number: u64) -> i128
 // What an aggregate is compared with.
 fn threshold(
     alloc: Global,
-    scene: &mut Scene<'_>,
+    scene: &mut Scene<'_, '_>,
     rows: &[Row],
     threshold: &Threshold,
     members: &[usize],
@@ -227,7 +227,7 @@ fn compare(a: Amount, b: Amount) -> Ordering
 /// Whether the comparison of an aggregate over the members is true. It is false where a side has no number.
 pub fn is_true(
     alloc: Global,
-    scene: &mut Scene<'_>,
+    scene: &mut Scene<'_, '_>,
     rows: &[Row],
     left: &Aggregate,
     op: Comparison,

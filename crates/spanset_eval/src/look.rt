@@ -15,7 +15,11 @@ use traceql_syntax::{FieldExpr, Operand};
 use traceql_value::{Scene, Value};
 
 // Whether the condition is true of a span; each passes where there is none.
-fn keeps(scene: &mut Scene<'_>, condition: &Option<Operand>, span: &Span) -> Result<bool, Memory>
+fn keeps(
+    scene: &mut Scene<'_, '_>,
+    condition: &Option<Operand>,
+    span: &Span,
+) -> Result<bool, Memory>
     ensures kept { IfOk result (λ b. b ≡ keeps (scene_patterns scene.old) (scene_rows scene.old) (placed_option condition.now) span.now) }
     ensures scene { IsSame scene.old scene.new }
 {
@@ -27,7 +31,7 @@ fn keeps(scene: &mut Scene<'_>, condition: &Option<Operand>, span: &Span) -> Res
 
 // Whether the condition is true of the span at a position.
 fn keeps_at(
-    scene: &mut Scene<'_>,
+    scene: &mut Scene<'_, '_>,
     rows: &[Row],
     condition: &Option<Operand>,
     position: usize,
@@ -45,7 +49,7 @@ fn keeps_at(
 /// Marks on the spans of which the condition is true.
 pub fn kept(
     alloc: Global,
-    scene: &mut Scene<'_>,
+    scene: &mut Scene<'_, '_>,
     rows: &[Row],
     condition: &Option<Operand>,
 ) -> Result<Marks, Memory>
@@ -63,7 +67,7 @@ pub fn kept(
 /// The members of which the condition is true.
 pub fn kept_members(
     alloc: Global,
-    scene: &mut Scene<'_>,
+    scene: &mut Scene<'_, '_>,
     rows: &[Row],
     condition: &Option<Operand>,
     members: &[usize],
@@ -83,7 +87,7 @@ pub fn kept_members(
 
 /// What the expression is for the span at a position; nil where there is none.
 pub fn value_at(
-    scene: &mut Scene<'_>,
+    scene: &mut Scene<'_, '_>,
     rows: &[Row],
     expr: &FieldExpr,
     position: usize,

@@ -1,32 +1,32 @@
 //! What a query answers of a trace.
 
-ghost use Rattle.std.specs.Prelude.{◌≡◌, ◌<◌, ◌++◌, IfOk, OnOk, length, map};
+ghost use Rattle.std.specs.Prelude.{◌≡◌, ◌<◌, ◌++◌, IfOk, OnOk, None, length, map, if◌then◌else◌};
 ghost use Rattle.std.specs.List.{filter_map};
-ghost use Rattle.std.specs.Option.{option_to_list};
-ghost use Rattle.span_tree.specs.Nodes.{IsOneTrace, nodes_of};
+ghost use Rattle.std.specs.Option.{option_map, option_to_list};
+ghost use Rattle.span_tree.specs.Nodes.{IsOneTrace};
 ghost use Rattle.span_types.specs.declared.spans.Row.{Row};
 ghost use Rattle.traceql_syntax.specs.Trees.{query_tree, set_tree, stage_tree};
-ghost use Rattle.traceql_value.specs.Scenes.{scene_patterns, scene_rows};
+ghost use Rattle.traceql_value.specs.Scenes.{scene_patterns, scene_rows, searches_patterns};
 ghost use Rattle.traceql_value.specs.Spans.{field_of_span, span_nanos};
-ghost use Rattle.spanset_eval.specs.Outcomes.{hit_at, hit_of, set_result, shown, IsListOf, IsOutcome};
+ghost use Rattle.spanset_eval.specs.Outcomes.{at_most, cut, cut_set, has_room, hit_at, hit_of, set_result, shown, IsCutOutcome, IsListOf, IsOutcome};
 ghost use Rattle.spanset_eval.specs.Seen.{IsSame};
 ghost use Rattle.spanset_eval.specs.Sets.{Selects};
 ghost use Rattle.spanset_eval.specs.Stages.{fields_of_stage, remaining, selected_fields};
 
 use crate::groups::{Group, Members};
 use crate::{Hit, Hits, SetResult, Sets, TraceResult, marks, select, stages};
-use span_tree::{Steps, Tree};
+use span_tree::Steps;
 use span_types::{Memory, Row, Rows, Span};
 use std::alloc::Global;
 use std::marker::Brand;
 use std::sync::ledger::{Blank, Ledger};
-use traceql_syntax::{Field, SpansetExpr, Stage};
+use traceql_syntax::{Field, Query, SpansetExpr, Stage};
 use traceql_types::Checked;
-use traceql_value::{Scene, Value, Values};
+use traceql_value::{Scene, Searches, Value, Values};
 
 // Adds what the fields are for a span.
 fn add_fields(
-    scene: &Scene<'_>,
+    scene: &Scene<'_, '_>,
     fields: &[Field],
     span: &Span,
     values: &mut Vec<Value>,
@@ -41,7 +41,7 @@ fn add_fields(
 
 // Adds what the fields of a stage are for a span.
 fn add_stage_fields(
-    scene: &Scene<'_>,
+    scene: &Scene<'_, '_>,
     stage: &Stage,
     span: &Span,
     values: &mut Vec<Value>,
@@ -57,7 +57,7 @@ fn add_stage_fields(
 // What the selected fields are for a span.
 fn fields_of(
     alloc: Global,
-    scene: &Scene<'_>,
+    scene: &Scene<'_, '_>,
     stages: &[Stage],
     span: &Span,
 ) -> Result<Values, Memory>
@@ -71,7 +71,7 @@ fn fields_of(
 }
 
 // A span as it is shown.
-fn hit(alloc: Global, scene: &Scene<'_>, stages: &[Stage], span: &Span) -> Result<Hit, Memory>
+fn hit(alloc: Global, scene: &Scene<'_, '_>, stages: &[Stage], span: &Span) -> Result<Hit, Memory>
     ensures { IfOk result (λ hit. hit ≡ hit_of (selected_fields (map stage_tree stages.now)) (scene_rows scene.now) span.now) }
 {
     let fields = fields_of(alloc, scene, stages, span)?;
@@ -87,7 +87,7 @@ fn hit(alloc: Global, scene: &Scene<'_>, stages: &[Stage], span: &Span) -> Resul
 // The span at a position as it is shown, if there is one.
 fn hit_at(
     alloc: Global,
-    scene: &Scene<'_>,
+    scene: &Scene<'_, '_>,
     rows: &[Row],
     stages: &[Stage],
     position: usize,
@@ -111,52 +111,70 @@ fn extend(hits: &mut Vec<Hit>, more: Option<Hit>) -> Result<(), Memory>
     Ok(())
 }
 
-// Adds the span at a position as it is shown, if there is one.
+// Whether a list of this length may have one more, if it is to have at most so many.
+fn has_room(most: Option<usize>, length: usize) -> bool
+    ensures { result ≡ has_room most length }
+{
+    match most {
+        None => true,
+        Some(most) => length < most,
+    }
+}
+
+// Adds the span at a position as it is shown, if there is one and fewer than so many were added.
 fn add_hit(
     alloc: Global,
-    scene: &Scene<'_>,
+    scene: &Scene<'_, '_>,
     rows: &[Row],
     stages: &[Stage],
+    most: Option<usize>,
     position: usize,
     hits: &mut Vec<Hit>,
 ) -> Result<(), Memory>
     requires { rows.now ≡ scene_rows scene.now }
-    ensures { OnOk result (hits.new.items ≡ hits.old.items ++ option_to_list (hit_at (selected_fields (map stage_tree stages.now)) (scene_rows scene.now) position)) }
+    ensures { OnOk result (hits.new.items ≡ (if has_room most (length hits.old.items)
+        then hits.old.items ++ option_to_list (hit_at (selected_fields (map stage_tree stages.now)) (scene_rows scene.now) position)
+        else hits.old.items)) }
 {
+    if !has_room(most, hits.len()) {
+        return Ok(());
+    }
     let found = hit_at(alloc, scene, rows, stages, position)?;
     extend(hits, found)
 }
 
-// The members as they are shown.
+// The first members as they are shown, at most so many.
 fn hits(
     alloc: Global,
-    scene: &Scene<'_>,
+    scene: &Scene<'_, '_>,
     rows: &[Row],
     stages: &[Stage],
+    most: Option<usize>,
     members: &[usize],
 ) -> Result<Hits, Memory>
     requires { rows.now ≡ scene_rows scene.now }
-    ensures { IfOk result (λ hits. hits ≡ filter_map (hit_at (selected_fields (map stage_tree stages.now)) (scene_rows scene.now)) members.now) }
+    ensures { IfOk result (λ hits. hits ≡ at_most most (filter_map (hit_at (selected_fields (map stage_tree stages.now)) (scene_rows scene.now)) members.now)) }
 {
-    let mut hits = Vec::with_capacity(alloc, members.len())?;
+    let mut hits = Vec::new(alloc);
     for position in members {
-        add_hit(alloc, scene, rows, stages, *position, &mut hits)?;
+        add_hit(alloc, scene, rows, stages, most, *position, &mut hits)?;
     }
     Ok(Hits::of(hits))
 }
 
-// A spanset as it is shown.
+// A spanset as it is shown, with at most so many of its spans.
 fn set_result(
     alloc: Global,
-    scene: &Scene<'_>,
+    scene: &Scene<'_, '_>,
     rows: &[Row],
     stages: &[Stage],
+    most: Option<usize>,
     group: Group,
 ) -> Result<SetResult, Memory>
     requires { rows.now ≡ scene_rows scene.now }
-    ensures { IfOk result (λ set. set ≡ set_result (selected_fields (map stage_tree stages.now)) (scene_rows scene.now) group) }
+    ensures { IfOk result (λ set. set ≡ cut_set most (set_result (selected_fields (map stage_tree stages.now)) (scene_rows scene.now) group)) }
 {
-    let spans = hits(alloc, scene, rows, stages, group.members.as_slice())?;
+    let spans = hits(alloc, scene, rows, stages, most, group.members.as_slice())?;
     Ok(SetResult {
         by: group.by,
         matched: group.members.len() as u64,
@@ -164,34 +182,36 @@ fn set_result(
     })
 }
 
-// Spansets as they are shown.
+// Spansets as they are shown, with at most so many spans of each.
 fn sets(
     alloc: Global,
-    scene: &Scene<'_>,
+    scene: &Scene<'_, '_>,
     rows: &[Row],
     stages: &[Stage],
+    most: Option<usize>,
     groups: Vec<Group>,
 ) -> Result<Sets, Memory>
     requires { rows.now ≡ scene_rows scene.now }
-    ensures { IfOk result (λ sets. sets ≡ map (set_result (selected_fields (map stage_tree stages.now)) (scene_rows scene.now)) groups.items) }
+    ensures { IfOk result (λ sets. sets ≡ map (cut_set most) (map (set_result (selected_fields (map stage_tree stages.now)) (scene_rows scene.now)) groups.items)) }
 {
     let mut sets = Vec::with_capacity(alloc, groups.len())?;
     for group in groups {
-        sets.push(set_result(alloc, scene, rows, stages, group)?)?;
+        sets.push(set_result(alloc, scene, rows, stages, most, group)?)?;
     }
     Ok(Sets::of(sets))
 }
 
-// What is shown of a trace: nothing where no spanset is left.
+// What is shown of a trace, with at most so many spans of each spanset: nothing where no spanset is left.
 fn shown(
     alloc: Global,
-    scene: &Scene<'_>,
+    scene: &Scene<'_, '_>,
     rows: &[Row],
     stages: &[Stage],
+    most: Option<usize>,
     groups: Vec<Group>,
 ) -> Result<Option<TraceResult>, Memory>
     requires { rows.now ≡ scene_rows scene.now }
-    ensures { IfOk result (λ outcome. outcome ≡ shown (selected_fields (map stage_tree stages.now)) rows.now groups.items) }
+    ensures { IfOk result (λ outcome. outcome ≡ option_map (cut most) (shown (selected_fields (map stage_tree stages.now)) rows.now groups.items)) }
 {
     let [first, ..] = rows else {
         return Ok(None);
@@ -205,14 +225,14 @@ fn shown(
         root_service: scene.root_service()?,
         start: scene.start(),
         duration: scene.nanos(),
-        sets: sets(alloc, scene, rows, stages, groups)?,
+        sets: sets(alloc, scene, rows, stages, most, groups)?,
     }))
 }
 
 // The positions of the spans that the expression selects.
 fn selected(
     alloc: Global,
-    scene: &mut Scene<'_>,
+    scene: &mut Scene<'_, '_>,
     rows: &[Row],
     expr: &SpansetExpr,
 ) -> Result<Members, Memory>
@@ -221,21 +241,19 @@ fn selected(
     ensures positions { IfOk result (IsListOf (Selects (scene_patterns scene.old) rows.now (set_tree expr.now))) }
     ensures scene { IsSame scene.old scene.new }
 {
-    let tree = Tree::of_slice(alloc, rows)?;
-    counted::<Brand>(alloc, scene, rows, &tree, expr, Blank::new(1))
+    counted::<Brand>(alloc, scene, rows, expr, Blank::new(1))
 }
 
 // The same with a count of steps, which no one reads.
 fn counted<L: Ledger>(
     alloc: Global,
-    scene: &mut Scene<'_>,
+    scene: &mut Scene<'_, '_>,
     rows: &[Row],
-    tree: &Tree,
     expr: &SpansetExpr,
     blank: Blank,
 ) -> Result<Members, Memory>
     requires rows { rows.now ≡ scene_rows scene.old }
-    requires tree { tree.now ≡ nodes_of rows.now }
+    requires one { IsOneTrace rows.now }
     requires name { blank.name ≡ L.name }
     requires parts { blank.parts ≡ L.parts }
     requires some { 0 < L.parts }
@@ -243,7 +261,8 @@ fn counted<L: Ledger>(
     ensures scene { IsSame scene.old scene.new }
 {
     let mut steps: Steps<L> = Steps::of(blank);
-    let marks = select::select(alloc, scene, rows, tree, expr, &mut steps)?;
+    let mut made = None;
+    let marks = select::select(alloc, scene, rows, &mut made, expr, &mut steps)?;
     marks::marked(alloc, &marks)
 }
 
@@ -256,22 +275,46 @@ pub fn evaluate(
     requires { IsOneTrace trace.now }
     ensures { IfOk result (IsOutcome checked.now.patterns trace.now (query_tree checked.now.query)) }
 {
-    evaluate_rows(alloc, checked, trace.as_slice())
+    let searches = Searches::of(alloc, checked)?;
+    let mut scene = Scene::of(alloc, searches, trace.as_slice());
+    outcome(alloc, &checked.query, &mut scene, trace.as_slice(), None)
 }
 
-/// The same of a slice of rows.
-pub fn evaluate_rows(
+/// The same of a slice of rows, with at most so many spans of each spanset: the first ones. How many a spanset has is told
+/// all the same. The searches are those of the query's patterns; they are given back for the next trace.
+pub fn evaluate_rows<'q>(
     alloc: Global,
     checked: &Checked,
+    searches: Searches<'q>,
     rows: &[Row],
-) -> Result<Option<TraceResult>, Memory>
-    requires { IsOneTrace rows.now }
-    ensures { IfOk result (IsOutcome checked.now.patterns rows.now (query_tree checked.now.query)) }
+    most: usize,
+) -> Result<(Option<TraceResult>, Searches<'q>), Memory>
+    requires one { IsOneTrace rows.now }
+    requires patterns { searches_patterns searches ≡ checked.now.patterns }
+    ensures outcome { IfOk result (λ found. IsCutOutcome (Some most) checked.now.patterns rows.now (query_tree checked.now.query) found.0) }
+    ensures searches { IfOk result (λ found. searches_patterns found.1 ≡ checked.now.patterns) }
 {
-    let mut scene = Scene::of(alloc, checked, rows)?;
-    let stages = checked.query.stages.as_slice();
-    let members = selected(alloc, &mut scene, rows, &checked.query.spansets)?;
+    let mut scene = Scene::of(alloc, searches, rows);
+    let found = outcome(alloc, &checked.query, &mut scene, rows, Some(most))?;
+    Ok((found, scene.leave()))
+}
+
+// What a query answers of a trace, with at most so many spans of each spanset.
+fn outcome(
+    alloc: Global,
+    query: &Query,
+    scene: &mut Scene<'_, '_>,
+    rows: &[Row],
+    most: Option<usize>,
+) -> Result<Option<TraceResult>, Memory>
+    requires one { IsOneTrace rows.now }
+    requires rows { rows.now ≡ scene_rows scene.old }
+    ensures outcome { IfOk result (IsCutOutcome most (scene_patterns scene.old) rows.now (query_tree query.now)) }
+    ensures scene { IsSame scene.old scene.new }
+{
+    let stages = query.stages.as_slice();
+    let members = selected(alloc, scene, rows, &query.spansets)?;
     let groups = stages::left(stages::single(alloc, members)?);
-    let groups = stages::after_stages(alloc, &mut scene, rows, stages, groups)?;
-    shown(alloc, &scene, rows, stages, groups)
+    let groups = stages::after_stages(alloc, scene, rows, stages, groups)?;
+    shown(alloc, scene, rows, stages, most, groups)
 }

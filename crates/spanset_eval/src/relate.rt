@@ -2,13 +2,15 @@
 
 ghost use Rattle.std.specs.Prelude.{◌≡◌, ℕ, [], IfOk, length};
 ghost use Rattle.span_tree.specs.Marking.{IsMarked, MarksExactly};
+ghost use Rattle.span_tree.specs.Nodes.{IsOneTrace, nodes_of};
 ghost use Rattle.spanset_eval.specs.Marked.{MarksSet};
 ghost use Rattle.spanset_eval.specs.Relating.{opposite_of};
+ghost use Rattle.spanset_eval.specs.Seen.{IsTreeOf};
 ghost use Rattle.spanset_eval.specs.Sets.{Relates, Structural, Joined};
 
 use crate::marks;
 use span_tree::{Steps, Tree};
-use span_types::{Marks, Memory};
+use span_types::{Marks, Memory, Row};
 use std::alloc::Global;
 use std::sync::ledger::Ledger;
 use traceql_syntax::{Relation, Side, SpansetOp};
@@ -84,24 +86,44 @@ fn together(alloc: Global, left: &Marks, right: &Marks) -> Result<Marks, Memory>
     }
 }
 
-/// Marks on what an operator between two spansets selects of the marked spans.
+// The tree of a trace's rows, unless it is there.
+fn tree_of(alloc: Global, rows: &[Row], made: Option<Tree>) -> Result<Tree, Memory>
+    requires one { IsOneTrace rows.now }
+    requires made { IsTreeOf rows.now made }
+    ensures { IfOk result (λ tree. tree ≡ nodes_of rows.now) }
+{
+    match made {
+        Some(tree) => Ok(tree),
+        None => Tree::of_slice(alloc, rows),
+    }
+}
+
+/// Marks on what an operator between two spansets selects of the marked spans. Only a structural operator wants the
+/// trace's tree: it is made for the first one, and kept in `made` for others.
 pub fn joined<L: Ledger>(
     alloc: Global,
-    tree: &Tree,
+    rows: &[Row],
+    made: &mut Option<Tree>,
     op: SpansetOp,
     left: &Marks,
     right: &Marks,
     steps: &mut Steps<L>,
 ) -> Result<Marks, Memory>
-    requires left_each { length left.now ≡ length tree.now }
-    requires right_each { length right.now ≡ length tree.now }
-    ensures { IfOk result (MarksSet (length tree.now) (Joined op tree.now (IsMarked left.now) (IsMarked right.now))) }
+    requires one { IsOneTrace rows.now }
+    requires made { IsTreeOf rows.now made.old }
+    requires left_each { length left.now ≡ length rows.now }
+    requires right_each { length right.now ≡ length rows.now }
+    ensures marks { IfOk result (MarksSet (length rows.now) (Joined op (nodes_of rows.now) (IsMarked left.now) (IsMarked right.now))) }
+    ensures made { IsTreeOf rows.now made.new }
 {
     match op {
         SpansetOp::And => together(alloc, left, right),
         SpansetOp::Or => marks::either(alloc, left, right),
         SpansetOp::Related(relation, side) => {
-            structural(alloc, tree, relation, side, left, right, steps)
+            let tree = tree_of(alloc, rows, made.take())?;
+            let marks = structural(alloc, &tree, relation, side, left, right, steps);
+            *made = Some(tree);
+            marks
         }
     }
 }

@@ -1,11 +1,11 @@
 //! Which spans an expression over spansets selects.
 
 ghost use Rattle.std.specs.Prelude.{◌≡◌, IfOk, length};
-ghost use Rattle.span_tree.specs.Nodes.{nodes_of};
+ghost use Rattle.span_tree.specs.Nodes.{IsOneTrace};
 ghost use Rattle.traceql_syntax.specs.Trees.{set_tree};
 ghost use Rattle.traceql_value.specs.Scenes.{scene_patterns, scene_rows};
 ghost use Rattle.spanset_eval.specs.Marked.{MarksSet};
-ghost use Rattle.spanset_eval.specs.Seen.{IsSame};
+ghost use Rattle.spanset_eval.specs.Seen.{IsSame, IsTreeOf};
 ghost use Rattle.spanset_eval.specs.Sets.{Selects};
 
 use crate::{look, relate};
@@ -16,19 +16,22 @@ use std::sync::ledger::Ledger;
 use traceql_syntax::SpansetExpr;
 use traceql_value::Scene;
 
-/// Marks on the spans that the expression selects.
+/// Marks on the spans that the expression selects. `made` has the trace's tree where one was made, and is for the next
+/// call.
 pub fn select<L: Ledger>(
     alloc: Global,
-    scene: &mut Scene<'_>,
+    scene: &mut Scene<'_, '_>,
     rows: &[Row],
-    tree: &Tree,
+    made: &mut Option<Tree>,
     expr: &SpansetExpr,
     steps: &mut Steps<L>,
 ) -> Result<Marks, Memory>
     requires rows { rows.now ≡ scene_rows scene.old }
-    requires tree { tree.now ≡ nodes_of rows.now }
+    requires one { IsOneTrace rows.now }
+    requires made { IsTreeOf rows.now made.old }
     ensures marks { IfOk result (MarksSet (length rows.now) (Selects (scene_patterns scene.old) rows.now (set_tree expr.now))) }
     ensures scene { IsSame scene.old scene.new }
+    ensures made { IsTreeOf rows.now made.new }
 {
     match expr {
         SpansetExpr::Filter { condition, .. } => look::kept(alloc, scene, rows, condition),
@@ -38,9 +41,9 @@ pub fn select<L: Ledger>(
             right,
             ..
         } => {
-            let left = select(alloc, scene, rows, tree, left, steps)?;
-            let right = select(alloc, scene, rows, tree, right, steps)?;
-            relate::joined(alloc, tree, *op, &left, &right, steps)
+            let left = select(alloc, scene, rows, made, left, steps)?;
+            let right = select(alloc, scene, rows, made, right, steps)?;
+            relate::joined(alloc, rows, made, *op, &left, &right, steps)
         }
     }
 }

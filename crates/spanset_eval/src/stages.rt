@@ -21,7 +21,7 @@ use traceql_value::{Scene, Value, Values};
 // The spansets with the spans of which the condition is true.
 fn keep(
     alloc: Global,
-    scene: &mut Scene<'_>,
+    scene: &mut Scene<'_, '_>,
     rows: &[Row],
     condition: &Option<Operand>,
     groups: Vec<Group>,
@@ -44,7 +44,7 @@ fn keep(
 // The members with the values that an expression has there.
 fn valued(
     alloc: Global,
-    scene: &mut Scene<'_>,
+    scene: &mut Scene<'_, '_>,
     rows: &[Row],
     expr: &FieldExpr,
     members: &[usize],
@@ -89,7 +89,7 @@ fn add_parts(by: &Values, parts: Vec<Part>, found: &mut Vec<Group>) -> Result<()
 // Adds what a spanset is split into.
 fn add_split(
     alloc: Global,
-    scene: &mut Scene<'_>,
+    scene: &mut Scene<'_, '_>,
     rows: &[Row],
     expr: &FieldExpr,
     group: &Group,
@@ -107,7 +107,7 @@ fn add_split(
 // Each spanset split by the values of an expression.
 fn split(
     alloc: Global,
-    scene: &mut Scene<'_>,
+    scene: &mut Scene<'_, '_>,
     rows: &[Row],
     expr: &FieldExpr,
     groups: &[Group],
@@ -169,7 +169,7 @@ pub fn single(alloc: Global, members: Members) -> Result<Vec<Group>, Memory>
 // The spansets for which the comparison of an aggregate is true.
 fn compare(
     alloc: Global,
-    scene: &mut Scene<'_>,
+    scene: &mut Scene<'_, '_>,
     rows: &[Row],
     left: &Aggregate,
     op: Comparison,
@@ -203,7 +203,7 @@ fn compare(
 #[tactic(auto, unfolding(crate::specs::Stages::after_stage))]
 fn after_stage(
     alloc: Global,
-    scene: &mut Scene<'_>,
+    scene: &mut Scene<'_, '_>,
     rows: &[Row],
     stage: &Stage,
     groups: Vec<Group>,
@@ -245,7 +245,7 @@ fn is_left(group: &Group) -> bool
 /// What all stages make of spansets.
 pub fn after_stages(
     alloc: Global,
-    scene: &mut Scene<'_>,
+    scene: &mut Scene<'_, '_>,
     rows: &[Row],
     stages: &[Stage],
     groups: Vec<Group>,

@@ -1,8 +1,7 @@
 use Rattle.std.proofs.Common.{◌≡◌, ◌∙◌, length, sym, ap, subst, map}
-use Rattle.std.proofs.lemmas.List.{length-map}
 use Rattle.span_types.specs.declared.spans.Row.{Row}
 use Rattle.span_tree.specs.Marking.{IsMarked}
-use Rattle.span_tree.specs.Nodes.{node_of, nodes_of}
+use Rattle.span_tree.specs.Nodes.{nodes_of}
 use Rattle.traceql_syntax.specs.Trees.{placed_option, set_tree}
 use Rattle.traceql_value.specs.Scenes.{scene_patterns, scene_rows}
 use Rattle.spanset_eval.specs.Marked.{MarksSet}
@@ -33,9 +32,7 @@ returns-in_ok-right-in-Join-clause-marks g t c =
     let second : MarksSet n (Selects ps rows (set_tree c.in-Join.right.value)) right =
     subst (λ e. MarksSet n (Selects ps rows (set_tree e)) right) c.deref-in-Join.ensures
     (subst (λ qs. MarksSet n (Selects qs rows (set_tree c.deref-in-Join.result.now)) right) c.in_ok-left-in-Join.ensures.scene.patterns c.in_ok-right-in-Join.ensures.marks) in
-    if_ok c.joined.result (MarksSet (length c.args.tree.now) (Joined c.in-Join.op c.args.tree.now (IsMarked left) (IsMarked right))) (MarksSet n (Selects ps rows (set_tree c.args.expr.now)))
+    if_ok c.joined.result (MarksSet n (Joined c.in-Join.op (nodes_of rows) (IsMarked left) (IsMarked right))) (MarksSet n (Selects ps rows (set_tree c.args.expr.now)))
     (λ m h. subst (λ x. MarksSet n (Selects ps rows (set_tree x)) m) (sym c.in-Join.is)
-    (joined_sets c.in-Join.op (nodes_of rows) n (Selects ps rows (set_tree c.in-Join.left.value)) (Selects ps rows (set_tree c.in-Join.right.value)) left right m first second
-    (subst (λ k. MarksSet k (Joined c.in-Join.op (nodes_of rows) (IsMarked left) (IsMarked right)) m) (length-map rows node_of)
-    (subst (λ ns. MarksSet (length ns) (Joined c.in-Join.op ns (IsMarked left) (IsMarked right)) m) c.requires.tree h))))
-    c.joined.ensures
+    (joined_sets c.in-Join.op (nodes_of rows) n (Selects ps rows (set_tree c.in-Join.left.value)) (Selects ps rows (set_tree c.in-Join.right.value)) left right m first second h))
+    c.joined.ensures.marks
