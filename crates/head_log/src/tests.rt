@@ -6,8 +6,8 @@ use crate::{LogError, Numbered, Prepared, Segment, append, create, scan};
 use disk_model::{Disk, MemDisk};
 use span_runs::{same_resource, same_scope};
 use span_types::{
-    Attr, AttrValue, Attrs, Batch, Memory, Resource, Scope, SharedResource, SharedScope, Span,
-    SpanId, SpanKind, Spans, StatusCode, Text, TraceId,
+    Attr, AttrValue, Attrs, Batch, Calls, Memory, Resource, Scope, SharedResource, SharedScope,
+    Span, SpanId, SpanKind, Spans, StatusCode, Text, TraceId,
 };
 use std::alloc::Global;
 use std::process::Abort;
@@ -404,6 +404,15 @@ fn the_count_is_not_in_its_shortest_form(rt: HostRuntime) -> Result<(), Fail> {
     let mut disk = holding(rt.alloc(), &LONG_COUNT)?;
     let told = scan(rt.alloc(), &mut disk, 2, 0).err();
     assert_eq!(rt; told, Some(LogError::NotLog { file: 2, at: 18 }));
+    Ok(())
+}
+
+#[test]
+fn a_fault_of_the_disk_is_told(rt: HostRuntime) -> Result<(), Fail> {
+    let mut disk = holding(rt.alloc(), &ONE_EMPTY)?;
+    disk.fail_at(Calls::of(vec![in rt.alloc(); 1]?));
+    let told = scan(rt.alloc(), &mut disk, 2, 0).err();
+    assert_eq!(rt; told, Some(LogError::Fault));
     Ok(())
 }
 
