@@ -191,3 +191,36 @@ fn files_are_apart(rt: HostRuntime) -> Result<(), Fail> {
     assert_eq!(rt; (disk.faults(), disk.starved()), (0, 0));
     Ok(())
 }
+
+/// What file 0 has in an image: its length, and its first 16 bytes.
+fn file_of_image(disk: &MemDisk, pick: u64) -> Result<(u64, [u8; 16]), Fail> {
+    let mut image = disk.image(pick)?;
+    let mut bytes = [0u8; 16];
+    let len = image.len(0)?;
+    image.read(0, 0, &mut bytes)?;
+    Ok((len, bytes))
+}
+
+#[test]
+fn each_other_pick_is_a_mixture_of_its_own(rt: HostRuntime) -> Result<(), Fail> {
+    let alloc = rt.alloc();
+    let mut disk = holding(alloc, &[5, 6, 7, 8, 9, 10, 11, 12])?;
+    run(
+        &mut disk,
+        &[Step::Write(0, 2, &[20, 21, 22, 23]), Step::Cut(0, 4)],
+    );
+    let mut seen = Vec::new(alloc);
+    let mut others = 0u8;
+    for pick in 0..16 {
+        let file = file_of_image(&disk, pick)?;
+        assert_eq!(rt; file_of_image(&disk, pick)?, file, "pick {pick} again");
+        if !seen.contains(&file) {
+            seen.push(file)?;
+            others = others.saturating_add(u8::from(pick >= 4));
+        }
+    }
+    // Of the picks from 4 on more than three differ from one another and from the first four.
+    assert!(rt; others > 3, "{others}");
+    assert_eq!(rt; disk.starved(), 0);
+    Ok(())
+}

@@ -1,8 +1,9 @@
 -- What a segment is read as is what it stands for.
-use Rattle.std.proofs.Common.{◌≡◌, ◌≢◌, inl, inr, ℕ, zero, suc, ◌+◌, ◌-◌, ◌≤◌, Bool, true, false, ◌&&◌, cond, eqb, leb, List, [], ◌∷◌, ◌++◌, length, take, drop, Ok, Err, append_assoc, refl, sym, ap, subst, ◌∙◌, arith}
+use Rattle.std.proofs.Common.{◌≡◌, ◌≢◌, inl, inr, ℕ, zero, suc, ◌+◌, ◌-◌, ◌<◌, ◌≤◌, All, Bool, true, false, ◌&&◌, cond, eqb, leb, List, [], ◌∷◌, ◌++◌, length, take, drop, Ok, Err, append_assoc, refl, sym, ap, subst, ◌∙◌, arith}
 use Rattle.std.specs.List.{flat_map, AllByRecursion}
 use Rattle.std.proofs.lemmas.Bool.{and_parts, eqb-true, eqb-false, leb-true}
 use Rattle.std.proofs.lemmas.List.{append-nil, length-append, length-drop, length-take, drop-take, take-append-drop}
+use Rattle.std.proofs.lemmas.List.Elements.{All-from_recursion}
 use Rattle.span_types.specs.declared.spans.Span.{Span}
 use Rattle.byte_fields.specs.Spelling.{fixed64_bytes}
 use Rattle.byte_fields.specs.Reading.{Stand, left, AreBytes, IsWithin, ahead, byte_at, fixed64_at}
@@ -172,3 +173,15 @@ segment_means first bytes found end fit e =
 -- a record that is read has few spans
 pub record_few : (number : ℕ) (s : Stand) → IsWithin s.whole s.at → (spans : List Span) (t : Stand) → record_at number s ≡ Ok (spans, t) → length spans ≤ 16384
 record_few number s is spans t e = (record_means number s is spans t e).of.sound.few
+
+-- the numbers of batches that are read are below the limit
+numbers_below : (first : ℕ) (batches : List (List Span)) (bodies : List (List ℕ)) → AreBodies first batches bodies → AllByRecursion (λ (e : NumberedBatch). e.number < 4294967295) (entries first batches)
+numbers_below first [] bodies are = tt
+numbers_below first (spans ∷ batches) [] are = absurd are
+numbers_below first (spans ∷ batches) (body ∷ bodies) are = (are.0.sound.below, numbers_below (first + 1) batches bodies are.1)
+
+pub found_below : (first : ℕ) (bytes : List ℕ) (found : List NumberedBatch) (end : Stand) → AreBytes bytes → segment_at first bytes ≡ Ok (found, end) → All (λ (e : NumberedBatch). e.number < 4294967295) found
+found_below first bytes found end fit e =
+    let m = segment_means first bytes found end fit e in
+    subst (λ (l : List NumberedBatch). All (λ (e : NumberedBatch). e.number < 4294967295) l) (sym m.1)
+    (All-from_recursion (λ (e : NumberedBatch). e.number < 4294967295) (entries first m.0) (numbers_below first m.0 m.2.bodies m.2.numbered))

@@ -2,6 +2,7 @@
 
 ghost use Rattle.std.specs.Prelude.{◌≡◌, ◌<◌, ◌≤◌, ◌^◌, ◌++◌, drop, length, vec_len, IfOk};
 ghost use Rattle.byte_fields.specs.Spelling.{fixed64_bytes};
+ghost use Rattle.head_log.specs.Bodies.{body_bytes};
 ghost use Rattle.head_log.specs.Records.{framed};
 ghost use Rattle.head_log.specs.Stands.{IsBody};
 
@@ -32,10 +33,12 @@ impl Model for Prepared {
 
 impl Prepared {
     /// The record of a batch under this number. All the memory that it takes is taken here.
+    ///
+    /// Only numbers below 4,294,967,295 can be appended.
     pub fn of(alloc: Global, number: u64, batch: &Batch) -> Result<Prepared, Memory>
-        requires { number < 4294967295 }
         ensures number { IfOk result (λ p. p.number ≡ number) }
-        ensures body { IfOk result (λ p. IsBody number batch.now.spans p.body) }
+        ensures spelled { IfOk result (λ p. p.body ≡ body_bytes number batch.now.spans) }
+        ensures body { number < 4294967295 → IfOk result (λ p. IsBody number batch.now.spans p.body) }
     {
         let mut out = Writer::new(alloc);
         out.fixed64(0)?;

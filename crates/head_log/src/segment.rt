@@ -87,6 +87,7 @@ pub fn append<D: Device>(disk: &mut D, seg: &mut Segment, entry: &Prepared) -> R
         → OnOk result (StandsFor seg.old.first (batches ++ spans ∷ []) seg.new.gate (bytes_of (D.held disk.new) seg.old.file)
         × OnlyBytes seg.old.file (bytes_of (D.held disk.new) seg.old.file) (D.may_leave disk.new)) }
     ensures shown { OnOk result ((seg.new.file ≡ seg.old.file) × (seg.new.first ≡ seg.old.first) × (seg.new.count ≡ seg.old.count + 1)) }
+    ensures gate { OnOk result (seg.new.gate ≡ seg.old.gate + 9 + length entry.now.body) }
     ensures stays { OnErr result (seg.new ≡ seg.old) }
 
     ensures besides { IsTrue (D.tells disk.old) → Besides seg.old.file (D.held disk.old) (D.held disk.new) }

@@ -2,13 +2,15 @@
 
 ghost use Rattle.span_types.specs.Promises.{AreNames};
 
-use crate::{LogError, Prepared, Segment, append, create, scan};
+use crate::{LogError, Numbered, Prepared, Segment, append, create, scan};
 use disk_model::{Disk, MemDisk};
+use span_runs::{same_resource, same_scope};
 use span_types::{
-    Attr, AttrValue, Attrs, Batch, Memory, Resource, Scope, SharedResource, SharedScope, Span,
-    SpanId, SpanKind, Spans, StatusCode, Text, TraceId,
+    Attr, AttrValue, Attrs, Batch, Calls, Memory, Resource, Scope, SharedResource, SharedScope,
+    Span, SpanId, SpanKind, Spans, StatusCode, Text, TraceId,
 };
 use std::alloc::Global;
+use std::process::Abort;
 use std::test::Fail;
 
 /// A segment after one batch without spans.
@@ -26,9 +28,24 @@ const TWO_SPANS: [u8; 129] = [
     // the scope `a`, without a version and attributes, and its one span
     1, b'a', 0, 0, 1, 9, 9, 9, 9, 9, 9, 9, 9, 9, 9, 9, 9, 9, 9, 9, 9, 1, 1, 1, 1, 1, 1, 1, 1, 0, 1,
     b'x', 2, 5, 0, 0, 0, 0, 0, 0, 0, 6, 0, 0, 0, 0, 0, 0, 0, 1, 0, 0,
-    // the scope `b`, and its one span, which has a parent and an attribute that is a whole number
+    // the scope `b`, and its one span, which has a parent and no attributes
     1, b'b', 0, 0, 1, 9, 9, 9, 9, 9, 9, 9, 9, 9, 9, 9, 9, 9, 9, 9, 9, 2, 2, 2, 2, 2, 2, 2, 2, 1, 1,
     1, 1, 1, 1, 1, 1, 1, 1, b'y', 0, 5, 0, 0, 0, 0, 0, 0, 0, 6, 0, 0, 0, 0, 0, 0, 0, 2, 0, 0,
+];
+
+/// The body of two spans of two resources, under the number 7, worked out by hand.
+const TWO_RESOURCES: [u8; 144] = [
+    // the number, and two runs
+    7, 0, 0, 0, 0, 0, 0, 0, 2, // the resource whose `r` is -1, and its one scope, of which nothing is said
+    1, 1, b'r', 1, 1, 1, 0, 0, 0,
+    // its one span, which has no parent, and whose attributes are -150 and true
+    1, 9, 9, 9, 9, 9, 9, 9, 9, 9, 9, 9, 9, 9, 9, 9, 9, 1, 1, 1, 1, 1, 1, 1, 1, 0, 1, b'x', 2, 5, 0,
+    0, 0, 0, 0, 0, 0, 6, 0, 0, 0, 0, 0, 0, 0, 1, 0, 2, 1, b'n', 1, 0xab, 2, 1, b't', 2, 1,
+    // the resource whose `r` is 1, and its one scope, `c` of the version `2`
+    1, 1, b'r', 1, 2, 1, 1, b'c', 1, b'2', 0,
+    // its one span, which has a parent, the name `é` and the message `m`
+    1, 9, 9, 9, 9, 9, 9, 9, 9, 9, 9, 9, 9, 9, 9, 9, 9, 2, 2, 2, 2, 2, 2, 2, 2, 1, 1, 1, 1, 1, 1, 1,
+    1, 1, 2, 0xc3, 0xa9, 5, 7, 0, 0, 0, 0, 0, 0, 0, 8, 0, 0, 0, 0, 0, 0, 0, 2, 1, b'm', 0,
 ];
 
 fn text(alloc: Global, word: &str) -> Result<Text, Memory> {
@@ -103,6 +120,134 @@ fn two_spans(alloc: Global) -> Result<Batch, Memory> {
     })
 }
 
+fn attr(alloc: Global, key: &str, value: AttrValue) -> Result<Attr, Memory> {
+    let key = text(alloc, key)?;
+    Ok(Attr { key, value })
+}
+
+fn one_attr(alloc: Global, attr: Attr) -> Result<Attrs, Memory> {
+    let mut attrs = Vec::new(alloc);
+    attrs.push(attr)?;
+    Ok(Attrs::of(attrs))
+}
+
+/// Two attributes, whose keys are to differ.
+fn two_attrs(alloc: Global, first: Attr, second: Attr) -> Result<Attrs, Fail> {
+    if first.key.as_str() == second.key.as_str() {
+        return Err(Fail::from("the keys are to differ"));
+    }
+    let mut attrs = Vec::new(alloc);
+    attrs.push(first)?;
+    attrs.push(second)?;
+    Ok(Attrs::of(attrs))
+}
+
+/// The resource that has just this attribute `r`.
+fn resource(alloc: Global, number: i64) -> Result<SharedResource, Memory> {
+    let attrs = one_attr(alloc, attr(alloc, "r", AttrValue::Whole(number))?)?;
+    SharedResource::of(alloc, Resource { attrs })
+}
+
+/// A scope without attributes.
+fn scope(alloc: Global, name: &str, version: &str) -> Result<SharedScope, Memory> {
+    let scope = Scope {
+        name: text(alloc, name)?,
+        version: text(alloc, version)?,
+        attrs: Attrs::none(alloc),
+    };
+    SharedScope::of(alloc, scope)
+}
+
+/// The first span of `TWO_RESOURCES`.
+fn with_attributes(alloc: Global) -> Result<Span, Fail> {
+    let number = attr(alloc, "n", AttrValue::Whole(-150))?;
+    let truth = attr(alloc, "t", AttrValue::Truth(true))?;
+    Ok(Span {
+        trace: TRACE,
+        id: FIRST,
+        parent: None,
+        name: text(alloc, "x")?,
+        kind: SpanKind::Server,
+        start: 5,
+        end: 6,
+        status: StatusCode::Fine,
+        message: text(alloc, "")?,
+        attrs: two_attrs(alloc, number, truth)?,
+        resource: resource(alloc, -1)?,
+        scope: scope(alloc, "", "")?,
+    })
+}
+
+/// The second span of `TWO_RESOURCES`.
+fn with_parent(alloc: Global) -> Result<Span, Fail> {
+    Ok(Span {
+        trace: TRACE,
+        id: SECOND,
+        parent: Some(FIRST),
+        name: text(alloc, "é")?,
+        kind: SpanKind::Consumer,
+        start: 7,
+        end: 8,
+        status: StatusCode::Error,
+        message: text(alloc, "m")?,
+        attrs: Attrs::none(alloc),
+        resource: resource(alloc, 1)?,
+        scope: scope(alloc, "c", "2")?,
+    })
+}
+
+fn two_resources(alloc: Global) -> Result<Batch, Fail> {
+    let mut spans = Vec::new(alloc);
+    spans.push(with_attributes(alloc)?)?;
+    spans.push(with_parent(alloc)?)?;
+    Ok(Batch {
+        spans: Spans::of(spans),
+    })
+}
+
+fn same_value(a: &AttrValue, b: &AttrValue) -> bool {
+    match (a, b) {
+        (AttrValue::Text(a), AttrValue::Text(b)) => a.as_str() == b.as_str(),
+        (AttrValue::Whole(a), AttrValue::Whole(b)) => a == b,
+        (AttrValue::Truth(a), AttrValue::Truth(b)) => a == b,
+        _ => false,
+    }
+}
+
+fn same_attrs(a: &Attrs, b: &Attrs) -> bool {
+    let mut pairs = a.as_slice().iter().zip(b.as_slice());
+    a.len() == b.len()
+        && pairs.all(|(a, b)| a.key.as_str() == b.key.as_str() && same_value(&a.value, &b.value))
+}
+
+/// Whether two spans are equal in all their fields.
+fn same_span(a: &Span, b: &Span) -> bool {
+    (a.trace, a.id, a.parent) == (b.trace, b.id, b.parent)
+        && a.name.as_str() == b.name.as_str()
+        && (a.kind, a.start, a.end, a.status) == (b.kind, b.start, b.end, b.status)
+        && a.message.as_str() == b.message.as_str()
+        && same_attrs(&a.attrs, &b.attrs)
+        && same_resource(a.resource.get(), b.resource.get())
+        && same_scope(a.scope.get(), b.scope.get())
+}
+
+fn same_batch(a: &Batch, b: &Batch) -> bool {
+    let mut pairs = a.spans.as_slice().iter().zip(b.spans.as_slice());
+    a.spans.len() == b.spans.len() && pairs.all(|(a, b)| same_span(a, b))
+}
+
+/// Whether the batches, with numbers from this one on, are what was found.
+fn are_found(found: &Numbered, first: u64, batches: &[&Batch]) -> bool {
+    let mut number = first;
+    for (entry, batch) in found.as_slice().iter().zip(batches) {
+        if entry.number != number || !same_batch(&entry.batch, batch) {
+            return false;
+        }
+        number = number.saturating_add(1);
+    }
+    found.len() == batches.len()
+}
+
 /// The bytes of file 2.
 fn bytes_of_file(alloc: Global, disk: &mut MemDisk) -> Result<Vec<u8>, Fail> {
     let mut block = [0; 512];
@@ -170,50 +315,165 @@ fn one_batch_without_spans(rt: HostRuntime) -> Result<(), Fail> {
     Ok(())
 }
 
-#[test]
-fn runs_of_spans_both_ways(rt: HostRuntime) -> Result<(), Fail> {
-    let mut disk = MemDisk::empty(rt.alloc());
+/// A segment of one record, whose body has so many bytes.
+fn segment_of(alloc: Global, len: u8, body: &[u8]) -> Result<Vec<u8>, Fail> {
+    let mut bytes = Vec::new(alloc);
+    bytes.extend_from_slice(&[1, 1, len, 0, 0, 0, 0, 0, 0, 0])?;
+    bytes.extend_from_slice(body)?;
+    bytes.push(0)?;
+    Ok(bytes)
+}
+
+/// The batch is written under the number 7 as this body, of so many bytes, and read as it was.
+fn expect_both_ways<R: Abort>(
+    rt: &R,
+    alloc: Global,
+    batch: &Batch,
+    len: u8,
+    body: &[u8],
+) -> Result<(), Fail> {
+    let mut disk = MemDisk::empty(alloc);
     create(&mut disk, 2)?;
     let mut segment = Segment::fresh(2, 7);
-    let entry = Prepared::of(rt.alloc(), 7, &two_spans(rt.alloc())?)?;
+    let entry = Prepared::of(alloc, 7, batch)?;
     assert!(rt; append_next(&mut disk, &mut segment, &entry));
-    let bytes = bytes_of_file(rt.alloc(), &mut disk)?;
-    assert_eq!(rt; bytes.len(), 140);
-    assert_eq!(rt; &bytes[..10], [1, 1, 129, 0, 0, 0, 0, 0, 0, 0].as_slice());
-    assert_eq!(rt; &bytes[10..139], TWO_SPANS.as_slice());
-    let (_, batches) = scan(rt.alloc(), &mut disk, 2, 7)?;
-    for batch in batches.as_slice() {
-        assert_eq!(rt; batch.number, 7);
-        assert_eq!(rt; batch.batch.spans.len(), 2);
-        for span in batch.batch.spans.as_slice() {
-            assert_eq!(rt; span.trace, TRACE);
-        }
-    }
+    let expected = segment_of(alloc, len, body)?;
+    let bytes = bytes_of_file(alloc, &mut disk)?;
+    assert_eq!(rt; bytes.as_slice(), expected.as_slice());
+    let (found, batches) = scan(alloc, &mut disk, 2, 7)?;
+    assert_eq!(rt; (found.count, found.gate), (segment.count, segment.gate));
+    assert!(rt; are_found(&batches, 7, &[batch]));
     assert_eq!(rt; disk.starved(), 0);
     Ok(())
 }
 
 #[test]
+fn runs_of_spans_both_ways(rt: HostRuntime) -> Result<(), Fail> {
+    let alloc = rt.alloc();
+    expect_both_ways(&rt, alloc, &two_spans(alloc)?, 129, &TWO_SPANS)?;
+    expect_both_ways(&rt, alloc, &two_resources(alloc)?, 144, &TWO_RESOURCES)
+}
+
+/// Whether an image of a segment that was stopped while a second record was added may have so many records. The gate is
+/// written by the third call: until then no image has the new record, and behind the fourth each has it.
+fn may_have(calls: u64, pick: u64, count: usize) -> bool {
+    match (calls, pick) {
+        (0..=2, _) => count == 1,
+        // What was synced, and a gate that is 0.
+        (3, 0 | 3) => count == 1,
+        // What is held, and a gate that is 1.
+        (3, 1 | 2) => count == 2,
+        (3, _) => count == 1 || count == 2,
+        _ => count == 2,
+    }
+}
+
+#[test]
 fn stopped_after_each_call(rt: HostRuntime) -> Result<(), Fail> {
+    let alloc = rt.alloc();
+    let old = two_spans(alloc)?;
+    let new = two_resources(alloc)?;
     for calls in 0..5 {
-        let (mut disk, mut segment) = one_record(rt.alloc())?;
-        let entry = Prepared::of(rt.alloc(), 1, &no_spans(rt.alloc()))?;
+        let mut disk = MemDisk::empty(alloc);
+        create(&mut disk, 2)?;
+        let mut segment = Segment::fresh(2, 0);
+        let entry = Prepared::of(alloc, 0, &old)?;
+        assert!(rt; append_next(&mut disk, &mut segment, &entry));
+        let entry = Prepared::of(alloc, 1, &new)?;
         disk.stop_after(calls);
         let appended = append_next(&mut disk, &mut segment, &entry);
         assert_eq!(rt; appended, calls == 4);
         for pick in 0..16 {
             let mut image = disk.image(pick)?;
-            let (_, batches) = scan(rt.alloc(), &mut image, 2, 0)?;
+            let (_, batches) = scan(alloc, &mut image, 2, 0)?;
             let count = batches.len();
-            assert!(rt; count == 2 || (count == 1 && calls < 4));
+            assert!(rt;
+                may_have(calls, pick, count),
+                "after {calls}, pick {pick}: {count}"
+            );
+            assert!(rt; count > 2 || are_found(&batches, 0, &[&old, &new][..count]));
+            assert_eq!(rt; image.starved(), 0);
         }
+        assert_eq!(rt; disk.starved(), 0);
     }
     Ok(())
 }
 
 #[test]
 fn the_count_is_not_in_its_shortest_form(rt: HostRuntime) -> Result<(), Fail> {
-    assert_eq!(rt; outcome(rt.alloc(), &LONG_COUNT, 0)?, Err(18));
+    let mut disk = holding(rt.alloc(), &LONG_COUNT)?;
+    let told = scan(rt.alloc(), &mut disk, 2, 0).err();
+    assert_eq!(rt; told, Some(LogError::NotLog { file: 2, at: 18 }));
+    Ok(())
+}
+
+#[test]
+fn a_fault_of_the_disk_is_told(rt: HostRuntime) -> Result<(), Fail> {
+    let mut disk = holding(rt.alloc(), &ONE_EMPTY)?;
+    disk.fail_at(Calls::of(vec![in rt.alloc(); 1]?));
+    let told = scan(rt.alloc(), &mut disk, 2, 0).err();
+    assert_eq!(rt; told, Some(LogError::Fault));
+    Ok(())
+}
+
+/// What a scan of these bytes from the number 7 on says, once so many of them from a place on are this one.
+fn outcome_with(
+    alloc: Global,
+    bytes: &[u8],
+    place: usize,
+    count: usize,
+    byte: u8,
+) -> Result<Result<usize, u64>, Fail> {
+    let mut bytes = bytes.to_vec(alloc)?;
+    for old in bytes.iter_mut().skip(place).take(count) {
+        *old = byte;
+    }
+    outcome(alloc, bytes.as_slice(), 7)
+}
+
+#[test]
+fn broken_in_one_place(rt: HostRuntime) -> Result<(), Fail> {
+    let alloc = rt.alloc();
+    let segment = segment_of(alloc, 144, &TWO_RESOURCES)?;
+    assert_eq!(rt; outcome(alloc, segment.as_slice(), 7)?, Ok(1));
+    for (place, count, byte, told) in [
+        // A gate that is not 1 ends the segment.
+        (1, 1, 2, Ok(0)),
+        (1, 1, 255, Ok(0)),
+        (154, 1, 2, Ok(1)),
+        // A text that is not UTF-8 breaks at its length, and so does one that passes the body's end.
+        (55, 1, 0xff, Err(54)),
+        (132, 1, 0x28, Err(130)),
+        (151, 1, 100, Err(151)),
+        // An id of zeros breaks at its first byte; a parent's first byte stands behind the one that says that there is one.
+        (29, 16, 0, Err(29)),
+        (113, 8, 0, Err(113)),
+        (122, 8, 0, Err(122)),
+        (121, 1, 2, Err(121)),
+        // A kind, a status, a kind of value and a truth that there is not.
+        (133, 1, 6, Err(133)),
+        (150, 1, 3, Err(150)),
+        (78, 1, 3, Err(78)),
+        (84, 1, 2, Err(84)),
+        // A whole number that is not in its shortest form.
+        (80, 1, 0, Err(79)),
+        // The key `n` again, which breaks at its length.
+        (82, 1, b'n', Err(81)),
+        // The second resource equal to the first, which breaks at its count of attributes.
+        (89, 1, 1, Err(85)),
+        // A run more than there is, and one less.
+        (18, 1, 3, Err(154)),
+        (18, 1, 1, Err(85)),
+    ] {
+        let found = outcome_with(alloc, segment.as_slice(), place, count, byte)?;
+        assert_eq!(rt; found, told, "at {place}");
+    }
+    // The second scope equal to the first, which breaks at the length of its name.
+    let segment = segment_of(alloc, 129, &TWO_SPANS)?;
+    assert_eq!(rt;
+        outcome_with(alloc, segment.as_slice(), 80, 1, b'a')?,
+        Err(79)
+    );
     Ok(())
 }
 
@@ -309,10 +569,8 @@ fn written_again(alloc: Global, bytes: &[u8]) -> Result<Vec<u8>, Fail> {
     create(&mut copy, 2)?;
     let mut segment = Segment::fresh(2, 7);
     for entry in batches.as_slice() {
-        if entry.number < 4_294_967_295 {
-            let entry = Prepared::of(alloc, entry.number, &entry.batch)?;
-            append_next(&mut copy, &mut segment, &entry);
-        }
+        let entry = Prepared::of(alloc, entry.number, &entry.batch)?;
+        append_next(&mut copy, &mut segment, &entry);
     }
     bytes_of_file(alloc, &mut copy)
 }

@@ -1,4 +1,6 @@
+use Rattle.std.proofs.Common.{length, ap, arith}
 use Rattle.disk_model.proofs.Passing.{passes_more}
+use Rattle.head_log.proofs.Appending.{framed_size}
 use Rattle.head_log.proofs.Standing.{keeps_either, stands_more}
 use Rattle.head_log.proofs.segment.append.Goals as goal
 
@@ -24,3 +26,8 @@ returns-clause-acknowledged g c = λ batches spans known tells only stands count
     let text = c.text-text.ensures in
     let done = c.in_ok-append_record.ensures.acknowledged stands.bodies c.args.entry.now.body known tells text.text text.short only stands.has in
     (stands_more seg.first batches seg.gate known spans c.args.entry.now.body c.args.entry.now.number seg.count _ _ stands c.requires.number counted is done.0, done.1)
+
+pub returns-clause-gate : goal.returns-clause-gate
+returns-clause-gate g c =
+    let size = framed_size c.args.entry.now.body in
+    omega (arith, size, ap length c.text-text.ensures.text)

@@ -27,12 +27,16 @@ made c =
 pub invariant_of-result : goal.invariant_of-result
 invariant_of-result c = IsFramed-of _ c.set_length.new.text.items (made c) (let n = c.set_length.new.text.small in omega (arith, c.set_length.new.text.ok.0))
 
+pub returns-clause-spelled : goal.returns-clause-spelled
+returns-clause-spelled c =
+    subst (λ (b : Batch). body_of c.set_length.new.text.items ≡ body_bytes c.args.number b.spans) c.batch.view_is (body_is _ c.set_length.new.text.items (made c))
+
 -- The batch's type promises how many spans it has, and what was written what the types of the spans promise.
 pub returns-clause-body : goal.returns-clause-body
-returns-clause-body c =
+returns-clause-body c = λ below.
     let runs_are = subst (λ (l : List Span). All IsSoundResourceRun (runs of_one_resource l)) c.as_slice.ensures c.in_ok-put_body.ensures.sound in
     subst (λ (b : Batch). IsBody c.args.number b.spans (body_of c.set_length.new.text.items)) c.batch.view_is
     (record {
       spelled = body_is _ c.set_length.new.text.items (made c);
-      sound = record { below = c.requires; few = c.batch.invariant; each = spans_sound c.batch.inside.spans runs_are };
+      sound = record { below = below; few = c.batch.invariant; each = spans_sound c.batch.inside.spans runs_are };
     })
