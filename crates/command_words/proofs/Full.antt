@@ -5,10 +5,10 @@ use Rattle.std.specs.Prelude.{find, fold, is_some, option_and_then, slice_get, i
 use Rattle.std.specs.Option.{option_map_or}
 use Rattle.std.specs.Str.{bytes_eq, chars}
 use Rattle.clap.specs.Lexer.{long_of, short_of}
-use Rattle.clap.specs.Kinds.{Kinds, or_else}
-use Rattle.clap.specs.Faults.{flag_word_fault, long_fault, other_fault, positional_fault, settle_fault, step_fault, stray_fault, turn_fault, use_fault, walk_fault, word_fault}
+use Rattle.clap.specs.Kinds.{or_else}
+use Rattle.clap.specs.Faults.{flag_word_fault, long_fault, positional_fault, settle_fault, step_fault, stray_fault, turn_fault, use_fault, walk_fault, word_fault}
 use Rattle.clap.specs.Simple.{Shape}
-use Rattle.clap.specs.Walk.{Held, Outcome, Row, Rule, Step, Text, Waiting, Walk, action_of, after_flag, after_step, arg_by_id, arg_by_index, arg_by_long, arg_by_short, at_row, bundle_met, bundle_step, done, finished, first_of, idle, positional, has_row, is_pending, long_met, long_or_other, more_values, nothing_held, pushed, rows_after, next, option, option_word, plain, plain_word, positional_held, refused, settled, settled_rows, short_or_plain, subcommand, subcommand_met, subcommand_or_other, takes_several, takes_values, to_positional, trailing, used, used_as, value, waits, walk_from, walked, walked_from, with_default, without, with_values, word_met}
+use Rattle.clap.specs.Walk.{Held, Outcome, Row, Rule, Step, Text, Waiting, Walk, action_of, after_flag, after_step, arg_by_id, arg_by_index, arg_by_long, arg_by_short, bundle_met, bundle_step, done, first_of, idle, positional, has_row, long_met, long_or_other, more_values, nothing_held, pushed, rows_after, next, option, option_word, plain, plain_word, refused, settled, settled_rows, short_or_plain, subcommand, subcommand_met, takes_values, to_positional, trailing, used, value, waits, walk_from, walked, walked_from, with_default, without, with_values, word_met}
 use Rattle.clap.specs.declared.builder.action.ArgAction.TheVariants.{Set}
 use Rattle.clap.specs.declared.builder.value_parser.Reading.{Reading}
 use Rattle.clap.specs.declared.parser.matches.ValueSource.{ValueSource}
@@ -204,7 +204,7 @@ either_rows : (b : Bool) (rows : List Row) → (if b then rows else rows) ≡ ro
 either_rows true rows = refl
 either_rows false rows = refl
 
-no_defaults : (rules : List Rule) (rows : List Row) → TakeOne rules → fold with_default rows rules ≡ rows
+pub no_defaults : (rules : List Rule) (rows : List Row) → TakeOne rules → fold with_default rows rules ≡ rows
 no_defaults [] rows all = refl
 no_defaults (a ∷ rest) rows all = ap (λ (rs : List Row). fold with_default rs rest) one ∙ no_defaults rest rows all.1
   where

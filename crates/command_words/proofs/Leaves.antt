@@ -134,7 +134,7 @@ trace_rest (w ∷ rest) h =
 abbrev pub search_leaf : Shape
 search_leaf = leaf search_shape
 
-search_takes_one : TakeOne search_leaf.rules
+pub search_takes_one : TakeOne search_leaf.rules
 search_takes_one = (
   record { takes = refl; sets = refl; bare = refl; wants = λ again rows h. let bad : ⊥ = cc in bad },
   (
@@ -226,7 +226,7 @@ lone_byte : (b : ℕ) (t : Bool) → (b == 45) ≡ t → IsNoFlag (b ∷ [])
 lone_byte b true e = record { no_dashes = rw e refl; no_long = rw e refl; no_short = rw e refl }
 lone_byte b false e = record { no_dashes = rw e refl; no_long = rw e refl; no_short = rw e refl }
 
-no_flag : (word : Text) → is_flag word ≡ false → IsNoFlag word
+pub no_flag : (word : Text) → is_flag word ≡ false → IsNoFlag word
 no_flag [] e = record { no_dashes = refl; no_long = refl; no_short = refl }
 no_flag (b ∷ []) e = lone_byte b (b == 45) refl
 no_flag (b ∷ c ∷ cs) e = record { no_dashes = rw e refl; no_long = rw e refl; no_short = rw e refl }

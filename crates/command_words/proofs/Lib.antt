@@ -4,3 +4,5 @@ pub mod Spelled
 pub mod Turns
 pub mod Full
 pub mod Whole
+pub mod Rows
+pub mod Taken

@@ -8,7 +8,7 @@ use Rattle.clap.specs.declared.parser.matches.Found.{Found}
 use Rattle.clap.specs.Faults.{fault_of}
 use Rattle.clap.specs.Walk.{Text}
 use Rattle.clap.proofs.OnLiterals.{clap_on_literals}
-use Rattle.command_words.specs.Spelling.{Asks, Given, GivesSearch, GivesTrace, IsSearch, IsSession, IsTrace, given_in, is_flag}
+use Rattle.command_words.specs.Spelling.{Asks, Given, GivesSearch, GivesTrace, IsSearch, IsSession, IsTaken, IsTrace, given_in, is_flag}
 use Rattle.command_words.specs.Table.{words_app}
 use Rattle.command_words.specs.declared.asked.Asked.{Asked}
 use Rattle.command_words.specs.declared.asked.Asked.TheVariants.{Search, Session, Trace}
@@ -16,6 +16,7 @@ use Rattle.command_words.specs.declared.asked.WordsError.{WordsError}
 use Rattle.command_words.specs.declared.asked.WordsError.TheVariants.{Refused, Memory}
 use Rattle.command_words.proofs.Found.{FindsSearch}
 use Rattle.command_words.proofs.Leaves.{alone_clean, before_clean}
+use Rattle.command_words.proofs.Taken.{taken_asks, taken_clean}
 use Rattle.command_words.proofs.Whole.{IsBareTrace, trace_from_bare}
 
 session_clean : (words : List Text) → IsSession words → fault_of words_app words ≡ []
@@ -117,6 +118,10 @@ search_given words (Ok (Trace id)) asks refuses given is clean = absurd (trace_n
 search_given words (Ok (Search limit spss start end query)) asks refuses given is clean = same_search words _ given asks is
 search_given words (Err Refused) asks refuses given is clean = absurd (refuses refl clean)
 search_given words (Err Memory) asks refuses given is clean = refl
+
+pub taken_given : (words : List Text) (r : Result Asked WordsError) → IfOk r (Asks words) → (r ≡ Err Refused → fault_of words_app words ≡ [] → ⊥)
+    → (given : Given) → IsTaken given words → MatchResult r (GivesSearch given) (λ error. error ≡ Memory)
+taken_given words r asks refuses given is = search_given words r asks refuses given (taken_asks given words is) (taken_clean given words is)
 
 -- ---- where a search is copied
 

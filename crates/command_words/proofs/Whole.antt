@@ -15,7 +15,7 @@ use Rattle.command_words.proofs.Leaves.{IsIdRest, bare_is_no_flag, search_rest, 
 use Rattle.command_words.proofs.Turns.{HasNoFlags, IsBare, dashes, dashes_text, flag, none_first, placed, standing, stop_more, stray_is_fault, trailing_none, turned, walk_next}
 
 -- The command as it is built.
-abbrev whole : App
+abbrev pub whole : App
 whole = built (with_subcommand (with_subcommand (with_subcommand bare_app session_shape) trace_shape) search_shape)
 
 -- As `IsTrace`, where the id is bare rather than no flag.
@@ -37,16 +37,16 @@ pub data Read (words : List Text) (found : Option (Text × List Row)) : Type 0 w
       → is_some (option_and_then (λ p. first_of (codes "query") p.1) found) ≡ true → Read words found
 
 -- What is at fault after the first step, by where the walk over the words ends.
-abbrev end_fault : Walk → Kinds
+abbrev pub end_fault : Walk → Kinds
 end_fault end = or_else (entered_fault whole end.stopped) (or_else (settle_fault [] false end.held)
     (or_else (defaults_fault (settled [] end.held).rows [])
     (check_fault whole.top (finished [] end.held) (is_some (entered whole end.stopped)))))
 
-abbrev start : Walk
+abbrev pub start : Walk
 start = walk_from nothing_held
 
 -- A walk that meets a subcommand at the first word.
-stops_at : (w : Text) (rest : List Text) (name : Text) → walked [] (names_of whole) start w ≡ record start { stopped = Some (name, []) }
+pub stops_at : (w : Text) (rest : List Text) (name : Text) → walked [] (names_of whole) start w ≡ record start { stopped = Some (name, []) }
     → walk [] (names_of whole) nothing_held (w ∷ rest) ≡ record start { stopped = Some (name, rest) }
 stops_at w rest name met = ap (λ (v : Walk). fold (walked [] (names_of whole)) v rest) met ∙ stop_more [] (names_of whole) start name [] rest
 
@@ -61,7 +61,7 @@ ends_clean words end at h =
     let parts = none_first _ _ h in
     (parts.0, subst (λ (v : Walk). end_fault v ≡ []) at parts.1)
 
-found_at : (words : List Text) (end : Walk) → walk [] (names_of whole) nothing_held words ≡ end → subcommand_of words_app words ≡ entered whole end.stopped
+pub found_at : (words : List Text) (end : Walk) → walk [] (names_of whole) nothing_held words ≡ end → subcommand_of words_app words ≡ entered whole end.stopped
 unfolding words_app
 found_at words end at = ap (λ (v : Walk). entered whole v.stopped) at
 

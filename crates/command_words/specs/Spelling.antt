@@ -1,5 +1,5 @@
 -- The words that ask each thing.
-use Rattle.std.specs.Prelude.{◌≡◌, ◌⊎◌, ◌==◌, ℕ, Bool, false, List, [], ◌∷◌, ◌++◌, Option, Some, None, option_map, option_and_then, codes, String, string_bytes}
+use Rattle.std.specs.Prelude.{◌≡◌, ◌⊎◌, ◌==◌, ℕ, Bool, false, List, [], ◌∷◌, ◌++◌, Option, Some, None, IfSome, option_map, option_and_then, codes, String, string_bytes}
 use Rattle.clap.specs.Words.{first_of, first_value, subcommand_of}
 use Rattle.clap.specs.declared.parser.matches.Found.{Found}
 use Rattle.std.specs.declared.alloc.Global.{Global}
@@ -46,6 +46,34 @@ search_line given =
     ++ option_text (codes "start=") given.start
     ++ option_text (codes "end=") given.end
     ++ given.query
+
+-- an option in the words, where it is given: its name behind two hyphens, and its value as the next word
+abbrev pub option_words : List ℕ → Option (List ℕ) → List (List ℕ)
+option_words name None = []
+option_words name (Some value) = (codes "--" ++ name) ∷ value ∷ []
+
+-- The words of a search as the documents spell them: the options that are given, in this order, and the query.
+abbrev pub search_words : Given → List (List ℕ)
+search_words given =
+    codes "search"
+    ∷ (option_words (codes "limit") given.limit
+    ++ option_words (codes "spss") given.spss
+    ++ option_words (codes "start") given.start
+    ++ option_words (codes "end") given.end
+    ++ given.query ∷ [])
+
+-- the option is not given, or its value is no flag
+abbrev pub IsPlain : Option (List ℕ) → Type 0
+IsPlain option = IfSome option (λ value. is_flag value ≡ false)
+
+-- The words spell this search, and no value and not the query is a flag.
+pub record IsTaken (given : Given) (words : List (List ℕ)) : Type 0 where
+  pub is : words ≡ search_words given
+  pub limit : IsPlain given.limit
+  pub spss : IsPlain given.spss
+  pub start : IsPlain given.start
+  pub end : IsPlain given.end
+  pub query : is_flag given.query ≡ false
 
 -- the value that `clap` by its own definition finds for an argument of the subcommand that the words name
 abbrev pub found_value : List (List ℕ) → List ℕ → Option (List ℕ)

@@ -5,7 +5,7 @@ ghost use Rattle.std.specs.Prelude.{IfOk, IfErr, MatchResult};
 ghost use Rattle.clap.specs.Words.{fault_of, first_value, found_of, kind_of, subcommand_of, subcommand_rows_of};
 ghost use Rattle.clap.specs.declared.error.kind.ErrorKind.TheVariants.{OutOfMemory};
 ghost use Rattle.std.specs.Prelude.{option_map};
-ghost use Rattle.command_words.specs.Spelling.{Asks, Given, GivesSearch, GivesTrace, IsSearch, IsSession, IsTrace, given_in};
+ghost use Rattle.command_words.specs.Spelling.{Asks, Given, GivesSearch, GivesTrace, IsSearch, IsSession, IsTaken, IsTrace, given_in};
 ghost use Rattle.command_words.specs.Table.{words_app};
 
 use crate::asked::{Asked, WordsError};
@@ -27,6 +27,8 @@ pub fn read_words(alloc: Global, words: &[String]) -> Result<Asked, WordsError>
     ensures trace { (id : List ℕ) → IsTrace id (map string_bytes words.now)
         → MatchResult result (GivesTrace id) (λ error. error ≡ WordsError.Memory) }
     ensures search { (given : Given) → IsSearch given (map string_bytes words.now) → fault_of words_app (map string_bytes words.now) ≡ []
+        → MatchResult result (GivesSearch given) (λ error. error ≡ WordsError.Memory) }
+    ensures taken { (given : Given) → IsTaken given (map string_bytes words.now)
         → MatchResult result (GivesSearch given) (λ error. error ≡ WordsError.Memory) }
     ensures only { IfOk result (Asks (map string_bytes words.now)) }
 {

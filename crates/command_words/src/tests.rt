@@ -40,7 +40,7 @@ fn told(alloc: Global, words: &[&str]) -> Option<String> {
 
 #[test]
 fn table(rt: HostRuntime) {
-    let rows: [(&[&str], &str); 34] = [
+    let rows: [(&[&str], &str); 37] = [
         (&[], "refused"),
         (&["session"], "session"),
         (&["session", "--"], "session"),
@@ -84,7 +84,10 @@ fn table(rt: HostRuntime) {
         (&["search", "{", "}"], "refused"),
         (&["search", "--most", "5", "{ }"], "refused"),
         (&["search", "-l", "{ }"], "refused"),
+        (&["search", "--spss", "-", "-"], "search:-:-:-:-:-"),
         (&["sessions"], "refused"),
+        (&["serve", "--clients", "17"], "refused"),
+        (&["drill", "--seed", "x", "--traces", "1"], "refused"),
         (&[""], "refused"),
     ];
     for (words, wanted) in rows {

@@ -8,7 +8,7 @@ ghost use Rattle.session_meaning.specs.declared.ending.Ending.{Ending};
 ghost use Rattle.session_meaning.specs.Statuses.{status_of};
 ghost use Rattle.session_meaning.specs.Session.{AnswersAlone, HasRun};
 ghost use Rattle.clap.specs.Words.{fault_of};
-ghost use Rattle.command_words.specs.Spelling.{Given, IsSearch, IsSession, IsTrace, search_line};
+ghost use Rattle.command_words.specs.Spelling.{Given, IsSearch, IsSession, IsTaken, IsTrace, search_line};
 ghost use Rattle.command_words.specs.Table.{words_app};
 
 use crate::command::obey;
@@ -50,6 +50,9 @@ pub fn run_alone<R: Threads + Sync, S: Source, K: Sink, D, C: Clock, P: PatternM
         → (ending : Ending) × AnswersAlone (search_line given) before (K.taken sink.new) ending (P.refusals patterns.old) (P.refusals patterns.new) × (result.status ≡ status_of ending) }
     ensures search_alone { (given : Given) → IsSearch given (map string_bytes words.now) → fault_of words_app (map string_bytes words.now) ≡ []
         → (source.new ≡ source.old) × ((result.status ≢ 3) × (result.status ≢ 8)) }
+    ensures taken_search { (given : Given) → IsTaken given (map string_bytes words.now) → (before : List ℕ) → K.taken sink.old ≡ Some before
+        → (ending : Ending) × AnswersAlone (search_line given) before (K.taken sink.new) ending (P.refusals patterns.old) (P.refusals patterns.new) × (result.status ≡ status_of ending) }
+    ensures taken_alone { (given : Given) → IsTaken given (map string_bytes words.now) → (source.new ≡ source.old) × ((result.status ≢ 3) × (result.status ≢ 8)) }
     ensures known { (ending : Ending) × (result.status ≡ status_of ending) }
     ensures clock { clock.new ≡ clock.old }
     ensures bad_words { result.status ≡ 2 → (fault_of words_app (map string_bytes words.now) ≢ []) × ((source.new ≡ source.old) × (sink.new ≡ sink.old)) }
@@ -59,7 +62,7 @@ pub fn run_alone<R: Threads + Sync, S: Source, K: Sink, D, C: Clock, P: PatternM
         → (result.status ≡ 6) ⊎ (IsSession (map string_bytes words.now) ⊎ (((id : List ℕ) × IsTrace id (map string_bytes words.now)) ⊎ ((given : Given) × IsSearch given (map string_bytes words.now)))) }
     ensures good_session { IsSession (map string_bytes words.now) → result.status ≢ 2 }
     ensures good_trace { (id : List ℕ) → IsTrace id (map string_bytes words.now) → result.status ≢ 2 }
-    ensures good_search { (given : Given) → IsSearch given (map string_bytes words.now) → fault_of words_app (map string_bytes words.now) ≡ [] → result.status ≢ 2 }
+    ensures good_search { (given : Given) → IsTaken given (map string_bytes words.now) → result.status ≢ 2 }
     ensures write_fault { result.status ≡ 1 → Rose (K.faults sink.old) (K.faults sink.new) }
     ensures read_fault { result.status ≡ 3 → Rose (S.faults source.old) (S.faults source.new) }
     ensures spent { result.status ≡ 8 → TakesBytes (S.left source.old) (S.left source.new) 0 taken_limit }
@@ -69,6 +72,8 @@ pub fn run_alone<R: Threads + Sync, S: Source, K: Sink, D, C: Clock, P: PatternM
     ensures complete_trace { (id : List ℕ) → IsTrace id (map string_bytes words.now) → (Rose (K.faults sink.old) (K.faults sink.new) → ⊥)
         → (result.status ≡ 0) ⊎ ((result.status ≡ 6) ⊎ (result.status ≡ 7)) }
     ensures complete_search { (given : Given) → IsSearch given (map string_bytes words.now) → fault_of words_app (map string_bytes words.now) ≡ [] → (Rose (K.faults sink.old) (K.faults sink.new) → ⊥)
+        → (result.status ≡ 0) ⊎ ((result.status ≡ 6) ⊎ (result.status ≡ 7)) }
+    ensures complete_taken { (given : Given) → IsTaken given (map string_bytes words.now) → (Rose (K.faults sink.old) (K.faults sink.new) → ⊥)
         → (result.status ≡ 0) ⊎ ((result.status ≡ 6) ⊎ (result.status ≡ 7)) }
 {
     let _ = clock;
@@ -101,6 +106,9 @@ pub fn run<R: Threads + Wait + Sync, S: Source, K: Sink, D, C: Clock, P: Pattern
         → (ending : Ending) × AnswersAlone (search_line given) before (K.taken sink.new) ending (P.refusals patterns.old) (P.refusals patterns.new) × (result.status ≡ status_of ending) }
     ensures search_alone { (given : Given) → IsSearch given (map string_bytes words.now) → fault_of words_app (map string_bytes words.now) ≡ []
         → (source.new ≡ source.old) × ((result.status ≢ 3) × (result.status ≢ 8)) }
+    ensures taken_search { (given : Given) → IsTaken given (map string_bytes words.now) → (before : List ℕ) → K.taken sink.old ≡ Some before
+        → (ending : Ending) × AnswersAlone (search_line given) before (K.taken sink.new) ending (P.refusals patterns.old) (P.refusals patterns.new) × (result.status ≡ status_of ending) }
+    ensures taken_alone { (given : Given) → IsTaken given (map string_bytes words.now) → (source.new ≡ source.old) × ((result.status ≢ 3) × (result.status ≢ 8)) }
     ensures known { (ending : Ending) × (result.status ≡ status_of ending) }
     ensures clock { clock.new ≡ clock.old }
     ensures bad_words { result.status ≡ 2 → (fault_of words_app (map string_bytes words.now) ≢ []) × ((source.new ≡ source.old) × (sink.new ≡ sink.old)) }
@@ -110,7 +118,7 @@ pub fn run<R: Threads + Wait + Sync, S: Source, K: Sink, D, C: Clock, P: Pattern
         → (result.status ≡ 6) ⊎ (IsSession (map string_bytes words.now) ⊎ (((id : List ℕ) × IsTrace id (map string_bytes words.now)) ⊎ ((given : Given) × IsSearch given (map string_bytes words.now)))) }
     ensures good_session { IsSession (map string_bytes words.now) → result.status ≢ 2 }
     ensures good_trace { (id : List ℕ) → IsTrace id (map string_bytes words.now) → result.status ≢ 2 }
-    ensures good_search { (given : Given) → IsSearch given (map string_bytes words.now) → fault_of words_app (map string_bytes words.now) ≡ [] → result.status ≢ 2 }
+    ensures good_search { (given : Given) → IsTaken given (map string_bytes words.now) → result.status ≢ 2 }
     ensures write_fault { result.status ≡ 1 → Rose (K.faults sink.old) (K.faults sink.new) }
     ensures read_fault { result.status ≡ 3 → Rose (S.faults source.old) (S.faults source.new) }
     ensures spent { result.status ≡ 8 → TakesBytes (S.left source.old) (S.left source.new) 0 taken_limit }
@@ -120,6 +128,8 @@ pub fn run<R: Threads + Wait + Sync, S: Source, K: Sink, D, C: Clock, P: Pattern
     ensures complete_trace { (id : List ℕ) → IsTrace id (map string_bytes words.now) → (Rose (K.faults sink.old) (K.faults sink.new) → ⊥)
         → (result.status ≡ 0) ⊎ ((result.status ≡ 6) ⊎ (result.status ≡ 7)) }
     ensures complete_search { (given : Given) → IsSearch given (map string_bytes words.now) → fault_of words_app (map string_bytes words.now) ≡ [] → (Rose (K.faults sink.old) (K.faults sink.new) → ⊥)
+        → (result.status ≡ 0) ⊎ ((result.status ≡ 6) ⊎ (result.status ≡ 7)) }
+    ensures complete_taken { (given : Given) → IsTaken given (map string_bytes words.now) → (Rose (K.faults sink.old) (K.faults sink.new) → ⊥)
         → (result.status ≡ 0) ⊎ ((result.status ≡ 6) ⊎ (result.status ≡ 7)) }
 {
     run_alone(rt, alloc, words, source, sink, disk, clock, patterns, gate)

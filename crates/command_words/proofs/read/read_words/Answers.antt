@@ -4,7 +4,7 @@ use Rattle.std.specs.Borrow.{Bor}
 use Rattle.clap.specs.declared.parser.matches.ArgMatches.{ArgMatches}
 use Rattle.command_words.specs.declared.asked.Asked.TheVariants.{Session}
 use Rattle.command_words.proofs.Found.{told, tells_one, tells_search, tells_session, tells_trace}
-use Rattle.command_words.proofs.Spelled.{never_refused, search_asks, search_given, session_given, trace_asks, trace_given}
+use Rattle.command_words.proofs.Spelled.{never_refused, search_asks, search_given, session_given, taken_given, trace_asks, trace_given}
 use Rattle.command_words.proofs.Whole.{IsBareTrace}
 use Rattle.command_words.proofs.read.read_words.Goals as goal
 
@@ -16,6 +16,9 @@ returns-in_err-matches-clause-trace c = trace_given _ c.from_residual.result (se
 
 pub returns-in_err-matches-clause-search : goal.returns-in_err-matches-clause-search
 returns-in_err-matches-clause-search c = search_given _ c.from_residual.result (search rules) (search rules)
+
+pub returns-in_err-matches-clause-taken : goal.returns-in_err-matches-clause-taken
+returns-in_err-matches-clause-taken c = taken_given _ c.from_residual.result (search rules) (search rules)
 
 pub unreachable-requires : goal.unreachable-requires
 unreachable-requires c =
@@ -34,6 +37,9 @@ returns-in-session-clause-trace c = trace_given (map string_bytes c.args.words.n
 
 pub returns-in-session-clause-search : goal.returns-in-session-clause-search
 returns-in-session-clause-search c = search_given (map string_bytes c.args.words.now) (Ok Session) (returns-in-session-clause-only c) (λ e. let bad : ⊥ = cc in absurd bad)
+
+pub returns-in-session-clause-taken : goal.returns-in-session-clause-taken
+returns-in-session-clause-taken c = taken_given (map string_bytes c.args.words.now) (Ok Session) (returns-in-session-clause-only c) (λ e. let bad : ⊥ = cc in absurd bad)
 
 pub id_of-requires : goal.id_of-requires
 id_of-requires c =
@@ -67,6 +73,11 @@ returns-in-trace-clause-search c =
     search_given (map string_bytes c.args.words.now) c.asked_trace.result (returns-in-trace-clause-only c)
     (λ e. absurd (never_refused c.asked_trace.result c.asked_trace.ensures.err e))
 
+pub returns-in-trace-clause-taken : goal.returns-in-trace-clause-taken
+returns-in-trace-clause-taken c =
+    taken_given (map string_bytes c.args.words.now) c.asked_trace.result (returns-in-trace-clause-only c)
+    (λ e. absurd (never_refused c.asked_trace.result c.asked_trace.ensures.err e))
+
 pub asked_search-requires : goal.asked_search-requires
 asked_search-requires c =
     let words = map string_bytes c.args.words.now in
@@ -94,6 +105,11 @@ returns-in-search-clause-trace c =
 pub returns-in-search-clause-search : goal.returns-in-search-clause-search
 returns-in-search-clause-search c =
     search_given (map string_bytes c.args.words.now) c.asked_search.result (returns-in-search-clause-only c)
+    (λ e. absurd (never_refused c.asked_search.result c.asked_search.ensures.err e))
+
+pub returns-in-search-clause-taken : goal.returns-in-search-clause-taken
+returns-in-search-clause-taken c =
+    taken_given (map string_bytes c.args.words.now) c.asked_search.result (returns-in-search-clause-only c)
     (λ e. absurd (never_refused c.asked_search.result c.asked_search.ensures.err e))
 
 pub unreachable-requires-in_default-name : goal.unreachable-requires-in_default-name
