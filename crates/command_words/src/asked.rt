@@ -19,9 +19,9 @@ pub enum Asked {
         limit: Option<String>,
         /// How many spans of a spanset are wanted at most.
         spss: Option<String>,
-        /// Only traces that start at this time or later are wanted.
+        /// Only traces of which a span starts at this time or later, and before the end where one is given, are wanted.
         start: Option<String>,
-        /// Only traces that start before this time are wanted.
+        /// Only traces of which a span starts before this time, and not before the start where one is given, are wanted.
         end: Option<String>,
         /// The query.
         query: String,

@@ -27,7 +27,7 @@ pub(crate) struct SearchLine<'a> {
     pub(crate) limit: u32,
     /// How many spans of a spanset are told at most.
     pub(crate) spans_per_set: u32,
-    /// When a trace starts that counts.
+    /// A trace counts of which a span starts in this range.
     pub(crate) range: Range,
     /// The text of the query.
     pub(crate) query: &'a str,

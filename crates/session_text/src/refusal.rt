@@ -90,7 +90,7 @@ pub enum QueryFault {
 pub enum KindFault {
     /// A comparison whose sides don't go together, or a `nil` that isn't compared.
     KindClash {
-        /// The comparison's first byte, or that of the `nil`.
+        /// The first byte of the comparison's operator, or of the `nil`.
         at: u64,
     },
     /// An operand that is no truth, where a truth is wanted.

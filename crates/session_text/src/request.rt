@@ -21,7 +21,7 @@ pub enum Request {
 pub struct Search {
     /// The query, whose kinds fit, with its patterns.
     pub checked: Checked,
-    /// When a trace starts that counts.
+    /// A trace counts of which a span starts in this range.
     pub range: Range,
     /// How many traces are told at most, from 1 to 1,000.
     pub limit: u32,

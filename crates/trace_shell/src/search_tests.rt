@@ -62,13 +62,14 @@ ok search as_of=1 traces=1 {"traces":[{"durationNanos":"1","rootName":null,"root
 "#,
 );
 
-/// Averages are exact, ranges pick traces, and a limit of 0 is refused.
+/// Averages are exact, a spanset tells how many spans it has where fewer are shown, ranges pick traces, and a limit of 0 is refused.
 const AVERAGES: (&str, &str) = (
     r#"push {"resourceSpans":[{"scopeSpans":[{"spans":[{"traceId":"000000000000000000000000000000a1","spanId":"00000000000000b1","parentSpanId":"","name":"p","startTimeUnixNano":"1","endTimeUnixNano":"2","attributes":[{"key":"v","value":{"intValue":"1"}}]},{"traceId":"000000000000000000000000000000a1","spanId":"00000000000000b2","parentSpanId":"","name":"q","startTimeUnixNano":"1","endTimeUnixNano":"2","attributes":[{"key":"v","value":{"intValue":"2"}}]}]}]}]}
 search { } | avg(.v) = 1
 search { } | avg(.v) > 1
 search { } | avg(.v) = avg(.v)
 search { } | count() = 0
+search spss=1 { }
 search start=1970-01-01T00:00:00.000000001Z end=2 { }
 search start=1 end=2 { }
 search start=2 { }
@@ -79,6 +80,7 @@ ok search as_of=1 traces=0 {"traces":[]}
 ok search as_of=1 traces=1 {"traces":[{"durationNanos":"1","rootName":"p","rootService":null,"spanSets":[{"by":[],"matched":2,"spans":[{"attributes":[],"durationNanos":"1","name":"p","spanId":"00000000000000b1","startTimeUnixNano":"1"},{"attributes":[],"durationNanos":"1","name":"q","spanId":"00000000000000b2","startTimeUnixNano":"1"}]}],"startTimeUnixNano":"1","traceId":"000000000000000000000000000000a1"}]}
 ok search as_of=1 traces=1 {"traces":[{"durationNanos":"1","rootName":"p","rootService":null,"spanSets":[{"by":[],"matched":2,"spans":[{"attributes":[],"durationNanos":"1","name":"p","spanId":"00000000000000b1","startTimeUnixNano":"1"},{"attributes":[],"durationNanos":"1","name":"q","spanId":"00000000000000b2","startTimeUnixNano":"1"}]}],"startTimeUnixNano":"1","traceId":"000000000000000000000000000000a1"}]}
 ok search as_of=1 traces=0 {"traces":[]}
+ok search as_of=1 traces=1 {"traces":[{"durationNanos":"1","rootName":"p","rootService":null,"spanSets":[{"by":[],"matched":2,"spans":[{"attributes":[],"durationNanos":"1","name":"p","spanId":"00000000000000b1","startTimeUnixNano":"1"}]}],"startTimeUnixNano":"1","traceId":"000000000000000000000000000000a1"}]}
 ok search as_of=1 traces=1 {"traces":[{"durationNanos":"1","rootName":"p","rootService":null,"spanSets":[{"by":[],"matched":2,"spans":[{"attributes":[],"durationNanos":"1","name":"p","spanId":"00000000000000b1","startTimeUnixNano":"1"},{"attributes":[],"durationNanos":"1","name":"q","spanId":"00000000000000b2","startTimeUnixNano":"1"}]}],"startTimeUnixNano":"1","traceId":"000000000000000000000000000000a1"}]}
 ok search as_of=1 traces=1 {"traces":[{"durationNanos":"1","rootName":"p","rootService":null,"spanSets":[{"by":[],"matched":2,"spans":[{"attributes":[],"durationNanos":"1","name":"p","spanId":"00000000000000b1","startTimeUnixNano":"1"},{"attributes":[],"durationNanos":"1","name":"q","spanId":"00000000000000b2","startTimeUnixNano":"1"}]}],"startTimeUnixNano":"1","traceId":"000000000000000000000000000000a1"}]}
 ok search as_of=1 traces=0 {"traces":[]}

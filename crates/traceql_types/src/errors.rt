@@ -13,7 +13,7 @@ pub enum TypeError {
     /// A comparison whose sides don't go together, or a `nil` that isn't compared.
     #[error("kinds clash at byte {at}")]
     KindClash {
-        /// The comparison's first byte, or that of the `nil`.
+        /// The first byte of the comparison's operator, or of the `nil`.
         at: u64,
     },
     /// An operand of a known kind that is no truth, where a truth is wanted.
