@@ -10,7 +10,7 @@ use Rattle.traceql_types.specs.Checks.{AreMade}
 use Rattle.traceql_types.specs.Patterns.{pattern_text, pattern_re}
 use Rattle.traceql_types.specs.Whole.{whole_text, IsReadAs}
 use Rattle.traceql_value.specs.Meaning.{matches}
-use Rattle.traceql_value.specs.Readings.{AnswersFor, IsAnswered}
+use Rattle.traceql_value.specs.Readings.{IsAnswered}
 
 by_head : (p : Pattern) (ps : List Pattern) (string : List ℕ) → bytes_eq (pattern_text p) string ≡ true → IsAnswered (p ∷ ps) string
 by_head p ps string t =
