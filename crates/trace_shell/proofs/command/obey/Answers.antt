@@ -36,3 +36,7 @@ returns-in-Ok-Search-clause-search g c = λ given is none before taken.
     let same = subst (λ r. MatchResult r (GivesSearch given) (λ e. e ≡ error.Memory)) (c.in-Ok-Search.is ∙ ap Ok c.in-Ok-Search.field-0-is) (c.read_words.ensures.search given is none) in
     subst (λ asked. AnswersAlone (search_line asked) before (g.K.Sink.taken c.look_for.new.sink) c.look_for.result (g.P.PatternMaker.refusals c.args.patterns.now) (g.P.PatternMaker.refusals c.look_for.new.patterns))
     same (c.look_for.ensures.told before taken)
+
+pub returns-in-Ok-Trace-clause-search : goal.returns-in-Ok-Trace-clause-search
+returns-in-Ok-Trace-clause-search g c = λ given is none before taken.
+    absurd (subst (λ r. MatchResult r (GivesSearch given) (λ e. e ≡ error.Memory)) (c.in-Ok-Trace.is ∙ ap Ok c.in-Ok-Trace.field-0-is) (c.read_words.ensures.search given is none))
