@@ -5,7 +5,7 @@ use Rattle.std.proofs.lemmas.Cmp.{tied_itself}
 use Rattle.span_types.specs.declared.spans.Row.{Row}
 use Rattle.span_types.specs.Orders.{block_order}
 use Rattle.span_types.specs.First.{IsFirstOf, first_at}
-use Rattle.span_types.specs.FirstLaws.{block_order_total}
+use Rattle.span_types.proofs.FirstLaws.{block_order_total}
 use Rattle.trace_rows.specs.TraceLaws.{all_pairs}
 use Rattle.search_answer.specs.Traces.{IsSorted}
 

@@ -1,8 +1,9 @@
 pub mod Faults
 pub mod Promises
+pub mod Numbers
+pub mod LinkParts
 pub mod SpanParts
 pub mod BatchParts
 pub mod Keys
 pub mod Orders
 pub mod First
-pub mod FirstLaws

@@ -5,7 +5,9 @@ use Rattle.span_types.specs.declared.attrs.Resource.{Resource}
 use Rattle.span_types.specs.declared.attrs.Scope.{Scope}
 use Rattle.span_types.specs.declared.ids.SpanId.{SpanId}
 use Rattle.span_types.specs.declared.ids.TraceId.{TraceId}
+use Rattle.span_types.specs.declared.spans.SpanEvent.{SpanEvent}
 use Rattle.span_types.specs.declared.spans.SpanKind.{SpanKind}
+use Rattle.span_types.specs.declared.spans.SpanLink.{SpanLink}
 use Rattle.span_types.specs.declared.spans.StatusCode.{StatusCode}
 
 pub record SpanParts : Type 0 where
@@ -21,3 +23,5 @@ pub record SpanParts : Type 0 where
   pub attrs : List Attr
   pub resource : Resource
   pub scope : Scope
+  pub events : List SpanEvent
+  pub links : List SpanLink

@@ -1,9 +1,9 @@
 //! Attributes, and what they belong to besides spans: resources and scopes.
 
-ghost use Rattle.std.specs.Prelude.{◌≡◌, [], IfOk, length};
+ghost use Rattle.std.specs.Prelude.{◌≡◌, [], length};
 ghost use Rattle.span_types.specs.Promises.{AreDistinct};
 
-use crate::{Memory, Text};
+use crate::{Memory, Seq, Text, TryCopy};
 use std::alloc::Global;
 use std::marker::Model;
 
@@ -18,11 +18,8 @@ pub enum AttrValue {
     Truth(bool),
 }
 
-impl AttrValue {
-    /// A second value equal to this one.
-    pub fn copy(&self) -> Result<AttrValue, Memory>
-        ensures { IfOk result (λ v. v ≡ self.now) }
-    {
+impl TryCopy for AttrValue {
+    fn copy(&self) -> Result<AttrValue, Memory> {
         match self {
             AttrValue::Text(text) => Ok(AttrValue::Text(text.copy()?)),
             AttrValue::Whole(number) => Ok(AttrValue::Whole(*number)),
@@ -40,11 +37,8 @@ pub struct Attr {
     pub value: AttrValue,
 }
 
-impl Attr {
-    /// A second attribute equal to this one.
-    pub fn copy(&self) -> Result<Attr, Memory>
-        ensures { IfOk result (λ a. a ≡ self.now) }
-    {
+impl TryCopy for Attr {
+    fn copy(&self) -> Result<Attr, Memory> {
         let key = self.key.copy()?;
         let value = self.value.copy()?;
         Ok(Attr { key, value })
@@ -54,7 +48,7 @@ impl Attr {
 /// A list of attributes, in the order in which they came. No two of them have one key.
 #[derive(Debug, Drop)]
 pub struct Attrs {
-    inner: Vec<Attr>,
+    inner: Seq<Attr>,
 }
 
 impl Model for Attrs {
@@ -63,11 +57,11 @@ impl Model for Attrs {
 
     ghost Value = { List Attr };
 
-    ghost view = { λ l. l.inner.items };
+    ghost view = { λ l. l.inner };
 
     ghost use Rattle.span_types.specs.Promises.{AreDistinct};
 
-    ghost invariant = { λ l. AreDistinct l.inner.items };
+    ghost invariant = { λ l. AreDistinct l.inner };
 }
 
 impl Attrs {
@@ -76,7 +70,7 @@ impl Attrs {
         ensures { result ≡ [] }
     {
         Attrs {
-            inner: Vec::new(alloc),
+            inner: Seq::none(alloc),
         }
     }
 
@@ -85,7 +79,9 @@ impl Attrs {
         requires { AreDistinct inner.items }
         ensures { result ≡ inner.items }
     {
-        Attrs { inner }
+        Attrs {
+            inner: Seq::of(inner),
+        }
     }
 
     /// What each list promises, for the proof of its caller: no two attributes have one key. It does nothing.
@@ -99,7 +95,7 @@ impl Attrs {
     pub fn into_vec(self) -> Vec<Attr>
         ensures { result.items ≡ self }
     {
-        self.inner
+        self.inner.into_vec()
     }
 
     /// The items as a slice.
@@ -115,16 +111,11 @@ impl Attrs {
     {
         self.inner.len()
     }
+}
 
-    /// A second list equal to this one.
-    pub fn copy(&self) -> Result<Attrs, Memory>
-        ensures { IfOk result (λ l. l ≡ self.now) }
-    {
-        let mut inner = Vec::new(*self.inner.allocator());
-        inner.reserve(self.inner.len())?;
-        for attr in self.inner.as_slice() {
-            inner.push(attr.copy()?)?;
-        }
+impl TryCopy for Attrs {
+    fn copy(&self) -> Result<Attrs, Memory> {
+        let inner = self.inner.copy()?;
         Ok(Attrs { inner })
     }
 }
@@ -136,11 +127,8 @@ pub struct Resource {
     pub attrs: Attrs,
 }
 
-impl Resource {
-    /// A second resource equal to this one.
-    pub fn copy(&self) -> Result<Resource, Memory>
-        ensures { IfOk result (λ r. r ≡ self.now) }
-    {
+impl TryCopy for Resource {
+    fn copy(&self) -> Result<Resource, Memory> {
         let attrs = self.attrs.copy()?;
         Ok(Resource { attrs })
     }
@@ -157,11 +145,8 @@ pub struct Scope {
     pub attrs: Attrs,
 }
 
-impl Scope {
-    /// A second scope equal to this one.
-    pub fn copy(&self) -> Result<Scope, Memory>
-        ensures { IfOk result (λ s. s ≡ self.now) }
-    {
+impl TryCopy for Scope {
+    fn copy(&self) -> Result<Scope, Memory> {
         let name = self.name.copy()?;
         let version = self.version.copy()?;
         let attrs = self.attrs.copy()?;

@@ -9,7 +9,9 @@ mod attrs;
 mod errors;
 mod first;
 mod ids;
-mod lists;
+mod laws;
+mod limits;
+mod list;
 mod shared;
 mod spans;
 mod text;
@@ -18,9 +20,13 @@ pub use attrs::{Attr, AttrValue, Attrs, Resource, Scope};
 pub use errors::{Failed, Memory};
 pub use first::{first_rows, first_rows_more};
 pub use ids::{Key, Place, SpanId, TraceId};
-pub use lists::{Bytes, Calls, Ids, Marks, Moments};
-pub use shared::{SharedResource, SharedScope};
-pub use spans::{Batch, Row, Rows, Span, SpanKind, Spans, StatusCode};
+pub use laws::numbers_are_of_one;
+pub use limits::{MOST_LINE_BYTES, MOST_QUERY_BYTES, MOST_SPANS};
+pub use list::{Bytes, Calls, Ids, Marks, Moments, Seq, TryCopy};
+pub use shared::{Shared, SharedResource, SharedScope};
+pub use spans::{
+    Batch, Events, Links, Row, Rows, Span, SpanEvent, SpanKind, SpanLink, Spans, StatusCode,
+};
 pub use text::Text;
 
 #[cfg(test)]

@@ -1,12 +1,15 @@
-//! Spans and rows.
+//! Spans with their events and links, batches of them, and rows.
 
-ghost use Rattle.std.specs.Prelude.{◌≡◌, IfOk, length};
+ghost use Rattle.std.specs.Prelude.{◌≡◌, IfOk};
 ghost use Rattle.span_types.specs.Keys.{span_key};
+ghost use Rattle.span_types.specs.Numbers.{code_number, code_numbered, kind_number, kind_numbered};
 
-use crate::{Attrs, Key, Memory, Place, SharedResource, SharedScope, SpanId, Text, TraceId};
+use crate::{
+    Attrs, Key, Memory, Place, Seq, SharedResource, SharedScope, SpanId, Text, TraceId, TryCopy,
+};
 use std::marker::Model;
 
-/// What role a span has, as OTLP's `SpanKind`, numbered from 0 in this order.
+/// Whose side of an operation a span is, as OTLP's `SpanKind`, numbered from 0 in this order.
 #[derive(Clone, Copy, Debug, PartialEq, Eq, PartialOrd, Ord, Hash)]
 pub enum SpanKind {
     /// 0: nothing is said.
@@ -23,6 +26,37 @@ pub enum SpanKind {
     Consumer,
 }
 
+impl SpanKind {
+    /// The number.
+    pub fn number(self) -> u8
+        ensures { result ≡ kind_number self }
+    {
+        match self {
+            SpanKind::Unspecified => 0,
+            SpanKind::Internal => 1,
+            SpanKind::Server => 2,
+            SpanKind::Client => 3,
+            SpanKind::Producer => 4,
+            SpanKind::Consumer => 5,
+        }
+    }
+
+    /// The kind that has the number.
+    pub fn numbered(number: u64) -> Option<SpanKind>
+        ensures { result ≡ kind_numbered number }
+    {
+        match number {
+            0 => Some(SpanKind::Unspecified),
+            1 => Some(SpanKind::Internal),
+            2 => Some(SpanKind::Server),
+            3 => Some(SpanKind::Client),
+            4 => Some(SpanKind::Producer),
+            5 => Some(SpanKind::Consumer),
+            _ => None,
+        }
+    }
+}
+
 /// How a span ended, as OTLP's `Status.StatusCode`, numbered from 0 in this order.
 #[derive(Clone, Copy, Debug, PartialEq, Eq, PartialOrd, Ord, Hash)]
 pub enum StatusCode {
@@ -33,6 +67,96 @@ pub enum StatusCode {
     /// 2: it failed.
     Error,
 }
+
+impl StatusCode {
+    /// The number.
+    pub fn number(self) -> u8
+        ensures { result ≡ code_number self }
+    {
+        match self {
+            StatusCode::Unset => 0,
+            StatusCode::Fine => 1,
+            StatusCode::Error => 2,
+        }
+    }
+
+    /// The code that has the number.
+    pub fn numbered(number: u64) -> Option<StatusCode>
+        ensures { result ≡ code_numbered number }
+    {
+        match number {
+            0 => Some(StatusCode::Unset),
+            1 => Some(StatusCode::Fine),
+            2 => Some(StatusCode::Error),
+            _ => None,
+        }
+    }
+}
+
+/// Something that happened during a span, as OTLP's `Span.Event`: an exception, for one.
+#[derive(Debug, Drop)]
+pub struct SpanEvent {
+    /// When it happened, in nanoseconds since 1970; 0 where nothing is said.
+    pub time: u64,
+    /// What happened.
+    pub name: Text,
+    /// What is said of it.
+    pub attrs: Attrs,
+}
+
+impl TryCopy for SpanEvent {
+    fn copy(&self) -> Result<SpanEvent, Memory> {
+        let name = self.name.copy()?;
+        let attrs = self.attrs.copy()?;
+        Ok(SpanEvent {
+            time: self.time,
+            name,
+            attrs,
+        })
+    }
+}
+
+/// The events of a span, in the order in which they came.
+pub type Events = Seq<SpanEvent>;
+
+/// A pointer to another span, of any trace, as OTLP's `Span.Link`. Its ids each have a byte that isn't zero.
+#[derive(Debug, Drop)]
+pub struct SpanLink {
+    /// The other span's trace.
+    pub trace: TraceId,
+    /// The other span within its trace.
+    pub span: SpanId,
+    /// What is said of the link.
+    pub attrs: Attrs,
+}
+
+impl Model for SpanLink {
+    ghost use Rattle.std.specs.Prelude.{None};
+    ghost use Rattle.span_types.specs.LinkParts.{LinkParts};
+    ghost use Rattle.span_types.specs.Promises.{AreNames};
+
+    ghost Value = { LinkParts };
+
+    ghost view = { λ l. record { trace = l.trace; span = l.span; attrs = l.attrs } };
+
+    ghost invariant = { λ l. AreNames l.trace l.span None };
+
+    ghost inverse = { λ l. record { trace = l.trace; span = l.span; attrs = l.attrs } };
+}
+
+impl TryCopy for SpanLink {
+    fn copy(&self) -> Result<SpanLink, Memory> {
+        let attrs = self.attrs.copy()?;
+        Ok(SpanLink {
+            trace: self.trace,
+            span: self.span,
+            attrs,
+        })
+    }
+}
+
+/// The links of a span, in the order in which they came.
+pub type Links = Seq<SpanLink>;
 
 /// One span. Its ids, and its parent's, each have a byte that isn't zero.
 #[derive(Debug, Drop)]
@@ -45,7 +169,7 @@ pub struct Span {
     pub parent: Option<SpanId>,
     /// What was done.
     pub name: Text,
-    /// Its role.
+    /// Whose side it is.
     pub kind: SpanKind,
     /// When it began, in nanoseconds since 1970.
     pub start: u64,
@@ -61,6 +185,10 @@ pub struct Span {
     pub resource: SharedResource,
     /// The instrumentation that made it.
     pub scope: SharedScope,
+    /// What happened during it.
+    pub events: Events,
+    /// The spans that it points to.
+    pub links: Links,
 }
 
 impl Model for Span {
@@ -69,23 +197,23 @@ impl Model for Span {
 
     ghost Value = { SpanParts };
 
-    ghost view = { λ s. record { trace = s.trace; id = s.id; parent = s.parent; name = s.name; kind = s.kind; start = s.start; end = s.end; status = s.status; message = s.message; attrs = s.attrs; resource = s.resource; scope = s.scope } };
+    ghost view = { λ s. record { trace = s.trace; id = s.id; parent = s.parent; name = s.name; kind = s.kind; start = s.start; end = s.end; status = s.status; message = s.message; attrs = s.attrs; resource = s.resource; scope = s.scope; events = s.events; links = s.links } };
 
     ghost invariant = { λ s. AreNames s.trace s.id s.parent };
 
-    ghost inverse = { λ s. record { trace = s.trace; id = s.id; parent = s.parent; name = s.name; kind = s.kind; start = s.start; end = s.end; status = s.status; message = s.message; attrs = s.attrs; resource = s.resource; scope = s.scope } };
+    ghost inverse = { λ s. record { trace = s.trace; id = s.id; parent = s.parent; name = s.name; kind = s.kind; start = s.start; end = s.end; status = s.status; message = s.message; attrs = s.attrs; resource = s.resource; scope = s.scope; events = s.events; links = s.links } };
 }
 
-impl Span {
-    /// A second span equal to this one. The resource and the scope are shared and not copied.
-    pub fn copy(&self) -> Result<Span, Memory>
-        ensures { IfOk result (λ s. s ≡ self.now) }
-    {
+impl TryCopy for Span {
+    /// The resource and the scope are shared and not copied.
+    fn copy(&self) -> Result<Span, Memory> {
         let name = self.name.copy()?;
         let message = self.message.copy()?;
         let attrs = self.attrs.copy()?;
         let resource = self.resource.copy()?;
         let scope = self.scope.copy()?;
+        let events = self.events.copy()?;
+        let links = self.links.copy()?;
         Ok(Span {
             trace: self.trace,
             id: self.id,
@@ -99,9 +227,13 @@ impl Span {
             attrs,
             resource,
             scope,
+            events,
+            links,
         })
     }
+}
 
+impl Span {
     /// What makes two spans the same span.
     pub fn key(&self) -> Key
         ensures { result ≡ span_key self.now }
@@ -114,63 +246,9 @@ impl Span {
 }
 
 /// A list of spans.
-#[derive(Debug, Drop)]
-pub struct Spans {
-    inner: Vec<Span>,
-}
+pub type Spans = Seq<Span>;
 
-impl Model for Spans {
-    ghost use Rattle.std.specs.Prelude.{List};
-    ghost use Rattle.span_types.specs.declared.spans.Span.{Span};
-
-    ghost Value = { List Span };
-
-    ghost view = { λ l. l.inner.items };
-}
-
-impl Spans {
-    /// The list of a vector's items, which are moved and not copied.
-    pub fn of(inner: Vec<Span>) -> Spans
-        ensures { result ≡ inner.items }
-    {
-        Spans { inner }
-    }
-
-    /// The vector again, without a copy.
-    pub fn into_vec(self) -> Vec<Span>
-        ensures { result.items ≡ self }
-    {
-        self.inner
-    }
-
-    /// The items as a slice.
-    pub fn as_slice(&self) -> &[Span]
-        ensures { result.now ≡ self.now }
-    {
-        self.inner.as_slice()
-    }
-
-    /// The number of items.
-    pub fn len(&self) -> usize
-        ensures { result ≡ length self.now }
-    {
-        self.inner.len()
-    }
-
-    /// A second list equal to this one.
-    pub fn copy(&self) -> Result<Spans, Memory>
-        ensures { IfOk result (λ l. l ≡ self.now) }
-    {
-        let mut inner = Vec::new(*self.inner.allocator());
-        inner.reserve(self.inner.len())?;
-        for span in self.inner.as_slice() {
-            inner.push(span.copy()?)?;
-        }
-        Ok(Spans { inner })
-    }
-}
-
-/// The spans of one push, in the order in which they came: 16,384 or fewer.
+/// The spans of one push, in the order in which they came: no more than [`MOST_SPANS`](crate::MOST_SPANS).
 #[derive(Debug, Drop)]
 pub struct Batch {
     /// The spans.
@@ -180,21 +258,19 @@ pub struct Batch {
 impl Model for Batch {
     ghost use Rattle.std.specs.Prelude.{length, ◌≤◌};
     ghost use Rattle.span_types.specs.BatchParts.{BatchParts};
+    ghost use Rattle.span_types.specs.declared.limits.TheConstants.{MOST_SPANS};
 
     ghost Value = { BatchParts };
 
     ghost view = { λ b. record { spans = b.spans } };
 
-    ghost invariant = { λ b. length b.spans ≤ 16384 };
+    ghost invariant = { λ b. length b.spans ≤ MOST_SPANS };
 
     ghost inverse = { λ b. record { spans = b.spans } };
 }
 
-impl Batch {
-    /// A second batch equal to this one.
-    pub fn copy(&self) -> Result<Batch, Memory>
-        ensures { IfOk result (λ b. b ≡ self.now) }
-    {
+impl TryCopy for Batch {
+    fn copy(&self) -> Result<Batch, Memory> {
         let spans = self.spans.copy()?;
         Ok(Batch { spans })
     }
@@ -209,11 +285,8 @@ pub struct Row {
     pub span: Span,
 }
 
-impl Row {
-    /// A second row equal to this one.
-    pub fn copy(&self) -> Result<Row, Memory>
-        ensures { IfOk result (λ r. r ≡ self.now) }
-    {
+impl TryCopy for Row {
+    fn copy(&self) -> Result<Row, Memory> {
         let span = self.span.copy()?;
         Ok(Row {
             place: self.place,
@@ -223,58 +296,4 @@ impl Row {
 }
 
 /// A list of rows.
-#[derive(Debug, Drop)]
-pub struct Rows {
-    inner: Vec<Row>,
-}
-
-impl Model for Rows {
-    ghost use Rattle.std.specs.Prelude.{List};
-    ghost use Rattle.span_types.specs.declared.spans.Row.{Row};
-
-    ghost Value = { List Row };
-
-    ghost view = { λ l. l.inner.items };
-}
-
-impl Rows {
-    /// The list of a vector's items, which are moved and not copied.
-    pub fn of(inner: Vec<Row>) -> Rows
-        ensures { result ≡ inner.items }
-    {
-        Rows { inner }
-    }
-
-    /// The vector again, without a copy.
-    pub fn into_vec(self) -> Vec<Row>
-        ensures { result.items ≡ self }
-    {
-        self.inner
-    }
-
-    /// The items as a slice.
-    pub fn as_slice(&self) -> &[Row]
-        ensures { result.now ≡ self.now }
-    {
-        self.inner.as_slice()
-    }
-
-    /// The number of items.
-    pub fn len(&self) -> usize
-        ensures { result ≡ length self.now }
-    {
-        self.inner.len()
-    }
-
-    /// A second list equal to this one.
-    pub fn copy(&self) -> Result<Rows, Memory>
-        ensures { IfOk result (λ l. l ≡ self.now) }
-    {
-        let mut inner = Vec::new(*self.inner.allocator());
-        inner.reserve(self.inner.len())?;
-        for row in self.inner.as_slice() {
-            inner.push(row.copy()?)?;
-        }
-        Ok(Rows { inner })
-    }
-}
+pub type Rows = Seq<Row>;

@@ -1,8 +1,8 @@
 //! A text that contracts see as its bytes.
 
-ghost use Rattle.std.specs.Prelude.{◌≡◌, ◌==◌, IfOk, length, string_bytes};
+ghost use Rattle.std.specs.Prelude.{◌≡◌, ◌==◌, length, string_bytes};
 
-use crate::Memory;
+use crate::{Memory, TryCopy};
 use std::marker::Model;
 
 /// A text in UTF-8, which contracts see as the list of its bytes.
@@ -47,11 +47,10 @@ impl Text {
     {
         self.inner.as_str().is_empty()
     }
+}
 
-    /// A second text of the same bytes.
-    pub fn copy(&self) -> Result<Text, Memory>
-        ensures { IfOk result (λ t. t ≡ self.now) }
-    {
+impl TryCopy for Text {
+    fn copy(&self) -> Result<Text, Memory> {
         let inner = self.inner.clone()?;
         Ok(Text { inner })
     }

@@ -12,7 +12,7 @@ use Rattle.span_types.specs.declared.spans.Row.{Row}
 use Rattle.span_types.specs.Keys.{row_key}
 use Rattle.span_types.specs.Orders.{trace_cmp, key_cmp, block_order}
 use Rattle.span_types.specs.First.{first_at, lesser, row_at, IsFirstOf}
-use Rattle.span_types.specs.FirstLaws.{block_order_total, key_cmp_exact, key_of_first}
+use Rattle.span_types.proofs.FirstLaws.{block_order_total, key_cmp_exact, key_of_first}
 use Rattle.trace_rows.specs.Traces.{is_of_trace, rows_of_trace}
 
 is_equal : (o : Ordering) → is_eq o ≡ true → o ≡ Equal

@@ -5,7 +5,7 @@ use Rattle.std.specs.List.Sorted.{IsPermutation}
 use Rattle.std.proofs.lemmas.List.Sorted.{ranks_by, answers_always}
 use Rattle.span_types.specs.Orders.{block_order}
 use Rattle.span_types.specs.First.{IsFirstOf}
-use Rattle.span_types.specs.FirstLaws.{block_order_total, firsts_from_map}
+use Rattle.span_types.proofs.FirstLaws.{block_order_total, firsts_from_map}
 use Rattle.span_types.proofs.first.first_rows.Goals as goal
 
 pub returns : goal.returns

@@ -1,6 +1,6 @@
 use Rattle.std.proofs.Common.{◌≡◌, ◌++◌, ◌∙◌, ap, subst}
 use Rattle.span_types.specs.First.{IsFirstOf}
-use Rattle.span_types.specs.FirstLaws.{firsts_more}
+use Rattle.span_types.proofs.FirstLaws.{firsts_more}
 use Rattle.span_types.proofs.first.first_rows_more.Goals as goal
 
 pub returns : goal.returns

@@ -1,6 +1,6 @@
 use Rattle.std.proofs.Common.{ap, sym, ◌∙◌}
 use Rattle.span_types.specs.First.{lesser, row_at}
-use Rattle.span_types.specs.FirstLaws.{first_at-push}
+use Rattle.span_types.proofs.FirstLaws.{first_at-push}
 use Rattle.span_types.proofs.first.firsts_by_key.Goals as goal
 
 pub loop-row-preserved : goal.loop-row-preserved

@@ -1,7 +1,7 @@
 use Rattle.std.proofs.Common.{sym, ◌∙◌}
 use Rattle.std.specs.BTreeMap.{get}
 use Rattle.span_types.specs.Orders.{key_cmp}
-use Rattle.span_types.specs.FirstLaws.{kept, let_go}
+use Rattle.span_types.proofs.FirstLaws.{kept, let_go}
 use Rattle.span_types.proofs.first.keep_first.Goals as goal
 
 pub returns-in_ok-insert : goal.returns-in_ok-insert
