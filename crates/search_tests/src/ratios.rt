@@ -1,8 +1,8 @@
 //! Fractions worked out by hand.
 
-use crate::Ratio;
 use std::cmp::Ordering;
 use std::test::Fail;
+use traceql_value::Ratio;
 
 const LEAST: i64 = i64::MIN;
 

@@ -4,16 +4,14 @@ ghost use Rattle.std.specs.Prelude.{List, IfOk};
 ghost use Rattle.span_types.specs.First.{IsFirstOf};
 ghost use Rattle.span_types.specs.declared.spans.Row.{Row};
 
-use crate::answer;
+use crate::lines::{firsts_of, query_of, rows_of};
 use column_scan::Range;
-use otlp_spans::read_line;
-use span_types::{Memory, Place, Row, Rows, StatusCode, first_rows};
+use search_answer::answer;
+use span_types::{Rows, StatusCode};
 use spanset_eval::{SetResult, TraceResult};
 use std::alloc::{AllocError, Global};
 use std::process::Abort;
 use std::test::Fail;
-use traceql_parse::parse;
-use traceql_types::{Checked, RegexMaker, check};
 use traceql_value::{Value, Values};
 
 /// One trace: a chain `a`, `b`, `c` with a sibling `s` of `b`; a ring of `p` and `q`, and its tail `t`, a child of `p`; the
@@ -79,51 +77,11 @@ const STAGED: &str = r#"
 { .w = "y" } | count() = 2 => g h
 "#;
 
-/// The first occurrences of the rows of lines, one push each.
+/// The first occurrences of the rows of lines.
 fn rows(alloc: Global, lines: &[&str]) -> Result<Rows, Fail>
     ensures { IfOk result (λ rows. (all : List Row) × IsFirstOf all rows) }
 {
-    let mut rows = Vec::new(alloc);
-    for line in lines {
-        add_rows(alloc, line, &mut rows)?;
-    }
-    firsts(alloc, Rows::of(rows))
-}
-
-// The first occurrences of rows.
-fn firsts(alloc: Global, rows: Rows) -> Result<Rows, Fail>
-    ensures { IfOk result (λ firsts. (all : List Row) × IsFirstOf all firsts) }
-{
-    match first_rows(alloc, rows) {
-        Ok(firsts) => Ok(firsts),
-        Err(Memory) => Err(Fail::new("no memory")),
-    }
-}
-
-// Adds the rows of a line, as those of the first push.
-fn add_rows(alloc: Global, line: &str, rows: &mut Vec<Row>) -> Result<(), Fail> {
-    let Ok(reading) = read_line(alloc, line.as_bytes()) else {
-        return Err(Fail::new("the line is not read"));
-    };
-    let mut position = 0u32;
-    for span in reading.batch.spans.into_vec() {
-        let place = Place {
-            number: 0,
-            position,
-        };
-        rows.push(Row { place, span })?;
-        position = position.saturating_add(1);
-    }
-    Ok(())
-}
-
-// A text's query.
-fn query_of(alloc: Global, text: &str) -> Result<Checked, Fail> {
-    let Ok(query) = parse(alloc, text) else {
-        return Err(Fail::new("the query is not read"));
-    };
-    let mut maker = RegexMaker::new(alloc);
-    check(alloc, query, &mut maker).map_err(|_| Fail::new("the query is refused"))
+    firsts_of(alloc, rows_of(alloc, lines)?)
 }
 
 // A value as a text.

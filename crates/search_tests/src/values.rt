@@ -1,15 +1,14 @@
 //! Expressions over a small trace, worked out by hand.
 
-use crate::{Ratio, Scene, Searches, Value, Values, field_value};
-use otlp_spans::read_line;
-use span_types::{Place, Row, Rows, SpanKind, StatusCode, Text};
+use crate::lines::{query_of, rows_of};
+use span_types::{Rows, SpanKind, StatusCode, Text, TryCopy};
 use std::alloc::{AllocError, Global};
 use std::process::Abort;
 use std::test::Fail;
-use traceql_parse::parse;
 use traceql_syntax::{Field, FieldExpr, Stage};
 use traceql_tokens::Intrinsic;
-use traceql_types::{Checked, RegexMaker, check};
+use traceql_types::Checked;
+use traceql_value::{Ratio, Scene, Searches, Value, Values, field_value};
 
 /// Five spans of one trace. The first has no parent, and neither have the second and the third, which begin before it and
 /// together; of these two the third has the lesser id. The fourth's parent is missing, and it ends before it begins. The
@@ -178,32 +177,10 @@ rootServiceName => nil
 rootName => ""
 "#;
 
-/// The rows of a line, as the first push.
-fn rows(alloc: Global, line: &str) -> Result<Rows, Fail> {
-    let Ok(reading) = read_line(alloc, line.as_bytes()) else {
-        return Err(Fail::new("the line is not read"));
-    };
-    let mut rows = Vec::new(alloc);
-    let mut position = 0u32;
-    for span in reading.batch.spans.into_vec() {
-        let place = Place {
-            number: 0,
-            position,
-        };
-        rows.push(Row { place, span })?;
-        position = position.saturating_add(1);
-    }
-    Ok(Rows::of(rows))
-}
-
 /// The query that groups by an expression.
 fn grouping(alloc: Global, expr: &str) -> Result<Checked, Fail> {
     let text = format!(in alloc; "{{ }} | by({expr})")?;
-    let Ok(query) = parse(alloc, text.as_str()) else {
-        return Err(Fail::new("the expression is not read"));
-    };
-    let mut maker = RegexMaker::new(alloc);
-    check(alloc, query, &mut maker).map_err(|_| Fail::new("the expression is refused"))
+    query_of(alloc, text.as_str())
 }
 
 /// A value as a text.
@@ -265,7 +242,7 @@ fn check_rows(
     table: &str,
     position: u64,
 ) -> Result<(), Fail> {
-    let trace = rows(rt.alloc(), line)?;
+    let trace = rows_of(rt.alloc(), &[line])?;
     for row in table.lines() {
         if !row.is_empty() {
             check_row(rt, row, &trace, position)?;
@@ -299,7 +276,7 @@ fn add_truths<'q>(
     line: &str,
     so: &mut Vec<bool>,
 ) -> Result<Searches<'q>, Fail> {
-    let trace = rows(alloc, line)?;
+    let trace = rows_of(alloc, &[line])?;
     let mut scene = Scene::of(alloc, searches, trace.as_slice());
     for row in trace.as_slice() {
         let Ok(truth) = scene.is_so(condition, &row.span) else {
@@ -337,7 +314,7 @@ fn searches_go_on(rt: HostRuntime) -> Result<(), Fail> {
 #[test]
 fn scene_of_a_trace(rt: HostRuntime) -> Result<(), Fail> {
     let alloc = rt.alloc();
-    let trace = rows(alloc, LINE)?;
+    let trace = rows_of(alloc, &[LINE])?;
     let checked = grouping(alloc, ".flag")?;
     let [Stage::By(operand)] = checked.query.stages.as_slice() else {
         return Err(Fail::new("the query has another stage"));

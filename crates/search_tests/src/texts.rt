@@ -1,6 +1,6 @@
 //! Results and fields with their exact text, worked out by hand.
 
-use crate::{Texts, printed_fields, write_results};
+use search_text::{Texts, printed_fields, write_results};
 use span_types::{SpanId, SpanKind, StatusCode, Text, TraceId};
 use spanset_eval::{Hit, Hits, Results, SetResult, Sets, TraceResult};
 use std::alloc::{AllocError, Global};
