@@ -29,6 +29,3 @@ pub use spans::{
     Batch, Events, Links, Row, Rows, Span, SpanEvent, SpanKind, SpanLink, Spans, StatusCode,
 };
 pub use text::Text;
-
-#[cfg(test)]
-mod tests;

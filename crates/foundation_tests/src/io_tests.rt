@@ -2,7 +2,7 @@
 
 ghost use Rattle.std.specs.Prelude.{◌<◌, Some};
 
-use crate::{
+use io_edges::{
     Clock, FixedClock, Gate, Line, LineError, LineReader, MemSink, MemSource, OpenGate, Sink,
     Source,
 };
