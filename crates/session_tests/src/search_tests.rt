@@ -1,9 +1,9 @@
 //! Whole sessions with searches, with their exact bytes.
 
-use crate::tests::check;
-use crate::{Ended, run};
+use crate::run_tests::check;
 use io_edges::{FixedClock, MemSink, MemSource, OpenGate};
 use span_types::{Bytes, Calls, Memory, Moments};
+use trace_shell::{Ended, run};
 use traceql_types::ScriptedMaker;
 
 /// Two traces that start together: the one of the lesser id comes first, and one is asked for.

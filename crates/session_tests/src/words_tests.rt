@@ -1,6 +1,6 @@
 //! What the words of a command line give.
 
-use crate::{Asked, WordsError, read_words, search_line};
+use command_words::{Asked, WordsError, read_words, search_line};
 use std::alloc::Global;
 
 // The words of the table, as the program has them.

@@ -1,7 +1,7 @@
 //! Lines and replies with their exact bytes, worked out by hand.
 
-use crate::{QueryFault, Refusal, Reply, Request, Search, read_request, write_reply};
 use search_text::Texts;
+use session_text::{QueryFault, Refusal, Reply, Request, Search, read_request, write_reply};
 use span_types::{Calls, Memory, Rows, Text};
 use spanset_eval::Results;
 use std::alloc::Global;

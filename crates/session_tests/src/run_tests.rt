@@ -1,6 +1,5 @@
 //! What no clause says: whole runs by example, with their exact bytes.
 
-use crate::{Ended, StdinSource, StdoutSink, run, run_alone};
 use io_edges::{FixedClock, MemSink, MemSource, OpenGate, Sink, Source};
 use span_types::{Bytes, Calls, Failed, Memory, Moments};
 use std::alloc::Global;
@@ -8,6 +7,7 @@ use std::io::{self, Read, Write};
 use std::process::Abort;
 use std::sync::Wait;
 use std::thread::Threads;
+use trace_shell::{Ended, StdinSource, StdoutSink, run, run_alone};
 use traceql_types::RegexMaker;
 
 const PUSH_X: &str =
