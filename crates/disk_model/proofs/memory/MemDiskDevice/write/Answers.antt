@@ -1,15 +1,16 @@
 -- What the trait says of a write, from what it made of the disk.
-use Rattle.std.proofs.Common.{length, refl, sym, ap, subst}
+use Rattle.std.proofs.Common.{length, refl, sym, ◌∙◌, ap, subst}
 use Rattle.disk_model.specs.declared.memory.MemDisk.{MemDisk}
 use Rattle.disk_model.specs.Images.{Besides, OnFile}
 use Rattle.disk_model.specs.Bytes.{Torn}
 use Rattle.disk_model.specs.Crash.{Elapses, Follows}
 use Rattle.disk_model.specs.History.{Past, MayLeave, LeftSince, held_now}
 use Rattle.disk_model.specs.Memory.{noted}
+use Rattle.disk_model.specs.Script.{raised}
 use Rattle.disk_model.specs.declared.change.Change.TheVariants.{Write, LostWrite}
 use Rattle.disk_model.proofs.Passing.{torn_same}
 use Rattle.disk_model.proofs.Steps.{written_at_ok, pasts, rose, besides_added, same_follows, write_follows, lost_write_follows, same_elapses, added_elapses}
-use Rattle.disk_model.proofs.memory.MemDiskDisk.write.Goals as goal
+use Rattle.disk_model.proofs.memory.MemDiskDevice.write.Goals as goal
 
 pub returns-then-ends_below-clause-written : goal.returns-then-ends_below-clause-written
 returns-then-ends_below-clause-written c = λ told. written_at_ok c.args.self.now c.write_bytes.new.self c.args.file c.args.at c.args.bytes.now c.write_bytes.result (noted (LostWrite c.args.file c.args.at (length c.args.bytes.now))) c.write_bytes.ensures.outcome
@@ -44,5 +45,5 @@ pub returns-clause-crash : goal.returns-clause-crash
 returns-clause-crash c =
     let past = c.args.self.now.history in
     subst (λ (new : Past). Follows (OnFile c.args.file (Torn c.args.at (length c.args.bytes.now))) (MayLeave past) (MayLeave new))
-    (sym (ap (λ (d : MemDisk). d.history) c.fail.ensures.after))
+    (sym (ap (λ (d : MemDisk). d.history) (c.fail.ensures.after ∙ ap (λ (d : MemDisk). record d { faults = raised d.faults }) c.next_fate.ensures.counted)))
     (same_follows c.args.file (Torn c.args.at (length c.args.bytes.now)) (torn_same c.args.at (length c.args.bytes.now)) past)

@@ -8,7 +8,7 @@ use Rattle.disk_model.specs.Memory.{noted}
 use Rattle.disk_model.specs.declared.change.Change.TheVariants.{Cut, LostCut}
 use Rattle.disk_model.proofs.Passing.{cut_same}
 use Rattle.disk_model.proofs.Steps.{cut_at_ok, pasts, rose, besides_added, same_follows, cut_follows, lost_cut_follows, same_elapses, added_elapses}
-use Rattle.disk_model.proofs.memory.MemDiskDisk.cut.Goals as goal
+use Rattle.disk_model.proofs.memory.MemDiskDevice.cut.Goals as goal
 
 pub returns-clause-shortened : goal.returns-clause-shortened
 returns-clause-shortened c = λ told. cut_at_ok c.args.self.now c.cut_file.new.self c.args.file c.args.len c.cut_file.result (noted (LostCut c.args.file c.args.len)) c.cut_file.ensures.outcome

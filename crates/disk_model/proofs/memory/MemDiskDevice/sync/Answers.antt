@@ -5,7 +5,7 @@ use Rattle.disk_model.specs.Crash.{Elapses, Within}
 use Rattle.disk_model.specs.History.{Past, MayLeave, LeftSince, held_now}
 use Rattle.disk_model.specs.declared.change.Change.TheVariants.{Sync}
 use Rattle.disk_model.proofs.Steps.{lasts_at_ok, pasts_kept, rose, sync_within, synced_same, same_elapses, added_elapses}
-use Rattle.disk_model.proofs.memory.MemDiskDisk.sync.Goals as goal
+use Rattle.disk_model.proofs.memory.MemDiskDevice.sync.Goals as goal
 
 pub returns-clause-lasting : goal.returns-clause-lasting
 returns-clause-lasting c = λ told. lasts_at_ok c.args.self.now c.sync_file.new.self c.args.file c.sync_file.result c.sync_file.ensures.outcome
