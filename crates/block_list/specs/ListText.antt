@@ -2,7 +2,7 @@
 use Rattle.std.specs.Prelude.{ℕ, List}
 
 -- the list's generation, its bytes behind the gate, and how many bytes there is room for
-pub record Prepared : Type 0 where
+pub record ListText : Type 0 where
   pub generation : ℕ
   pub text : List ℕ
   pub room : ℕ

@@ -1,4 +1,4 @@
--- What holds of the files that changes leave, and with it the laws of a disk in memory.
+-- Private mechanism: that a disk in memory meets the laws of a device.
 use Rattle.std.proofs.Common.{◌≡◌, ◌⊎◌, inl, inr, ℕ, ◌+◌, ◌<◌, ◌≤◌, Bool, true, false, cond, eqb, leb, ltb, ◌||◌, List, [], ◌∷◌, ◌++◌, length, take, map, refl, sym, ◌∙◌, ap, subst, arith, length-take}
 use Rattle.std.specs.List.{list_any}
 use Rattle.std.proofs.lemmas.Bool.{cases_eq, eq-eqb, ne_eqb, leb-false, ltb-false, and_cases}
@@ -6,7 +6,7 @@ use Rattle.std.proofs.lemmas.List.{take_all, get_or-take}
 use Rattle.std.proofs.lemmas.List.Folds.{list_any-append}
 use Rattle.disk_model.specs.Images.{Image, bytes_of}
 use Rattle.disk_model.specs.BytesLaws.{length-overwritten, get_or-overwritten}
-use Rattle.disk_model.specs.Files.{FileState, MayBeLeft, frees, is_free, settled, wrote, lost_write, cut_to, lost_cut}
+use Rattle.disk_model.specs.Files.{FileState, IsSound, MayBeLeft, frees, settled, wrote, lost_write, cut_to, lost_cut}
 use Rattle.disk_model.specs.History.{Past, Files, state_of, updated, file_of, changed, after, replayed, unchanged, files_now, held_now, IsLeft, MayLeave, LeftSince}
 use Rattle.disk_model.specs.declared.change.Pending.{Pending}
 use Rattle.disk_model.specs.declared.change.Pending.TheVariants.{Written, Shortened}
@@ -80,13 +80,6 @@ outside_range at len place kept = elim (and_cases (leb at place) (ltb place (at 
 -- a place that a cut leaves alone is below its length
 pub below_cut : (len place : ℕ) → frees place (Shortened len) ≡ false → place < len
 below_cut len place kept = leb-false len place kept
-
--- What a file holds is one of the contents that a crash may leave, and so is what was last synced. What it holds reaches
--- as far as the bytes that are certain.
-pub record IsSound (file : FileState) : Type 0 where
-  pub stays : MayBeLeft file file.held
-  pub returns : MayBeLeft file file.synced
-  pub inside : (place : ℕ) → is_free file place ≡ false → place < length file.held
 
 or_left : (a b : Bool) → (a || b) ≡ false → a ≡ false
 or_left true b e = absurd (cc)
