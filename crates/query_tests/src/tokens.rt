@@ -1,7 +1,7 @@
-//! Tokens worked out by hand, and each call once.
+//! The tokens of texts, worked out by hand.
 
-use crate::{TimeUnit, Token, TokenKind, Tokens, one_reading, printed_tokens, tokens};
 use std::test::Fail;
+use traceql_tokens::{TimeUnit, Token, TokenKind, one_reading, printed_tokens, tokens};
 
 /// A token as one word of the tables below: its place, and its class with its text or value.
 fn shown(rt: &HostRuntime, token: &Token) -> Result<String, Fail> {
@@ -152,17 +152,6 @@ fn texts_have_the_tokens_that_hands_found(rt: HostRuntime) -> Result<(), Fail> {
         let found = listed(&rt, text)?;
         assert_eq!(&rt; found.as_str(), wanted, "{text}");
     }
-    Ok(())
-}
-
-#[test]
-fn the_list_gives_its_tokens_and_its_vector(rt: HostRuntime) -> Result<(), Fail> {
-    let none = tokens(rt.alloc(), " ")?;
-    assert_eq!(&rt; none.is_empty(), true);
-    let found = tokens(rt.alloc(), "5ms")?;
-    assert_eq!(&rt; found.len(), 1);
-    let again = Tokens::of(found.into_vec());
-    assert_eq!(&rt; again.len(), 1);
     assert_eq!(&rt; TimeUnit::Millis.nanos(), 1_000_000);
     one_reading();
     printed_tokens();

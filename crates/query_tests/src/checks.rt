@@ -1,11 +1,13 @@
 //! Queries and what `check` answers, worked out by hand.
 
-use crate::{PatternMaker, Patterns, RegexMaker, ScriptedMaker, TypeError, check};
 use span_types::Calls;
 use std::alloc::{AllocError, Global};
 use std::process::Abort;
 use std::test::Fail;
 use traceql_parse::parse;
+use traceql_types::{
+    PatternMaker, Patterns, RegexMaker, ScriptedMaker, TypeError, check, checked_crosses,
+};
 
 fn refusal(out: &mut String, error: TypeError) -> Result<(), AllocError> {
     match error {
@@ -209,6 +211,7 @@ fn queries_are_checked_as_worked_out(rt: HostRuntime) -> Result<(), Fail> {
     check_rows(&rt, OPERANDS)?;
     check_rows(&rt, STAGES)?;
     check_rows(&rt, SEVERAL)?;
+    checked_crosses();
     Ok(())
 }
 
