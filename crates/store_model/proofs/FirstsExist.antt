@@ -10,7 +10,7 @@ use Rattle.span_types.specs.declared.spans.Row.{Row}
 use Rattle.span_types.specs.Keys.{row_key}
 use Rattle.span_types.specs.Orders.{trace_cmp, span_cmp, key_cmp, place_cmp, trace_order, block_order}
 use Rattle.span_types.specs.First.{lesser, row_at, first_at, IsFirstOf}
-use Rattle.span_types.specs.FirstLaws.{block_order_total, key_cmp_total, key_cmp_exact, key_of_first}
+use Rattle.span_types.proofs.FirstLaws.{block_order_total, key_cmp_total, key_cmp_exact, key_of_first}
 use Rattle.store_model.proofs.RowSetLaws.{in_head, in_tail}
 
 -- rows that ascend strictly in block order

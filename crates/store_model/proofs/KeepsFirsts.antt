@@ -10,7 +10,7 @@ use Rattle.span_types.specs.declared.ids.Key.{Key}
 use Rattle.span_types.specs.declared.spans.Span.{Span}
 use Rattle.span_types.specs.declared.spans.Row.{Row}
 use Rattle.span_types.specs.First.{first_at, lesser, IsFirstOf}
-use Rattle.span_types.specs.FirstLaws.{first_at-append, first_at-firsts}
+use Rattle.span_types.proofs.FirstLaws.{first_at-append, first_at-firsts}
 use Rattle.store_model.specs.History.{History, batch_rows, history_rows, count_of, pushed}
 use Rattle.store_model.proofs.HistoryLaws.{grows, number_of, position_of}
 use Rattle.store_model.specs.RowSets.{Within, SameRows}

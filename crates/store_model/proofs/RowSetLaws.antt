@@ -2,7 +2,7 @@
 use Rattle.std.proofs.lemmas.Map.Lookups.{exact_unsigned}
 use Rattle.std.proofs.lemmas.Cmp.{upto}
 use Rattle.std.specs.Ordering.{is_gt, ordering_reverse}
-use Rattle.span_types.specs.FirstLaws.{has_first}
+use Rattle.span_types.proofs.FirstLaws.{has_first}
 use Rattle.std.proofs.Common.{◌⊎◌, inl, inr, ◌≡◌, ℕ, ◌<◌, zero, suc, List, [], ◌∷◌, Option, None, Some, true, false, refl, sym, ◌∙◌, ap, subst, arith, length, if◌then◌else◌, slice_index_or}
 use Rattle.std.specs.List.{Contains}
 use Rattle.std.specs.declared.cmp.Ordering.{Ordering}
@@ -15,7 +15,7 @@ use Rattle.span_types.specs.declared.spans.Row.{Row}
 use Rattle.span_types.specs.Keys.{row_key}
 use Rattle.span_types.specs.Orders.{key_cmp, place_cmp}
 use Rattle.span_types.specs.First.{lesser, row_at, first_at}
-use Rattle.span_types.specs.FirstLaws.{key_cmp_total, place_cmp_total, key_of_first}
+use Rattle.span_types.proofs.FirstLaws.{key_cmp_total, place_cmp_total, key_of_first}
 use Rattle.store_model.specs.RowSets.{OnePlace, SameRows}
 
 -- ---- what is in a list
