@@ -1,10 +1,11 @@
 pub mod Bytes
 pub mod BytesLaws
+pub mod Counts
 pub mod Crash
 pub mod Files
 pub mod History
+pub mod HistoryLaws
 pub mod Images
-pub mod Laws
 pub mod Memory
 pub mod Picks
 pub mod Script

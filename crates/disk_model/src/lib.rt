@@ -2,17 +2,17 @@
 #![tactic(auto)]
 
 mod change;
-mod device;
 mod disk;
 mod file;
 mod history;
+mod laws;
 mod memory;
 mod picks;
 mod script;
 mod through;
 
-pub use device::Device;
-pub use disk::Disk;
+pub use disk::{Device, Disk};
+pub use laws::other_files_stay;
 pub use memory::MemDisk;
 pub use through::{cut_through, write_through};
 

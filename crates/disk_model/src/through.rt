@@ -2,7 +2,8 @@
 ghost use Rattle.std.specs.Prelude.{◌≡◌, ◌<◌, ◌+◌, ◌^◌, ℕ, List, length, take, IsTrue, OnOk};
 ghost use Rattle.disk_model.specs.Images.{bytes_of, Besides, OnFile};
 ghost use Rattle.disk_model.specs.Bytes.{overwritten, Torn, HalfCut};
-ghost use Rattle.disk_model.specs.Crash.{Follows, Reached, OnlyBytes, LeavesOnly, Passes, HasCause};
+ghost use Rattle.disk_model.specs.Counts.{MakesCalls};
+ghost use Rattle.disk_model.specs.Crash.{Follows, Reached, OnlyBytes, LeavesOnly, RunInFile, HasCause};
 
 use crate::Device;
 use span_types::Failed;
@@ -24,10 +25,11 @@ pub fn write_through<D: Device>(
     ensures crash { Follows (OnFile file (Torn at (length bytes.now))) (D.may_leave disk.old) (D.may_leave disk.new) }
 
     // The same, where it is known what the file's bytes are in each image.
-    ensures passes { (known : List ℕ) → OnlyBytes file known (D.may_leave disk.old) → Passes D.moment D.left_since D.may_leave file (Torn at (length bytes.now) known) (Torn at (length bytes.now) known) disk.old disk.new }
+    ensures passes { (known : List ℕ) → OnlyBytes file known (D.may_leave disk.old) → RunInFile D.moment D.left_since D.may_leave file (Torn at (length bytes.now) known) (Torn at (length bytes.now) known) disk.old disk.new }
 
     ensures telling { D.tells disk.new ≡ D.tells disk.old }
     ensures cause { HasCause (D.faults disk.old) (D.faults disk.new) result }
+    ensures calls { MakesCalls 2 (D.calls disk.old) (D.calls disk.new) result }
     ensures no_read { D.reads disk.new ≡ D.reads disk.old }
 {
     disk.write(file, at, bytes)?;
@@ -45,10 +47,11 @@ pub fn cut_through<D: Device>(disk: &mut D, file: u32, len: u64) -> Result<(), F
     ensures crash { Follows (OnFile file (HalfCut len)) (D.may_leave disk.old) (D.may_leave disk.new) }
 
     // The same, where it is known what the file's bytes are in each image.
-    ensures passes { (known : List ℕ) → OnlyBytes file known (D.may_leave disk.old) → Passes D.moment D.left_since D.may_leave file (HalfCut len known) (HalfCut len known) disk.old disk.new }
+    ensures passes { (known : List ℕ) → OnlyBytes file known (D.may_leave disk.old) → RunInFile D.moment D.left_since D.may_leave file (HalfCut len known) (HalfCut len known) disk.old disk.new }
 
     ensures telling { D.tells disk.new ≡ D.tells disk.old }
     ensures cause { HasCause (D.faults disk.old) (D.faults disk.new) result }
+    ensures calls { MakesCalls 2 (D.calls disk.old) (D.calls disk.new) result }
     ensures no_read { D.reads disk.new ≡ D.reads disk.old }
 {
     disk.cut(file, len)?;
