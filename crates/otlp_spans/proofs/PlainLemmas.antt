@@ -1,7 +1,7 @@
 -- What is written for a trace has no float and nests few levels deep, so its text reads back.
 use Rattle.std.proofs.Common.{◌≡◌, ℕ, suc, ◌≤◌, false, List, [], ◌∷◌, map, Some, refl, ap, ◌∙◌, arith}
 use Rattle.std.specs.Str.{IsUtf8}
-use Rattle.serde_json.specs.Data.{Data, Members, boolean, depth, items_depth, member, members_depth, no_members, number, object, string, unsigned}
+use Rattle.serde_json.specs.Data.{Data, Members, depth, items_depth, member, members_depth, no_members, number, object, string, unsigned}
 use Rattle.serde_json.specs.Read.{max_depth, read}
 use Rattle.serde_json.specs.View.{items_of}
 use Rattle.serde_json.specs.Written.{compact_text, has_float, items_have_float, members_have_float}

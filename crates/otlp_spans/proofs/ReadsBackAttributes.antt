@@ -1,7 +1,7 @@
 -- What is written for attributes reads back, and no part of it has a wrong form.
-use Rattle.std.proofs.Common.{◌≡◌, ℕ, List, [], ◌∷◌, ◌++◌, All, map, Some, None, refl, ap, ◌∙◌}
+use Rattle.std.proofs.Common.{◌≡◌, ℕ, List, [], ◌∷◌, ◌++◌, map, Some, None, refl, ap, ◌∙◌}
 use Rattle.std.proofs.lemmas.List.Elements.{recursion_from_All}
-use Rattle.std.specs.List.{AllByRecursion, filter_map}
+use Rattle.std.specs.List.{filter_map}
 use Rattle.serde_json.specs.Data.{Data}
 use Rattle.span_types.specs.declared.attrs.Attr.{Attr}
 use Rattle.span_types.specs.declared.attrs.AttrValue.{AttrValue}

@@ -1,5 +1,5 @@
 -- What is written for runs of spans and for a whole trace reads back.
-use Rattle.std.proofs.Common.{◌≡◌, ℕ, Bool, true, ◌+◌, ◌-◌, ◌≤◌, leb, List, [], ◌∷◌, length, map, Some, None, Ok, refl, sym, ap, ap₂, ◌∙◌, arith, le-leb}
+use Rattle.std.proofs.Common.{◌≡◌, ℕ, Bool, true, ◌+◌, ◌-◌, ◌≤◌, leb, List, length, map, Some, None, Ok, refl, sym, ap, ap₂, ◌∙◌, arith, le-leb}
 use Rattle.std.specs.List.{AllByRecursion, filter_map}
 use Rattle.std.proofs.lemmas.List.Elements.{recursion_from_All}
 use Rattle.serde_json.specs.Data.{Data}
