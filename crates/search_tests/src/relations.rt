@@ -101,7 +101,11 @@ fn marks_of(alloc: Global, results: &Results, count: usize) -> Result<String, Al
     let mut marks = String::new(alloc);
     let mut id = 1u8;
     for _ in 0..count {
-        marks.push_str(if ids.as_slice().contains(&id) { "1" } else { "0" })?;
+        marks.push_str(if ids.as_slice().contains(&id) {
+            "1"
+        } else {
+            "0"
+        })?;
         id = id.saturating_add(1);
     }
     Ok(marks)
