@@ -2,7 +2,10 @@
 ghost use Rattle.std.specs.Prelude.{◌≡◌, IfOk};
 ghost use Rattle.block_list.specs.Body.{MeetsRules};
 
-use crate::*;
+use block_list::{
+    BlockList, BlockRef, FileList, ListBody, ListError, SegmentList, SegmentRef, commit, load,
+    next_generation, prepare,
+};
 use disk_model::{Device, MemDisk, write_through};
 use span_types::Calls;
 use std::alloc::{AllocError, Global};
