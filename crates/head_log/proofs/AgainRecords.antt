@@ -7,14 +7,15 @@ use Rattle.span_types.specs.declared.spans.Span.{Span}
 use Rattle.byte_fields.specs.Spelling.{fixed64_bytes}
 use Rattle.byte_fields.specs.Reading.{Stand, left, AreBytes, IsWithin, ahead, byte_at, fixed64_at}
 use Rattle.head_log.specs.declared.numbered.NumberedBatch.{NumberedBatch}
-use Rattle.head_log.specs.Breaks.{in_part}
+use Rattle.span_fields.specs.Breaks.{in_part}
 use Rattle.head_log.specs.Bodies.{body_bytes}
 use Rattle.head_log.specs.Records.{record_bytes, written, IsShort}
 use Rattle.head_log.specs.Stands.{IsBody, AreBodies, StandsFor}
 use Rattle.head_log.specs.Scanning.{body_in, record_at, numbered, more_at, records_at, segment_at}
 use Rattle.head_log.specs.Entries.{entries}
-use Rattle.head_log.proofs.ReadingLoops.{read_to}
-use Rattle.head_log.proofs.Again.{seq, one_byte, IsAny, IsBelow64, again_byte, again_fixed64}
+use Rattle.span_fields.specs.Sound.{IsAny, IsBelow64}
+use Rattle.span_fields.specs.Laws.{read_to}
+use Rattle.span_fields.proofs.Again.{seq, one_byte, again_byte, again_fixed64}
 use Rattle.head_log.proofs.AgainRuns.{body_again}
 
 -- ---- a body in its part of the file
@@ -52,12 +53,12 @@ record_again number spans body s is rest of short e =
 
 -- ---- records
 
-behind_gate : (most number : ℕ) (before : List NumberedBatch) (spans : List Span) (body more : List ℕ) (s : Stand) → IsWithin s.whole s.at → (rest : List ℕ) (y : List NumberedBatch) → IsBody number spans body → IsShort body
+after_gate : (most number : ℕ) (before : List NumberedBatch) (spans : List Span) (body more : List ℕ) (s : Stand) → IsWithin s.whole s.at → (rest : List ℕ) (y : List NumberedBatch) → IsBody number spans body → IsShort body
     → left s ≡ (record_bytes body ++ more) ++ rest
     → ((t : Stand) → IsWithin t.whole t.at → left t ≡ more ++ rest → records_at most (number + 1) (before ++ numbered number spans ∷ []) t ≡ read_to y (ahead (length more) t))
     → records_at (suc most) number before s ≡ read_to y (ahead (length (record_bytes body ++ more)) s)
 unfolding records_at more_at record_bytes
-behind_gate most number before spans body more s is rest y of short e next =
+after_gate most number before spans body more s is rest y of short e next =
     let text = fixed64_bytes (length body) ++ body in
     seq (in_part false byte_at) one_byte IsAny (λ gate. cond (eqb gate.0 1) (more_at (records_at most) number before gate.1) (Ok (before, s))) (again_byte false) s is 1 (text ++ more) rest y tt e
     (λ t u f. seq (record_at number) (λ _. text) (λ x. x ≡ spans) (λ x. records_at most (number + 1) (before ++ numbered number x.0 ∷ []) x.1)
@@ -77,7 +78,7 @@ records_again [] [] (suc most) number before s is shut rest are short closed few
 records_again [] (b ∷ batches) (suc most) number before s is shut rest are short closed few e = absurd are
 records_again (body ∷ bodies) [] (suc most) number before s is shut rest are short closed few e = absurd are
 records_again (body ∷ bodies) (b ∷ batches) (suc most) number before s is shut rest are short closed few e =
-    behind_gate most number before b body (flat_map record_bytes bodies) s is (shut ∷ rest) (before ++ entries number (b ∷ batches)) are.0 short.0 e
+    after_gate most number before b body (flat_map record_bytes bodies) s is (shut ∷ rest) (before ++ entries number (b ∷ batches)) are.0 short.0 e
     (λ t u f. records_again bodies batches most (number + 1) (before ++ numbered number b ∷ []) t u shut rest are.1 short.1 closed (omega arith) f
     ∙ ap (λ (l : List NumberedBatch). read_to l (ahead (length (flat_map record_bytes bodies)) t)) (append_assoc before (numbered number b ∷ []) (entries (number + 1) batches)))
 

@@ -148,10 +148,6 @@ pub on_ok_both : {T E : Type 0} (r : Result T E) (A B C : Type 0) → OnOk r A �
 on_ok_both (Ok x) A B C a b join = join a b
 on_ok_both (Err e) A B C a b join = tt
 
-pub on_ok_more : {T E : Type 0} (r : Result T E) (A B : Type 0) → OnOk r A → (A → B) → OnOk r B
-on_ok_more (Ok x) A B a more = more a
-on_ok_more (Err e) A B a more = tt
-
 -- the length, the body and the next gate
 pub framed_size : (body : List ℕ) → length (framed body) ≡ 9 + length body
 unfolding framed

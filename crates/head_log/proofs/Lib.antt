@@ -1,15 +1,13 @@
 pub mod Appending
 pub mod Standing
 pub mod FramingLemmas
-pub mod BreakLemmas
 pub mod ReadingLoops
 pub mod FileReading
-pub mod Again
+pub mod AgainSpan
 pub mod RunLaws
 pub mod AgainRuns
 pub mod AgainRecords
-pub mod Meant
+pub mod MeantSpan
 pub mod MeantRuns
 pub mod MeantRecords
 pub mod Promised
-pub mod Distinct

@@ -4,12 +4,14 @@ use Rattle.std.specs.List.{flat_map, AllByRecursion}
 use Rattle.std.proofs.lemmas.Bool.{and_parts, eqb-true, eqb-false, leb-true}
 use Rattle.std.proofs.lemmas.List.{append-nil, length-append, length-drop, length-take, drop-take, take-append-drop}
 use Rattle.std.proofs.lemmas.List.Elements.{All-from_recursion}
+use Rattle.span_types.specs.declared.limits.TheConstants.{MOST_SPANS}
 use Rattle.span_types.specs.declared.spans.Span.{Span}
 use Rattle.byte_fields.specs.Spelling.{fixed64_bytes}
 use Rattle.byte_fields.specs.Reading.{Stand, left, AreBytes, IsWithin, ahead, byte_at, fixed64_at}
 use Rattle.byte_fields.proofs.FieldLaws.{passes}
 use Rattle.head_log.specs.declared.numbered.NumberedBatch.{NumberedBatch}
-use Rattle.head_log.specs.Breaks.{in_part}
+use Rattle.span_fields.specs.Breaks.{in_part}
+use Rattle.span_fields.specs.Laws.{Took}
 use Rattle.head_log.specs.Bodies.{body_bytes}
 use Rattle.head_log.specs.Records.{record_bytes, written, IsShort}
 use Rattle.head_log.specs.Sound.{IsSoundBatch}
@@ -17,7 +19,7 @@ use Rattle.head_log.specs.Stands.{IsBody, AreBodies, StandsFor}
 use Rattle.head_log.specs.Scanning.{body_at, body_in, record_at, numbered, more_at, records_at, segment_at}
 use Rattle.head_log.specs.Entries.{entries}
 use Rattle.head_log.proofs.AgainRecords.{part_within}
-use Rattle.head_log.proofs.Meant.{bound, same_pair, kept_then, chosen, Took, took, took_none, took_then, meant_byte, meant_fixed64}
+use Rattle.span_fields.proofs.Meant.{bound, same_pair, kept_then, chosen, took, took_none, took_then, meant_byte, meant_fixed64}
 use Rattle.head_log.proofs.MeantRuns.{meant_body}
 
 -- ---- a body in its part of the file
@@ -81,7 +83,7 @@ record_means number s is spans t e =
     let len = meant_fixed64 false s is a.value.0 a.value.1 a.first in
     let found = body_in_means number a.value.0 a.value.1 len.bytes.within spans t a.last in
     let own : Took (fixed64_bytes (length found.body)) s a.value.1 = subst (λ (n : ℕ). Took (fixed64_bytes n) s a.value.1) (sym found.size) len.bytes in
-    record { body = found.body; of = found.of; short = omega (arith, len.fits, found.size); bytes = took_then (fixed64_bytes (length found.body)) found.body s a.value.1 t own found.bytes }
+    record { body = found.body; of = found.of; short = omega (arith, len.fits, found.size); bytes = took_then own found.bytes }
 
 -- ---- records
 
@@ -111,14 +113,14 @@ records_mean (suc most) number before s is all t e =
           let one = record_means number u byte.bytes.within b.value.0 b.value.1 b.first in
           let rest = records_mean most (number + 1) (before ++ numbered number b.value.0 ∷ []) b.value.1 one.bytes.within all t b.last in
           let opened : Took (1 ∷ []) s u = subst (λ (n : ℕ). Took (n ∷ []) s u) (eqb-true gate 1 h.0) byte.bytes in
-          let whole : Took (record_bytes one.body) s b.value.1 = took_then (1 ∷ []) (fixed64_bytes (length one.body) ++ one.body) s u b.value.1 opened one.bytes in
+          let whole : Took (record_bytes one.body) s b.value.1 = took_then opened one.bytes in
           record {
             batches = b.value.0 ∷ rest.batches;
             bodies = one.body ∷ rest.bodies;
             is = rest.is ∙ append_assoc before (numbered number b.value.0 ∷ []) (entries (number + 1) rest.batches);
             numbered_so = (one.of, rest.numbered_so);
             short = (one.short, rest.short);
-            bytes = took_then (record_bytes one.body) (flat_map record_bytes rest.bodies) s b.value.1 t whole rest.bytes;
+            bytes = took_then whole rest.bytes;
             shut = rest.shut;
             rest = rest.rest;
             closed = rest.closed;
@@ -152,7 +154,7 @@ segment_means first bytes found end fit e =
     let kept = kept_then (eqb a.value.0 1) 0 (records_at (length bytes) first [] a.value.1) (found, end) a.last in
     let one : Took (1 ∷ []) s a.value.1 = subst (λ (n : ℕ). Took (n ∷ []) s a.value.1) (eqb-true a.value.0 1 kept.0) version.bytes in
     let records = records_mean (length bytes) first [] a.value.1 version.bytes.within found end kept.1 in
-    let whole : Took (written records.bodies) s end = took_then (1 ∷ []) (flat_map record_bytes records.bodies) s a.value.1 end one records.bytes in
+    let whole : Took (written records.bodies) s end = took_then one records.bytes in
     let place : end.at ≡ 0 + length (written records.bodies) = ap (λ (x : Stand). x.at) whole.passed.place in (
       records.batches,
       records.is,
@@ -171,7 +173,7 @@ segment_means first bytes found end fit e =
     )
 
 -- a record that is read has few spans
-pub record_few : (number : ℕ) (s : Stand) → IsWithin s.whole s.at → (spans : List Span) (t : Stand) → record_at number s ≡ Ok (spans, t) → length spans ≤ 16384
+pub record_few : (number : ℕ) (s : Stand) → IsWithin s.whole s.at → (spans : List Span) (t : Stand) → record_at number s ≡ Ok (spans, t) → length spans ≤ MOST_SPANS
 record_few number s is spans t e = (record_means number s is spans t e).of.sound.few
 
 -- the numbers of batches that are read are below the limit

@@ -1,9 +1,11 @@
 -- The body of a record: a batch's number and its spans, in runs of equal resources and of equal scopes.
-use Rattle.std.specs.Prelude.{ℕ, ◌+◌, ◌^◌, ◌==◌, ◌||◌, Bool, true, false, not, List, [], ◌∷◌, ◌++◌, length, if◌then◌else◌}
+use Rattle.std.specs.Prelude.{ℕ, ◌+◌, ◌%◌, ◌^◌, ◌==◌, ◌||◌, Bool, true, false, not, List, [], ◌∷◌, ◌++◌, length, if◌then◌else◌}
 use Rattle.std.specs.List.{list_any}
 use Rattle.span_types.specs.declared.attrs.Resource.{Resource}
 use Rattle.span_types.specs.declared.attrs.Scope.{Scope}
 use Rattle.span_types.specs.declared.spans.Span.{Span}
+use Rattle.span_types.specs.declared.spans.SpanEvent.{SpanEvent}
+use Rattle.span_types.specs.declared.spans.SpanLink.{SpanLink}
 use Rattle.span_runs.specs.Runs.{runs}
 use Rattle.span_runs.specs.Same.{of_one_resource, of_one_scope}
 use Rattle.byte_fields.specs.Spelling.{fixed64_bytes, text_bytes}
@@ -24,21 +26,21 @@ are_extended spans = list_any is_extended spans
 
 -- the first field of a body: its number, and in the highest byte its form, which is 1 where spans are extended and else 0
 abbrev pub first_field : Bool → ℕ → ℕ
-first_field extended number = if extended then number + 2 ^ 56 else number
+first_field extended number = if extended then number % 2 ^ 56 + 2 ^ 56 else number
 
 -- ---- spans
 
 -- the events and the links, which only the extended form has
-abbrev pub extras_bytes : Bool → Span → List ℕ
-extras_bytes true span = list_bytes event_bytes span.events ++ list_bytes link_bytes span.links
-extras_bytes false span = []
+abbrev pub extras_bytes : Bool → List SpanEvent → List SpanLink → List ℕ
+extras_bytes true events links = list_bytes event_bytes events ++ list_bytes link_bytes links
+extras_bytes false events links = []
 
 -- a span without its resource and its scope
 unfoldable pub span_bytes : Bool → Span → List ℕ
 span_bytes extended span =
     trace_bytes span.trace ++ (id_bytes span.id ++ (parent_bytes span.parent ++ (text_bytes span.name ++ (kind_bytes span.kind
     ++ (fixed64_bytes span.start ++ (fixed64_bytes span.«end» ++ (status_bytes span.status ++ (text_bytes span.message
-    ++ (attrs_bytes span.attrs ++ extras_bytes extended span)))))))))
+    ++ (attrs_bytes span.attrs ++ extras_bytes extended span.events span.links)))))))))
 
 -- ---- runs
 

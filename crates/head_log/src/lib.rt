@@ -2,7 +2,6 @@
 #![tactic(auto)]
 
 mod bodies;
-mod breaks;
 mod laws;
 mod numbered;
 mod prepared;

@@ -9,11 +9,11 @@ ghost use Rattle.head_log.specs.Outcomes.{IsAt, Scans, Recalls, CausesFault};
 ghost use Rattle.head_log.specs.Stands.{StandsFor};
 ghost use Rattle.head_log.specs.Blocks.{CausesUnread, Untouched};
 
-use crate::breaks::Break;
 use crate::numbered::Numbered;
 use crate::records::read_segment;
 use crate::segment::Segment;
 use disk_model::Device;
+use span_fields::Break;
 use span_types::Failed;
 use std::alloc::{AllocError, Global};
 use thiserror::Error;
@@ -124,7 +124,7 @@ fn read_file<D: Device>(alloc: Global, disk: &mut D, file: u32) -> Result<Vec<u8
     Err(Unread::Memory)
 }
 
-/// Reads the bytes behind those that were read, as many as the block holds, and answers how many they are.
+/// Reads the bytes after those that were read, as many as the block holds, and answers how many they are.
 fn read_more<D: Device>(
     disk: &mut D,
     file: u32,

@@ -1,6 +1,6 @@
 //! A batch as the body of a record.
 
-ghost use Rattle.std.specs.Prelude.{◌≡◌, ◌<◌, ◌≤◌, ◌^◌, ◌++◌, All, length, OnOk};
+ghost use Rattle.std.specs.Prelude.{◌≡◌, ◌<◌, ◌++◌, All, length, OnOk};
 ghost use Rattle.std.specs.List.{flat_map};
 ghost use Rattle.span_runs.specs.Runs.{as_run, runs};
 ghost use Rattle.span_runs.specs.Same.{of_one_resource, of_one_scope};
@@ -19,7 +19,6 @@ use span_types::{Memory, Scope, Span};
 /// Adds a body: the number with the form that the spans need, and the spans in runs of equal resources.
 #[tactic(auto, unfolding(crate::specs::Bodies::body_bytes))]
 pub fn put_body(out: &mut Writer, number: u64, spans: &[Span]) -> Result<(), Memory>
-    requires { number < 4294967295 }
     ensures written { OnOk result (out.new ≡ out.old ++ body_bytes number spans.now) }
     ensures sound { OnOk result (All (IsSoundResourceRun (are_extended spans.now)) (runs of_one_resource spans.now)) }
 {
@@ -44,10 +43,9 @@ fn is_extended(span: &Span) -> bool
 
 /// The first field of a body.
 fn first_field(extended: bool, number: u64) -> u64
-    requires { number < 4294967295 }
     ensures { result ≡ first_field extended number }
 {
-    if extended { number + EXTENDED } else { number }
+    if extended { number % EXTENDED + EXTENDED } else { number }
 }
 
 /// Adds spans in runs of equal resources, after the count of these.
@@ -181,7 +179,7 @@ fn put_span(out: &mut Writer, extended: bool, span: &Span) -> Result<(), Memory>
 
 /// Adds the events and the links, where the body is to have them.
 fn put_extras(out: &mut Writer, extended: bool, span: &Span) -> Result<(), Memory>
-    ensures written { OnOk result (out.new ≡ out.old ++ extras_bytes extended span.now) }
+    ensures written { OnOk result (out.new ≡ out.old ++ extras_bytes extended span.now.events span.now.links) }
     ensures sound { OnOk result (AreSoundExtras extended span.now) }
 {
     if extended {

@@ -4,3 +4,4 @@ pub mod Again
 pub mod Meant
 pub mod Distinct
 pub mod Results
+pub mod Promised

@@ -83,8 +83,8 @@ took_none s within =
     let none : s.at ≡ s.at + 0 = omega arith in
     record { passed = record { spelled = refl; place = ap (λ (n : ℕ). record { whole = s.whole; at = n }) none }; within = within }
 
-pub took_then : (a b : List ℕ) (s t u : Stand) → Took a s t → Took b t u → Took (a ++ b) s u
-took_then a b s t u p q = record { passed = Passes-then a b s t u p.passed q.passed; within = q.within }
+pub took_then : {a b : List ℕ} {s t u : Stand} → Took a s t → Took b t u → Took (a ++ b) s u
+took_then {a} {b} {s} {t} {u} p q = record { passed = Passes-then a b s t u p.passed q.passed; within = q.within }
 
 -- the same, where what was read is another name of the value
 pub renamed : {A : Type 0} (encode : A → List ℕ) (Fits : A → Type 0) (s : Stand) (x y : A) (t u : Stand) → x ≡ y → t ≡ u → Got encode Fits s x t → Got encode Fits s y u
@@ -208,7 +208,7 @@ text_value within s u v t kind e =
     let a = bound (in_part within text_at u) (λ text. Ok (Text text.0, text.1)) (v, t) e in
     let text = meant_text within u kind.within a.value.0 a.value.1 a.first in
     let same = same_pair (Text a.value.0) v a.value.1 t a.last in
-    renamed value_bytes IsSoundValue s (Text a.value.0) v a.value.1 t same.0 same.1 (record { bytes = took_then (0 ∷ []) (text_bytes a.value.0) s u a.value.1 kind text.bytes; fits = text.fits })
+    renamed value_bytes IsSoundValue s (Text a.value.0) v a.value.1 t same.0 same.1 (record { bytes = took_then kind text.bytes; fits = text.fits })
 
 whole_value : (within : Bool) (s u : Stand) (v : AttrValue) (t : Stand) → Took (1 ∷ []) s u → whole_value_at within u ≡ Ok (v, t) → Got value_bytes IsSoundValue s v t
 unfolding whole_value_at value_bytes
@@ -216,7 +216,7 @@ whole_value within s u v t kind e =
     let a = bound (in_part within zigzag_at u) (λ number. Ok (Whole number.0, number.1)) (v, t) e in
     let number = meant_zigzag within u kind.within a.value.0 a.value.1 a.first in
     let same = same_pair (Whole a.value.0) v a.value.1 t a.last in
-    renamed value_bytes IsSoundValue s (Whole a.value.0) v a.value.1 t same.0 same.1 (record { bytes = took_then (1 ∷ []) (zigzag_bytes a.value.0) s u a.value.1 kind number.bytes; fits = number.fits })
+    renamed value_bytes IsSoundValue s (Whole a.value.0) v a.value.1 t same.0 same.1 (record { bytes = took_then kind number.bytes; fits = number.fits })
 
 truth_value : (within : Bool) (s u : Stand) (v : AttrValue) (t : Stand) → Took (2 ∷ []) s u → truth_value_at within u ≡ Ok (v, t) → Got value_bytes IsSoundValue s v t
 unfolding truth_value_at value_bytes
@@ -224,7 +224,7 @@ truth_value within s u v t kind e =
     let a = bound (truth_at within u) (λ truth. Ok (Truth truth.0, truth.1)) (v, t) e in
     let truth = meant_truth within u kind.within a.value.0 a.value.1 a.first in
     let same = same_pair (Truth a.value.0) v a.value.1 t a.last in
-    renamed value_bytes IsSoundValue s (Truth a.value.0) v a.value.1 t same.0 same.1 (record { bytes = took_then (2 ∷ []) (truth_bytes a.value.0) s u a.value.1 kind truth.bytes; fits = tt })
+    renamed value_bytes IsSoundValue s (Truth a.value.0) v a.value.1 t same.0 same.1 (record { bytes = took_then kind truth.bytes; fits = tt })
 
 pub meant_value : (within : Bool) → ReadIsEncoded (value_at within) value_bytes IsSoundValue
 unfolding value_at
@@ -255,7 +255,7 @@ meant_attr within before s is attr t e =
     let found : Attr = record { key = a.value.0; value = b.value.0 } in
     let same = same_pair found attr b.value.1 t b.last in
     renamed attr_bytes (IsNext before) s found attr b.value.1 t same.0 same.1
-    (record { bytes = took_then (text_bytes a.value.0) (value_bytes b.value.0) s a.value.1 b.value.1 key.bytes value.bytes; fits = (record { key = key.fits; value = value.fits }, fresh.0) })
+    (record { bytes = took_then key.bytes value.bytes; fits = (record { key = key.fits; value = value.fits }, fresh.0) })
 
 -- ---- lists
 
@@ -282,7 +282,7 @@ items_mean {A} read encode Good step (suc count) before s is all t e =
       more = x ∷ rest.more;
       is = rest.is ∙ append_assoc before (x ∷ []) rest.more;
       size = ap suc rest.size;
-      bytes = took_then (encode x) (flat_map encode rest.more) s a.value.1 t one.bytes rest.bytes;
+      bytes = took_then one.bytes rest.bytes;
       good = (one.fits, rest.good);
     }
 
@@ -295,7 +295,7 @@ list_meant {A} within read encode Good meant s is xs t e =
     let items = items_mean read encode Good meant n [] u count.bytes.within xs t later in
     let number : Took (var_bytes (length items.more)) s u = subst (λ (k : ℕ). Took (var_bytes k) s u) (sym items.size) count.bytes in
     renamed (λ (l : List A). var_bytes (length l) ++ flat_map encode l) (IsGoodList Good) s items.more xs t t (sym items.is) refl
-    (record { bytes = took_then (var_bytes (length items.more)) (flat_map encode items.more) s u t number items.bytes; fits = (items.good, omega (arith, count.fits, items.size)) }))
+    (record { bytes = took_then number items.bytes; fits = (items.good, omega (arith, count.fits, items.size)) }))
 
 pub each_item : {A : Type 0} (P : A → Type 0) (before xs : List A) → AllItems (λ _. P) before xs → AllByRecursion P xs
 each_item P before [] all = tt
@@ -361,7 +361,7 @@ some_parent within s u x t kind e =
     let a = bound (span_id_at within u) (λ id. Ok (Some id.0, id.1)) (x, t) e in
     let id = meant_span_id within u kind.within a.value.0 a.value.1 a.first in
     let same = same_pair (Some a.value.0) x a.value.1 t a.last in
-    renamed parent_bytes IsParent s (Some a.value.0) x a.value.1 t same.0 same.1 (record { bytes = took_then (1 ∷ []) a.value.0.0 s u a.value.1 kind id.bytes; fits = id.fits })
+    renamed parent_bytes IsParent s (Some a.value.0) x a.value.1 t same.0 same.1 (record { bytes = took_then kind id.bytes; fits = id.fits })
 
 pub meant_parent : (within : Bool) → ReadIsEncoded (parent_at within) parent_bytes IsParent
 unfolding parent_at
@@ -443,7 +443,7 @@ meant_event within s is event t e =
     let same = same_pair found event c t ec in
     renamed event_bytes IsSoundEvent s found event c t same.0 same.1
     (record {
-      bytes = took_then (fixed64_bytes time) (text_bytes name ++ attrs_bytes attrs) s a c on_time.bytes (took_then (text_bytes name) (attrs_bytes attrs) a b c on_name.bytes on_attrs.bytes);
+      bytes = took_then on_time.bytes (took_then on_name.bytes on_attrs.bytes);
       fits = record { time = on_time.fits; name = on_name.fits; attrs = on_attrs.fits };
     }))))
 
@@ -458,6 +458,6 @@ meant_link within s is link t e =
     let same = same_pair found link c t ec in
     renamed link_bytes IsSoundLink s found link c t same.0 same.1
     (record {
-      bytes = took_then (trace_bytes trace) (id_bytes span ++ attrs_bytes attrs) s a c on_trace.bytes (took_then (id_bytes span) (attrs_bytes attrs) a b c on_span.bytes on_attrs.bytes);
+      bytes = took_then on_trace.bytes (took_then on_span.bytes on_attrs.bytes);
       fits = record { trace = on_trace.fits; span = on_span.fits; attrs = on_attrs.fits };
     }))))

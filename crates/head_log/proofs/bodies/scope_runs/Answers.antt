@@ -6,10 +6,10 @@ use Rattle.head_log.proofs.bodies.scope_runs.Goals as goal
 pub returns-in_err-scope_run : goal.returns-in_err-scope_run
 returns-in_err-scope_run c =
     let p = err_from_is_err_and c.from_residual.result c.from_residual.ensures.1 in
-    rw (p.1, p.2) (runs_fail c.in_err-scope_run.field-0.0 (scope_run_at c.args.within c.args.resource.now) c.args.count c.loop-index.index c.loop-index.spans.items c.loop-index.reader _ c.loop-index-test.true c.in_err-scope_run.ensures c.loop-index.invariant)
+    rw (p.1, p.2) (runs_fail c.in_err-scope_run.field-0.0 (scope_run_at c.args.part c.args.resource.now) c.args.count c.loop-index.index c.loop-index.spans.items c.loop-index.reader _ c.loop-index-test.true c.in_err-scope_run.ensures c.loop-index.invariant)
 
 pub loop-index-preserved : goal.loop-index-preserved
-loop-index-preserved c = runs_go_on (scope_run_at c.args.within c.args.resource.now) c.args.count c.loop-index.index c.loop-index.spans.items _ c.loop-index.reader _ _ c.loop-index-test.true c.in_ok-scope_run.ensures c.loop-index.invariant
+loop-index-preserved c = runs_go_on (scope_run_at c.args.part c.args.resource.now) c.args.count c.loop-index.index c.loop-index.spans.items _ c.loop-index.reader _ _ c.loop-index-test.true c.in_ok-scope_run.ensures c.loop-index.invariant
 
 pub returns : goal.returns
-returns c = runs_done (scope_run_at c.args.within c.args.resource.now) c.args.count c.loop-index.index c.loop-index.spans.items c.loop-index.reader _ c.loop-index-test.false c.loop-index.invariant
+returns c = runs_done (scope_run_at c.args.part c.args.resource.now) c.args.count c.loop-index.index c.loop-index.spans.items c.loop-index.reader _ c.loop-index-test.false c.loop-index.invariant

@@ -9,8 +9,8 @@ use Rattle.head_log.proofs.writing.put_resource_runs.Given as goal
 -- What is written stands before the runs that are left. All runs are sound where those are.
 abbrev pub invariant-loop-rest : goal.invariant-loop-rest
 invariant-loop-rest l =
-    (l.fn.out ++ flat_map resource_run_bytes (runs of_one_resource l.spans) ≡ l.out ++ flat_map resource_run_bytes (runs of_one_resource l.rest))
-    × (All IsSoundResourceRun (runs of_one_resource l.rest) → All IsSoundResourceRun (runs of_one_resource l.spans))
+    (l.fn.out ++ flat_map (resource_run_bytes l.extended) (runs of_one_resource l.spans) ≡ l.out ++ flat_map (resource_run_bytes l.extended) (runs of_one_resource l.rest))
+    × (All (IsSoundResourceRun l.extended) (runs of_one_resource l.rest) → All (IsSoundResourceRun l.extended) (runs of_one_resource l.spans))
 
 abbrev pub decreases-loop-rest : goal.decreases-loop-rest
 decreases-loop-rest l = length l.rest

@@ -9,8 +9,8 @@ use Rattle.head_log.proofs.writing.put_scope_runs.Given as goal
 -- What is written stands before the runs that are left. All runs are sound where those are.
 abbrev pub invariant-loop-rest : goal.invariant-loop-rest
 invariant-loop-rest l =
-    (l.fn.out ++ flat_map scope_run_bytes (runs of_one_scope l.spans) ≡ l.out ++ flat_map scope_run_bytes (runs of_one_scope l.rest))
-    × (All IsSoundScopeRun (runs of_one_scope l.rest) → All IsSoundScopeRun (runs of_one_scope l.spans))
+    (l.fn.out ++ flat_map (scope_run_bytes l.extended) (runs of_one_scope l.spans) ≡ l.out ++ flat_map (scope_run_bytes l.extended) (runs of_one_scope l.rest))
+    × (All (IsSoundScopeRun l.extended) (runs of_one_scope l.rest) → All (IsSoundScopeRun l.extended) (runs of_one_scope l.spans))
 
 abbrev pub decreases-loop-rest : goal.decreases-loop-rest
 decreases-loop-rest l = length l.rest

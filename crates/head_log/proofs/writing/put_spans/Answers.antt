@@ -8,6 +8,6 @@ use Rattle.head_log.proofs.writing.put_spans.Goals as goal
 pub loop-span-preserved : goal.loop-span-preserved
 loop-span-preserved c = (
   grind (arith, common_steps),
-  All-more IsSoundAlone c.args.spans.now c.loop-span.span-index c.span-item.result (omega arith) c.loop-span.invariant.1
-      (subst (λ (span : Span). IsSoundAlone span) c.span-item.is c.in_ok-put_span.ensures.sound),
+  All-more (IsSoundAlone c.args.extended) c.args.spans.now c.loop-span.span-index c.span-item.result (omega arith) c.loop-span.invariant.1
+      (subst (λ (span : Span). IsSoundAlone c.args.extended span) c.span-item.is c.in_ok-put_span.ensures.sound),
 )

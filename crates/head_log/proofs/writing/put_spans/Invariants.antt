@@ -5,4 +5,4 @@ use Rattle.head_log.specs.Written.{IsSoundAlone}
 use Rattle.head_log.proofs.writing.put_spans.Given as goal
 
 abbrev pub invariant-loop-span : goal.invariant-loop-span
-invariant-loop-span l = (l.out ≡ l.fn.out ++ flat_map span_bytes (take l.span-index l.spans)) × All IsSoundAlone (take l.span-index l.spans)
+invariant-loop-span l = (l.out ≡ l.fn.out ++ flat_map (span_bytes l.extended) (take l.span-index l.spans)) × All (IsSoundAlone l.extended) (take l.span-index l.spans)

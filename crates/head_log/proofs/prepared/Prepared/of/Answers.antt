@@ -4,7 +4,7 @@ use Rattle.span_types.specs.declared.spans.Span.{Span}
 use Rattle.span_runs.specs.Runs.{runs}
 use Rattle.span_runs.specs.Same.{of_one_resource}
 use Rattle.byte_fields.specs.Spelling.{fixed64_bytes}
-use Rattle.head_log.specs.Bodies.{body_bytes}
+use Rattle.head_log.specs.Bodies.{are_extended, body_bytes}
 use Rattle.head_log.specs.Framing.{body_of}
 use Rattle.head_log.specs.Records.{framed}
 use Rattle.head_log.specs.Stands.{IsBody}
@@ -34,7 +34,7 @@ returns-clause-spelled c =
 -- The batch's type promises how many spans it has, and what was written what the types of the spans promise.
 pub returns-clause-body : goal.returns-clause-body
 returns-clause-body c = λ below.
-    let runs_are = subst (λ (l : List Span). All IsSoundResourceRun (runs of_one_resource l)) c.as_slice.ensures c.in_ok-put_body.ensures.sound in
+    let runs_are = subst (λ (l : List Span). All (IsSoundResourceRun (are_extended l)) (runs of_one_resource l)) c.as_slice.ensures c.in_ok-put_body.ensures.sound in
     subst (λ (b : Batch). IsBody c.args.number b.spans (body_of c.set_length.new.text.items)) c.batch.view_is
     (record {
       spelled = body_is _ c.set_length.new.text.items (made c);
