@@ -3,7 +3,7 @@ ghost use Rattle.std.specs.Prelude.{◌≡◌, IfOk};
 ghost use Rattle.block_list.specs.Body.{MeetsRules};
 
 use crate::*;
-use disk_model::{Disk, MemDisk, write_through};
+use disk_model::{Device, MemDisk, write_through};
 use span_types::Calls;
 use std::alloc::{AllocError, Global};
 use std::test::Fail;

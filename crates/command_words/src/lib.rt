@@ -10,6 +10,3 @@ mod read;
 pub use asked::{Asked, WordsError};
 pub use line::search_line;
 pub use read::read_words;
-
-#[cfg(test)]
-mod tests;

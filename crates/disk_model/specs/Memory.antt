@@ -23,7 +23,10 @@ faults_of disk = disk.faults
 abbrev pub starved_of : MemDisk → ℕ
 starved_of disk = disk.starved
 
--- how many calls of `read` were made
+-- how many calls of the device were made, and how many of `read`
+abbrev pub calls_of : MemDisk → ℕ
+calls_of disk = disk.calls
+
 abbrev pub reads_of : MemDisk → ℕ
 reads_of disk = disk.reads
 
@@ -35,47 +38,36 @@ fresh image = record {
   faults = 0;
   starved = 0;
   reads = 0;
+  calls = 0;
 }
 
 -- the disk after a call that passed
 abbrev pub passed : MemDisk → MemDisk
-passed disk = record { history = disk.history; script = counted disk.script; faults = disk.faults; starved = disk.starved; reads = disk.reads }
+passed disk = record disk { script = counted disk.script; calls = raised disk.calls }
 
 -- the disk after a call that failed
 abbrev pub failed : MemDisk → MemDisk
-failed disk = record { history = disk.history; script = counted disk.script; faults = raised disk.faults; starved = disk.starved; reads = disk.reads }
+failed disk = record (passed disk) { faults = raised disk.faults }
 
 -- the disk after a call that failed because memory was wanting
 abbrev pub starving : MemDisk → MemDisk
-starving disk = record { history = disk.history; script = counted disk.script; faults = raised disk.faults; starved = raised disk.starved; reads = disk.reads }
+starving disk = record (failed disk) { starved = raised disk.starved }
 
 -- with one call of `read` more
 abbrev pub read_once : MemDisk → MemDisk
-read_once disk = record { history = disk.history; script = disk.script; faults = disk.faults; starved = disk.starved; reads = raised disk.reads }
+read_once disk = record disk { reads = raised disk.reads }
 
 -- with one change more
 abbrev pub noted : Change → MemDisk → MemDisk
-noted change disk = record { history = added disk.history change; script = disk.script; faults = disk.faults; starved = disk.starved; reads = disk.reads }
+noted change disk = record disk { history = added disk.history change }
 
 -- with other calls that are to fail, counted from now on
 abbrev pub listing : List ℕ → MemDisk → MemDisk
-listing calls disk = record {
-  history = disk.history;
-  script = record { listed = calls; made = 0; left = disk.script.left };
-  faults = disk.faults;
-  starved = disk.starved;
-  reads = disk.reads;
-}
+listing calls disk = record disk { script = record disk.script { listed = calls; made = 0 } }
 
 -- with that many calls left before all fail
 abbrev pub stopping : ℕ → MemDisk → MemDisk
-stopping calls disk = record {
-  history = disk.history;
-  script = record { listed = disk.script.listed; made = disk.script.made; left = Some calls };
-  faults = disk.faults;
-  starved = disk.starved;
-  reads = disk.reads;
-}
+stopping calls disk = record disk { script = record disk.script { left = Some calls } }
 
 -- What a write, a cut or a sync comes to. `done` is what it makes of the disk, and `lost` what it leaves pending where
 -- it is listed.

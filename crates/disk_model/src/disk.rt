@@ -1,15 +1,22 @@
-// A disk of numbered files: what it holds, and what a crash may leave.
+//! Disks of numbered files: what they hold, and what a crash may leave.
+
 ghost use Rattle.std.specs.Prelude.{◌≡◌, ◌<◌, ◌≤◌, ◌+◌, ◌-◌, ◌^◌, ◌++◌, ℕ, Bool, List, length, take, drop, min, IsTrue, IfOk, OnOk};
 ghost use Rattle.disk_model.specs.Images.{Image, bytes_of, Besides, SameBytes, OnFile};
 ghost use Rattle.disk_model.specs.Bytes.{overwritten, Torn, HalfCut};
+ghost use Rattle.disk_model.specs.Counts.{RoseBy};
 ghost use Rattle.disk_model.specs.Crash.{Follows, Within, OnlyBytes, Elapses, HasCause};
 
 use span_types::Failed;
 
-/// A disk whose files have numbers for names. Each number has a file, which is empty to begin with.
+/// A disk whose files have numbers for names, as code in one thread sees it. Each number has a file, which is empty to
+/// begin with.
 ///
-/// Failed calls are counted, up to the last number that the count's type holds.
-pub trait Disk: Send + Drop {
+/// Calls, reads and failed calls are counted, up to the last number that the count's type holds.
+///
+/// Code that a shared store calls is generic over this trait, and not over [`Disk`]: in a method of an `impl` that is
+/// generic in `D: Disk`, a call of a function that asks for `D: Disk` gets no proof, since the promise that it may go to
+/// another thread would have to be handed on.
+pub trait Device: Drop {
     /// Whether the contracts speak of the bytes that it holds: of a disk either always or never.
     ghost tells: { Self → Bool };
 
@@ -31,6 +38,9 @@ pub trait Disk: Send + Drop {
     /// How many calls of `read` were made.
     ghost reads: { Self → ℕ };
 
+    /// How many calls of the device were made: of `len`, `read`, `write`, `cut` and `sync`.
+    ghost calls: { Self → ℕ };
+
     /// The length of a file, in bytes.
     fn len(&mut self, file: u32) -> Result<u64, Failed>
         ensures length { IsTrue (tells self.old) → IfOk result (λ len. len ≡ length (bytes_of (held self.old) file)) }
@@ -39,6 +49,7 @@ pub trait Disk: Send + Drop {
         ensures time { Elapses (moment self.old) (moment self.new) (left_since self.old) (left_since self.new) (may_leave self.new) }
         ensures telling { tells self.new ≡ tells self.old }
         ensures cause { HasCause (faults self.old) (faults self.new) result }
+        ensures one_call { RoseBy 1 (calls self.old) (calls self.new) }
         ensures no_read { reads self.new ≡ reads self.old };
 
     /// Fills the buffer from a file, from the byte `at` on, and answers how many bytes it read: those up to the
@@ -52,7 +63,8 @@ pub trait Disk: Send + Drop {
         ensures time { Elapses (moment self.old) (moment self.new) (left_since self.old) (left_since self.new) (may_leave self.new) }
         ensures telling { tells self.new ≡ tells self.old }
         ensures cause { HasCause (faults self.old) (faults self.new) result }
-        ensures one_read { (reads self.old ≤ reads self.new) × (reads self.new ≤ reads self.old + 1) };
+        ensures one_call { RoseBy 1 (calls self.old) (calls self.new) }
+        ensures one_read { RoseBy 1 (reads self.old) (reads self.new) };
 
     /// Writes the bytes into a file, from the byte `at` on. Places between the old end and `at` become zeros; to write no
     /// bytes changes nothing. No file is let grow to 2^63 bytes: such a write fails, and the disk is as before. Until a sync
@@ -67,6 +79,7 @@ pub trait Disk: Send + Drop {
         ensures time { Elapses (moment self.old) (moment self.new) (left_since self.old) (left_since self.new) (may_leave self.new) }
         ensures telling { tells self.new ≡ tells self.old }
         ensures cause { HasCause (faults self.old) (faults self.new) result }
+        ensures one_call { RoseBy 1 (calls self.old) (calls self.new) }
         ensures no_read { reads self.new ≡ reads self.old };
 
     /// Drops what a file has from the byte `len` on, which may be nothing. Until a sync of the file, a crash may leave any
@@ -78,6 +91,7 @@ pub trait Disk: Send + Drop {
         ensures time { Elapses (moment self.old) (moment self.new) (left_since self.old) (left_since self.new) (may_leave self.new) }
         ensures telling { tells self.new ≡ tells self.old }
         ensures cause { HasCause (faults self.old) (faults self.new) result }
+        ensures one_call { RoseBy 1 (calls self.old) (calls self.new) }
         ensures no_read { reads self.new ≡ reads self.old };
 
     /// Makes what a file holds last: behind an `Ok` a crash can leave nothing else of it, and behind an `Err` whatever it
@@ -89,6 +103,7 @@ pub trait Disk: Send + Drop {
         ensures time { Elapses (moment self.old) (moment self.new) (left_since self.old) (left_since self.new) (may_leave self.new) }
         ensures telling { tells self.new ≡ tells self.old }
         ensures cause { HasCause (faults self.old) (faults self.new) result }
+        ensures one_call { RoseBy 1 (calls self.old) (calls self.new) }
         ensures no_read { reads self.new ≡ reads self.old };
 
     /// The count of failed calls, which is at hand: the device isn't asked for it.
@@ -104,3 +119,8 @@ pub trait Disk: Send + Drop {
     /// A crash may leave what the disk holds.
     ghost held_may_stay: { (disk : Self) → IsTrue (tells disk) → may_leave disk (held disk) };
 }
+
+/// A [`Device`] that may go from thread to thread. Every device that may is one.
+pub trait Disk: Device + Send {}
+
+impl<D: Device + Send> Disk for D {}

@@ -2,7 +2,6 @@
 #![tactic(auto)]
 
 mod change;
-mod device;
 mod disk;
 mod file;
 mod history;
@@ -11,8 +10,7 @@ mod picks;
 mod script;
 mod through;
 
-pub use device::Device;
-pub use disk::Disk;
+pub use disk::{Device, Disk};
 pub use memory::MemDisk;
 pub use through::{cut_through, write_through};
 

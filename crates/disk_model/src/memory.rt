@@ -4,7 +4,7 @@ ghost use Rattle.disk_model.specs.Script.{raised};
 ghost use Rattle.disk_model.specs.declared.change.Change.TheVariants.{Write, LostWrite, Cut, LostCut, Sync};
 ghost use Rattle.disk_model.specs.declared.script.Fate.TheVariants.{Passes};
 
-use crate::Disk;
+use crate::Device;
 use crate::change::Change;
 use crate::history::History;
 use crate::script::{Fate, Script};
@@ -23,10 +23,12 @@ pub struct MemDisk {
     faults: u64,
     starved: u64,
     reads: u64,
+    calls: u64,
 }
 
 impl MemDisk {
-    ghost use Rattle.disk_model.specs.Memory.{fresh, listing, stopping, starved_of, faults_of, past_of, noted, Outcome};
+    ghost use Rattle.disk_model.specs.Memory.{fresh, listing, stopping, starved_of, faults_of, calls_of, reads_of, past_of, next_fate, passed, read_once, noted, Outcome};
+    ghost use Rattle.disk_model.specs.Counts.{RoseBy};
     ghost use Rattle.disk_model.specs.Images.{bytes_of};
     ghost use Rattle.disk_model.specs.Files.{settled};
     ghost use Rattle.disk_model.specs.History.{MayLeave, state_of, files_now, held_now};
@@ -42,6 +44,7 @@ impl MemDisk {
             faults: 0,
             starved: 0,
             reads: 0,
+            calls: 0,
         }
     }
 
@@ -82,15 +85,27 @@ impl MemDisk {
             faults: 0,
             starved: 0,
             reads: 0,
+            calls: 0,
         })
+    }
+
+    /// Counts a call, and answers what becomes of it.
+    fn next_fate(&mut self) -> Fate
+        ensures fate { result ≡ next_fate self.old }
+        ensures counted { self.new ≡ passed self.old }
+        ensures one_call { RoseBy 1 (calls_of self.old) (calls_of self.new) }
+    {
+        self.calls = self.calls.saturating_add(1);
+        self.script.next()
     }
 
     fn write_bytes(&mut self, file: u32, at: u64, bytes: &[u8]) -> Result<(), Failed>
         requires { at + length bytes.now < 2 ^ 63 }
         ensures outcome { Outcome self.old (noted (Write file at bytes.now)) (noted (LostWrite file at (length bytes.now))) result self.new }
         ensures later { faults_of self.old ≤ faults_of self.new }
+        ensures one_call { RoseBy 1 (calls_of self.old) (calls_of self.new) }
     {
-        match self.script.next() {
+        match self.next_fate() {
             Fate::Stopped => self.fail(),
             Fate::Listed => {
                 let len = bytes.len() as u64;
@@ -109,8 +124,9 @@ impl MemDisk {
     fn cut_file(&mut self, file: u32, len: u64) -> Result<(), Failed>
         ensures outcome { Outcome self.old (noted (Cut file len)) (noted (LostCut file len)) result self.new }
         ensures later { faults_of self.old ≤ faults_of self.new }
+        ensures one_call { RoseBy 1 (calls_of self.old) (calls_of self.new) }
     {
-        match self.script.next() {
+        match self.next_fate() {
             Fate::Stopped => self.fail(),
             Fate::Listed => match self.history.add(Change::LostCut { file, len }) {
                 Ok(()) => self.fail(),
@@ -126,14 +142,23 @@ impl MemDisk {
     fn sync_file(&mut self, file: u32) -> Result<(), Failed>
         ensures outcome { Outcome self.old (noted (Sync file)) (λ disk. disk) result self.new }
         ensures later { faults_of self.old ≤ faults_of self.new }
+        ensures one_call { RoseBy 1 (calls_of self.old) (calls_of self.new) }
     {
-        match self.script.next() {
+        match self.next_fate() {
             Fate::Stopped | Fate::Listed => self.fail(),
             Fate::Passes => match self.history.add(Change::Sync { file }) {
                 Ok(()) => Ok(()),
                 Err(_) => self.starve(),
             },
         }
+    }
+
+    /// Counts a call of `read`.
+    fn count_read(&mut self)
+        ensures counted { self.new ≡ read_once self.old }
+        ensures one_read { RoseBy 1 (reads_of self.old) (reads_of self.new) }
+    {
+        self.reads = self.reads.saturating_add(1);
     }
 
     /// Counts a fault.
@@ -157,13 +182,14 @@ impl MemDisk {
     }
 }
 
-impl Disk for MemDisk {
+impl Device for MemDisk {
     ghost use Rattle.std.specs.Prelude.{true};
     ghost use Rattle.disk_model.specs.Images.{bytes_of, Besides, SameBytes, OnFile};
     ghost use Rattle.disk_model.specs.Bytes.{overwritten, Torn, HalfCut};
+    ghost use Rattle.disk_model.specs.Counts.{RoseBy};
     ghost use Rattle.disk_model.specs.Crash.{Follows, Within, OnlyBytes, Elapses, HasCause};
     ghost use Rattle.disk_model.specs.History.{held_now, MayLeave, LeftSince};
-    ghost use Rattle.disk_model.specs.Memory.{past_of, reads_of, faults_of, next_fate, passed, failed, noted, read_once, Outcome};
+    ghost use Rattle.disk_model.specs.Memory.{past_of, reads_of, calls_of, faults_of, next_fate, passed, failed, noted, read_once, Outcome};
     ghost use Rattle.disk_model.specs.Laws.{held_stays, left_now, only_left_now};
 
     ghost tells = { λ disk. true };
@@ -180,6 +206,8 @@ impl Disk for MemDisk {
 
     ghost reads = { λ disk. disk.reads };
 
+    ghost calls = { λ disk. disk.calls };
+
     ghost counts_now = { λ disk start image earlier left. left_now disk.history start image earlier left };
 
     ghost only_now = { λ disk image left. only_left_now disk.history image left };
@@ -193,13 +221,14 @@ impl Disk for MemDisk {
         ensures time { Elapses (length (past_of self.old).changes) (length (past_of self.new).changes) (LeftSince (past_of self.old)) (LeftSince (past_of self.new)) (MayLeave (past_of self.new)) }
         ensures telling { true ≡ true }
         ensures cause { HasCause (faults_of self.old) (faults_of self.new) result }
+        ensures one_call { RoseBy 1 (calls_of self.old) (calls_of self.new) }
         ensures no_read { reads_of self.new ≡ reads_of self.old }
 
         // It fails exactly where it is listed or stopped.
         ensures passes { next_fate self.old ≡ Passes → IsOk result × (self.new ≡ passed self.old) }
         ensures fails { next_fate self.old ≢ Passes → IsErr result × (self.new ≡ failed self.old) }
     {
-        match self.script.next() {
+        match self.next_fate() {
             Fate::Passes => Ok(self.history.bytes(file).len() as u64),
             _ => self.fail(),
         }
@@ -214,15 +243,16 @@ impl Disk for MemDisk {
         ensures time { Elapses (length (past_of self.old).changes) (length (past_of self.new).changes) (LeftSince (past_of self.old)) (LeftSince (past_of self.new)) (MayLeave (past_of self.new)) }
         ensures telling { true ≡ true }
         ensures cause { HasCause (faults_of self.old) (faults_of self.new) result }
-        ensures one_read { (reads_of self.old ≤ reads_of self.new) × (reads_of self.new ≤ reads_of self.old + 1) }
+        ensures one_call { RoseBy 1 (calls_of self.old) (calls_of self.new) }
+        ensures one_read { RoseBy 1 (reads_of self.old) (reads_of self.new) }
 
         // It fails exactly where it is listed or stopped, and leaves the buffer then.
         ensures passes { next_fate self.old ≡ Passes → IsOk result × (self.new ≡ read_once (passed self.old)) }
         ensures fails { next_fate self.old ≢ Passes → IsErr result × (self.new ≡ read_once (failed self.old)) }
         ensures left_alone { OnErr result (buf.new ≡ buf.old) }
     {
-        self.reads = self.reads.saturating_add(1);
-        match self.script.next() {
+        self.count_read();
+        match self.next_fate() {
             Fate::Passes => Ok(copy_from(self.history.bytes(file), at, buf)),
             _ => self.fail(),
         }
@@ -238,6 +268,7 @@ impl Disk for MemDisk {
         ensures time { Elapses (length (past_of self.old).changes) (length (past_of self.new).changes) (LeftSince (past_of self.old)) (LeftSince (past_of self.new)) (MayLeave (past_of self.new)) }
         ensures telling { true ≡ true }
         ensures cause { HasCause (faults_of self.old) (faults_of self.new) result }
+        ensures one_call { RoseBy 1 (calls_of self.old) (calls_of self.new) }
         ensures no_read { reads_of self.new ≡ reads_of self.old }
 
         // It fails exactly where it is listed or stopped, ends at 2^63 or more, or memory is wanting.
@@ -247,7 +278,7 @@ impl Disk for MemDisk {
         if ends_below(at, bytes.len()) {
             return self.write_bytes(file, at, bytes);
         }
-        self.script.next();
+        self.next_fate();
         self.fail()
     }
 
@@ -258,6 +289,7 @@ impl Disk for MemDisk {
         ensures time { Elapses (length (past_of self.old).changes) (length (past_of self.new).changes) (LeftSince (past_of self.old)) (LeftSince (past_of self.new)) (MayLeave (past_of self.new)) }
         ensures telling { true ≡ true }
         ensures cause { HasCause (faults_of self.old) (faults_of self.new) result }
+        ensures one_call { RoseBy 1 (calls_of self.old) (calls_of self.new) }
         ensures no_read { reads_of self.new ≡ reads_of self.old }
 
         // It fails exactly where it is listed or stopped, or memory is wanting.
@@ -273,6 +305,7 @@ impl Disk for MemDisk {
         ensures time { Elapses (length (past_of self.old).changes) (length (past_of self.new).changes) (LeftSince (past_of self.old)) (LeftSince (past_of self.new)) (MayLeave (past_of self.new)) }
         ensures telling { true ≡ true }
         ensures cause { HasCause (faults_of self.old) (faults_of self.new) result }
+        ensures one_call { RoseBy 1 (calls_of self.old) (calls_of self.new) }
         ensures no_read { reads_of self.new ≡ reads_of self.old }
 
         // It fails exactly where it is listed or stopped, or memory is wanting; then it changes nothing.

@@ -1,5 +1,5 @@
 // What a crash may leave after some calls, worked out by hand from the disk model.
-use crate::{Disk, MemDisk, cut_through, write_through};
+use crate::{Device, MemDisk, cut_through, write_through};
 use span_types::{Calls, Failed};
 use std::alloc::Global;
 use std::process::Abort;

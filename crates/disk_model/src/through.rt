@@ -2,6 +2,7 @@
 ghost use Rattle.std.specs.Prelude.{◌≡◌, ◌<◌, ◌+◌, ◌^◌, ℕ, List, length, take, IsTrue, OnOk};
 ghost use Rattle.disk_model.specs.Images.{bytes_of, Besides, OnFile};
 ghost use Rattle.disk_model.specs.Bytes.{overwritten, Torn, HalfCut};
+ghost use Rattle.disk_model.specs.Counts.{MakesCalls};
 ghost use Rattle.disk_model.specs.Crash.{Follows, Reached, OnlyBytes, LeavesOnly, Passes, HasCause};
 
 use crate::Device;
@@ -28,6 +29,7 @@ pub fn write_through<D: Device>(
 
     ensures telling { D.tells disk.new ≡ D.tells disk.old }
     ensures cause { HasCause (D.faults disk.old) (D.faults disk.new) result }
+    ensures calls { MakesCalls 2 (D.calls disk.old) (D.calls disk.new) result }
     ensures no_read { D.reads disk.new ≡ D.reads disk.old }
 {
     disk.write(file, at, bytes)?;
@@ -49,6 +51,7 @@ pub fn cut_through<D: Device>(disk: &mut D, file: u32, len: u64) -> Result<(), F
 
     ensures telling { D.tells disk.new ≡ D.tells disk.old }
     ensures cause { HasCause (D.faults disk.old) (D.faults disk.new) result }
+    ensures calls { MakesCalls 2 (D.calls disk.old) (D.calls disk.new) result }
     ensures no_read { D.reads disk.new ≡ D.reads disk.old }
 {
     disk.cut(file, len)?;

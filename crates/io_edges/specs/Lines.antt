@@ -1,9 +1,10 @@
 -- The lines of a text, defined over the whole text.
 use Rattle.std.specs.Prelude.{ℕ, ◌-◌, ◌==◌, Bool, List, [], ◌∷◌, length, map, take, slice_index, if◌then◌else◌}
+use Rattle.span_types.specs.declared.limits.TheConstants.{MOST_LINE_BYTES}
 
 -- How many bytes a line may have.
 abbrev pub line_limit : ℕ
-line_limit = 16777216
+line_limit = MOST_LINE_BYTES
 
 -- How many bytes a reader takes from its source in all.
 abbrev pub taken_limit : ℕ

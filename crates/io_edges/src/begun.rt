@@ -4,12 +4,12 @@ ghost use Rattle.std.specs.Prelude.{◌≡◌, ℕ, ◌+◌, ◌^◌, ◌<◌, �
 ghost use Rattle.io_edges.specs.Lines.{without_return, line_limit};
 ghost use Rattle.io_edges.specs.Reader.{IsBegun, IsSound, begun_len, IsLineOf, IsWithinLimits, Reader, WouldAsk};
 
-use crate::line::{Line, Text8, ends_in_return};
-use span_types::Memory;
+use crate::line::{Line, Text8, drop_return, ends_in_return};
+use span_types::{MOST_LINE_BYTES, Memory};
 use std::alloc::Global;
 
 // How many bytes a line may have.
-const LINE_LIMIT: usize = 16_777_216;
+const LINE_LIMIT: usize = MOST_LINE_BYTES as usize;
 
 /// What was taken of a line that isn't ended.
 #[derive(Debug, Drop)]
@@ -25,7 +25,7 @@ impl Begun {
     pub(crate) fn new(alloc: Global) -> Begun
         ensures { result ≡ Begun.Kept [] }
     {
-        Begun::Kept(Text8::of(Vec::new(alloc)))
+        Begun::Kept(Text8::none(alloc))
     }
 
     // Adds the next bytes of the line. Where memory is wanted what was begun stands.
@@ -41,7 +41,8 @@ impl Begun {
             return Ok(());
         }
         match self {
-            Begun::Kept(text) if text.len() + bytes.len() <= LINE_LIMIT + 1 => text.append(bytes),
+            Begun::Kept(text) if text.len() + bytes.len() <= LINE_LIMIT + 1 =>
+                text.extend_from_slice(bytes),
             Begun::Kept(text) => {
                 let length = (text.len() + bytes.len()) as u64;
                 *self = Begun::Dropped {
@@ -64,7 +65,7 @@ impl Begun {
         ensures { IsTrue result ↔ (begun_len self.now ≡ 0) }
     {
         match self {
-            Begun::Kept(text) => text.is_empty(),
+            Begun::Kept(text) => text.len() == 0,
             Begun::Dropped { .. } => false,
         }
     }
@@ -78,7 +79,7 @@ impl Begun {
     {
         match self {
             Begun::Kept(mut text) => {
-                text.drop_return();
+                drop_return(&mut text);
                 if text.len() > LINE_LIMIT {
                     let length = text.len() as u64;
                     Line::TooLong { length }

@@ -20,6 +20,3 @@ pub use line::{Line, LineError, Text8};
 pub use line_reader::LineReader;
 pub use mem_sink::MemSink;
 pub use mem_source::MemSource;
-
-#[cfg(test)]
-mod tests;

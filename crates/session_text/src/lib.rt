@@ -14,6 +14,3 @@ pub use refusal::{KindFault, QueryFault, Refusal};
 pub use reply::Reply;
 pub use request::{Request, Search};
 pub use writing::write_reply;
-
-#[cfg(test)]
-mod tests;

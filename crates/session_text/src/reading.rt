@@ -12,12 +12,12 @@ use crate::options::{search_parts, split_text};
 use crate::searching::search;
 use crate::{Refusal, Request};
 use otlp_spans::{OtlpError, read_line, read_trace_id};
-use span_types::TraceId;
+use span_types::{MOST_LINE_BYTES, TraceId};
 use std::alloc::Global;
 use traceql_types::PatternMaker;
 
 /// How many bytes a line may have.
-const LINE_LIMIT: usize = 16_777_216;
+const LINE_LIMIT: usize = MOST_LINE_BYTES as usize;
 
 /// What a line asks, or why it is refused.
 ///

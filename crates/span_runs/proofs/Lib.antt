@@ -1,2 +1,2 @@
-pub mod RunLemmas
-pub mod SameLaws
+mod FirstRun
+pub mod RunLaws

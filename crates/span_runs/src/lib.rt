@@ -1,8 +1,8 @@
-//! Runs of spans with equal resources, and with equal scopes.
+//! Runs of neighbouring spans that come from one resource, or from one scope.
 #![tactic(auto)]
 
+mod origins;
 mod runs;
-mod same;
 
-pub use runs::{resource_run, scope_run};
-pub use same::{equal_where_same, same_resource, same_scope};
+pub use origins::{HasSpan, Origin};
+pub use runs::first_run;

@@ -1,52 +1,28 @@
-//! The first run of a list of spans.
+//! The first run of a list.
 
-ghost use Rattle.std.specs.Prelude.{◌≡◌, ◌<◌, ◌≤◌, length};
-ghost use Rattle.span_runs.specs.Runs.{run_len};
-ghost use Rattle.span_runs.specs.Same.{of_one_resource, of_one_scope};
+ghost use Rattle.std.specs.Prelude.{◌≡◌, ◌<◌, ◌++◌, length, map};
+ghost use Rattle.span_runs.specs.Runs.{as_run, of_one, runs};
 
-use crate::same::{same_resource, same_scope};
-use span_types::Span;
+use crate::{HasSpan, Origin};
 
-/// How many spans the first run with equal resources has.
-pub fn resource_run(spans: &[Span]) -> usize
-    requires { 0 < length spans.now }
-    ensures within { result ≤ length spans.now }
-    ensures some { 0 < result }
-    ensures len { result ≡ run_len of_one_resource spans.now }
+/// The first run of items whose spans come from one `O`, and the items after it. The longest such run is meant.
+pub fn first_run<O: Origin, H: HasSpan>(items: &[H]) -> (&[H], &[H])
+    requires { 0 < length items.now }
+    ensures some { 0 < length result.0.now }
+    ensures whole { items.now ≡ result.0.now ++ result.1.now }
+    ensures runs { runs (of_one O.eq O.of) (map H.span items.now)
+        ≡ as_run (map H.span result.0.now) ++ runs (of_one O.eq O.of) (map H.span result.1.now) }
 {
-    for i in 1..spans.len() {
-        if !of_one_resource(&spans[i - 1], &spans[i]) {
-            return i;
-        }
+    let mut n = 1;
+    while n < items.len() && are_of_one::<O, H>(&items[n - 1], &items[n]) {
+        n += 1;
     }
-    spans.len()
+    items.split_at(n)
 }
 
-/// How many spans the first run with equal scopes has.
-pub fn scope_run(spans: &[Span]) -> usize
-    requires { 0 < length spans.now }
-    ensures within { result ≤ length spans.now }
-    ensures some { 0 < result }
-    ensures len { result ≡ run_len of_one_scope spans.now }
+/// Whether two items' spans come from one `O`.
+fn are_of_one<O: Origin, H: HasSpan>(a: &H, b: &H) -> bool
+    ensures { result ≡ of_one O.eq O.of (H.span a.now) (H.span b.now) }
 {
-    for i in 1..spans.len() {
-        if !of_one_scope(&spans[i - 1], &spans[i]) {
-            return i;
-        }
-    }
-    spans.len()
-}
-
-#[tactic(auto, unfolding(crate::specs::Same::of_one_resource))]
-fn of_one_resource(a: &Span, b: &Span) -> bool
-    ensures { result ≡ of_one_resource a.now b.now }
-{
-    same_resource(a.resource.get(), b.resource.get())
-}
-
-#[tactic(auto, unfolding(crate::specs::Same::of_one_scope))]
-fn of_one_scope(a: &Span, b: &Span) -> bool
-    ensures { result ≡ of_one_scope a.now b.now }
-{
-    same_scope(a.scope.get(), b.scope.get())
+    *O::of(a.span()) == *O::of(b.span())
 }

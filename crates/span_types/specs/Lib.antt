@@ -4,6 +4,9 @@ pub mod Numbers
 pub mod LinkParts
 pub mod SpanParts
 pub mod BatchParts
+pub mod Equal
+pub mod EqualLaws
+pub mod Hashed
 pub mod Keys
 pub mod Orders
 pub mod First

@@ -6,6 +6,7 @@
 #![tactic(auto)]
 
 mod attrs;
+mod equal;
 mod errors;
 mod first;
 mod ids;
@@ -20,7 +21,7 @@ pub use attrs::{Attr, AttrValue, Attrs, Resource, Scope};
 pub use errors::{Failed, Memory};
 pub use first::{first_rows, first_rows_more};
 pub use ids::{Key, Place, SpanId, TraceId};
-pub use laws::numbers_are_of_one;
+pub use laws::{equal_where_same, numbers_are_of_one};
 pub use limits::{MOST_LINE_BYTES, MOST_QUERY_BYTES, MOST_SPANS};
 pub use list::{Bytes, Calls, Ids, Marks, Moments, Seq, TryCopy};
 pub use shared::{Shared, SharedResource, SharedScope};
@@ -28,6 +29,3 @@ pub use spans::{
     Batch, Events, Links, Row, Rows, Span, SpanEvent, SpanKind, SpanLink, Spans, StatusCode,
 };
 pub use text::Text;
-
-#[cfg(test)]
-mod tests;

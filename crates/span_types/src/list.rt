@@ -1,6 +1,6 @@
 //! The one list type, which contracts see as a list, and what can be copied where memory allows.
 
-ghost use Rattle.std.specs.Prelude.{◌≡◌, [], IfOk, length};
+ghost use Rattle.std.specs.Prelude.{◌≡◌, ◌++◌, [], IfOk, OnErr, OnOk, length, take};
 
 use crate::{Memory, TraceId};
 use std::alloc::Global;
@@ -63,6 +63,24 @@ impl<T> Seq<T> {
         ensures { result ≡ length self.now }
     {
         self.inner.len()
+    }
+}
+
+impl<T: Copy> Seq<T> {
+    /// Adds items to the end. Out of memory, the list stands.
+    pub fn extend_from_slice(&mut self, items: &[T]) -> Result<(), Memory>
+        ensures ok { OnOk result (self.new ≡ self.old ++ items.now) }
+        ensures err { OnErr result (self.new ≡ self.old) }
+    {
+        self.inner.extend_from_slice(items)?;
+        Ok(())
+    }
+
+    /// Drops all but the first items, so many as are said.
+    pub fn truncate(&mut self, len: usize)
+        ensures { self.new ≡ take len self.old }
+    {
+        self.inner.truncate(len);
     }
 }
 

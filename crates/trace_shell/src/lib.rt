@@ -9,8 +9,3 @@ mod top;
 
 pub use real::{StdinSource, StdoutSink};
 pub use top::{Ended, run, run_alone};
-
-#[cfg(test)]
-mod search_tests;
-#[cfg(test)]
-mod tests;

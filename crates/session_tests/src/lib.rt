@@ -1,0 +1,12 @@
+//! Tests of the session's layer: the words of the command line, lines and replies, and whole runs with their exact bytes.
+//! They show what no clause says.
+#![tactic(auto)]
+
+#[cfg(test)]
+mod run_tests;
+#[cfg(test)]
+mod search_tests;
+#[cfg(test)]
+mod text_tests;
+#[cfg(test)]
+mod words_tests;

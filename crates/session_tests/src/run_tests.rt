@@ -1,0 +1,299 @@
+//! What no clause says: whole runs by example, with their exact bytes.
+
+use io_edges::{FixedClock, MemSink, MemSource, OpenGate, Sink, Source};
+use span_types::{Bytes, Calls, Failed, Memory, Moments};
+use std::alloc::Global;
+use std::io::{self, Read, Write};
+use std::process::Abort;
+use std::sync::Wait;
+use std::thread::Threads;
+use trace_shell::{Ended, StdinSource, StdoutSink, run, run_alone};
+use traceql_types::RegexMaker;
+
+const PUSH_X: &str =
+    r#"push {"resourceSpans":[{"scopeSpans":[{"spans":[{"traceId":"000000000000000000000000000000a1","spanId":"00000000000000b1","parentSpanId":"","name":"x","startTimeUnixNano":"1","endTimeUnixNano":"2"}]}]}]}"#;
+
+const PUSH_Y: &str =
+    r#"push {"resourceSpans":[{"scopeSpans":[{"spans":[{"traceId":"000000000000000000000000000000a1","spanId":"00000000000000b1","parentSpanId":"","name":"y","startTimeUnixNano":"1","endTimeUnixNano":"2"}]}]}]}"#;
+
+const TRACE_X: &str =
+    r#"{"resourceSpans":[{"resource":{"attributes":[]},"scopeSpans":[{"scope":{"attributes":[],"name":"","version":""},"spans":[{"attributes":[],"endTimeUnixNano":"2","kind":0,"name":"x","parentSpanId":"","spanId":"00000000000000b1","startTimeUnixNano":"1","status":{"code":0,"message":""},"traceId":"000000000000000000000000000000a1"}]}]}]}"#;
+
+const LOOK_A1: &str = "trace 000000000000000000000000000000a1";
+
+const LOOK_A2: &str = "trace 000000000000000000000000000000A2";
+
+fn calls(alloc: Global, numbers: &[u64]) -> Result<Calls, Memory> {
+    Ok(Calls::of(Vec::from_slice(alloc, numbers)?))
+}
+
+// Runs the words over an input, with a source and a sink that fail at the listed calls, and asserts what is written and
+// the status.
+pub(crate) fn check<R: Threads + Wait + Sync + Abort>(
+    rt: &R,
+    alloc: Global,
+    words: &[&str],
+    input: &str,
+    failing: (&[u64], &[u64]),
+    wanted: &str,
+    wanted_status: u8,
+) -> Result<(), Memory> {
+    let mut all = Vec::new(alloc);
+    for word in words {
+        all.push(String::from_str(alloc, word)?)?;
+    }
+    let bytes = Bytes::of(Vec::from_slice(alloc, input.as_bytes())?);
+    let mut source = MemSource::new(bytes, calls(alloc, failing.0)?);
+    let mut sink = MemSink::new(alloc, calls(alloc, failing.1)?);
+    let mut clock = FixedClock::new(Moments::of(Vec::new(alloc)));
+    let Ended { status, disk } = run(
+        rt,
+        alloc,
+        all.as_slice(),
+        &mut source,
+        &mut sink,
+        7u8,
+        &mut clock,
+        &mut RegexMaker::new(alloc),
+        &OpenGate,
+    );
+    assert!(rt; sink.taken() == wanted.as_bytes(), "at {input}");
+    assert_eq!(rt; status, wanted_status);
+    assert_eq!(rt; disk, 7);
+    assert_eq!(rt; sink.starved(), 0);
+    Ok(())
+}
+
+#[test]
+fn whole_runs_write_their_exact_bytes(rt: HostRuntime) -> Result<(), Memory> {
+    let alloc = rt.alloc();
+    let session = ["session"];
+    let first = format!(in alloc; "{PUSH_X}\n{LOOK_A1}\n")?;
+    let first_replies = format!(in alloc;
+        "ok push 0 accepted=1 rejected=0 skipped=0\nok trace as_of=1 spans=1 {TRACE_X}\n"
+    )?;
+    let again = format!(in alloc; "{PUSH_X}\r\n\n{PUSH_Y}\n{LOOK_A1}\n{LOOK_A2}")?;
+    let again_replies = format!(in alloc;
+        "ok push 0 accepted=1 rejected=0 skipped=0\nok push 1 accepted=1 rejected=0 skipped=0\nok trace as_of=2 spans=1 {TRACE_X}\nok trace as_of=2 spans=0 {{\"resourceSpans\":[]}}\n"
+    )?;
+    let refusals =
+        "ok push 0 accepted=0 rejected=0 skipped=0\nrefused bad-request at=0\nrefused bad-json\nrefused bad-otlp path=$.resourceSpans[0].scopeSpans\n";
+    check(&rt, alloc, &session, "", (&[], &[]), "", 0)?;
+    check(
+        &rt,
+        alloc,
+        &session,
+        first.as_str(),
+        (&[], &[]),
+        first_replies.as_str(),
+        0,
+    )?;
+    check(
+        &rt,
+        alloc,
+        &session,
+        again.as_str(),
+        (&[], &[]),
+        again_replies.as_str(),
+        0,
+    )?;
+    check(
+        &rt,
+        alloc,
+        &session,
+        "push {}\npull\npush {\"resourceSpans\":\npush {\"resourceSpans\":[{\"scopeSpans\":7}]}\n",
+        (&[], &[]),
+        refusals,
+        7,
+    )?;
+    check(&rt, alloc, &[], first.as_str(), (&[], &[]), "", 2)?;
+    check(
+        &rt,
+        alloc,
+        &["session", "session"],
+        first.as_str(),
+        (&[], &[]),
+        "",
+        2,
+    )?;
+    Ok(())
+}
+
+/// A server's span as the Collector writes it, and the same in other spellings.
+const SERVER_PUSH: &str =
+    r#"push {"resourceSpans":[{"resource":{"attributes":[{"key":"service.name","value":{"stringValue":"shop"}}]},"scopeSpans":[{"scope":{"name":"lib","version":"1.0"},"spans":[{"traceId":"5B8EFFF798038103D269B633813FC60C","spanId":"EEE19B7EC3C1B174","parentSpanId":"","name":"I'm a server span","startTimeUnixNano":"1544712660000000000","endTimeUnixNano":"1544712661000000000","kind":2,"attributes":[{"key":"my.span.attr","value":{"stringValue":"some value"}},{"key":"load","value":{"doubleValue":0.5}}]}]}]}]}"#;
+
+const OTHER_SPELLINGS: &str =
+    r#"push {"resourceSpans":[{"resource":{"attributes":[{"key":"service.name","value":{"stringValue":"shop"}}]},"scopeSpans":[{"scope":{"name":"lib","version":"1.0"},"spans":[{"traceId":"5b8efff798038103d269b633813fc60c","spanId":"eee19b7ec3c1b174","parentSpanId":null,"name":"I'm a server span","startTimeUnixNano":1544712660000000000,"endTimeUnixNano":1544712661000000000,"kind":"SPAN_KIND_SERVER","status":null,"flags":256,"attributes":[{"key":"my.span.attr","value":{"stringValue":"some value"}},{"key":"load","value":{"doubleValue":0.5}}]}]}]}]}"#;
+
+const SERVER_LOOK: &str = "trace 5b8efff798038103d269b633813fc60c";
+
+const SERVER_TRACE: &str =
+    r#"{"resourceSpans":[{"resource":{"attributes":[{"key":"service.name","value":{"stringValue":"shop"}}]},"scopeSpans":[{"scope":{"attributes":[],"name":"lib","version":"1.0"},"spans":[{"attributes":[{"key":"my.span.attr","value":{"stringValue":"some value"}}],"endTimeUnixNano":"1544712661000000000","kind":2,"name":"I'm a server span","parentSpanId":"","spanId":"eee19b7ec3c1b174","startTimeUnixNano":"1544712660000000000","status":{"code":0,"message":""},"traceId":"5b8efff798038103d269b633813fc60c"}]}]}]}"#;
+
+const ONE_REJECTED: &str =
+    r#"push {"resourceSpans":[{"scopeSpans":[{"spans":[{"traceId":"000000000000000000000000000000a1","spanId":"00000000000000b1","parentSpanId":"","name":"x","startTimeUnixNano":"1","endTimeUnixNano":"2"},{"traceId":"00000000000000000000000000000000","spanId":"00000000000000b2","parentSpanId":"","name":"y","startTimeUnixNano":"1","endTimeUnixNano":"2"}]}]}]}"#;
+
+#[test]
+fn spellings_of_one_span_are_answered_alike(rt: HostRuntime) -> Result<(), Memory> {
+    let alloc = rt.alloc();
+    let session = ["session"];
+    let replies = format!(in alloc;
+        "ok push 0 accepted=1 rejected=0 skipped=1\nok trace as_of=1 spans=1 {SERVER_TRACE}\n"
+    )?;
+    for push in [SERVER_PUSH, OTHER_SPELLINGS] {
+        let lines = format!(in alloc; "{push}\n{SERVER_LOOK}\n")?;
+        check(
+            &rt,
+            alloc,
+            &session,
+            lines.as_str(),
+            (&[], &[]),
+            replies.as_str(),
+            0,
+        )?;
+    }
+    let lines = format!(in alloc; "{ONE_REJECTED}\npush {{}}\n")?;
+    let counts =
+        "ok push 0 accepted=1 rejected=1 skipped=0\nok push 1 accepted=0 rejected=0 skipped=0\n";
+    check(&rt, alloc, &session, lines.as_str(), (&[], &[]), counts, 0)?;
+    Ok(())
+}
+
+#[test]
+fn a_look_up_of_the_command_line_is_answered_alone(rt: HostRuntime) -> Result<(), Memory> {
+    let alloc = rt.alloc();
+    let a1 = "000000000000000000000000000000a1";
+    let none = "ok trace as_of=0 spans=0 {\"resourceSpans\":[]}\n";
+    check(&rt, alloc, &["trace", a1], PUSH_X, (&[1], &[]), none, 0)?;
+    check(
+        &rt,
+        alloc,
+        &["trace", "00"],
+        "",
+        (&[], &[]),
+        "refused bad-request at=6\n",
+        7,
+    )?;
+    check(&rt, alloc, &["trace", a1], "", (&[], &[1]), "", 1)?;
+    check(&rt, alloc, &["trace"], "", (&[], &[]), "", 2)?;
+    Ok(())
+}
+
+#[test]
+fn a_line_over_the_limit_is_refused_with_its_length(rt: HostRuntime) -> Result<(), Memory> {
+    let alloc = rt.alloc();
+    let mut line = String::from_str(alloc, "push {}")?;
+    for _ in 0..16_777_210 {
+        line.push_str(" ")?;
+    }
+    check(
+        &rt,
+        alloc,
+        &["session"],
+        line.as_str(),
+        (&[], &[]),
+        "refused too-long length=16777217\n",
+        7,
+    )?;
+    Ok(())
+}
+
+#[test]
+fn a_failing_device_ends_the_run(rt: HostRuntime) -> Result<(), Memory> {
+    let alloc = rt.alloc();
+    let session = ["session"];
+    let input = format!(in alloc; "{PUSH_X}\n{PUSH_X}\n{LOOK_A1}\n")?;
+    let push = "ok push 0 accepted=1 rejected=0 skipped=0\n";
+    check(&rt, alloc, &session, input.as_str(), (&[], &[2]), push, 1)?;
+    check(&rt, alloc, &session, input.as_str(), (&[1], &[]), "", 3)?;
+    let replies = format!(in alloc;
+        "{push}ok push 1 accepted=1 rejected=0 skipped=0\nok trace as_of=2 spans=1 {TRACE_X}\n"
+    )?;
+    check(
+        &rt,
+        alloc,
+        &session,
+        input.as_str(),
+        (&[2], &[]),
+        replies.as_str(),
+        3,
+    )?;
+    Ok(())
+}
+
+#[test]
+fn no_command_needs_a_right_to_wait_yet(rt: HostRuntime) -> Result<(), Memory> {
+    let alloc = rt.alloc();
+    let mut source = MemSource::new(Bytes::of(Vec::new(alloc)), calls(alloc, &[])?);
+    let mut sink = MemSink::new(alloc, calls(alloc, &[])?);
+    let mut clock = FixedClock::new(Moments::of(Vec::new(alloc)));
+    let Ended { status, disk: () } = run_alone(
+        &rt,
+        alloc,
+        &[],
+        &mut source,
+        &mut sink,
+        (),
+        &mut clock,
+        &mut RegexMaker::new(alloc),
+        &OpenGate,
+    );
+    assert_eq!(rt; status, 2);
+    Ok(())
+}
+
+// A stream that fails at every call.
+#[derive(Drop)]
+struct Broken;
+
+impl Read for Broken {
+    fn read(&mut self, _buf: &mut [u8]) -> io::Result<usize> {
+        Err(io::Error::from(io::ErrorKind::BrokenPipe))
+    }
+}
+
+impl Write for Broken {
+    fn write(&mut self, _bytes: &[u8]) -> io::Result<usize> {
+        Err(io::Error::from(io::ErrorKind::BrokenPipe))
+    }
+
+    fn flush(&mut self) -> io::Result<()> {
+        Ok(())
+    }
+}
+
+#[test]
+fn a_reader_of_the_system_is_a_source(rt: HostRuntime) {
+    let input: &[u8] = b"abc";
+    let mut source = StdinSource::new(input);
+    let mut buf = [0; 2];
+    assert!(rt; matches!(source.take(&mut buf), Ok(2)));
+    assert!(rt; buf == *b"ab");
+    assert!(rt; matches!(source.take(&mut buf), Ok(1)));
+    assert!(rt; buf[0] == b'c');
+    assert!(rt; matches!(source.take(&mut buf), Ok(0)));
+    assert!(rt; matches!(StdinSource::new(Broken).take(&mut buf), Err(Failed)));
+    let mut standard = StdinSource::new(rt.stdin());
+    assert!(rt;
+        matches!(standard.take(&mut buf), Ok(0)),
+        "a test has no input"
+    );
+}
+
+#[test]
+fn a_writer_of_the_system_is_a_sink(rt: HostRuntime) {
+    let mut room = [0; 4];
+    let mut sink = StdoutSink::new(&mut room[..]);
+    assert!(rt; matches!(sink.put(b"abc"), Ok(())));
+    assert!(rt; matches!(sink.put(b"de"), Err(Failed)));
+    assert!(rt; room == *b"abcd");
+    assert!(rt; matches!(StdoutSink::new(Broken).put(b"a"), Err(Failed)));
+    let mut standard = StdoutSink::new(rt.stdout());
+    assert!(rt;
+        matches!(
+            standard.put(b"a line of the test of standard output\n"),
+            Ok(())
+        )
+    );
+}

@@ -1,0 +1,249 @@
+//! Whole sessions with searches, with their exact bytes.
+
+use crate::run_tests::check;
+use io_edges::{FixedClock, MemSink, MemSource, OpenGate};
+use span_types::{Bytes, Calls, Memory, Moments};
+use trace_shell::{Ended, run};
+use traceql_types::ScriptedMaker;
+
+/// Two traces that start together: the one of the lesser id comes first, and one is asked for.
+const RANKED: (&str, &str) = (
+    r#"search { }
+push {"resourceSpans":[{"scopeSpans":[{"spans":[{"traceId":"000000000000000000000000000000a2","spanId":"00000000000000b1","parentSpanId":"","name":"x","startTimeUnixNano":"5","endTimeUnixNano":"9"},{"traceId":"000000000000000000000000000000a1","spanId":"00000000000000b1","parentSpanId":"","name":"x","startTimeUnixNano":"5","endTimeUnixNano":"9"}]}]}]}
+search limit=1 { }
+search spss=1 { }
+"#,
+    r#"ok search as_of=0 traces=0 {"traces":[]}
+ok push 0 accepted=2 rejected=0 skipped=0
+ok search as_of=1 traces=1 {"traces":[{"durationNanos":"4","rootName":"x","rootService":null,"spanSets":[{"by":[],"matched":1,"spans":[{"attributes":[],"durationNanos":"4","name":"x","spanId":"00000000000000b1","startTimeUnixNano":"5"}]}],"startTimeUnixNano":"5","traceId":"000000000000000000000000000000a1"}]}
+ok search as_of=1 traces=2 {"traces":[{"durationNanos":"4","rootName":"x","rootService":null,"spanSets":[{"by":[],"matched":1,"spans":[{"attributes":[],"durationNanos":"4","name":"x","spanId":"00000000000000b1","startTimeUnixNano":"5"}]}],"startTimeUnixNano":"5","traceId":"000000000000000000000000000000a1"},{"durationNanos":"4","rootName":"x","rootService":null,"spanSets":[{"by":[],"matched":1,"spans":[{"attributes":[],"durationNanos":"4","name":"x","spanId":"00000000000000b1","startTimeUnixNano":"5"}]}],"startTimeUnixNano":"5","traceId":"000000000000000000000000000000a2"}]}
+"#,
+);
+
+/// An attribute that is missing or of another kind, and patterns of whole names.
+const MISSING: (&str, &str) = (
+    r#"push {"resourceSpans":[{"scopeSpans":[{"spans":[{"traceId":"000000000000000000000000000000a1","spanId":"00000000000000b1","parentSpanId":"","name":"p","startTimeUnixNano":"1","endTimeUnixNano":"2"},{"traceId":"000000000000000000000000000000a1","spanId":"00000000000000b2","parentSpanId":"","name":"q","startTimeUnixNano":"1","endTimeUnixNano":"2","attributes":[{"key":"v","value":{"intValue":"1"}}]}]}]}]}
+search { .v != "a" }
+search { .v = nil }
+search { .v != nil }
+search { name =~ "p|q" }
+search { name !~ "p.*" }
+search { 1 / 0 = nil }
+search { 2 ^ -1 = nil }
+"#,
+    r#"ok push 0 accepted=2 rejected=0 skipped=0
+ok search as_of=1 traces=0 {"traces":[]}
+ok search as_of=1 traces=1 {"traces":[{"durationNanos":"1","rootName":"p","rootService":null,"spanSets":[{"by":[],"matched":1,"spans":[{"attributes":[],"durationNanos":"1","name":"p","spanId":"00000000000000b1","startTimeUnixNano":"1"}]}],"startTimeUnixNano":"1","traceId":"000000000000000000000000000000a1"}]}
+ok search as_of=1 traces=1 {"traces":[{"durationNanos":"1","rootName":"p","rootService":null,"spanSets":[{"by":[],"matched":1,"spans":[{"attributes":[],"durationNanos":"1","name":"q","spanId":"00000000000000b2","startTimeUnixNano":"1"}]}],"startTimeUnixNano":"1","traceId":"000000000000000000000000000000a1"}]}
+ok search as_of=1 traces=1 {"traces":[{"durationNanos":"1","rootName":"p","rootService":null,"spanSets":[{"by":[],"matched":2,"spans":[{"attributes":[],"durationNanos":"1","name":"p","spanId":"00000000000000b1","startTimeUnixNano":"1"},{"attributes":[],"durationNanos":"1","name":"q","spanId":"00000000000000b2","startTimeUnixNano":"1"}]}],"startTimeUnixNano":"1","traceId":"000000000000000000000000000000a1"}]}
+ok search as_of=1 traces=1 {"traces":[{"durationNanos":"1","rootName":"p","rootService":null,"spanSets":[{"by":[],"matched":1,"spans":[{"attributes":[],"durationNanos":"1","name":"q","spanId":"00000000000000b2","startTimeUnixNano":"1"}]}],"startTimeUnixNano":"1","traceId":"000000000000000000000000000000a1"}]}
+ok search as_of=1 traces=1 {"traces":[{"durationNanos":"1","rootName":"p","rootService":null,"spanSets":[{"by":[],"matched":2,"spans":[{"attributes":[],"durationNanos":"1","name":"p","spanId":"00000000000000b1","startTimeUnixNano":"1"},{"attributes":[],"durationNanos":"1","name":"q","spanId":"00000000000000b2","startTimeUnixNano":"1"}]}],"startTimeUnixNano":"1","traceId":"000000000000000000000000000000a1"}]}
+ok search as_of=1 traces=1 {"traces":[{"durationNanos":"1","rootName":"p","rootService":null,"spanSets":[{"by":[],"matched":2,"spans":[{"attributes":[],"durationNanos":"1","name":"p","spanId":"00000000000000b1","startTimeUnixNano":"1"},{"attributes":[],"durationNanos":"1","name":"q","spanId":"00000000000000b2","startTimeUnixNano":"1"}]}],"startTimeUnixNano":"1","traceId":"000000000000000000000000000000a1"}]}
+"#,
+);
+
+/// A ring of two spans, and a span that is its own parent.
+const RINGS: (&str, &str) = (
+    r#"push {"resourceSpans":[{"scopeSpans":[{"spans":[{"traceId":"000000000000000000000000000000a1","spanId":"00000000000000b1","parentSpanId":"00000000000000b2","name":"p","startTimeUnixNano":"1","endTimeUnixNano":"2"},{"traceId":"000000000000000000000000000000a1","spanId":"00000000000000b2","parentSpanId":"00000000000000b1","name":"q","startTimeUnixNano":"1","endTimeUnixNano":"2"},{"traceId":"000000000000000000000000000000a1","spanId":"00000000000000b3","parentSpanId":"00000000000000b3","name":"r","startTimeUnixNano":"1","endTimeUnixNano":"2"}]}]}]}
+search { name = "p" } >> { }
+search { name = "r" } << { }
+search { name = "p" } !>> { }
+search { name = "r" } ~ { }
+search { name = "q" } < { }
+search { } &> { name = "r" }
+"#,
+    r#"ok push 0 accepted=3 rejected=0 skipped=0
+ok search as_of=1 traces=1 {"traces":[{"durationNanos":"1","rootName":null,"rootService":null,"spanSets":[{"by":[],"matched":2,"spans":[{"attributes":[],"durationNanos":"1","name":"p","spanId":"00000000000000b1","startTimeUnixNano":"1"},{"attributes":[],"durationNanos":"1","name":"q","spanId":"00000000000000b2","startTimeUnixNano":"1"}]}],"startTimeUnixNano":"1","traceId":"000000000000000000000000000000a1"}]}
+ok search as_of=1 traces=1 {"traces":[{"durationNanos":"1","rootName":null,"rootService":null,"spanSets":[{"by":[],"matched":1,"spans":[{"attributes":[],"durationNanos":"1","name":"r","spanId":"00000000000000b3","startTimeUnixNano":"1"}]}],"startTimeUnixNano":"1","traceId":"000000000000000000000000000000a1"}]}
+ok search as_of=1 traces=1 {"traces":[{"durationNanos":"1","rootName":null,"rootService":null,"spanSets":[{"by":[],"matched":1,"spans":[{"attributes":[],"durationNanos":"1","name":"r","spanId":"00000000000000b3","startTimeUnixNano":"1"}]}],"startTimeUnixNano":"1","traceId":"000000000000000000000000000000a1"}]}
+ok search as_of=1 traces=0 {"traces":[]}
+ok search as_of=1 traces=1 {"traces":[{"durationNanos":"1","rootName":null,"rootService":null,"spanSets":[{"by":[],"matched":1,"spans":[{"attributes":[],"durationNanos":"1","name":"p","spanId":"00000000000000b1","startTimeUnixNano":"1"}]}],"startTimeUnixNano":"1","traceId":"000000000000000000000000000000a1"}]}
+ok search as_of=1 traces=1 {"traces":[{"durationNanos":"1","rootName":null,"rootService":null,"spanSets":[{"by":[],"matched":1,"spans":[{"attributes":[],"durationNanos":"1","name":"r","spanId":"00000000000000b3","startTimeUnixNano":"1"}]}],"startTimeUnixNano":"1","traceId":"000000000000000000000000000000a1"}]}
+"#,
+);
+
+/// Averages are exact, a spanset tells how many spans it has where fewer are shown, ranges pick traces, and a limit of 0 is refused.
+const AVERAGES: (&str, &str) = (
+    r#"push {"resourceSpans":[{"scopeSpans":[{"spans":[{"traceId":"000000000000000000000000000000a1","spanId":"00000000000000b1","parentSpanId":"","name":"p","startTimeUnixNano":"1","endTimeUnixNano":"2","attributes":[{"key":"v","value":{"intValue":"1"}}]},{"traceId":"000000000000000000000000000000a1","spanId":"00000000000000b2","parentSpanId":"","name":"q","startTimeUnixNano":"1","endTimeUnixNano":"2","attributes":[{"key":"v","value":{"intValue":"2"}}]}]}]}]}
+search { } | avg(.v) = 1
+search { } | avg(.v) > 1
+search { } | avg(.v) = avg(.v)
+search { } | count() = 0
+search spss=1 { }
+search start=1970-01-01T00:00:00.000000001Z end=2 { }
+search start=1 end=2 { }
+search start=2 { }
+search limit=0 { }
+"#,
+    r#"ok push 0 accepted=2 rejected=0 skipped=0
+ok search as_of=1 traces=0 {"traces":[]}
+ok search as_of=1 traces=1 {"traces":[{"durationNanos":"1","rootName":"p","rootService":null,"spanSets":[{"by":[],"matched":2,"spans":[{"attributes":[],"durationNanos":"1","name":"p","spanId":"00000000000000b1","startTimeUnixNano":"1"},{"attributes":[],"durationNanos":"1","name":"q","spanId":"00000000000000b2","startTimeUnixNano":"1"}]}],"startTimeUnixNano":"1","traceId":"000000000000000000000000000000a1"}]}
+ok search as_of=1 traces=1 {"traces":[{"durationNanos":"1","rootName":"p","rootService":null,"spanSets":[{"by":[],"matched":2,"spans":[{"attributes":[],"durationNanos":"1","name":"p","spanId":"00000000000000b1","startTimeUnixNano":"1"},{"attributes":[],"durationNanos":"1","name":"q","spanId":"00000000000000b2","startTimeUnixNano":"1"}]}],"startTimeUnixNano":"1","traceId":"000000000000000000000000000000a1"}]}
+ok search as_of=1 traces=0 {"traces":[]}
+ok search as_of=1 traces=1 {"traces":[{"durationNanos":"1","rootName":"p","rootService":null,"spanSets":[{"by":[],"matched":2,"spans":[{"attributes":[],"durationNanos":"1","name":"p","spanId":"00000000000000b1","startTimeUnixNano":"1"}]}],"startTimeUnixNano":"1","traceId":"000000000000000000000000000000a1"}]}
+ok search as_of=1 traces=1 {"traces":[{"durationNanos":"1","rootName":"p","rootService":null,"spanSets":[{"by":[],"matched":2,"spans":[{"attributes":[],"durationNanos":"1","name":"p","spanId":"00000000000000b1","startTimeUnixNano":"1"},{"attributes":[],"durationNanos":"1","name":"q","spanId":"00000000000000b2","startTimeUnixNano":"1"}]}],"startTimeUnixNano":"1","traceId":"000000000000000000000000000000a1"}]}
+ok search as_of=1 traces=1 {"traces":[{"durationNanos":"1","rootName":"p","rootService":null,"spanSets":[{"by":[],"matched":2,"spans":[{"attributes":[],"durationNanos":"1","name":"p","spanId":"00000000000000b1","startTimeUnixNano":"1"},{"attributes":[],"durationNanos":"1","name":"q","spanId":"00000000000000b2","startTimeUnixNano":"1"}]}],"startTimeUnixNano":"1","traceId":"000000000000000000000000000000a1"}]}
+ok search as_of=1 traces=0 {"traces":[]}
+refused bad-request at=7
+"#,
+);
+
+/// A sum that 64 bits do not hold.
+const SUMS: (&str, &str) = (
+    r#"push {"resourceSpans":[{"scopeSpans":[{"spans":[{"traceId":"000000000000000000000000000000a1","spanId":"00000000000000b1","parentSpanId":"","name":"p","startTimeUnixNano":"1","endTimeUnixNano":"2","attributes":[{"key":"v","value":{"intValue":"9223372036854775807"}}]},{"traceId":"000000000000000000000000000000a1","spanId":"00000000000000b2","parentSpanId":"","name":"q","startTimeUnixNano":"1","endTimeUnixNano":"2","attributes":[{"key":"v","value":{"intValue":"9223372036854775807"}}]}]}]}]}
+search { } | sum(.v) > 9223372036854775807
+"#,
+    r#"ok push 0 accepted=2 rejected=0 skipped=0
+ok search as_of=1 traces=1 {"traces":[{"durationNanos":"1","rootName":"p","rootService":null,"spanSets":[{"by":[],"matched":2,"spans":[{"attributes":[],"durationNanos":"1","name":"p","spanId":"00000000000000b1","startTimeUnixNano":"1"},{"attributes":[],"durationNanos":"1","name":"q","spanId":"00000000000000b2","startTimeUnixNano":"1"}]}],"startTimeUnixNano":"1","traceId":"000000000000000000000000000000a1"}]}
+"#,
+);
+
+/// A group for each name, with a selected attribute.
+const GROUPS: (&str, &str) = (
+    r#"push {"resourceSpans":[{"scopeSpans":[{"spans":[{"traceId":"000000000000000000000000000000a1","spanId":"00000000000000b1","parentSpanId":"","name":"p","startTimeUnixNano":"1","endTimeUnixNano":"2","attributes":[{"key":"v","value":{"intValue":"1"}}]},{"traceId":"000000000000000000000000000000a1","spanId":"00000000000000b2","parentSpanId":"","name":"q","startTimeUnixNano":"1","endTimeUnixNano":"3"}]}]}]}
+search { } | by(name) | select(.v)
+"#,
+    r#"ok push 0 accepted=2 rejected=0 skipped=0
+ok search as_of=1 traces=1 {"traces":[{"durationNanos":"2","rootName":"p","rootService":null,"spanSets":[{"by":[{"stringValue":"p"}],"matched":1,"spans":[{"attributes":[{"key":".v","value":{"intValue":"1"}}],"durationNanos":"1","name":"p","spanId":"00000000000000b1","startTimeUnixNano":"1"}]},{"by":[{"stringValue":"q"}],"matched":1,"spans":[{"attributes":[{"key":".v","value":null}],"durationNanos":"2","name":"q","spanId":"00000000000000b2","startTimeUnixNano":"1"}]}],"startTimeUnixNano":"1","traceId":"000000000000000000000000000000a1"}]}
+"#,
+);
+
+/// Queries that are none, or whose kinds or patterns do not do.
+const REFUSED: (&str, &str) = (
+    r#"search { (((((((((((((((((((((((((((((((((((((((((((((((((((((((((((((((((
+search { .v = 0.5 }
+search { duration > 1.5s }
+search { .a || .b && .c }
+search { name =~ "a)(b" }
+search { name = 1 }
+search { name
+search
+"#,
+    r#"refused bad-query too-deep at=66
+refused bad-query fraction-literal at=7
+ok search as_of=0 traces=0 {"traces":[]}
+ok search as_of=0 traces=0 {"traces":[]}
+refused bad-pattern at=10
+refused bad-type kind-clash at=7
+refused bad-query unended at=6
+refused bad-request at=6
+"#,
+);
+
+/// Each operator over a chain `a`, `b`, `c` with a sibling `s` of `b`, a ring of `p` and `q` with a tail `t`, the orphans `o` and `n` of one parent, and `l` alone.
+const OPERATORS: (&str, &str) = (
+    r#"push {"resourceSpans":[{"scopeSpans":[{"spans":[{"traceId":"000000000000000000000000000000a1","spanId":"0000000000000001","parentSpanId":"","name":"a","startTimeUnixNano":"1","endTimeUnixNano":"2"},{"traceId":"000000000000000000000000000000a1","spanId":"0000000000000002","parentSpanId":"0000000000000001","name":"b","startTimeUnixNano":"1","endTimeUnixNano":"2"},{"traceId":"000000000000000000000000000000a1","spanId":"0000000000000003","parentSpanId":"0000000000000002","name":"c","startTimeUnixNano":"1","endTimeUnixNano":"2"},{"traceId":"000000000000000000000000000000a1","spanId":"0000000000000004","parentSpanId":"0000000000000001","name":"s","startTimeUnixNano":"1","endTimeUnixNano":"2"},{"traceId":"000000000000000000000000000000a1","spanId":"0000000000000005","parentSpanId":"0000000000000006","name":"p","startTimeUnixNano":"1","endTimeUnixNano":"2"},{"traceId":"000000000000000000000000000000a1","spanId":"0000000000000006","parentSpanId":"0000000000000005","name":"q","startTimeUnixNano":"1","endTimeUnixNano":"2"},{"traceId":"000000000000000000000000000000a1","spanId":"0000000000000007","parentSpanId":"0000000000000005","name":"t","startTimeUnixNano":"1","endTimeUnixNano":"2"},{"traceId":"000000000000000000000000000000a1","spanId":"0000000000000008","parentSpanId":"0000000000000099","name":"o","startTimeUnixNano":"1","endTimeUnixNano":"2"},{"traceId":"000000000000000000000000000000a1","spanId":"0000000000000009","parentSpanId":"0000000000000099","name":"n","startTimeUnixNano":"1","endTimeUnixNano":"2"},{"traceId":"000000000000000000000000000000a1","spanId":"000000000000000a","parentSpanId":"","name":"l","startTimeUnixNano":"1","endTimeUnixNano":"2"}]}]}]}
+search spss=20 { name =~ "b|p|o|l" } > { }
+search spss=20 { name =~ "b|p|o|l" } >> { }
+search spss=20 { name =~ "b|p|o|l" } < { }
+search spss=20 { name =~ "b|p|o|l" } << { }
+search spss=20 { name =~ "b|p|o|l" } ~ { }
+search spss=20 { name =~ "b|p|o|l" } !> { }
+search spss=20 { name =~ "b|p|o|l" } !>> { }
+search spss=20 { name =~ "b|p|o|l" } !< { }
+search spss=20 { name =~ "b|p|o|l" } !<< { }
+search spss=20 { name =~ "b|p|o|l" } !~ { }
+search spss=20 { name =~ "b|p|o|l" } &> { }
+search spss=20 { name =~ "b|p|o|l" } &>> { }
+search spss=20 { name =~ "b|p|o|l" } &< { }
+search spss=20 { name =~ "b|p|o|l" } &<< { }
+search spss=20 { name =~ "b|p|o|l" } &~ { }
+"#,
+    r#"ok push 0 accepted=10 rejected=0 skipped=0
+ok search as_of=1 traces=1 {"traces":[{"durationNanos":"1","rootName":"a","rootService":null,"spanSets":[{"by":[],"matched":3,"spans":[{"attributes":[],"durationNanos":"1","name":"c","spanId":"0000000000000003","startTimeUnixNano":"1"},{"attributes":[],"durationNanos":"1","name":"q","spanId":"0000000000000006","startTimeUnixNano":"1"},{"attributes":[],"durationNanos":"1","name":"t","spanId":"0000000000000007","startTimeUnixNano":"1"}]}],"startTimeUnixNano":"1","traceId":"000000000000000000000000000000a1"}]}
+ok search as_of=1 traces=1 {"traces":[{"durationNanos":"1","rootName":"a","rootService":null,"spanSets":[{"by":[],"matched":4,"spans":[{"attributes":[],"durationNanos":"1","name":"c","spanId":"0000000000000003","startTimeUnixNano":"1"},{"attributes":[],"durationNanos":"1","name":"p","spanId":"0000000000000005","startTimeUnixNano":"1"},{"attributes":[],"durationNanos":"1","name":"q","spanId":"0000000000000006","startTimeUnixNano":"1"},{"attributes":[],"durationNanos":"1","name":"t","spanId":"0000000000000007","startTimeUnixNano":"1"}]}],"startTimeUnixNano":"1","traceId":"000000000000000000000000000000a1"}]}
+ok search as_of=1 traces=1 {"traces":[{"durationNanos":"1","rootName":"a","rootService":null,"spanSets":[{"by":[],"matched":2,"spans":[{"attributes":[],"durationNanos":"1","name":"a","spanId":"0000000000000001","startTimeUnixNano":"1"},{"attributes":[],"durationNanos":"1","name":"q","spanId":"0000000000000006","startTimeUnixNano":"1"}]}],"startTimeUnixNano":"1","traceId":"000000000000000000000000000000a1"}]}
+ok search as_of=1 traces=1 {"traces":[{"durationNanos":"1","rootName":"a","rootService":null,"spanSets":[{"by":[],"matched":3,"spans":[{"attributes":[],"durationNanos":"1","name":"a","spanId":"0000000000000001","startTimeUnixNano":"1"},{"attributes":[],"durationNanos":"1","name":"p","spanId":"0000000000000005","startTimeUnixNano":"1"},{"attributes":[],"durationNanos":"1","name":"q","spanId":"0000000000000006","startTimeUnixNano":"1"}]}],"startTimeUnixNano":"1","traceId":"000000000000000000000000000000a1"}]}
+ok search as_of=1 traces=1 {"traces":[{"durationNanos":"1","rootName":"a","rootService":null,"spanSets":[{"by":[],"matched":2,"spans":[{"attributes":[],"durationNanos":"1","name":"s","spanId":"0000000000000004","startTimeUnixNano":"1"},{"attributes":[],"durationNanos":"1","name":"n","spanId":"0000000000000009","startTimeUnixNano":"1"}]}],"startTimeUnixNano":"1","traceId":"000000000000000000000000000000a1"}]}
+ok search as_of=1 traces=1 {"traces":[{"durationNanos":"1","rootName":"a","rootService":null,"spanSets":[{"by":[],"matched":7,"spans":[{"attributes":[],"durationNanos":"1","name":"a","spanId":"0000000000000001","startTimeUnixNano":"1"},{"attributes":[],"durationNanos":"1","name":"b","spanId":"0000000000000002","startTimeUnixNano":"1"},{"attributes":[],"durationNanos":"1","name":"s","spanId":"0000000000000004","startTimeUnixNano":"1"},{"attributes":[],"durationNanos":"1","name":"p","spanId":"0000000000000005","startTimeUnixNano":"1"},{"attributes":[],"durationNanos":"1","name":"o","spanId":"0000000000000008","startTimeUnixNano":"1"},{"attributes":[],"durationNanos":"1","name":"n","spanId":"0000000000000009","startTimeUnixNano":"1"},{"attributes":[],"durationNanos":"1","name":"l","spanId":"000000000000000a","startTimeUnixNano":"1"}]}],"startTimeUnixNano":"1","traceId":"000000000000000000000000000000a1"}]}
+ok search as_of=1 traces=1 {"traces":[{"durationNanos":"1","rootName":"a","rootService":null,"spanSets":[{"by":[],"matched":6,"spans":[{"attributes":[],"durationNanos":"1","name":"a","spanId":"0000000000000001","startTimeUnixNano":"1"},{"attributes":[],"durationNanos":"1","name":"b","spanId":"0000000000000002","startTimeUnixNano":"1"},{"attributes":[],"durationNanos":"1","name":"s","spanId":"0000000000000004","startTimeUnixNano":"1"},{"attributes":[],"durationNanos":"1","name":"o","spanId":"0000000000000008","startTimeUnixNano":"1"},{"attributes":[],"durationNanos":"1","name":"n","spanId":"0000000000000009","startTimeUnixNano":"1"},{"attributes":[],"durationNanos":"1","name":"l","spanId":"000000000000000a","startTimeUnixNano":"1"}]}],"startTimeUnixNano":"1","traceId":"000000000000000000000000000000a1"}]}
+ok search as_of=1 traces=1 {"traces":[{"durationNanos":"1","rootName":"a","rootService":null,"spanSets":[{"by":[],"matched":8,"spans":[{"attributes":[],"durationNanos":"1","name":"b","spanId":"0000000000000002","startTimeUnixNano":"1"},{"attributes":[],"durationNanos":"1","name":"c","spanId":"0000000000000003","startTimeUnixNano":"1"},{"attributes":[],"durationNanos":"1","name":"s","spanId":"0000000000000004","startTimeUnixNano":"1"},{"attributes":[],"durationNanos":"1","name":"p","spanId":"0000000000000005","startTimeUnixNano":"1"},{"attributes":[],"durationNanos":"1","name":"t","spanId":"0000000000000007","startTimeUnixNano":"1"},{"attributes":[],"durationNanos":"1","name":"o","spanId":"0000000000000008","startTimeUnixNano":"1"},{"attributes":[],"durationNanos":"1","name":"n","spanId":"0000000000000009","startTimeUnixNano":"1"},{"attributes":[],"durationNanos":"1","name":"l","spanId":"000000000000000a","startTimeUnixNano":"1"}]}],"startTimeUnixNano":"1","traceId":"000000000000000000000000000000a1"}]}
+ok search as_of=1 traces=1 {"traces":[{"durationNanos":"1","rootName":"a","rootService":null,"spanSets":[{"by":[],"matched":7,"spans":[{"attributes":[],"durationNanos":"1","name":"b","spanId":"0000000000000002","startTimeUnixNano":"1"},{"attributes":[],"durationNanos":"1","name":"c","spanId":"0000000000000003","startTimeUnixNano":"1"},{"attributes":[],"durationNanos":"1","name":"s","spanId":"0000000000000004","startTimeUnixNano":"1"},{"attributes":[],"durationNanos":"1","name":"t","spanId":"0000000000000007","startTimeUnixNano":"1"},{"attributes":[],"durationNanos":"1","name":"o","spanId":"0000000000000008","startTimeUnixNano":"1"},{"attributes":[],"durationNanos":"1","name":"n","spanId":"0000000000000009","startTimeUnixNano":"1"},{"attributes":[],"durationNanos":"1","name":"l","spanId":"000000000000000a","startTimeUnixNano":"1"}]}],"startTimeUnixNano":"1","traceId":"000000000000000000000000000000a1"}]}
+ok search as_of=1 traces=1 {"traces":[{"durationNanos":"1","rootName":"a","rootService":null,"spanSets":[{"by":[],"matched":8,"spans":[{"attributes":[],"durationNanos":"1","name":"a","spanId":"0000000000000001","startTimeUnixNano":"1"},{"attributes":[],"durationNanos":"1","name":"b","spanId":"0000000000000002","startTimeUnixNano":"1"},{"attributes":[],"durationNanos":"1","name":"c","spanId":"0000000000000003","startTimeUnixNano":"1"},{"attributes":[],"durationNanos":"1","name":"p","spanId":"0000000000000005","startTimeUnixNano":"1"},{"attributes":[],"durationNanos":"1","name":"q","spanId":"0000000000000006","startTimeUnixNano":"1"},{"attributes":[],"durationNanos":"1","name":"t","spanId":"0000000000000007","startTimeUnixNano":"1"},{"attributes":[],"durationNanos":"1","name":"o","spanId":"0000000000000008","startTimeUnixNano":"1"},{"attributes":[],"durationNanos":"1","name":"l","spanId":"000000000000000a","startTimeUnixNano":"1"}]}],"startTimeUnixNano":"1","traceId":"000000000000000000000000000000a1"}]}
+ok search as_of=1 traces=1 {"traces":[{"durationNanos":"1","rootName":"a","rootService":null,"spanSets":[{"by":[],"matched":5,"spans":[{"attributes":[],"durationNanos":"1","name":"b","spanId":"0000000000000002","startTimeUnixNano":"1"},{"attributes":[],"durationNanos":"1","name":"c","spanId":"0000000000000003","startTimeUnixNano":"1"},{"attributes":[],"durationNanos":"1","name":"p","spanId":"0000000000000005","startTimeUnixNano":"1"},{"attributes":[],"durationNanos":"1","name":"q","spanId":"0000000000000006","startTimeUnixNano":"1"},{"attributes":[],"durationNanos":"1","name":"t","spanId":"0000000000000007","startTimeUnixNano":"1"}]}],"startTimeUnixNano":"1","traceId":"000000000000000000000000000000a1"}]}
+ok search as_of=1 traces=1 {"traces":[{"durationNanos":"1","rootName":"a","rootService":null,"spanSets":[{"by":[],"matched":5,"spans":[{"attributes":[],"durationNanos":"1","name":"b","spanId":"0000000000000002","startTimeUnixNano":"1"},{"attributes":[],"durationNanos":"1","name":"c","spanId":"0000000000000003","startTimeUnixNano":"1"},{"attributes":[],"durationNanos":"1","name":"p","spanId":"0000000000000005","startTimeUnixNano":"1"},{"attributes":[],"durationNanos":"1","name":"q","spanId":"0000000000000006","startTimeUnixNano":"1"},{"attributes":[],"durationNanos":"1","name":"t","spanId":"0000000000000007","startTimeUnixNano":"1"}]}],"startTimeUnixNano":"1","traceId":"000000000000000000000000000000a1"}]}
+ok search as_of=1 traces=1 {"traces":[{"durationNanos":"1","rootName":"a","rootService":null,"spanSets":[{"by":[],"matched":4,"spans":[{"attributes":[],"durationNanos":"1","name":"a","spanId":"0000000000000001","startTimeUnixNano":"1"},{"attributes":[],"durationNanos":"1","name":"b","spanId":"0000000000000002","startTimeUnixNano":"1"},{"attributes":[],"durationNanos":"1","name":"p","spanId":"0000000000000005","startTimeUnixNano":"1"},{"attributes":[],"durationNanos":"1","name":"q","spanId":"0000000000000006","startTimeUnixNano":"1"}]}],"startTimeUnixNano":"1","traceId":"000000000000000000000000000000a1"}]}
+ok search as_of=1 traces=1 {"traces":[{"durationNanos":"1","rootName":"a","rootService":null,"spanSets":[{"by":[],"matched":4,"spans":[{"attributes":[],"durationNanos":"1","name":"a","spanId":"0000000000000001","startTimeUnixNano":"1"},{"attributes":[],"durationNanos":"1","name":"b","spanId":"0000000000000002","startTimeUnixNano":"1"},{"attributes":[],"durationNanos":"1","name":"p","spanId":"0000000000000005","startTimeUnixNano":"1"},{"attributes":[],"durationNanos":"1","name":"q","spanId":"0000000000000006","startTimeUnixNano":"1"}]}],"startTimeUnixNano":"1","traceId":"000000000000000000000000000000a1"}]}
+ok search as_of=1 traces=1 {"traces":[{"durationNanos":"1","rootName":"a","rootService":null,"spanSets":[{"by":[],"matched":4,"spans":[{"attributes":[],"durationNanos":"1","name":"b","spanId":"0000000000000002","startTimeUnixNano":"1"},{"attributes":[],"durationNanos":"1","name":"s","spanId":"0000000000000004","startTimeUnixNano":"1"},{"attributes":[],"durationNanos":"1","name":"o","spanId":"0000000000000008","startTimeUnixNano":"1"},{"attributes":[],"durationNanos":"1","name":"n","spanId":"0000000000000009","startTimeUnixNano":"1"}]}],"startTimeUnixNano":"1","traceId":"000000000000000000000000000000a1"}]}
+"#,
+);
+
+#[test]
+fn searches_are_answered(rt: HostRuntime) -> Result<(), Memory> {
+    let alloc = rt.alloc();
+    let session = ["session"];
+    for (input, wanted) in [RANKED, MISSING, RINGS, SUMS, GROUPS, OPERATORS] {
+        check(&rt, alloc, &session, input, (&[], &[]), wanted, 0)?;
+    }
+    for (input, wanted) in [AVERAGES, REFUSED] {
+        check(&rt, alloc, &session, input, (&[], &[]), wanted, 7)?;
+    }
+    Ok(())
+}
+
+#[test]
+fn a_long_query_is_refused(rt: HostRuntime) -> Result<(), Memory> {
+    let alloc = rt.alloc();
+    let mut line = String::from_str(alloc, "search ")?;
+    for _ in 0..8193 {
+        line.push(' ')?;
+    }
+    let wanted = "refused bad-query too-long length=8193\n";
+    check(
+        &rt,
+        alloc,
+        &["session"],
+        line.as_str(),
+        (&[], &[]),
+        wanted,
+        7,
+    )
+}
+
+#[test]
+fn words_make_the_line_of_a_search(rt: HostRuntime) -> Result<(), Memory> {
+    let alloc = rt.alloc();
+    let empty = "ok search as_of=0 traces=0 {\"traces\":[]}\n";
+    check(&rt, alloc, &["search", "{ }"], "", (&[], &[]), empty, 0)?;
+    let all = [
+        "search", "--limit", "5", "--spss", "1", "--start", "1", "--end", "2", "{ }",
+    ];
+    check(&rt, alloc, &all, "", (&[], &[]), empty, 0)?;
+    let bad = ["search", "--limit", "0", "{ }"];
+    check(
+        &rt,
+        alloc,
+        &bad,
+        "",
+        (&[], &[]),
+        "refused bad-request at=7\n",
+        7,
+    )?;
+    check(&rt, alloc, &["search"], "", (&[], &[]), "", 2)
+}
+
+#[test]
+fn a_pattern_that_the_maker_refuses_is_too_big(rt: HostRuntime) -> Result<(), Memory> {
+    let alloc = rt.alloc();
+    let mut words = Vec::new(alloc);
+    words.push(String::from_str(alloc, "session")?)?;
+    let input = Vec::from_slice(alloc, b"search { name =~ \"a\" }")?;
+    let mut source = MemSource::new(Bytes::of(input), Calls::of(Vec::new(alloc)));
+    let mut sink = MemSink::new(alloc, Calls::of(Vec::new(alloc)));
+    let mut clock = FixedClock::new(Moments::of(Vec::new(alloc)));
+    let mut patterns = ScriptedMaker::new(alloc, Calls::of(Vec::from_slice(alloc, &[1])?));
+    let Ended { status, disk: () } = run(
+        &rt,
+        alloc,
+        words.as_slice(),
+        &mut source,
+        &mut sink,
+        (),
+        &mut clock,
+        &mut patterns,
+        &OpenGate,
+    );
+    assert!(rt; sink.taken() == b"refused pattern-too-big at=10\n".as_slice());
+    assert_eq!(rt; status, 7);
+    Ok(())
+}

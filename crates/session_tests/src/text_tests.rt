@@ -1,0 +1,270 @@
+//! Lines and replies with their exact bytes, worked out by hand.
+
+use search_text::Texts;
+use session_text::{QueryFault, Refusal, Reply, Request, Search, read_request, write_reply};
+use span_types::{Calls, Memory, Rows, Text};
+use spanset_eval::Results;
+use std::alloc::Global;
+use std::process::Abort;
+use std::test::Fail;
+use traceql_print::print_query;
+use traceql_types::ScriptedMaker;
+
+/// What a search asks: its counts, its range, how many patterns it has, and its query as it is printed.
+fn told(alloc: Global, search: &Search) -> Result<Text, Memory> {
+    let query = print_query(alloc, &search.checked.query)?;
+    let patterns = search.checked.patterns.len();
+    let from = search.range.from;
+    let until = match search.range.until {
+        None => String::from_str(alloc, "-")?,
+        Some(until) => until.to_string(alloc)?,
+    };
+    let limit = search.limit;
+    let spans = search.spans_per_set;
+    Ok(Text::of(format!(in alloc;
+        "search {limit} {spans} {from} {until} {patterns} {}\n",
+        query.as_str()
+    )?))
+}
+
+/// What a line asks, or the reply that refuses it. The maker refuses its second pattern.
+fn asked(alloc: Global, line: &[u8]) -> Result<Text, Memory> {
+    let refused = vec![in alloc; 2]?;
+    let mut maker = ScriptedMaker::new(alloc, Calls::of(refused));
+    match read_request(alloc, line, &mut maker) {
+        Ok(Request::Push(reading)) => {
+            let spans = reading.batch.spans.len();
+            let text = format!(in alloc;
+                "push {spans} {} {}\n",
+                reading.rejected, reading.skipped
+            )?;
+            Ok(Text::of(text))
+        }
+        Ok(Request::Trace(id)) => {
+            let digits = hex::encode(alloc, id.0.as_slice())?;
+            Ok(Text::of(format!(in alloc; "trace {digits}\n")?))
+        }
+        Ok(Request::Search(search)) => told(alloc, &search),
+        Err(why) => write_reply(alloc, &Reply::Refused(why)),
+    }
+}
+
+/// Each row is a line and what it asks, or its refusal. `_` stands for a space.
+const LINES: &str = r#"
+push => refused bad-request at=4
+push_ => refused bad-json
+push_7 => refused bad-otlp path=$
+push_{} => push 0 0 0
+push__{}_ => push 0 0 0
+push_{}{} => refused bad-json
+push_{"resourceSpans": => refused bad-json
+push_{"resourceSpans":[{"scopeSpans":7}]} => refused bad-otlp path=$.resourceSpans[0].scopeSpans
+push_{"resourceSpans":[{"scopeSpans":[{"spans":[{}]}]}]} => push 0 1 0
+push_{"resourceSpans":[{"resource":{"attributes":[{}]}}]} => push 0 0 1
+push_push_{} => refused bad-json
+Push_{} => refused bad-request at=0
+PUSH_{} => refused bad-request at=0
+pushx_{} => refused bad-request at=0
+_push_{} => refused bad-request at=0
+pus => refused bad-request at=0
+p => refused bad-request at=0
+_ => refused bad-request at=0
+__ => refused bad-request at=0
+{} => refused bad-request at=0
+trace => refused bad-request at=5
+trace_ => refused bad-request at=6
+trace__ => refused bad-request at=6
+trace_00 => refused bad-request at=6
+trace_0000000000000000000000000000a1 => refused bad-request at=6
+trace_000000000000000000000000000000a1 => trace 000000000000000000000000000000a1
+trace_000000000000000000000000000000A1 => trace 000000000000000000000000000000a1
+trace_5B8EFFF798038103D269B633813FC60C => trace 5b8efff798038103d269b633813fc60c
+trace_00000000000000000000000000000000 => refused bad-request at=6
+trace_0000000000000000000000000000000g => refused bad-request at=6
+trace_00000000000000000000000000000000a1 => refused bad-request at=6
+trace__000000000000000000000000000000a1 => refused bad-request at=6
+trace_000000000000000000000000000000a1_ => refused bad-request at=39
+trace_000000000000000000000000000000a1__ => refused bad-request at=39
+trace_000000000000000000000000000000a1_x => refused bad-request at=39
+trace_g_x => refused bad-request at=6
+Trace_000000000000000000000000000000a1 => refused bad-request at=0
+traces_000000000000000000000000000000a1 => refused bad-request at=0
+Search_{_} => refused bad-request at=0
+searches_{_} => refused bad-request at=0
+search => refused bad-request at=6
+search_ => refused bad-query unended at=0
+search__ => refused bad-query unended at=1
+search_{_} => search 20 3 0 - 0 { }
+search__{_} => search 20 3 0 - 0 { }
+search_{_}_ => search 20 3 0 - 0 { }
+search_limit=5 => refused bad-request at=14
+search_limit=5_ => refused bad-query unended at=0
+search_limit=5__{_} => search 5 3 0 - 0 { }
+search_limit=5_{_} => search 5 3 0 - 0 { }
+search_limit=1_spss=1000_{_} => search 1 1000 0 - 0 { }
+search_limit=0020_{_} => search 20 3 0 - 0 { }
+search_limit=1000_spss=1_start=7_end=9_{_} => search 1000 1 7 9 0 { }
+search_spss=2_end=9_{_} => search 20 2 0 9 0 { }
+search_end=0_{_} => search 20 3 0 0 0 { }
+search_limit=0_{_} => refused bad-request at=7
+search_limit=1001_{_} => refused bad-request at=7
+search_limit=_{_} => refused bad-request at=7
+search_limit=+5_{_} => refused bad-request at=7
+search_limit=-5_{_} => refused bad-request at=7
+search_limit=5{_} => refused bad-request at=7
+search_limit=99999999999999999999_{_} => refused bad-request at=7
+search_limit=5_spss=x_{_} => refused bad-request at=15
+search_limit=5_spss=0 => refused bad-request at=15
+search_limit=5_spss=6 => refused bad-request at=21
+search_limit=5_end=x_{_} => refused bad-request at=15
+search_limit=5_start=1_end=2 => refused bad-request at=28
+search_spss=2_limit=5_{_} => refused bad-query bad-char at=0
+search_limit=5_limit=6_{_} => refused bad-query bad-char at=0
+search_end=1_start=2_{_} => refused bad-query bad-char at=0
+search_Limit=5_{_} => refused bad-query bad-char at=0
+search_limits=5_{_} => refused bad-query bad-char at=0
+search_start=18446744073709551615_{_} => search 20 3 18446744073709551615 - 0 { }
+search_start=18446744073709551616_{_} => refused bad-request at=7
+search_start=1970-01-01T00:00:00Z_{_} => search 20 3 0 - 0 { }
+search_start=1970-01-01T00:00:01.5Z_end=1970-01-01T01:00:02+01:00_{_} => search 20 3 1500000000 2000000000 0 { }
+search_start=1969-12-31T23:59:59Z_{_} => refused bad-request at=7
+search_end=2554-07-21T23:34:33.709551615Z_{_} => search 20 3 0 18446744073709551615 0 { }
+search_end=2554-07-21T23:34:33.709551616Z_{_} => refused bad-request at=7
+search_start=1970-01-01_{_} => refused bad-request at=7
+search_start=_{_} => refused bad-request at=7
+search_{__.a_=_1_} => search 20 3 0 - 0 { .a = 1 }
+search_{_.a_=~_"x"_} => search 20 3 0 - 1 { .a =~ "x" }
+search_? => refused bad-query bad-char at=0
+search_{_} } => refused bad-query unexpected at=4
+search_{_.a_=_"x_} => refused bad-query unended at=7
+search_{_.a_=_9223372036854775808_} => refused bad-query number-range at=7
+search_{_.a_=_1.5_} => refused bad-query fraction-literal at=7
+search_{_status_=_1_} => refused bad-type kind-clash at=9
+search_{_1_} => refused bad-type not-truth at=2
+search_{_}_|_avg(duration_/_2)_>_1 => refused bad-type division-in-aggregate at=19
+search_{_}_|_avg(name)_>_1 => refused bad-type not-number at=10
+search_limit=5_{_.a_=~_"("_} => refused bad-pattern at=8
+search_{_.a_=~_"x"_&&_.b_=~_"y"_} => refused pattern-too-big at=21
+cut => refused bad-request at=0
+cutall => refused bad-request at=0
+flush => refused bad-request at=0
+compact => refused bad-request at=0
+reclaim => refused bad-request at=0
+"#;
+
+fn check_line(rt: &(impl Abort + AllocGlobal), line: &[u8], wanted: &str) -> Result<(), Memory> {
+    let text = asked(rt.alloc(), line)?;
+    let got = text.as_str().strip_suffix('\n');
+    assert!(rt; got == Some(wanted), "{wanted}");
+    Ok(())
+}
+
+#[test]
+fn lines_ask_or_are_refused(rt: HostRuntime) -> Result<(), Fail> {
+    let alloc = rt.alloc();
+    for row in LINES.lines() {
+        if let Some((line, wanted)) = row.split_once(" => ") {
+            let line = line.replace(alloc, "_", " ")?;
+            check_line(&rt, line.as_bytes(), wanted)?;
+        }
+    }
+    let bytes: [(&[u8], &str); 9] = [
+        (b"\xff", "refused bad-request at=0"),
+        (b"trace \xff", "refused bad-request at=0"),
+        (
+            b"trace 000000000000000000000000000000a1 \xff",
+            "refused bad-request at=0",
+        ),
+        (b"search \xff", "refused bad-request at=0"),
+        (b"push\xff", "refused bad-request at=0"),
+        (b"push \xff", "refused bad-json"),
+        (b"push\t{}", "refused bad-request at=0"),
+        (b"push {}\r", "push 0 0 0"),
+        (
+            b"trace 000000000000000000000000000000a1\r",
+            "refused bad-request at=6",
+        ),
+    ];
+    for (line, wanted) in bytes {
+        check_line(&rt, line, wanted)?;
+    }
+    Ok(())
+}
+
+#[test]
+fn lines_may_have_16777216_bytes(rt: HostRuntime) -> Result<(), Fail> {
+    let alloc = rt.alloc();
+    let mut line = String::from_str(alloc, "push {}")?;
+    for _ in 0..16_777_209 {
+        line.push_str(" ")?;
+    }
+    check_line(&rt, line.as_bytes(), "push 0 0 0")?;
+    line.push_str(" ")?;
+    check_line(&rt, line.as_bytes(), "refused too-long length=16777217")?;
+    Ok(())
+}
+
+fn check_reply(rt: &(impl Abort + AllocGlobal), reply: &Reply, wanted: &str) -> Result<(), Memory> {
+    let text = write_reply(rt.alloc(), reply)?;
+    assert!(rt; text.as_str() == wanted, "{wanted}");
+    Ok(())
+}
+
+#[test]
+fn a_push_is_acknowledged(rt: HostRuntime) -> Result<(), Fail> {
+    let pushed = Reply::Pushed {
+        number: 18_446_744_073_709_551_615,
+        accepted: 2,
+        rejected: 4_294_967_295,
+        skipped: 0,
+    };
+    let wanted = "ok push 18446744073709551615 accepted=2 rejected=4294967295 skipped=0\n";
+    check_reply(&rt, &pushed, wanted)?;
+    Ok(())
+}
+
+#[test]
+fn a_trace_without_spans_is_written(rt: HostRuntime) -> Result<(), Fail> {
+    let traced = Reply::Traced {
+        as_of: 3,
+        rows: Rows::of(Vec::new(rt.alloc())),
+    };
+    let wanted = "ok trace as_of=3 spans=0 {\"resourceSpans\":[]}\n";
+    check_reply(&rt, &traced, wanted)?;
+    Ok(())
+}
+
+#[test]
+fn a_search_without_results_is_written(rt: HostRuntime) -> Result<(), Fail> {
+    let searched = Reply::Searched {
+        as_of: 4,
+        fields: Texts::of(Vec::new(rt.alloc())),
+        results: Results::of(Vec::new(rt.alloc())),
+    };
+    check_reply(
+        &rt,
+        &searched,
+        "ok search as_of=4 traces=0 {\"traces\":[]}\n",
+    )?;
+    Ok(())
+}
+
+fn check_refusal(
+    rt: &(impl Abort + AllocGlobal),
+    why: Refusal,
+    wanted: &str,
+) -> Result<(), Memory> {
+    check_reply(rt, &Reply::Refused(why), wanted)
+}
+
+#[test]
+fn refusals_are_written(rt: HostRuntime) -> Result<(), Fail> {
+    let long = Refusal::BadQuery(QueryFault::TooLong { length: 8193 });
+    check_refusal(&rt, long, "refused bad-query too-long length=8193\n")?;
+    let deep = Refusal::BadQuery(QueryFault::TooDeep { at: 66 });
+    check_refusal(&rt, deep, "refused bad-query too-deep at=66\n")?;
+    check_refusal(&rt, Refusal::Memory, "refused memory\n")?;
+    let spans = Refusal::TooMany { spans: 16_385 };
+    check_refusal(&rt, spans, "refused too-many spans=16385\n")?;
+    Ok(())
+}

@@ -1,8 +1,0 @@
-use Rattle.span_runs.proofs.SameLaws.{resource_decides, scope_decides}
-use Rattle.span_runs.proofs.same.equal_where_same.Goals as goal
-
-pub returns-clause-resources : goal.returns-clause-resources
-returns-clause-resources c = resource_decides
-
-pub returns-clause-scopes : goal.returns-clause-scopes
-returns-clause-scopes c = scope_decides
