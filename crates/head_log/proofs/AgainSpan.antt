@@ -27,8 +27,8 @@ HasForm false span = (span.events ≡ []) × (span.links ≡ [])
 pub record IsOf (extended : Bool) (resource : Resource) (scope : Scope) (span : Span) : Type 0 where
   pub sound : IsSoundSpan span
   pub form : HasForm extended span
-  pub resource : span.resource ≡ resource
-  pub scope : span.scope ≡ scope
+  pub of_resource : span.resource ≡ resource
+  pub of_scope : span.scope ≡ scope
 
 -- the events and the links of sound spans
 abbrev pub AreExtras : Bool → Extras → Type 0
@@ -61,7 +61,7 @@ unfolding span_at span_bytes
 again_span part resource scope s is span rest fits e =
     let f = fits.sound in
     let rec = λ (r : Resource) (c : Scope). let y : Span = record { trace = span.trace; id = span.id; parent = span.parent; name = span.name; kind = span.kind; start = span.start; «end» = span.«end»; status = span.status; message = span.message; attrs = span.attrs; resource = r; scope = c; events = span.events; links = span.links } in y in
-    let made : rec resource scope ≡ span = sym (ap (λ (r : Resource). rec r span.scope) fits.resource ∙ ap (λ (c : Scope). rec resource c) fits.scope) in
+    let made : rec resource scope ≡ span = sym (ap (λ (r : Resource). rec r span.scope) fits.of_resource ∙ ap (λ (c : Scope). rec resource c) fits.of_scope) in
     let b_10 = extras_bytes part.extended span.events span.links in
     let b_9 = attrs_bytes span.attrs ++ b_10 in
     let b_8 = text_bytes span.message ++ b_9 in

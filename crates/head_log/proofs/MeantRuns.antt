@@ -1,5 +1,6 @@
 -- What is read somewhere is encoded there: runs and bodies.
 use Rattle.std.proofs.Common.{◌≡◌, inl, inr, ℕ, zero, suc, ◌+◌, ◌-◌, ◌^◌, ◌<◌, ◌≤◌, Bool, true, false, not, ◌&&◌, ◌||◌, cond, eqb, ltb, List, [], ◌∷◌, ◌++◌, length, Option, Some, None, Result, Ok, Err, append_assoc, refl, sym, ap, subst, ◌∙◌, arith}
+use Rattle.std.specs.Bool.{Decides}
 use Rattle.std.specs.List.{flat_map, list_any, AllByRecursion}
 use Rattle.std.proofs.lemmas.Bool.{eqb-true, eqb-false, ltb-true, ltb-false}
 use Rattle.std.proofs.lemmas.List.{append-nil, length-append}
@@ -8,23 +9,25 @@ use Rattle.span_types.specs.declared.attrs.Resource.{Resource}
 use Rattle.span_types.specs.declared.attrs.Scope.{Scope}
 use Rattle.span_types.specs.declared.limits.TheConstants.{MOST_SPANS}
 use Rattle.span_types.specs.declared.spans.Span.{Span}
-use Rattle.span_runs.specs.Runs.{in_front, runs}
-use Rattle.span_runs.specs.Same.{same_resource, same_scope, of_one_resource, of_one_scope}
-use Rattle.span_runs.proofs.SameLaws.{resource_decides, scope_decides}
-use Rattle.byte_fields.specs.Spelling.{fixed64_bytes, var_bytes, text_bytes}
-use Rattle.byte_fields.specs.Reading.{Stand, IsWithin, ◌>>=◌, fixed64_at, var_at, text_at}
+use Rattle.span_types.specs.Equal.{same_resource, same_scope}
+use Rattle.span_types.specs.EqualLaws.{resource_decides, scope_decides}
+use Rattle.span_runs.specs.Runs.{in_front, runs, of_one, of_one_resource, of_one_scope}
+use Rattle.span_runs.proofs.RunLaws.{run_items, all_of, AreLinked, AreRuns}
+use Rattle.byte_fields.specs.Spelling.{fixed64_bytes, var_bytes}
+use Rattle.byte_fields.specs.Reading.{Stand, IsWithin, ◌>>=◌, fixed64_at, var_at}
 use Rattle.span_fields.specs.Breaks.{in_part}
-use Rattle.span_fields.specs.Encodings.{list_bytes, attrs_bytes}
-use Rattle.span_fields.specs.Decodings.{or_break, items_at, attrs_at}
+use Rattle.span_fields.specs.Encodings.{list_bytes, resource_bytes, scope_bytes}
+use Rattle.span_fields.specs.Sound.{IsSoundResource, IsSoundScope}
+use Rattle.span_fields.specs.Decodings.{or_break, items_at, resource_at, scope_at}
 use Rattle.span_fields.specs.Laws.{Took, ReadIsEncoded}
-use Rattle.span_fields.proofs.Meant.{bound, same_pair, kept_else, chosen, or_break_ok, took_none, took_then, renamed, items_mean, each_item, meant_fixed64, meant_var, meant_text, meant_attrs}
+use Rattle.span_fields.proofs.Meant.{bound, same_pair, kept_else, chosen, or_break_ok, took_none, took_then, renamed, items_mean, each_item, meant_fixed64, meant_var, meant_resource, meant_scope}
 use Rattle.head_log.specs.declared.reading.Part.{Part}
-use Rattle.head_log.specs.Bodies.{is_extended, are_extended, first_field, span_bytes, scope_bytes, resource_bytes, scope_run_bytes, resource_run_bytes, spans_bytes, body_bytes}
-use Rattle.head_log.specs.Sound.{IsSoundScope, IsSoundResource, IsSoundSpan, IsSoundBatch}
-use Rattle.head_log.specs.Scanning.{span_at, last_passes, last_of, scope_at, span_count_at, scope_spans_at, scope_run_at, runs_at, run_count_at, resource_spans_at, resource_at, resource_run_at, spans_at, form_of, all_spans_at, body_at}
+use Rattle.head_log.specs.Bodies.{is_extended, are_extended, first_field, span_bytes, run_bytes, scopes_bytes, spans_bytes, body_bytes}
+use Rattle.head_log.specs.Sound.{IsSoundSpan, IsSoundBatch}
+use Rattle.head_log.specs.Scanning.{span_at, last_passes, last_of, repeats, run_at, runs_at, span_count_at, scope_spans_at, run_count_at, scopes_at, spans_at, form_of, all_spans_at, body_at}
 use Rattle.head_log.proofs.AgainSpan.{IsOf}
-use Rattle.head_log.proofs.AgainRuns.{or_false, IsSoundIn, GoodScope, AllGood}
-use Rattle.head_log.proofs.RunLaws.{items_of, all_of, AreLinked, AreRuns, last_of-run}
+use Rattle.head_log.proofs.AgainRuns.{or_false, IsSoundIn, IsSoundOf, AllGood}
+use Rattle.head_log.proofs.RunLaws.{last_of-run}
 use Rattle.head_log.proofs.MeantSpan.{meant_span}
 
 -- ---- runs of items
@@ -54,24 +57,141 @@ runs_of_all same (r ∷ rs) are =
     let parts = runs_after same r rs are in
     run_in_front same r.0 r.1 (all_of rs) rs parts.0 (runs_of_all same rs parts.1) are
 
--- ---- scopes
+-- ---- the spans of one origin
 
-meant_scope : (within : Bool) → ReadIsEncoded (scope_at within) scope_bytes IsSoundScope
-unfolding scope_at
-meant_scope within s is scope t e =
-    let a = bound (in_part within text_at s) _ (scope, t) e in
-    let name = meant_text within s is a.value.0 a.value.1 a.first in
-    let b = bound (in_part within text_at a.value.1) _ (scope, t) a.last in
-    let version = meant_text within a.value.1 name.bytes.within b.value.0 b.value.1 b.first in
-    let c = bound (attrs_at within b.value.1) _ (scope, t) b.last in
-    let attrs = meant_attrs within b.value.1 version.bytes.within c.value.0 c.value.1 c.first in
-    let found : Scope = record { name = a.value.0; version = b.value.0; attrs = c.value.0 } in
-    let same = same_pair found scope c.value.1 t c.last in
-    renamed scope_bytes IsSoundScope s found scope c.value.1 t same.0 same.1
-    (record {
-      bytes = took_then name.bytes (took_then version.bytes attrs.bytes);
-      fits = record { name = name.fits; version = version.fits; attrs = attrs.fits };
-    })
+-- spans that were read after these ones
+record SpansMean (encode : List Span → List ℕ) (P : Span → Type 0) (before : List Span) (s : Stand) (all : List Span) (t : Stand) : Type 0 where
+  more : List Span
+  is : all ≡ before ++ more
+  bytes : Took (encode more) s t
+  some : 0 < length more
+  few : length before + length more ≤ MOST_SPANS
+  each : AllByRecursion P more
+
+abbrev ContentMeant : {O : Type 0} → (O → List Span → Stand → Result (List Span × Stand) ℕ) → (List Span → List ℕ) → (O → Type 0) → (O → Span → Type 0) → Type 0
+ContentMeant {O} read encode IsSound P = (o : O) → IsSound o → (before : List Span) (s : Stand) → IsWithin s.whole s.at → (all : List Span) (t : Stand)
+    → read o before s ≡ Ok (all, t) → SpansMean encode (P o) before s all t
+
+-- ---- a run after spans
+
+-- a run of one origin that was read after these spans
+pub record ReadRun {O : Type 0} (same : O → O → Bool) (of : Span → O) (P : O → Span → Type 0) (later : Bool) (before : List Span) (run : Span × List Span) : Type 0 where
+  pub each : AllByRecursion (P (of run.0)) (run_items run)
+  pub few : length before + length (run_items run) ≤ MOST_SPANS
+  pub fresh : repeats same of later before (of run.0) ≡ false
+
+record RunMeans (encode : Span × List Span → List ℕ) (Good : Bool → List Span → Span × List Span → Type 0) (later : Bool) (before : List Span) (s : Stand) (all : List Span) (t : Stand) : Type 0 where
+  run : Span × List Span
+  is : all ≡ before ++ run_items run
+  bytes : Took (encode run) s t
+  good : Good later before run
+
+abbrev RunMeant : (Bool → List Span → Stand → Result (List Span × Stand) ℕ) → (Span × List Span → List ℕ) → (Bool → List Span → Span × List Span → Type 0) → Type 0
+RunMeant read encode Good = (later : Bool) (before : List Span) (s : Stand) → IsWithin s.whole s.at → (all : List Span) (t : Stand) → read later before s ≡ Ok (all, t) → RunMeans encode Good later before s all t
+
+-- each span that was read of an origin has it
+abbrev HasOrigin : {O : Type 0} → (Span → O) → (O → Span → Type 0) → Type 0
+HasOrigin {O} of P = (o : O) (s : Span) → P o s → of s ≡ o
+
+run_of : {O : Type 0} (same : O → O → Bool) (of : Span → O) (P : O → Span → Type 0) (origin_bytes : O → List ℕ) (content_bytes : List Span → List ℕ) → HasOrigin of P
+    → (later : Bool) (before : List Span) (s u : Stand) (o : O) (all : List Span) (t : Stand) (more : List Span) → Took (origin_bytes o) s u → repeats same of later before o ≡ false
+    → all ≡ before ++ more → Took (content_bytes more) u t → 0 < length more → length before + length more ≤ MOST_SPANS → AllByRecursion (P o) more
+    → RunMeans (run_bytes of origin_bytes content_bytes) (ReadRun same of P) later before s all t
+run_of same of P origin_bytes content_bytes has later before s u o all t [] origin fresh is bytes some few each = absurd (omega arith)
+run_of {O} same of P origin_bytes content_bytes has later before s u o all t (x ∷ xs) origin fresh is bytes some few each =
+    let own : of x ≡ o = has o x each.0 in
+    let whole : Took (origin_bytes o ++ content_bytes (x ∷ xs)) s t = took_then origin bytes in
+    record {
+      run = (x, xs);
+      is = is;
+      bytes = subst (λ (p : O). Took (origin_bytes p ++ content_bytes (x ∷ xs)) s t) (sym own) whole;
+      good = record {
+        each = subst (λ (p : O). AllByRecursion (P p) (x ∷ xs)) (sym own) each;
+        few = few;
+        fresh = subst (λ (p : O). repeats same of later before p ≡ false) (sym own) fresh;
+      };
+    }
+
+run_meant : {O : Type 0} (same : O → O → Bool) (of : Span → O) (IsSound : O → Type 0) (P : O → Span → Type 0)
+    (origin_at : Stand → Result (O × Stand) ℕ) (origin_bytes : O → List ℕ) (content_at : O → List Span → Stand → Result (List Span × Stand) ℕ) (content_bytes : List Span → List ℕ)
+    → HasOrigin of P → ReadIsEncoded origin_at origin_bytes IsSound → ContentMeant content_at content_bytes IsSound P
+    → RunMeant (run_at same of origin_at content_at) (run_bytes of origin_bytes content_bytes) (ReadRun same of P)
+unfolding run_at
+run_meant same of IsSound P origin_at origin_bytes content_at content_bytes has meant content later before s is all t e =
+    let a = bound (origin_at s) (λ o. cond (repeats same of later before o.0) (Err s.at) (content_at o.0 before o.1)) (all, t) e in
+    let origin = meant s is a.value.0 a.value.1 a.first in
+    let kept = kept_else (repeats same of later before a.value.0) s.at (content_at a.value.0 before a.value.1) (all, t) a.last in
+    let spans = content a.value.0 origin.fits before a.value.1 origin.bytes.within all t kept.1 in
+    run_of same of P origin_bytes content_bytes has later before s a.value.1 a.value.0 all t spans.more origin.bytes kept.0 spans.is spans.bytes spans.some spans.few spans.each
+
+-- ---- runs one after the other
+
+record RunsMean (encode : Span × List Span → List ℕ) (Good : Bool → List Span → Span × List Span → Type 0) (count : ℕ) (later : Bool) (before : List Span) (s : Stand) (all : List Span) (t : Stand) : Type 0 where
+  rs : List (Span × List Span)
+  is : all ≡ before ++ all_of rs
+  size : length rs ≡ count
+  bytes : Took (flat_map encode rs) s t
+  good : AllGood Good later before rs
+
+runs_mean : (read : Bool → List Span → Stand → Result (List Span × Stand) ℕ) (encode : Span × List Span → List ℕ) (Good : Bool → List Span → Span × List Span → Type 0) → RunMeant read encode Good
+    → (count : ℕ) (later : Bool) (before : List Span) (s : Stand) → IsWithin s.whole s.at → (all : List Span) (t : Stand) → runs_at read count later before s ≡ Ok (all, t) → RunsMean encode Good count later before s all t
+unfolding runs_at
+runs_mean read encode Good step zero later before s is all t e =
+    let same = same_pair before all s t e in
+    subst (λ (u : Stand). RunsMean encode Good 0 later before s all u) same.1
+    (record { rs = []; is = sym same.0 ∙ sym (append-nil before); size = refl; bytes = took_none s is; good = tt })
+runs_mean read encode Good step (suc count) later before s is all t e =
+    let a = bound (read later before s) (λ x. runs_at read count true x.0 x.1) (all, t) e in
+    let one = step later before s is a.value.0 a.value.1 a.first in
+    let rest = runs_mean read encode Good step count true a.value.0 a.value.1 one.bytes.within all t a.last in
+    record {
+      rs = one.run ∷ rest.rs;
+      is = rest.is ∙ ap (λ (l : List Span). l ++ all_of rest.rs) one.is ∙ append_assoc before (run_items one.run) (all_of rest.rs);
+      size = ap suc rest.size;
+      bytes = took_then one.bytes rest.bytes;
+      good = (one.good, subst (λ (l : List Span). AllGood Good true l rest.rs) one.is rest.good);
+    }
+
+-- ---- what runs that were read are
+
+linked : {O : Type 0} (same : O → O → Bool) (of : Span → O) (P : O → Span → Type 0) → ((a b : O) → Decides (same a b) (a ≡ b)) → HasOrigin of P
+    → (o : O) (x : Span) (xs : List Span) → AllByRecursion (P o) (x ∷ xs) → AreLinked (of_one same of) x xs
+linked same of P decides has o x [] all = tt
+linked same of P decides has o x (y ∷ ys) all = ((decides (of x) (of y)).1 (has o x all.0 ∙ sym (has o y all.1.0)), linked same of P decides has o y ys all.1)
+
+are_runs : {O : Type 0} (same : O → O → Bool) (of : Span → O) (P : O → Span → Type 0) → ((a b : O) → Decides (same a b) (a ≡ b)) → HasOrigin of P
+    → (rs : List (Span × List Span)) (later : Bool) (before : List Span) → AllGood (ReadRun same of P) later before rs → AreRuns (of_one same of) rs
+are_runs same of P decides has [] later before good = tt
+are_runs same of P decides has (r ∷ []) later before good = linked same of P decides has (of r.0) r.0 r.1 good.0.each
+are_runs same of P decides has (r ∷ q ∷ rs) later before good = (
+  linked same of P decides has (of r.0) r.0 r.1 good.0.each,
+  sym (ap (λ (o : Option Span). last_passes (λ span. same (of span) (of q.0)) o) (last_of-run before r.0 r.1)) ∙ good.1.0.fresh,
+  are_runs same of P decides has (q ∷ rs) true (before ++ run_items r) good.1,
+)
+
+all_join : (P : Span → Type 0) (xs ys : List Span) → AllByRecursion P xs → AllByRecursion P ys → AllByRecursion P (xs ++ ys)
+all_join P [] ys a b = b
+all_join P (x ∷ xs) ys a b = (a.0, all_join P xs ys a.1 b)
+
+all_weaker : (P Q : Span → Type 0) → ((s : Span) → P s → Q s) → (xs : List Span) → AllByRecursion P xs → AllByRecursion Q xs
+all_weaker P Q weaken [] all = tt
+all_weaker P Q weaken (x ∷ xs) all = (weaken x all.0, all_weaker P Q weaken xs all.1)
+
+all_of_runs : {O : Type 0} (same : O → O → Bool) (of : Span → O) (P : O → Span → Type 0) (Q : Span → Type 0) → ((o : O) (s : Span) → P o s → Q s)
+    → (rs : List (Span × List Span)) (later : Bool) (before : List Span) → AllGood (ReadRun same of P) later before rs → AllByRecursion Q (all_of rs)
+all_of_runs same of P Q weaken [] later before good = tt
+all_of_runs same of P Q weaken (r ∷ rs) later before good =
+    all_join Q (run_items r) (all_of rs) (all_weaker (P (of r.0)) Q (weaken (of r.0)) (run_items r) good.0.each) (all_of_runs same of P Q weaken rs true (before ++ run_items r) good.1)
+
+few_of_runs : {O : Type 0} (same : O → O → Bool) (of : Span → O) (P : O → Span → Type 0) (rs : List (Span × List Span)) (later : Bool) (before : List Span) → length before ≤ MOST_SPANS
+    → AllGood (ReadRun same of P) later before rs → length before + length (all_of rs) ≤ MOST_SPANS
+few_of_runs same of P [] later before few good = omega arith
+few_of_runs same of P (r ∷ rs) later before few good =
+    let size = length-append before (run_items r) in
+    let next : length (before ++ run_items r) ≤ MOST_SPANS = omega (arith, size, good.0.few) in
+    omega (arith, size, length-append (run_items r) (all_of rs), few_of_runs same of P rs true (before ++ run_items r) next good.1)
+
+-- ---- spans of one scope
 
 abbrev IsCount : ℕ → ℕ → Type 0
 IsCount before n = (0 < n) × (n ≤ MOST_SPANS - before)
@@ -87,151 +207,25 @@ meant_span_count within before s is n t e =
     let some : 0 < a.value.0 = omega (arith, eqb-false a.value.0 0 tests.0) in
     renamed var_bytes (IsCount before) s a.value.0 n a.value.1 t same.0 same.1 (record { bytes = count.bytes; fits = (some, ltb-false (MOST_SPANS - before) a.value.0 tests.1) })
 
--- spans that were read after these ones
-record SpansMean (spell : List Span → List ℕ) (Fits : List Span → Type 0) (before : List Span) (s : Stand) (all : List Span) (t : Stand) : Type 0 where
-  more : List Span
-  is : all ≡ before ++ more
-  bytes : Took (spell more) s t
-  fits : Fits more
-
-record ScopeSpans (extended : Bool) (resource : Resource) (scope : Scope) (before more : List Span) : Type 0 where
-  some : 0 < length more
-  few : length more ≤ MOST_SPANS - length before
-  of : AllByRecursion (IsOf extended resource scope) more
-
-scope_spans_mean : (part : Part) (resource : Resource) (scope : Scope) (before : List Span) (s : Stand) → IsWithin s.whole s.at → IsSoundResource resource → IsSoundScope scope → (all : List Span) (t : Stand)
-    → scope_spans_at part resource scope before s ≡ Ok (all, t) → SpansMean (list_bytes (span_bytes part.extended)) (ScopeSpans part.extended resource scope before) before s all t
+scope_spans_mean : (part : Part) (resource : Resource) → IsSoundResource resource → ContentMeant (scope_spans_at part resource) (list_bytes (span_bytes part.extended)) IsSoundScope (IsOf part.extended resource)
 unfolding scope_spans_at list_bytes
-scope_spans_mean part resource scope before s is sound_resource sound_scope all t e =
+scope_spans_mean part resource sound_resource scope sound_scope before s is all t e =
+    let IsOne = IsOf part.extended resource scope in
+    let bytes = span_bytes part.extended in
     let a = bound (span_count_at part.within (length before) s) (λ count. items_at (λ _. span_at part resource scope) count.0 before count.1) (all, t) e in
     let count = meant_span_count part.within (length before) s is a.value.0 a.value.1 a.first in
-    let items = items_mean (λ _. span_at part resource scope) (span_bytes part.extended) (λ _ span. IsOf part.extended resource scope span) (λ _. meant_span part resource scope sound_resource sound_scope) a.value.0 before a.value.1 count.bytes.within all t a.last in
+    let items = items_mean (λ _. span_at part resource scope) bytes (λ _. IsOne) (λ _. meant_span part resource scope sound_resource sound_scope) a.value.0 before a.value.1 count.bytes.within all t a.last in
     let number : Took (var_bytes (length items.more)) s a.value.1 = subst (λ (n : ℕ). Took (var_bytes n) s a.value.1) (sym items.size) count.bytes in
     record {
       more = items.more;
       is = items.is;
       bytes = took_then number items.bytes;
-      fits = record { some = omega (arith, count.fits.0, items.size); few = omega (arith, count.fits.1, items.size); of = each_item (IsOf part.extended resource scope) before items.more items.good };
+      some = omega (arith, count.fits.0, items.size);
+      few = omega (arith, count.fits.0, count.fits.1, items.size);
+      each = each_item IsOne before items.more items.good;
     }
 
--- ---- a run after spans
-
-pub record RunMeans (spell : Span × List Span → List ℕ) (Good : Bool → List Span → Span × List Span → Type 0) (later : Bool) (before : List Span) (s : Stand) (all : List Span) (t : Stand) : Type 0 where
-  pub run : Span × List Span
-  pub is : all ≡ before ++ items_of run
-  pub bytes : Took (spell run) s t
-  pub good : Good later before run
-
-abbrev pub RunMeant : (Bool → List Span → Stand → Result (List Span × Stand) ℕ) → (Span × List Span → List ℕ) → (Bool → List Span → Span × List Span → Type 0) → Type 0
-RunMeant read spell Good = (later : Bool) (before : List Span) (s : Stand) → IsWithin s.whole s.at → (all : List Span) (t : Stand) → read later before s ≡ Ok (all, t) → RunMeans spell Good later before s all t
-
-scope_run_of : (extended : Bool) (resource : Resource) (later : Bool) (before : List Span) (s u : Stand) (scope : Scope) (all : List Span) (t : Stand) (more : List Span) → Took (scope_bytes scope) s u
-    → (later && last_passes (λ span. same_scope span.scope scope) (last_of before)) ≡ false → all ≡ before ++ more → Took (list_bytes (span_bytes extended) more) u t → ScopeSpans extended resource scope before more
-    → RunMeans (scope_run_bytes extended) (GoodScope extended resource) later before s all t
-unfolding scope_run_bytes
-scope_run_of extended resource later before s u scope all t [] took_scope fresh is bytes fits = absurd (omega (arith, fits.some))
-scope_run_of extended resource later before s u scope all t (x ∷ xs) took_scope fresh is bytes fits =
-    let own : x.scope ≡ scope = fits.of.0.scope in
-    let all_bytes : Took (scope_bytes scope ++ list_bytes (span_bytes extended) (x ∷ xs)) s t = took_then took_scope bytes in
-    let own_bytes : Took (scope_bytes x.scope ++ list_bytes (span_bytes extended) (x ∷ xs)) s t = subst (λ (c : Scope). Took (scope_bytes c ++ list_bytes (span_bytes extended) (x ∷ xs)) s t) (sym own) all_bytes in
-    record {
-      run = (x, xs);
-      is = is;
-      bytes = own_bytes;
-      good = record {
-        of = subst (λ (c : Scope). AllByRecursion (IsOf extended resource c) (x ∷ xs)) (sym own) fits.of;
-        few = omega (arith, fits.some, fits.few);
-        fresh = subst (λ (c : Scope). (later && last_passes (λ span. same_scope span.scope c) (last_of before)) ≡ false) (sym own) fresh;
-      };
-    }
-
-meant_scope_run : (part : Part) (resource : Resource) → IsSoundResource resource → RunMeant (scope_run_at part resource) (scope_run_bytes part.extended) (GoodScope part.extended resource)
-unfolding scope_run_at
-meant_scope_run part resource sound later before s is all t e =
-    let a = bound (scope_at part.within s) (λ scope. cond (later && last_passes (λ span. same_scope span.scope scope.0) (last_of before)) (Err s.at) (scope_spans_at part resource scope.0 before scope.1)) (all, t) e in
-    let scope = meant_scope part.within s is a.value.0 a.value.1 a.first in
-    let kept = kept_else (later && last_passes (λ span. same_scope span.scope a.value.0) (last_of before)) s.at (scope_spans_at part resource a.value.0 before a.value.1) (all, t) a.last in
-    let spans = scope_spans_mean part resource a.value.0 before a.value.1 scope.bytes.within sound scope.fits all t kept.1 in
-    scope_run_of part.extended resource later before s a.value.1 a.value.0 all t spans.more scope.bytes kept.0 spans.is spans.bytes spans.fits
-
--- ---- runs one after the other
-
-record RunsMean (spell : Span × List Span → List ℕ) (Good : Bool → List Span → Span × List Span → Type 0) (count : ℕ) (later : Bool) (before : List Span) (s : Stand) (all : List Span) (t : Stand) : Type 0 where
-  rs : List (Span × List Span)
-  is : all ≡ before ++ all_of rs
-  size : length rs ≡ count
-  bytes : Took (flat_map spell rs) s t
-  good : AllGood Good later before rs
-
-runs_mean : (read : Bool → List Span → Stand → Result (List Span × Stand) ℕ) (spell : Span × List Span → List ℕ) (Good : Bool → List Span → Span × List Span → Type 0) → RunMeant read spell Good
-    → (count : ℕ) (later : Bool) (before : List Span) (s : Stand) → IsWithin s.whole s.at → (all : List Span) (t : Stand) → runs_at read count later before s ≡ Ok (all, t) → RunsMean spell Good count later before s all t
-unfolding runs_at
-runs_mean read spell Good step zero later before s is all t e =
-    let same = same_pair before all s t e in
-    subst (λ (u : Stand). RunsMean spell Good 0 later before s all u) same.1
-    (record { rs = []; is = sym same.0 ∙ sym (append-nil before); size = refl; bytes = took_none s is; good = tt })
-runs_mean read spell Good step (suc count) later before s is all t e =
-    let a = bound (read later before s) (λ x. runs_at read count true x.0 x.1) (all, t) e in
-    let one = step later before s is a.value.0 a.value.1 a.first in
-    let rest = runs_mean read spell Good step count true a.value.0 a.value.1 one.bytes.within all t a.last in
-    record {
-      rs = one.run ∷ rest.rs;
-      is = rest.is ∙ ap (λ (l : List Span). l ++ all_of rest.rs) one.is ∙ append_assoc before (items_of one.run) (all_of rest.rs);
-      size = ap suc rest.size;
-      bytes = took_then one.bytes rest.bytes;
-      good = (one.good, subst (λ (l : List Span). AllGood Good true l rest.rs) one.is rest.good);
-    }
-
--- ---- the scopes of a resource
-
-linked_scopes : (extended : Bool) (resource : Resource) (scope : Scope) (x : Span) (xs : List Span) → AllByRecursion (IsOf extended resource scope) (x ∷ xs) → AreLinked of_one_scope x xs
-unfolding of_one_scope
-linked_scopes extended resource scope x [] all = tt
-linked_scopes extended resource scope x (y ∷ ys) all = ((scope_decides x.scope y.scope).1 (all.0.scope ∙ sym all.1.0.scope), linked_scopes extended resource scope y ys all.1)
-
-are_scope_runs : (extended : Bool) (resource : Resource) (rs : List (Span × List Span)) (later : Bool) (before : List Span) → AllGood (GoodScope extended resource) later before rs → AreRuns of_one_scope rs
-unfolding of_one_scope
-are_scope_runs extended resource [] later before good = tt
-are_scope_runs extended resource (r ∷ []) later before good = linked_scopes extended resource r.0.scope r.0 r.1 good.0.of
-are_scope_runs extended resource (r ∷ q ∷ rs) later before good = (
-  linked_scopes extended resource r.0.scope r.0 r.1 good.0.of,
-  sym (ap (λ (o : Option Span). last_passes (λ span. same_scope span.scope q.0.scope) o) (last_of-run before r.0 r.1)) ∙ good.1.0.fresh,
-  are_scope_runs extended resource (q ∷ rs) true (before ++ items_of r) good.1,
-)
-
-all_join : (P : Span → Type 0) (xs ys : List Span) → AllByRecursion P xs → AllByRecursion P ys → AllByRecursion P (xs ++ ys)
-all_join P [] ys a b = b
-all_join P (x ∷ xs) ys a b = (a.0, all_join P xs ys a.1 b)
-
-abbrev IsOfResource : Bool → Resource → Span → Type 0
-IsOfResource extended resource span = IsSoundIn extended span × (span.resource ≡ resource)
-
-of_resource : (extended : Bool) (resource : Resource) (scope : Scope) (xs : List Span) → AllByRecursion (IsOf extended resource scope) xs → AllByRecursion (IsOfResource extended resource) xs
-of_resource extended resource scope [] all = tt
-of_resource extended resource scope (x ∷ xs) all = (((all.0.sound, all.0.form), all.0.resource), of_resource extended resource scope xs all.1)
-
-all_of_resource : (extended : Bool) (resource : Resource) (rs : List (Span × List Span)) (later : Bool) (before : List Span) → AllGood (GoodScope extended resource) later before rs → AllByRecursion (IsOfResource extended resource) (all_of rs)
-all_of_resource extended resource [] later before good = tt
-all_of_resource extended resource (r ∷ rs) later before good =
-    all_join (IsOfResource extended resource) (items_of r) (all_of rs) (of_resource extended resource r.0.scope (items_of r) good.0.of) (all_of_resource extended resource rs true (before ++ items_of r) good.1)
-
-few_of_scopes : (extended : Bool) (resource : Resource) (rs : List (Span × List Span)) (later : Bool) (before : List Span) → length before ≤ MOST_SPANS → AllGood (GoodScope extended resource) later before rs → length before + length (all_of rs) ≤ MOST_SPANS
-few_of_scopes extended resource [] later before few good = omega arith
-few_of_scopes extended resource (r ∷ rs) later before few good =
-    let size = length-append before (items_of r) in
-    let next : length (before ++ items_of r) ≤ MOST_SPANS = omega (arith, size, good.0.few) in
-    omega (arith, size, length-append (items_of r) (all_of rs), few_of_scopes extended resource rs true (before ++ items_of r) next good.1)
-
--- ---- resources
-
-meant_resource : (within : Bool) → ReadIsEncoded (resource_at within) resource_bytes IsSoundResource
-unfolding resource_at
-meant_resource within s is resource t e =
-    let a = bound (attrs_at within s) _ (resource, t) e in
-    let attrs = meant_attrs within s is a.value.0 a.value.1 a.first in
-    let found : Resource = record { attrs = a.value.0 } in
-    let same = same_pair found resource a.value.1 t a.last in
-    renamed resource_bytes IsSoundResource s found resource a.value.1 t same.0 same.1 (record { bytes = attrs.bytes; fits = attrs.fits })
+-- ---- spans of one resource
 
 abbrev IsSome : ℕ → Type 0
 IsSome n = 0 < n
@@ -246,96 +240,37 @@ meant_run_count within s is n t e =
     let some : 0 < a.value.0 = omega (arith, eqb-false a.value.0 0 kept.0) in
     renamed var_bytes IsSome s a.value.0 n a.value.1 t same.0 same.1 (record { bytes = count.bytes; fits = some })
 
-record ResourceSpans (extended : Bool) (resource : Resource) (before : List Span) (s : Stand) (all : List Span) (t : Stand) : Type 0 where
-  rs : List (Span × List Span)
-  is : all ≡ before ++ all_of rs
-  some : 0 < length rs
-  bytes : Took (list_bytes (scope_run_bytes extended) rs) s t
-  good : AllGood (GoodScope extended resource) false before rs
+some_items : (rs : List (Span × List Span)) → 0 < length rs → 0 < length (all_of rs)
+some_items [] some = absurd (omega arith)
+some_items (r ∷ rs) some = omega arith
 
-resource_spans_mean : (part : Part) (resource : Resource) (before : List Span) (s : Stand) → IsWithin s.whole s.at → IsSoundResource resource → (all : List Span) (t : Stand) → resource_spans_at part resource before s ≡ Ok (all, t)
-    → ResourceSpans part.extended resource before s all t
-unfolding resource_spans_at list_bytes
-resource_spans_mean part resource before s is sound all t e =
-    let a = bound (run_count_at part.within s) (λ count. runs_at (scope_run_at part resource) count.0 false before count.1) (all, t) e in
+scopes_mean : (part : Part) → ContentMeant (scopes_at part) (scopes_bytes part.extended) IsSoundResource (IsSoundOf part.extended)
+unfolding scopes_at list_bytes
+scopes_mean part resource sound before s is all t e =
+    let P : Scope → Span → Type 0 = IsOf part.extended resource in
+    let content = list_bytes (span_bytes part.extended) in
+    let bytes = run_bytes (λ s. s.scope) scope_bytes content in
+    let read = run_at same_scope (λ s. s.scope) (scope_at part.within) (scope_spans_at part resource) in
+    let a = bound (run_count_at part.within s) (λ count. runs_at read count.0 false before count.1) (all, t) e in
     let count = meant_run_count part.within s is a.value.0 a.value.1 a.first in
-    let runs = runs_mean (scope_run_at part resource) (scope_run_bytes part.extended) (GoodScope part.extended resource) (meant_scope_run part resource sound) a.value.0 false before a.value.1 count.bytes.within all t a.last in
-    let number : Took (var_bytes (length runs.rs)) s a.value.1 = subst (λ (n : ℕ). Took (var_bytes n) s a.value.1) (sym runs.size) count.bytes in
+    let one = run_meant same_scope (λ s. s.scope) IsSoundScope P (scope_at part.within) scope_bytes (scope_spans_at part resource) content (λ o s p. p.of_scope) (meant_scope part.within) (scope_spans_mean part resource sound) in
+    let found = runs_mean read bytes (ReadRun same_scope (λ s. s.scope) P) one a.value.0 false before a.value.1 count.bytes.within all t a.last in
+    let few = few_before before a.value.0 found.rs found.size count.fits found.good in
+    let same : runs of_one_scope (all_of found.rs) ≡ found.rs = runs_of_all of_one_scope found.rs (are_runs same_scope (λ s. s.scope) P scope_decides (λ o s p. p.of_scope) found.rs false before found.good) in
+    let number : Took (var_bytes (length found.rs)) s a.value.1 = subst (λ (n : ℕ). Took (var_bytes n) s a.value.1) (sym found.size) count.bytes in
+    let whole : Took (var_bytes (length found.rs) ++ flat_map bytes found.rs) s t = took_then number found.bytes in
     record {
-      rs = runs.rs;
-      is = runs.is;
-      some = omega (arith, count.fits, runs.size);
-      bytes = took_then number runs.bytes;
-      good = runs.good;
+      more = all_of found.rs;
+      is = found.is;
+      bytes = subst (λ (l : List (Span × List Span)). Took (var_bytes (length l) ++ flat_map bytes l) s t) (sym same) whole;
+      some = some_items found.rs (omega (arith, count.fits, found.size));
+      few = few_of_runs same_scope (λ s. s.scope) P found.rs false before few found.good;
+      each = all_of_runs same_scope (λ s. s.scope) P (IsSoundOf part.extended resource) (λ o s p. ((p.sound, p.form), p.of_resource)) found.rs false before found.good;
     }
-
--- a run of one resource after these spans
-record IsResourceRun (extended : Bool) (later : Bool) (before : List Span) (run : Span × List Span) : Type 0 where
-  of : AllByRecursion (IsOfResource extended run.0.resource) (items_of run)
-  few : length before + length (items_of run) ≤ MOST_SPANS
-  fresh : (later && last_passes (λ span. same_resource span.resource run.0.resource) (last_of before)) ≡ false
-
-resource_run_of : (extended : Bool) (later : Bool) (before : List Span) (s u : Stand) (resource : Resource) (all : List Span) (t : Stand) (rs : List (Span × List Span)) → Took (resource_bytes resource) s u
-    → (later && last_passes (λ span. same_resource span.resource resource) (last_of before)) ≡ false → all ≡ before ++ all_of rs → 0 < length rs → Took (list_bytes (scope_run_bytes extended) rs) u t → AllGood (GoodScope extended resource) false before rs
-    → RunMeans (resource_run_bytes extended) (IsResourceRun extended) later before s all t
-unfolding resource_run_bytes
-resource_run_of extended later before s u resource all t [] took_resource fresh is some bytes good = absurd (omega arith)
-resource_run_of extended later before s u resource all t (r ∷ rs) took_resource fresh is some bytes good =
-    let run : Span × List Span = (r.0, r.1 ++ all_of rs) in
-    let of = all_of_resource extended resource (r ∷ rs) false before good in
-    let own : r.0.resource ≡ resource = of.0.1 in
-    let same : runs of_one_scope (items_of run) ≡ r ∷ rs = runs_of_all of_one_scope (r ∷ rs) (are_scope_runs extended resource (r ∷ rs) false before good) in
-    let whole : Took (resource_bytes resource ++ list_bytes (scope_run_bytes extended) (r ∷ rs)) s t = took_then took_resource bytes in
-    let first : Took (resource_bytes r.0.resource ++ list_bytes (scope_run_bytes extended) (r ∷ rs)) s t = subst (λ (c : Resource). Took (resource_bytes c ++ list_bytes (scope_run_bytes extended) (r ∷ rs)) s t) (sym own) whole in
-    record {
-      run = run;
-      is = is;
-      bytes = subst (λ (l : List (Span × List Span)). Took (resource_bytes r.0.resource ++ list_bytes (scope_run_bytes extended) l) s t) (sym same) first;
-      good = record {
-        of = subst (λ (c : Resource). AllByRecursion (IsOfResource extended c) (items_of run)) (sym own) of;
-        few = few_of_scopes extended resource (r ∷ rs) false before (omega (arith, good.0.few)) good;
-        fresh = subst (λ (c : Resource). (later && last_passes (λ span. same_resource span.resource c) (last_of before)) ≡ false) (sym own) fresh;
-      };
-    }
-
-meant_resource_run : (part : Part) → RunMeant (resource_run_at part) (resource_run_bytes part.extended) (IsResourceRun part.extended)
-unfolding resource_run_at
-meant_resource_run part later before s is all t e =
-    let a = bound (resource_at part.within s) (λ resource. cond (later && last_passes (λ span. same_resource span.resource resource.0) (last_of before)) (Err s.at) (resource_spans_at part resource.0 before resource.1)) (all, t) e in
-    let resource = meant_resource part.within s is a.value.0 a.value.1 a.first in
-    let kept = kept_else (later && last_passes (λ span. same_resource span.resource a.value.0) (last_of before)) s.at (resource_spans_at part a.value.0 before a.value.1) (all, t) a.last in
-    let spans = resource_spans_mean part a.value.0 before a.value.1 resource.bytes.within resource.fits all t kept.1 in
-    resource_run_of part.extended later before s a.value.1 a.value.0 all t spans.rs resource.bytes kept.0 spans.is spans.some spans.bytes spans.good
-
-linked_resources : (extended : Bool) (resource : Resource) (x : Span) (xs : List Span) → AllByRecursion (IsOfResource extended resource) (x ∷ xs) → AreLinked of_one_resource x xs
-unfolding of_one_resource
-linked_resources extended resource x [] all = tt
-linked_resources extended resource x (y ∷ ys) all = ((resource_decides x.resource y.resource).1 (all.0.1 ∙ sym all.1.0.1), linked_resources extended resource y ys all.1)
-
-are_resource_runs : (extended : Bool) (rs : List (Span × List Span)) (later : Bool) (before : List Span) → AllGood (IsResourceRun extended) later before rs → AreRuns of_one_resource rs
-unfolding of_one_resource
-are_resource_runs extended [] later before good = tt
-are_resource_runs extended (r ∷ []) later before good = linked_resources extended r.0.resource r.0 r.1 good.0.of
-are_resource_runs extended (r ∷ q ∷ rs) later before good = (
-  linked_resources extended r.0.resource r.0 r.1 good.0.of,
-  sym (ap (λ (o : Option Span). last_passes (λ span. same_resource span.resource q.0.resource) o) (last_of-run before r.0 r.1)) ∙ good.1.0.fresh,
-  are_resource_runs extended (q ∷ rs) true (before ++ items_of r) good.1,
-)
-
-sound_of : (extended : Bool) (resource : Resource) (xs : List Span) → AllByRecursion (IsOfResource extended resource) xs → AllByRecursion (IsSoundIn extended) xs
-sound_of extended resource [] all = tt
-sound_of extended resource (x ∷ xs) all = (all.0.0, sound_of extended resource xs all.1)
-
-all_sound : (extended : Bool) (rs : List (Span × List Span)) (later : Bool) (before : List Span) → AllGood (IsResourceRun extended) later before rs → AllByRecursion (IsSoundIn extended) (all_of rs)
-all_sound extended [] later before good = tt
-all_sound extended (r ∷ rs) later before good = all_join (IsSoundIn extended) (items_of r) (all_of rs) (sound_of extended r.0.resource (items_of r) good.0.of) (all_sound extended rs true (before ++ items_of r) good.1)
-
-few_of_resources : (extended : Bool) (rs : List (Span × List Span)) (later : Bool) (before : List Span) → length before ≤ MOST_SPANS → AllGood (IsResourceRun extended) later before rs → length before + length (all_of rs) ≤ MOST_SPANS
-few_of_resources extended [] later before few good = omega arith
-few_of_resources extended (r ∷ rs) later before few good =
-    let size = length-append before (items_of r) in
-    let next : length (before ++ items_of r) ≤ MOST_SPANS = omega (arith, size, good.0.few) in
-    omega (arith, size, length-append (items_of r) (all_of rs), few_of_resources extended rs true (before ++ items_of r) next good.1)
+  where
+    few_before : (before : List Span) (count : ℕ) (rs : List (Span × List Span)) → length rs ≡ count → 0 < count → AllGood (ReadRun same_scope (λ s. s.scope) (IsOf part.extended resource)) false before rs → length before ≤ MOST_SPANS
+    few_before before count [] size some good = absurd (omega arith)
+    few_before before count (r ∷ rs) size some good = omega (arith, good.0.few)
 
 -- ---- bodies
 
@@ -346,17 +281,23 @@ record AreSoundIn (extended : Bool) (spans : List Span) : Type 0 where
 meant_spans : (part : Part) → ReadIsEncoded (spans_at part) (spans_bytes part.extended) (AreSoundIn part.extended)
 unfolding spans_at list_bytes
 meant_spans part s is spans t e =
-    let run_bytes = resource_run_bytes part.extended in
-    let a = bound (in_part part.within var_at s) (λ count. runs_at (resource_run_at part) count.0 false [] count.1) (spans, t) e in
+    let P : Resource → Span → Type 0 = IsSoundOf part.extended in
+    let bytes = run_bytes (λ s. s.resource) resource_bytes (scopes_bytes part.extended) in
+    let read = run_at same_resource (λ s. s.resource) (resource_at part.within) (scopes_at part) in
+    let a = bound (in_part part.within var_at s) (λ count. runs_at read count.0 false [] count.1) (spans, t) e in
     let count = meant_var part.within s is a.value.0 a.value.1 a.first in
-    let found = runs_mean (resource_run_at part) run_bytes (IsResourceRun part.extended) (meant_resource_run part) a.value.0 false [] a.value.1 count.bytes.within spans t a.last in
-    let same : runs of_one_resource (all_of found.rs) ≡ found.rs = runs_of_all of_one_resource found.rs (are_resource_runs part.extended found.rs false [] found.good) in
+    let one = run_meant same_resource (λ s. s.resource) IsSoundResource P (resource_at part.within) resource_bytes (scopes_at part) (scopes_bytes part.extended) (λ o s p. p.1) (meant_resource part.within) (scopes_mean part) in
+    let found = runs_mean read bytes (ReadRun same_resource (λ s. s.resource) P) one a.value.0 false [] a.value.1 count.bytes.within spans t a.last in
+    let same : runs of_one_resource (all_of found.rs) ≡ found.rs = runs_of_all of_one_resource found.rs (are_runs same_resource (λ s. s.resource) P resource_decides (λ o s p. p.1) found.rs false [] found.good) in
     let number : Took (var_bytes (length found.rs)) s a.value.1 = subst (λ (n : ℕ). Took (var_bytes n) s a.value.1) (sym found.size) count.bytes in
-    let whole : Took (var_bytes (length found.rs) ++ flat_map run_bytes found.rs) s t = took_then number found.bytes in
-    renamed (λ (l : List Span). var_bytes (length (runs of_one_resource l)) ++ flat_map run_bytes (runs of_one_resource l)) (AreSoundIn part.extended) s (all_of found.rs) spans t t (sym found.is) refl
+    let whole : Took (var_bytes (length found.rs) ++ flat_map bytes found.rs) s t = took_then number found.bytes in
+    renamed (λ (l : List Span). var_bytes (length (runs of_one_resource l)) ++ flat_map bytes (runs of_one_resource l)) (AreSoundIn part.extended) s (all_of found.rs) spans t t (sym found.is) refl
     (record {
-      bytes = subst (λ (l : List (Span × List Span)). Took (var_bytes (length l) ++ flat_map run_bytes l) s t) (sym same) whole;
-      fits = record { each = all_sound part.extended found.rs false [] found.good; few = omega (arith, few_of_resources part.extended found.rs false [] (omega arith) found.good) };
+      bytes = subst (λ (l : List (Span × List Span)). Took (var_bytes (length l) ++ flat_map bytes l) s t) (sym same) whole;
+      fits = record {
+        each = all_of_runs same_resource (λ s. s.resource) P (IsSoundIn part.extended) (λ o s p. p.0) found.rs false [] found.good;
+        few = omega (arith, few_of_runs same_resource (λ s. s.resource) P found.rs false [] (omega arith) found.good);
+      };
     })
 
 -- ---- the form

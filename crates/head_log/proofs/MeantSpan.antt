@@ -1,5 +1,5 @@
 -- What is read somewhere is encoded there: spans.
-use Rattle.std.proofs.Common.{◌≡◌, ℕ, Bool, true, false, List, [], ◌++◌, Option, Ok, refl}
+use Rattle.std.proofs.Common.{◌≡◌, ℕ, Bool, true, false, List, [], ◌++◌, Option, refl, arith}
 use Rattle.span_types.specs.declared.ids.TraceId.{TraceId}
 use Rattle.span_types.specs.declared.ids.SpanId.{SpanId}
 use Rattle.span_types.specs.declared.attrs.Attr.{Attr}
@@ -12,13 +12,12 @@ use Rattle.byte_fields.specs.Spelling.{fixed64_bytes, text_bytes}
 use Rattle.byte_fields.specs.Reading.{Stand, IsWithin, fixed64_at, text_at}
 use Rattle.span_fields.specs.Breaks.{in_part}
 use Rattle.span_fields.specs.Encodings.{list_bytes, attrs_bytes, trace_bytes, id_bytes, parent_bytes, kind_bytes, status_bytes, event_bytes, link_bytes}
-use Rattle.span_fields.specs.Sound.{IsBelow64, IsAny, IsWord, AreSound, AreSoundAttrs, IsTrace, IsSpanId, IsParent, IsSoundEvent, IsSoundLink}
+use Rattle.span_fields.specs.Sound.{IsBelow64, IsAny, IsWord, AreSound, AreSoundAttrs, IsTrace, IsSpanId, IsParent, IsSoundEvent, IsSoundLink, IsSoundResource, IsSoundScope}
 use Rattle.span_fields.specs.Decodings.{attrs_at, trace_id_at, span_id_at, parent_at, kind_at, status_at, event_at, link_at, events_at, links_at}
 use Rattle.span_fields.specs.Laws.{Got, ReadIsEncoded}
 use Rattle.span_fields.proofs.Meant.{same_pair, took_none, took_then, renamed, step, meant_list, meant_fixed64, meant_text, meant_attrs, meant_trace, meant_span_id, meant_parent, meant_kind, meant_status, meant_event, meant_link}
 use Rattle.head_log.specs.declared.reading.Part.{Part}
 use Rattle.head_log.specs.Bodies.{span_bytes}
-use Rattle.head_log.specs.Sound.{IsSoundResource, IsSoundScope, IsSoundSpan}
 use Rattle.head_log.specs.Scanning.{Extras, some_extras_at, extras_at, span_at}
 use Rattle.head_log.proofs.AgainSpan.{HasForm, IsOf, AreExtras, pair_bytes}
 
@@ -82,7 +81,7 @@ meant_span part resource scope sound_resource sound_scope s is span t e =
       fits = record {
         sound = record { trace = on_trace.fits; id = on_id.fits; parent = on_parent.fits; name = on_name.fits; start = on_start.fits; ended = on_ended.fits; message = on_message.fits; attrs = on_attrs.fits; resource = sound_resource; scope = sound_scope; events = sound.0; links = sound.1 };
         form = has_form part.extended found on_extras.fits;
-        resource = refl;
-        scope = refl;
+        of_resource = refl;
+        of_scope = refl;
       };
     }))))))))))))

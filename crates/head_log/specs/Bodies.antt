@@ -1,15 +1,13 @@
 -- The body of a record: a batch's number and its spans, in runs of equal resources and of equal scopes.
 use Rattle.std.specs.Prelude.{ℕ, ◌+◌, ◌%◌, ◌^◌, ◌==◌, ◌||◌, Bool, true, false, not, List, [], ◌∷◌, ◌++◌, length, if◌then◌else◌}
 use Rattle.std.specs.List.{list_any}
-use Rattle.span_types.specs.declared.attrs.Resource.{Resource}
-use Rattle.span_types.specs.declared.attrs.Scope.{Scope}
 use Rattle.span_types.specs.declared.spans.Span.{Span}
 use Rattle.span_types.specs.declared.spans.SpanEvent.{SpanEvent}
 use Rattle.span_types.specs.declared.spans.SpanLink.{SpanLink}
-use Rattle.span_runs.specs.Runs.{runs}
-use Rattle.span_runs.specs.Same.{of_one_resource, of_one_scope}
+use Rattle.span_types.specs.Equal.{same_resource, same_scope}
+use Rattle.span_runs.specs.Runs.{runs, of_one}
 use Rattle.byte_fields.specs.Spelling.{fixed64_bytes, text_bytes}
-use Rattle.span_fields.specs.Encodings.{list_bytes, attr_bytes, attrs_bytes, trace_bytes, id_bytes, parent_bytes, kind_bytes, status_bytes, event_bytes, link_bytes}
+use Rattle.span_fields.specs.Encodings.{list_bytes, attrs_bytes, trace_bytes, id_bytes, parent_bytes, kind_bytes, status_bytes, event_bytes, link_bytes, resource_bytes, scope_bytes}
 
 -- ---- the form
 
@@ -44,24 +42,22 @@ span_bytes extended span =
 
 -- ---- runs
 
-abbrev pub scope_bytes : Scope → List ℕ
-scope_bytes scope = text_bytes scope.name ++ (text_bytes scope.version ++ attrs_bytes scope.attrs)
+-- spans of one origin, which `of` gives: the origin, and what its spans are encoded as
+abbrev pub run_bytes : {O : Type 0} → (Span → O) → (O → List ℕ) → (List Span → List ℕ) → Span × List Span → List ℕ
+run_bytes of origin_bytes content_bytes run = origin_bytes (of run.0) ++ content_bytes (run.0 ∷ run.1)
 
-abbrev pub resource_bytes : Resource → List ℕ
-resource_bytes resource = attrs_bytes resource.attrs
+-- spans in runs of equal origins
+abbrev pub runs_bytes : {O : Type 0} → (O → O → Bool) → (Span → O) → (O → List ℕ) → (List Span → List ℕ) → List Span → List ℕ
+runs_bytes same of origin_bytes content_bytes spans =
+    list_bytes (run_bytes of origin_bytes content_bytes) (runs (of_one same of) spans)
 
--- spans of one scope: the scope, how many they are, and they
-unfoldable pub scope_run_bytes : Bool → Span × List Span → List ℕ
-scope_run_bytes extended run = scope_bytes run.0.scope ++ list_bytes (span_bytes extended) (run.0 ∷ run.1)
+-- the spans of one resource, in runs of equal scopes
+abbrev pub scopes_bytes : Bool → List Span → List ℕ
+scopes_bytes extended spans = runs_bytes same_scope (λ s. s.scope) scope_bytes (list_bytes (span_bytes extended)) spans
 
--- spans of one resource: the resource, how many runs of one scope they are, and these
-unfoldable pub resource_run_bytes : Bool → Span × List Span → List ℕ
-resource_run_bytes extended run =
-    resource_bytes run.0.resource ++ list_bytes (scope_run_bytes extended) (runs of_one_scope (run.0 ∷ run.1))
-
--- how many runs of one resource the spans are, and these
+-- spans in runs of equal resources
 abbrev pub spans_bytes : Bool → List Span → List ℕ
-spans_bytes extended spans = list_bytes (resource_run_bytes extended) (runs of_one_resource spans)
+spans_bytes extended spans = runs_bytes same_resource (λ s. s.resource) resource_bytes (scopes_bytes extended) spans
 
 -- the number with the form that the spans need, and the spans
 unfoldable pub body_bytes : ℕ → List Span → List ℕ

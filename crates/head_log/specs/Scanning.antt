@@ -6,10 +6,10 @@ use Rattle.span_types.specs.declared.spans.Span.{Span}
 use Rattle.span_types.specs.declared.spans.SpanEvent.{SpanEvent}
 use Rattle.span_types.specs.declared.spans.SpanLink.{SpanLink}
 use Rattle.span_types.specs.declared.limits.TheConstants.{MOST_SPANS}
-use Rattle.span_runs.specs.Same.{same_resource, same_scope}
+use Rattle.span_types.specs.Equal.{same_resource, same_scope}
 use Rattle.byte_fields.specs.Reading.{Stand, ◌>>=◌, byte_at, fixed64_at, var_at, text_at}
 use Rattle.span_fields.specs.Breaks.{in_part}
-use Rattle.span_fields.specs.Decodings.{or_break, items_at, attrs_at, trace_id_at, span_id_at, parent_at, kind_at, status_at, events_at, links_at}
+use Rattle.span_fields.specs.Decodings.{or_break, items_at, attrs_at, trace_id_at, span_id_at, parent_at, kind_at, status_at, events_at, links_at, resource_at, scope_at}
 use Rattle.head_log.specs.declared.numbered.NumberedBatch.{NumberedBatch}
 use Rattle.head_log.specs.declared.reading.Part.{Part}
 use Rattle.head_log.specs.Bodies.{are_extended}
@@ -73,13 +73,6 @@ last_passes test (Some span) = test span
 abbrev pub last_of : List Span → Option Span
 last_of spans = slice_get spans (length spans - 1)
 
-unfoldable pub scope_at : Bool → Stand → Result (Scope × Stand) ℕ
-scope_at within s = do
-  name ← in_part within text_at s
-  version ← in_part within text_at name.1
-  attrs ← attrs_at within version.1
-  Ok (record { name = name.0; version = version.0; attrs = attrs.0 }, attrs.1)
-
 -- how many spans a run has: some, and with those before it at most as many as a record has
 unfoldable pub span_count_at : Bool → ℕ → Stand → Result (ℕ × Stand) ℕ
 span_count_at within before s = do
@@ -92,11 +85,16 @@ scope_spans_at part resource scope before s = do
   count ← span_count_at part.within (length before) s
   items_at (λ _. span_at part resource scope) count.0 before count.1
 
--- A run of one scope after these spans. A later run of one resource has another scope than the run before it.
-unfoldable pub scope_run_at : Part → Resource → Bool → List Span → Stand → Result (List Span × Stand) ℕ
-scope_run_at part resource later before s = do
-  scope ← scope_at part.within s
-  if later && last_passes (λ span. same_scope span.scope scope.0) (last_of before) then Err s.at else scope_spans_at part resource scope.0 before scope.1
+-- this is a later run, and the last of the spans before it has the same origin
+abbrev pub repeats : {O : Type 0} → (O → O → Bool) → (Span → O) → Bool → List Span → O → Bool
+repeats same of later before origin = later && last_passes (λ span. same (of span) origin) (last_of before)
+
+-- A run of one origin after these spans: the origin, and then its spans. A later run has another origin than the run before it.
+unfoldable pub run_at : {O : Type 0} → (O → O → Bool) → (Span → O) → (Stand → Result (O × Stand) ℕ) → (O → List Span → Stand → Result (List Span × Stand) ℕ)
+    → Bool → List Span → Stand → Result (List Span × Stand) ℕ
+run_at same of origin_at content_at later before s = do
+  origin ← origin_at s
+  if repeats same of later before origin.0 then Err s.at else content_at origin.0 before origin.1
 
 -- so many runs after these spans, of which the first is a later one where that is said
 unfoldable pub runs_at : (Bool → List Span → Stand → Result (List Span × Stand) ℕ) → ℕ → Bool → List Span → Stand → Result (List Span × Stand) ℕ
@@ -109,26 +107,17 @@ run_count_at within s = do
   count ← in_part within var_at s
   if count.0 == 0 then Err s.at else Ok count
 
-unfoldable pub resource_spans_at : Part → Resource → List Span → Stand → Result (List Span × Stand) ℕ
-resource_spans_at part resource before s = do
+-- the spans of a resource, after these ones, in runs of equal scopes
+unfoldable pub scopes_at : Part → Resource → List Span → Stand → Result (List Span × Stand) ℕ
+scopes_at part resource before s = do
   count ← run_count_at part.within s
-  runs_at (scope_run_at part resource) count.0 false before count.1
+  runs_at (run_at same_scope (λ s. s.scope) (scope_at part.within) (scope_spans_at part resource)) count.0 false before count.1
 
-unfoldable pub resource_at : Bool → Stand → Result (Resource × Stand) ℕ
-resource_at within s = do
-  attrs ← attrs_at within s
-  Ok (record { attrs = attrs.0 }, attrs.1)
-
--- A run of one resource after these spans. A later run has another resource than the run before it.
-unfoldable pub resource_run_at : Part → Bool → List Span → Stand → Result (List Span × Stand) ℕ
-resource_run_at part later before s = do
-  resource ← resource_at part.within s
-  if later && last_passes (λ span. same_resource span.resource resource.0) (last_of before) then Err s.at else resource_spans_at part resource.0 before resource.1
-
+-- spans in runs of equal resources
 unfoldable pub spans_at : Part → Stand → Result (List Span × Stand) ℕ
 spans_at part s = do
   count ← in_part part.within var_at s
-  runs_at (resource_run_at part) count.0 false [] count.1
+  runs_at (run_at same_resource (λ s. s.resource) (resource_at part.within) (scopes_at part)) count.0 false [] count.1
 
 -- whether a body is extended, by its first field, where it has this number, which is below 4,294,967,295
 abbrev pub form_of : ℕ → ℕ → Option Bool

@@ -1,19 +1,9 @@
 -- Which batches a log can keep. The types of spans promise all of it but the number.
 use Rattle.std.specs.Prelude.{ℕ, ◌<◌, ◌≤◌, List, length}
 use Rattle.std.specs.List.{AllByRecursion}
-use Rattle.span_types.specs.declared.attrs.Resource.{Resource}
-use Rattle.span_types.specs.declared.attrs.Scope.{Scope}
 use Rattle.span_types.specs.declared.spans.Span.{Span}
 use Rattle.span_types.specs.declared.limits.TheConstants.{MOST_SPANS}
-use Rattle.span_fields.specs.Sound.{IsBelow64, IsWord, AreSound, AreSoundAttrs, IsTrace, IsSpanId, IsParent, IsSoundEvent, IsSoundLink}
-
-pub record IsSoundScope (scope : Scope) : Type 0 where
-  pub name : IsWord scope.name
-  pub version : IsWord scope.version
-  pub attrs : AreSoundAttrs scope.attrs
-
-abbrev pub IsSoundResource : Resource → Type 0
-IsSoundResource resource = AreSoundAttrs resource.attrs
+use Rattle.span_fields.specs.Sound.{IsBelow64, IsWord, AreSound, AreSoundAttrs, IsTrace, IsSpanId, IsParent, IsSoundEvent, IsSoundLink, IsSoundResource, IsSoundScope}
 
 pub record IsSoundSpan (span : Span) : Type 0 where
   pub trace : IsTrace span.trace

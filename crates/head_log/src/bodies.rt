@@ -1,18 +1,16 @@
-//! The runs of a body, read one after the other.
+//! The body of a record: its number, its form and its spans, in runs of equal resources and of equal scopes.
 
-ghost use Rattle.std.specs.Prelude.{◌≡◌, ◌<◌, ℕ, List, [], false, Ok, OnOk, OnSome, length};
-ghost use Rattle.span_types.specs.declared.spans.Span.{Span};
-ghost use Rattle.span_runs.specs.Same.{same_resource, same_scope};
+ghost use Rattle.std.specs.Prelude.{◌≡◌, ◌<◌, OnOk, OnSome};
 ghost use Rattle.span_fields.specs.Breaks.{Gives};
 ghost use Rattle.span_fields.specs.Decodings.{items_at};
-ghost use Rattle.head_log.specs.Scanning.{all_spans_at, body_at, form_of, last_of, last_passes, resource_at, resource_run_at, resource_spans_at, run_count_at, runs_at, scope_at, scope_run_at, scope_spans_at, span_at, span_count_at, spans_at};
+ghost use Rattle.head_log.specs.Scanning.{all_spans_at, body_at, form_of, run_count_at, span_at, span_count_at, spans_at};
 
+use crate::groups::{Group, put_runs, runs};
 use crate::reading::{Part, span};
-use crate::writing::are_extended;
-use byte_fields::Reader;
-use span_fields::{Break, attrs, fixed64, text, var};
-use span_runs::{same_resource, same_scope};
-use span_types::{MOST_SPANS, Resource, Scope, SharedResource, SharedScope, Span};
+use crate::writing::{are_extended, put_spans};
+use byte_fields::{Reader, Writer};
+use span_fields::{Break, fixed64, var};
+use span_types::{MOST_SPANS, Memory, Resource, Scope, SharedResource, SharedScope, Span};
 use std::alloc::Global;
 
 /// What the first field of an extended body adds to the number.
@@ -80,75 +78,73 @@ fn spans(alloc: Global, reader: &mut Reader, part: Part) -> Result<Vec<Span>, Br
 {
     let count = var(reader, part.within)?;
     let mut spans = Vec::new(alloc);
-    resource_runs(alloc, reader, part, count, &mut spans)?;
+    runs::<Resource>(alloc, reader, part, &(), count, &mut spans)?;
     Ok(spans)
 }
 
-fn resource_runs(
-    alloc: Global,
-    reader: &mut Reader,
-    part: Part,
-    count: u64,
-    spans: &mut Vec<Span>,
-) -> Result<(), Break>
-    ensures { Gives (λ _. spans.new.items) result reader.new (runs_at (resource_run_at part) count false spans.old.items reader.old) }
-{
-    for index in 0..count {
-        resource_run(alloc, reader, part, index > 0, spans)?;
-    }
-    Ok(())
-}
+impl Group for Resource {
+    ghost use Rattle.head_log.specs.Bodies.{scopes_bytes};
+    ghost use Rattle.head_log.specs.Scanning.{scopes_at};
+    ghost use Rattle.head_log.specs.Written.{AreSoundScopes};
 
-/// A run of one resource. A later run has another resource than the run before it.
-#[tactic(auto, unfolding(crate::specs::Scanning::resource_run_at))]
-fn resource_run(
-    alloc: Global,
-    reader: &mut Reader,
-    part: Part,
-    later: bool,
-    spans: &mut Vec<Span>,
-) -> Result<(), Break>
-    ensures { Gives (λ _. spans.new.items) result reader.new (resource_run_at part later spans.old.items reader.old) }
-{
-    let at = reader.at();
-    let resource = resource(alloc, reader, part.within)?;
-    if later && repeats_resource(spans.as_slice(), &resource) {
-        return Err(Break::At(at));
-    }
-    resource_spans(alloc, reader, part, resource, spans)
-}
+    type Around = ();
 
-/// Whether the last of the spans has an equal resource.
-fn repeats_resource(spans: &[Span], resource: &Resource) -> bool
-    ensures { result ≡ last_passes (λ span. same_resource span.resource resource.now) (last_of spans.now) }
-{
-    match spans.last() {
-        Some(last) => same_resource(last.resource.get(), resource),
-        None => false,
+    ghost content_bytes = { scopes_bytes };
+
+    ghost content_promise = { AreSoundScopes };
+
+    ghost content_at = { λ part _ resource. scopes_at part resource };
+
+    fn put_content(out: &mut Writer, extended: bool, spans: &[Span]) -> Result<(), Memory> {
+        put_runs::<Scope>(out, extended, spans)
+    }
+
+    #[tactic(auto, unfolding(crate::specs::Scanning::scopes_at))]
+    fn content(
+        self,
+        alloc: Global,
+        reader: &mut Reader,
+        part: Part,
+        _around: &(),
+        spans: &mut Vec<Span>,
+    ) -> Result<(), Break> {
+        let count = run_count(reader, part.within)?;
+        let resource = SharedResource::of(alloc, self)?;
+        runs::<Scope>(alloc, reader, part, &resource, count, spans)
     }
 }
 
-#[tactic(auto, unfolding(crate::specs::Scanning::resource_at))]
-fn resource(alloc: Global, reader: &mut Reader, within: bool) -> Result<Resource, Break>
-    ensures { Gives (λ x. x) result reader.new (resource_at within reader.old) }
-{
-    let attrs = attrs(alloc, reader, within)?;
-    Ok(Resource { attrs })
-}
+impl Group for Scope {
+    ghost use Rattle.span_fields.specs.Encodings.{list_bytes};
+    ghost use Rattle.head_log.specs.Bodies.{span_bytes};
+    ghost use Rattle.head_log.specs.Scanning.{scope_spans_at};
+    ghost use Rattle.head_log.specs.Written.{AreSoundAlone};
 
-#[tactic(auto, unfolding(crate::specs::Scanning::resource_spans_at))]
-fn resource_spans(
-    alloc: Global,
-    reader: &mut Reader,
-    part: Part,
-    resource: Resource,
-    spans: &mut Vec<Span>,
-) -> Result<(), Break>
-    ensures { Gives (λ _. spans.new.items) result reader.new (resource_spans_at part resource spans.old.items reader.old) }
-{
-    let count = run_count(reader, part.within)?;
-    let resource = SharedResource::of(alloc, resource)?;
-    scope_runs(alloc, reader, part, &resource, count, spans)
+    type Around = SharedResource;
+
+    ghost content_bytes = { λ extended spans. list_bytes (span_bytes extended) spans };
+
+    ghost content_promise = { AreSoundAlone };
+
+    ghost content_at = { λ part resource scope. scope_spans_at part resource scope };
+
+    fn put_content(out: &mut Writer, extended: bool, spans: &[Span]) -> Result<(), Memory> {
+        put_spans(out, extended, spans)
+    }
+
+    #[tactic(auto, unfolding(crate::specs::Scanning::scope_spans_at))]
+    fn content(
+        self,
+        alloc: Global,
+        reader: &mut Reader,
+        part: Part,
+        around: &SharedResource,
+        spans: &mut Vec<Span>,
+    ) -> Result<(), Break> {
+        let count = span_count(reader, part.within, spans.len() as u64)?;
+        let scope = SharedScope::of(alloc, self)?;
+        each_span(alloc, reader, part, around, &scope, count, spans)
+    }
 }
 
 /// How many runs of a scope a resource has: some.
@@ -162,82 +158,6 @@ fn run_count(reader: &mut Reader, within: bool) -> Result<u64, Break>
         return Err(Break::At(at));
     }
     Ok(count)
-}
-
-fn scope_runs(
-    alloc: Global,
-    reader: &mut Reader,
-    part: Part,
-    resource: &SharedResource,
-    count: u64,
-    spans: &mut Vec<Span>,
-) -> Result<(), Break>
-    ensures { Gives (λ _. spans.new.items) result reader.new (runs_at (scope_run_at part resource.now) count false spans.old.items reader.old) }
-{
-    for index in 0..count {
-        scope_run(alloc, reader, part, resource, index > 0, spans)?;
-    }
-    Ok(())
-}
-
-/// A run of one scope. A later run of one resource has another scope than the run before it.
-#[tactic(auto, unfolding(crate::specs::Scanning::scope_run_at))]
-fn scope_run(
-    alloc: Global,
-    reader: &mut Reader,
-    part: Part,
-    resource: &SharedResource,
-    later: bool,
-    spans: &mut Vec<Span>,
-) -> Result<(), Break>
-    ensures { Gives (λ _. spans.new.items) result reader.new (scope_run_at part resource.now later spans.old.items reader.old) }
-{
-    let at = reader.at();
-    let scope = scope(alloc, reader, part.within)?;
-    if later && repeats_scope(spans.as_slice(), &scope) {
-        return Err(Break::At(at));
-    }
-    scope_spans(alloc, reader, part, resource, scope, spans)
-}
-
-/// Whether the last of the spans has an equal scope.
-fn repeats_scope(spans: &[Span], scope: &Scope) -> bool
-    ensures { result ≡ last_passes (λ span. same_scope span.scope scope.now) (last_of spans.now) }
-{
-    match spans.last() {
-        Some(last) => same_scope(last.scope.get(), scope),
-        None => false,
-    }
-}
-
-#[tactic(auto, unfolding(crate::specs::Scanning::scope_at))]
-fn scope(alloc: Global, reader: &mut Reader, within: bool) -> Result<Scope, Break>
-    ensures { Gives (λ x. x) result reader.new (scope_at within reader.old) }
-{
-    let name = text(reader, within)?;
-    let version = text(reader, within)?;
-    let attrs = attrs(alloc, reader, within)?;
-    Ok(Scope {
-        name,
-        version,
-        attrs,
-    })
-}
-
-#[tactic(auto, unfolding(crate::specs::Scanning::scope_spans_at))]
-fn scope_spans(
-    alloc: Global,
-    reader: &mut Reader,
-    part: Part,
-    resource: &SharedResource,
-    scope: Scope,
-    spans: &mut Vec<Span>,
-) -> Result<(), Break>
-    ensures { Gives (λ _. spans.new.items) result reader.new (scope_spans_at part resource.now scope spans.old.items reader.old) }
-{
-    let count = span_count(reader, part.within, spans.len() as u64)?;
-    let scope = SharedScope::of(alloc, scope)?;
-    each_span(alloc, reader, part, resource, &scope, count, spans)
 }
 
 /// How many spans a run has: some, and with those before it at most as many as a record has.

@@ -2,6 +2,7 @@
 #![tactic(auto)]
 
 mod bodies;
+mod groups;
 mod laws;
 mod numbered;
 mod prepared;

@@ -17,9 +17,9 @@ use Rattle.byte_fields.specs.Reading.{Stand, left, IsWithin, ahead, ◌>>=◌, r
 use Rattle.byte_fields.proofs.FieldLaws.{left-ahead, raw_again, byte_again, fixed64_again, var_again, zigzag_again}
 use Rattle.byte_fields.proofs.Texts.{text_at-text}
 use Rattle.span_fields.specs.Breaks.{in_part}
-use Rattle.span_fields.specs.Encodings.{list_bytes, value_bytes, attr_bytes, attrs_bytes, trace_bytes, id_bytes, parent_bytes, kind_bytes, status_bytes, event_bytes, link_bytes}
-use Rattle.span_fields.specs.Sound.{IsBelow64, IsAny, IsWord, AreSound, IsSoundValue, IsSoundAttr, AreSoundAttrs, IsId, IsTrace, IsSpanId, IsParent, IsSoundEvent, IsSoundLink}
-use Rattle.span_fields.specs.Decodings.{or_break, truth_at, text_value_at, whole_value_at, truth_value_at, value_at, keyed_at, attr_at, items_at, list_at, attrs_at, id_at, trace_id_at, span_id_at, some_id_at, parent_at, kind_at, status_at, event_at, link_at}
+use Rattle.span_fields.specs.Encodings.{list_bytes, value_bytes, attr_bytes, attrs_bytes, trace_bytes, id_bytes, parent_bytes, kind_bytes, status_bytes, event_bytes, link_bytes, resource_bytes, scope_bytes}
+use Rattle.span_fields.specs.Sound.{IsBelow64, IsAny, IsWord, AreSound, IsSoundValue, IsSoundAttr, AreSoundAttrs, IsId, IsTrace, IsSpanId, IsParent, IsSoundEvent, IsSoundLink, IsSoundResource, IsSoundScope}
+use Rattle.span_fields.specs.Decodings.{or_break, truth_at, text_value_at, whole_value_at, truth_value_at, value_at, keyed_at, attr_at, items_at, list_at, attrs_at, id_at, trace_id_at, span_id_at, some_id_at, parent_at, kind_at, status_at, event_at, link_at, resource_at, scope_at}
 use Rattle.span_fields.specs.Laws.{read_to, EncodedIsRead}
 
 -- after a field
@@ -213,3 +213,16 @@ again_link within s is link rest fits e =
     seq (trace_id_at within) trace_bytes IsTrace _ (again_trace within) s is link.trace (id_bytes link.span ++ attrs_bytes link.attrs) rest link fits.trace e (λ t u f.
     seq (span_id_at within) id_bytes IsSpanId _ (again_span_id within) t u link.span (attrs_bytes link.attrs) rest link fits.span f (λ v w g.
     last (attrs_at within) attrs_bytes AreSoundAttrs _ (again_attrs within) v w link.attrs rest link fits.attrs g (λ x. refl)))
+
+-- ---- resources and scopes
+
+pub again_resource : (within : Bool) → EncodedIsRead (resource_at within) resource_bytes IsSoundResource
+unfolding resource_at resource_bytes
+again_resource within s is resource rest fits e = last (attrs_at within) attrs_bytes AreSoundAttrs _ (again_attrs within) s is resource.attrs rest resource fits.attrs e (λ t. refl)
+
+pub again_scope : (within : Bool) → EncodedIsRead (scope_at within) scope_bytes IsSoundScope
+unfolding scope_at scope_bytes
+again_scope within s is scope rest fits e =
+    seq (in_part within text_at) text_bytes IsWord _ (again_text within) s is scope.name (text_bytes scope.version ++ attrs_bytes scope.attrs) rest scope fits.name e (λ t u f.
+    seq (in_part within text_at) text_bytes IsWord _ (again_text within) t u scope.version (attrs_bytes scope.attrs) rest scope fits.version f (λ v w g.
+    last (attrs_at within) attrs_bytes AreSoundAttrs _ (again_attrs within) v w scope.attrs rest scope fits.attrs g (λ x. refl)))

@@ -11,6 +11,8 @@ use Rattle.span_types.specs.declared.ids.SpanId.{SpanId}
 use Rattle.span_types.specs.declared.attrs.Attr.{Attr}
 use Rattle.span_types.specs.declared.attrs.AttrValue.{AttrValue}
 use Rattle.span_types.specs.declared.attrs.AttrValue.TheVariants.{Text, Whole, Truth}
+use Rattle.span_types.specs.declared.attrs.Resource.{Resource}
+use Rattle.span_types.specs.declared.attrs.Scope.{Scope}
 use Rattle.span_types.specs.declared.spans.SpanEvent.{SpanEvent}
 use Rattle.span_types.specs.declared.spans.SpanKind.{SpanKind}
 use Rattle.span_types.specs.declared.spans.SpanKind.TheVariants as kinds
@@ -25,9 +27,9 @@ use Rattle.byte_fields.specs.Reading.{Stand, left, AreBytes, IsWithin, Passes, �
 use Rattle.byte_fields.proofs.FieldLaws.{left_fits, raw_takes, byte_takes, fixed64_takes, var_takes, var_below, zigzag_takes}
 use Rattle.byte_fields.proofs.TextLaws.{Passes-then, text_answer}
 use Rattle.span_fields.specs.Breaks.{or_place, in_part}
-use Rattle.span_fields.specs.Encodings.{list_bytes, value_bytes, attr_bytes, attrs_bytes, trace_bytes, id_bytes, parent_bytes, kind_bytes, status_bytes, event_bytes, link_bytes}
-use Rattle.span_fields.specs.Sound.{IsBelow64, IsAny, IsWord, AreSound, IsSoundValue, IsSoundAttr, AreSoundAttrs, IsId, IsTrace, IsSpanId, IsParent, IsSoundEvent, IsSoundLink}
-use Rattle.span_fields.specs.Decodings.{or_break, truth_of, truth_at, text_value_at, whole_value_at, truth_value_at, value_of, value_at, keyed_at, attr_at, items_at, list_at, attrs_at, id_at, trace_id_at, span_id_at, some_id_at, parent_of, parent_at, kind_at, status_at, event_at, link_at}
+use Rattle.span_fields.specs.Encodings.{list_bytes, value_bytes, attr_bytes, attrs_bytes, trace_bytes, id_bytes, parent_bytes, kind_bytes, status_bytes, event_bytes, link_bytes, resource_bytes, scope_bytes}
+use Rattle.span_fields.specs.Sound.{IsBelow64, IsAny, IsWord, AreSound, IsSoundValue, IsSoundAttr, AreSoundAttrs, IsId, IsTrace, IsSpanId, IsParent, IsSoundEvent, IsSoundLink, IsSoundResource, IsSoundScope}
+use Rattle.span_fields.specs.Decodings.{or_break, truth_of, truth_at, text_value_at, whole_value_at, truth_value_at, value_of, value_at, keyed_at, attr_at, items_at, list_at, attrs_at, id_at, trace_id_at, span_id_at, some_id_at, parent_of, parent_at, kind_at, status_at, event_at, link_at, resource_at, scope_at}
 use Rattle.span_fields.specs.Laws.{Took, Got, ReadIsEncoded}
 use Rattle.span_fields.proofs.Again.{one_byte, IsNext, AllItems, IsGoodList}
 
@@ -460,4 +462,29 @@ meant_link within s is link t e =
     (record {
       bytes = took_then on_trace.bytes (took_then on_span.bytes on_attrs.bytes);
       fits = record { trace = on_trace.fits; span = on_span.fits; attrs = on_attrs.fits };
+    }))))
+
+-- ---- resources and scopes
+
+pub meant_resource : (within : Bool) → ReadIsEncoded (resource_at within) resource_bytes IsSoundResource
+unfolding resource_at resource_bytes
+meant_resource within s is resource t e =
+    step (attrs_at within) attrs_bytes AreSoundAttrs _ (meant_attrs within) s is resource t (Got resource_bytes IsSoundResource s resource t) e (λ attrs a on_attrs ea.
+    let found : Resource = record { attrs = attrs } in
+    let same = same_pair found resource a t ea in
+    renamed resource_bytes IsSoundResource s found resource a t same.0 same.1 (record { bytes = on_attrs.bytes; fits = record { attrs = on_attrs.fits } }))
+
+pub meant_scope : (within : Bool) → ReadIsEncoded (scope_at within) scope_bytes IsSoundScope
+unfolding scope_at scope_bytes
+meant_scope within s is scope t e =
+    let P : Type 0 = Got scope_bytes IsSoundScope s scope t in
+    step (in_part within text_at) text_bytes IsWord _ (meant_text within) s is scope t P e (λ name a on_name ea.
+    step (in_part within text_at) text_bytes IsWord _ (meant_text within) a on_name.bytes.within scope t P ea (λ version b on_version eb.
+    step (attrs_at within) attrs_bytes AreSoundAttrs _ (meant_attrs within) b on_version.bytes.within scope t P eb (λ attrs c on_attrs ec.
+    let found : Scope = record { name = name; version = version; attrs = attrs } in
+    let same = same_pair found scope c t ec in
+    renamed scope_bytes IsSoundScope s found scope c t same.0 same.1
+    (record {
+      bytes = took_then on_name.bytes (took_then on_version.bytes on_attrs.bytes);
+      fits = record { name = on_name.fits; version = on_version.fits; attrs = on_attrs.fits };
     }))))

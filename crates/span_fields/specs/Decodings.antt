@@ -5,6 +5,8 @@ use Rattle.span_types.specs.declared.ids.SpanId.{SpanId}
 use Rattle.span_types.specs.declared.attrs.Attr.{Attr}
 use Rattle.span_types.specs.declared.attrs.AttrValue.{AttrValue}
 use Rattle.span_types.specs.declared.attrs.AttrValue.TheVariants.{Text, Whole, Truth}
+use Rattle.span_types.specs.declared.attrs.Resource.{Resource}
+use Rattle.span_types.specs.declared.attrs.Scope.{Scope}
 use Rattle.span_types.specs.declared.spans.SpanEvent.{SpanEvent}
 use Rattle.span_types.specs.declared.spans.SpanKind.{SpanKind}
 use Rattle.span_types.specs.declared.spans.SpanLink.{SpanLink}
@@ -141,3 +143,17 @@ events_at within s = list_at within (λ _. event_at within) s
 
 abbrev pub links_at : Bool → Stand → Result (List SpanLink × Stand) ℕ
 links_at within s = list_at within (λ _. link_at within) s
+
+-- ---- resources and scopes
+
+unfoldable pub resource_at : Bool → Stand → Result (Resource × Stand) ℕ
+resource_at within s = do
+  attrs ← attrs_at within s
+  Ok (record { attrs = attrs.0 }, attrs.1)
+
+unfoldable pub scope_at : Bool → Stand → Result (Scope × Stand) ℕ
+scope_at within s = do
+  name ← in_part within text_at s
+  version ← in_part within text_at name.1
+  attrs ← attrs_at within version.1
+  Ok (record { name = name.0; version = version.0; attrs = attrs.0 }, attrs.1)

@@ -6,6 +6,8 @@ use Rattle.span_types.specs.declared.ids.TraceId.{TraceId}
 use Rattle.span_types.specs.declared.attrs.Attr.{Attr}
 use Rattle.span_types.specs.declared.attrs.AttrValue.{AttrValue}
 use Rattle.span_types.specs.declared.attrs.AttrValue.TheVariants.{Text, Whole, Truth}
+use Rattle.span_types.specs.declared.attrs.Resource.{Resource}
+use Rattle.span_types.specs.declared.attrs.Scope.{Scope}
 use Rattle.span_types.specs.declared.spans.SpanEvent.{SpanEvent}
 use Rattle.span_types.specs.declared.spans.SpanKind.{SpanKind}
 use Rattle.span_types.specs.declared.spans.SpanLink.{SpanLink}
@@ -51,3 +53,9 @@ event_bytes event = fixed64_bytes event.time ++ (text_bytes event.name ++ attrs_
 
 unfoldable pub link_bytes : SpanLink → List ℕ
 link_bytes link = trace_bytes link.trace ++ (id_bytes link.span ++ attrs_bytes link.attrs)
+
+unfoldable pub resource_bytes : Resource → List ℕ
+resource_bytes resource = attrs_bytes resource.attrs
+
+unfoldable pub scope_bytes : Scope → List ℕ
+scope_bytes scope = text_bytes scope.name ++ (text_bytes scope.version ++ attrs_bytes scope.attrs)

@@ -8,6 +8,8 @@ use Rattle.span_types.specs.declared.ids.TraceId.{TraceId}
 use Rattle.span_types.specs.declared.attrs.Attr.{Attr}
 use Rattle.span_types.specs.declared.attrs.AttrValue.{AttrValue}
 use Rattle.span_types.specs.declared.attrs.AttrValue.TheVariants.{Text, Whole, Truth}
+use Rattle.span_types.specs.declared.attrs.Resource.{Resource}
+use Rattle.span_types.specs.declared.attrs.Scope.{Scope}
 use Rattle.span_types.specs.declared.spans.SpanEvent.{SpanEvent}
 use Rattle.span_types.specs.declared.spans.SpanLink.{SpanLink}
 use Rattle.span_types.specs.Promises.{AreDistinct, all_zero}
@@ -67,3 +69,11 @@ pub record IsSoundLink (link : SpanLink) : Type 0 where
   pub trace : IsTrace link.trace
   pub span : IsSpanId link.span
   pub attrs : AreSoundAttrs link.attrs
+
+pub record IsSoundResource (resource : Resource) : Type 0 where
+  pub attrs : AreSoundAttrs resource.attrs
+
+pub record IsSoundScope (scope : Scope) : Type 0 where
+  pub name : IsWord scope.name
+  pub version : IsWord scope.version
+  pub attrs : AreSoundAttrs scope.attrs

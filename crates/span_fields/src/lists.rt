@@ -11,7 +11,7 @@ ghost use Rattle.span_fields.specs.Sound.{AreSound};
 use crate::breaks::{self, Break};
 use crate::reading::{attrs, span_id, trace_id};
 use byte_fields::{Reader, Writer};
-use span_types::{Memory, Seq, SpanEvent, SpanLink};
+use span_types::{Memory, Resource, Scope, Seq, SpanEvent, SpanLink};
 use std::alloc::Global;
 
 /// What can be written as fields.
@@ -116,5 +116,35 @@ impl Decode for SpanLink {
         let span = span_id(reader, within)?;
         let attrs = attrs(alloc, reader, within)?;
         Ok(SpanLink { trace, span, attrs })
+    }
+}
+
+impl Decode for Resource {
+    ghost use Rattle.span_fields.specs.Decodings.{resource_at};
+
+    ghost decoding = { resource_at };
+
+    #[tactic(auto, unfolding(crate::specs::Decodings::resource_at))]
+    fn decode(alloc: Global, reader: &mut Reader, within: bool) -> Result<Resource, Break> {
+        let attrs = attrs(alloc, reader, within)?;
+        Ok(Resource { attrs })
+    }
+}
+
+impl Decode for Scope {
+    ghost use Rattle.span_fields.specs.Decodings.{scope_at};
+
+    ghost decoding = { scope_at };
+
+    #[tactic(auto, unfolding(crate::specs::Decodings::scope_at))]
+    fn decode(alloc: Global, reader: &mut Reader, within: bool) -> Result<Scope, Break> {
+        let name = breaks::text(reader, within)?;
+        let version = breaks::text(reader, within)?;
+        let attrs = attrs(alloc, reader, within)?;
+        Ok(Scope {
+            name,
+            version,
+            attrs,
+        })
     }
 }

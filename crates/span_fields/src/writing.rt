@@ -10,8 +10,8 @@ ghost use Rattle.span_fields.specs.Written.{HasBytes};
 use crate::lists::{Encode, put_list};
 use byte_fields::Writer;
 use span_types::{
-    Attr, AttrValue, Attrs, Memory, SpanEvent, SpanId, SpanKind, SpanLink, StatusCode, Text,
-    TraceId,
+    Attr, AttrValue, Attrs, Memory, Resource, Scope, SpanEvent, SpanId, SpanKind, SpanLink,
+    StatusCode, Text, TraceId,
 };
 
 /// Adds a text.
@@ -164,6 +164,36 @@ impl Encode for SpanLink {
     fn encode(&self, out: &mut Writer) -> Result<(), Memory> {
         put_trace(out, self.trace)?;
         put_id(out, self.span)?;
+        put_attrs(out, &self.attrs)
+    }
+}
+
+impl Encode for Resource {
+    ghost use Rattle.span_fields.specs.Encodings.{resource_bytes};
+    ghost use Rattle.span_fields.specs.Sound.{IsSoundResource};
+
+    ghost encoding = { resource_bytes };
+
+    ghost promise = { IsSoundResource };
+
+    #[tactic(auto, unfolding(crate::specs::Encodings::resource_bytes))]
+    fn encode(&self, out: &mut Writer) -> Result<(), Memory> {
+        put_attrs(out, &self.attrs)
+    }
+}
+
+impl Encode for Scope {
+    ghost use Rattle.span_fields.specs.Encodings.{scope_bytes};
+    ghost use Rattle.span_fields.specs.Sound.{IsSoundScope};
+
+    ghost encoding = { scope_bytes };
+
+    ghost promise = { IsSoundScope };
+
+    #[tactic(auto, unfolding(crate::specs::Encodings::scope_bytes))]
+    fn encode(&self, out: &mut Writer) -> Result<(), Memory> {
+        put_text(out, &self.name)?;
+        put_text(out, &self.version)?;
         put_attrs(out, &self.attrs)
     }
 }

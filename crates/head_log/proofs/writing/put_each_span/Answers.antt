@@ -3,7 +3,7 @@ use Rattle.std.proofs.lemmas.Grind.{common_steps}
 use Rattle.std.proofs.lemmas.List.Elements.{All-more}
 use Rattle.span_types.specs.declared.spans.Span.{Span}
 use Rattle.head_log.specs.Written.{IsSoundAlone}
-use Rattle.head_log.proofs.writing.put_spans.Goals as goal
+use Rattle.head_log.proofs.writing.put_each_span.Goals as goal
 
 pub loop-span-preserved : goal.loop-span-preserved
 loop-span-preserved c = (
