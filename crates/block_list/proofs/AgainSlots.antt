@@ -7,8 +7,8 @@ use Rattle.std.proofs.lemmas.List.Elements.{recursion_from_All}
 use Rattle.byte_fields.specs.Spelling.{fixed32_bytes, fixed64_bytes}
 use Rattle.byte_fields.specs.Reading.{Stand, left}
 use Rattle.block_list.specs.Body.{MeetsRules, files_of, firsts_of, magic, segment_bytes, block_bytes, head_bytes, text_of, successor}
-use Rattle.block_list.specs.Slots.{IsVacant, Holds, Stands}
-use Rattle.block_list.specs.Slots.Stands.{none, alone, other_alone, newer, other_newer}
+use Rattle.block_list.specs.Slots.{IsVacant, SlotHolds, SlotsHold}
+use Rattle.block_list.specs.Slots.SlotsHold.{none, alone, other_alone, newer, other_newer}
 use Rattle.block_list.specs.Reading.{ruled, read8, read32, read64, tag, are_neighbours, tag_at, generation_at, count_at, head_at, segments_at, blocks_at, loose_at, list_at, is_vacant, slot_at, slots_at}
 use Rattle.block_list.proofs.ReadingLemmas.{segment_files, block_files}
 use Rattle.block_list.proofs.BodyLemmas.{few_segments, few_blocks, few_loose}
@@ -125,13 +125,13 @@ vacant_again : (slot : ℕ) (other : Option ℕ) (bytes : List ℕ) → IsVacant
 unfolding slot_at
 vacant_again slot other bytes vacant = rw (is_vacant_of bytes vacant) refl
 
-not_vacant_of : (slot : ℕ) (bytes : List ℕ) (body : ListBody) → Holds slot bytes body → is_vacant bytes ≡ false
+not_vacant_of : (slot : ℕ) (bytes : List ℕ) (body : ListBody) → SlotHolds slot bytes body → is_vacant bytes ≡ false
 not_vacant_of slot bytes body holds = elim (cases_Bool (is_vacant bytes)) [
   | inl vacant ↦ absurd (holds_not_vacant slot bytes body holds (vacant_from bytes vacant))
   | inr shown ↦ shown
 ]
 
-slot_again : (slot : ℕ) (other : Option ℕ) (bytes : List ℕ) (body : ListBody) → Holds slot bytes body → are_neighbours body.generation other ≡ true → slot_at slot other bytes ≡ Ok (Some body)
+slot_again : (slot : ℕ) (other : Option ℕ) (bytes : List ℕ) (body : ListBody) → SlotHolds slot bytes body → are_neighbours body.generation other ≡ true → slot_at slot other bytes ≡ Ok (Some body)
 unfolding slot_at
 slot_again slot other bytes body holds beside =
     let start : Stand = record { whole = bytes; at = 0 } in
@@ -146,7 +146,7 @@ before_it : (generation : ℕ) (other : ℕ) → other ≡ successor generation 
 before_it generation other is = rw (eq-eqb other (successor generation) is) (or_not (eqb generation (successor other)))
 
 -- what the slots stand for is what is read
-pub slots_again : (first second : List ℕ) (list : Option ListBody) → Stands 0 first second list → slots_at first second ≡ Ok list
+pub slots_again : (first second : List ℕ) (list : Option ListBody) → SlotsHold 0 first second list → slots_at first second ≡ Ok list
 unfolding slots_at
 slots_again first second list (none here there is) =
     rw (vacant_again 0 None first here) (rw (vacant_again 1 None second there) (ap (λ (l : Option ListBody). Ok l) (sym is)))
@@ -163,8 +163,8 @@ slots_again first second list (other_newer body older here there follows is) =
 same_found : (a b : Option ListBody) → (let r : Result (Option ListBody) (ℕ × ℕ) = Ok a in let s : Result (Option ListBody) (ℕ × ℕ) = Ok b in r ≡ s) → a ≡ b
 same_found a b is = cc
 
-pub only_one : (first second : List ℕ) (found list : Option ListBody) → Stands 0 first second list → slots_at first second ≡ Ok found → found ≡ list
+pub only_one : (first second : List ℕ) (found list : Option ListBody) → SlotsHold 0 first second list → slots_at first second ≡ Ok found → found ≡ list
 only_one first second found list stands is = same_found found list (sym is ∙ slots_again first second list stands)
 
-pub never_breaks : (first second : List ℕ) (list : Option ListBody) (slot at : ℕ) → Stands 0 first second list → slots_at first second ≡ Err (slot, at) → ⊥
+pub never_breaks : (first second : List ℕ) (list : Option ListBody) (slot at : ℕ) → SlotsHold 0 first second list → slots_at first second ≡ Err (slot, at) → ⊥
 never_breaks first second list slot at stands is = absurd (let bad = sym (slots_again first second list stands) ∙ is in cc)

@@ -6,19 +6,19 @@ use Rattle.disk_model.specs.Bytes.{Torn}
 use Rattle.disk_model.specs.Crash.{OnlyBytes}
 use Rattle.disk_model.proofs.BytesLemmas.{torn_behind, torn_byte}
 use Rattle.block_list.specs.Body.{MeetsRules, text_of, successor}
-use Rattle.block_list.specs.Slots.{IsOpen, IsVacant, Holds, Stands, StandsFor, IsNext}
-use Rattle.block_list.specs.Slots.Stands.{none, alone, other_alone, newer, other_newer}
+use Rattle.block_list.specs.Slots.{IsOpen, IsVacant, SlotHolds, SlotsHold, ImageHoldsList, IsNext}
+use Rattle.block_list.specs.Slots.SlotsHold.{none, alone, other_alone, newer, other_newer}
 use Rattle.block_list.specs.declared.body.ListBody.{ListBody}
 
 -- the same two slots, seen from the other one
-pub turned : (image : Image) (list : Option ListBody) → StandsFor image list → Stands 1 (bytes_of image 1) (bytes_of image 0) list
+pub turned : (image : Image) (list : Option ListBody) → ImageHoldsList image list → SlotsHold 1 (bytes_of image 1) (bytes_of image 0) list
 turned image list (none here there is) = none there here is
 turned image list (alone body here there is) = other_alone body there here is
 turned image list (other_alone body here there is) = alone body there here is
 turned image list (newer body older here there next is) = other_newer body older there here next is
 turned image list (other_newer body older here there next is) = newer body older there here next is
 
-pub turned_back : (image : Image) (list : Option ListBody) → Stands 1 (bytes_of image 1) (bytes_of image 0) list → StandsFor image list
+pub turned_back : (image : Image) (list : Option ListBody) → SlotsHold 1 (bytes_of image 1) (bytes_of image 0) list → ImageHoldsList image list
 turned_back image list (none here there is) = none there here is
 turned_back image list (alone body here there is) = other_alone body there here is
 turned_back image list (other_alone body here there is) = alone body there here is
@@ -28,16 +28,16 @@ turned_back image list (other_newer body older here there next is) = newer body 
 pub zero_or_one : (slot : ℕ) → slot < 2 → (slot ≡ 0) ⊎ (slot ≡ 1)
 zero_or_one slot below = elim (cases_eq slot 0) [ inl is ↦ inl is | inr more ↦ inr (omega arith) ]
 
-pub seen_from : (slot : ℕ) (image : Image) (list : Option ListBody) → slot < 2 → StandsFor image list → Stands slot (bytes_of image slot) (bytes_of image (1 - slot)) list
+pub seen_from : (slot : ℕ) (image : Image) (list : Option ListBody) → slot < 2 → ImageHoldsList image list → SlotsHold slot (bytes_of image slot) (bytes_of image (1 - slot)) list
 seen_from slot image list below stands = elim (zero_or_one slot below) [
-  | inl is ↦ subst (λ (s : ℕ). Stands s (bytes_of image s) (bytes_of image (1 - s)) list) (sym is) stands
-  | inr is ↦ subst (λ (s : ℕ). Stands s (bytes_of image s) (bytes_of image (1 - s)) list) (sym is) (turned image list stands)
+  | inl is ↦ subst (λ (s : ℕ). SlotsHold s (bytes_of image s) (bytes_of image (1 - s)) list) (sym is) stands
+  | inr is ↦ subst (λ (s : ℕ). SlotsHold s (bytes_of image s) (bytes_of image (1 - s)) list) (sym is) (turned image list stands)
 ]
 
-pub seen_back : (slot : ℕ) (image : Image) (list : Option ListBody) → slot < 2 → Stands slot (bytes_of image slot) (bytes_of image (1 - slot)) list → StandsFor image list
+pub seen_back : (slot : ℕ) (image : Image) (list : Option ListBody) → slot < 2 → SlotsHold slot (bytes_of image slot) (bytes_of image (1 - slot)) list → ImageHoldsList image list
 seen_back slot image list below stands = elim (zero_or_one slot below) [
-  | inl is ↦ subst (λ (s : ℕ). Stands s (bytes_of image s) (bytes_of image (1 - s)) list) is stands
-  | inr is ↦ turned_back image list (subst (λ (s : ℕ). Stands s (bytes_of image s) (bytes_of image (1 - s)) list) is stands)
+  | inl is ↦ subst (λ (s : ℕ). SlotsHold s (bytes_of image s) (bytes_of image (1 - s)) list) is stands
+  | inr is ↦ turned_back image list (subst (λ (s : ℕ). SlotsHold s (bytes_of image s) (bytes_of image (1 - s)) list) is stands)
 ]
 
 -- the slot of a list that comes after another isn't that one's
@@ -48,7 +48,7 @@ pub same_some : (a b : ListBody) → Some a ≡ Some b → a ≡ b
 same_some a b is = cc
 
 -- While the list that counts stands in the other slot, this one may become vacant.
-pub vacated : (slot generation : ℕ) (bytes others new : List ℕ) (list : Option ListBody) → generation % 2 ≡ slot → IsNext generation list → Stands slot bytes others list → IsVacant new → Stands slot new others list
+pub vacated : (slot generation : ℕ) (bytes others new : List ℕ) (list : Option ListBody) → generation % 2 ≡ slot → IsNext generation list → SlotsHold slot bytes others list → IsVacant new → SlotsHold slot new others list
 vacated slot generation bytes others new list parity next (none here there is) gone = none gone there is
 vacated slot generation bytes others new list parity next (alone body here there is) gone =
     let after : generation ≡ successor body.generation = subst (λ (l : Option ListBody). IsNext generation l) is next in
@@ -60,7 +60,7 @@ vacated slot generation bytes others new list parity next (newer body older here
 vacated slot generation bytes others new list parity next (other_newer body older here there follows is) gone = other_alone body gone there is
 
 -- a slot whose first byte is torn, and which held a list
-torn_gate : (slot : ℕ) (bytes new : List ℕ) (body : ListBody) → Holds slot bytes body → Torn 0 1 bytes new → Holds slot new body ⊎ IsVacant new
+torn_gate : (slot : ℕ) (bytes new : List ℕ) (body : ListBody) → SlotHolds slot bytes body → Torn 0 1 bytes new → SlotHolds slot new body ⊎ IsVacant new
 torn_gate slot bytes new body holds torn =
     let tail = text_of body ++ holds.rest in
     let whole : bytes ≡ [] ++ 1 ∷ tail = holds.spelled in
@@ -71,7 +71,7 @@ torn_gate slot bytes new body holds torn =
     ]
 
 -- closing the gate, at every moment
-pub closing : (slot generation : ℕ) (bytes others new : List ℕ) (list : Option ListBody) → generation % 2 ≡ slot → IsNext generation list → IsOpen bytes ⊎ (length bytes < 30) → Stands slot bytes others list → Torn 0 1 bytes new → Stands slot new others list
+pub closing : (slot generation : ℕ) (bytes others new : List ℕ) (list : Option ListBody) → generation % 2 ≡ slot → IsNext generation list → IsOpen bytes ⊎ (length bytes < 30) → SlotsHold slot bytes others list → Torn 0 1 bytes new → SlotsHold slot new others list
 closing slot generation bytes others new list parity next free stands torn = by stands
   where
     short : length bytes < 30 → IsVacant new
@@ -80,7 +80,7 @@ closing slot generation bytes others new list parity next free stands torn = by 
     gone : IsVacant bytes → IsVacant new
     gone vacant = ⊎_elim (λ is_open. ⊎_elim short (λ closed. absurd (closed is_open)) vacant) short free
 
-    by : Stands slot bytes others list → Stands slot new others list
+    by : SlotsHold slot bytes others list → SlotsHold slot new others list
     by (none here there is) = vacated slot generation bytes others new list parity next (none here there is) (gone here)
     by (alone body here there is) = absurd (parity_differs slot body.generation (sym here.parity) (sym parity ∙ ap (λ (n : ℕ). n % 2) (subst (λ (l : Option ListBody). IsNext generation l) is next)))
     by (other_alone body here there is) = vacated slot generation bytes others new list parity next (other_alone body here there is) (gone here)
@@ -102,13 +102,13 @@ behind_closed rest new count torn =
 
 -- once the gate is open the new list counts
 pub opened : (slot : ℕ) (others text rest new : List ℕ) (list : Option ListBody) (body : ListBody) → body.generation % 2 ≡ slot → MeetsRules body → text ≡ text_of body → IsNext body.generation list
-    → Stands slot ((0 ∷ text) ++ rest) others list → new ≡ 1 ∷ (text ++ rest) → Stands slot new others (Some body)
+    → SlotsHold slot ((0 ∷ text) ++ rest) others list → new ≡ 1 ∷ (text ++ rest) → SlotsHold slot new others (Some body)
 opened slot others text rest new list body parity rules is next stands one = by stands
   where
-    holds : Holds slot new body
+    holds : SlotHolds slot new body
     holds = record { rest = rest; spelled = one ∙ ap (λ (t : List ℕ). 1 ∷ (t ++ rest)) is; parity = parity; rules = rules }
 
-    by : Stands slot ((0 ∷ text) ++ rest) others list → Stands slot new others (Some body)
+    by : SlotsHold slot ((0 ∷ text) ++ rest) others list → SlotsHold slot new others (Some body)
     by (none here there l) = alone body holds there refl
     by (alone old here there l) = absurd (omega (arith, ap (λ (l : List ℕ). get_or l 0 0) here.spelled))
     by (other_alone old here there l) = newer body old holds there (subst (λ (o : Option ListBody). IsNext body.generation o) l next) refl
@@ -117,7 +117,7 @@ opened slot others text rest new list body parity rules is next stands one = by 
 
 -- opening the gate of a laid list, at every moment
 pub opening : (slot : ℕ) (others text rest new : List ℕ) (list : Option ListBody) (body : ListBody) → body.generation % 2 ≡ slot → MeetsRules body → text ≡ text_of body → IsNext body.generation list
-    → Stands slot ((0 ∷ text) ++ rest) others list → Torn 0 1 ((0 ∷ text) ++ rest) new → Stands slot new others list ⊎ Stands slot new others (Some body)
+    → SlotsHold slot ((0 ∷ text) ++ rest) others list → Torn 0 1 ((0 ∷ text) ++ rest) new → SlotsHold slot new others list ⊎ SlotsHold slot new others (Some body)
 opening slot others text rest new list body parity rules is next stands torn =
     let byte = torn_byte [] 0 (text ++ rest) 0 new refl torn in
     elim (cases_eq byte.0 1) [

@@ -3,8 +3,8 @@ use Rattle.std.proofs.Common.{◌≡◌, ◌⊎◌, inl, inr, ℕ, Bool, true, f
 use Rattle.std.proofs.lemmas.Bool.{cases_Bool, or_cases, eqb-true}
 use Rattle.byte_fields.specs.Reading.{Stand, left, AreBytes, IsWithin, ◌>>=◌}
 use Rattle.block_list.specs.Body.{text_of, successor}
-use Rattle.block_list.specs.Slots.{IsVacant, Holds, Stands}
-use Rattle.block_list.specs.Slots.Stands.{none, alone, other_alone, newer, other_newer}
+use Rattle.block_list.specs.Slots.{IsVacant, SlotHolds, SlotsHold}
+use Rattle.block_list.specs.Slots.SlotsHold.{none, alone, other_alone, newer, other_newer}
 use Rattle.block_list.specs.Reading.{read8, list_at, is_vacant, slot_at, in_slot, generation_of, newer_of, slots_at, are_neighbours}
 use Rattle.block_list.proofs.LoadLemmas.{vacant_from}
 use Rattle.block_list.proofs.Meaning.{took8, list_means}
@@ -13,7 +13,7 @@ use Rattle.block_list.specs.declared.body.ListBody.{ListBody}
 -- what a slot is read as
 abbrev SlotMeans : ℕ → Option ℕ → List ℕ → Option ListBody → Type 0
 SlotMeans slot other bytes None = IsVacant bytes
-SlotMeans slot other bytes (Some body) = Holds slot bytes body × (are_neighbours body.generation other ≡ true)
+SlotMeans slot other bytes (Some body) = SlotHolds slot bytes body × (are_neighbours body.generation other ≡ true)
 
 record Step {A B E : Type 0} (r : Result A E) (f : A → Result B E) (y : B) : Type 0 where
   value : A
@@ -60,7 +60,7 @@ slot_means slot other bytes found fits is = elim (cases_Bool (is_vacant bytes)) 
       (record { rest = left b.value.1; spelled = spelled; parity = list.parity; rules = list.rules }, list.neighbours)
 ]
 
-chosen : (first second : List ℕ) (one two : Option ListBody) → SlotMeans 0 None first one → SlotMeans 1 (generation_of one) second two → Stands 0 first second (newer_of one two)
+chosen : (first second : List ℕ) (one two : Option ListBody) → SlotMeans 0 None first one → SlotMeans 1 (generation_of one) second two → SlotsHold 0 first second (newer_of one two)
 chosen first second None None here there = none here there refl
 chosen first second None (Some b) here there = other_alone b here there.0 refl
 chosen first second (Some a) None here there = alone a here.0 there refl
@@ -78,11 +78,11 @@ chosen first second (Some a) (Some b) here there = elim (cases_Bool (eqb b.gener
     before (inr second_is) other_is = eqb-true a.generation (successor b.generation) second_is
 
 -- the two slots stand for what they are read as
-pub stands_read : (first second : List ℕ) (found : Option ListBody) → AreBytes first → AreBytes second → slots_at first second ≡ Ok found → Stands 0 first second found
+pub stands_read : (first second : List ℕ) (found : Option ListBody) → AreBytes first → AreBytes second → slots_at first second ≡ Ok found → SlotsHold 0 first second found
 unfolding slots_at
 stands_read first second found fits_first fits_second is =
     let a = step (in_slot 0 (slot_at 0 None first)) (λ one. in_slot 1 (slot_at 1 (generation_of one) second) >>= λ two. Ok (newer_of one two)) found is in
     let b = step (in_slot 1 (slot_at 1 (generation_of a.value) second)) (λ two. Ok (newer_of a.value two)) found a.last in
     let one = slot_means 0 None first a.value fits_first (in_slot_ok 0 (slot_at 0 None first) a.value a.first) in
     let two = slot_means 1 (generation_of a.value) second b.value fits_second (in_slot_ok 1 (slot_at 1 (generation_of a.value) second) b.value b.first) in
-    subst (λ (f : Option ListBody). Stands 0 first second f) (same_found (newer_of a.value b.value) found b.last) (chosen first second a.value b.value one two)
+    subst (λ (f : Option ListBody). SlotsHold 0 first second f) (same_found (newer_of a.value b.value) found b.last) (chosen first second a.value b.value one two)

@@ -1,6 +1,6 @@
 pub mod Body
 pub mod Commit
 pub mod Loading
-pub mod Prepared
+pub mod ListText
 pub mod Reading
 pub mod Slots

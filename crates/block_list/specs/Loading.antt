@@ -1,8 +1,8 @@
 -- What loading a list answers, and what it leaves.
 use Rattle.std.specs.Prelude.{◌≡◌, ◌⊎◌, ℕ, ◌<◌, ◌≤◌, Option, Some, None, List, length, take, ◌&&◌, nat_le, if◌then◌else◌, Result, Ok, Err}
 use Rattle.disk_model.specs.Images.{Image, bytes_of}
-use Rattle.disk_model.specs.Crash.{Reached, Within, OnlyBytes, LeavesOnly}
-use Rattle.block_list.specs.Slots.{IsOpen, StandsFor}
+use Rattle.disk_model.specs.Crash.{OnlyBytes}
+use Rattle.block_list.specs.Slots.{IsOpen, ImageHoldsList}
 use Rattle.block_list.specs.Reading.{is_vacant}
 use Rattle.block_list.specs.declared.body.ListBody.{ListBody}
 use Rattle.block_list.specs.declared.error.ListError.{ListError}
@@ -21,14 +21,9 @@ GivesList (Err (NotList slot at)) read = read ≡ Err (slot, at)
 GivesList (Err Fault) read = ⊥
 
 -- the new image stands for what the old one stood for, and has its files but for the two slots
-pub record Keeps (old new : Image) : Type 0 where
-  pub list : (found : Option ListBody) → StandsFor old found → StandsFor new found
+pub record KeepsList (old new : Image) : Type 0 where
+  pub list : (found : Option ListBody) → ImageHoldsList old found → ImageHoldsList new found
   pub files : (file : ℕ) → 2 ≤ file → bytes_of new file ≡ bytes_of old file
-
--- A crash at any moment of the run, or after it, leaves what keeps some image that a crash might have left at its start.
-pub record KeptRun {D : Type 0} (moment : D → ℕ) (left_since : D → ℕ → Image → Type 0) (may_leave : D → Image → Type 0) (old new : D) : Type 0 where
-  pub since : LeavesOnly moment left_since old new (Reached Keeps (may_leave old))
-  pub now : Within (Reached Keeps (may_leave old)) (may_leave new)
 
 -- a list may be laid into the slot, if it doesn't hold the one that counts
 abbrev pub IsFree : List ℕ → Type 0
@@ -37,7 +32,7 @@ IsFree bytes = IsOpen bytes ⊎ (length bytes < 30)
 -- The slots stand for this list, and the next one may be laid: each slot has one image, which is what a read gives, and a
 -- gate may be closed in either.
 pub record IsReady (held : Image) (may_leave : Image → Type 0) (list : Option ListBody) : Type 0 where
-  pub stands : StandsFor held list
+  pub stands : ImageHoldsList held list
   pub slot_0 : OnlyBytes 0 (bytes_of held 0) may_leave
   pub slot_1 : OnlyBytes 1 (bytes_of held 1) may_leave
   pub free_0 : IsFree (bytes_of held 0)

@@ -13,7 +13,7 @@ abbrev pub IsVacant : List ℕ → Type 0
 IsVacant bytes = (length bytes < 30) ⊎ (slice_index bytes 0 ≢ 1)
 
 -- the slot of that number holds this list; bytes behind it don't count
-pub record Holds (slot : ℕ) (bytes : List ℕ) (body : ListBody) : Type 0 where
+pub record SlotHolds (slot : ℕ) (bytes : List ℕ) (body : ListBody) : Type 0 where
   pub rest : List ℕ
   pub spelled : bytes ≡ (1 ∷ text_of body) ++ rest
   pub parity : body.generation % 2 ≡ slot
@@ -21,16 +21,16 @@ pub record Holds (slot : ℕ) (bytes : List ℕ) (body : ListBody) : Type 0 wher
 
 -- What the two slots stand for: none where both are vacant, else the one list, or the one of two whose generation is the
 -- successor of the other's. The bytes are those of the slot of that number and those of the other slot.
-pub data Stands (slot : ℕ) (bytes others : List ℕ) (list : Option ListBody) : Type 0 where
-  none : IsVacant bytes → IsVacant others → list ≡ None → Stands slot bytes others list
-  alone : (body : ListBody) → Holds slot bytes body → IsVacant others → list ≡ Some body → Stands slot bytes others list
-  other_alone : (body : ListBody) → IsVacant bytes → Holds (1 - slot) others body → list ≡ Some body → Stands slot bytes others list
-  newer : (body older : ListBody) → Holds slot bytes body → Holds (1 - slot) others older → body.generation ≡ successor older.generation → list ≡ Some body → Stands slot bytes others list
-  other_newer : (body older : ListBody) → Holds slot bytes older → Holds (1 - slot) others body → body.generation ≡ successor older.generation → list ≡ Some body → Stands slot bytes others list
+pub data SlotsHold (slot : ℕ) (bytes others : List ℕ) (list : Option ListBody) : Type 0 where
+  none : IsVacant bytes → IsVacant others → list ≡ None → SlotsHold slot bytes others list
+  alone : (body : ListBody) → SlotHolds slot bytes body → IsVacant others → list ≡ Some body → SlotsHold slot bytes others list
+  other_alone : (body : ListBody) → IsVacant bytes → SlotHolds (1 - slot) others body → list ≡ Some body → SlotsHold slot bytes others list
+  newer : (body older : ListBody) → SlotHolds slot bytes body → SlotHolds (1 - slot) others older → body.generation ≡ successor older.generation → list ≡ Some body → SlotsHold slot bytes others list
+  other_newer : (body older : ListBody) → SlotHolds slot bytes older → SlotHolds (1 - slot) others body → body.generation ≡ successor older.generation → list ≡ Some body → SlotsHold slot bytes others list
 
 -- what an image stands for: slot 0 is file 0, and slot 1 is file 1
-abbrev pub StandsFor : Image → Option ListBody → Type 0
-StandsFor image list = Stands 0 (bytes_of image 0) (bytes_of image 1) list
+abbrev pub ImageHoldsList : Image → Option ListBody → Type 0
+ImageHoldsList image list = SlotsHold 0 (bytes_of image 0) (bytes_of image 1) list
 
 -- the generation that comes after a list, and the first one
 abbrev pub IsNext : ℕ → Option ListBody → Type 0

@@ -1,9 +1,11 @@
-// A list is written into the slot of its generation, and its gate is opened.
-ghost use Rattle.std.specs.Prelude.{◌≡◌, ◌∷◌, ◌++◌, ◌-◌, ◌%◌, Option, Some, List, ℕ, IsTrue, OnOk};
+//! A list is written into the slot of its generation, and its gate is opened.
+
+ghost use Rattle.std.specs.Prelude.{◌≡◌, ◌≤◌, Option, Some, IsTrue, OnOk};
 ghost use Rattle.disk_model.specs.Images.{Image, bytes_of, Besides};
-ghost use Rattle.disk_model.specs.Crash.{OnlyBytes, LeavesOnly, Passes, HasCause};
-ghost use Rattle.block_list.specs.Slots.{Stands, StandsFor, IsNext};
-ghost use Rattle.block_list.specs.Commit.{slot_of, laid, IsBody, CanLay, CanOpen, StandsForEither, StandEither};
+ghost use Rattle.disk_model.specs.Counts.{MakesCalls};
+ghost use Rattle.disk_model.specs.Crash.{OnlyBytes, Run, HasCause};
+ghost use Rattle.block_list.specs.Slots.{ImageHoldsList, IsNext};
+ghost use Rattle.block_list.specs.Commit.{slot_of, laid, IsListText, CanLay, CanOpen, ImageHoldsEither, WritesSlot};
 ghost use Rattle.block_list.specs.Loading.{IsReady};
 ghost use Rattle.block_list.specs.declared.body.ListBody.{ListBody};
 
@@ -16,17 +18,17 @@ use span_types::Failed;
 pub fn lay<D: Device>(disk: &mut D, list: &PreparedList) -> Result<(), Failed>
     requires { IsTrue (D.tells disk.old) → CanLay (D.held disk.old) (D.may_leave disk.old) list.now }
 
-    // A crash at any moment leaves the old list.
-    ensures any_moment { IsTrue (D.tells disk.old) → (old : Option ListBody) → StandsFor (D.held disk.old) old → IsNext list.now.generation old
-        → LeavesOnly D.moment D.left_since disk.old disk.new (λ image. StandsFor image old) }
-    // It leaves every file but this slot as a crash might have left it before.
-    ensures passes { IsTrue (D.tells disk.old) → (old : Option ListBody) → StandsFor (D.held disk.old) old → IsNext list.now.generation old
-        → Passes D.moment D.left_since D.may_leave (slot_of list.now)
-        (λ bytes. Stands (slot_of list.now) bytes (bytes_of (D.held disk.old) (1 - slot_of list.now)) old)
-        (λ bytes. Stands (slot_of list.now) bytes (bytes_of (D.held disk.old) (1 - slot_of list.now)) old) disk.old disk.new }
-    ensures in_place { IsTrue (D.tells disk.old) → OnOk result (OnlyBytes (slot_of list.now) (laid list.now.text (bytes_of (D.held disk.old) (slot_of list.now))) (D.may_leave disk.new)) }
+    // A crash at any moment leaves the old list, and every file but this slot as it might have left it before.
+    ensures any_moment { IsTrue (D.tells disk.old) → (old : Option ListBody)
+        → ImageHoldsList (D.held disk.old) old → IsNext list.now.generation old
+        → Run (WritesSlot (slot_of list.now) (λ image. ImageHoldsList image old))
+        D.moment D.left_since D.may_leave disk.old disk.new }
+    ensures in_place { IsTrue (D.tells disk.old) → OnOk result (OnlyBytes (slot_of list.now)
+        (laid list.now.text (bytes_of (D.held disk.old) (slot_of list.now))) (D.may_leave disk.new)) }
     ensures besides { IsTrue (D.tells disk.old) → Besides (slot_of list.now) (D.held disk.old) (D.held disk.new) }
 
+    ensures time { D.moment disk.old ≤ D.moment disk.new }
+    ensures calls { MakesCalls 4 (D.calls disk.old) (D.calls disk.new) result }
     ensures telling { D.tells disk.new ≡ D.tells disk.old }
     ensures cause { HasCause (D.faults disk.old) (D.faults disk.new) result }
     ensures no_read { D.reads disk.new ≡ D.reads disk.old }
@@ -41,21 +43,21 @@ pub fn lay<D: Device>(disk: &mut D, list: &PreparedList) -> Result<(), Failed>
 pub fn open_gate<D: Device>(disk: &mut D, list: &PreparedList) -> Result<(), Failed>
     requires { IsTrue (D.tells disk.old) → CanOpen (D.held disk.old) (D.may_leave disk.old) list.now }
 
-    // A crash at any moment leaves the old list or the new one.
-    ensures any_moment { IsTrue (D.tells disk.old) → (old : Option ListBody) (new : ListBody) → StandsFor (D.held disk.old) old → IsNext list.now.generation old → IsBody list.now new
-        → LeavesOnly D.moment D.left_since disk.old disk.new (StandsForEither old new) }
-    // It leaves every file but this slot as a crash might have left it before.
-    ensures passes { IsTrue (D.tells disk.old) → (old : Option ListBody) (new : ListBody) → StandsFor (D.held disk.old) old → IsNext list.now.generation old → IsBody list.now new
-        → Passes D.moment D.left_since D.may_leave (slot_of list.now)
-        (StandEither (slot_of list.now) (bytes_of (D.held disk.old) (1 - slot_of list.now)) old new)
-        (StandEither (slot_of list.now) (bytes_of (D.held disk.old) (1 - slot_of list.now)) old new) disk.old disk.new }
+    // A crash at any moment leaves the old list or the new one, and every file but this slot as it might have left it before.
+    ensures any_moment { IsTrue (D.tells disk.old) → (old : Option ListBody) (new : ListBody)
+        → ImageHoldsList (D.held disk.old) old → IsNext list.now.generation old → IsListText list.now new
+        → Run (WritesSlot (slot_of list.now) (ImageHoldsEither old new))
+        D.moment D.left_since D.may_leave disk.old disk.new }
 
     // At `Ok` every image stands for the new list, and each slot has one image, which is what a read gives.
-    ensures counts { IsTrue (D.tells disk.old) → (new : ListBody) → IsBody list.now new → OnOk result ((image : Image) → D.may_leave disk.new image → StandsFor image (Some new)) }
+    ensures counts { IsTrue (D.tells disk.old) → (new : ListBody) → IsListText list.now new
+        → OnOk result ((image : Image) → D.may_leave disk.new image → ImageHoldsList image (Some new)) }
     ensures slot_0 { IsTrue (D.tells disk.old) → OnOk result (OnlyBytes 0 (bytes_of (D.held disk.new) 0) (D.may_leave disk.new)) }
     ensures slot_1 { IsTrue (D.tells disk.old) → OnOk result (OnlyBytes 1 (bytes_of (D.held disk.new) 1) (D.may_leave disk.new)) }
     ensures besides { IsTrue (D.tells disk.old) → Besides (slot_of list.now) (D.held disk.old) (D.held disk.new) }
 
+    ensures time { D.moment disk.old ≤ D.moment disk.new }
+    ensures calls { MakesCalls 2 (D.calls disk.old) (D.calls disk.new) result }
     ensures telling { D.tells disk.new ≡ D.tells disk.old }
     ensures cause { HasCause (D.faults disk.old) (D.faults disk.new) result }
     ensures no_read { D.reads disk.new ≡ D.reads disk.old }
@@ -68,24 +70,25 @@ pub fn open_gate<D: Device>(disk: &mut D, list: &PreparedList) -> Result<(), Fai
 pub fn commit<D: Device>(disk: &mut D, list: &PreparedList) -> Result<(), Failed>
     requires { IsTrue (D.tells disk.old) → CanLay (D.held disk.old) (D.may_leave disk.old) list.now }
 
-    // A crash at any moment leaves the old list or the new one.
-    ensures any_moment { IsTrue (D.tells disk.old) → (old : Option ListBody) (new : ListBody) → StandsFor (D.held disk.old) old → IsNext list.now.generation old → IsBody list.now new
-        → LeavesOnly D.moment D.left_since disk.old disk.new (StandsForEither old new) }
-    // It leaves every file but this slot as a crash might have left it before.
-    ensures passes { IsTrue (D.tells disk.old) → (old : Option ListBody) (new : ListBody) → StandsFor (D.held disk.old) old → IsNext list.now.generation old → IsBody list.now new
-        → Passes D.moment D.left_since D.may_leave (slot_of list.now)
-        (StandEither (slot_of list.now) (bytes_of (D.held disk.old) (1 - slot_of list.now)) old new)
-        (StandEither (slot_of list.now) (bytes_of (D.held disk.old) (1 - slot_of list.now)) old new) disk.old disk.new }
+    // A crash at any moment leaves the old list or the new one, and every file but this slot as it might have left it before.
+    ensures any_moment { IsTrue (D.tells disk.old) → (old : Option ListBody) (new : ListBody)
+        → ImageHoldsList (D.held disk.old) old → IsNext list.now.generation old → IsListText list.now new
+        → Run (WritesSlot (slot_of list.now) (ImageHoldsEither old new))
+        D.moment D.left_since D.may_leave disk.old disk.new }
 
     // At `Ok` every image stands for the new list, and each slot has one image, which is what a read gives.
-    ensures counts { IsTrue (D.tells disk.old) → (new : ListBody) → IsBody list.now new → OnOk result ((image : Image) → D.may_leave disk.new image → StandsFor image (Some new)) }
+    ensures counts { IsTrue (D.tells disk.old) → (new : ListBody) → IsListText list.now new
+        → OnOk result ((image : Image) → D.may_leave disk.new image → ImageHoldsList image (Some new)) }
     ensures slot_0 { IsTrue (D.tells disk.old) → OnOk result (OnlyBytes 0 (bytes_of (D.held disk.new) 0) (D.may_leave disk.new)) }
     ensures slot_1 { IsTrue (D.tells disk.old) → OnOk result (OnlyBytes 1 (bytes_of (D.held disk.new) 1) (D.may_leave disk.new)) }
     // After a load, or another commit, the next list may then be laid.
-    ensures ready { IsTrue (D.tells disk.old) → (old : Option ListBody) (new : ListBody) → IsReady (D.held disk.old) (D.may_leave disk.old) old → IsBody list.now new
+    ensures ready { IsTrue (D.tells disk.old) → (old : Option ListBody) (new : ListBody)
+        → IsReady (D.held disk.old) (D.may_leave disk.old) old → IsListText list.now new
         → OnOk result (IsReady (D.held disk.new) (D.may_leave disk.new) (Some new)) }
     ensures besides { IsTrue (D.tells disk.old) → Besides (slot_of list.now) (D.held disk.old) (D.held disk.new) }
 
+    ensures time { D.moment disk.old ≤ D.moment disk.new }
+    ensures calls { MakesCalls 6 (D.calls disk.old) (D.calls disk.new) result }
     ensures telling { D.tells disk.new ≡ D.tells disk.old }
     ensures cause { HasCause (D.faults disk.old) (D.faults disk.new) result }
     ensures no_read { D.reads disk.new ≡ D.reads disk.old }

@@ -1,4 +1,5 @@
-// Why the slots give no list.
+//! Why the slots give no list.
+
 ghost use Rattle.std.specs.Prelude.{◌≡◌};
 
 use span_types::Failed;

@@ -12,7 +12,7 @@ mod reading;
 pub use body::{BlockList, BlockRef, FileList, ListBody, SegmentList, SegmentRef};
 pub use committing::{commit, lay, open_gate};
 pub use error::ListError;
-pub use laws::{next_may_be_laid, spelled_is_read};
+pub use laws::{held_list_is_read, next_may_be_laid, size_of_text, stays_ready};
 pub use loading::{load, next_generation};
 pub use prepared::{PreparedList, prepare};
 

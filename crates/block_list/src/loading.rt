@@ -1,11 +1,13 @@
-// The list that counts is read from the two slots.
+//! The list that counts is read from the two slots.
+
 ghost use Rattle.std.specs.Prelude.{◌≡◌, ◌≢◌, ◌⊎◌, ◌<◌, ◌≤◌, ℕ, List, Option, Some, None, Ok, Err, IsTrue, IfOk, IfErr, OnOk};
 ghost use Rattle.span_types.specs.Faults.{Rose};
 ghost use Rattle.disk_model.specs.Images.{Image, bytes_of, Besides, SameBytes};
-ghost use Rattle.disk_model.specs.Crash.{Within, OnlyBytes, HasCause};
-ghost use Rattle.block_list.specs.Slots.{Stands, StandsFor, IsNext};
+ghost use Rattle.disk_model.specs.Crash.{OnlyBytes, Run, Untouched, HasCause};
+ghost use Rattle.block_list.specs.Body.{MeetsRules};
+ghost use Rattle.block_list.specs.Slots.{SlotsHold, ImageHoldsList, IsNext};
 ghost use Rattle.block_list.specs.Reading.{slots_at, newer_of, generation_of};
-ghost use Rattle.block_list.specs.Loading.{GivesList, error_of, KeptRun, IsFree, IsReady, cleared};
+ghost use Rattle.block_list.specs.Loading.{GivesList, error_of, KeepsList, IsFree, IsReady, cleared};
 ghost use Rattle.block_list.specs.declared.body.ListBody.{ListBody};
 ghost use Rattle.block_list.specs.declared.error.ListError.TheVariants.{Fault, NotList, Memory};
 
@@ -19,19 +21,22 @@ use std::alloc::Global;
 /// that has no list, though it is long enough for one, is cut down to its gate.
 ///
 /// A closing gate may then be written to a slot whatever stands in it: it is either open, and holds the list before the
-/// one that counts, or too short to hold one. An `Err` leaves the disk for another call.
+/// one that counts, or too short to hold one. Where the slots are refused, or memory is wanting, the disk stays as it was.
 pub fn load<D: Device>(alloc: Global, disk: &mut D) -> Result<Option<ListBody>, ListError>
     // What the slots say, and where they break, is by the bytes that the disk held.
     ensures found { IsTrue (D.tells disk.old) → IfOk result (λ list. slots_at (bytes_of (D.held disk.old) 0) (bytes_of (D.held disk.old) 1) ≡ Ok list) }
-    ensures list { IsTrue (D.tells disk.old) → IfOk result (λ list. StandsFor (D.held disk.old) list) }
+    ensures list { IsTrue (D.tells disk.old) → IfOk result (λ list. ImageHoldsList (D.held disk.old) list) }
     ensures not_list { IsTrue (D.tells disk.old) → (slot at : ℕ) → result ≡ Err (NotList slot at) → slots_at (bytes_of (D.held disk.old) 0) (bytes_of (D.held disk.old) 1) ≡ Err (slot, at) }
 
+    // A list meets the rules, whatever the disk tells.
+    ensures rules { (body : ListBody) → result ≡ Ok (Some body) → MeetsRules body }
+
     // Slots that stand for a list, or for none, are read as just that.
-    ensures only { IsTrue (D.tells disk.old) → (list : Option ListBody) → StandsFor (D.held disk.old) list → IfOk result (λ found. found ≡ list) }
-    ensures readable { IsTrue (D.tells disk.old) → (list : Option ListBody) (slot at : ℕ) → StandsFor (D.held disk.old) list → result ≢ Err (NotList slot at) }
+    ensures only { IsTrue (D.tells disk.old) → (list : Option ListBody) → ImageHoldsList (D.held disk.old) list → IfOk result (λ found. found ≡ list) }
+    ensures readable { IsTrue (D.tells disk.old) → (list : Option ListBody) (slot at : ℕ) → ImageHoldsList (D.held disk.old) list → result ≢ Err (NotList slot at) }
 
     // A crash at any moment leaves what stands for what some image stood for at the start, with every other file.
-    ensures kept { IsTrue (D.tells disk.old) → KeptRun D.moment D.left_since D.may_leave disk.old disk.new }
+    ensures kept { IsTrue (D.tells disk.old) → Run KeepsList D.moment D.left_since D.may_leave disk.old disk.new }
 
     // At `Ok` the disk still stands for the list, each slot has one image, which is what a read gives, and the next list may
     // be laid.
@@ -40,6 +45,11 @@ pub fn load<D: Device>(alloc: Global, disk: &mut D) -> Result<Option<ListBody>, 
     ensures cleared_1 { IsTrue (D.tells disk.old) → OnOk result (bytes_of (D.held disk.new) 1 ≡ cleared (bytes_of (D.held disk.old) 1)) }
     ensures others { IsTrue (D.tells disk.old) → (file : ℕ) → 2 ≤ file → bytes_of (D.held disk.new) file ≡ bytes_of (D.held disk.old) file }
 
+    // Slots that are refused stay as they were, and so does all else.
+    ensures left_alone { IfErr result (λ error. error ≢ Fault
+        → Untouched D.tells D.held D.may_leave D.moment D.left_since disk.old disk.new) }
+
+    ensures time { D.moment disk.old ≤ D.moment disk.new }
     ensures telling { D.tells disk.new ≡ D.tells disk.old }
     ensures later { D.faults disk.old ≤ D.faults disk.new }
     ensures fault { result ≡ Err Fault → Rose (D.faults disk.old) (D.faults disk.new) }
@@ -64,7 +74,7 @@ pub fn next_generation(list: &Option<ListBody>) -> u8
 #[tactic(auto, unfolding(crate::specs::Reading::slots_at))]
 fn read_slots(alloc: Global, first: &[u8], second: &[u8]) -> Result<Option<ListBody>, ListError>
     ensures reads { GivesList result (slots_at first.now second.now) }
-    ensures stands { IfOk result (Stands 0 first.now second.now) }
+    ensures stands { IfOk result (SlotsHold 0 first.now second.now) }
 {
     let one = match read_slot(alloc, first, 0, None) {
         Ok(one) => one,
@@ -115,11 +125,9 @@ fn newer_of(first: Option<ListBody>, second: Option<ListBody>) -> Option<ListBod
 
 /// Syncs both slots: a crash leaves of them what a read gives.
 fn sync_slots<D: Device>(disk: &mut D) -> Result<(), Failed>
-    ensures kept { KeptRun D.moment D.left_since D.may_leave disk.old disk.new }
     ensures slot_0 { IsTrue (D.tells disk.old) → OnOk result (OnlyBytes 0 (bytes_of (D.held disk.new) 0) (D.may_leave disk.new)) }
     ensures slot_1 { IsTrue (D.tells disk.old) → OnOk result (OnlyBytes 1 (bytes_of (D.held disk.new) 1) (D.may_leave disk.new)) }
-    ensures same_bytes { IsTrue (D.tells disk.old) → SameBytes (D.held disk.old) (D.held disk.new) }
-    ensures telling { D.tells disk.new ≡ D.tells disk.old }
+    ensures untouched { Untouched D.tells D.held D.may_leave D.moment D.left_since disk.old disk.new }
     ensures cause { HasCause (D.faults disk.old) (D.faults disk.new) result }
 {
     disk.sync(0)?;
@@ -129,10 +137,7 @@ fn sync_slots<D: Device>(disk: &mut D) -> Result<(), Failed>
 /// All bytes of a file.
 fn read_file<D: Device>(alloc: Global, disk: &mut D, file: u32) -> Result<Vec<u8>, ListError>
     ensures bytes { IsTrue (D.tells disk.old) → IfOk result (λ bytes. bytes.items ≡ bytes_of (D.held disk.old) file) }
-    ensures kept { KeptRun D.moment D.left_since D.may_leave disk.old disk.new }
-    ensures crash { Within (D.may_leave disk.old) (D.may_leave disk.new) }
-    ensures same_bytes { IsTrue (D.tells disk.old) → SameBytes (D.held disk.old) (D.held disk.new) }
-    ensures telling { D.tells disk.new ≡ D.tells disk.old }
+    ensures untouched { Untouched D.tells D.held D.may_leave D.moment D.left_since disk.old disk.new }
     ensures later { D.faults disk.old ≤ D.faults disk.new }
     ensures fault { result ≡ Err Fault → Rose (D.faults disk.old) (D.faults disk.new) }
     ensures errors { IfErr result (λ error. (error ≡ Fault) ⊎ (error ≡ Memory)) }
@@ -151,12 +156,13 @@ fn clear_vacant<D: Device>(disk: &mut D, slot: u32, bytes: &[u8]) -> Result<(), 
     requires slot { slot < 2 }
     requires only { IsTrue (D.tells disk.old) → OnlyBytes slot bytes.now (D.may_leave disk.old) }
     requires held { IsTrue (D.tells disk.old) → bytes_of (D.held disk.old) slot ≡ bytes.now }
-    ensures kept { IsTrue (D.tells disk.old) → KeptRun D.moment D.left_since D.may_leave disk.old disk.new }
+    ensures kept { IsTrue (D.tells disk.old) → Run KeepsList D.moment D.left_since D.may_leave disk.old disk.new }
     ensures only { IsTrue (D.tells disk.old) → OnOk result (OnlyBytes slot (bytes_of (D.held disk.new) slot) (D.may_leave disk.new)) }
     ensures cleared { IsTrue (D.tells disk.old) → OnOk result (bytes_of (D.held disk.new) slot ≡ cleared bytes.now) }
     ensures free { IsTrue (D.tells disk.old) → OnOk result (IsFree (bytes_of (D.held disk.new) slot)) }
     ensures besides { IsTrue (D.tells disk.old) → Besides slot (D.held disk.old) (D.held disk.new) }
     ensures other_images { (other : ℕ) (bytes : List ℕ) → other ≢ slot → OnlyBytes other bytes (D.may_leave disk.old) → OnlyBytes other bytes (D.may_leave disk.new) }
+    ensures time { D.moment disk.old ≤ D.moment disk.new }
     ensures telling { D.tells disk.new ≡ D.tells disk.old }
     ensures cause { HasCause (D.faults disk.old) (D.faults disk.new) result }
 {
@@ -170,11 +176,9 @@ fn clear_vacant<D: Device>(disk: &mut D, slot: u32, bytes: &[u8]) -> Result<(), 
 fn read_both<D: Device>(alloc: Global, disk: &mut D) -> Result<(Vec<u8>, Vec<u8>), ListError>
     ensures first { IsTrue (D.tells disk.old) → IfOk result (λ both. both.0.items ≡ bytes_of (D.held disk.old) 0) }
     ensures second { IsTrue (D.tells disk.old) → IfOk result (λ both. both.1.items ≡ bytes_of (D.held disk.old) 1) }
-    ensures kept { KeptRun D.moment D.left_since D.may_leave disk.old disk.new }
     ensures slot_0 { IsTrue (D.tells disk.old) → OnOk result (OnlyBytes 0 (bytes_of (D.held disk.old) 0) (D.may_leave disk.new)) }
     ensures slot_1 { IsTrue (D.tells disk.old) → OnOk result (OnlyBytes 1 (bytes_of (D.held disk.old) 1) (D.may_leave disk.new)) }
-    ensures same_bytes { IsTrue (D.tells disk.old) → SameBytes (D.held disk.old) (D.held disk.new) }
-    ensures telling { D.tells disk.new ≡ D.tells disk.old }
+    ensures untouched { Untouched D.tells D.held D.may_leave D.moment D.left_since disk.old disk.new }
     ensures later { D.faults disk.old ≤ D.faults disk.new }
     ensures fault { result ≡ Err Fault → Rose (D.faults disk.old) (D.faults disk.new) }
     ensures errors { IfErr result (λ error. (error ≡ Fault) ⊎ (error ≡ Memory)) }
@@ -191,7 +195,7 @@ fn clear_both<D: Device>(disk: &mut D, first: &[u8], second: &[u8]) -> Result<()
     requires only_1 { IsTrue (D.tells disk.old) → OnlyBytes 1 second.now (D.may_leave disk.old) }
     requires held_0 { IsTrue (D.tells disk.old) → bytes_of (D.held disk.old) 0 ≡ first.now }
     requires held_1 { IsTrue (D.tells disk.old) → bytes_of (D.held disk.old) 1 ≡ second.now }
-    ensures kept { IsTrue (D.tells disk.old) → KeptRun D.moment D.left_since D.may_leave disk.old disk.new }
+    ensures kept { IsTrue (D.tells disk.old) → Run KeepsList D.moment D.left_since D.may_leave disk.old disk.new }
     ensures slot_0 { IsTrue (D.tells disk.old) → OnOk result (OnlyBytes 0 (bytes_of (D.held disk.new) 0) (D.may_leave disk.new)) }
     ensures slot_1 { IsTrue (D.tells disk.old) → OnOk result (OnlyBytes 1 (bytes_of (D.held disk.new) 1) (D.may_leave disk.new)) }
     ensures cleared_0 { IsTrue (D.tells disk.old) → OnOk result (bytes_of (D.held disk.new) 0 ≡ cleared first.now) }
@@ -199,6 +203,7 @@ fn clear_both<D: Device>(disk: &mut D, first: &[u8], second: &[u8]) -> Result<()
     ensures free_0 { IsTrue (D.tells disk.old) → OnOk result (IsFree (bytes_of (D.held disk.new) 0)) }
     ensures free_1 { IsTrue (D.tells disk.old) → OnOk result (IsFree (bytes_of (D.held disk.new) 1)) }
     ensures others { IsTrue (D.tells disk.old) → (file : ℕ) → 2 ≤ file → bytes_of (D.held disk.new) file ≡ bytes_of (D.held disk.old) file }
+    ensures time { D.moment disk.old ≤ D.moment disk.new }
     ensures telling { D.tells disk.new ≡ D.tells disk.old }
     ensures cause { HasCause (D.faults disk.old) (D.faults disk.new) result }
 {

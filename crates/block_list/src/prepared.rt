@@ -1,7 +1,9 @@
-// A list in bytes, ready to be written.
+//! A list in bytes, ready to be written.
+
 ghost use Rattle.std.specs.Prelude.{◌≡◌, ◌≤◌, ◌+◌, ◌*◌, ◌%◌, ◌++◌, ◌∷◌, [], length, vec_len, vec_capacity, IfOk};
 ghost use Rattle.std.specs.List.{flat_map};
 ghost use Rattle.byte_fields.specs.Spelling.{fixed32_bytes, fixed64_bytes};
+ghost use Rattle.block_list.specs.Commit.{IsListText};
 ghost use Rattle.block_list.specs.Body.{MeetsRules, segment_bytes, block_bytes, head_bytes, text_of};
 
 use crate::{BlockRef, ListBody, SegmentRef};
@@ -18,9 +20,9 @@ pub struct PreparedList {
 
 impl Model for PreparedList {
     ghost use Rattle.std.specs.Prelude.{vec_capacity};
-    ghost use Rattle.block_list.specs.Prepared.{Prepared};
+    ghost use Rattle.block_list.specs.ListText.{ListText};
 
-    ghost Value = { Prepared };
+    ghost Value = { ListText };
 
     ghost view = { λ list. record { generation = list.generation; text = list.text.items; room = vec_capacity list.text } };
 }
@@ -28,8 +30,7 @@ impl Model for PreparedList {
 /// A body in bytes.
 pub fn prepare(alloc: Global, body: &ListBody) -> Result<PreparedList, Memory>
     requires { MeetsRules body.now }
-    ensures generation { IfOk result (λ list. list.generation ≡ body.now.generation) }
-    ensures text { IfOk result (λ list. list.text ≡ text_of body.now) }
+    ensures text { IfOk result (λ list. IsListText list body.now) }
     ensures room { IfOk result (λ list. length list.text ≤ list.room) }
 {
     let mut text = Vec::with_capacity(alloc, size_of(body))?;
@@ -45,8 +46,7 @@ impl PreparedList {
     pub fn refill(&mut self, body: &ListBody)
         requires rules { MeetsRules body.now }
         requires room { length (text_of body.now) ≤ self.old.room }
-        ensures generation { self.new.generation ≡ body.now.generation }
-        ensures text { self.new.text ≡ text_of body.now }
+        ensures text { IsListText self.new body.now }
         ensures room { self.old.room ≤ self.new.room }
     {
         self.text.clear();

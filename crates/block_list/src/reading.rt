@@ -1,4 +1,5 @@
-// A slot's fields are read and tested, in the order of the bytes.
+//! A slot's fields are read and tested, in the order of the bytes.
+
 ghost use Rattle.std.specs.Prelude.{◌≡◌, ◌||◌, ◌%◌, ℕ, List, [], ◌++◌, Some, None, Option, map, nat_eq, not, true, false, Ok, Err, IfOk, IfSome, IfErr, OnOk, ◌∷◌, ◌==◌};
 ghost use Rattle.std.specs.List.{list_any};
 ghost use Rattle.block_list.specs.Reading.{GivesAt, read8, read32, read64, tag_at, generation_at, count_at, head_at, file_at, first_at, segment_at, segments_at, level_at, rows_at, block_at, blocks_at, loose_at, list_at, slot_at, is_vacant, GivesSlot, are_neighbours, goes_on, tag, place_of, SameFiles, WithFile};

@@ -1,5 +1,5 @@
 -- What writes and cuts make of a file's bytes.
-use Rattle.std.proofs.Common.{◌≡◌, ◌⊎◌, inl, inr, ℕ, zero, suc, ◌+◌, ◌-◌, ◌<◌, ◌≤◌, List, [], ◌∷◌, ◌++◌, length, get_or, take, drop, replicate, sym, ◌∙◌, ap, arith, length-append, length-take, length-drop, take-append-drop, append_assoc}
+use Rattle.std.proofs.Common.{◌≡◌, inl, inr, ℕ, suc, ◌+◌, ◌-◌, ◌<◌, ◌≤◌, List, [], ◌∷◌, ◌++◌, length, get_or, take, drop, replicate, sym, ◌∙◌, ap, arith, length-append, length-take, length-drop, take-append-drop, append_assoc}
 use Rattle.std.proofs.lemmas.Bool.{cases_lt}
 use Rattle.std.proofs.lemmas.List.{append-nil, drop_all, take_all, take_at, drop_at, drop_more, drop-drop, take-append-le, length-replicate, replicate-append-replicate, ext_get_or, get_or-take, get_or-drop, get_or-append-add, get_or_append_left}
 use Rattle.disk_model.specs.Bytes.{overwritten, Torn, HalfCut}

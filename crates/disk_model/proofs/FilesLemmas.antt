@@ -2,7 +2,7 @@
 use Rattle.std.proofs.Common.{◌≡◌, ◌≢◌, ◌⊎◌, ℕ, zero, suc, Bool, true, false, cond, eqb, [], ◌∷◌, ◌++◌, get_or, set, refl, sym, ◌∙◌, ap, inl, inr, arith}
 use Rattle.std.proofs.lemmas.Bool.{cases_eq, eq-eqb, ne_eqb}
 use Rattle.disk_model.specs.Files.{FileState, settled}
-use Rattle.disk_model.specs.Laws.{state_of-updated}
+use Rattle.disk_model.specs.HistoryLaws.{state_of-updated}
 use Rattle.disk_model.specs.History.{Files, StandsAt, state_of, after, changed, file_of}
 use Rattle.disk_model.specs.declared.change.Change.{Change}
 

@@ -3,5 +3,6 @@ mod FilesLemmas
 pub mod Moments
 pub mod Passing
 mod PicksLemmas
+pub mod Runs
 mod Steps
 mod Torn

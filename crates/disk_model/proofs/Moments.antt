@@ -1,7 +1,7 @@
 -- How what a crash may leave goes on over a run of calls.
 use Rattle.std.proofs.Common.{inl, inr, ⊎_elim, ℕ, arith}
 use Rattle.disk_model.specs.Images.{Image}
-use Rattle.disk_model.specs.Crash.{Elapses, LeavesOnly}
+use Rattle.disk_model.specs.Crash.{Within, Elapses, LeavesOnly}
 
 module _ {D : Type 0} (moment : D → ℕ) (left_since : D → ℕ → Image → Type 0) where
   -- before the first call
@@ -32,3 +32,21 @@ module _ {D : Type 0} (moment : D → ℕ) (left_since : D → ℕ → Image →
     each = λ image left. ⊎_elim (first.each image) (λ p. p) (second.before (moment old) image first.later left);
     before = λ start image le left. ⊎_elim (first.before start image le) (λ p. inr p) (second.before start image (omega (arith, le, first.later)) left);
   }
+
+  -- two properties of one run
+  pub both : (old new : D) (P Q : Image → Type 0) → LeavesOnly moment left_since old new P → LeavesOnly moment left_since old new Q
+      → LeavesOnly moment left_since old new (λ image. P image × Q image)
+  both old new P Q first second = record {
+    later = first.later;
+    each = λ image left. (first.each image left, second.each image left);
+    before = λ start image le left. ⊎_elim (λ early. inl early)
+        (λ p. ⊎_elim (λ early. inl early) (λ q. inr (p, q)) (second.before start image le left))
+        (first.before start image le left);
+  }
+
+  -- a call that changes nothing
+  pub still : (old new : D) (may_leave may_later : Image → Type 0) → ((image : Image) → left_since old (moment old) image → may_leave image)
+      → Within may_leave may_later → Elapses (moment old) (moment new) (left_since old) (left_since new) may_later
+      → LeavesOnly moment left_since old new may_leave
+  still old new may_leave may_later only_now within time =
+      goes_on old old new may_leave may_later (started old may_leave only_now) time within

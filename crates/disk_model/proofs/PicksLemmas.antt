@@ -6,7 +6,8 @@ use Rattle.std.proofs.lemmas.List.FromFn.{map-range_with_len_more, length-map-ra
 use Rattle.disk_model.specs.Images.{Image, bytes_of}
 use Rattle.disk_model.specs.Files.{FileState, MayBeLeft, is_free, settled}
 use Rattle.disk_model.specs.History.{Files, state_of, unchanged, held_now}
-use Rattle.disk_model.specs.Laws.{IsSound, bytes_of-held}
+use Rattle.disk_model.specs.Files.{IsSound}
+use Rattle.disk_model.specs.HistoryLaws.{bytes_of-held}
 use Rattle.disk_model.specs.Picks.{filled, IsPicked, ArePicked}
 
 -- one place more

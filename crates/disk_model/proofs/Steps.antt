@@ -9,7 +9,7 @@ use Rattle.disk_model.specs.BytesLaws.{length-overwritten}
 use Rattle.disk_model.specs.Crash.{Follows, Within, OnlyBytes, Elapses}
 use Rattle.disk_model.specs.Files.{FileState, MayBeLeft, settled, wrote, lost_write, cut_to, lost_cut}
 use Rattle.disk_model.specs.History.{Past, Files, state_of, file_of, changed, after, replayed, unchanged, files_now, held_now, IsLeft, MayLeave, LeftSince, added}
-use Rattle.disk_model.specs.Laws.{sound_now, state_of-updated, bytes_of-held, replayed-append}
+use Rattle.disk_model.specs.HistoryLaws.{sound_now, state_of-updated, bytes_of-held, replayed-append}
 use Rattle.disk_model.specs.Memory.{Outcome, noted, failed}
 use Rattle.disk_model.specs.Memory.Outcome.{passes, listed, stopped, starves}
 use Rattle.disk_model.specs.Script.{raised}

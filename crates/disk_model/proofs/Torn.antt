@@ -10,7 +10,8 @@ use Rattle.disk_model.specs.Bytes.{reach, Torn, HalfCut}
 use Rattle.disk_model.specs.Crash.{Reached}
 use Rattle.disk_model.specs.Files.{FileState, MayBeLeft, frees, is_free, settled}
 use Rattle.disk_model.specs.History.{Files, state_of, updated, IsLeft}
-use Rattle.disk_model.specs.Laws.{IsSound, state_of-updated}
+use Rattle.disk_model.specs.Files.{IsSound}
+use Rattle.disk_model.specs.HistoryLaws.{state_of-updated}
 use Rattle.disk_model.specs.declared.change.Pending.{Pending}
 use Rattle.disk_model.specs.declared.change.Pending.TheVariants.{Written, Shortened}
 

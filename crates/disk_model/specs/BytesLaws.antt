@@ -1,4 +1,4 @@
--- What a write leaves of a file's bytes: how many there are, and those outside of the range.
+-- Private mechanism: what a write leaves of a file's bytes, how many there are and those outside of the range.
 use Rattle.std.proofs.Common.{◌≡◌, ◌⊎◌, inl, inr, ℕ, ◌+◌, ◌-◌, ◌<◌, ◌≤◌, max, List, [], ◌∷◌, ◌++◌, length, get_or, take, drop, replicate, refl, ◌∙◌, ap, arith, length-append, length-take, length-drop}
 use Rattle.std.proofs.lemmas.List.{length-replicate, get_or-take, get_or-drop, get_or_append_left, get_or-append_right}
 use Rattle.disk_model.specs.Bytes.{overwritten, reach}

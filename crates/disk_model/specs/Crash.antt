@@ -1,7 +1,7 @@
 -- What a crash may leave, over calls and over time.
-use Rattle.std.specs.Prelude.{◌≡◌, ◌⊎◌, ℕ, ◌≤◌, List, Result, IsErr}
+use Rattle.std.specs.Prelude.{◌≡◌, ◌⊎◌, ℕ, ◌≤◌, Bool, IsTrue, List, Result, IsErr}
 use Rattle.span_types.specs.Faults.{Rose}
-use Rattle.disk_model.specs.Images.{Image, bytes_of, Besides}
+use Rattle.disk_model.specs.Images.{Image, bytes_of, Besides, SameBytes}
 
 -- an image that comes from one of these by this step
 abbrev pub Reached : (Image → Image → Type 0) → (Image → Type 0) → Image → Type 0
@@ -39,11 +39,28 @@ pub record ButFor (file : ℕ) (property : List ℕ → Type 0) (images : Image 
   pub besides : Besides file origin image
   pub here : property (bytes_of image file)
 
+-- A run of calls: a crash at any moment of it, or after it, leaves what comes by this step from what a crash might have
+-- left at its start.
+pub record Run {D : Type 0} (step : Image → Image → Type 0)
+    (moment : D → ℕ) (left_since : D → ℕ → Image → Type 0) (may_leave : D → Image → Type 0) (old new : D) : Type 0 where
+  pub since : LeavesOnly moment left_since old new (Reached step (may_leave old))
+  pub now : Within (Reached step (may_leave old)) (may_leave new)
+
 -- A run of calls that change one file alone. A crash at any moment of it leaves what a crash might have left at its
 -- start, but for this file, whose bytes have the first property. After it they have the second one.
-pub record Passes {D : Type 0} (moment : D → ℕ) (left_since : D → ℕ → Image → Type 0) (may_leave : D → Image → Type 0) (file : ℕ) (during after : List ℕ → Type 0) (old new : D) : Type 0 where
+pub record RunInFile {D : Type 0} (moment : D → ℕ) (left_since : D → ℕ → Image → Type 0) (may_leave : D → Image → Type 0)
+    (file : ℕ) (during after : List ℕ → Type 0) (old new : D) : Type 0 where
   pub since : LeavesOnly moment left_since old new (ButFor file during (may_leave old))
   pub now : Within (ButFor file after (may_leave old)) (may_leave new)
+
+-- A run of calls that change nothing: the disk holds what it held, and a crash at any moment of it, or after it, leaves
+-- what it might have left before.
+pub record Untouched {D : Type 0} (tells : D → Bool) (held : D → Image) (may_leave : D → Image → Type 0)
+    (moment : D → ℕ) (left_since : D → ℕ → Image → Type 0) (old new : D) : Type 0 where
+  pub telling : tells new ≡ tells old
+  pub same_bytes : IsTrue (tells old) → SameBytes (held old) (held new)
+  pub crash : Within (may_leave old) (may_leave new)
+  pub any_moment : LeavesOnly moment left_since old new (may_leave old)
 
 -- the count of faults didn't fall, and a call fails only where it rose
 pub record HasCause {T E : Type 0} (before now : ℕ) (result : Result T E) : Type 0 where

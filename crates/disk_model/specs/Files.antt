@@ -30,6 +30,13 @@ pub record MayBeLeft (file : FileState) (bytes : List ℕ) : Type 0 where
   pub no_longer : length bytes ≤ file.greatest
   pub same : (place : ℕ) → place < length bytes → is_free file place ≡ false → slice_index bytes place ≡ slice_index file.synced place
 
+-- What a file holds is one of the contents that a crash may leave, and so is what was last synced. What it holds reaches
+-- as far as the bytes that are certain.
+pub record IsSound (file : FileState) : Type 0 where
+  pub stays : MayBeLeft file file.held
+  pub returns : MayBeLeft file file.synced
+  pub inside : (place : ℕ) → is_free file place ≡ false → place < length file.held
+
 -- a file just synced
 abbrev pub settled : List ℕ → FileState
 settled bytes = record { synced = bytes; held = bytes; pending = []; least = length bytes; greatest = length bytes }

@@ -4,8 +4,8 @@ pub mod Counts
 pub mod Crash
 pub mod Files
 pub mod History
+pub mod HistoryLaws
 pub mod Images
-pub mod Laws
 pub mod Memory
 pub mod Picks
 pub mod Script

@@ -3,7 +3,7 @@ use Rattle.std.specs.Prelude.{◌≡◌, ℕ, List, [], ◌∷◌, map, slice_in
 use Rattle.std.specs.List.{range_with_len}
 use Rattle.disk_model.specs.Images.{Image}
 use Rattle.disk_model.specs.Files.{FileState, MayBeLeft, is_free}
-use Rattle.disk_model.specs.Laws.{IsSound}
+use Rattle.disk_model.specs.Files.{IsSound}
 use Rattle.disk_model.specs.History.{Files}
 
 -- the file at this length, with this byte at each place that isn't certain

@@ -29,7 +29,7 @@ impl Model for File {
 impl File {
     ghost use Rattle.disk_model.specs.Files.{MayBeLeft};
     ghost use Rattle.disk_model.specs.History.{IsInRange, changed};
-    ghost use Rattle.disk_model.specs.Laws.{IsSound};
+    ghost use Rattle.disk_model.specs.Files.{IsSound};
     ghost use Rattle.disk_model.specs.Picks.{IsPicked, filled};
 
     /// An empty file.

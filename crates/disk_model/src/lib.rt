@@ -5,12 +5,14 @@ mod change;
 mod disk;
 mod file;
 mod history;
+mod laws;
 mod memory;
 mod picks;
 mod script;
 mod through;
 
 pub use disk::{Device, Disk};
+pub use laws::other_files_stay;
 pub use memory::MemDisk;
 pub use through::{cut_through, write_through};
 

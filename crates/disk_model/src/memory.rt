@@ -190,7 +190,7 @@ impl Device for MemDisk {
     ghost use Rattle.disk_model.specs.Crash.{Follows, Within, OnlyBytes, Elapses, HasCause};
     ghost use Rattle.disk_model.specs.History.{held_now, MayLeave, LeftSince};
     ghost use Rattle.disk_model.specs.Memory.{past_of, reads_of, calls_of, faults_of, next_fate, passed, failed, noted, read_once, Outcome};
-    ghost use Rattle.disk_model.specs.Laws.{held_stays, left_now, only_left_now};
+    ghost use Rattle.disk_model.specs.HistoryLaws.{held_stays, left_now, only_left_now};
 
     ghost tells = { λ disk. true };
 

@@ -3,7 +3,7 @@ ghost use Rattle.std.specs.Prelude.{◌≡◌, ◌<◌, ◌+◌, ◌^◌, ℕ, L
 ghost use Rattle.disk_model.specs.Images.{bytes_of, Besides, OnFile};
 ghost use Rattle.disk_model.specs.Bytes.{overwritten, Torn, HalfCut};
 ghost use Rattle.disk_model.specs.Counts.{MakesCalls};
-ghost use Rattle.disk_model.specs.Crash.{Follows, Reached, OnlyBytes, LeavesOnly, Passes, HasCause};
+ghost use Rattle.disk_model.specs.Crash.{Follows, Reached, OnlyBytes, LeavesOnly, RunInFile, HasCause};
 
 use crate::Device;
 use span_types::Failed;
@@ -25,7 +25,7 @@ pub fn write_through<D: Device>(
     ensures crash { Follows (OnFile file (Torn at (length bytes.now))) (D.may_leave disk.old) (D.may_leave disk.new) }
 
     // The same, where it is known what the file's bytes are in each image.
-    ensures passes { (known : List ℕ) → OnlyBytes file known (D.may_leave disk.old) → Passes D.moment D.left_since D.may_leave file (Torn at (length bytes.now) known) (Torn at (length bytes.now) known) disk.old disk.new }
+    ensures passes { (known : List ℕ) → OnlyBytes file known (D.may_leave disk.old) → RunInFile D.moment D.left_since D.may_leave file (Torn at (length bytes.now) known) (Torn at (length bytes.now) known) disk.old disk.new }
 
     ensures telling { D.tells disk.new ≡ D.tells disk.old }
     ensures cause { HasCause (D.faults disk.old) (D.faults disk.new) result }
@@ -47,7 +47,7 @@ pub fn cut_through<D: Device>(disk: &mut D, file: u32, len: u64) -> Result<(), F
     ensures crash { Follows (OnFile file (HalfCut len)) (D.may_leave disk.old) (D.may_leave disk.new) }
 
     // The same, where it is known what the file's bytes are in each image.
-    ensures passes { (known : List ℕ) → OnlyBytes file known (D.may_leave disk.old) → Passes D.moment D.left_since D.may_leave file (HalfCut len known) (HalfCut len known) disk.old disk.new }
+    ensures passes { (known : List ℕ) → OnlyBytes file known (D.may_leave disk.old) → RunInFile D.moment D.left_since D.may_leave file (HalfCut len known) (HalfCut len known) disk.old disk.new }
 
     ensures telling { D.tells disk.new ≡ D.tells disk.old }
     ensures cause { HasCause (D.faults disk.old) (D.faults disk.new) result }

@@ -3,7 +3,7 @@
 ghost use Rattle.span_types.specs.Promises.{AreNames};
 
 use crate::{LogError, Numbered, Prepared, Segment, append, create, scan};
-use disk_model::{Device, MemDisk};
+use disk_model::{Disk, MemDisk};
 use span_runs::{same_resource, same_scope};
 use span_types::{
     Attr, AttrValue, Attrs, Batch, Calls, Memory, Resource, Scope, SharedResource, SharedScope,
@@ -251,7 +251,7 @@ fn are_found(found: &Numbered, first: u64, batches: &[&Batch]) -> bool {
 /// The bytes of file 2.
 fn bytes_of_file(alloc: Global, disk: &mut MemDisk) -> Result<Vec<u8>, Fail> {
     let mut block = [0; 512];
-    let count = Device::read(disk, 2, 0, &mut block)?;
+    let count = Disk::read(disk, 2, 0, &mut block)?;
     let mut bytes = Vec::new(alloc);
     if count <= 512 {
         bytes.extend_from_slice(&block[..count])?;
@@ -284,8 +284,8 @@ fn append_next(disk: &mut MemDisk, segment: &mut Segment, entry: &Prepared) -> b
 /// A disk whose file 2 holds these bytes.
 fn holding(alloc: Global, bytes: &[u8]) -> Result<MemDisk, Fail> {
     let mut disk = MemDisk::empty(alloc);
-    Device::write(&mut disk, 2, 0, bytes)?;
-    Device::sync(&mut disk, 2)?;
+    Disk::write(&mut disk, 2, 0, bytes)?;
+    Disk::sync(&mut disk, 2)?;
     Ok(disk)
 }
 

@@ -6,7 +6,7 @@ use Rattle.span_types.specs.declared.spans.Row.{Row}
 use Rattle.span_types.specs.Orders.{block_order}
 use Rattle.span_types.specs.First.{IsFirstOf, first_at}
 use Rattle.span_types.proofs.FirstLaws.{block_order_total}
-use Rattle.trace_rows.specs.TraceLaws.{all_pairs}
+use Rattle.trace_rows.proofs.TraceLaws.{all_pairs}
 use Rattle.search_answer.specs.Traces.{IsSorted}
 
 equal_less : Equal ≡ Less → ⊥

@@ -2,7 +2,8 @@
 use Rattle.std.specs.Prelude.{◌≡◌, ◌≤◌, ◌⊎◌, ℕ, List, length, Result, Ok, Err}
 use Rattle.traceql_syntax.specs.declared.errors.ParseError.{ParseError}
 use Rattle.traceql_syntax.specs.declared.errors.ParseError.TheVariants as parse
-use Rattle.traceql_syntax.specs.Refusals.{BYTES, DEPTH, IsRefusal, Reads}
+use Rattle.span_types.specs.declared.limits.TheConstants.{MOST_QUERY_BYTES}
+use Rattle.traceql_syntax.specs.Refusals.{DEPTH, IsRefusal, Reads}
 use Rattle.traceql_syntax.specs.Trees.{QueryTree, query_tree}
 use Rattle.traceql_types.specs.declared.errors.TypeError.{TypeError}
 use Rattle.traceql_types.specs.declared.errors.TypeError.TheVariants as type
@@ -39,7 +40,7 @@ of_check type.Memory = Memory
 
 -- the text is this query, within the limits of a query
 pub record IsQuery (text : List ℕ) (q : QueryTree) : Type 0 where
-  pub short : length text ≤ BYTES
+  pub short : length text ≤ MOST_QUERY_BYTES
   pub reads : Reads DEPTH text q
 
 -- The search is the one that the line asks for. That its kinds fit and its patterns were made a `Checked` itself says.

@@ -5,7 +5,7 @@ ghost use Rattle.span_types.specs.declared.spans.Row.{Row};
 ghost use Rattle.span_types.specs.First.{IsFirstOf};
 ghost use Rattle.trace_rows.specs.Traces.{rows_of_trace};
 
-use span_types::{Memory, Row, TraceId};
+use span_types::{Memory, Row, TraceId, TryCopy};
 use std::alloc::Global;
 
 /// Copies of the rows of a trace, in their order. Taken of first occurrences they are the first occurrences of the

@@ -11,7 +11,8 @@ use Rattle.traceql_syntax.specs.declared.errors.ParseError.{ParseError}
 use Rattle.traceql_syntax.specs.declared.errors.ParseError.TheVariants as error
 use Rattle.traceql_syntax.specs.Grammar.{Whole_expression, Sets, SpellsCondition, SpellsAggregate, SpellsThreshold, SpellsStage, SpellsQuery}
 use Rattle.traceql_syntax.specs.Grammar as rule
-use Rattle.traceql_syntax.specs.Refusals.{BYTES, DEPTH, Begins, Blames, unknown, unexpected, faulty, deep, IsCause, IsRefusal, Reads, Refuses, healed, fault_error}
+use Rattle.span_types.specs.declared.limits.TheConstants.{MOST_QUERY_BYTES}
+use Rattle.traceql_syntax.specs.Refusals.{DEPTH, Begins, Blames, unknown, unexpected, faulty, deep, IsCause, IsRefusal, Reads, Refuses, healed, fault_error}
 use Rattle.traceql_syntax.specs.Trees.{Placed, AggregateTree, ThresholdTree, StageTree, QueryTree}
 use Rattle.traceql_parse.specs.declared.stop.Cause.{Cause}
 use Rattle.traceql_parse.specs.declared.stop.Cause.TheVariants as cause
@@ -223,7 +224,7 @@ outcome_short len (Ok (q, [])) e h = cc
 outcome_short len (Ok (q, (t ∷ rest))) e h = let same : token_error cause.Unexpected t.at t.kind ≡ e = cc in ap is_long (sym same) ∙ token_short cause.Unexpected t.at t.kind
 outcome_short len (Err (why, rest)) e h = let same : error_of why len rest ≡ e = cc in ap is_long (sym same) ∙ error_short why len rest
 
-is_refusal : (text : List ℕ) (e : ParseError) → is_long e ≡ false → length text ≤ BYTES → Refuses DEPTH text e → IsRefusal text e
+is_refusal : (text : List ℕ) (e : ParseError) → is_long e ≡ false → length text ≤ MOST_QUERY_BYTES → Refuses DEPTH text e → IsRefusal text e
 is_refusal text error.Memory h fits r = tt
 is_refusal text (error.TooLong len) h fits r = cc
 is_refusal text (error.BadChar at) h fits r = (fits, r)
@@ -233,5 +234,5 @@ is_refusal text (error.NumberRange at) h fits r = (fits, r)
 is_refusal text (error.FractionLiteral at) h fits r = (fits, r)
 is_refusal text (error.TooDeep at) h fits r = (fits, r)
 
-pub refusal_is : (text : List ℕ) (ts : List Token) (e : ParseError) → AreTokens 0 text ts → length text ≤ BYTES → outcome (length text) (read.query 63 ts) ≡ Err e → IsRefusal text e
+pub refusal_is : (text : List ℕ) (ts : List Token) (e : ParseError) → AreTokens 0 text ts → length text ≤ MOST_QUERY_BYTES → outcome (length text) (read.query 63 ts) ≡ Err e → IsRefusal text e
 refusal_is text ts e lexed fits h = is_refusal text e (outcome_short (length text) (read.query 63 ts) e h) fits (refuses 63 text ts e lexed h)

@@ -7,17 +7,18 @@ use Rattle.traceql_syntax.specs.declared.errors.ParseError.{ParseError}
 use Rattle.traceql_syntax.specs.declared.errors.ParseError.TheVariants as error
 use Rattle.traceql_syntax.specs.declared.query.Query.{Query}
 use Rattle.traceql_syntax.specs.Grammar.{SpellsQuery}
-use Rattle.traceql_syntax.specs.Refusals.{BYTES, DEPTH, IsRefusal, Means, Reads}
+use Rattle.span_types.specs.declared.limits.TheConstants.{MOST_QUERY_BYTES}
+use Rattle.traceql_syntax.specs.Refusals.{DEPTH, IsRefusal, Means, Reads}
 use Rattle.traceql_syntax.specs.Trees.{QueryTree, query_tree}
 use Rattle.traceql_parse.specs.Descent as read
 use Rattle.traceql_parse.specs.Outcome.{Answers, outcome}
 use Rattle.traceql_parse.proofs.Parsing.{outcome_found, outcome_complete, refusal_is}
 
-module _ (text : List ℕ) (ts : List Token) (lexed : AreTokens 0 text ts) (fits : length text ≤ BYTES) where
+module _ (text : List ℕ) (ts : List Token) (lexed : AreTokens 0 text ts) (fits : length text ≤ MOST_QUERY_BYTES) where
   abbrev expected : Result QueryTree ParseError
   expected = outcome (length text) (read.query 63 ts)
 
-  pub parse_found : (r : Result Query ParseError) → Answers r expected → IfOk r (λ q. (length text ≤ BYTES) × Reads DEPTH text (query_tree q))
+  pub parse_found : (r : Result Query ParseError) → Answers r expected → IfOk r (λ q. (length text ≤ MOST_QUERY_BYTES) × Reads DEPTH text (query_tree q))
   parse_found (Ok q) h = (fits, record { tokens = ts; lexed = lexed; spelled = outcome_found (length text) 63 (query_tree q) ts h })
   parse_found (Err e) h = tt
 

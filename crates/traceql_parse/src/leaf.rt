@@ -8,7 +8,7 @@ ghost use Rattle.traceql_parse.specs.Reading.{Gives, blame, expect};
 ghost use Rattle.traceql_tokens.specs.Tokens.{mended};
 
 use crate::stop::{Cause, Stop};
-use span_types::{Memory, SpanKind, StatusCode, Text};
+use span_types::{Memory, SpanKind, StatusCode, Text, TryCopy};
 use traceql_syntax::{Field, FieldExpr, Literal, Operand, Threshold};
 use traceql_tokens::{Class, Token, TokenKind, Word};
 

@@ -11,6 +11,3 @@ mod text;
 
 pub use text::{one_query, parse};
 pub use traceql_syntax::ParseError;
-
-#[cfg(test)]
-mod tests;

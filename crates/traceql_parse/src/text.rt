@@ -1,7 +1,7 @@
 //! From a text to its query, or to why it has none.
 
 ghost use Rattle.std.specs.Prelude.{◌≡◌, ◌<◌, ◌≤◌, ℕ, List, length, Ok, Err, IfOk, IfErr, MatchResult};
-ghost use Rattle.traceql_syntax.specs.Refusals.{BYTES, DEPTH, IsRefusal, Means, Reads};
+ghost use Rattle.traceql_syntax.specs.Refusals.{DEPTH, IsRefusal, Means, Reads};
 ghost use Rattle.traceql_syntax.specs.Refusals as refusals;
 ghost use Rattle.traceql_syntax.specs.Trees.{QueryTree, bare_query, query_tree};
 ghost use Rattle.traceql_parse.specs.Descent as read;
@@ -9,12 +9,10 @@ ghost use Rattle.traceql_parse.specs.Outcome.{Answers, error_of, outcome, token_
 
 use crate::stage::read_query;
 use crate::stop::{Cause, Stop};
+use span_types::MOST_QUERY_BYTES;
 use std::alloc::Global;
 use traceql_syntax::{ParseError, Query};
 use traceql_tokens::{Fault, Token, TokenKind, tokens};
-
-/// How many bytes a query may have.
-const MAX_BYTES: usize = 8192;
 
 /// How many constructs may be open inside the parentheses of a stage: 64 in all.
 const INNER_DEPTH: u32 = 63;
@@ -75,29 +73,30 @@ fn parse_tokens(alloc: Global, tokens: &[Token], length: u64) -> Result<Query, P
 /// The query that a text is, each of its parts with its place.
 ///
 /// What a query is, the grammar of `traceql_syntax` says. Two limits come on top: 64 constructs that are open inside of one
-/// another, and 8,192 bytes. Of several faults the one that a reader meets first is told. For want of memory there may be
+/// another, and [`MOST_QUERY_BYTES`] bytes. Of several faults the one that a reader meets first is told. For want of memory there may be
 /// neither.
 pub fn parse(alloc: Global, text: &str) -> Result<Query, ParseError>
-    ensures too_long { BYTES < length text.now → result ≡ Err (ParseError.TooLong (length text.now)) }
+    ensures too_long { MOST_QUERY_BYTES < length text.now →
+        result ≡ Err (ParseError.TooLong (length text.now)) }
     // What is read is in the grammar, within the limits.
-    ensures found { IfOk result (λ q. (length text.now ≤ BYTES) × Reads DEPTH text.now (query_tree q)) }
+    ensures found { IfOk result (λ q.
+        (length text.now ≤ MOST_QUERY_BYTES) × Reads DEPTH text.now (query_tree q)) }
     // What is in the grammar within the limits is read, unless memory ran out.
-    ensures complete { (q : QueryTree) → length text.now ≤ BYTES → Reads DEPTH text.now q → MatchResult result (λ p. query_tree p ≡ q) (λ e. e ≡ ParseError.Memory) }
+    ensures complete { (q : QueryTree) → length text.now ≤ MOST_QUERY_BYTES → Reads DEPTH text.now q →
+        MatchResult result (λ p. query_tree p ≡ q) (λ e. e ≡ ParseError.Memory) }
     // The same without places: a text that means a query within the limits is read as an equal one.
     ensures means { IfOk result (λ q. Means text.now (query_tree q)) }
     // A refusal is that of the earliest place, with its cause.
     ensures refused { IfErr result (λ e. IsRefusal text.now e) }
 {
-    let length = text.len();
-    if length > MAX_BYTES {
-        return Err(ParseError::TooLong {
-            length: length as u64,
-        });
+    let length = text.len() as u64;
+    if length > MOST_QUERY_BYTES {
+        return Err(ParseError::TooLong { length });
     }
     let Ok(list) = tokens(alloc, text) else {
         return Err(ParseError::Memory);
     };
-    parse_tokens(alloc, list.as_slice(), length as u64)
+    parse_tokens(alloc, list.as_slice(), length)
 }
 
 /// A text is at most one query: a law of the grammar, which `parse` rests on.

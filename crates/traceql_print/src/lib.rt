@@ -12,6 +12,3 @@ mod stage;
 mod string;
 
 pub use printing::{print_field, print_query, printed_once};
-
-#[cfg(test)]
-mod tests;

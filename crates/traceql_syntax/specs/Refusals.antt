@@ -1,5 +1,6 @@
 -- What a text stands for, and why it is refused where it stands for nothing.
 use Rattle.std.specs.Prelude.{◌≡◌, ◌≢◌, ℕ, suc, ◌<◌, ◌≤◌, List, [], ◌∷◌, ◌++◌, length, Some}
+use Rattle.span_types.specs.declared.limits.TheConstants.{MOST_QUERY_BYTES}
 use Rattle.traceql_tokens.specs.Tokens.{AreTokens, mended, fault_of}
 use Rattle.traceql_tokens.specs.declared.kinds.Fault.{Fault}
 use Rattle.traceql_tokens.specs.declared.kinds.Fault.TheVariants as fault
@@ -13,10 +14,6 @@ use Rattle.traceql_syntax.specs.Trees.{QueryTree, bare_query}
 -- how many constructs may be open at one place
 abbrev pub DEPTH : ℕ
 DEPTH = 64
-
--- how many bytes a query may have
-abbrev pub BYTES : ℕ
-BYTES = 8192
 
 -- the text is this query, each part with its place, with at most so many constructs open at one place
 pub record Reads (depth : ℕ) (text : List ℕ) (q : QueryTree) : Type 0 where
@@ -70,5 +67,5 @@ pub record Refuses (depth : ℕ) (text : List ℕ) (why : ParseError) : Type 0 w
 -- The refusal is right: want of memory, a text that is too long, or else the refusal of the earliest place.
 abbrev pub IsRefusal : List ℕ → ParseError → Type 0
 IsRefusal text error.Memory = Unit {0}
-IsRefusal text (error.TooLong len) = (BYTES < length text) × (len ≡ length text)
-IsRefusal text why = (length text ≤ BYTES) × Refuses DEPTH text why
+IsRefusal text (error.TooLong len) = (MOST_QUERY_BYTES < length text) × (len ≡ length text)
+IsRefusal text why = (length text ≤ MOST_QUERY_BYTES) × Refuses DEPTH text why

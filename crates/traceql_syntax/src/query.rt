@@ -1,10 +1,8 @@
 //! Spansets, stages and queries.
 
-ghost use Rattle.std.specs.Prelude.{◌≡◌, length};
-
 use crate::{Comparison, Field, Operand};
+use span_types::Seq;
 use std::boxed::Box;
-use std::marker::Model;
 
 /// How two spans stand to each other: what the right one is to the left one.
 #[derive(Clone, Copy, Debug, PartialEq, Eq)]
@@ -148,98 +146,10 @@ pub enum Stage {
 }
 
 /// The fields of a `select`, in the text's order.
-#[derive(Debug, Drop)]
-pub struct Fields {
-    inner: Vec<Field>,
-}
-
-impl Model for Fields {
-    ghost use Rattle.std.specs.Prelude.{List};
-    ghost use Rattle.traceql_syntax.specs.declared.field.Field.{Field};
-
-    ghost Value = { List Field };
-
-    ghost view = { λ l. l.inner.items };
-}
-
-impl Fields {
-    /// The list of a vector's items, which are moved and not copied.
-    pub fn of(inner: Vec<Field>) -> Fields
-        ensures { result ≡ inner.items }
-    {
-        Fields { inner }
-    }
-
-    /// The vector again, without a copy.
-    pub fn into_vec(self) -> Vec<Field>
-        ensures { result.items ≡ self }
-    {
-        self.inner
-    }
-
-    /// The fields as a slice.
-    pub fn as_slice(&self) -> &[Field]
-        ensures { result.now ≡ self.now }
-    {
-        self.inner.as_slice()
-    }
-
-    /// The number of fields.
-    pub fn len(&self) -> usize
-        ensures { result ≡ length self.now }
-    {
-        self.inner.len()
-    }
-}
+pub type Fields = Seq<Field>;
 
 /// The stages of a query, in the text's order.
-#[derive(Debug, Drop)]
-pub struct Stages {
-    inner: Vec<Stage>,
-}
-
-impl Model for Stages {
-    ghost use Rattle.std.specs.Prelude.{List};
-    ghost use Rattle.traceql_syntax.specs.declared.query.Stage.{Stage};
-    ghost use Rattle.traceql_syntax.specs.contracts.field.FieldExpr as e;
-    ghost use Rattle.std.specs.Coded.{codes};
-
-    ghost Value = { List Stage };
-
-    ghost view = { λ l. l.inner.items };
-
-    ghost coded = { Prim.hlevel (codes, e.the_row.coded) };
-}
-
-impl Stages {
-    /// The list of a vector's items, which are moved and not copied.
-    pub fn of(inner: Vec<Stage>) -> Stages
-        ensures { result ≡ inner.items }
-    {
-        Stages { inner }
-    }
-
-    /// The vector again, without a copy.
-    pub fn into_vec(self) -> Vec<Stage>
-        ensures { result.items ≡ self }
-    {
-        self.inner
-    }
-
-    /// The stages as a slice.
-    pub fn as_slice(&self) -> &[Stage]
-        ensures { result.now ≡ self.now }
-    {
-        self.inner.as_slice()
-    }
-
-    /// The number of stages.
-    pub fn len(&self) -> usize
-        ensures { result ≡ length self.now }
-    {
-        self.inner.len()
-    }
-}
+pub type Stages = Seq<Stage>;
 
 /// A query: an expression over spansets and the stages behind it.
 #[derive(Debug, Drop)]

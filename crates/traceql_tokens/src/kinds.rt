@@ -1,10 +1,7 @@
 //! Tokens.
 
-ghost use Rattle.std.specs.Prelude.{◌≡◌, ◌==◌, length};
-
 use crate::{AttributeScope, Intrinsic, Sign, Word};
-use span_types::Text;
-use std::marker::Model;
+use span_types::{Seq, Text};
 
 /// What is wrong with a token. Its class and its end are clear all the same, so the tokens behind it are read.
 /// A place counts bytes from the start of the text.
@@ -75,53 +72,4 @@ pub struct Token {
 }
 
 /// The tokens of a text, in its order.
-#[derive(Debug, Drop)]
-pub struct Tokens {
-    inner: Vec<Token>,
-}
-
-impl Model for Tokens {
-    ghost use Rattle.std.specs.Prelude.{List};
-    ghost use Rattle.traceql_tokens.specs.declared.kinds.Token.{Token};
-
-    ghost Value = { List Token };
-
-    ghost view = { λ l. l.inner.items };
-}
-
-impl Tokens {
-    /// The list of a vector's items, which are moved and not copied.
-    pub fn of(inner: Vec<Token>) -> Tokens
-        ensures { result ≡ inner.items }
-    {
-        Tokens { inner }
-    }
-
-    /// The vector again, without a copy.
-    pub fn into_vec(self) -> Vec<Token>
-        ensures { result.items ≡ self }
-    {
-        self.inner
-    }
-
-    /// The tokens as a slice.
-    pub fn as_slice(&self) -> &[Token]
-        ensures { result.now ≡ self.now }
-    {
-        self.inner.as_slice()
-    }
-
-    /// The number of tokens.
-    pub fn len(&self) -> usize
-        ensures { result ≡ length self.now }
-    {
-        self.inner.len()
-    }
-
-    /// Whether there are no tokens.
-    pub fn is_empty(&self) -> bool
-        ensures { result ≡ (length self.now == 0) }
-    {
-        self.inner.is_empty()
-    }
-}
+pub type Tokens = Seq<Token>;

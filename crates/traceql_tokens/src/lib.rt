@@ -14,6 +14,3 @@ pub use fixed::{AttributeScope, Intrinsic, Sign, Word};
 pub use kinds::{Class, Fault, Token, TokenKind, Tokens};
 pub use lexer::{one_reading, printed_tokens, tokens};
 pub use units::TimeUnit;
-
-#[cfg(test)]
-mod tests;

@@ -14,21 +14,21 @@ use Rattle.regex_hir.specs.contracts.hir.Hir as Hir
 use Rattle.regex_meta.specs.contracts.plan.Plans as Plans
 use Rattle.regex_meta.specs.contracts.program.Program as Program
 use Rattle.span_types.proofs.text.Text.TheSendSync as text
+use Rattle.span_types.specs.contracts.list.Seq as Seq
 use Rattle.traceql_syntax.proofs.field.Comparison.TheSendSync as comparison
+use Rattle.traceql_syntax.proofs.field.Field.TheSendSync as field
 use Rattle.traceql_syntax.proofs.field.FieldExpr.TheLaws.TheKnot.{send-Operand, sync-Operand}
 use Rattle.traceql_syntax.proofs.query.AggregateOp.TheSendSync as op
-use Rattle.traceql_syntax.proofs.query.Fields.TheSendSync as fields
 use Rattle.traceql_syntax.proofs.query.SpansetExpr.TheLaws.TheKnot.{send-SpansetExpr, sync-SpansetExpr}
+use Rattle.traceql_syntax.specs.contracts.field.Field as Field
 use Rattle.traceql_syntax.specs.contracts.field.Operand as Operand
 use Rattle.traceql_syntax.specs.contracts.query.Aggregate as Aggregate
 use Rattle.traceql_syntax.specs.contracts.query.Query as Query
 use Rattle.traceql_syntax.specs.contracts.query.SpansetExpr as SpansetExpr
 use Rattle.traceql_syntax.specs.contracts.query.Stage as Stage
-use Rattle.traceql_syntax.specs.contracts.query.Stages as Stages
 use Rattle.traceql_syntax.specs.contracts.query.Threshold as Threshold
 use Rattle.traceql_types.specs.contracts.checked.Checked as Checked
 use Rattle.traceql_types.specs.contracts.pattern.Pattern as Pattern
-use Rattle.traceql_types.specs.contracts.pattern.Patterns as Patterns
 
 -- ---- handed to another thread
 u64-send : IsSend (as_row u64-field)
@@ -53,6 +53,9 @@ threshold-send : IsSend Threshold.the_row
 threshold-send =
     variants_send Threshold.enum ((aggregate-send, tt), ((bool-send, (u64-send, tt)), ((bool-send, (u64-send, tt)), tt)))
 
+fields-send : IsSend (Seq.the_row Field.the_row)
+fields-send = search (field.the_send, sendable, crosses) depth 40
+
 stage-send : IsSend Stage.the_row
 stage-send =
     variants_send Stage.enum (
@@ -62,14 +65,14 @@ stage-send =
         (
           tt,
           (
-            (fields.the_send, tt),
+            (fields-send, tt),
             ((aggregate-send, (u64-send, (comparison.the_send, (threshold-send, tt)))), tt),
           ),
         ),
       ),
     )
 
-stages-send : IsSend Stages.the_row
+stages-send : IsSend (Seq.the_row Stage.the_row)
 stages-send = search (stage-send, sendable, crosses) depth 40
 
 query-send : IsSend Query.the_row
@@ -90,7 +93,7 @@ compiled-send = declared_send Compiled.the_type (search (String-send, program-se
 pub pattern-send : IsSend Pattern.the_row
 pattern-send = declared_send Pattern.the_type (text.the_send, (declared_send Regex.the_type (compiled-send, tt), tt))
 
-patterns-send : IsSend Patterns.the_row
+patterns-send : IsSend (Seq.the_row Pattern.the_row)
 patterns-send = search (pattern-send, sendable, crosses) depth 40
 
 pub checked-send : IsSend Checked.the_row
@@ -119,6 +122,9 @@ threshold-sync : IsSync Threshold.the_row
 threshold-sync =
     variants_sync Threshold.enum ((aggregate-sync, tt), ((bool-sync, (u64-sync, tt)), ((bool-sync, (u64-sync, tt)), tt)))
 
+fields-sync : IsSync (Seq.the_row Field.the_row)
+fields-sync = search (field.the_sync, sendable, crosses) depth 40
+
 stage-sync : IsSync Stage.the_row
 stage-sync =
     variants_sync Stage.enum (
@@ -128,14 +134,14 @@ stage-sync =
         (
           tt,
           (
-            (fields.the_sync, tt),
+            (fields-sync, tt),
             ((aggregate-sync, (u64-sync, (comparison.the_sync, (threshold-sync, tt)))), tt),
           ),
         ),
       ),
     )
 
-stages-sync : IsSync Stages.the_row
+stages-sync : IsSync (Seq.the_row Stage.the_row)
 stages-sync = search (stage-sync, sendable, crosses) depth 40
 
 query-sync : IsSync Query.the_row
@@ -156,7 +162,7 @@ compiled-sync = declared_sync Compiled.the_type (search (String-sync, program-sy
 pub pattern-sync : IsSync Pattern.the_row
 pattern-sync = declared_sync Pattern.the_type (text.the_sync, (declared_sync Regex.the_type (compiled-sync, tt), tt))
 
-patterns-sync : IsSync Patterns.the_row
+patterns-sync : IsSync (Seq.the_row Pattern.the_row)
 patterns-sync = search (pattern-sync, sendable, crosses) depth 40
 
 pub checked-sync : IsSync Checked.the_row

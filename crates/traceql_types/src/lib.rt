@@ -20,6 +20,3 @@ pub use kinds::Kind;
 pub use maker::{PatternMaker, RegexMaker, ScriptedMaker};
 pub use pattern::{Pattern, Patterns};
 pub use shared::checked_crosses;
-
-#[cfg(test)]
-mod tests;

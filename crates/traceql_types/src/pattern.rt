@@ -1,14 +1,13 @@
 //! Patterns of whole texts.
 
-ghost use Rattle.std.specs.Prelude.{◌≡◌, IfOk, length};
+ghost use Rattle.std.specs.Prelude.{◌≡◌, IfOk};
 ghost use Rattle.regex.specs.Patterns.{default_config};
 ghost use Rattle.regex.specs.Strings.{regex_source, regex_config, IsReadFromSource, matcher_pattern};
 ghost use Rattle.traceql_types.specs.Whole.{whole_text, IsReadable, readable-prop, read-prop};
 
 use regex::{Matcher, Regex};
-use span_types::{Memory, Text};
+use span_types::{Memory, Seq, Text};
 use std::alloc::Global;
-use std::marker::Model;
 
 /// A pattern that a whole text matches or doesn't: it shows the text that it was made of, which is a pattern by itself,
 /// and is what `regex` reads in that text put between `\A(?:` and `)\z`.
@@ -44,50 +43,4 @@ impl Pattern {
 }
 
 /// Patterns, in the order in which a query asks for them.
-#[derive(Drop)]
-pub struct Patterns {
-    inner: Vec<Pattern>,
-}
-
-impl Model for Patterns {
-    ghost use Rattle.std.specs.Prelude.{List};
-    ghost use Rattle.traceql_types.specs.declared.pattern.Pattern.{Pattern};
-    ghost use Rattle.traceql_types.specs.contracts.pattern.Pattern as p;
-    ghost use Rattle.std.specs.Coded.{codes};
-
-    ghost Value = { List Pattern };
-
-    ghost view = { λ l. l.inner.items };
-
-    ghost coded = { Prim.hlevel (codes, p.the_row.coded) };
-}
-
-impl Patterns {
-    /// The list of a vector's items, which are moved and not copied.
-    pub fn of(inner: Vec<Pattern>) -> Patterns
-        ensures { result ≡ inner.items }
-    {
-        Patterns { inner }
-    }
-
-    /// The vector again, without a copy.
-    pub fn into_vec(self) -> Vec<Pattern>
-        ensures { result.items ≡ self }
-    {
-        self.inner
-    }
-
-    /// The patterns as a slice.
-    pub fn as_slice(&self) -> &[Pattern]
-        ensures { result.now ≡ self.now }
-    {
-        self.inner.as_slice()
-    }
-
-    /// The number of patterns.
-    pub fn len(&self) -> usize
-        ensures { result ≡ length self.now }
-    {
-        self.inner.len()
-    }
-}
+pub type Patterns = Seq<Pattern>;

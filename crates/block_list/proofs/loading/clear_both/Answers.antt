@@ -1,7 +1,9 @@
 use Rattle.std.proofs.Common.{◌≡◌, ◌≢◌, IsTrue, sym, ◌∙◌, subst, arith}
 use Rattle.disk_model.specs.Images.{bytes_of}
 use Rattle.disk_model.specs.Crash.{OnlyBytes}
-use Rattle.block_list.proofs.LoadLemmas.{kept_then, ok_any}
+use Rattle.disk_model.proofs.Runs.{run_on}
+use Rattle.block_list.specs.Loading.{KeepsList}
+use Rattle.block_list.proofs.LoadLemmas.{keeps_trans, ok_any}
 use Rattle.block_list.proofs.loading.clear_both.Goals as goal
 
 pub clear_vacant-requires-2-clause-only : goal.clear_vacant-requires-2-clause-only
@@ -12,7 +14,8 @@ clear_vacant-requires-2-clause-only g c = λ told_later.
 
 pub returns-clause-kept : goal.returns-clause-kept
 returns-clause-kept g c = λ told.
-    kept_then g.D.Device.moment g.D.Device.left_since g.D.Device.may_leave c.args.disk.now c.clear_vacant.new.disk c.clear_vacant-2.new.disk (c.clear_vacant.ensures.kept told)
+    let d = g.D.Device in
+    run_on d.moment d.left_since d.may_leave KeepsList c.args.disk.now c.clear_vacant.new.disk c.clear_vacant-2.new.disk keeps_trans (c.clear_vacant.ensures.kept told)
     (c.clear_vacant-2.ensures.kept (subst IsTrue (sym c.clear_vacant.ensures.telling) told))
 
 pub returns-clause-slot_0 : goal.returns-clause-slot_0

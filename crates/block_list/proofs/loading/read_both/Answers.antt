@@ -1,14 +1,21 @@
-use Rattle.block_list.proofs.LoadLemmas.{kept_then}
+use Rattle.disk_model.proofs.Runs.{untouched_then}
 use Rattle.block_list.proofs.loading.read_both.Goals as goal
 
-pub returns-in_err-first-clause-kept : goal.returns-in_err-first-clause-kept
-returns-in_err-first-clause-kept g c =
-    kept_then g.D.Device.moment g.D.Device.left_since g.D.Device.may_leave c.args.disk.now c.sync_slots.new.disk c.read_file.new.disk c.sync_slots.ensures.kept c.read_file.ensures.kept
+pub returns-in_err-first-clause-untouched : goal.returns-in_err-first-clause-untouched
+returns-in_err-first-clause-untouched g c =
+    let d = g.D.Device in
+    untouched_then d.tells d.held d.may_leave d.moment d.left_since c.args.disk.now c.sync_slots.new.disk c.read_file.new.disk c.sync_slots.ensures.untouched c.read_file.ensures.untouched
 
-pub returns-in_err-second-clause-kept : goal.returns-in_err-second-clause-kept
-returns-in_err-second-clause-kept g c =
-    kept_then g.D.Device.moment g.D.Device.left_since g.D.Device.may_leave c.args.disk.now c.read_file.new.disk c.read_file-2.new.disk (kept_then g.D.Device.moment g.D.Device.left_since g.D.Device.may_leave c.args.disk.now c.sync_slots.new.disk c.read_file.new.disk c.sync_slots.ensures.kept c.read_file.ensures.kept) c.read_file-2.ensures.kept
+pub returns-in_err-second-clause-untouched : goal.returns-in_err-second-clause-untouched
+returns-in_err-second-clause-untouched g c =
+    let d = g.D.Device in
+    untouched_then d.tells d.held d.may_leave d.moment d.left_since c.args.disk.now c.read_file.new.disk c.read_file-2.new.disk
+    (untouched_then d.tells d.held d.may_leave d.moment d.left_since c.args.disk.now c.sync_slots.new.disk c.read_file.new.disk c.sync_slots.ensures.untouched c.read_file.ensures.untouched)
+    c.read_file-2.ensures.untouched
 
-pub returns-clause-kept : goal.returns-clause-kept
-returns-clause-kept g c =
-    kept_then g.D.Device.moment g.D.Device.left_since g.D.Device.may_leave c.args.disk.now c.read_file.new.disk c.read_file-2.new.disk (kept_then g.D.Device.moment g.D.Device.left_since g.D.Device.may_leave c.args.disk.now c.sync_slots.new.disk c.read_file.new.disk c.sync_slots.ensures.kept c.read_file.ensures.kept) c.read_file-2.ensures.kept
+pub returns-clause-untouched : goal.returns-clause-untouched
+returns-clause-untouched g c =
+    let d = g.D.Device in
+    untouched_then d.tells d.held d.may_leave d.moment d.left_since c.args.disk.now c.read_file.new.disk c.read_file-2.new.disk
+    (untouched_then d.tells d.held d.may_leave d.moment d.left_since c.args.disk.now c.sync_slots.new.disk c.read_file.new.disk c.sync_slots.ensures.untouched c.read_file.ensures.untouched)
+    c.read_file-2.ensures.untouched

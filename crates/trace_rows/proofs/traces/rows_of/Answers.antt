@@ -1,7 +1,7 @@
 use Rattle.std.proofs.Common.{sym, subst}
 use Rattle.span_types.specs.First.{IsFirstOf}
 use Rattle.trace_rows.specs.Traces.{rows_of_trace}
-use Rattle.trace_rows.specs.TraceLaws.{trace_of_firsts}
+use Rattle.trace_rows.proofs.TraceLaws.{trace_of_firsts}
 use Rattle.trace_rows.proofs.traces.rows_of.Goals as goal
 
 pub returns-clause-firsts : goal.returns-clause-firsts

@@ -1,13 +1,13 @@
 use Rattle.std.proofs.Common.{sym, subst, ◌≤◌, length, List, arith}
 use Rattle.traceql_tokens.specs.Tokens.{AreTokens}
 use Rattle.traceql_tokens.specs.declared.kinds.Token.{Token}
-use Rattle.traceql_syntax.specs.Refusals.{BYTES}
+use Rattle.span_types.specs.declared.limits.TheConstants.{MOST_QUERY_BYTES}
 use Rattle.traceql_parse.proofs.Promises.{parse_found, parse_means, parse_complete, parse_refused}
 use Rattle.traceql_parse.proofs.text.parse.Goals as goal
 
 pub returns-clause-found : goal.returns-clause-found
 returns-clause-found c =
-    let fits : length c.args.text.now ≤ BYTES = omega arith in
+    let fits : length c.args.text.now ≤ MOST_QUERY_BYTES = omega arith in
     let lexed : AreTokens 0 c.args.text.now c.as_slice.result.now = subst (λ (z : List Token). AreTokens 0 c.args.text.now z) (sym c.as_slice.ensures) c.in-Ok.ensures.found in
     parse_found c.args.text.now c.as_slice.result.now lexed fits c.parse_tokens.result c.parse_tokens.ensures
 
@@ -18,12 +18,12 @@ returns-clause-complete c = λ q fits reads.
 
 pub returns-clause-refused : goal.returns-clause-refused
 returns-clause-refused c =
-    let fits : length c.args.text.now ≤ BYTES = omega arith in
+    let fits : length c.args.text.now ≤ MOST_QUERY_BYTES = omega arith in
     let lexed : AreTokens 0 c.args.text.now c.as_slice.result.now = subst (λ (z : List Token). AreTokens 0 c.args.text.now z) (sym c.as_slice.ensures) c.in-Ok.ensures.found in
     parse_refused c.args.text.now c.as_slice.result.now lexed fits c.parse_tokens.result c.parse_tokens.ensures
 
 pub returns-clause-means : goal.returns-clause-means
 returns-clause-means c =
-    let fits : length c.args.text.now ≤ BYTES = omega arith in
+    let fits : length c.args.text.now ≤ MOST_QUERY_BYTES = omega arith in
     let lexed : AreTokens 0 c.args.text.now c.as_slice.result.now = subst (λ (z : List Token). AreTokens 0 c.args.text.now z) (sym c.as_slice.ensures) c.in-Ok.ensures.found in
     parse_means c.args.text.now c.as_slice.result.now lexed fits c.parse_tokens.result c.parse_tokens.ensures

@@ -2,7 +2,7 @@ use Rattle.std.proofs.Common.{◌≡◌, ℕ, ◌∙◌, ap}
 use Rattle.disk_model.specs.Files.{FileState}
 use Rattle.std.proofs.lemmas.Result.{IfOk-weaker}
 use Rattle.disk_model.specs.Picks.{IsPicked, filled}
-use Rattle.disk_model.specs.Laws.{IsSound}
+use Rattle.disk_model.specs.Files.{IsSound}
 use Rattle.disk_model.proofs.PicksLemmas.{ones_picked, zeros_picked}
 use Rattle.disk_model.proofs.file.File.picked.Goals as goal
 

@@ -1,7 +1,7 @@
 use Rattle.std.proofs.Common.{List, [], ◌∷◌, ◌++◌, sym, ◌∙◌, ap}
 use Rattle.disk_model.specs.History.{Files, state_of, unchanged, replayed}
 use Rattle.disk_model.specs.declared.change.Change.{Change}
-use Rattle.disk_model.specs.Laws.{replayed-append}
+use Rattle.disk_model.specs.HistoryLaws.{replayed-append}
 use Rattle.disk_model.proofs.FilesLemmas.{after_same}
 use Rattle.disk_model.proofs.history.History.add.Goals as goal
 

@@ -3,7 +3,7 @@ use Rattle.std.proofs.Common.{sym, ◌∙◌, ap}
 use Rattle.disk_model.specs.Files.{FileState}
 use Rattle.disk_model.specs.Images.{bytes_of}
 use Rattle.disk_model.specs.History.{Past, Files, state_of, files_now, held_now}
-use Rattle.disk_model.specs.Laws.{bytes_of-held}
+use Rattle.disk_model.specs.HistoryLaws.{bytes_of-held}
 use Rattle.disk_model.proofs.history.History.bytes.Goals as goal
 
 pub returns : goal.returns

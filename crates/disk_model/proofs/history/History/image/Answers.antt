@@ -2,7 +2,8 @@ use Rattle.std.proofs.Common.{◌≡◌, sym, subst}
 use Rattle.disk_model.specs.Images.{bytes_of}
 use Rattle.disk_model.specs.Files.{FileState}
 use Rattle.disk_model.specs.History.{Past, Files, state_of, files_now}
-use Rattle.disk_model.specs.Laws.{IsSound, sound_now}
+use Rattle.disk_model.specs.Files.{IsSound}
+use Rattle.disk_model.specs.HistoryLaws.{sound_now}
 use Rattle.disk_model.specs.Picks.{IsPicked, ArePicked}
 use Rattle.disk_model.proofs.PicksLemmas.{picked_of}
 use Rattle.disk_model.proofs.history.History.image.Goals as goal

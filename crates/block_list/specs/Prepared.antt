@@ -1,8 +1,0 @@
--- A list in bytes.
-use Rattle.std.specs.Prelude.{ℕ, List}
-
--- the list's generation, its bytes behind the gate, and how many bytes there is room for
-pub record Prepared : Type 0 where
-  pub generation : ℕ
-  pub text : List ℕ
-  pub room : ℕ

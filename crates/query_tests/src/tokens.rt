@@ -1,0 +1,159 @@
+//! The tokens of texts, worked out by hand.
+
+use std::test::Fail;
+use traceql_tokens::{TimeUnit, Token, TokenKind, one_reading, printed_tokens, tokens};
+
+/// A token as one word of the tables below: its place, and its class with its text or value.
+fn shown(rt: &HostRuntime, token: &Token) -> Result<String, Fail> {
+    let at = token.at;
+    Ok(match &token.kind {
+        TokenKind::Mark(sign) => format!(in rt.alloc(); "{at}:{}", sign.text())?,
+        TokenKind::Keyword(word) => format!(in rt.alloc(); "{at}:{}", word.text())?,
+        TokenKind::Builtin(intrinsic) => format!(in rt.alloc(); "{at}:{}", intrinsic.text())?,
+        TokenKind::Named(scope, name) => format!(in rt.alloc();
+            "{at}:{}[{}]",
+            scope.text(),
+            name.as_str()
+        )?,
+        TokenKind::Quoted(value) => format!(in rt.alloc(); "{at}:'{}'", value.as_str())?,
+        TokenKind::Number(number) => format!(in rt.alloc(); "{at}:{number}")?,
+        TokenKind::Duration(nanos) => format!(in rt.alloc(); "{at}:{nanos}ns")?,
+        TokenKind::Broken(class, fault) => format!(in rt.alloc(); "{at}:{class:?}/{fault:?}")?,
+        TokenKind::Nameless => format!(in rt.alloc(); "{at}:nameless")?,
+        TokenKind::Unknown => format!(in rt.alloc(); "{at}:unknown")?,
+    })
+}
+
+/// The tokens of a text with a bar between each two.
+fn listed(rt: &HostRuntime, text: &str) -> Result<String, Fail> {
+    let found = tokens(rt.alloc(), text)?;
+    let mut all = String::new(rt.alloc());
+    for token in found.as_slice() {
+        if !all.is_empty() {
+            all.push_str(" ")?;
+        }
+        all.push_str(shown(rt, token)?.as_str())?;
+    }
+    Ok(all)
+}
+
+#[test]
+fn texts_have_the_tokens_that_hands_found(rt: HostRuntime) -> Result<(), Fail> {
+    let table = [
+        ("", ""),
+        (" \t\r\n", ""),
+        ("{ }", "0:{ 2:}"),
+        ("{}", "0:{ 1:}"),
+        ("\u{b}", "0:unknown"),
+        ("foo", "0:unknown"),
+        ("{ foo }", "0:{ 2:unknown"),
+        ("names", "0:name 4:unknown"),
+        ("nameserver", "0:name 4:server"),
+        (
+            "status statusMessage status.x",
+            "0:status 7:statusMessage 21:status 27:.[x]",
+        ),
+        (
+            "span:status=span:statusMessage",
+            "0:span:status 11:= 12:span:statusMessage",
+        ),
+        ("span :name", "0:unknown"),
+        (
+            "trace:rootService rootServiceName",
+            "0:trace:rootService 18:rootServiceName",
+        ),
+        (
+            "instrumentation:version internal",
+            "0:instrumentation:version 24:internal",
+        ),
+        ("count_over_time", "0:count 5:unknown"),
+        ("okunset", "0:ok 2:unset"),
+        (".a-1", "0:.[a-1]"),
+        (".a+.b", "0:.[a+.b]"),
+        (".a.b:c/d%e*f", "0:.[a.b:c/d%e*f]"),
+        ("{ .a<<1 }", "0:{ 2:.[a] 4:<< 6:1 8:}"),
+        (
+            "span.http.status_code=200",
+            "0:span.[http.status_code] 21:= 22:200",
+        ),
+        ("resource.service.name", "0:resource.[service.name]"),
+        ("instrumentation.x", "0:instrumentation.[x]"),
+        (".\"a b\".c", "0:.[a b] 6:.[c]"),
+        (".`a\"b`", "0:.[a\"b]"),
+        (".a\"b\"", "0:.[a] 2:'b'"),
+        (".é!=nil", "0:.[é] 3:!= 5:nil"),
+        (".", "0:nameless"),
+        (". a", "0:nameless 2:unknown"),
+        ("span.\"\" .``", "0:nameless 8:nameless"),
+        ("parent.x", "0:unknown"),
+        ("\"\"", "0:''"),
+        ("\"a\\\"b\\\\\"", "0:'a\"b\\'"),
+        ("`a\\nb`", "0:'a\\nb'"),
+        ("\"a\\nb\\r\\t\" 1", "0:'a\nb\r\t' 11:1"),
+        ("\"abc", "0:Quoted/Unended { at: 0 }"),
+        ("  `abc\"", "2:Quoted/Unended { at: 2 }"),
+        ("\"abc\\", "0:Quoted/Unended { at: 0 }"),
+        ("\"a\\q b\" by", "0:Quoted/UnknownEscape { at: 2 } 8:by"),
+        ("\"a\\é\" by", "0:Quoted/UnknownEscape { at: 2 } 7:by"),
+        ("\"a\\q", "0:Quoted/Unended { at: 0 }"),
+        ("span.\"a\\x\"", "0:Attribute/UnknownEscape { at: 7 }"),
+        ("1 .\"a", "0:1 2:Attribute/Unended { at: 3 }"),
+        ("1.5s", "0:1500000000ns"),
+        ("1s5", "0:1000000000ns 2:5"),
+        ("0.5ns0.5ns", "0:1ns"),
+        ("0.5ns", "0:Duration/FractionLiteral"),
+        ("1h2m3s4ms5us6ns", "0:3723004005006ns"),
+        ("2m5msx", "0:120005000000ns 5:unknown"),
+        ("0.5", "0:Number/FractionLiteral"),
+        ("1.5.5", "0:Number/FractionLiteral 3:.[5]"),
+        ("1. 2", "0:1 1:nameless 3:2"),
+        ("007", "0:7"),
+        ("9223372036854775807", "0:9223372036854775807"),
+        ("9223372036854775808", "0:Number/NumberRange"),
+        ("9223372036854775808.5", "0:Number/FractionLiteral"),
+        ("9223372036854775807ns", "0:9223372036854775807ns"),
+        ("9223372036854775807.5ns0.5ns", "0:Duration/NumberRange"),
+        ("9223372036854775807.5ns", "0:Duration/FractionLiteral"),
+        ("9223372036854775808.5ns", "0:Duration/NumberRange"),
+        ("2562047h47m16.854775807s", "0:9223372036854775807ns"),
+        ("2562047h47m16.854775808s", "0:Duration/NumberRange"),
+        (
+            "0.00000000000027777777777777h",
+            "0:Duration/FractionLiteral",
+        ),
+        (
+            "0.000000000000025h0.00000000001m",
+            "0:Duration/FractionLiteral",
+        ),
+        ("-1", "0:- 1:1"),
+        ("&&&", "0:&& 2:&"),
+        ("!>>>!>!", "0:!>> 3:> 4:!> 6:!"),
+        ("&>>&>&<<&<&~& &", "0:&>> 3:&> 5:&<< 8:&< 10:&~ 12:& 14:&"),
+        ("=~!~~<=>=<>=", "0:=~ 2:!~ 4:~ 5:<= 7:>= 9:< 10:>="),
+        (
+            "+-*/%^,()|||",
+            "0:+ 1:- 2:* 3:/ 4:% 5:^ 6:, 7:( 8:) 9:|| 11:|",
+        ),
+        (
+            "{ .v = 0.5 }",
+            "0:{ 2:.[v] 5:= 7:Number/FractionLiteral 11:}",
+        ),
+        ("{ name =~ \"a)(b\" }", "0:{ 2:name 7:=~ 10:'a)(b' 17:}"),
+        (
+            "{ name = 1 } | by(.a) | count() > 2",
+            "0:{ 2:name 7:= 9:1 11:} 13:| 15:by 17:( 18:.[a] 20:) 22:| 24:count 29:( 30:) 32:> 34:2",
+        ),
+        (
+            "truefalse error|server",
+            "0:true 4:false 10:error 15:| 16:server",
+        ),
+    ];
+    for (text, wanted) in table {
+        let found = listed(&rt, text)?;
+        assert_eq!(&rt; found.as_str(), wanted, "{text}");
+    }
+    assert_eq!(&rt; TimeUnit::Millis.nanos(), 1_000_000);
+    one_reading();
+    printed_tokens();
+    Ok(())
+}

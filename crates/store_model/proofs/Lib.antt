@@ -1,0 +1,16 @@
+pub mod HistoryLaws
+pub mod RowSetLaws
+pub mod Outcomes
+pub mod KeepsFirsts
+pub mod Numbers
+pub mod Chosen
+pub mod Pins
+pub mod KeepsFiles
+pub mod KeepsNumbers
+pub mod KeepsJoining
+pub mod KeepsSound
+pub mod KeepsHolds
+pub mod TellsHistory
+pub mod KeepsSizes
+pub mod KeepsFloor
+pub mod FirstsExist

@@ -1,0 +1,12 @@
+pub mod History
+pub mod RowSets
+pub mod State
+pub mod Choice
+pub mod Cut
+pub mod After
+pub mod Event
+pub mod Step
+pub mod Holds
+pub mod Told
+pub mod Laws
+pub mod Sound

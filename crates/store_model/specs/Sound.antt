@@ -1,0 +1,54 @@
+-- Files, pins and jobs: each file has one use and is given out once, none that a pin names is emptied, and no two pins or jobs
+-- share a number.
+use Rattle.std.specs.Prelude.{◌≡◌, ℕ, ◌+◌, ◌<◌, ◌≤◌, ◌==◌, true, List, [], ◌∷◌, Some, if◌then◌else◌}
+use Rattle.store_model.specs.State.{State, Compaction, segment_files, block_files, flush_files, compaction_files, pinned_files, free_files, pin_numbers, flush_numbers, compaction_numbers, pinned_blocks, is_among}
+use Rattle.store_model.specs.Choice.{in_files}
+use Rattle.store_model.specs.After.{job_files}
+use Rattle.store_model.specs.Event.{Event}
+use Rattle.store_model.specs.Event.Event.{BeginFlush, BeginCompact, Reclaim}
+
+-- how often a list names the number
+abbrev pub times : ℕ → List ℕ → ℕ
+times n [] = 0
+times n (other ∷ numbers) = (if other == n then 1 else 0) + times n numbers
+
+-- how many uses the file has
+abbrev pub uses : ℕ → State → ℕ
+uses file u =
+    times file (segment_files u.segments) + times file (block_files u.blocks) + times file u.loose
+    + times file (flush_files u.flush) + times file (compaction_files u.compaction)
+
+pub record HasOwnFiles (u : State) : Type 0 where
+  -- files from the next one on were never given out
+  pub new : (file : ℕ) → u.next_file ≤ file → uses file u ≡ 0
+  pub once : (file : ℕ) → uses file u ≤ 1
+  -- a pinned file is a block's, or it is loose
+  pub pinned : (file : ℕ) → 1 ≤ times file (pinned_files u.pins)
+      → 1 ≤ times file (block_files u.blocks) + times file u.loose
+
+-- how many open jobs have the number
+abbrev pub jobs_with : ℕ → State → ℕ
+jobs_with n u = times n (flush_numbers u.flush) + times n (compaction_numbers u.compaction)
+
+pub record HasOwnNumbers (u : State) : Type 0 where
+  pub pins : (n : ℕ) → times n (pin_numbers u.pins) ≤ 1
+  pub jobs : (n : ℕ) → jobs_with n u ≤ 1
+  -- numbers above the count of jobs were never given out
+  pub new : (n : ℕ) → u.begun < n → jobs_with n u ≡ 0
+
+-- The blocks of a compaction's pin are the listed ones in its files.
+pub record IsJoining (job : Compaction) (u : State) : Type 0 where
+  pub is_open : is_among job.pin (pin_numbers u.pins) ≡ true
+  pub listed : in_files (job_files job u) u.blocks ≡ pinned_blocks job.pin u.pins
+
+pub record IsSound (u : State) : Type 0 where
+  pub files : HasOwnFiles u
+  pub numbers : HasOwnNumbers u
+  pub joining : (job : Compaction) → u.compaction ≡ Some job → IsJoining job u
+
+-- the files that an event may empty
+abbrev pub emptied : Event → State → List ℕ
+emptied BeginFlush u = u.next_file ∷ (u.next_file + 1) ∷ []
+emptied BeginCompact u = u.next_file ∷ []
+emptied Reclaim u = free_files u
+emptied _ u = []

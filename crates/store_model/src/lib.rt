@@ -1,0 +1,13 @@
+//! The store as a machine without a disk: its history, what it keeps beside it, and the steps of its events.
+//!
+//! Nothing here runs. The definitions stand in `specs/` (`Step` is the one to begin with), and each function here is a law about
+//! them: its contract is the law.
+#![tactic(auto)]
+
+mod laws;
+
+pub use laws::{
+    first_occurrences_exist, history_grows, look_is_the_history, one_order,
+    pinned_files_are_not_emptied, step_keeps_above_the_floor, step_keeps_counts, step_keeps_firsts,
+    step_keeps_sound, step_keeps_what_is_open, step_opens_what_it_gives, step_tells_the_history,
+};
