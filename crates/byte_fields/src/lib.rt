@@ -16,6 +16,3 @@ pub use error::FieldError;
 pub use laws::one_value;
 pub use reader::Reader;
 pub use writer::Writer;
-
-#[cfg(test)]
-mod tests;

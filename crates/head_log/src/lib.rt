@@ -17,6 +17,3 @@ pub use numbered::{Numbered, NumberedBatch};
 pub use prepared::Prepared;
 pub use read_back::{LogError, scan};
 pub use segment::{Segment, append, create};
-
-#[cfg(test)]
-mod tests;

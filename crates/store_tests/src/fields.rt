@@ -1,4 +1,6 @@
-use crate::{FieldError, Reader, Writer};
+//! Numbers and texts as bytes, worked out by hand.
+
+use byte_fields::{FieldError, Reader, Writer};
 use std::test::Fail;
 
 /// Numbers and their groups of seven bits, worked out by hand.

@@ -2,12 +2,11 @@
 
 ghost use Rattle.span_types.specs.Promises.{AreNames};
 
-use crate::{LogError, Numbered, Prepared, Segment, append, create, scan};
-use disk_model::{Disk, MemDisk};
-use span_runs::{same_resource, same_scope};
+use disk_model::{Device, MemDisk};
+use head_log::{LogError, Numbered, Prepared, Segment, append, create, scan};
 use span_types::{
-    Attr, AttrValue, Attrs, Batch, Calls, Memory, Resource, Scope, SharedResource, SharedScope,
-    Span, SpanId, SpanKind, Spans, StatusCode, Text, TraceId,
+    Attr, AttrValue, Attrs, Batch, Calls, Events, Links, Memory, Resource, Scope, SharedResource,
+    SharedScope, Span, SpanEvent, SpanId, SpanKind, SpanLink, Spans, StatusCode, Text, TraceId,
 };
 use std::alloc::Global;
 use std::process::Abort;
@@ -102,6 +101,8 @@ fn span(
         attrs: Attrs::none(alloc),
         resource: SharedResource::of(alloc, resource)?,
         scope: SharedScope::of(alloc, scope)?,
+        events: Events::none(alloc),
+        links: Links::none(alloc),
     })
 }
 
@@ -175,6 +176,8 @@ fn with_attributes(alloc: Global) -> Result<Span, Fail> {
         attrs: two_attrs(alloc, number, truth)?,
         resource: resource(alloc, -1)?,
         scope: scope(alloc, "", "")?,
+        events: Events::none(alloc),
+        links: Links::none(alloc),
     })
 }
 
@@ -193,6 +196,63 @@ fn with_parent(alloc: Global) -> Result<Span, Fail> {
         attrs: Attrs::none(alloc),
         resource: resource(alloc, 1)?,
         scope: scope(alloc, "c", "2")?,
+        events: Events::none(alloc),
+        links: Links::none(alloc),
+    })
+}
+
+/// The body of one span under the number 7, worked out by hand: it has an event `e` at time 5, and a link.
+const EXTENDED: [u8; 104] = [
+    // the number and the form 1, one run of the resource whose `r` is 1, and its one scope, of which nothing is said
+    7, 0, 0, 0, 0, 0, 0, 1, 1, 1, 1, b'r', 1, 2, 1, 0, 0, 0, // its one span
+    1, 9, 9, 9, 9, 9, 9, 9, 9, 9, 9, 9, 9, 9, 9, 9, 9, 1, 1, 1, 1, 1, 1, 1, 1, 0, 1, b'x', 2, 5, 0,
+    0, 0, 0, 0, 0, 0, 6, 0, 0, 0, 0, 0, 0, 0, 1, 0, 0, // its event
+    1, 5, 0, 0, 0, 0, 0, 0, 0, 1, b'e', 0, // and its link
+    1, 8, 8, 8, 8, 8, 8, 8, 8, 8, 8, 8, 8, 8, 8, 8, 8, 3, 3, 3, 3, 3, 3, 3, 3, 0,
+];
+
+/// The body of a span without events and links, which says that it has the form 1.
+const NOTHING_MORE: [u8; 68] = [
+    7, 0, 0, 0, 0, 0, 0, 1, 1, 1, 1, b'r', 1, 2, 1, 0, 0, 0, 1, 9, 9, 9, 9, 9, 9, 9, 9, 9, 9, 9, 9,
+    9, 9, 9, 9, 1, 1, 1, 1, 1, 1, 1, 1, 0, 1, b'x', 2, 5, 0, 0, 0, 0, 0, 0, 0, 6, 0, 0, 0, 0, 0, 0,
+    0, 1, 0, 0, 0, 0,
+];
+
+/// The span of `EXTENDED`, with its event, and with its link where that is said.
+fn extended(alloc: Global, linked: bool) -> Result<Batch, Fail> {
+    let mut events = Vec::new(alloc);
+    events.push(SpanEvent {
+        time: 5,
+        name: text(alloc, "e")?,
+        attrs: Attrs::none(alloc),
+    })?;
+    let mut links = Vec::new(alloc);
+    if linked {
+        links.push(SpanLink {
+            trace: TraceId([8; 16]),
+            span: SpanId([3; 8]),
+            attrs: Attrs::none(alloc),
+        })?;
+    }
+    let mut spans = Vec::new(alloc);
+    spans.push(Span {
+        trace: TRACE,
+        id: FIRST,
+        parent: None,
+        name: text(alloc, "x")?,
+        kind: SpanKind::Server,
+        start: 5,
+        end: 6,
+        status: StatusCode::Fine,
+        message: text(alloc, "")?,
+        attrs: Attrs::none(alloc),
+        resource: resource(alloc, 1)?,
+        scope: scope(alloc, "", "")?,
+        events: Events::of(events),
+        links: Links::of(links),
+    })?;
+    Ok(Batch {
+        spans: Spans::of(spans),
     })
 }
 
@@ -205,30 +265,29 @@ fn two_resources(alloc: Global) -> Result<Batch, Fail> {
     })
 }
 
-fn same_value(a: &AttrValue, b: &AttrValue) -> bool {
-    match (a, b) {
-        (AttrValue::Text(a), AttrValue::Text(b)) => a.as_str() == b.as_str(),
-        (AttrValue::Whole(a), AttrValue::Whole(b)) => a == b,
-        (AttrValue::Truth(a), AttrValue::Truth(b)) => a == b,
-        _ => false,
-    }
-}
-
-fn same_attrs(a: &Attrs, b: &Attrs) -> bool {
+fn same_events(a: &Events, b: &Events) -> bool {
     let mut pairs = a.as_slice().iter().zip(b.as_slice());
     a.len() == b.len()
-        && pairs.all(|(a, b)| a.key.as_str() == b.key.as_str() && same_value(&a.value, &b.value))
+        && pairs.all(|(a, b)| a.time == b.time && a.name == b.name && a.attrs == b.attrs)
+}
+
+fn same_links(a: &Links, b: &Links) -> bool {
+    let mut pairs = a.as_slice().iter().zip(b.as_slice());
+    a.len() == b.len()
+        && pairs.all(|(a, b)| (a.trace, a.span) == (b.trace, b.span) && a.attrs == b.attrs)
 }
 
 /// Whether two spans are equal in all their fields.
 fn same_span(a: &Span, b: &Span) -> bool {
     (a.trace, a.id, a.parent) == (b.trace, b.id, b.parent)
-        && a.name.as_str() == b.name.as_str()
+        && a.name == b.name
         && (a.kind, a.start, a.end, a.status) == (b.kind, b.start, b.end, b.status)
-        && a.message.as_str() == b.message.as_str()
-        && same_attrs(&a.attrs, &b.attrs)
-        && same_resource(a.resource.get(), b.resource.get())
-        && same_scope(a.scope.get(), b.scope.get())
+        && a.message == b.message
+        && a.attrs == b.attrs
+        && *a.resource.get() == *b.resource.get()
+        && *a.scope.get() == *b.scope.get()
+        && same_events(&a.events, &b.events)
+        && same_links(&a.links, &b.links)
 }
 
 fn same_batch(a: &Batch, b: &Batch) -> bool {
@@ -251,7 +310,7 @@ fn are_found(found: &Numbered, first: u64, batches: &[&Batch]) -> bool {
 /// The bytes of file 2.
 fn bytes_of_file(alloc: Global, disk: &mut MemDisk) -> Result<Vec<u8>, Fail> {
     let mut block = [0; 512];
-    let count = Disk::read(disk, 2, 0, &mut block)?;
+    let count = Device::read(disk, 2, 0, &mut block)?;
     let mut bytes = Vec::new(alloc);
     if count <= 512 {
         bytes.extend_from_slice(&block[..count])?;
@@ -284,8 +343,8 @@ fn append_next(disk: &mut MemDisk, segment: &mut Segment, entry: &Prepared) -> b
 /// A disk whose file 2 holds these bytes.
 fn holding(alloc: Global, bytes: &[u8]) -> Result<MemDisk, Fail> {
     let mut disk = MemDisk::empty(alloc);
-    Disk::write(&mut disk, 2, 0, bytes)?;
-    Disk::sync(&mut disk, 2)?;
+    Device::write(&mut disk, 2, 0, bytes)?;
+    Device::sync(&mut disk, 2)?;
     Ok(disk)
 }
 
@@ -352,6 +411,56 @@ fn runs_of_spans_both_ways(rt: HostRuntime) -> Result<(), Fail> {
     let alloc = rt.alloc();
     expect_both_ways(&rt, alloc, &two_spans(alloc)?, 129, &TWO_SPANS)?;
     expect_both_ways(&rt, alloc, &two_resources(alloc)?, 144, &TWO_RESOURCES)
+}
+
+#[test]
+fn events_and_links_both_ways(rt: HostRuntime) -> Result<(), Fail> {
+    let alloc = rt.alloc();
+    expect_both_ways(&rt, alloc, &extended(alloc, true)?, 104, &EXTENDED)?;
+    // Without the link the body ends with its count, which is 0.
+    let mut bytes = EXTENDED[..79].to_vec(alloc)?;
+    if let Some(count) = bytes.get_mut(78) {
+        *count = 0;
+    }
+    expect_both_ways(&rt, alloc, &extended(alloc, false)?, 79, bytes.as_slice())
+}
+
+#[test]
+fn extended_bodies_that_are_malformed(rt: HostRuntime) -> Result<(), Fail> {
+    let alloc = rt.alloc();
+    let segment = segment_of(alloc, 104, &EXTENDED)?;
+    assert_eq!(rt; outcome(alloc, segment.as_slice(), 7)?, Ok(1));
+    for (offset, count, byte, told) in [
+        // A form that there is not, and bits between the number and the form.
+        (17, 1, 2, Err(10)),
+        (17, 1, 255, Err(10)),
+        (14, 1, 1, Err(10)),
+        (16, 1, 1, Err(10)),
+        // The form 0: what follows the span's attributes is not read.
+        (17, 1, 0, Err(76)),
+        // An event more, in whose attributes stands no kind of value, and a name that is not UTF-8.
+        (76, 1, 2, Err(110)),
+        (86, 1, 0xff, Err(85)),
+        // A link whose trace is zeros, and one whose span is.
+        (89, 16, 0, Err(89)),
+        (105, 8, 0, Err(105)),
+        // No link, though there are bytes, and an attribute of it, though there are none.
+        (88, 1, 0, Err(89)),
+        (113, 1, 1, Err(114)),
+    ] {
+        let found = outcome_with(alloc, segment.as_slice(), offset, count, byte)?;
+        assert_eq!(rt; found, told, "at {offset}");
+    }
+    // The form 1 without event and link, also where bytes follow its last field, and where the file ends within it.
+    let mut segment = segment_of(alloc, 68, &NOTHING_MORE)?;
+    assert_eq!(rt; outcome(alloc, segment.as_slice(), 7)?, Err(10));
+    if let Some(length) = segment.get_mut(2) {
+        *length = 69;
+    }
+    assert_eq!(rt; outcome(alloc, segment.as_slice(), 7)?, Err(10));
+    let cut = outcome(alloc, &segment.as_slice()[..77], 7)?;
+    assert_eq!(rt; cut, Err(77));
+    Ok(())
 }
 
 /// Whether an image of a segment that was stopped while a second record was added may have so many records. The gate is
@@ -503,8 +612,11 @@ fn other_bit(place: u8) -> Result<usize, u64> {
         3..=9 => Err(139),
         141..=147 => Err(157),
         // Not the next number.
-        10..=17 => Err(10),
-        148..=155 => Err(148),
+        10..=16 => Err(10),
+        148..=154 => Err(148),
+        // The form 1: what follows the first span is an event, in whose attributes a key stands again; no span is extended.
+        17 => Err(115),
+        155 => Err(148),
         // No run, though there are bytes; a run more, though there are none.
         18 => Err(19),
         26 => Err(139),

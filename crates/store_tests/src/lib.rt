@@ -1,0 +1,7 @@
+//! Tests of the crates that keep the store's bytes, by their public calls alone.
+#![tactic(auto)]
+
+#[cfg(test)]
+mod fields;
+#[cfg(test)]
+mod log;
