@@ -10,7 +10,7 @@ use Rattle.head_log.specs.declared.numbered.NumberedBatch.{NumberedBatch}
 use Rattle.span_fields.specs.Breaks.{in_part}
 use Rattle.head_log.specs.Bodies.{body_bytes}
 use Rattle.head_log.specs.Records.{record_bytes, written, IsShort}
-use Rattle.head_log.specs.Stands.{IsBody, AreBodies, StandsFor}
+use Rattle.head_log.specs.Stands.{IsBatchBody, AreBatchBodies, SegmentHolds}
 use Rattle.head_log.specs.Scanning.{body_in, record_at, numbered, more_at, records_at, segment_at}
 use Rattle.head_log.specs.Entries.{entries}
 use Rattle.span_fields.specs.Sound.{IsAny, IsBelow64}
@@ -29,7 +29,7 @@ part_within bytes start len fit room = record {
   no_further = omega (arith, length-take (start + len) bytes);
 }
 
-body_in_again : (number : ℕ) (spans : List Span) (body : List ℕ) (t : Stand) (rest : List ℕ) → IsWithin t.whole t.at → IsBody number spans body → left t ≡ body ++ rest
+body_in_again : (number : ℕ) (spans : List Span) (body : List ℕ) (t : Stand) (rest : List ℕ) → IsWithin t.whole t.at → IsBatchBody number spans body → left t ≡ body ++ rest
     → body_in number t.whole t.at (length body) ≡ read_to spans (ahead (length body) t)
 unfolding body_in
 body_in_again number spans body t rest is of e =
@@ -45,7 +45,7 @@ body_in_again number spans body t rest is of e =
     let end : eqb (t.at + length (body_bytes number spans)) (t.at + len) ≡ true = eq-eqb _ _ (omega arith) in
     rw (inside, read, end) refl
 
-record_again : (number : ℕ) (spans : List Span) (body : List ℕ) (s : Stand) → IsWithin s.whole s.at → (rest : List ℕ) → IsBody number spans body → IsShort body
+record_again : (number : ℕ) (spans : List Span) (body : List ℕ) (s : Stand) → IsWithin s.whole s.at → (rest : List ℕ) → IsBatchBody number spans body → IsShort body
     → left s ≡ (fixed64_bytes (length body) ++ body) ++ rest → record_at number s ≡ read_to spans (ahead (length (fixed64_bytes (length body) ++ body)) s)
 unfolding record_at
 record_again number spans body s is rest of short e =
@@ -53,7 +53,7 @@ record_again number spans body s is rest of short e =
 
 -- ---- records
 
-after_gate : (most number : ℕ) (before : List NumberedBatch) (spans : List Span) (body more : List ℕ) (s : Stand) → IsWithin s.whole s.at → (rest : List ℕ) (y : List NumberedBatch) → IsBody number spans body → IsShort body
+after_gate : (most number : ℕ) (before : List NumberedBatch) (spans : List Span) (body more : List ℕ) (s : Stand) → IsWithin s.whole s.at → (rest : List ℕ) (y : List NumberedBatch) → IsBatchBody number spans body → IsShort body
     → left s ≡ (record_bytes body ++ more) ++ rest
     → ((t : Stand) → IsWithin t.whole t.at → left t ≡ more ++ rest → records_at most (number + 1) (before ++ numbered number spans ∷ []) t ≡ read_to y (ahead (length more) t))
     → records_at (suc most) number before s ≡ read_to y (ahead (length (record_bytes body ++ more)) s)
@@ -66,7 +66,7 @@ after_gate most number before spans body more s is rest y of short e next =
     t u spans more rest y refl f next)
 
 records_again : (bodies : List (List ℕ)) (batches : List (List Span)) (most number : ℕ) (before : List NumberedBatch) (s : Stand) → IsWithin s.whole s.at → (shut : ℕ) (rest : List ℕ)
-    → AreBodies number batches bodies → AllByRecursion IsShort bodies → (shut ≡ 1 → ⊥) → length bodies < most → left s ≡ flat_map record_bytes bodies ++ shut ∷ rest
+    → AreBatchBodies number batches bodies → AllByRecursion IsShort bodies → (shut ≡ 1 → ⊥) → length bodies < most → left s ≡ flat_map record_bytes bodies ++ shut ∷ rest
     → records_at most number before s ≡ read_to (before ++ entries number batches) (ahead (length (flat_map record_bytes bodies)) s)
 unfolding records_at
 records_again bodies batches zero number before s is shut rest are short closed few e = absurd (omega arith)
@@ -87,7 +87,7 @@ unfolding record_bytes
 each_long [] = omega arith
 each_long (body ∷ bodies) = omega (arith, each_long bodies, length-append (record_bytes body) (flat_map record_bytes bodies))
 
-pub segment_again : (first : ℕ) (batches : List (List Span)) (gate : ℕ) (bytes : List ℕ) → AreBytes bytes → StandsFor first batches gate bytes
+pub segment_again : (first : ℕ) (batches : List (List Span)) (gate : ℕ) (bytes : List ℕ) → AreBytes bytes → SegmentHolds first batches gate bytes
     → segment_at first bytes ≡ read_to (entries first batches) (record { whole = bytes; at = gate })
 unfolding segment_at
 segment_again first batches gate bytes fit stands =
@@ -114,10 +114,10 @@ WasRead (Ok x) = Unit {0}
 WasRead (Err place) = ⊥
 
 pub recalled : (first : ℕ) (bytes all : List ℕ) → AreBytes bytes → bytes ≡ all → (items : List NumberedBatch) (at : ℕ) → segment_at first bytes ≡ read_to items (record { whole = bytes; at = at })
-    → (batches : List (List Span)) (gate : ℕ) → StandsFor first batches gate all → (items ≡ entries first batches) × (at ≡ gate)
+    → (batches : List (List Span)) (gate : ℕ) → SegmentHolds first batches gate all → (items ≡ entries first batches) × (at ≡ gate)
 unfolding shown
 recalled first bytes all fit same items at read batches gate stands =
-    let is : StandsFor first batches gate bytes = subst (StandsFor first batches gate) (sym same) stands in
+    let is : SegmentHolds first batches gate bytes = subst (SegmentHolds first batches gate) (sym same) stands in
     let one = sym read ∙ segment_again first batches gate bytes fit is in
     let end : Stand = record { whole = bytes; at = at } in
     let other : List NumberedBatch × Stand = (items, end) in (
@@ -126,8 +126,8 @@ recalled first bytes all fit same items at read batches gate stands =
     )
 
 pub never_broken : (first : ℕ) (bytes all : List ℕ) → AreBytes bytes → bytes ≡ all → (place : ℕ) → segment_at first bytes ≡ Err place
-    → (batches : List (List Span)) (gate : ℕ) → StandsFor first batches gate all → ⊥
+    → (batches : List (List Span)) (gate : ℕ) → SegmentHolds first batches gate all → ⊥
 unfolding WasRead
 never_broken first bytes all fit same place read batches gate stands =
-    let is : StandsFor first batches gate bytes = subst (StandsFor first batches gate) (sym same) stands in
+    let is : SegmentHolds first batches gate bytes = subst (SegmentHolds first batches gate) (sym same) stands in
     subst WasRead (sym (segment_again first batches gate bytes fit is) ∙ read) tt

@@ -226,7 +226,7 @@ spans_again part spans s is rest sound few e =
     let here = subst (λ (l : List Span). AllByRecursion (IsSoundIn part.extended) l) (sym same) sound in
     let size : length (all_of rs) ≡ length spans = ap length same in
     let good = good_runs same_resource (λ s. s.resource) IsSoundResource (ResourceContent part.extended) (IsSoundIn part.extended) resource_decides (λ s p. p.0.resource) (resource_content part.extended)
-        rs false [] (AreRuns-runs of_one_resource spans) here (omega arith) (begin same_resource (λ s. s.resource) [] rs) in
+    rs false [] (AreRuns-runs of_one_resource spans) here (omega arith) (begin same_resource (λ s. s.resource) [] rs) in
     seq (in_part part.within var_at) var_bytes IsBelow64 _ (again_var part.within) s is (length rs) (flat_map bytes rs) rest spans (omega (arith, runs_len of_one_resource spans)) e
     (λ t u f. runs_again (GoodResource part.extended) read bytes
     (run_again same_resource (λ s. s.resource) IsSoundResource (ResourceContent part.extended) (resource_at part.within) resource_bytes (scopes_at part) (scopes_bytes part.extended) (again_resource part.within) (scopes_again part))

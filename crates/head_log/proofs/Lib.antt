@@ -11,3 +11,4 @@ pub mod MeantSpan
 pub mod MeantRuns
 pub mod MeantRecords
 pub mod Promised
+pub mod EntryLemmas

@@ -15,7 +15,7 @@ use Rattle.span_fields.specs.Laws.{Took}
 use Rattle.head_log.specs.Bodies.{body_bytes}
 use Rattle.head_log.specs.Records.{record_bytes, written, IsShort}
 use Rattle.head_log.specs.Sound.{IsSoundBatch}
-use Rattle.head_log.specs.Stands.{IsBody, AreBodies, StandsFor}
+use Rattle.head_log.specs.Stands.{IsBatchBody, AreBatchBodies, SegmentHolds}
 use Rattle.head_log.specs.Scanning.{body_at, body_in, record_at, numbered, more_at, records_at, segment_at}
 use Rattle.head_log.specs.Entries.{entries}
 use Rattle.head_log.proofs.AgainRecords.{part_within}
@@ -30,7 +30,7 @@ no_more (x ∷ b) none = absurd (omega arith)
 
 record BodyMeans (number len : ℕ) (s : Stand) (spans : List Span) (t : Stand) : Type 0 where
   body : List ℕ
-  of : IsBody number spans body
+  of : IsBatchBody number spans body
   size : length body ≡ len
   bytes : Took body s t
 
@@ -72,7 +72,7 @@ body_in_means number len s is spans t e =
 
 record RecordMeans (number : ℕ) (s : Stand) (spans : List Span) (t : Stand) : Type 0 where
   body : List ℕ
-  of : IsBody number spans body
+  of : IsBatchBody number spans body
   short : IsShort body
   bytes : Took (fixed64_bytes (length body) ++ body) s t
 
@@ -91,7 +91,7 @@ record RecordsMean (number : ℕ) (before : List NumberedBatch) (s : Stand) (all
   batches : List (List Span)
   bodies : List (List ℕ)
   is : all ≡ before ++ entries number batches
-  numbered_so : AreBodies number batches bodies
+  numbered_so : AreBatchBodies number batches bodies
   short : AllByRecursion IsShort bodies
   bytes : Took (flat_map record_bytes bodies) s t
   shut : ℕ
@@ -144,7 +144,7 @@ records_mean (suc most) number before s is all t e =
     ]
 
 pub segment_means : (first : ℕ) (bytes : List ℕ) (found : List NumberedBatch) (end : Stand) → AreBytes bytes → segment_at first bytes ≡ Ok (found, end)
-    → (batches : List (List Span)) × (found ≡ entries first batches) × StandsFor first batches end.at bytes
+    → (batches : List (List Span)) × (found ≡ entries first batches) × SegmentHolds first batches end.at bytes
 unfolding segment_at
 segment_means first bytes found end fit e =
     let s : Stand = record { whole = bytes; at = 0 } in
@@ -177,7 +177,7 @@ pub record_few : (number : ℕ) (s : Stand) → IsWithin s.whole s.at → (spans
 record_few number s is spans t e = (record_means number s is spans t e).of.sound.few
 
 -- the numbers of batches that are read are below the limit
-numbers_below : (first : ℕ) (batches : List (List Span)) (bodies : List (List ℕ)) → AreBodies first batches bodies → AllByRecursion (λ (e : NumberedBatch). e.number < 4294967295) (entries first batches)
+numbers_below : (first : ℕ) (batches : List (List Span)) (bodies : List (List ℕ)) → AreBatchBodies first batches bodies → AllByRecursion (λ (e : NumberedBatch). e.number < 4294967295) (entries first batches)
 numbers_below first [] bodies are = tt
 numbers_below first (spans ∷ batches) [] are = absurd are
 numbers_below first (spans ∷ batches) (body ∷ bodies) are = (are.0.sound.below, numbers_below (first + 1) batches bodies are.1)

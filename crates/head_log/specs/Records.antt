@@ -34,5 +34,5 @@ unfoldable pub framed : List ℕ → List ℕ
 framed body = fixed64_bytes (length body) ++ body ++ 0 ∷ []
 
 -- a record was added or wasn't, and those before it are there
-abbrev pub IsEarlierOrWith : List (List ℕ) → List ℕ → List ℕ → Type 0
-IsEarlierOrWith bodies body bytes = IsSegment bodies bytes ⊎ IsSegment (bodies ++ body ∷ []) bytes
+abbrev pub SegmentIsEither : List (List ℕ) → List ℕ → List ℕ → Type 0
+SegmentIsEither bodies body bytes = IsSegment bodies bytes ⊎ IsSegment (bodies ++ body ∷ []) bytes

@@ -57,12 +57,7 @@ fn form(number: u64, first: u64) -> Option<bool>
 
 /// The spans of a body that begins at `start`. An extended one has an event or a link.
 #[tactic(auto, unfolding(crate::specs::Scanning::all_spans_at))]
-fn all_spans(
-    alloc: Global,
-    reader: &mut Reader,
-    part: Part,
-    start: u64,
-) -> Result<Vec<Span>, Break>
+fn all_spans(alloc: Global, reader: &mut Reader, part: Part, start: u64) -> Result<Vec<Span>, Break>
     ensures { Gives (λ x. x.items) result reader.new (all_spans_at start part reader.old) }
 {
     let spans = spans(alloc, reader, part)?;

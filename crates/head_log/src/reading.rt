@@ -5,9 +5,7 @@ ghost use Rattle.span_fields.specs.Breaks.{Gives};
 ghost use Rattle.head_log.specs.Scanning.{extras_at, some_extras_at, span_at};
 
 use byte_fields::Reader;
-use span_fields::{
-    Break, attrs, fixed64, kind, list, parent, span_id, status, text, trace_id,
-};
+use span_fields::{Break, attrs, fixed64, kind, list, parent, span_id, status, text, trace_id};
 use span_types::{Events, Links, SharedResource, SharedScope, Span, TryCopy};
 use std::alloc::Global;
 
@@ -74,11 +72,7 @@ fn extras(alloc: Global, reader: &mut Reader, part: Part) -> Result<(Events, Lin
 }
 
 #[tactic(auto, unfolding(crate::specs::Scanning::some_extras_at))]
-fn some_extras(
-    alloc: Global,
-    reader: &mut Reader,
-    within: bool,
-) -> Result<(Events, Links), Break>
+fn some_extras(alloc: Global, reader: &mut Reader, within: bool) -> Result<(Events, Links), Break>
     ensures { Gives (λ x. x) result reader.new (some_extras_at within reader.old) }
 {
     let events = list(alloc, reader, within)?;

@@ -43,7 +43,11 @@ fn is_extended(span: &Span) -> bool
 fn first_field(extended: bool, number: u64) -> u64
     ensures { result ≡ first_field extended number }
 {
-    if extended { number % EXTENDED + EXTENDED } else { number }
+    if extended {
+        number % EXTENDED + EXTENDED
+    } else {
+        number
+    }
 }
 
 /// Adds spans after their count.

@@ -1,6 +1,6 @@
 use Rattle.std.proofs.Common.{◌∙◌, ◌<◌, All, List, sym, subst, arith}
 use Rattle.head_log.specs.declared.numbered.NumberedBatch.{NumberedBatch}
-use Rattle.head_log.specs.Stands.{StandsFor}
+use Rattle.head_log.specs.Stands.{SegmentHolds}
 use Rattle.head_log.proofs.AgainRecords.{recalled, never_broken}
 use Rattle.head_log.proofs.MeantRecords.{found_below, segment_means}
 use Rattle.head_log.proofs.read_back.scan.Goals as goal
@@ -28,7 +28,7 @@ pub returns-in-Ok-read_segment-clause-stands : goal.returns-in-Ok-read_segment-c
 returns-in-Ok-read_segment-clause-stands g c = λ told.
     let e = c.in-Ok-read_segment.ensures in
     let m = segment_means c.args.first _ _ _ e.fit e.reads in
-    (m.0, c.of.ensures ∙ m.1, subst (StandsFor c.args.first m.0 c.in-Ok-read_segment.gate) (c.as_slice.ensures.value ∙ c.in-Ok.ensures.bytes told) m.2)
+    (m.0, c.of.ensures ∙ m.1, subst (SegmentHolds c.args.first m.0 c.in-Ok-read_segment.gate) (c.as_slice.ensures.value ∙ c.in-Ok.ensures.bytes told) m.2)
 
 pub returns-in-Ok-read_segment-clause-numbered : goal.returns-in-Ok-read_segment-clause-numbered
 returns-in-Ok-read_segment-clause-numbered g c =

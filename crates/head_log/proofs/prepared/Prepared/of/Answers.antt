@@ -5,7 +5,7 @@ use Rattle.byte_fields.specs.Spelling.{fixed64_bytes}
 use Rattle.head_log.specs.Bodies.{are_extended, body_bytes}
 use Rattle.head_log.specs.Framing.{body_of}
 use Rattle.head_log.specs.Records.{framed}
-use Rattle.head_log.specs.Stands.{IsBody}
+use Rattle.head_log.specs.Stands.{IsBatchBody}
 use Rattle.head_log.specs.Written.{AreSoundResources}
 use Rattle.head_log.proofs.FramingLemmas.{is_framed, body_is, IsFramed-of}
 use Rattle.head_log.proofs.Promised.{spans_sound}
@@ -33,7 +33,7 @@ returns-clause-spelled c =
 pub returns-clause-body : goal.returns-clause-body
 returns-clause-body c = λ below.
     let runs_are = subst (λ (l : List Span). AreSoundResources (are_extended l) l) c.as_slice.ensures c.in_ok-put_body.ensures.sound in
-    subst (λ (b : Batch). IsBody c.args.number b.spans (body_of c.set_length.new.text.items)) c.batch.view_is
+    subst (λ (b : Batch). IsBatchBody c.args.number b.spans (body_of c.set_length.new.text.items)) c.batch.view_is
     (record {
       spelled = body_is _ c.set_length.new.text.items (made c);
       sound = record { below = below; few = c.batch.invariant; each = spans_sound c.batch.inside.spans runs_are };
