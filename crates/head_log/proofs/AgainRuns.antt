@@ -13,7 +13,7 @@ use Rattle.span_types.specs.EqualLaws.{resource_decides, scope_decides}
 use Rattle.span_runs.specs.Runs.{in_front, runs, of_one, of_one_resource, of_one_scope}
 use Rattle.span_runs.proofs.RunLaws.{run_items, all_of, all_of-runs, AreLinked, AreRuns, AreRuns-runs, origins_equal}
 use Rattle.byte_fields.specs.Spelling.{fixed64_bytes, var_bytes}
-use Rattle.byte_fields.specs.Reading.{Stand, left, IsWithin, ahead, fixed64_at, var_at}
+use Rattle.byte_fields.specs.Reading.{Stand, left, ahead, fixed64_at, var_at}
 use Rattle.span_fields.specs.Breaks.{in_part}
 use Rattle.span_fields.specs.Encodings.{list_bytes, resource_bytes, scope_bytes}
 use Rattle.span_fields.specs.Sound.{IsBelow64, IsSoundResource, IsSoundScope}
@@ -38,8 +38,8 @@ AllGood Good later before [] = Unit {0}
 AllGood Good later before (r ∷ rs) = Good later before r × AllGood Good true (before ++ run_items r) rs
 
 runs_again : (Good : Bool → List Span → Span × List Span → Type 0) (read : Bool → List Span → Stand → Result (List Span × Stand) ℕ) (spell : Span × List Span → List ℕ)
-    → ((later : Bool) (before : List Span) (run : Span × List Span) (s : Stand) → IsWithin s.whole s.at → (rest : List ℕ) → Good later before run → left s ≡ spell run ++ rest → read later before s ≡ read_to (before ++ run_items run) (ahead (length (spell run)) s))
-    → (rs : List (Span × List Span)) (later : Bool) (before : List Span) (s : Stand) → IsWithin s.whole s.at → (rest : List ℕ) → AllGood Good later before rs → left s ≡ flat_map spell rs ++ rest
+    → ((later : Bool) (before : List Span) (run : Span × List Span) (s : Stand) → s.at ≤ length s.whole → (rest : List ℕ) → Good later before run → left s ≡ spell run ++ rest → read later before s ≡ read_to (before ++ run_items run) (ahead (length (spell run)) s))
+    → (rs : List (Span × List Span)) (later : Bool) (before : List Span) (s : Stand) → s.at ≤ length s.whole → (rest : List ℕ) → AllGood Good later before rs → left s ≡ flat_map spell rs ++ rest
     → runs_at read (length rs) later before s ≡ read_to (before ++ all_of rs) (ahead (length (flat_map spell rs)) s)
 unfolding runs_at
 runs_again Good read spell step [] later before s is rest good e =
@@ -61,13 +61,13 @@ pub record GoodRun {O : Type 0} (same : O → O → Bool) (of : Span → O) (IsS
 
 -- what the spans of one origin are encoded as is read, after these spans
 abbrev ContentAgain : {O : Type 0} → (O → List Span → Stand → Result (List Span × Stand) ℕ) → (List Span → List ℕ) → (O → List Span → List Span → Type 0) → Type 0
-ContentAgain {O} read encode Content = (o : O) (before spans : List Span) (s : Stand) → IsWithin s.whole s.at → (rest : List ℕ) → Content o before spans
+ContentAgain {O} read encode Content = (o : O) (before spans : List Span) (s : Stand) → s.at ≤ length s.whole → (rest : List ℕ) → Content o before spans
     → left s ≡ encode spans ++ rest → read o before s ≡ read_to (before ++ spans) (ahead (length (encode spans)) s)
 
 run_again : {O : Type 0} (same : O → O → Bool) (of : Span → O) (IsSound : O → Type 0) (Content : O → List Span → List Span → Type 0)
     (origin_at : Stand → Result (O × Stand) ℕ) (origin_bytes : O → List ℕ) (content_at : O → List Span → Stand → Result (List Span × Stand) ℕ) (content_bytes : List Span → List ℕ)
     → EncodedIsRead origin_at origin_bytes IsSound → ContentAgain content_at content_bytes Content
-    → (later : Bool) (before : List Span) (run : Span × List Span) (s : Stand) → IsWithin s.whole s.at → (rest : List ℕ) → GoodRun same of IsSound Content later before run
+    → (later : Bool) (before : List Span) (run : Span × List Span) (s : Stand) → s.at ≤ length s.whole → (rest : List ℕ) → GoodRun same of IsSound Content later before run
     → left s ≡ run_bytes of origin_bytes content_bytes run ++ rest
     → run_at same of origin_at content_at later before s ≡ read_to (before ++ run_items run) (ahead (length (run_bytes of origin_bytes content_bytes run)) s)
 unfolding run_at
@@ -215,7 +215,7 @@ resource_content extended before x xs all few =
 abbrev GoodResource : Bool → Bool → List Span → Span × List Span → Type 0
 GoodResource extended = GoodRun same_resource (λ s. s.resource) IsSoundResource (ResourceContent extended)
 
-spans_again : (part : Part) (spans : List Span) (s : Stand) → IsWithin s.whole s.at → (rest : List ℕ) → AllByRecursion (IsSoundIn part.extended) spans → length spans ≤ MOST_SPANS
+spans_again : (part : Part) (spans : List Span) (s : Stand) → s.at ≤ length s.whole → (rest : List ℕ) → AllByRecursion (IsSoundIn part.extended) spans → length spans ≤ MOST_SPANS
     → left s ≡ spans_bytes part.extended spans ++ rest → spans_at part s ≡ read_to spans (ahead (length (spans_bytes part.extended spans)) s)
 unfolding spans_at list_bytes
 spans_again part spans s is rest sound few e =
@@ -253,7 +253,7 @@ forms (x ∷ xs) false is =
     let parts = or_false (is_extended x) (list_any is_extended xs) is in
     (keeps_form x parts.0, forms xs false parts.1)
 
-all_spans_again : (part : Part) (spans : List Span) (start : ℕ) (s : Stand) → IsWithin s.whole s.at → (rest : List ℕ) → AllByRecursion IsSoundSpan spans → length spans ≤ MOST_SPANS
+all_spans_again : (part : Part) (spans : List Span) (start : ℕ) (s : Stand) → s.at ≤ length s.whole → (rest : List ℕ) → AllByRecursion IsSoundSpan spans → length spans ≤ MOST_SPANS
     → are_extended spans ≡ part.extended → left s ≡ spans_bytes part.extended spans ++ rest
     → all_spans_at start part s ≡ read_to spans (ahead (length (spans_bytes part.extended spans)) s)
 unfolding all_spans_at are_extended
@@ -279,7 +279,7 @@ field_below : (extended : Bool) (number : ℕ) → number < 4294967295 → first
 field_below true number below = omega arith
 field_below false number below = omega arith
 
-pub body_again : (within : Bool) (number : ℕ) (spans : List Span) (s : Stand) → IsWithin s.whole s.at → (rest : List ℕ) → IsSoundBatch number spans
+pub body_again : (within : Bool) (number : ℕ) (spans : List Span) (s : Stand) → s.at ≤ length s.whole → (rest : List ℕ) → IsSoundBatch number spans
     → left s ≡ body_bytes number spans ++ rest → body_at within number s ≡ read_to spans (ahead (length (body_bytes number spans)) s)
 unfolding body_at body_bytes
 body_again within number spans s is rest sound e =

@@ -1,8 +1,8 @@
 -- What a segment is read as is what it stands for.
 use Rattle.std.proofs.Common.{◌≡◌, ◌≢◌, inl, inr, ℕ, zero, suc, ◌+◌, ◌-◌, ◌<◌, ◌≤◌, All, Bool, true, false, ◌&&◌, cond, eqb, leb, List, [], ◌∷◌, ◌++◌, length, take, drop, Ok, Err, append_assoc, refl, sym, ap, subst, ◌∙◌, arith}
 use Rattle.std.specs.List.{flat_map, AllByRecursion}
-use Rattle.std.proofs.lemmas.Bool.{and_parts, eqb-true, eqb-false, leb-true}
-use Rattle.std.proofs.lemmas.List.{append-nil, length-append, length-drop, length-take, drop-take, take-append-drop}
+use Rattle.std.proofs.lemmas.Bool.{and_parts, cases_lt, eqb-true, eqb-false, leb-true}
+use Rattle.std.proofs.lemmas.List.{append-nil, length-append, length-drop, length-take, drop-take, take-append-drop, get_or-take, get_or_past}
 use Rattle.std.proofs.lemmas.List.Elements.{All-from_recursion}
 use Rattle.span_types.specs.declared.limits.TheConstants.{MOST_SPANS}
 use Rattle.span_types.specs.declared.spans.Span.{Span}
@@ -18,11 +18,19 @@ use Rattle.head_log.specs.Sound.{IsSoundBatch}
 use Rattle.head_log.specs.Stands.{IsBatchBody, AreBatchBodies, SegmentHolds}
 use Rattle.head_log.specs.Scanning.{body_at, body_in, record_at, numbered, more_at, records_at, segment_at}
 use Rattle.head_log.specs.Entries.{entries}
-use Rattle.head_log.proofs.AgainRecords.{part_within}
 use Rattle.span_fields.proofs.Meant.{bound, same_pair, kept_then, chosen, took, took_none, took_then, meant_byte, meant_fixed64}
 use Rattle.head_log.proofs.MeantRuns.{meant_body}
 
 -- ---- a body in its part of the file
+
+part_within : (bytes : List ℕ) (start len : ℕ) → AreBytes bytes → start + len ≤ length bytes → IsWithin (take (start + len) bytes) start
+part_within bytes start len fit room = record {
+  bytes_fit = λ i. elim (cases_lt i (start + len)) [
+    | inl lt ↦ rw (get_or-take (start + len) bytes i 0 lt) (fit i)
+    | inr le ↦ rw (get_or_past (take (start + len) bytes) i 0 (omega (arith, length-take (start + len) bytes))) (omega arith)
+  ];
+  no_further = omega (arith, length-take (start + len) bytes);
+}
 
 no_more : (b : List ℕ) → length b ≡ 0 → b ≡ []
 no_more [] none = refl

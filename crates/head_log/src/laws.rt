@@ -10,8 +10,14 @@ ghost use Rattle.head_log.specs.Stands.{SegmentHolds};
 
 /// What the bytes of a segment stand for is what reading gives. So they stand for one list of batches.
 pub fn encoded_is_read()
-    ensures { (first gate : ℕ) (batches : List (List Span)) (bytes : List ℕ) → AreBytes bytes → SegmentHolds first batches gate bytes
+    ensures { (first gate : ℕ) (batches : List (List Span)) (bytes : List ℕ) → SegmentHolds first batches gate bytes
         → segment_at first bytes ≡ Ok (entries first batches, record { whole = bytes; at = gate }) }
+{}
+
+/// The bytes of a segment stand for one list of batches at most.
+pub fn one_meaning()
+    ensures { (first gate other : ℕ) (batches others : List (List Span)) (bytes : List ℕ) → SegmentHolds first batches gate bytes
+        → SegmentHolds first others other bytes → (batches ≡ others) × (gate ≡ other) }
 {}
 
 /// What is read of bytes is what they stand for: bytes that are accepted are such as `append` leaves.

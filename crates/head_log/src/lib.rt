@@ -12,7 +12,7 @@ mod records;
 mod segment;
 mod writing;
 
-pub use laws::{encoded_is_read, entries_of_lists, read_is_encoded};
+pub use laws::{encoded_is_read, entries_of_lists, one_meaning, read_is_encoded};
 pub use numbered::{Numbered, NumberedBatch};
 pub use prepared::Prepared;
 pub use read_back::{LogError, scan};

@@ -1,5 +1,5 @@
 -- What is encoded somewhere is read there.
-use Rattle.std.proofs.Common.{◌≡◌, ℕ, ◌+◌, ◌-◌, ◌^◌, ◌<◌, Bool, true, false, cond, List, [], ◌∷◌, ◌++◌, length, Option, Some, None, Result, Ok, append_assoc, refl, sym, ap, subst, ◌∙◌, arith}
+use Rattle.std.proofs.Common.{◌≡◌, ℕ, ◌+◌, ◌-◌, ◌^◌, ◌<◌, ◌≤◌, Bool, true, false, cond, List, [], ◌∷◌, ◌++◌, length, Option, Some, None, Result, Ok, append_assoc, refl, sym, ap, subst, ◌∙◌, arith}
 use Rattle.std.specs.Prelude.{FitsSigned}
 use Rattle.std.specs.Int.{w64}
 use Rattle.std.specs.List.{flat_map, AllByRecursion}
@@ -13,7 +13,7 @@ use Rattle.span_types.specs.declared.spans.StatusCode.TheVariants as codes
 use Rattle.span_types.specs.Numbers.{kind_number, kind_numbered, code_number, code_numbered}
 use Rattle.span_types.specs.Promises.{has_key, AreDistinctAfter}
 use Rattle.byte_fields.specs.Spelling.{fixed64_bytes, var_bytes, zigzag_bytes, text_bytes}
-use Rattle.byte_fields.specs.Reading.{Stand, left, IsWithin, ahead, ◌>>=◌, raw_at, byte_at, fixed64_at, var_at, zigzag_at, text_at}
+use Rattle.byte_fields.specs.Reading.{Stand, left, ahead, ◌>>=◌, raw_at, byte_at, fixed64_at, var_at, zigzag_at, text_at}
 use Rattle.byte_fields.proofs.FieldLaws.{left-ahead, raw_again, byte_again, fixed64_again, var_again, zigzag_again}
 use Rattle.byte_fields.proofs.Texts.{text_at-text}
 use Rattle.span_fields.specs.Breaks.{in_part}
@@ -23,11 +23,10 @@ use Rattle.span_fields.specs.Decodings.{or_break, truth_at, text_value_at, whole
 use Rattle.span_fields.specs.Laws.{read_to, EncodedIsRead}
 
 -- after a field
-pub within_ahead : (s : Stand) (field rest : List ℕ) → IsWithin s.whole s.at → left s ≡ field ++ rest → IsWithin s.whole (s.at + length field)
-within_ahead s field rest within e = record {
-  bytes_fit = within.bytes_fit;
-  no_further = (let h : length s.whole - s.at ≡ length field + length rest = sym (length-drop s.at s.whole) ∙ ap length e ∙ length-append field rest in omega (arith, within.no_further));
-}
+pub within_ahead : (s : Stand) (field rest : List ℕ) → s.at ≤ length s.whole → left s ≡ field ++ rest → s.at + length field ≤ length s.whole
+within_ahead s field rest within e =
+    let h : length s.whole - s.at ≡ length field + length rest = sym (length-drop s.at s.whole) ∙ ap length e ∙ length-append field rest in
+    omega arith
 
 ahead_twice : (s : Stand) (a b : List ℕ) → ahead (length b) (ahead (length a) s) ≡ ahead (length (a ++ b)) s
 ahead_twice s a b =
@@ -36,8 +35,8 @@ ahead_twice s a b =
 
 -- one field, and what is read after it
 pub seq : {A B : Type 0} (read : Stand → Result (A × Stand) ℕ) (encode : A → List ℕ) (Fits : A → Type 0) (k : A × Stand → Result (B × Stand) ℕ)
-    → EncodedIsRead read encode Fits → (s : Stand) → IsWithin s.whole s.at → (x : A) (b rest : List ℕ) (y : B) → Fits x → left s ≡ (encode x ++ b) ++ rest
-    → ((t : Stand) → IsWithin t.whole t.at → left t ≡ b ++ rest → k (x, t) ≡ read_to y (ahead (length b) t))
+    → EncodedIsRead read encode Fits → (s : Stand) → s.at ≤ length s.whole → (x : A) (b rest : List ℕ) (y : B) → Fits x → left s ≡ (encode x ++ b) ++ rest
+    → ((t : Stand) → t.at ≤ length t.whole → left t ≡ b ++ rest → k (x, t) ≡ read_to y (ahead (length b) t))
     → (read s >>= k) ≡ read_to y (ahead (length (encode x ++ b)) s)
 seq {A} {B} read encode Fits k again s within x b rest y fits e next =
     let grouped : left s ≡ encode x ++ (b ++ rest) = e ∙ append_assoc (encode x) b rest in
@@ -48,7 +47,7 @@ seq {A} {B} read encode Fits k again s within x b rest y fits e next =
 
 -- the last field
 pub last : {A B : Type 0} (read : Stand → Result (A × Stand) ℕ) (encode : A → List ℕ) (Fits : A → Type 0) (k : A × Stand → Result (B × Stand) ℕ)
-    → EncodedIsRead read encode Fits → (s : Stand) → IsWithin s.whole s.at → (x : A) (rest : List ℕ) (y : B) → Fits x → left s ≡ encode x ++ rest
+    → EncodedIsRead read encode Fits → (s : Stand) → s.at ≤ length s.whole → (x : A) (rest : List ℕ) (y : B) → Fits x → left s ≡ encode x ++ rest
     → ((t : Stand) → k (x, t) ≡ read_to y t) → (read s >>= k) ≡ read_to y (ahead (length (encode x)) s)
 last {A} {B} read encode Fits k again s within x rest y fits e next = rw (again s within x rest fits e) (next (ahead (length (encode x)) s))
 
@@ -121,7 +120,7 @@ AllItems Good before (x ∷ xs) = Good before x × AllItems Good (before ++ x �
 
 pub items_again : {A : Type 0} (read : List A → Stand → Result (A × Stand) ℕ) (encode : A → List ℕ) (Good : List A → A → Type 0)
     → ((before : List A) → EncodedIsRead (read before) encode (Good before))
-    → (xs before : List A) (s : Stand) → IsWithin s.whole s.at → (rest : List ℕ) → AllItems Good before xs → left s ≡ flat_map encode xs ++ rest
+    → (xs before : List A) (s : Stand) → s.at ≤ length s.whole → (rest : List ℕ) → AllItems Good before xs → left s ≡ flat_map encode xs ++ rest
     → items_at read (length xs) before s ≡ read_to (before ++ xs) (ahead (length (flat_map encode xs)) s)
 unfolding items_at
 items_again read encode Good again [] before s is rest good e =
