@@ -257,10 +257,10 @@ var_below s within new n e =
     let p = number_from_parts s (number_at 9 (left s)) n new e in
     (number_takes 9 (left s) n p.rest (left_fits s within.bytes_fit) p.was).fits
 
-pub var_again : (s : Stand) → IsWithin s.whole s.at → (n : ℕ) (rest : List ℕ) → n < 2 ^ 64 → left s ≡ var_bytes n ++ rest → var_at s ≡ read_as n (ahead (length (var_bytes n)) s)
+pub var_again : (s : Stand) → s.at ≤ length s.whole → (n : ℕ) (rest : List ℕ) → n < 2 ^ 64 → left s ≡ var_bytes n ++ rest → var_at s ≡ read_as n (ahead (length (var_bytes n)) s)
 unfolding var_at var_bytes
 var_again s within n rest lt e =
-    let place = place_of_rest s (groups 9 n) rest within.no_further e in
+    let place = place_of_rest s (groups 9 n) rest within e in
     ap (λ (b : List ℕ). number_from s (number_at 9 b)) e ∙ ap (number_from s) (number_again 9 n rest lt) ∙ ap (λ (at : ℕ). read_as n (record { whole = s.whole; at = at })) place
 
 placed_short : (s : Stand) (read : Result (ℕ × List ℕ) NumberFault) (P : Type 0) → ((read ≡ Err faults.Short) ↔ P) → (number_from s read ≡ Err (Short (length s.whole))) ↔ P
@@ -322,7 +322,7 @@ zigzag_fits : (z : ℤ) → FitsSigned w64 z → zigzag_number z < 2 ^ 64
 zigzag_fits (pos n) fits = omega (arith, fits.sfits)
 zigzag_fits (negsuc n) fits = omega (arith, fits.sfits)
 
-pub zigzag_again : (s : Stand) → IsWithin s.whole s.at → (z : ℤ) (rest : List ℕ) → FitsSigned w64 z → left s ≡ zigzag_bytes z ++ rest → zigzag_at s ≡ read_as z (ahead (length (zigzag_bytes z)) s)
+pub zigzag_again : (s : Stand) → s.at ≤ length s.whole → (z : ℤ) (rest : List ℕ) → FitsSigned w64 z → left s ≡ zigzag_bytes z ++ rest → zigzag_at s ≡ read_as z (ahead (length (zigzag_bytes z)) s)
 unfolding zigzag_at
 zigzag_again s within z rest fits e = rw (var_again s within (zigzag_number z) rest (zigzag_fits z fits) e) (ap (λ (y : ℤ). read_as y (ahead (length (zigzag_bytes z)) s)) (signed_of-zigzag z))
 
@@ -406,7 +406,7 @@ pub record VarAnswer (r : Result ℕ FieldError) (old new : Stand) : Type 0 wher
 pub var_answer : (r : Result ℕ FieldError) (old new : Stand) → IsWithin old.whole old.at → Reads (λ x. x) r old new (var_at old) → VarAnswer r old new
 var_answer r old new within reads = record {
   value = values_are (λ x. x) r old new (var_at old) (λ n. Passes (var_bytes n) old new) reads (var_takes old within new);
-  only = λ n rest fits e. only_value r old new n (ahead (length (var_bytes n)) old) (var_at old) reads (var_again old within n rest fits e);
+  only = λ n rest fits e. only_value r old new n (ahead (length (var_bytes n)) old) (var_at old) reads (var_again old within.no_further n rest fits e);
   short = only_error (λ x. x) r old new (Short (length old.whole)) (var_at old) (EndsInNumber 9 (left old)) reads (var_short old);
   not_shortest = only_error (λ x. x) r old new (NotShortest old.at) (var_at old) (IsLongNumber 9 (left old)) reads (var_long old within);
   errors = errors_are (λ x. x) r old new (var_at old) (λ e. (e ≡ Short (length old.whole)) ⊎ (e ≡ NotShortest old.at)) reads (var_errors old);
@@ -422,7 +422,7 @@ pub record ZigzagAnswer (r : Result ℤ FieldError) (old new : Stand) : Type 0 w
 pub zigzag_answer : (r : Result ℤ FieldError) (old new : Stand) → IsWithin old.whole old.at → Reads (λ x. x) r old new (zigzag_at old) → ZigzagAnswer r old new
 zigzag_answer r old new within reads = record {
   value = values_are (λ x. x) r old new (zigzag_at old) (λ n. Passes (zigzag_bytes n) old new) reads (zigzag_takes old within new);
-  only = λ n rest fits e. only_value r old new n (ahead (length (zigzag_bytes n)) old) (zigzag_at old) reads (zigzag_again old within n rest fits e);
+  only = λ n rest fits e. only_value r old new n (ahead (length (zigzag_bytes n)) old) (zigzag_at old) reads (zigzag_again old within.no_further n rest fits e);
   short = only_error (λ x. x) r old new (Short (length old.whole)) (zigzag_at old) (EndsInNumber 9 (left old)) reads (zigzag_short old);
   not_shortest = only_error (λ x. x) r old new (NotShortest old.at) (zigzag_at old) (IsLongNumber 9 (left old)) reads (zigzag_long old within);
   errors = errors_are (λ x. x) r old new (zigzag_at old) (λ e. (e ≡ Short (length old.whole)) ⊎ (e ≡ NotShortest old.at)) reads (zigzag_errors old);

@@ -105,7 +105,7 @@ again : (s : Stand) → IsWithin s.whole s.at → (field rest : List ℕ) → le
 again s within field rest below e =
     let grouped : left s ≡ var_bytes (length field) ++ (field ++ rest) = e ∙ append_assoc (var_bytes (length field)) field rest in
     let t = ahead (length (var_bytes (length field))) s in
-    (t, var_again s within (length field) (field ++ rest) below grouped, raw_again t field rest (left-ahead s (var_bytes (length field)) (field ++ rest) grouped))
+    (t, var_again s within.no_further (length field) (field ++ rest) below grouped, raw_again t field rest (left-ahead s (var_bytes (length field)) (field ++ rest) grouped))
 
 text_again : (s : Stand) → IsWithin s.whole s.at → (field rest : List ℕ) → IsUtf8 field → length field < 2 ^ 64 → left s ≡ text_bytes field ++ rest → (u : Stand) × (text_at s ≡ read_as field u)
 text_again s within field rest is below e =
@@ -123,7 +123,7 @@ text_ends s within ends =
       | inl cut_length ↦ text_at-no_length s (Short (length s.whole)) ((var_short s).1 cut_length)
       | inr lacks ↦
           let t = ahead (length (var_bytes lacks.promised)) s in
-          let number = var_again s within lacks.promised lacks.there lacks.fits lacks.parts in
+          let number = var_again s within.no_further lacks.promised lacks.there lacks.fits lacks.parts in
           let rest : left t ≡ lacks.there = left-ahead s (var_bytes lacks.promised) lacks.there lacks.parts in
           let fewer : length (left t) < lacks.promised = rw rest lacks.fewer in
           text_at-cut s t lacks.promised (Short (length s.whole)) number ((raw_short lacks.promised t).1 fewer)

@@ -6,7 +6,7 @@ use Rattle.std.proofs.lemmas.Bool.{cases_eq, cases_lt}
 use Rattle.std.proofs.lemmas.List.{append-nil, take-append-drop, take_at, drop_at, length-append, length-take-le, length-set, get_or-take, get_or-set_same, get_or-set_other, set_at, ext_get_or, flat_map_more}
 use Rattle.byte_fields.specs.Spelling.{fixed64_bytes}
 use Rattle.disk_model.specs.Bytes.{overwritten, reach, Torn}
-use Rattle.head_log.specs.Records.{record_bytes, written, IsShort, HasBodies, framed, IsEarlierOrWith}
+use Rattle.head_log.specs.Records.{record_bytes, written, IsShort, HasBodies, framed, SegmentIsEither}
 
 -- ---- bytes that a write leaves alone
 
@@ -111,7 +111,7 @@ has_more bodies body tail bytes gate place short fits e = record {
 
 -- while the gate is written
 pub gate_torn : (bodies : List (List ℕ)) (gate : ℕ) (known body bytes : List ℕ) → HasBodies bodies gate known → IsShort body
-    → Torn gate 1 (overwritten known (gate + 1) (framed body)) bytes → IsEarlierOrWith bodies body bytes
+    → Torn gate 1 (overwritten known (gate + 1) (framed body)) bytes → SegmentIsEither bodies body bytes
 gate_torn bodies gate known body bytes h fits torn =
     let tail = drop (gate + 1 + length (framed body)) known in
     let at = subst (λ (k : ℕ). Torn k 1 (overwritten known (gate + 1) (framed body)) bytes) h.place torn in
@@ -141,16 +141,12 @@ gate_opened bodies gate known body h fits =
     has_more bodies body tail _ gate h.place h.short fits whole
 
 -- while the body is written
-pub earlier : (bodies : List (List ℕ)) (body : List ℕ) (gate n : ℕ) (known bytes : List ℕ) → HasBodies bodies gate known → Torn (gate + 1) n known bytes → IsEarlierOrWith bodies body bytes
+pub earlier : (bodies : List (List ℕ)) (body : List ℕ) (gate n : ℕ) (known bytes : List ℕ) → HasBodies bodies gate known → Torn (gate + 1) n known bytes → SegmentIsEither bodies body bytes
 earlier bodies body gate n known bytes h torn = inl (gate, body_torn bodies gate n known bytes h torn)
 
 pub on_ok_both : {T E : Type 0} (r : Result T E) (A B C : Type 0) → OnOk r A → OnOk r B → (A → B → C) → OnOk r C
 on_ok_both (Ok x) A B C a b join = join a b
 on_ok_both (Err e) A B C a b join = tt
-
-pub on_ok_more : {T E : Type 0} (r : Result T E) (A B : Type 0) → OnOk r A → (A → B) → OnOk r B
-on_ok_more (Ok x) A B a more = more a
-on_ok_more (Err e) A B a more = tt
 
 -- the length, the body and the next gate
 pub framed_size : (body : List ℕ) → length (framed body) ≡ 9 + length body

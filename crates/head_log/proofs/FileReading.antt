@@ -1,29 +1,10 @@
 -- Reading a file block by block.
 use Rattle.std.proofs.Common.{◌≡◌, ℕ, zero, suc, ◌+◌, ◌-◌, ◌<◌, ◌≤◌, min, Bool, List, [], ◌∷◌, ◌++◌, length, take, drop, Result, Err, refl, sym, ap, subst, ◌∙◌, arith}
-use Rattle.std.specs.Prelude.{IsTrue, IsErrOf}
+use Rattle.std.specs.Prelude.{IsErrOf}
 use Rattle.std.proofs.lemmas.List.{append-nil, take_all, length-take, length-append, length-drop}
-use Rattle.disk_model.specs.Images.{Image}
-use Rattle.disk_model.proofs.Moments.{started, joined, widened}
 use Rattle.head_log.specs.declared.read_back.Unread.{Unread}
 use Rattle.head_log.specs.declared.read_back.Unread.TheVariants as unread
-use Rattle.head_log.specs.Blocks.{CausesUnread, Untouched}
-
-module _ {D : Type 0} (tells : D → Bool) (held : D → Image) (may_leave : D → Image → Type 0) (moment : D → ℕ) (left_since : D → ℕ → Image → Type 0) where
-  pub untouched_same : (disk : D) → ((image : Image) → left_since disk (moment disk) image → may_leave disk image) → Untouched tells held may_leave moment left_since disk disk
-  untouched_same disk only_now = record {
-    telling = refl;
-    same_bytes = λ told file. refl;
-    crash = λ image left. left;
-    any_moment = started moment left_since disk (may_leave disk) only_now;
-  }
-
-  pub untouched_then : (old mid new : D) → Untouched tells held may_leave moment left_since old mid → Untouched tells held may_leave moment left_since mid new → Untouched tells held may_leave moment left_since old new
-  untouched_then old mid new first second = record {
-    telling = second.telling ∙ first.telling;
-    same_bytes = λ told file. second.same_bytes (subst IsTrue (sym first.telling) told) file ∙ first.same_bytes told file;
-    crash = λ image left. first.crash image (second.crash image left);
-    any_moment = joined moment left_since old mid new (may_leave old) first.any_moment (widened moment left_since mid new (may_leave mid) (may_leave old) second.any_moment first.crash);
-  }
+use Rattle.head_log.specs.Blocks.{CausesUnread}
 
 -- a fault after some calls
 pub causes_then : {S T : Type 0} (before mid now : ℕ) (first : Result S Unread) (result : Result T Unread) → before ≤ mid → CausesUnread mid now first

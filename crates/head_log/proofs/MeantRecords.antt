@@ -1,26 +1,36 @@
 -- What a segment is read as is what it stands for.
 use Rattle.std.proofs.Common.{◌≡◌, ◌≢◌, inl, inr, ℕ, zero, suc, ◌+◌, ◌-◌, ◌<◌, ◌≤◌, All, Bool, true, false, ◌&&◌, cond, eqb, leb, List, [], ◌∷◌, ◌++◌, length, take, drop, Ok, Err, append_assoc, refl, sym, ap, subst, ◌∙◌, arith}
 use Rattle.std.specs.List.{flat_map, AllByRecursion}
-use Rattle.std.proofs.lemmas.Bool.{and_parts, eqb-true, eqb-false, leb-true}
-use Rattle.std.proofs.lemmas.List.{append-nil, length-append, length-drop, length-take, drop-take, take-append-drop}
+use Rattle.std.proofs.lemmas.Bool.{and_parts, cases_lt, eqb-true, eqb-false, leb-true}
+use Rattle.std.proofs.lemmas.List.{append-nil, length-append, length-drop, length-take, drop-take, take-append-drop, get_or-take, get_or_past}
 use Rattle.std.proofs.lemmas.List.Elements.{All-from_recursion}
+use Rattle.span_types.specs.declared.limits.TheConstants.{MOST_SPANS}
 use Rattle.span_types.specs.declared.spans.Span.{Span}
 use Rattle.byte_fields.specs.Spelling.{fixed64_bytes}
 use Rattle.byte_fields.specs.Reading.{Stand, left, AreBytes, IsWithin, ahead, byte_at, fixed64_at}
 use Rattle.byte_fields.proofs.FieldLaws.{passes}
 use Rattle.head_log.specs.declared.numbered.NumberedBatch.{NumberedBatch}
-use Rattle.head_log.specs.Breaks.{in_part}
+use Rattle.span_fields.specs.Breaks.{in_part}
+use Rattle.span_fields.specs.Laws.{Took}
 use Rattle.head_log.specs.Bodies.{body_bytes}
 use Rattle.head_log.specs.Records.{record_bytes, written, IsShort}
 use Rattle.head_log.specs.Sound.{IsSoundBatch}
-use Rattle.head_log.specs.Stands.{IsBody, AreBodies, StandsFor}
+use Rattle.head_log.specs.Stands.{IsBatchBody, AreBatchBodies, SegmentHolds}
 use Rattle.head_log.specs.Scanning.{body_at, body_in, record_at, numbered, more_at, records_at, segment_at}
 use Rattle.head_log.specs.Entries.{entries}
-use Rattle.head_log.proofs.AgainRecords.{part_within}
-use Rattle.head_log.proofs.Meant.{bound, same_pair, kept_then, chosen, Took, took, took_none, took_then, meant_byte, meant_fixed64}
+use Rattle.span_fields.proofs.Meant.{bound, same_pair, kept_then, chosen, took, took_none, took_then, meant_byte, meant_fixed64}
 use Rattle.head_log.proofs.MeantRuns.{meant_body}
 
 -- ---- a body in its part of the file
+
+part_within : (bytes : List ℕ) (start len : ℕ) → AreBytes bytes → start + len ≤ length bytes → IsWithin (take (start + len) bytes) start
+part_within bytes start len fit room = record {
+  bytes_fit = λ i. elim (cases_lt i (start + len)) [
+    | inl lt ↦ rw (get_or-take (start + len) bytes i 0 lt) (fit i)
+    | inr le ↦ rw (get_or_past (take (start + len) bytes) i 0 (omega (arith, length-take (start + len) bytes))) (omega arith)
+  ];
+  no_further = omega (arith, length-take (start + len) bytes);
+}
 
 no_more : (b : List ℕ) → length b ≡ 0 → b ≡ []
 no_more [] none = refl
@@ -28,7 +38,7 @@ no_more (x ∷ b) none = absurd (omega arith)
 
 record BodyMeans (number len : ℕ) (s : Stand) (spans : List Span) (t : Stand) : Type 0 where
   body : List ℕ
-  of : IsBody number spans body
+  of : IsBatchBody number spans body
   size : length body ≡ len
   bytes : Took body s t
 
@@ -70,7 +80,7 @@ body_in_means number len s is spans t e =
 
 record RecordMeans (number : ℕ) (s : Stand) (spans : List Span) (t : Stand) : Type 0 where
   body : List ℕ
-  of : IsBody number spans body
+  of : IsBatchBody number spans body
   short : IsShort body
   bytes : Took (fixed64_bytes (length body) ++ body) s t
 
@@ -81,7 +91,7 @@ record_means number s is spans t e =
     let len = meant_fixed64 false s is a.value.0 a.value.1 a.first in
     let found = body_in_means number a.value.0 a.value.1 len.bytes.within spans t a.last in
     let own : Took (fixed64_bytes (length found.body)) s a.value.1 = subst (λ (n : ℕ). Took (fixed64_bytes n) s a.value.1) (sym found.size) len.bytes in
-    record { body = found.body; of = found.of; short = omega (arith, len.fits, found.size); bytes = took_then (fixed64_bytes (length found.body)) found.body s a.value.1 t own found.bytes }
+    record { body = found.body; of = found.of; short = omega (arith, len.fits, found.size); bytes = took_then own found.bytes }
 
 -- ---- records
 
@@ -89,7 +99,7 @@ record RecordsMean (number : ℕ) (before : List NumberedBatch) (s : Stand) (all
   batches : List (List Span)
   bodies : List (List ℕ)
   is : all ≡ before ++ entries number batches
-  numbered_so : AreBodies number batches bodies
+  numbered_so : AreBatchBodies number batches bodies
   short : AllByRecursion IsShort bodies
   bytes : Took (flat_map record_bytes bodies) s t
   shut : ℕ
@@ -111,14 +121,14 @@ records_mean (suc most) number before s is all t e =
           let one = record_means number u byte.bytes.within b.value.0 b.value.1 b.first in
           let rest = records_mean most (number + 1) (before ++ numbered number b.value.0 ∷ []) b.value.1 one.bytes.within all t b.last in
           let opened : Took (1 ∷ []) s u = subst (λ (n : ℕ). Took (n ∷ []) s u) (eqb-true gate 1 h.0) byte.bytes in
-          let whole : Took (record_bytes one.body) s b.value.1 = took_then (1 ∷ []) (fixed64_bytes (length one.body) ++ one.body) s u b.value.1 opened one.bytes in
+          let whole : Took (record_bytes one.body) s b.value.1 = took_then opened one.bytes in
           record {
             batches = b.value.0 ∷ rest.batches;
             bodies = one.body ∷ rest.bodies;
             is = rest.is ∙ append_assoc before (numbered number b.value.0 ∷ []) (entries (number + 1) rest.batches);
             numbered_so = (one.of, rest.numbered_so);
             short = (one.short, rest.short);
-            bytes = took_then (record_bytes one.body) (flat_map record_bytes rest.bodies) s b.value.1 t whole rest.bytes;
+            bytes = took_then whole rest.bytes;
             shut = rest.shut;
             rest = rest.rest;
             closed = rest.closed;
@@ -142,7 +152,7 @@ records_mean (suc most) number before s is all t e =
     ]
 
 pub segment_means : (first : ℕ) (bytes : List ℕ) (found : List NumberedBatch) (end : Stand) → AreBytes bytes → segment_at first bytes ≡ Ok (found, end)
-    → (batches : List (List Span)) × (found ≡ entries first batches) × StandsFor first batches end.at bytes
+    → (batches : List (List Span)) × (found ≡ entries first batches) × SegmentHolds first batches end.at bytes
 unfolding segment_at
 segment_means first bytes found end fit e =
     let s : Stand = record { whole = bytes; at = 0 } in
@@ -152,7 +162,7 @@ segment_means first bytes found end fit e =
     let kept = kept_then (eqb a.value.0 1) 0 (records_at (length bytes) first [] a.value.1) (found, end) a.last in
     let one : Took (1 ∷ []) s a.value.1 = subst (λ (n : ℕ). Took (n ∷ []) s a.value.1) (eqb-true a.value.0 1 kept.0) version.bytes in
     let records = records_mean (length bytes) first [] a.value.1 version.bytes.within found end kept.1 in
-    let whole : Took (written records.bodies) s end = took_then (1 ∷ []) (flat_map record_bytes records.bodies) s a.value.1 end one records.bytes in
+    let whole : Took (written records.bodies) s end = took_then one records.bytes in
     let place : end.at ≡ 0 + length (written records.bodies) = ap (λ (x : Stand). x.at) whole.passed.place in (
       records.batches,
       records.is,
@@ -171,11 +181,11 @@ segment_means first bytes found end fit e =
     )
 
 -- a record that is read has few spans
-pub record_few : (number : ℕ) (s : Stand) → IsWithin s.whole s.at → (spans : List Span) (t : Stand) → record_at number s ≡ Ok (spans, t) → length spans ≤ 16384
+pub record_few : (number : ℕ) (s : Stand) → IsWithin s.whole s.at → (spans : List Span) (t : Stand) → record_at number s ≡ Ok (spans, t) → length spans ≤ MOST_SPANS
 record_few number s is spans t e = (record_means number s is spans t e).of.sound.few
 
 -- the numbers of batches that are read are below the limit
-numbers_below : (first : ℕ) (batches : List (List Span)) (bodies : List (List ℕ)) → AreBodies first batches bodies → AllByRecursion (λ (e : NumberedBatch). e.number < 4294967295) (entries first batches)
+numbers_below : (first : ℕ) (batches : List (List Span)) (bodies : List (List ℕ)) → AreBatchBodies first batches bodies → AllByRecursion (λ (e : NumberedBatch). e.number < 4294967295) (entries first batches)
 numbers_below first [] bodies are = tt
 numbers_below first (spans ∷ batches) [] are = absurd are
 numbers_below first (spans ∷ batches) (body ∷ bodies) are = (are.0.sound.below, numbers_below (first + 1) batches bodies are.1)

@@ -1,24 +1,34 @@
--- What is read somewhere is spelled there: runs and bodies.
-use Rattle.std.proofs.Common.{◌≡◌, ℕ, zero, suc, ◌+◌, ◌-◌, ◌<◌, ◌≤◌, Bool, true, false, ◌&&◌, ◌||◌, cond, eqb, ltb, List, [], ◌∷◌, ◌++◌, length, Option, Result, Ok, Err, append_assoc, refl, sym, ap, subst, ◌∙◌, arith}
-use Rattle.std.specs.List.{flat_map, AllByRecursion}
-use Rattle.std.proofs.lemmas.Bool.{eqb-true, eqb-false, ltb-true, ltb-false, and_parts}
+-- What is read somewhere is encoded there: runs and bodies.
+use Rattle.std.proofs.Common.{◌≡◌, inl, inr, ℕ, zero, suc, ◌+◌, ◌-◌, ◌^◌, ◌<◌, ◌≤◌, Bool, true, false, not, ◌&&◌, ◌||◌, cond, eqb, ltb, List, [], ◌∷◌, ◌++◌, length, Option, Some, None, Result, Ok, Err, append_assoc, refl, sym, ap, subst, ◌∙◌, arith}
+use Rattle.std.specs.Bool.{Decides}
+use Rattle.std.specs.List.{flat_map, list_any, AllByRecursion}
+use Rattle.std.proofs.lemmas.Bool.{eqb-true, eqb-false, ltb-true, ltb-false}
 use Rattle.std.proofs.lemmas.List.{append-nil, length-append}
+use Rattle.std.proofs.lemmas.Option.{same_Some, none-some}
 use Rattle.span_types.specs.declared.attrs.Resource.{Resource}
 use Rattle.span_types.specs.declared.attrs.Scope.{Scope}
+use Rattle.span_types.specs.declared.limits.TheConstants.{MOST_SPANS}
 use Rattle.span_types.specs.declared.spans.Span.{Span}
-use Rattle.span_runs.specs.Runs.{in_front, runs}
-use Rattle.span_runs.specs.Same.{same_resource, same_scope, of_one_resource, of_one_scope}
-use Rattle.span_runs.proofs.SameLaws.{resource_decides, scope_decides}
-use Rattle.byte_fields.specs.Spelling.{fixed64_bytes, var_bytes, text_bytes}
-use Rattle.byte_fields.specs.Reading.{Stand, IsWithin, fixed64_at, var_at, text_at}
-use Rattle.head_log.specs.Breaks.{in_part}
-use Rattle.head_log.specs.Bodies.{list_bytes, attrs_bytes, span_bytes, scope_run_bytes, resource_run_bytes, body_bytes}
-use Rattle.head_log.specs.Sound.{AreSoundAttrs, IsSoundSpan, IsSoundBatch}
-use Rattle.head_log.specs.Scanning.{items_at, attrs_at, span_at, last_passes, last_of, scope_at, span_count_at, scope_spans_at, scope_run_at, runs_at, run_count_at, resource_spans_at, resource_at, resource_run_at, spans_at, body_at}
-use Rattle.head_log.proofs.Again.{IsOf}
-use Rattle.head_log.proofs.AgainRuns.{GoodScope, AllGood}
-use Rattle.head_log.proofs.RunLaws.{items_of, all_of, AreLinked, AreRuns, last_of-run}
-use Rattle.head_log.proofs.Meant.{bound, same_pair, kept_else, kept_then, Took, took_none, took_then, Meant, renamed, AllItems, items_mean, meant_fixed64, meant_var, meant_text, meant_attrs, IsSoundScope, meant_span}
+use Rattle.span_types.specs.Equal.{same_resource, same_scope}
+use Rattle.span_types.specs.EqualLaws.{resource_decides, scope_decides}
+use Rattle.span_runs.specs.Runs.{in_front, runs, of_one, of_one_resource, of_one_scope}
+use Rattle.span_runs.proofs.RunLaws.{run_items, all_of, AreLinked, AreRuns}
+use Rattle.byte_fields.specs.Spelling.{fixed64_bytes, var_bytes}
+use Rattle.byte_fields.specs.Reading.{Stand, IsWithin, ◌>>=◌, fixed64_at, var_at}
+use Rattle.span_fields.specs.Breaks.{in_part}
+use Rattle.span_fields.specs.Encodings.{list_bytes, resource_bytes, scope_bytes}
+use Rattle.span_fields.specs.Sound.{IsSoundResource, IsSoundScope}
+use Rattle.span_fields.specs.Decodings.{or_break, items_at, resource_at, scope_at}
+use Rattle.span_fields.specs.Laws.{Took, ReadIsEncoded}
+use Rattle.span_fields.proofs.Meant.{bound, same_pair, kept_else, chosen, or_break_ok, took_none, took_then, renamed, items_mean, each_item, meant_fixed64, meant_var, meant_resource, meant_scope}
+use Rattle.head_log.specs.declared.reading.Part.{Part}
+use Rattle.head_log.specs.Bodies.{is_extended, are_extended, first_field, span_bytes, run_bytes, scopes_bytes, spans_bytes, body_bytes}
+use Rattle.head_log.specs.Sound.{IsSoundSpan, IsSoundBatch}
+use Rattle.head_log.specs.Scanning.{span_at, last_passes, last_of, repeats, run_at, runs_at, span_count_at, scope_spans_at, run_count_at, scopes_at, spans_at, form_of, all_spans_at, body_at}
+use Rattle.head_log.proofs.AgainSpan.{IsOf}
+use Rattle.head_log.proofs.AgainRuns.{or_false, IsSoundIn, IsSoundOf, AllGood}
+use Rattle.head_log.proofs.RunLaws.{last_of-run}
+use Rattle.head_log.proofs.MeantSpan.{meant_span}
 
 -- ---- runs of items
 
@@ -36,225 +46,191 @@ run_in_front {A} same x (y ∷ ys) rest later linked is are =
     shorter [] h = h.1
     shorter (q ∷ later) h = (h.0.1, h.1, h.2)
 
-runs_behind : {A : Type 0} (same : A → A → Bool) (r : A × List A) (rs : List (A × List A)) → AreRuns same (r ∷ rs) → AreLinked same r.0 r.1 × AreRuns same rs
-runs_behind same r [] are = (are, tt)
-runs_behind same r (q ∷ rs) are = (are.0, are.2)
+runs_after : {A : Type 0} (same : A → A → Bool) (r : A × List A) (rs : List (A × List A)) → AreRuns same (r ∷ rs) → AreLinked same r.0 r.1 × AreRuns same rs
+runs_after same r [] are = (are, tt)
+runs_after same r (q ∷ rs) are = (are.0, are.2)
 
 -- the runs of the items of runs are these
 pub runs_of_all : {A : Type 0} (same : A → A → Bool) (rs : List (A × List A)) → AreRuns same rs → runs same (all_of rs) ≡ rs
 runs_of_all same [] are = refl
 runs_of_all same (r ∷ rs) are =
-    let parts = runs_behind same r rs are in
+    let parts = runs_after same r rs are in
     run_in_front same r.0 r.1 (all_of rs) rs parts.0 (runs_of_all same rs parts.1) are
 
--- ---- scopes
+-- ---- the spans of one origin
 
-abbrev scope_bytes : Scope → List ℕ
-scope_bytes scope = text_bytes scope.name ++ (text_bytes scope.version ++ attrs_bytes scope.attrs)
-
-meant_scope : (within : Bool) → Meant (scope_at within) scope_bytes IsSoundScope
-unfolding scope_at
-meant_scope within s is scope t e =
-    let a = bound (in_part within text_at s) _ (scope, t) e in
-    let name = meant_text within s is a.value.0 a.value.1 a.first in
-    let b = bound (in_part within text_at a.value.1) _ (scope, t) a.last in
-    let version = meant_text within a.value.1 name.bytes.within b.value.0 b.value.1 b.first in
-    let c = bound (attrs_at within b.value.1) _ (scope, t) b.last in
-    let attrs = meant_attrs within b.value.1 version.bytes.within c.value.0 c.value.1 c.first in
-    let found : Scope = record { name = a.value.0; version = b.value.0; attrs = c.value.0 } in
-    let same = same_pair found scope c.value.1 t c.last in
-    renamed scope_bytes IsSoundScope s found scope c.value.1 t same.0 same.1
-    (record {
-      bytes = took_then (text_bytes a.value.0) (text_bytes b.value.0 ++ attrs_bytes c.value.0) s a.value.1 c.value.1 name.bytes (took_then (text_bytes b.value.0) (attrs_bytes c.value.0) a.value.1 b.value.1 c.value.1 version.bytes attrs.bytes);
-      fits = (name.fits, version.fits, attrs.fits);
-    })
-
-abbrev IsCount : ℕ → ℕ → Type 0
-IsCount before n = (0 < n) × (n ≤ 16384 - before)
-
-or_false : (a b : Bool) → (a || b) ≡ false → (a ≡ false) × (b ≡ false)
-or_false true b is = absurd (cc)
-or_false false b is = (refl, is)
-
-meant_span_count : (within : Bool) (before : ℕ) → Meant (span_count_at within before) var_bytes (IsCount before)
-unfolding span_count_at
-meant_span_count within before s is n t e =
-    let a = bound (in_part within var_at s) (λ count. cond (eqb count.0 0 || ltb (16384 - before) count.0) (Err s.at) (Ok count)) (n, t) e in
-    let count = meant_var within s is a.value.0 a.value.1 a.first in
-    let kept = kept_else (eqb a.value.0 0 || ltb (16384 - before) a.value.0) s.at (Ok a.value) (n, t) a.last in
-    let tests = or_false (eqb a.value.0 0) (ltb (16384 - before) a.value.0) kept.0 in
-    let same = same_pair a.value.0 n a.value.1 t kept.1 in
-    let some : 0 < a.value.0 = omega (arith, eqb-false a.value.0 0 tests.0) in
-    renamed var_bytes (IsCount before) s a.value.0 n a.value.1 t same.0 same.1 (record { bytes = count.bytes; fits = (some, ltb-false (16384 - before) a.value.0 tests.1) })
-
-all_items : (P : Span → Type 0) (before spans : List Span) → AllItems (λ _ span. P span) before spans → AllByRecursion P spans
-all_items P before [] all = tt
-all_items P before (x ∷ xs) all = (all.0, all_items P (before ++ x ∷ []) xs all.1)
-
--- spans that were read behind these ones
-record SpansMean (spell : List Span → List ℕ) (Fits : List Span → Type 0) (before : List Span) (s : Stand) (all : List Span) (t : Stand) : Type 0 where
+-- spans that were read after these ones
+record SpansMean (encode : List Span → List ℕ) (P : Span → Type 0) (before : List Span) (s : Stand) (all : List Span) (t : Stand) : Type 0 where
   more : List Span
   is : all ≡ before ++ more
-  bytes : Took (spell more) s t
-  fits : Fits more
-
-record ScopeSpans (resource : Resource) (scope : Scope) (before more : List Span) : Type 0 where
+  bytes : Took (encode more) s t
   some : 0 < length more
-  few : length more ≤ 16384 - length before
-  of : AllByRecursion (IsOf resource scope) more
+  few : length before + length more ≤ MOST_SPANS
+  each : AllByRecursion P more
 
-scope_spans_mean : (within : Bool) (resource : Resource) (scope : Scope) (before : List Span) (s : Stand) → IsWithin s.whole s.at → AreSoundAttrs resource.attrs → IsSoundScope scope → (all : List Span) (t : Stand)
-    → scope_spans_at within resource scope before s ≡ Ok (all, t) → SpansMean (list_bytes span_bytes) (ScopeSpans resource scope before) before s all t
-unfolding scope_spans_at list_bytes
-scope_spans_mean within resource scope before s is sound_resource sound_scope all t e =
-    let a = bound (span_count_at within (length before) s) (λ count. items_at (λ _. span_at within resource scope) count.0 before count.1) (all, t) e in
-    let count = meant_span_count within (length before) s is a.value.0 a.value.1 a.first in
-    let items = items_mean (λ _. span_at within resource scope) span_bytes (λ _ span. IsOf resource scope span) (λ _. meant_span within resource scope sound_resource sound_scope) a.value.0 before a.value.1 count.bytes.within all t a.last in
-    let number : Took (var_bytes (length items.more)) s a.value.1 = subst (λ (n : ℕ). Took (var_bytes n) s a.value.1) (sym items.size) count.bytes in
-    record {
-      more = items.more;
-      is = items.is;
-      bytes = took_then (var_bytes (length items.more)) (flat_map span_bytes items.more) s a.value.1 t number items.bytes;
-      fits = record { some = omega (arith, count.fits.0, items.size); few = omega (arith, count.fits.1, items.size); of = all_items (IsOf resource scope) before items.more items.good };
-    }
+abbrev ContentMeant : {O : Type 0} → (O → List Span → Stand → Result (List Span × Stand) ℕ) → (List Span → List ℕ) → (O → Type 0) → (O → Span → Type 0) → Type 0
+ContentMeant {O} read encode IsSound P = (o : O) → IsSound o → (before : List Span) (s : Stand) → IsWithin s.whole s.at → (all : List Span) (t : Stand)
+    → read o before s ≡ Ok (all, t) → SpansMean encode (P o) before s all t
 
--- ---- a run behind spans
+-- ---- a run after spans
 
-pub record RunMeans (spell : Span × List Span → List ℕ) (Good : Bool → List Span → Span × List Span → Type 0) (later : Bool) (before : List Span) (s : Stand) (all : List Span) (t : Stand) : Type 0 where
-  pub run : Span × List Span
-  pub is : all ≡ before ++ items_of run
-  pub bytes : Took (spell run) s t
-  pub good : Good later before run
+-- a run of one origin that was read after these spans
+pub record ReadRun {O : Type 0} (same : O → O → Bool) (of : Span → O) (P : O → Span → Type 0) (later : Bool) (before : List Span) (run : Span × List Span) : Type 0 where
+  pub each : AllByRecursion (P (of run.0)) (run_items run)
+  pub few : length before + length (run_items run) ≤ MOST_SPANS
+  pub fresh : repeats same of later before (of run.0) ≡ false
 
-abbrev pub RunMeant : (Bool → List Span → Stand → Result (List Span × Stand) ℕ) → (Span × List Span → List ℕ) → (Bool → List Span → Span × List Span → Type 0) → Type 0
-RunMeant read spell Good = (later : Bool) (before : List Span) (s : Stand) → IsWithin s.whole s.at → (all : List Span) (t : Stand) → read later before s ≡ Ok (all, t) → RunMeans spell Good later before s all t
+record RunMeans (encode : Span × List Span → List ℕ) (Good : Bool → List Span → Span × List Span → Type 0) (later : Bool) (before : List Span) (s : Stand) (all : List Span) (t : Stand) : Type 0 where
+  run : Span × List Span
+  is : all ≡ before ++ run_items run
+  bytes : Took (encode run) s t
+  good : Good later before run
 
-scope_run_parts : (run : Span × List Span) → scope_run_bytes run ≡ scope_bytes run.0.scope ++ list_bytes span_bytes (items_of run)
-unfolding scope_run_bytes
-scope_run_parts run =
-    let n = text_bytes run.0.scope.name in
-    let v = text_bytes run.0.scope.version in
-    let a = attrs_bytes run.0.scope.attrs in
-    let l = list_bytes span_bytes (items_of run) in
-    sym (append_assoc n (v ++ a) l ∙ ap (λ (r : List ℕ). n ++ r) (append_assoc v a l))
+abbrev RunMeant : (Bool → List Span → Stand → Result (List Span × Stand) ℕ) → (Span × List Span → List ℕ) → (Bool → List Span → Span × List Span → Type 0) → Type 0
+RunMeant read encode Good = (later : Bool) (before : List Span) (s : Stand) → IsWithin s.whole s.at → (all : List Span) (t : Stand) → read later before s ≡ Ok (all, t) → RunMeans encode Good later before s all t
 
-scope_run_of : (resource : Resource) (later : Bool) (before : List Span) (s u : Stand) (scope : Scope) (all : List Span) (t : Stand) (more : List Span) → Took (scope_bytes scope) s u
-    → (later && last_passes (λ span. same_scope span.scope scope) (last_of before)) ≡ false → all ≡ before ++ more → Took (list_bytes span_bytes more) u t → ScopeSpans resource scope before more
-    → RunMeans scope_run_bytes (GoodScope resource) later before s all t
-scope_run_of resource later before s u scope all t [] took_scope fresh is bytes fits = absurd (omega (arith, fits.some))
-scope_run_of resource later before s u scope all t (x ∷ xs) took_scope fresh is bytes fits =
-    let own : x.scope ≡ scope = fits.of.0.2 in
-    let all_bytes : Took (scope_bytes scope ++ list_bytes span_bytes (x ∷ xs)) s t = took_then (scope_bytes scope) (list_bytes span_bytes (x ∷ xs)) s u t took_scope bytes in
-    let own_bytes : Took (scope_bytes x.scope ++ list_bytes span_bytes (x ∷ xs)) s t = subst (λ (c : Scope). Took (scope_bytes c ++ list_bytes span_bytes (x ∷ xs)) s t) (sym own) all_bytes in
+-- each span that was read of an origin has it
+abbrev HasOrigin : {O : Type 0} → (Span → O) → (O → Span → Type 0) → Type 0
+HasOrigin {O} of P = (o : O) (s : Span) → P o s → of s ≡ o
+
+run_of : {O : Type 0} (same : O → O → Bool) (of : Span → O) (P : O → Span → Type 0) (origin_bytes : O → List ℕ) (content_bytes : List Span → List ℕ) → HasOrigin of P
+    → (later : Bool) (before : List Span) (s u : Stand) (o : O) (all : List Span) (t : Stand) (more : List Span) → Took (origin_bytes o) s u → repeats same of later before o ≡ false
+    → all ≡ before ++ more → Took (content_bytes more) u t → 0 < length more → length before + length more ≤ MOST_SPANS → AllByRecursion (P o) more
+    → RunMeans (run_bytes of origin_bytes content_bytes) (ReadRun same of P) later before s all t
+run_of same of P origin_bytes content_bytes has later before s u o all t [] origin fresh is bytes some few each = absurd (omega arith)
+run_of {O} same of P origin_bytes content_bytes has later before s u o all t (x ∷ xs) origin fresh is bytes some few each =
+    let own : of x ≡ o = has o x each.0 in
+    let whole : Took (origin_bytes o ++ content_bytes (x ∷ xs)) s t = took_then origin bytes in
     record {
       run = (x, xs);
       is = is;
-      bytes = subst (λ (b : List ℕ). Took b s t) (sym (scope_run_parts (x, xs))) own_bytes;
+      bytes = subst (λ (p : O). Took (origin_bytes p ++ content_bytes (x ∷ xs)) s t) (sym own) whole;
       good = record {
-        of = subst (λ (c : Scope). AllByRecursion (IsOf resource c) (x ∷ xs)) (sym own) fits.of;
-        few = omega (arith, fits.some, fits.few);
-        fresh = subst (λ (c : Scope). (later && last_passes (λ span. same_scope span.scope c) (last_of before)) ≡ false) (sym own) fresh;
+        each = subst (λ (p : O). AllByRecursion (P p) (x ∷ xs)) (sym own) each;
+        few = few;
+        fresh = subst (λ (p : O). repeats same of later before p ≡ false) (sym own) fresh;
       };
     }
 
-meant_scope_run : (within : Bool) (resource : Resource) → AreSoundAttrs resource.attrs → RunMeant (scope_run_at within resource) scope_run_bytes (GoodScope resource)
-unfolding scope_run_at
-meant_scope_run within resource sound later before s is all t e =
-    let a = bound (scope_at within s) (λ scope. cond (later && last_passes (λ span. same_scope span.scope scope.0) (last_of before)) (Err s.at) (scope_spans_at within resource scope.0 before scope.1)) (all, t) e in
-    let scope = meant_scope within s is a.value.0 a.value.1 a.first in
-    let kept = kept_else (later && last_passes (λ span. same_scope span.scope a.value.0) (last_of before)) s.at (scope_spans_at within resource a.value.0 before a.value.1) (all, t) a.last in
-    let spans = scope_spans_mean within resource a.value.0 before a.value.1 scope.bytes.within sound scope.fits all t kept.1 in
-    scope_run_of resource later before s a.value.1 a.value.0 all t spans.more scope.bytes kept.0 spans.is spans.bytes spans.fits
+run_meant : {O : Type 0} (same : O → O → Bool) (of : Span → O) (IsSound : O → Type 0) (P : O → Span → Type 0)
+    (origin_at : Stand → Result (O × Stand) ℕ) (origin_bytes : O → List ℕ) (content_at : O → List Span → Stand → Result (List Span × Stand) ℕ) (content_bytes : List Span → List ℕ)
+    → HasOrigin of P → ReadIsEncoded origin_at origin_bytes IsSound → ContentMeant content_at content_bytes IsSound P
+    → RunMeant (run_at same of origin_at content_at) (run_bytes of origin_bytes content_bytes) (ReadRun same of P)
+unfolding run_at
+run_meant same of IsSound P origin_at origin_bytes content_at content_bytes has meant content later before s is all t e =
+    let a = bound (origin_at s) (λ o. cond (repeats same of later before o.0) (Err s.at) (content_at o.0 before o.1)) (all, t) e in
+    let origin = meant s is a.value.0 a.value.1 a.first in
+    let kept = kept_else (repeats same of later before a.value.0) s.at (content_at a.value.0 before a.value.1) (all, t) a.last in
+    let spans = content a.value.0 origin.fits before a.value.1 origin.bytes.within all t kept.1 in
+    run_of same of P origin_bytes content_bytes has later before s a.value.1 a.value.0 all t spans.more origin.bytes kept.0 spans.is spans.bytes spans.some spans.few spans.each
 
 -- ---- runs one after the other
 
-record RunsMean (spell : Span × List Span → List ℕ) (Good : Bool → List Span → Span × List Span → Type 0) (count : ℕ) (later : Bool) (before : List Span) (s : Stand) (all : List Span) (t : Stand) : Type 0 where
+record RunsMean (encode : Span × List Span → List ℕ) (Good : Bool → List Span → Span × List Span → Type 0) (count : ℕ) (later : Bool) (before : List Span) (s : Stand) (all : List Span) (t : Stand) : Type 0 where
   rs : List (Span × List Span)
   is : all ≡ before ++ all_of rs
   size : length rs ≡ count
-  bytes : Took (flat_map spell rs) s t
+  bytes : Took (flat_map encode rs) s t
   good : AllGood Good later before rs
 
-runs_mean : (read : Bool → List Span → Stand → Result (List Span × Stand) ℕ) (spell : Span × List Span → List ℕ) (Good : Bool → List Span → Span × List Span → Type 0) → RunMeant read spell Good
-    → (count : ℕ) (later : Bool) (before : List Span) (s : Stand) → IsWithin s.whole s.at → (all : List Span) (t : Stand) → runs_at read count later before s ≡ Ok (all, t) → RunsMean spell Good count later before s all t
+runs_mean : (read : Bool → List Span → Stand → Result (List Span × Stand) ℕ) (encode : Span × List Span → List ℕ) (Good : Bool → List Span → Span × List Span → Type 0) → RunMeant read encode Good
+    → (count : ℕ) (later : Bool) (before : List Span) (s : Stand) → IsWithin s.whole s.at → (all : List Span) (t : Stand) → runs_at read count later before s ≡ Ok (all, t) → RunsMean encode Good count later before s all t
 unfolding runs_at
-runs_mean read spell Good step zero later before s is all t e =
+runs_mean read encode Good step zero later before s is all t e =
     let same = same_pair before all s t e in
-    subst (λ (u : Stand). RunsMean spell Good 0 later before s all u) same.1
+    subst (λ (u : Stand). RunsMean encode Good 0 later before s all u) same.1
     (record { rs = []; is = sym same.0 ∙ sym (append-nil before); size = refl; bytes = took_none s is; good = tt })
-runs_mean read spell Good step (suc count) later before s is all t e =
+runs_mean read encode Good step (suc count) later before s is all t e =
     let a = bound (read later before s) (λ x. runs_at read count true x.0 x.1) (all, t) e in
     let one = step later before s is a.value.0 a.value.1 a.first in
-    let rest = runs_mean read spell Good step count true a.value.0 a.value.1 one.bytes.within all t a.last in
+    let rest = runs_mean read encode Good step count true a.value.0 a.value.1 one.bytes.within all t a.last in
     record {
       rs = one.run ∷ rest.rs;
-      is = rest.is ∙ ap (λ (l : List Span). l ++ all_of rest.rs) one.is ∙ append_assoc before (items_of one.run) (all_of rest.rs);
+      is = rest.is ∙ ap (λ (l : List Span). l ++ all_of rest.rs) one.is ∙ append_assoc before (run_items one.run) (all_of rest.rs);
       size = ap suc rest.size;
-      bytes = took_then (spell one.run) (flat_map spell rest.rs) s a.value.1 t one.bytes rest.bytes;
+      bytes = took_then one.bytes rest.bytes;
       good = (one.good, subst (λ (l : List Span). AllGood Good true l rest.rs) one.is rest.good);
     }
 
--- ---- the scopes of a resource
+-- ---- what runs that were read are
 
-linked_scopes : (resource : Resource) (scope : Scope) (x : Span) (xs : List Span) → AllByRecursion (IsOf resource scope) (x ∷ xs) → AreLinked of_one_scope x xs
-unfolding of_one_scope
-linked_scopes resource scope x [] all = tt
-linked_scopes resource scope x (y ∷ ys) all = ((scope_decides x.scope y.scope).1 (all.0.2 ∙ sym all.1.0.2), linked_scopes resource scope y ys all.1)
+linked : {O : Type 0} (same : O → O → Bool) (of : Span → O) (P : O → Span → Type 0) → ((a b : O) → Decides (same a b) (a ≡ b)) → HasOrigin of P
+    → (o : O) (x : Span) (xs : List Span) → AllByRecursion (P o) (x ∷ xs) → AreLinked (of_one same of) x xs
+linked same of P decides has o x [] all = tt
+linked same of P decides has o x (y ∷ ys) all = ((decides (of x) (of y)).1 (has o x all.0 ∙ sym (has o y all.1.0)), linked same of P decides has o y ys all.1)
 
-are_scope_runs : (resource : Resource) (rs : List (Span × List Span)) (later : Bool) (before : List Span) → AllGood (GoodScope resource) later before rs → AreRuns of_one_scope rs
-unfolding of_one_scope
-are_scope_runs resource [] later before good = tt
-are_scope_runs resource (r ∷ []) later before good = linked_scopes resource r.0.scope r.0 r.1 good.0.of
-are_scope_runs resource (r ∷ q ∷ rs) later before good = (
-  linked_scopes resource r.0.scope r.0 r.1 good.0.of,
-  sym (ap (λ (o : Option Span). last_passes (λ span. same_scope span.scope q.0.scope) o) (last_of-run before r.0 r.1)) ∙ good.1.0.fresh,
-  are_scope_runs resource (q ∷ rs) true (before ++ items_of r) good.1,
+are_runs : {O : Type 0} (same : O → O → Bool) (of : Span → O) (P : O → Span → Type 0) → ((a b : O) → Decides (same a b) (a ≡ b)) → HasOrigin of P
+    → (rs : List (Span × List Span)) (later : Bool) (before : List Span) → AllGood (ReadRun same of P) later before rs → AreRuns (of_one same of) rs
+are_runs same of P decides has [] later before good = tt
+are_runs same of P decides has (r ∷ []) later before good = linked same of P decides has (of r.0) r.0 r.1 good.0.each
+are_runs same of P decides has (r ∷ q ∷ rs) later before good = (
+  linked same of P decides has (of r.0) r.0 r.1 good.0.each,
+  sym (ap (λ (o : Option Span). last_passes (λ span. same (of span) (of q.0)) o) (last_of-run before r.0 r.1)) ∙ good.1.0.fresh,
+  are_runs same of P decides has (q ∷ rs) true (before ++ run_items r) good.1,
 )
 
 all_join : (P : Span → Type 0) (xs ys : List Span) → AllByRecursion P xs → AllByRecursion P ys → AllByRecursion P (xs ++ ys)
 all_join P [] ys a b = b
 all_join P (x ∷ xs) ys a b = (a.0, all_join P xs ys a.1 b)
 
-abbrev IsOfResource : Resource → Span → Type 0
-IsOfResource resource span = IsSoundSpan span × (span.resource ≡ resource)
+all_weaker : (P Q : Span → Type 0) → ((s : Span) → P s → Q s) → (xs : List Span) → AllByRecursion P xs → AllByRecursion Q xs
+all_weaker P Q weaken [] all = tt
+all_weaker P Q weaken (x ∷ xs) all = (weaken x all.0, all_weaker P Q weaken xs all.1)
 
-of_resource : (resource : Resource) (scope : Scope) (xs : List Span) → AllByRecursion (IsOf resource scope) xs → AllByRecursion (IsOfResource resource) xs
-of_resource resource scope [] all = tt
-of_resource resource scope (x ∷ xs) all = ((all.0.0, all.0.1), of_resource resource scope xs all.1)
+all_of_runs : {O : Type 0} (same : O → O → Bool) (of : Span → O) (P : O → Span → Type 0) (Q : Span → Type 0) → ((o : O) (s : Span) → P o s → Q s)
+    → (rs : List (Span × List Span)) (later : Bool) (before : List Span) → AllGood (ReadRun same of P) later before rs → AllByRecursion Q (all_of rs)
+all_of_runs same of P Q weaken [] later before good = tt
+all_of_runs same of P Q weaken (r ∷ rs) later before good =
+    all_join Q (run_items r) (all_of rs) (all_weaker (P (of r.0)) Q (weaken (of r.0)) (run_items r) good.0.each) (all_of_runs same of P Q weaken rs true (before ++ run_items r) good.1)
 
-all_of_resource : (resource : Resource) (rs : List (Span × List Span)) (later : Bool) (before : List Span) → AllGood (GoodScope resource) later before rs → AllByRecursion (IsOfResource resource) (all_of rs)
-all_of_resource resource [] later before good = tt
-all_of_resource resource (r ∷ rs) later before good =
-    all_join (IsOfResource resource) (items_of r) (all_of rs) (of_resource resource r.0.scope (items_of r) good.0.of) (all_of_resource resource rs true (before ++ items_of r) good.1)
+few_of_runs : {O : Type 0} (same : O → O → Bool) (of : Span → O) (P : O → Span → Type 0) (rs : List (Span × List Span)) (later : Bool) (before : List Span) → length before ≤ MOST_SPANS
+    → AllGood (ReadRun same of P) later before rs → length before + length (all_of rs) ≤ MOST_SPANS
+few_of_runs same of P [] later before few good = omega arith
+few_of_runs same of P (r ∷ rs) later before few good =
+    let size = length-append before (run_items r) in
+    let next : length (before ++ run_items r) ≤ MOST_SPANS = omega (arith, size, good.0.few) in
+    omega (arith, size, length-append (run_items r) (all_of rs), few_of_runs same of P rs true (before ++ run_items r) next good.1)
 
-few_of_scopes : (resource : Resource) (rs : List (Span × List Span)) (later : Bool) (before : List Span) → length before ≤ 16384 → AllGood (GoodScope resource) later before rs → length before + length (all_of rs) ≤ 16384
-few_of_scopes resource [] later before few good = omega arith
-few_of_scopes resource (r ∷ rs) later before few good =
-    let size = length-append before (items_of r) in
-    let next : length (before ++ items_of r) ≤ 16384 = omega (arith, size, good.0.few) in
-    omega (arith, size, length-append (items_of r) (all_of rs), few_of_scopes resource rs true (before ++ items_of r) next good.1)
+-- ---- spans of one scope
 
--- ---- resources
+abbrev IsCount : ℕ → ℕ → Type 0
+IsCount before n = (0 < n) × (n ≤ MOST_SPANS - before)
 
-abbrev resource_bytes : Resource → List ℕ
-resource_bytes resource = attrs_bytes resource.attrs
+meant_span_count : (within : Bool) (before : ℕ) → ReadIsEncoded (span_count_at within before) var_bytes (IsCount before)
+unfolding span_count_at
+meant_span_count within before s is n t e =
+    let a = bound (in_part within var_at s) (λ count. cond (eqb count.0 0 || ltb (MOST_SPANS - before) count.0) (Err s.at) (Ok count)) (n, t) e in
+    let count = meant_var within s is a.value.0 a.value.1 a.first in
+    let kept = kept_else (eqb a.value.0 0 || ltb (MOST_SPANS - before) a.value.0) s.at (Ok a.value) (n, t) a.last in
+    let tests = or_false (eqb a.value.0 0) (ltb (MOST_SPANS - before) a.value.0) kept.0 in
+    let same = same_pair a.value.0 n a.value.1 t kept.1 in
+    let some : 0 < a.value.0 = omega (arith, eqb-false a.value.0 0 tests.0) in
+    renamed var_bytes (IsCount before) s a.value.0 n a.value.1 t same.0 same.1 (record { bytes = count.bytes; fits = (some, ltb-false (MOST_SPANS - before) a.value.0 tests.1) })
 
-abbrev IsSoundResource : Resource → Type 0
-IsSoundResource resource = AreSoundAttrs resource.attrs
+scope_spans_mean : (part : Part) (resource : Resource) → IsSoundResource resource → ContentMeant (scope_spans_at part resource) (list_bytes (span_bytes part.extended)) IsSoundScope (IsOf part.extended resource)
+unfolding scope_spans_at list_bytes
+scope_spans_mean part resource sound_resource scope sound_scope before s is all t e =
+    let IsOne = IsOf part.extended resource scope in
+    let bytes = span_bytes part.extended in
+    let a = bound (span_count_at part.within (length before) s) (λ count. items_at (λ _. span_at part resource scope) count.0 before count.1) (all, t) e in
+    let count = meant_span_count part.within (length before) s is a.value.0 a.value.1 a.first in
+    let items = items_mean (λ _. span_at part resource scope) bytes (λ _. IsOne) (λ _. meant_span part resource scope sound_resource sound_scope) a.value.0 before a.value.1 count.bytes.within all t a.last in
+    let number : Took (var_bytes (length items.more)) s a.value.1 = subst (λ (n : ℕ). Took (var_bytes n) s a.value.1) (sym items.size) count.bytes in
+    record {
+      more = items.more;
+      is = items.is;
+      bytes = took_then number items.bytes;
+      some = omega (arith, count.fits.0, items.size);
+      few = omega (arith, count.fits.0, count.fits.1, items.size);
+      each = each_item IsOne before items.more items.good;
+    }
 
-meant_resource : (within : Bool) → Meant (resource_at within) resource_bytes IsSoundResource
-unfolding resource_at
-meant_resource within s is resource t e =
-    let a = bound (attrs_at within s) _ (resource, t) e in
-    let attrs = meant_attrs within s is a.value.0 a.value.1 a.first in
-    let found : Resource = record { attrs = a.value.0 } in
-    let same = same_pair found resource a.value.1 t a.last in
-    renamed resource_bytes IsSoundResource s found resource a.value.1 t same.0 same.1 (record { bytes = attrs.bytes; fits = attrs.fits })
+-- ---- spans of one resource
 
 abbrev IsSome : ℕ → Type 0
 IsSome n = 0 < n
 
-meant_run_count : (within : Bool) → Meant (run_count_at within) var_bytes IsSome
+meant_run_count : (within : Bool) → ReadIsEncoded (run_count_at within) var_bytes IsSome
 unfolding run_count_at
 meant_run_count within s is n t e =
     let a = bound (in_part within var_at s) (λ count. cond (eqb count.0 0) (Err s.at) (Ok count)) (n, t) e in
@@ -264,128 +240,134 @@ meant_run_count within s is n t e =
     let some : 0 < a.value.0 = omega (arith, eqb-false a.value.0 0 kept.0) in
     renamed var_bytes IsSome s a.value.0 n a.value.1 t same.0 same.1 (record { bytes = count.bytes; fits = some })
 
-record ResourceSpans (resource : Resource) (before : List Span) (s : Stand) (all : List Span) (t : Stand) : Type 0 where
-  rs : List (Span × List Span)
-  is : all ≡ before ++ all_of rs
-  some : 0 < length rs
-  bytes : Took (list_bytes scope_run_bytes rs) s t
-  good : AllGood (GoodScope resource) false before rs
+some_items : (rs : List (Span × List Span)) → 0 < length rs → 0 < length (all_of rs)
+some_items [] some = absurd (omega arith)
+some_items (r ∷ rs) some = omega arith
 
-resource_spans_mean : (within : Bool) (resource : Resource) (before : List Span) (s : Stand) → IsWithin s.whole s.at → AreSoundAttrs resource.attrs → (all : List Span) (t : Stand) → resource_spans_at within resource before s ≡ Ok (all, t)
-    → ResourceSpans resource before s all t
-unfolding resource_spans_at list_bytes
-resource_spans_mean within resource before s is sound all t e =
-    let a = bound (run_count_at within s) (λ count. runs_at (scope_run_at within resource) count.0 false before count.1) (all, t) e in
-    let count = meant_run_count within s is a.value.0 a.value.1 a.first in
-    let runs = runs_mean (scope_run_at within resource) scope_run_bytes (GoodScope resource) (meant_scope_run within resource sound) a.value.0 false before a.value.1 count.bytes.within all t a.last in
-    let number : Took (var_bytes (length runs.rs)) s a.value.1 = subst (λ (n : ℕ). Took (var_bytes n) s a.value.1) (sym runs.size) count.bytes in
+scopes_mean : (part : Part) → ContentMeant (scopes_at part) (scopes_bytes part.extended) IsSoundResource (IsSoundOf part.extended)
+unfolding scopes_at list_bytes
+scopes_mean part resource sound before s is all t e =
+    let P : Scope → Span → Type 0 = IsOf part.extended resource in
+    let content = list_bytes (span_bytes part.extended) in
+    let bytes = run_bytes (λ s. s.scope) scope_bytes content in
+    let read = run_at same_scope (λ s. s.scope) (scope_at part.within) (scope_spans_at part resource) in
+    let a = bound (run_count_at part.within s) (λ count. runs_at read count.0 false before count.1) (all, t) e in
+    let count = meant_run_count part.within s is a.value.0 a.value.1 a.first in
+    let one = run_meant same_scope (λ s. s.scope) IsSoundScope P (scope_at part.within) scope_bytes (scope_spans_at part resource) content (λ o s p. p.of_scope) (meant_scope part.within) (scope_spans_mean part resource sound) in
+    let found = runs_mean read bytes (ReadRun same_scope (λ s. s.scope) P) one a.value.0 false before a.value.1 count.bytes.within all t a.last in
+    let few = few_before before a.value.0 found.rs found.size count.fits found.good in
+    let same : runs of_one_scope (all_of found.rs) ≡ found.rs = runs_of_all of_one_scope found.rs (are_runs same_scope (λ s. s.scope) P scope_decides (λ o s p. p.of_scope) found.rs false before found.good) in
+    let number : Took (var_bytes (length found.rs)) s a.value.1 = subst (λ (n : ℕ). Took (var_bytes n) s a.value.1) (sym found.size) count.bytes in
+    let whole : Took (var_bytes (length found.rs) ++ flat_map bytes found.rs) s t = took_then number found.bytes in
     record {
-      rs = runs.rs;
-      is = runs.is;
-      some = omega (arith, count.fits, runs.size);
-      bytes = took_then (var_bytes (length runs.rs)) (flat_map scope_run_bytes runs.rs) s a.value.1 t number runs.bytes;
-      good = runs.good;
+      more = all_of found.rs;
+      is = found.is;
+      bytes = subst (λ (l : List (Span × List Span)). Took (var_bytes (length l) ++ flat_map bytes l) s t) (sym same) whole;
+      some = some_items found.rs (omega (arith, count.fits, found.size));
+      few = few_of_runs same_scope (λ s. s.scope) P found.rs false before few found.good;
+      each = all_of_runs same_scope (λ s. s.scope) P (IsSoundOf part.extended resource) (λ o s p. ((p.sound, p.form), p.of_resource)) found.rs false before found.good;
     }
-
--- a run of one resource behind these spans
-record IsResourceRun (later : Bool) (before : List Span) (run : Span × List Span) : Type 0 where
-  of : AllByRecursion (IsOfResource run.0.resource) (items_of run)
-  few : length before + length (items_of run) ≤ 16384
-  fresh : (later && last_passes (λ span. same_resource span.resource run.0.resource) (last_of before)) ≡ false
-
-resource_run_of : (later : Bool) (before : List Span) (s u : Stand) (resource : Resource) (all : List Span) (t : Stand) (rs : List (Span × List Span)) → Took (resource_bytes resource) s u
-    → (later && last_passes (λ span. same_resource span.resource resource) (last_of before)) ≡ false → all ≡ before ++ all_of rs → 0 < length rs → Took (list_bytes scope_run_bytes rs) u t → AllGood (GoodScope resource) false before rs
-    → RunMeans resource_run_bytes IsResourceRun later before s all t
-unfolding resource_run_bytes
-resource_run_of later before s u resource all t [] took_resource fresh is some bytes good = absurd (omega arith)
-resource_run_of later before s u resource all t (r ∷ rs) took_resource fresh is some bytes good =
-    let run : Span × List Span = (r.0, r.1 ++ all_of rs) in
-    let of = all_of_resource resource (r ∷ rs) false before good in
-    let own : r.0.resource ≡ resource = of.0.1 in
-    let same : runs of_one_scope (items_of run) ≡ r ∷ rs = runs_of_all of_one_scope (r ∷ rs) (are_scope_runs resource (r ∷ rs) false before good) in
-    let whole : Took (resource_bytes resource ++ list_bytes scope_run_bytes (r ∷ rs)) s t = took_then (resource_bytes resource) (list_bytes scope_run_bytes (r ∷ rs)) s u t took_resource bytes in
-    let first : Took (resource_bytes r.0.resource ++ list_bytes scope_run_bytes (r ∷ rs)) s t = subst (λ (c : Resource). Took (resource_bytes c ++ list_bytes scope_run_bytes (r ∷ rs)) s t) (sym own) whole in
-    record {
-      run = run;
-      is = is;
-      bytes = subst (λ (l : List (Span × List Span)). Took (resource_bytes r.0.resource ++ list_bytes scope_run_bytes l) s t) (sym same) first;
-      good = record {
-        of = subst (λ (c : Resource). AllByRecursion (IsOfResource c) (items_of run)) (sym own) of;
-        few = few_of_scopes resource (r ∷ rs) false before (omega (arith, good.0.few)) good;
-        fresh = subst (λ (c : Resource). (later && last_passes (λ span. same_resource span.resource c) (last_of before)) ≡ false) (sym own) fresh;
-      };
-    }
-
-meant_resource_run : (within : Bool) → RunMeant (resource_run_at within) resource_run_bytes IsResourceRun
-unfolding resource_run_at
-meant_resource_run within later before s is all t e =
-    let a = bound (resource_at within s) (λ resource. cond (later && last_passes (λ span. same_resource span.resource resource.0) (last_of before)) (Err s.at) (resource_spans_at within resource.0 before resource.1)) (all, t) e in
-    let resource = meant_resource within s is a.value.0 a.value.1 a.first in
-    let kept = kept_else (later && last_passes (λ span. same_resource span.resource a.value.0) (last_of before)) s.at (resource_spans_at within a.value.0 before a.value.1) (all, t) a.last in
-    let spans = resource_spans_mean within a.value.0 before a.value.1 resource.bytes.within resource.fits all t kept.1 in
-    resource_run_of later before s a.value.1 a.value.0 all t spans.rs resource.bytes kept.0 spans.is spans.some spans.bytes spans.good
-
-linked_resources : (resource : Resource) (x : Span) (xs : List Span) → AllByRecursion (IsOfResource resource) (x ∷ xs) → AreLinked of_one_resource x xs
-unfolding of_one_resource
-linked_resources resource x [] all = tt
-linked_resources resource x (y ∷ ys) all = ((resource_decides x.resource y.resource).1 (all.0.1 ∙ sym all.1.0.1), linked_resources resource y ys all.1)
-
-are_resource_runs : (rs : List (Span × List Span)) (later : Bool) (before : List Span) → AllGood IsResourceRun later before rs → AreRuns of_one_resource rs
-unfolding of_one_resource
-are_resource_runs [] later before good = tt
-are_resource_runs (r ∷ []) later before good = linked_resources r.0.resource r.0 r.1 good.0.of
-are_resource_runs (r ∷ q ∷ rs) later before good = (
-  linked_resources r.0.resource r.0 r.1 good.0.of,
-  sym (ap (λ (o : Option Span). last_passes (λ span. same_resource span.resource q.0.resource) o) (last_of-run before r.0 r.1)) ∙ good.1.0.fresh,
-  are_resource_runs (q ∷ rs) true (before ++ items_of r) good.1,
-)
-
-sound_of : (resource : Resource) (xs : List Span) → AllByRecursion (IsOfResource resource) xs → AllByRecursion IsSoundSpan xs
-sound_of resource [] all = tt
-sound_of resource (x ∷ xs) all = (all.0.0, sound_of resource xs all.1)
-
-all_sound : (rs : List (Span × List Span)) (later : Bool) (before : List Span) → AllGood IsResourceRun later before rs → AllByRecursion IsSoundSpan (all_of rs)
-all_sound [] later before good = tt
-all_sound (r ∷ rs) later before good = all_join IsSoundSpan (items_of r) (all_of rs) (sound_of r.0.resource (items_of r) good.0.of) (all_sound rs true (before ++ items_of r) good.1)
-
-few_of_resources : (rs : List (Span × List Span)) (later : Bool) (before : List Span) → length before ≤ 16384 → AllGood IsResourceRun later before rs → length before + length (all_of rs) ≤ 16384
-few_of_resources [] later before few good = omega arith
-few_of_resources (r ∷ rs) later before few good =
-    let size = length-append before (items_of r) in
-    let next : length (before ++ items_of r) ≤ 16384 = omega (arith, size, good.0.few) in
-    omega (arith, size, length-append (items_of r) (all_of rs), few_of_resources rs true (before ++ items_of r) next good.1)
+  where
+    few_before : (before : List Span) (count : ℕ) (rs : List (Span × List Span)) → length rs ≡ count → 0 < count → AllGood (ReadRun same_scope (λ s. s.scope) (IsOf part.extended resource)) false before rs → length before ≤ MOST_SPANS
+    few_before before count [] size some good = absurd (omega arith)
+    few_before before count (r ∷ rs) size some good = omega (arith, good.0.few)
 
 -- ---- bodies
 
-abbrev spans_bytes : List Span → List ℕ
-spans_bytes spans = list_bytes resource_run_bytes (runs of_one_resource spans)
+record AreSoundIn (extended : Bool) (spans : List Span) : Type 0 where
+  each : AllByRecursion (IsSoundIn extended) spans
+  few : length spans ≤ MOST_SPANS
 
-record AreSound (spans : List Span) : Type 0 where
-  each : AllByRecursion IsSoundSpan spans
-  few : length spans ≤ 16384
-
-meant_spans : (within : Bool) → Meant (spans_at within) spans_bytes AreSound
+meant_spans : (part : Part) → ReadIsEncoded (spans_at part) (spans_bytes part.extended) (AreSoundIn part.extended)
 unfolding spans_at list_bytes
-meant_spans within s is spans t e =
-    let a = bound (in_part within var_at s) (λ count. runs_at (resource_run_at within) count.0 false [] count.1) (spans, t) e in
-    let count = meant_var within s is a.value.0 a.value.1 a.first in
-    let found = runs_mean (resource_run_at within) resource_run_bytes IsResourceRun (meant_resource_run within) a.value.0 false [] a.value.1 count.bytes.within spans t a.last in
-    let same : runs of_one_resource (all_of found.rs) ≡ found.rs = runs_of_all of_one_resource found.rs (are_resource_runs found.rs false [] found.good) in
+meant_spans part s is spans t e =
+    let P : Resource → Span → Type 0 = IsSoundOf part.extended in
+    let bytes = run_bytes (λ s. s.resource) resource_bytes (scopes_bytes part.extended) in
+    let read = run_at same_resource (λ s. s.resource) (resource_at part.within) (scopes_at part) in
+    let a = bound (in_part part.within var_at s) (λ count. runs_at read count.0 false [] count.1) (spans, t) e in
+    let count = meant_var part.within s is a.value.0 a.value.1 a.first in
+    let one = run_meant same_resource (λ s. s.resource) IsSoundResource P (resource_at part.within) resource_bytes (scopes_at part) (scopes_bytes part.extended) (λ o s p. p.1) (meant_resource part.within) (scopes_mean part) in
+    let found = runs_mean read bytes (ReadRun same_resource (λ s. s.resource) P) one a.value.0 false [] a.value.1 count.bytes.within spans t a.last in
+    let same : runs of_one_resource (all_of found.rs) ≡ found.rs = runs_of_all of_one_resource found.rs (are_runs same_resource (λ s. s.resource) P resource_decides (λ o s p. p.1) found.rs false [] found.good) in
     let number : Took (var_bytes (length found.rs)) s a.value.1 = subst (λ (n : ℕ). Took (var_bytes n) s a.value.1) (sym found.size) count.bytes in
-    let whole = took_then (var_bytes (length found.rs)) (flat_map resource_run_bytes found.rs) s a.value.1 t number found.bytes in
-    renamed (λ (l : List Span). var_bytes (length (runs of_one_resource l)) ++ flat_map resource_run_bytes (runs of_one_resource l)) AreSound s (all_of found.rs) spans t t (sym found.is) refl
+    let whole : Took (var_bytes (length found.rs) ++ flat_map bytes found.rs) s t = took_then number found.bytes in
+    renamed (λ (l : List Span). var_bytes (length (runs of_one_resource l)) ++ flat_map bytes (runs of_one_resource l)) (AreSoundIn part.extended) s (all_of found.rs) spans t t (sym found.is) refl
     (record {
-      bytes = subst (λ (l : List (Span × List Span)). Took (var_bytes (length l) ++ flat_map resource_run_bytes l) s t) (sym same) whole;
-      fits = record { each = all_sound found.rs false [] found.good; few = omega (arith, few_of_resources found.rs false [] (omega arith) found.good) };
+      bytes = subst (λ (l : List (Span × List Span)). Took (var_bytes (length l) ++ flat_map bytes l) s t) (sym same) whole;
+      fits = record {
+        each = all_of_runs same_resource (λ s. s.resource) P (IsSoundIn part.extended) (λ o s p. p.0) found.rs false [] found.good;
+        few = omega (arith, few_of_runs same_resource (λ s. s.resource) P found.rs false [] (omega arith) found.good);
+      };
     })
 
-pub meant_body : (within : Bool) (number : ℕ) → Meant (body_at within number) (body_bytes number) (IsSoundBatch number)
+-- ---- the form
+
+none_extended : (spans : List Span) → AllByRecursion (IsSoundIn false) spans → list_any is_extended spans ≡ false
+none_extended [] all = refl
+none_extended (x ∷ xs) all = rw (all.0.1.0, all.0.1.1) (none_extended xs all.1)
+
+each_sound : (extended : Bool) (spans : List Span) → AllByRecursion (IsSoundIn extended) spans → AllByRecursion IsSoundSpan spans
+each_sound extended [] all = tt
+each_sound extended (x ∷ xs) all = (all.0.0, each_sound extended xs all.1)
+
+-- spans in the form that they need
+record AreWhole (extended : Bool) (spans : List Span) : Type 0 where
+  sound : AreSoundIn extended spans
+  form : are_extended spans ≡ extended
+
+not_false : (b : Bool) → not b ≡ false → b ≡ true
+not_false true is = refl
+not_false false is = absurd (cc)
+
+form_kept : (extended : Bool) (spans : List Span) → AllByRecursion (IsSoundIn extended) spans → (extended && not (are_extended spans)) ≡ false → are_extended spans ≡ extended
+unfolding are_extended
+form_kept true spans all kept = not_false (list_any is_extended spans) kept
+form_kept false spans all kept = none_extended spans all
+
+meant_all_spans : (start : ℕ) (part : Part) → ReadIsEncoded (all_spans_at start part) (spans_bytes part.extended) (AreWhole part.extended)
+unfolding all_spans_at
+meant_all_spans start part s is spans t e =
+    let a = bound (spans_at part s) (λ x. cond (part.extended && not (are_extended x.0)) (Err start) (Ok x)) (spans, t) e in
+    let found = meant_spans part s is a.value.0 a.value.1 a.first in
+    let kept = kept_else (part.extended && not (are_extended a.value.0)) start (Ok a.value) (spans, t) a.last in
+    let same = same_pair a.value.0 spans a.value.1 t kept.1 in
+    renamed (spans_bytes part.extended) (AreWhole part.extended) s a.value.0 spans a.value.1 t same.0 same.1
+    (record { bytes = found.bytes; fits = record { sound = found.fits; form = form_kept part.extended a.value.0 found.fits.each kept.0 } })
+
+record FormMeans (number first : ℕ) (extended : Bool) : Type 0 where
+  below : number < 4294967295
+  is : first ≡ first_field extended number
+
+chosen_none : (b : Bool) (x : Option Bool) (y : Bool) → cond b x None ≡ Some y → (b ≡ true) × (x ≡ Some y)
+chosen_none true x y e = (refl, e)
+chosen_none false x y e = absurd (none-some y e)
+
+form_means : (number first : ℕ) (extended : Bool) → form_of number first ≡ Some extended → FormMeans number first extended
+form_means number first extended e =
+    let low = chosen_none (ltb number 4294967295) _ extended e in
+    let below : number < 4294967295 = ltb-true number 4294967295 low.0 in
+    elim (chosen (eqb first number) (Some false) _ (Some extended) low.1) [
+      | inl h ↦ let is : first ≡ number = eqb-true first number h.0 in subst (λ (b : Bool). FormMeans number first b) (same_Some false extended h.1) (record { below = below; is = is })
+      | inr h ↦
+          let g = chosen_none (eqb first (number + 2 ^ 56)) (Some true) extended h.1 in
+          let is : first ≡ number + 2 ^ 56 = eqb-true first (number + 2 ^ 56) g.0 in
+          subst (λ (b : Bool). FormMeans number first b) (same_Some true extended g.1) (record { below = below; is = omega arith })
+    ]
+
+pub meant_body : (within : Bool) (number : ℕ) → ReadIsEncoded (body_at within number) (body_bytes number) (IsSoundBatch number)
 unfolding body_at body_bytes
 meant_body within number s is spans t e =
-    let a = bound (in_part within fixed64_at s) (λ found. cond (eqb found.0 number && ltb number 4294967295) (spans_at within found.1) (Err s.at)) (spans, t) e in
-    let found = meant_fixed64 within s is a.value.0 a.value.1 a.first in
-    let kept = kept_then (eqb a.value.0 number && ltb number 4294967295) s.at (spans_at within a.value.1) (spans, t) a.last in
-    let tests = and_parts (eqb a.value.0 number) (ltb number 4294967295) kept.0 in
-    let rest = meant_spans within a.value.1 found.bytes.within spans t kept.1 in
-    let own : Took (fixed64_bytes number) s a.value.1 = subst (λ (n : ℕ). Took (fixed64_bytes n) s a.value.1) (eqb-true a.value.0 number tests.0) found.bytes in
-    record { bytes = took_then (fixed64_bytes number) (spans_bytes spans) s a.value.1 t own rest.bytes; fits = record { below = ltb-true number 4294967295 tests.1; few = rest.fits.few; each = rest.fits.each } }
+    let a = bound (in_part within fixed64_at s) (λ first. or_break s.at (form_of number first.0) first.1 >>= λ form. all_spans_at s.at (record { within = within; extended = form.0 }) form.1) (spans, t) e in
+    let first = meant_fixed64 within s is a.value.0 a.value.1 a.first in
+    let b = bound (or_break s.at (form_of number a.value.0) a.value.1) (λ form. all_spans_at s.at (record { within = within; extended = form.0 }) form.1) (spans, t) a.last in
+    let extended = b.value.0 in
+    let form = or_break_ok s.at (form_of number a.value.0) a.value.1 extended b.value.1 b.first in
+    let means = form_means number a.value.0 extended form.0 in
+    let there : IsWithin b.value.1.whole b.value.1.at = subst (λ (v : Stand). IsWithin v.whole v.at) form.1 first.bytes.within in
+    let rest = meant_all_spans s.at (record { within = within; extended = extended }) b.value.1 there spans t b.last in
+    let own : Took (fixed64_bytes (first_field extended number)) s b.value.1 = subst (λ (v : Stand). Took (fixed64_bytes (first_field extended number)) s v) form.1 (subst (λ (n : ℕ). Took (fixed64_bytes n) s a.value.1) means.is first.bytes) in
+    let whole : Took (fixed64_bytes (first_field extended number) ++ spans_bytes extended spans) s t = took_then own rest.bytes in
+    record {
+      bytes = subst (λ (b : Bool). Took (fixed64_bytes (first_field b number) ++ spans_bytes b spans) s t) (sym rest.fits.form) whole;
+      fits = record { below = means.below; few = rest.fits.sound.few; each = each_sound extended spans rest.fits.sound.each };
+    }

@@ -2,7 +2,7 @@
 #![tactic(auto)]
 
 mod bodies;
-mod breaks;
+mod groups;
 mod laws;
 mod numbered;
 mod prepared;
@@ -12,11 +12,8 @@ mod records;
 mod segment;
 mod writing;
 
-pub use laws::{read_is_spelled, spelled_is_read};
+pub use laws::{encoded_is_read, entries_of_lists, one_meaning, read_is_encoded};
 pub use numbered::{Numbered, NumberedBatch};
 pub use prepared::Prepared;
 pub use read_back::{LogError, scan};
 pub use segment::{Segment, append, create};
-
-#[cfg(test)]
-mod tests;

@@ -4,7 +4,7 @@ ghost use Rattle.std.specs.Prelude.{◌≡◌, ◌<◌, ◌≤◌, ◌^◌, ◌+
 ghost use Rattle.byte_fields.specs.Spelling.{fixed64_bytes};
 ghost use Rattle.head_log.specs.Bodies.{body_bytes};
 ghost use Rattle.head_log.specs.Records.{framed};
-ghost use Rattle.head_log.specs.Stands.{IsBody};
+ghost use Rattle.head_log.specs.Stands.{IsBatchBody};
 
 use crate::writing::put_body;
 use byte_fields::Writer;
@@ -38,7 +38,7 @@ impl Prepared {
     pub fn of(alloc: Global, number: u64, batch: &Batch) -> Result<Prepared, Memory>
         ensures number { IfOk result (λ p. p.number ≡ number) }
         ensures spelled { IfOk result (λ p. p.body ≡ body_bytes number batch.now.spans) }
-        ensures body { number < 4294967295 → IfOk result (λ p. IsBody number batch.now.spans p.body) }
+        ensures body { number < 4294967295 → IfOk result (λ p. IsBatchBody number batch.now.spans p.body) }
     {
         let mut out = Writer::new(alloc);
         out.fixed64(0)?;

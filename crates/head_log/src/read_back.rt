@@ -2,18 +2,18 @@
 
 ghost use Rattle.std.specs.Prelude.{◌≡◌, ◌<◌, ◌≤◌, ◌+◌, ◌-◌, ◌++◌, ℕ, All, List, min, take, drop, IsTrue, IfOk, OnErr, IsErrOf, length};
 ghost use Rattle.disk_model.specs.Images.{bytes_of, SameBytes};
-ghost use Rattle.disk_model.specs.Crash.{Within, LeavesOnly};
+ghost use Rattle.disk_model.specs.Crash.{Untouched};
 ghost use Rattle.span_types.specs.declared.spans.Span.{Span};
 ghost use Rattle.head_log.specs.Entries.{entries};
 ghost use Rattle.head_log.specs.Outcomes.{IsAt, Scans, Recalls, CausesFault};
-ghost use Rattle.head_log.specs.Stands.{StandsFor};
-ghost use Rattle.head_log.specs.Blocks.{CausesUnread, Untouched};
+ghost use Rattle.head_log.specs.Stands.{SegmentHolds};
+ghost use Rattle.head_log.specs.Blocks.{CausesUnread};
 
-use crate::breaks::Break;
 use crate::numbered::Numbered;
 use crate::records::read_segment;
 use crate::segment::Segment;
 use disk_model::Device;
+use span_fields::Break;
 use span_types::Failed;
 use std::alloc::{AllocError, Global};
 use thiserror::Error;
@@ -77,8 +77,8 @@ pub fn scan<D: Device>(
     first: u64,
 ) -> Result<(Segment, Numbered), LogError>
     ensures reads { IsTrue (D.tells disk.old) → Scans file first (bytes_of (D.held disk.old) file) result }
-    ensures kept { IsTrue (D.tells disk.old) → (batches : List (List Span)) (gate : ℕ) → StandsFor first batches gate (bytes_of (D.held disk.old) file) → Recalls first batches gate result }
-    ensures stands { IsTrue (D.tells disk.old) → IfOk result (λ x. (batches : List (List Span)) × (x.1 ≡ entries first batches) × StandsFor first batches x.0.gate (bytes_of (D.held disk.old) file)) }
+    ensures kept { IsTrue (D.tells disk.old) → (batches : List (List Span)) (gate : ℕ) → SegmentHolds first batches gate (bytes_of (D.held disk.old) file) → Recalls first batches gate result }
+    ensures stands { IsTrue (D.tells disk.old) → IfOk result (λ x. (batches : List (List Span)) × (x.1 ≡ entries first batches) × SegmentHolds first batches x.0.gate (bytes_of (D.held disk.old) file)) }
 
     // The answer has this form over a disk that doesn't tell its bytes too.
     ensures named { IfOk result (λ x. IsAt x.0 file first (length x.1)) }
@@ -124,7 +124,7 @@ fn read_file<D: Device>(alloc: Global, disk: &mut D, file: u32) -> Result<Vec<u8
     Err(Unread::Memory)
 }
 
-/// Reads the bytes behind those that were read, as many as the block holds, and answers how many they are.
+/// Reads the bytes after those that were read, as many as the block holds, and answers how many they are.
 fn read_more<D: Device>(
     disk: &mut D,
     file: u32,

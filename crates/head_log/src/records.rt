@@ -2,13 +2,13 @@
 
 ghost use Rattle.std.specs.Prelude.{◌≡◌, ◌≤◌, ◌<◌, [], Ok, IfOk, OnOk, length};
 ghost use Rattle.byte_fields.specs.Reading.{AreBytes};
-ghost use Rattle.head_log.specs.Breaks.{Answers, Gives};
+ghost use Rattle.span_fields.specs.Breaks.{Answers, Gives};
 ghost use Rattle.head_log.specs.Scanning.{body_in, record_at, records_at, segment_at};
 
 use crate::bodies::body;
-use crate::breaks::{self, Break};
 use crate::numbered::NumberedBatch;
 use byte_fields::Reader;
+use span_fields::{Break, byte, fixed64};
 use span_types::{Batch, Span, Spans};
 use std::alloc::Global;
 
@@ -30,7 +30,7 @@ pub fn read_segment(
     ensures within { IfOk result (λ x. x.1 ≤ length bytes.now) }
 {
     let mut reader = Reader::new(alloc, bytes);
-    if breaks::byte(&mut reader, false)? != VERSION {
+    if byte(&mut reader, false)? != VERSION {
         return Err(Break::At(0));
     }
     records(alloc, bytes, reader.at(), first)
@@ -52,7 +52,7 @@ fn records(
     let mut number = first;
     for _ in 0..bytes.len() {
         let mut reader = Reader::starting_at(alloc, bytes, gate);
-        if breaks::byte(&mut reader, false)? != OPEN {
+        if byte(&mut reader, false)? != OPEN {
             return Ok((batches, gate));
         }
         let (spans, end) = record(alloc, bytes, reader.at(), number)?;
@@ -68,7 +68,7 @@ fn records(
     Err(Break::At(gate))
 }
 
-/// The spans of the record behind the gate, and the place behind its body.
+/// The spans of the record after the gate, and the place after its body.
 #[tactic(auto, unfolding(crate::specs::Scanning::record_at))]
 fn record(alloc: Global, bytes: &[u8], at: u64, number: u64) -> Result<(Vec<Span>, u64), Break>
     requires { at ≤ length bytes.now }
@@ -77,11 +77,11 @@ fn record(alloc: Global, bytes: &[u8], at: u64, number: u64) -> Result<(Vec<Span
     ensures below { OnOk result (number < 4294967295) }
 {
     let mut reader = Reader::starting_at(alloc, bytes, at);
-    let len = breaks::fixed64(&mut reader, false)?;
+    let len = fixed64(&mut reader, false)?;
     body_part(alloc, bytes, reader.at(), len, number)
 }
 
-/// The spans of the body of `len` bytes that begins at `start`, and the place behind it.
+/// The spans of the body of `len` bytes that begins at `start`, and the place after it.
 #[tactic(auto, unfolding(crate::specs::Scanning::body_in))]
 fn body_part(
     alloc: Global,

@@ -1,10 +1,11 @@
 //! A segment that is written, and how a record is added to it.
 
-ghost use Rattle.std.specs.Prelude.{◌≡◌, ℕ, ◌+◌, ◌<◌, ◌^◌, List, [], ◌∷◌, ◌++◌, length, IsTrue, OnOk, OnErr};
+ghost use Rattle.std.specs.Prelude.{◌≡◌, ℕ, ◌+◌, ◌<◌, ◌≤◌, ◌^◌, List, [], ◌∷◌, ◌++◌, length, IsTrue, OnOk, OnErr};
 ghost use Rattle.disk_model.specs.Images.{bytes_of, Besides};
-ghost use Rattle.disk_model.specs.Crash.{OnlyBytes, Passes, HasCause};
-ghost use Rattle.head_log.specs.Records.{HasBodies, IsEarlierOrWith, framed};
-ghost use Rattle.head_log.specs.Stands.{IsBody, StandsFor, KeepsEarlierOrWith};
+ghost use Rattle.disk_model.specs.Counts.{MakesCalls};
+ghost use Rattle.disk_model.specs.Crash.{OnlyBytes, RunInFile, HasCause};
+ghost use Rattle.head_log.specs.Records.{HasBodies, SegmentIsEither, framed};
+ghost use Rattle.head_log.specs.Stands.{IsBatchBody, SegmentHolds, SegmentKeepsEither};
 ghost use Rattle.span_types.specs.declared.spans.Span.{Span};
 
 use crate::Prepared;
@@ -47,15 +48,17 @@ impl Segment {
 
 /// Turns a file into a segment without records, whatever it held. What is written lasts before `Ok` is answered.
 pub fn create<D: Device>(disk: &mut D, file: u32) -> Result<(), Failed>
-    // At `Ok` every image holds the empty segment.
-    ensures empty { IsTrue (D.tells disk.old) → OnOk result (StandsFor 0 [] 1 (bytes_of (D.held disk.new) file)
+    // At `Ok` every image holds the empty segment, whose first record may have any number.
+    ensures empty { (first : ℕ) → IsTrue (D.tells disk.old) → OnOk result (SegmentHolds first [] 1 (bytes_of (D.held disk.new) file)
         × OnlyBytes file (bytes_of (D.held disk.new) file) (D.may_leave disk.new)) }
     ensures bytes { IsTrue (D.tells disk.old) → OnOk result (bytes_of (D.held disk.new) file ≡ 1 ∷ 0 ∷ []) }
 
     // Whatever a crash leaves of this file, it leaves every other file as it was.
-    ensures any_moment { Passes D.moment D.left_since D.may_leave file (λ bytes. Unit {0}) (λ bytes. Unit {0}) disk.old disk.new }
+    ensures any_moment { RunInFile D.moment D.left_since D.may_leave file (λ bytes. Unit {0}) (λ bytes. Unit {0}) disk.old disk.new }
     ensures besides { IsTrue (D.tells disk.old) → Besides file (D.held disk.old) (D.held disk.new) }
 
+    ensures time { D.moment disk.old ≤ D.moment disk.new }
+    ensures calls { MakesCalls 3 (D.calls disk.old) (D.calls disk.new) result }
     ensures telling { D.tells disk.new ≡ D.tells disk.old }
     ensures cause { HasCause (D.faults disk.old) (D.faults disk.new) result }
     ensures no_read { D.reads disk.new ≡ D.reads disk.old }
@@ -76,21 +79,26 @@ pub fn append<D: Device>(disk: &mut D, seg: &mut Segment, entry: &Prepared) -> R
     // The file stands for these batches whatever a crash leaves of it, with its closed gate where the segment says. Then it
     // stands for them, with or without the new one, whenever a crash comes in the call.
     ensures any_moment { (batches : List (List Span)) (spans : List Span) (known : List ℕ) → IsTrue (D.tells disk.old)
-        → OnlyBytes seg.old.file known (D.may_leave disk.old) → StandsFor seg.old.first batches seg.old.gate known
-        → length batches ≡ seg.old.count → IsBody entry.now.number spans entry.now.body
-        → Passes D.moment D.left_since D.may_leave seg.old.file (KeepsEarlierOrWith seg.old.first batches spans) (KeepsEarlierOrWith seg.old.first batches spans) disk.old disk.new }
+        → OnlyBytes seg.old.file known (D.may_leave disk.old) → SegmentHolds seg.old.first batches seg.old.gate known
+        → length batches ≡ seg.old.count → IsBatchBody entry.now.number spans entry.now.body
+        → RunInFile D.moment D.left_since D.may_leave seg.old.file (SegmentKeepsEither seg.old.first batches spans) (SegmentKeepsEither seg.old.first batches spans) disk.old disk.new }
 
     // Behind an `Ok` nothing but the batches and the new one can be left, and the segment counts it.
     ensures acknowledged { (batches : List (List Span)) (spans : List Span) (known : List ℕ) → IsTrue (D.tells disk.old)
-        → OnlyBytes seg.old.file known (D.may_leave disk.old) → StandsFor seg.old.first batches seg.old.gate known
-        → length batches ≡ seg.old.count → IsBody entry.now.number spans entry.now.body
-        → OnOk result (StandsFor seg.old.first (batches ++ spans ∷ []) seg.new.gate (bytes_of (D.held disk.new) seg.old.file)
+        → OnlyBytes seg.old.file known (D.may_leave disk.old) → SegmentHolds seg.old.first batches seg.old.gate known
+        → length batches ≡ seg.old.count → IsBatchBody entry.now.number spans entry.now.body
+        → OnOk result (SegmentHolds seg.old.first (batches ++ spans ∷ []) seg.new.gate (bytes_of (D.held disk.new) seg.old.file)
         × OnlyBytes seg.old.file (bytes_of (D.held disk.new) seg.old.file) (D.may_leave disk.new)) }
     ensures shown { OnOk result ((seg.new.file ≡ seg.old.file) × (seg.new.first ≡ seg.old.first) × (seg.new.count ≡ seg.old.count + 1)) }
     ensures gate { OnOk result (seg.new.gate ≡ seg.old.gate + 9 + length entry.now.body) }
     ensures stays { OnErr result (seg.new ≡ seg.old) }
 
+    // Over any disk, whatever the file held: the other files stay as they were.
+    ensures any_file { RunInFile D.moment D.left_since D.may_leave seg.old.file (λ bytes. Unit {0}) (λ bytes. Unit {0}) disk.old disk.new }
     ensures besides { IsTrue (D.tells disk.old) → Besides seg.old.file (D.held disk.old) (D.held disk.new) }
+
+    ensures time { D.moment disk.old ≤ D.moment disk.new }
+    ensures calls { MakesCalls 4 (D.calls disk.old) (D.calls disk.new) result }
     ensures telling { D.tells disk.new ≡ D.tells disk.old }
     ensures cause { HasCause (D.faults disk.old) (D.faults disk.new) result }
     ensures no_read { D.reads disk.new ≡ D.reads disk.old }
@@ -110,7 +118,7 @@ fn append_record<D: Device>(disk: &mut D, file: u32, gate: u64, text: &[u8]) -> 
     // Whenever a crash comes, the earlier records are there, with or without the new one.
     ensures any_moment { (bodies : List (List ℕ)) (body known : List ℕ) → IsTrue (D.tells disk.old) → text.now ≡ framed body → length body < 2 ^ 64
         → OnlyBytes file known (D.may_leave disk.old) → HasBodies bodies gate known
-        → Passes D.moment D.left_since D.may_leave file (IsEarlierOrWith bodies body) (IsEarlierOrWith bodies body) disk.old disk.new }
+        → RunInFile D.moment D.left_since D.may_leave file (SegmentIsEither bodies body) (SegmentIsEither bodies body) disk.old disk.new }
 
     // Behind an `Ok` the new one can't be lost.
     ensures acknowledged { (bodies : List (List ℕ)) (body known : List ℕ) → IsTrue (D.tells disk.old) → text.now ≡ framed body → length body < 2 ^ 64
@@ -119,6 +127,8 @@ fn append_record<D: Device>(disk: &mut D, file: u32, gate: u64, text: &[u8]) -> 
         × OnlyBytes file (bytes_of (D.held disk.new) file) (D.may_leave disk.new)) }
 
     ensures near { OnOk result (gate + length text.now < 2 ^ 63) }
+    ensures any_file { RunInFile D.moment D.left_since D.may_leave file (λ bytes. Unit {0}) (λ bytes. Unit {0}) disk.old disk.new }
+    ensures calls { MakesCalls 4 (D.calls disk.old) (D.calls disk.new) result }
     ensures besides { IsTrue (D.tells disk.old) → Besides file (D.held disk.old) (D.held disk.new) }
     ensures telling { D.tells disk.new ≡ D.tells disk.old }
     ensures cause { HasCause (D.faults disk.old) (D.faults disk.new) result }

@@ -7,3 +7,5 @@ mod disk;
 mod fields;
 #[cfg(test)]
 mod list;
+#[cfg(test)]
+mod log;

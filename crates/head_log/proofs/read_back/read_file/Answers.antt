@@ -1,7 +1,8 @@
 use Rattle.std.proofs.Common.{◌≡◌, ◌-◌, min, ◌++◌, List, ℕ, length, take, drop, ◌∙◌, refl, sym, ap, subst, arith}
 use Rattle.std.specs.Prelude.{IsTrue}
 use Rattle.disk_model.specs.Images.{bytes_of}
-use Rattle.head_log.proofs.FileReading.{untouched_same, untouched_then, front_more}
+use Rattle.disk_model.proofs.Runs.{untouched_same, untouched_then}
+use Rattle.head_log.proofs.FileReading.{front_more}
 use Rattle.head_log.proofs.read_back.read_file.Goals as goal
 
 pub loop-init : goal.loop-init

@@ -1,7 +1,7 @@
 use Rattle.std.proofs.Common.{◌≡◌, ◌≤◌, length, take}
 use Rattle.std.specs.Prelude.{IsTrue}
 use Rattle.disk_model.specs.Images.{bytes_of}
-use Rattle.head_log.specs.Blocks.{Untouched}
+use Rattle.disk_model.specs.Crash.{Untouched}
 use Rattle.head_log.proofs.read_back.read_file.Given as goal
 
 abbrev pub invariant-loop : goal.invariant-loop

@@ -6,6 +6,7 @@ use Rattle.disk_model.specs.Crash.{OnlyBytes}
 use Rattle.disk_model.proofs.Passing.{passes_more, passes_then}
 use Rattle.head_log.specs.Records.{framed, HasBodies}
 use Rattle.head_log.proofs.Appending.{gate_torn, gate_opened, earlier, on_ok_both}
+use Rattle.head_log.proofs.Standing.{Anything, passes_any}
 use Rattle.head_log.proofs.segment.append_record.Goals as goal
 
 pub returns-in_err-write_through-clause-any_moment : goal.returns-in_err-write_through-clause-any_moment
@@ -43,3 +44,19 @@ returns-clause-acknowledged g c = λ bodies body known tells text fits only has.
     (λ bytes lasting.
     let is = bytes ∙ ap (λ (b : List ℕ). overwritten b gate (1 ∷ [])) now in
     (subst (λ (b : List ℕ). HasBodies (bodies ++ body ∷ []) (gate + length c.args.text.now) b) (sym is) (subst (λ (k : ℕ). HasBodies (bodies ++ body ∷ []) k (overwritten (overwritten known (gate + 1) (framed body)) gate (1 ∷ []))) end opened), lasting))
+
+pub returns-in_err-write_through-clause-any_file : goal.returns-in_err-write_through-clause-any_file
+returns-in_err-write_through-clause-any_file g c =
+    let D = g.D.Device in
+    let e = c.in_err-write_through.ensures in
+    passes_any D.moment D.left_since D.may_leave c.args.file (Torn (c.args.gate + 1) (length c.args.text.now)) c.args.disk.now _ e.any_moment e.crash
+
+pub returns-clause-any_file : goal.returns-clause-any_file
+returns-clause-any_file g c =
+    let D = g.D.Device in
+    let file = c.args.file in
+    let one = c.in_ok-write_through.ensures in
+    let two = c.write_through-2.ensures in
+    let first = passes_any D.moment D.left_since D.may_leave file (Torn (c.args.gate + 1) (length c.args.text.now)) c.args.disk.now c.write_through.new.disk one.any_moment one.crash in
+    let second = passes_any D.moment D.left_since D.may_leave file (Torn c.args.gate 1) c.write_through.new.disk c.write_through-2.new.disk two.any_moment two.crash in
+    passes_then D.moment D.left_since D.may_leave file Anything Anything Anything Anything c.args.disk.now c.write_through.new.disk c.write_through-2.new.disk first second (λ bytes is. is)

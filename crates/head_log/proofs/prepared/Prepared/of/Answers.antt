@@ -1,14 +1,12 @@
-use Rattle.std.proofs.Common.{◌≡◌, ◌-◌, ◌∷◌, [], ◌++◌, ℕ, All, List, length, drop, ap, ◌∙◌, arith, subst}
+use Rattle.std.proofs.Common.{◌≡◌, ◌-◌, ◌∷◌, [], ◌++◌, ℕ, List, length, drop, ap, ◌∙◌, arith, subst}
 use Rattle.span_types.specs.declared.spans.Batch.{Batch}
 use Rattle.span_types.specs.declared.spans.Span.{Span}
-use Rattle.span_runs.specs.Runs.{runs}
-use Rattle.span_runs.specs.Same.{of_one_resource}
 use Rattle.byte_fields.specs.Spelling.{fixed64_bytes}
-use Rattle.head_log.specs.Bodies.{body_bytes}
+use Rattle.head_log.specs.Bodies.{are_extended, body_bytes}
 use Rattle.head_log.specs.Framing.{body_of}
 use Rattle.head_log.specs.Records.{framed}
-use Rattle.head_log.specs.Stands.{IsBody}
-use Rattle.head_log.specs.Written.{IsSoundResourceRun}
+use Rattle.head_log.specs.Stands.{IsBatchBody}
+use Rattle.head_log.specs.Written.{AreSoundResources}
 use Rattle.head_log.proofs.FramingLemmas.{is_framed, body_is, IsFramed-of}
 use Rattle.head_log.proofs.Promised.{spans_sound}
 use Rattle.head_log.proofs.prepared.Prepared.of.Goals as goal
@@ -34,8 +32,8 @@ returns-clause-spelled c =
 -- The batch's type promises how many spans it has, and what was written what the types of the spans promise.
 pub returns-clause-body : goal.returns-clause-body
 returns-clause-body c = λ below.
-    let runs_are = subst (λ (l : List Span). All IsSoundResourceRun (runs of_one_resource l)) c.as_slice.ensures c.in_ok-put_body.ensures.sound in
-    subst (λ (b : Batch). IsBody c.args.number b.spans (body_of c.set_length.new.text.items)) c.batch.view_is
+    let runs_are = subst (λ (l : List Span). AreSoundResources (are_extended l) l) c.as_slice.ensures c.in_ok-put_body.ensures.sound in
+    subst (λ (b : Batch). IsBatchBody c.args.number b.spans (body_of c.set_length.new.text.items)) c.batch.view_is
     (record {
       spelled = body_is _ c.set_length.new.text.items (made c);
       sound = record { below = below; few = c.batch.invariant; each = spans_sound c.batch.inside.spans runs_are };

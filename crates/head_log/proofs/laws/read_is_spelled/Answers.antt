@@ -1,5 +1,0 @@
-use Rattle.head_log.proofs.MeantRecords.{segment_means}
-use Rattle.head_log.proofs.laws.read_is_spelled.Goals as goal
-
-pub returns : goal.returns
-returns c = λ first bytes found end fit read. segment_means first bytes found end fit read

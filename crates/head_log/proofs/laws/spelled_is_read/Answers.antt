@@ -1,5 +1,0 @@
-use Rattle.head_log.proofs.AgainRecords.{segment_again}
-use Rattle.head_log.proofs.laws.spelled_is_read.Goals as goal
-
-pub returns : goal.returns
-returns c = λ first gate batches bytes fit stands. segment_again first batches gate bytes fit stands
