@@ -47,9 +47,13 @@ trait Level {
 
     /// One such object.
     fn read(&self, alloc: Global, value: &Value, gathered: &mut Gathered) -> Result<(), Stop>
-        ensures spans { OnOk result (gathered.new.spans.items ≡ gathered.old.spans.items ++ spans_of self.now (view value.now)) }
-        ensures skipped { OnOk result (Adds gathered.old.skipped gathered.new.skipped (skipped_of (view value.now))) }
-        ensures objects { OnOk result (Adds gathered.old.objects gathered.new.objects (objects_of (view value.now))) }
+        ensures spans { OnOk result
+            (gathered.new.spans.items ≡ gathered.old.spans.items
+            ++ spans_of self.now (view value.now)) }
+        ensures skipped { OnOk result
+            (Adds gathered.old.skipped gathered.new.skipped (skipped_of (view value.now))) }
+        ensures objects { OnOk result
+            (Adds gathered.old.objects gathered.new.objects (objects_of (view value.now))) }
         ensures right { OnOk result (first_wrong form (view value.now) ≡ None) }
         ensures wrong { StopsAt result (first_wrong form (view value.now)) };
 }
@@ -61,10 +65,17 @@ fn read_all<L: Level>(
     values: &[Value],
     gathered: &mut Gathered,
 ) -> Result<(), Stop>
-    ensures spans { OnOk result (gathered.new.spans.items ≡ gathered.old.spans.items ++ flat_map (L.spans_of level.now) (map view values.now)) }
-    ensures skipped { OnOk result (Adds gathered.old.skipped gathered.new.skipped (total L.skipped_of (map view values.now))) }
-    ensures objects { OnOk result (Adds gathered.old.objects gathered.new.objects (total L.objects_of (map view values.now))) }
-    ensures right { OnOk result (first_in_items (first_wrong L.form) 0 (map view values.now) ≡ None) }
+    ensures spans { OnOk result
+        (gathered.new.spans.items ≡ gathered.old.spans.items
+        ++ flat_map (L.spans_of level.now) (map view values.now)) }
+    ensures skipped { OnOk result
+        (Adds gathered.old.skipped gathered.new.skipped
+        (total L.skipped_of (map view values.now))) }
+    ensures objects { OnOk result
+        (Adds gathered.old.objects gathered.new.objects
+        (total L.objects_of (map view values.now))) }
+    ensures right { OnOk result
+        (first_in_items (first_wrong L.form) 0 (map view values.now) ≡ None) }
     ensures wrong { StopsAt result (first_in_items (first_wrong L.form) 0 (map view values.now)) }
 {
     for i in 0..values.len() {
@@ -84,9 +95,15 @@ fn read_member<L: Level>(
     member: Member,
     gathered: &mut Gathered,
 ) -> Result<(), Stop>
-    ensures spans { OnOk result (gathered.new.spans.items ≡ gathered.old.spans.items ++ flat_map (L.spans_of level.now) (list_in member (view value.now))) }
-    ensures skipped { OnOk result (Adds gathered.old.skipped gathered.new.skipped (total L.skipped_of (list_in member (view value.now)))) }
-    ensures objects { OnOk result (Adds gathered.old.objects gathered.new.objects (total L.objects_of (list_in member (view value.now)))) }
+    ensures spans { OnOk result
+        (gathered.new.spans.items ≡ gathered.old.spans.items
+        ++ flat_map (L.spans_of level.now) (list_in member (view value.now))) }
+    ensures skipped { OnOk result
+        (Adds gathered.old.skipped gathered.new.skipped
+        (total L.skipped_of (list_in member (view value.now)))) }
+    ensures objects { OnOk result
+        (Adds gathered.old.objects gathered.new.objects
+        (total L.objects_of (list_in member (view value.now)))) }
     ensures right { OnOk result (first_in_field member (ListOf L.form) (view value.now) ≡ None) }
     ensures wrong { StopsAt result (first_in_field member (ListOf L.form) (view value.now)) }
 {

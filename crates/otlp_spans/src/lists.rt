@@ -47,7 +47,8 @@ pub(crate) trait ListItem: Drop {
     /// The item that a value is.
     fn read(alloc: Global, value: &Value) -> Result<Item<Self>, Stop>
         ensures kept { IfOk result (λ i. i.kept ≡ of (view value.now)) }
-        ensures skipped { IfOk result (λ i. Adds 0 i.skipped (skipped_by of inside (view value.now))) }
+        ensures skipped { IfOk result
+            (λ i. Adds 0 i.skipped (skipped_by of inside (view value.now))) }
         ensures right { IfOk result (λ _. first_wrong form (view value.now) ≡ None) }
         ensures wrong { StopsAt result (first_wrong form (view value.now)) };
 }
@@ -55,8 +56,10 @@ pub(crate) trait ListItem: Drop {
 /// The items of a list that are kept.
 fn kept_of<T: ListItem>(alloc: Global, values: &[Value]) -> Result<Kept<T>, Stop>
     ensures items { IfOk result (λ k. k.items.items ≡ filter_map T.of (map view values.now)) }
-    ensures skipped { IfOk result (λ k. Adds 0 k.skipped (total (skipped_by T.of T.inside) (map view values.now))) }
-    ensures right { IfOk result (λ _. first_in_items (first_wrong T.form) 0 (map view values.now) ≡ None) }
+    ensures skipped { IfOk result
+        (λ k. Adds 0 k.skipped (total (skipped_by T.of T.inside) (map view values.now))) }
+    ensures right { IfOk result
+        (λ _. first_in_items (first_wrong T.form) 0 (map view values.now) ≡ None) }
     ensures wrong { StopsAt result (first_in_items (first_wrong T.form) 0 (map view values.now)) }
 {
     let mut items = Vec::new(alloc);
@@ -81,9 +84,13 @@ pub(crate) fn kept_in<T: ListItem>(
     value: &Value,
     member: Member,
 ) -> Result<Kept<T>, Stop>
-    ensures items { IfOk result (λ k. k.items.items ≡ filter_map T.of (list_in member (view value.now))) }
-    ensures skipped { IfOk result (λ k. Adds 0 k.skipped (total (skipped_by T.of T.inside) (list_in member (view value.now)))) }
-    ensures right { IfOk result (λ _. first_in_field member (ListOf T.form) (view value.now) ≡ None) }
+    ensures items { IfOk result
+        (λ k. k.items.items ≡ filter_map T.of (list_in member (view value.now))) }
+    ensures skipped { IfOk result
+        (λ k. Adds 0 k.skipped
+        (total (skipped_by T.of T.inside) (list_in member (view value.now)))) }
+    ensures right { IfOk result
+        (λ _. first_in_field member (ListOf T.form) (view value.now) ≡ None) }
     ensures wrong { StopsAt result (first_in_field member (ListOf T.form) (view value.now)) }
 {
     let values = list_in(alloc, value, member)?;

@@ -46,7 +46,8 @@ pub(crate) trait OriginMember: Origin {
     /// The one that a value is.
     fn read(alloc: Global, value: &Value) -> Result<OriginRead<Self>, Stop>
         ensures origin { IfOk result (λ r. r.origin ≡ from (Some (view value.now))) }
-        ensures skipped { IfOk result (λ r. Adds 0 r.skipped (skipped_from (Some (view value.now)))) }
+        ensures skipped { IfOk result
+            (λ r. Adds 0 r.skipped (skipped_from (Some (view value.now)))) }
         ensures right { IfOk result (λ _. first_wrong form (view value.now) ≡ None) }
         ensures wrong { StopsAt result (first_wrong form (view value.now)) };
 }
@@ -125,7 +126,8 @@ pub(crate) fn origin_in<O: OriginMember>(
     value: &Value,
 ) -> Result<OriginRead<O>, Stop>
     ensures origin { IfOk result (λ r. r.origin ≡ O.from (found O.MEMBER (view value.now))) }
-    ensures skipped { IfOk result (λ r. Adds 0 r.skipped (skipped_from (found O.MEMBER (view value.now)))) }
+    ensures skipped { IfOk result
+        (λ r. Adds 0 r.skipped (skipped_from (found O.MEMBER (view value.now)))) }
     ensures right { IfOk result (λ _. first_in_field O.MEMBER O.form (view value.now) ≡ None) }
     ensures wrong { StopsAt result (first_in_field O.MEMBER O.form (view value.now)) }
 {

@@ -37,7 +37,8 @@ pub(crate) struct Status {
 
 /// The status that a value is.
 fn status_of(alloc: Global, value: &Value) -> Result<Status, Stop>
-    ensures code { IfOk result (λ s. s.code ≡ option_map_or code_of (found m.Code (view value.now)) Unset) }
+    ensures code { IfOk result
+        (λ s. s.code ≡ option_map_or code_of (found m.Code (view value.now)) Unset) }
     ensures message { IfOk result (λ s. s.message ≡ text_in m.Message (view value.now)) }
     ensures right { IfOk result (λ _. first_wrong status_form (view value.now) ≡ None) }
     ensures wrong { StopsAt result (first_wrong status_form (view value.now)) }
@@ -58,7 +59,8 @@ fn status_of(alloc: Global, value: &Value) -> Result<Status, Stop>
 fn status_in(alloc: Global, value: &Value) -> Result<Status, Stop>
     ensures code { IfOk result (λ s. s.code ≡ status_code_in (view value.now)) }
     ensures message { IfOk result (λ s. s.message ≡ status_message_in (view value.now)) }
-    ensures right { IfOk result (λ _. first_in_field m.Status status_form (view value.now) ≡ None) }
+    ensures right { IfOk result
+        (λ _. first_in_field m.Status status_form (view value.now) ≡ None) }
     ensures wrong { StopsAt result (first_in_field m.Status status_form (view value.now)) }
 {
     let Some(found) = found(value, Member::Status) else {
@@ -86,8 +88,10 @@ pub(crate) fn read_labels(alloc: Global, value: &Value) -> Result<SpanLabels, St
     ensures kind { IfOk result (λ l. l.kind ≡ kind_in (view value.now)) }
     ensures code { IfOk result (λ l. l.status.code ≡ status_code_in (view value.now)) }
     ensures message { IfOk result (λ l. l.status.message ≡ status_message_in (view value.now)) }
-    ensures right { IfOk result (λ _. (rest : Option (List Step)) → labels_wrong (view value.now) rest ≡ rest) }
-    ensures wrong { (rest : Option (List Step)) → StopsAt result (labels_wrong (view value.now) rest) }
+    ensures right { IfOk result
+        (λ _. (rest : Option (List Step)) → labels_wrong (view value.now) rest ≡ rest) }
+    ensures wrong { (rest : Option (List Step))
+        → StopsAt result (labels_wrong (view value.now) rest) }
 {
     let name = text_in(alloc, value, Member::Name)?;
     let name = owned(alloc, name)?;
@@ -140,8 +144,10 @@ pub(crate) fn span_with(
     rest: SpanRest,
 ) -> Result<Span, Memory>
     requires { AreNames ids.trace ids.id ids.parent }
-    ensures { IfOk result (λ s. (d : Data) → labels.name ≡ text_in m.Name d → labels.kind ≡ kind_in d → labels.status.code ≡ status_code_in d
-        → labels.status.message ≡ status_message_in d → rest.attrs ≡ attrs_in d → rest.events ≡ events_in d → rest.links ≡ links_in d
+    ensures { IfOk result (λ s. (d : Data)
+        → labels.name ≡ text_in m.Name d → labels.kind ≡ kind_in d
+        → labels.status.code ≡ status_code_in d → labels.status.message ≡ status_message_in d
+        → rest.attrs ≡ attrs_in d → rest.events ≡ events_in d → rest.links ≡ links_in d
         → s ≡ span_with resource.now scope.now d ids) }
 {
     Ok(Span {
