@@ -8,4 +8,3 @@ pub mod ReadingLemmas
 pub mod ReadyLemmas
 pub mod SlotLemmas
 pub mod SlotsMeaning
-pub mod TestedLists

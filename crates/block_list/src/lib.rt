@@ -15,6 +15,3 @@ pub use error::ListError;
 pub use laws::{held_list_is_read, next_may_be_laid, size_of_text, stays_ready};
 pub use loading::{load, next_generation};
 pub use prepared::{PreparedList, prepare};
-
-#[cfg(test)]
-mod tests;

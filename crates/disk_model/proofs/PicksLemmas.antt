@@ -1,83 +1,88 @@
 -- The images that a disk in memory gives.
-use Rattle.std.proofs.Common.{◌≡◌, inl, inr, ℕ, ◌+◌, ◌<◌, ◌≤◌, Bool, true, false, cond, eqb, List, [], ◌∷◌, ◌++◌, length, get_or, refl, sym, ◌∙◌, ap, subst, arith}
-use Rattle.std.proofs.lemmas.Bool.{cases_eq}
-use Rattle.std.proofs.lemmas.List.{get_or_push, get_or_append_left}
+use Rattle.std.proofs.Common.{◌≡◌, inl, inr, ℕ, ◌+◌, ◌-◌, ◌/◌, ◌%◌, ◌<◌, ◌≤◌, Bool, true, false, cond, eqb, leb, ◌||◌, List, [], ◌∷◌, ◌++◌, length, get_or, refl, sym, ◌∙◌, ap, arith}
+use Rattle.std.proofs.lemmas.Bool.{cases_eq, eq-eqb, ne_eqb, leb-false}
+use Rattle.std.proofs.lemmas.Nat.{mod_below}
 use Rattle.std.proofs.lemmas.List.FromFn.{map-range_with_len_more, length-map-range_with_len, get_or-map-range_with_len}
 use Rattle.disk_model.specs.Images.{Image, bytes_of}
-use Rattle.disk_model.specs.Files.{FileState, MayBeLeft, is_free, settled}
+use Rattle.disk_model.specs.Files.{FileState, IsSound, MayBeLeft, is_free, settled}
 use Rattle.disk_model.specs.History.{Files, state_of, unchanged, held_now}
-use Rattle.disk_model.specs.Files.{IsSound}
 use Rattle.disk_model.specs.HistoryLaws.{bytes_of-held}
-use Rattle.disk_model.specs.Picks.{filled, IsPicked, ArePicked}
+use Rattle.disk_model.specs.Picks.{filled, byte_of, mixed_length, picked_length, picked, picked_image, seed_of}
 
--- one place more
-pub filled_more : (file : FileState) (byte len : ℕ) → filled file byte (len + 1) ≡ filled file byte len ++ cond (is_free file len) byte (get_or file.synced len 0) ∷ []
-filled_more file byte len = map-range_with_len_more (λ place. cond (is_free file place) byte (get_or file.synced place 0)) 0 len len (omega arith)
+-- one byte more
+pub filled_more : (file : FileState) (byte : ℕ → ℕ) (len : ℕ) → filled file byte (len + 1) ≡ filled file byte len ++ cond (is_free file len) (byte len) (get_or file.synced len 0) ∷ []
+filled_more file byte len = map-range_with_len_more (λ offset. cond (is_free file offset) (byte offset) (get_or file.synced offset 0)) 0 len len (omega arith)
 
 -- it is one of the contents that may be left
-pub filled_left : (file : FileState) (byte len : ℕ) → file.least ≤ len → len ≤ file.greatest → MayBeLeft file (filled file byte len)
+filled_left : (file : FileState) (byte : ℕ → ℕ) (len : ℕ) → file.least ≤ len → len ≤ file.greatest → MayBeLeft file (filled file byte len)
 filled_left file byte len low high =
-    let f : ℕ → ℕ = λ place. cond (is_free file place) byte (get_or file.synced place 0) in
+    let f : ℕ → ℕ = λ offset. cond (is_free file offset) (byte offset) (get_or file.synced offset 0) in
     let long : length (filled file byte len) ≡ len = length-map-range_with_len f 0 len in
     record {
       no_shorter = omega (arith, low, long);
       no_longer = omega (arith, high, long);
-      same = λ place inside kept. get_or-map-range_with_len f 0 len place place 0 (omega (arith, inside, long)) (omega arith) ∙ ap (λ (b : Bool). cond b byte (get_or file.synced place 0)) kept;
+      same = λ offset inside kept. get_or-map-range_with_len f 0 len offset offset 0 (omega (arith, inside, long)) (omega arith) ∙ ap (λ (b : Bool). cond b (byte offset) (get_or file.synced offset 0)) kept;
     }
 
--- the certain bytes of a mixture, with one more
-pub certain_more : (file : FileState) (bytes : List ℕ) (other : ℕ) → ((place : ℕ) → place < length bytes → is_free file place ≡ false → get_or bytes place 0 ≡ get_or file.synced place 0)
-    → (place : ℕ) → place < length bytes + 1 → is_free file place ≡ false → get_or (bytes ++ cond (is_free file (length bytes)) other (get_or file.synced (length bytes) 0) ∷ []) place 0 ≡ get_or file.synced place 0
-certain_more file bytes other so_far place inside kept = elim (cases_eq place (length bytes)) [
-  | inl here ↦
-      get_or_push bytes (cond (is_free file (length bytes)) other (get_or file.synced (length bytes) 0)) 0 place (sym here)
-      ∙ ap (λ (n : ℕ). cond (is_free file n) other (get_or file.synced n 0)) (sym here)
-      ∙ ap (λ (b : Bool). cond b other (get_or file.synced place 0)) kept
-  | inr before ↦
-      get_or_append_left bytes (cond (is_free file (length bytes)) other (get_or file.synced (length bytes) 0) ∷ []) 0 place (omega arith)
-      ∙ so_far place (omega arith) kept
-]
+-- a length from the least to the greatest
+abbrev Between : ℕ → ℕ → ℕ → Type 0
+Between low high len = (low ≤ len) × (len ≤ high)
 
--- an image of the files has of each file what the pick gives of it
-pub picked_of : (pick : ℕ) (files : Files) (image : Image) → ArePicked pick files image → (file : ℕ) → IsSound (state_of files file) → IsPicked pick (state_of files file) (bytes_of image file)
-picked_of pick [] [] are file sound = record { left = sound.stays; synced = λ e. refl; held = λ e. refl; ones = λ e. refl; zeros = λ e. refl }
-picked_of pick [] (picked ∷ image) are file sound = absurd are
-picked_of pick (entry ∷ files) [] are file sound = absurd are
-picked_of pick (entry ∷ files) (picked ∷ image) are file sound =
-    subst (λ (n : ℕ). IsPicked pick (cond (eqb entry.0 file) entry.1 (state_of files file)) (cond (eqb n file) picked.1 (bytes_of image file))) (sym are.0)
-    (chosen (eqb entry.0 file) are.1 (picked_of pick files image are.2 file) sound)
+mixed_between : (least greatest seed : ℕ) → least ≤ greatest → Between least greatest (mixed_length least greatest seed)
+mixed_between least greatest seed order = by (leb greatest least) (leb-false greatest least) (eqb (seed % 4) 0) (eqb (seed % 4) 3)
   where
-    chosen : (b : Bool) → (IsSound entry.1 → IsPicked pick entry.1 picked.1) → (IsSound (state_of files file) → IsPicked pick (state_of files file) (bytes_of image file))
-        → IsSound (cond b entry.1 (state_of files file)) → IsPicked pick (cond b entry.1 (state_of files file)) (cond b picked.1 (bytes_of image file))
-    chosen true here there sound = here sound
-    chosen false here there sound = there sound
+    by : (a : Bool) → (a ≡ false → least < greatest) → (b c : Bool) → Between least greatest (cond (a || b) least (cond c (least + seed / 4 % (greatest - least)) greatest))
+    by true less b c = (omega arith, order)
+    by false less true c = (omega arith, order)
+    by false less false true = let below = mod_below (seed / 4) (greatest - least) (omega (arith, less refl)) in (omega arith, omega (arith, below))
+    by false less false false = (order, omega arith)
 
--- one entry more
-pub picked_more : (pick : ℕ) (files : Files) (image : Image) (entry : ℕ × FileState) (picked : ℕ × List ℕ) → ArePicked pick files image → picked.0 ≡ entry.0 → (IsSound entry.1 → IsPicked pick entry.1 picked.1)
-    → ArePicked pick (files ++ entry ∷ []) (image ++ picked ∷ [])
-picked_more pick [] [] entry picked are named is = (named, is, tt)
-picked_more pick [] (first ∷ image) entry picked are named is = absurd are
-picked_more pick (first ∷ files) [] entry picked are named is = absurd are
-picked_more pick (first ∷ files) (other ∷ image) entry picked are named is = (are.0, are.1, picked_more pick files image entry picked are.2 named is)
+picked_between : (pick least greatest seed : ℕ) → least ≤ greatest → Between least greatest (picked_length pick least greatest seed)
+picked_between pick least greatest seed order = by (eqb pick 2) (eqb pick 3)
+  where
+    by : (a b : Bool) → Between least greatest (cond a greatest (cond b least (mixed_length least greatest seed)))
+    by true b = (order, omega arith)
+    by false true = (omega arith, order)
+    by false false = mixed_between least greatest seed order
 
--- the picks 2 and 3
-pub ones_picked : (pick : ℕ) (file : FileState) (bytes : List ℕ) → pick ≡ 2 → bytes ≡ filled file 1 file.greatest → IsSound file → IsPicked pick file bytes
-ones_picked pick file bytes is filled_so sound = record {
-  left = subst (MayBeLeft file) (sym filled_so) (filled_left file 1 file.greatest (omega (arith, sound.stays.no_shorter, sound.stays.no_longer)) (omega arith));
-  synced = λ e. absurd (omega arith);
-  held = λ e. absurd (omega arith);
-  ones = λ e. filled_so;
-  zeros = λ e. absurd (omega arith);
-}
+-- what a pick gives of a file may be left of it
+pub picked_left : (pick number : ℕ) (file : FileState) → IsSound file → MayBeLeft file (picked pick number file)
+picked_left pick number file sound = by (eqb pick 0) (eqb pick 1)
+  where
+    len : ℕ
+    len = picked_length pick file.least file.greatest (seed_of pick number)
 
-pub zeros_picked : (pick : ℕ) (file : FileState) (bytes : List ℕ) → pick ≡ 3 → bytes ≡ filled file 0 file.least → IsSound file → IsPicked pick file bytes
-zeros_picked pick file bytes is filled_so sound = record {
-  left = subst (MayBeLeft file) (sym filled_so) (filled_left file 0 file.least (omega arith) (omega (arith, sound.stays.no_shorter, sound.stays.no_longer)));
-  synced = λ e. absurd (omega arith);
-  held = λ e. absurd (omega arith);
-  ones = λ e. absurd (omega arith);
-  zeros = λ e. filled_so;
-}
+    by : (a b : Bool) → MayBeLeft file (cond a file.synced (cond b file.held (filled file (byte_of pick (seed_of pick number) file) len)))
+    by true b = sound.returns
+    by false true = sound.stays
+    by false false =
+        let between = picked_between pick file.least file.greatest (seed_of pick number) (omega (arith, sound.stays.no_shorter, sound.stays.no_longer)) in
+        filled_left file (byte_of pick (seed_of pick number) file) len between.0 between.1
+
+-- nothing is given of a file that isn't there
+picked_empty : (pick number : ℕ) → picked pick number (settled []) ≡ []
+picked_empty pick number = by (eqb pick 0) (eqb pick 1) (eqb pick 2) (eqb pick 3)
+  where
+    by : (a b c d : Bool) → (let e : List ℕ = [] in cond a e (cond b e (filled (settled e) (byte_of pick (seed_of pick number) (settled e)) (cond c 0 (cond d 0 (mixed_length 0 0 (seed_of pick number)))))) ≡ e)
+    by true b c d = refl
+    by false true c d = refl
+    by false false true d = refl
+    by false false false true = refl
+    by false false false false = refl
+
+-- what a pick gives of a file among the files
+pub picked_of : (pick : ℕ) (files : Files) (file : ℕ) → bytes_of (picked_image pick files) file ≡ picked pick file (state_of files file)
+picked_of pick [] file = sym (picked_empty pick file)
+picked_of pick (entry ∷ files) file = elim (cases_eq entry.0 file) [
+  | inl here ↦
+      ap (λ (b : Bool). cond b (picked pick entry.0 entry.1) (bytes_of (picked_image pick files) file)) (eq-eqb entry.0 file here)
+      ∙ ap (λ (n : ℕ). picked pick n entry.1) here
+      ∙ ap (λ (b : Bool). picked pick file (cond b entry.1 (state_of files file))) (sym (eq-eqb entry.0 file here))
+  | inr other ↦
+      ap (λ (b : Bool). cond b (picked pick entry.0 entry.1) (bytes_of (picked_image pick files) file)) (ne_eqb entry.0 file other)
+      ∙ picked_of pick files file
+      ∙ ap (λ (b : Bool). picked pick file (cond b entry.1 (state_of files file))) (sym (ne_eqb entry.0 file other))
+]
 
 -- an image of its own holds that image
 pub state_of-unchanged : (image : Image) (file : ℕ) → state_of (unchanged image) file ≡ settled (bytes_of image file)

@@ -1,4 +1,5 @@
-// What calls do to the files of a disk in memory.
+//! What calls do to the files of a disk in memory.
+
 ghost use Rattle.std.specs.Prelude.{◌≡◌};
 
 use span_types::Bytes;

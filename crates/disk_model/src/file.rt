@@ -1,10 +1,11 @@
-// One file of a disk in memory.
-ghost use Rattle.std.specs.Prelude.{◌≡◌, ◌<◌, ◌≤◌, ◌+◌, ◌^◌, ◌++◌, ◌-◌, [], ◌∷◌, length, min, max, take, drop, replicate, vec_len, vec_capacity, OnOk, OnErr, IfOk};
+//! One file of a disk in memory.
+
+ghost use Rattle.std.specs.Prelude.{◌≡◌, ◌<◌, ◌≤◌, ◌+◌, ◌^◌, ◌++◌, ◌-◌, [], ◌∷◌, length, min, max, take, drop, replicate, vec_len, vec_capacity, OnOk, OnErr, IfOk, if◌then◌else◌, slice_index};
 ghost use Rattle.disk_model.specs.Bytes.{overwritten};
 ghost use Rattle.disk_model.specs.Files.{settled, wrote, lost_write, cut_to, lost_cut, synced_now};
 
 use crate::change::{Change, Pending};
-use crate::picks::{byte_at, byte_or, free_byte, is_free, length_between, mixed};
+use crate::picks::{byte_at, free_byte, is_free, picked_length, seed_of};
 use std::alloc::{AllocError, Global};
 use std::marker::Model;
 
@@ -27,10 +28,9 @@ impl Model for File {
 }
 
 impl File {
-    ghost use Rattle.disk_model.specs.Files.{MayBeLeft};
+    ghost use Rattle.disk_model.specs.Files.{is_free};
     ghost use Rattle.disk_model.specs.History.{IsInRange, changed};
-    ghost use Rattle.disk_model.specs.Files.{IsSound};
-    ghost use Rattle.disk_model.specs.Picks.{IsPicked, filled};
+    ghost use Rattle.disk_model.specs.Picks.{picked, picked_length, filled, byte_of};
 
     /// An empty file.
     pub fn empty(alloc: Global) -> File
@@ -66,45 +66,39 @@ impl File {
     }
 
     /// What a crash may leave of it, by the pick: 0 what was last synced, 1 what it holds, 2 the greatest length with
-    /// 1 in each place that isn't certain, 3 the least length with 0 there, and each other pick a mixture.
+    /// 1 at each offset that isn't certain, 3 the least length with 0 there, and each other pick a mixture.
     pub fn picked(&self, alloc: Global, number: u32, pick: u64) -> Result<Vec<u8>, AllocError>
-        ensures { IfOk result (λ bytes. IsSound self.now → IsPicked pick self.now bytes.items) }
+        ensures { IfOk result (λ bytes. bytes.items ≡ picked pick number self.now) }
     {
         match pick {
             0 => self.synced.to_vec(alloc),
             1 => self.held.to_vec(alloc),
-            2 => self.filled(alloc, 1, self.greatest),
-            3 => self.filled(alloc, 0, self.least),
-            _ => self.mixture(alloc, mixed(pick.wrapping_add(u64::from(number) << 32))),
+            _ => self.filled(alloc, pick, seed_of(pick, number)),
         }
     }
 
-    /// It at a length, with a byte in each place that isn't certain.
-    fn filled(&self, alloc: Global, byte: u8, len: u64) -> Result<Vec<u8>, AllocError>
-        ensures { IfOk result (λ bytes. bytes.items ≡ filled self.now byte len) }
+    /// It at the pick's length, with the pick's byte at each offset that isn't certain.
+    fn filled(&self, alloc: Global, pick: u64, seed: u64) -> Result<Vec<u8>, AllocError>
+        ensures { IfOk result (λ bytes. bytes.items ≡ filled self.now (byte_of pick seed self.now) (picked_length pick self.now.least self.now.greatest seed)) }
     {
+        let len = picked_length(pick, self.least, self.greatest, seed);
         let mut bytes = Vec::with_capacity(alloc, len as usize)?;
-        for place in 0..len {
-            let free = is_free(&self.synced, &self.pending, place);
-            bytes.push(byte_or(&self.synced, place, free, byte))?;
+        for offset in 0..len {
+            bytes.push(self.byte_of(pick, seed, offset))?;
         }
         Ok(bytes)
     }
 
-    /// It at some length, with some byte in each place that isn't certain.
-    fn mixture(&self, alloc: Global, seed: u64) -> Result<Vec<u8>, AllocError>
-        ensures { IfOk result (λ bytes. self.now.least ≤ self.now.greatest → MayBeLeft self.now bytes.items) }
+    /// The byte of the last sync where it is certain, else that of the pick.
+    fn byte_of(&self, pick: u64, seed: u64, offset: u64) -> u8
+        ensures { result ≡ (if is_free self.now offset then byte_of pick seed self.now offset else slice_index self.now.synced offset) }
     {
-        let len = length_between(self.least, self.greatest, seed);
-        let mut bytes = Vec::with_capacity(alloc, len as usize)?;
-        for place in 0..len {
-            let synced = byte_at(&self.synced, place);
-            let held = byte_at(&self.held, place);
-            let other = free_byte(synced, held, mixed(seed ^ place));
-            let free = is_free(&self.synced, &self.pending, place);
-            bytes.push(byte_or(&self.synced, place, free, other))?;
+        let synced = byte_at(&self.synced, offset);
+        if is_free(&self.synced, &self.pending, offset) {
+            let held = byte_at(&self.held, offset);
+            return free_byte(pick, synced, held, seed.wrapping_add(offset));
         }
-        Ok(bytes)
+        synced
     }
 
     /// Writes the bytes from the byte `at` on.

@@ -1,8 +1,9 @@
-// The files of a disk in memory, and how they came to be.
+//! The files of a disk in memory, and how they came to be.
+
 ghost use Rattle.std.specs.Prelude.{◌≡◌, ◌+◌, ◌^◌, ◌<◌, ◌≤◌, ◌++◌, [], ◌∷◌, ℕ, List, length, take, IfOk, OnOk, OnErr};
 ghost use Rattle.disk_model.specs.Images.{bytes_of};
 ghost use Rattle.disk_model.specs.History.{IsInRange, StandsAt, state_of, files_now, held_now, unchanged, after, added};
-ghost use Rattle.disk_model.specs.Picks.{IsPicked, ArePicked};
+ghost use Rattle.disk_model.specs.Picks.{picked, picked_image};
 ghost use Rattle.disk_model.specs.declared.change.Change.TheVariants.{Write};
 
 use crate::change::Change;
@@ -68,7 +69,7 @@ impl History {
     /// What a crash may leave of the files, by the pick, as what they hold at first.
     pub fn image(&self, pick: u64) -> Result<History, AllocError>
         ensures first { IfOk result (λ other. other ≡ record { first = other.first; changes = [] }) }
-        ensures picked { IfOk result (λ other. (file : ℕ) → IsPicked pick (state_of (files_now self.now) file) (bytes_of other.first file)) }
+        ensures picked { IfOk result (λ other. (file : ℕ) → bytes_of other.first file ≡ picked pick file (state_of (files_now self.now) file)) }
     {
         let (first, files) = picked_files(self.alloc, &self.files, pick)?;
         Ok(History {
@@ -133,7 +134,7 @@ fn picked_files(
     files: &[(u32, File)],
     pick: u64,
 ) -> Result<(Vec<(u32, Bytes)>, Vec<(u32, File)>), AllocError>
-    ensures picked { IfOk result (λ both. ArePicked pick files.now both.0.items) }
+    ensures picked { IfOk result (λ both. both.0.items ≡ picked_image pick files.now) }
     ensures held { IfOk result (λ both. both.1.items ≡ unchanged both.0.items) }
 {
     let mut image = Vec::with_capacity(alloc, files.len())?;

@@ -15,6 +15,3 @@ pub use disk::{Device, Disk};
 pub use laws::other_files_stay;
 pub use memory::MemDisk;
 pub use through::{cut_through, write_through};
-
-#[cfg(test)]
-mod tests;

@@ -1,4 +1,5 @@
-// A disk in memory, for tests and for what must not touch a folder.
+//! A disk in memory, for tests and for what must not touch a folder.
+
 ghost use Rattle.std.specs.Prelude.{◌≡◌, ◌≢◌, ◌<◌, ◌≤◌, ◌+◌, ◌-◌, ◌^◌, ◌++◌, [], length, take, drop, min, ℕ, Result, IsOk, IsErr, IsTrue, IfOk, OnOk, OnErr, ◌↔◌};
 ghost use Rattle.disk_model.specs.Script.{raised};
 ghost use Rattle.disk_model.specs.declared.change.Change.TheVariants.{Write, LostWrite, Cut, LostCut, Sync};
@@ -32,7 +33,7 @@ impl MemDisk {
     ghost use Rattle.disk_model.specs.Images.{bytes_of};
     ghost use Rattle.disk_model.specs.Files.{settled};
     ghost use Rattle.disk_model.specs.History.{MayLeave, state_of, files_now, held_now};
-    ghost use Rattle.disk_model.specs.Picks.{IsPicked};
+    ghost use Rattle.disk_model.specs.Picks.{picked};
 
     /// A disk without files.
     pub fn empty(alloc: Global) -> MemDisk
@@ -77,7 +78,7 @@ impl MemDisk {
         ensures fresh { IfOk result (λ other. other ≡ fresh (past_of other).first) }
         ensures nothing_pending { IfOk result (λ other. (file : ℕ) → state_of (files_now (past_of other)) file ≡ settled (bytes_of (held_now (past_of other)) file)) }
         ensures one_of_them { IfOk result (λ other. MayLeave (past_of self.now) (held_now (past_of other))) }
-        ensures picked { IfOk result (λ other. (file : ℕ) → IsPicked pick (state_of (files_now (past_of self.now)) file) (bytes_of (held_now (past_of other)) file)) }
+        ensures picked { IfOk result (λ other. (file : ℕ) → bytes_of (held_now (past_of other)) file ≡ picked pick file (state_of (files_now (past_of self.now)) file)) }
     {
         Ok(MemDisk {
             history: self.history.image(pick)?,

@@ -1,64 +1,89 @@
-// What a crash may leave of one file, as bytes.
-ghost use Rattle.std.specs.Prelude.{◌≡◌, ◌≤◌, ◌-◌, ◌+◌, ◌<◌, ℕ, List, length, slice_index, if◌then◌else◌, nat_le, ◌||◌};
+//! What a crash may leave of one file, as bytes.
+
+ghost use Rattle.std.specs.Prelude.{◌≡◌, ◌≤◌, ◌-◌, ◌+◌, ◌*◌, ◌%◌, ◌^◌, ◌<◌, ℕ, List, length, slice_index, nat_le, ◌||◌};
 ghost use Rattle.std.specs.List.{list_any};
 ghost use Rattle.disk_model.specs.Files.{frees};
+ghost use Rattle.disk_model.specs.Picks.{mixed, mixed_byte, mixed_length, picked_length, free_byte, seed_of};
 
 use crate::change::Pending;
-/// Whether the byte at a place isn't that of the last sync for certain.
-pub fn is_free(synced: &[u8], pending: &[Pending], place: u64) -> bool
-    ensures { result ≡ (nat_le (length synced.now) place || list_any (frees place) pending.now) }
+
+/// Whether the byte at an offset isn't that of the last sync for certain.
+pub fn is_free(synced: &[u8], pending: &[Pending], offset: u64) -> bool
+    ensures { result ≡ (nat_le (length synced.now) offset || list_any (frees offset) pending.now) }
 {
-    synced.len() as u64 <= place || is_changed(pending, place)
+    synced.len() as u64 <= offset || is_changed(pending, offset)
 }
 
-/// Whether a change leaves open which byte stands at a place.
-fn is_changed(pending: &[Pending], place: u64) -> bool
-    ensures { result ≡ list_any (frees place) pending.now }
+/// Whether a change leaves open which byte stands at an offset.
+fn is_changed(pending: &[Pending], offset: u64) -> bool
+    ensures { result ≡ list_any (frees offset) pending.now }
 {
-    pending.iter().any(|change| change.frees(place))
+    pending.iter().any(|change| change.frees(offset))
 }
 
-/// The byte that stands at a place: this one where it is free, else that of the last sync.
-pub fn byte_or(synced: &[u8], place: u64, free: bool, byte: u8) -> u8
-    ensures { result ≡ (if free then byte else slice_index synced.now place) }
+/// The byte at an offset, and 0 past the end.
+pub fn byte_at(bytes: &[u8], offset: u64) -> u8
+    ensures { result ≡ slice_index bytes.now offset }
 {
-    if free { byte } else { byte_at(synced, place) }
+    bytes.get(offset as usize).copied().unwrap_or(0)
 }
 
-/// The byte at a place, and 0 past the end.
-pub fn byte_at(bytes: &[u8], place: u64) -> u8
-    ensures { result ≡ slice_index bytes.now place }
+/// A number that looks random, the same for the same seed.
+fn mixed(seed: u64) -> u64
+    ensures { result ≡ mixed seed }
 {
-    bytes.get(place as usize).copied().unwrap_or(0)
+    seed.wrapping_mul(0x9e37_79b9_7f4a_7c15) >> 32
 }
 
-/// Numbers that look random, the same for the same seed.
-pub fn mixed(seed: u64) -> u64 {
-    let seed = seed.wrapping_add(0x9e37_79b9_7f4a_7c15);
-    let seed = (seed ^ (seed >> 30)).wrapping_mul(0xbf58_476d_1ce4_e5b9);
-    let seed = (seed ^ (seed >> 27)).wrapping_mul(0x94d0_49bb_1331_11eb);
-    seed ^ (seed >> 31)
+/// The seed for a file.
+pub fn seed_of(pick: u64, number: u32) -> u64
+    ensures { result ≡ seed_of pick number }
+{
+    mixed(pick.wrapping_add(u64::from(number) << 32))
 }
 
-/// A length from the least to the greatest one, by the seed: the least, the greatest, or one between.
-pub fn length_between(least: u64, greatest: u64, seed: u64) -> u64
-    ensures low { least ≤ result }
-    ensures high { least ≤ greatest → result ≤ greatest }
+/// The length that a pick gives of a file: one from the least to the greatest.
+pub fn picked_length(pick: u64, least: u64, greatest: u64, seed: u64) -> u64
+    ensures { result ≡ picked_length pick least greatest seed }
 {
-    let span = greatest.saturating_sub(least);
-    match seed % 4 {
-        0 => least,
-        1 | 2 => least + span,
-        _ if span == u64::MAX => least,
-        _ => least + mixed(seed) % (span + 1),
+    match pick {
+        2 => greatest,
+        3 => least,
+        _ => mixed_length(least, greatest, seed),
     }
 }
 
-/// A byte for a place that is free, by the seed: what was synced, what is held, or any other.
-pub fn free_byte(synced: u8, held: u8, seed: u64) -> u8 {
+/// The least length, the greatest one, or one between.
+fn mixed_length(least: u64, greatest: u64, seed: u64) -> u64
+    ensures { result ≡ mixed_length least greatest seed }
+{
+    if greatest <= least || seed % 4 == 0 {
+        return least;
+    }
+    if seed % 4 == 3 {
+        return least + seed / 4 % (greatest - least);
+    }
+    greatest
+}
+
+/// The byte that a pick gives where a crash leaves it open.
+pub fn free_byte(pick: u64, synced: u8, held: u8, seed: u64) -> u8
+    ensures { result ≡ free_byte pick synced held seed }
+{
+    match pick {
+        2 => 1,
+        3 => 0,
+        _ => mixed_byte(synced, held, mixed(seed)),
+    }
+}
+
+/// What was synced, what is held, or some other byte.
+fn mixed_byte(synced: u8, held: u8, seed: u64) -> u8
+    ensures { result ≡ mixed_byte synced held seed }
+{
     match seed % 4 {
         0 => synced,
-        1 | 2 => held,
-        _ => (seed >> 8 & 0xff) as u8,
+        3 => (seed / 4 % 256) as u8,
+        _ => held,
     }
 }

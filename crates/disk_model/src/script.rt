@@ -1,4 +1,5 @@
-// Which calls of a disk in memory are to fail.
+//! Which calls of a disk in memory are to fail.
+
 ghost use Rattle.std.specs.Prelude.{◌≡◌, ◌==◌, []};
 ghost use Rattle.std.specs.List.{list_any};
 ghost use Rattle.disk_model.specs.Script.{is_spent, fate_of, counted};

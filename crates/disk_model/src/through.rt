@@ -1,4 +1,5 @@
-// One change of a file that lasts: a write or a cut, and then a sync.
+//! One change of a file that lasts: a write or a cut, and then a sync.
+
 ghost use Rattle.std.specs.Prelude.{◌≡◌, ◌<◌, ◌+◌, ◌^◌, ℕ, List, length, take, IsTrue, OnOk};
 ghost use Rattle.disk_model.specs.Images.{bytes_of, Besides, OnFile};
 ghost use Rattle.disk_model.specs.Bytes.{overwritten, Torn, HalfCut};

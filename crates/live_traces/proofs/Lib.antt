@@ -1,0 +1,4 @@
+pub mod ChunkRows
+pub mod CutOrder
+pub mod TraceRows
+pub mod LiveRows

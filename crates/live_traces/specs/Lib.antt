@@ -1,1 +1,5 @@
 pub mod Traces
+pub mod Rows
+pub mod Parts
+pub mod Whole
+pub mod Going

@@ -3,6 +3,10 @@
 //! Contracts see lists of rows, and never chunks.
 #![tactic(auto)]
 
+mod chunk;
+mod live;
 mod run;
 
-pub use run::{Chunk, Run, Runs};
+pub use chunk::{Chunk, SharedRow};
+pub use live::{Live, Ready};
+pub use run::{Run, Runs};

@@ -9,10 +9,10 @@ use Rattle.std.proofs.lemmas.Bool.Decides.{nat_tests}
 use Rattle.std.proofs.lemmas.Str.Parse.{IsNumeralModel, numerals_by_value, parse_digits}
 use Rattle.otlp_spans.specs.Fields.{after_minus, moment_of}
 
-abbrev IsDigits : List ℕ → Type 0
+abbrev pub IsDigits : List ℕ → Type 0
 IsDigits text = list_all is_ascii_digit text ≡ true
 
-own : IsNumeralModel IsDigits (digits_value 10)
+pub own : IsNumeralModel IsDigits (digits_value 10)
 own = numerals_by_value _ (search rules)
 
 from_number : {E : Type 0} (text : List ℕ) (r : Result ℕ E) → IsDigits text

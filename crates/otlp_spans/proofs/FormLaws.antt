@@ -5,7 +5,7 @@ use Rattle.std.specs.Prelude.{⊤}
 use Rattle.std.specs.Option.{option_or}
 use Rattle.serde_json.specs.Data.{Data, null, boolean, number, string, array, object, Items, no_items, item}
 use Rattle.serde_json.specs.Find.{at, get_item}
-use Rattle.otlp_spans.specs.Forms.{Form, Text, NumberOrText, AnyList, ListOf, ObjectOf, Fields, no_more, field, IsField, first, later, IsWrong, here, IsBefore, IsFirstWrong, behind, first_in_fields, first_in_items, first_wrong, found, if_kind, is_kind, request_form}
+use Rattle.otlp_spans.specs.Forms.{Form, Text, NumberOrText, ListOf, ObjectOf, Fields, no_more, field, IsField, first, later, IsWrong, here, IsBefore, IsFirstWrong, behind, first_in_fields, first_in_items, first_wrong, found, if_kind, is_kind, request_form}
 use Rattle.otlp_spans.specs.Forms as form
 use Rattle.otlp_spans.specs.Json.{◌>>=◌, items_in, list_of, or_empty}
 use Rattle.otlp_spans.specs.Members.{member_rank}
@@ -19,7 +19,6 @@ abbrev mutual
   IsOrdered : Form → Type 0
   IsOrdered Text = ⊤
   IsOrdered NumberOrText = ⊤
-  IsOrdered AnyList = ⊤
   IsOrdered (ListOf f) = IsOrdered f
   IsOrdered (ObjectOf fs) = AreOrdered 0 fs
 
@@ -205,10 +204,6 @@ number_right : (d : Data) → is_kind NumberOrText d ≡ true → (p : List Step
 number_right d is [] (here h) = true≢false (sym is ∙ h)
 number_right d is (s ∷ p) w = elim w [ ]
 
-any_right : (d : Data) → is_kind AnyList d ≡ true → (p : List Step) → IsWrong AnyList d p → ⊥
-any_right d is [] (here h) = true≢false (sym is ∙ h)
-any_right d is (s ∷ p) w = elim w [ ]
-
 item_wrong : (f : Form) (d : Data) (p : List Step) → WrongItem f (or_empty (list_of d)) 0 p → IsWrong (ListOf f) d p
 item_wrong f d p w = subst (λ x. IsWrong (ListOf f) d x) (sym (w.whole ∙ ap (λ k. Item k ∷ w.path) (omega arith))) (form.item w.place (at-nth w.place d ∙ w.is) w.wrong)
 
@@ -237,7 +232,6 @@ mutual
   form_tells : (f : Form) → IsOrdered f → (d : Data) → Tells (IsWrong f d) (first_wrong f d)
   form_tells Text ordered d = by_kind Text d _ None refl (λ is. text_right d is)
   form_tells NumberOrText ordered d = by_kind NumberOrText d _ None refl (λ is. number_right d is)
-  form_tells AnyList ordered d = by_kind AnyList d _ None refl (λ is. any_right d is)
   form_tells (ListOf f) ordered d =
       by_kind (ListOf f) d _ _ refl (λ is. moved _ _ _ (item_wrong f d) (λ p w. wrong_item f d p is w)
       (items_tell f (form_tells f ordered) 0 (or_empty (list_of d))))

@@ -1,13 +1,11 @@
+pub mod LevelLemmas
 pub mod JsonLemmas
 pub mod FieldLemmas
-pub mod RunLemmas
-pub mod DepthLemmas
-pub mod FloatLemmas
-pub mod ReadBackLemmas
+pub mod PlainLemmas
 pub mod ReadsBackFields
+pub mod ReadsBackLists
 pub mod ReadsBackAttributes
 pub mod ReadsBackSpans
-pub mod ReadsBackRuns
 pub mod ReadsBackTrace
 pub mod ReadsBackFits
 pub mod FormLaws

@@ -15,15 +15,18 @@ use Rattle.span_types.specs.declared.attrs.Resource.{Resource}
 use Rattle.span_types.specs.declared.attrs.Scope.{Scope}
 use Rattle.span_types.specs.declared.ids.SpanId.{SpanId}
 use Rattle.span_types.specs.declared.ids.TraceId.{TraceId}
+use Rattle.span_types.specs.declared.limits.TheConstants.{MOST_SPANS}
 use Rattle.span_types.specs.declared.spans.Span.{Span}
+use Rattle.span_types.specs.declared.spans.SpanEvent.{SpanEvent}
+use Rattle.span_types.specs.declared.spans.SpanLink.{SpanLink}
 use Rattle.span_types.specs.Promises.{AreDistinctAfter, AreNames, all_zero, has_key}
 use Rattle.otlp_spans.specs.Attributes.{attrs_in, firsts_behind, list_in}
 use Rattle.otlp_spans.specs.Fields.{bytes_of, parent_of, span_id_of, trace_id_of, whole_of}
 use Rattle.otlp_spans.specs.Forms.{found}
 use Rattle.otlp_spans.specs.Json.{◌>>=◌, total}
-use Rattle.otlp_spans.specs.Reading.{IsReadable, attrs_from, core_of, most_spans, objects_of, objects_of_resource, parent_from, resource_from, resource_spans, scope_from, scope_spans, span_of, span_with, spans_of}
+use Rattle.otlp_spans.specs.Reading.{IsReadable, IsReadableLink, attrs_from, event_of, event_time, ids_of, link_of, objects_of, objects_of_resource, parent_from, resource_from, resource_spans, scope_from, scope_spans, span_in, span_of, span_with, spans_of, trace_in}
 use Rattle.otlp_spans.specs.Walk.{Adds}
-use Rattle.otlp_spans.specs.declared.cores.Core.{Core}
+use Rattle.otlp_spans.specs.declared.ids.SpanIds.{SpanIds}
 use Rattle.otlp_spans.specs.declared.read.Reading.{Reading}
 use Rattle.otlp_spans.specs.declared.paths.Member.TheVariants as m
 
@@ -153,39 +156,61 @@ from_named : (o : Option Data) (p : Option SpanId) → parent_from o ≡ Some p 
 from_named None p h = subst IsNamed (same_Some _ _ h) tt
 from_named (Some d) p h = let text = both (as_str d) parent_of p h in parent_named text.0 p text.2
 
--- a core's ids
-abbrev HasNames : Core → Type 0
-HasNames core = AreNames core.trace core.id core.parent
+ids_of_link : (d : Data) (t : TraceId) (i : SpanId) → trace_in d ≡ Some t → span_in d ≡ Some i → AreNames t i None
+ids_of_link d t i trace span =
+    let t_text = both (found m.TraceId d >>= as_str) trace_id_of t trace in
+    let i_text = both (found m.SpanId d >>= as_str) span_id_of i span in
+    record { of_trace = trace_named t_text.0 t t_text.2; of_span = span_named i_text.0 i i_text.2; of_parent = tt }
 
-pub core_named : (d : Data) (core : Core) → core_of d ≡ Some core → HasNames core
-unfolding core_of
-core_named d core h =
-    let trace = both (found m.TraceId d >>= as_str >>= trace_id_of) _ core h in
-    let id = both (found m.SpanId d >>= as_str >>= span_id_of) _ core trace.2 in
-    let parent = both (parent_from (found m.ParentSpanId d)) _ core id.2 in
-    let start = both (found m.StartTime d >>= whole_of) _ core parent.2 in
-    let end = both (found m.EndTime d >>= whole_of) _ core start.2 in
-    let trace_text = both (found m.TraceId d >>= as_str) trace_id_of trace.0 trace.1 in
-    let id_text = both (found m.SpanId d >>= as_str) span_id_of id.0 id.1 in
-    subst HasNames (same_Some _ _ end.2) (record {
-      of_trace = trace_named trace_text.0 trace.0 trace_text.2;
-      of_span = span_named id_text.0 id.0 id_text.2;
-      of_parent = from_named (found m.ParentSpanId d) parent.0 parent.1;
-    })
+pub ids_named : (d : Data) (ids : SpanIds) → ids_of d ≡ Some ids → AreNames ids.trace ids.id ids.parent
+unfolding ids_of
+ids_named d ids h =
+    let trace = both (trace_in d) _ ids h in
+    let id = both (span_in d) _ ids trace.2 in
+    let parent = both (parent_from (found m.ParentSpanId d)) _ ids id.2 in
+    let start = both (found m.StartTime d >>= whole_of) _ ids parent.2 in
+    let end = both (found m.EndTime d >>= whole_of) _ ids start.2 in
+    let names = ids_of_link d trace.0 id.0 trace.1 id.1 in
+    subst (λ (x : SpanIds). AreNames x.trace x.id x.parent) (same_Some _ _ end.2)
+    (record { of_trace = names.of_trace; of_span = names.of_span; of_parent = from_named (found m.ParentSpanId d) parent.0 parent.1 })
+
+-- ---- events and links
+
+pub link_named : (d : Data) (t : TraceId) (i : SpanId) → Some t ≡ trace_in d → Some i ≡ span_in d → AreNames t i None
+link_named d t i trace span = ids_of_link d t i (sym trace) (sym span)
+
+event_distinct : (d : Data) (e : SpanEvent) → event_of d ≡ Some e → AreDistinctAfter [] e.attrs
+unfolding event_of
+event_distinct d e h =
+    let time = both (event_time d) _ e h in
+    subst (λ (x : SpanEvent). AreDistinctAfter [] x.attrs) (same_Some _ _ time.2) (attrs_distinct d)
+
+link_readable : (d : Data) (l : SpanLink) → link_of d ≡ Some l → IsReadableLink l
+unfolding link_of
+link_readable d l h =
+    let trace = both (trace_in d) _ l h in
+    let span = both (span_in d) _ l trace.2 in
+    subst IsReadableLink (same_Some _ _ span.2) (record { names = ids_of_link d trace.0 span.0 trace.1 span.1; attrs = attrs_distinct d })
 
 -- ---- spans
 
-with_readable : (resource : Resource) (scope : Scope) (d : Data) (core : Core) → AreDistinctAfter [] resource.attrs → AreDistinctAfter [] scope.attrs
-    → HasNames core → IsReadable (span_with resource scope d core)
+with_readable : (resource : Resource) (scope : Scope) (d : Data) (ids : SpanIds) → AreDistinctAfter [] resource.attrs → AreDistinctAfter [] scope.attrs
+    → AreNames ids.trace ids.id ids.parent → IsReadable (span_with resource scope d ids)
 unfolding span_with
-with_readable resource scope d core of_resource of_scope names =
-    record { names = names; attrs = attrs_distinct d; of_resource = of_resource; of_scope = of_scope }
+with_readable resource scope d ids of_resource of_scope names = record {
+  names = names;
+  attrs = attrs_distinct d;
+  events = filter_map-all event_of (λ e. AreDistinctAfter [] e.attrs) event_distinct (list_in m.Events d);
+  links = filter_map-all link_of IsReadableLink link_readable (list_in m.Links d);
+  of_resource = of_resource;
+  of_scope = of_scope;
+}
 
 span_readable : (resource : Resource) (scope : Scope) → AreDistinctAfter [] resource.attrs → AreDistinctAfter [] scope.attrs
     → (d : Data) (s : Span) → span_of resource scope d ≡ Some s → IsReadable s
 span_readable resource scope of_resource of_scope d s h =
-    let core = both (core_of d) _ s h in
-    subst IsReadable (same_Some _ _ core.2) (with_readable resource scope d core.0 of_resource of_scope (core_named d core.0 core.1))
+    let ids = both (ids_of d) _ s h in
+    subst IsReadable (same_Some _ _ ids.2) (with_readable resource scope d ids.0 of_resource of_scope (ids_named d ids.0 ids.1))
 
 scope_readable : (resource : Resource) → AreDistinctAfter [] resource.attrs → (d : Data) → All IsReadable (scope_spans resource d)
 unfolding scope_spans
@@ -204,17 +229,17 @@ spans_readable d = flat_map-all _ IsReadable resource_readable (list_in m.Resour
 -- ---- a line
 
 -- there are few, where their count that stands still is small
-pub few_of : (d : Data) (spans : List Span) (objects : ℕ) → spans ≡ spans_of d → Adds 0 objects (objects_of d) → objects ≤ most_spans → length spans ≤ most_spans
+pub few_of : (d : Data) (spans : List Span) (objects : ℕ) → spans ≡ spans_of d → Adds 0 objects (objects_of d) → objects ≤ MOST_SPANS → length spans ≤ MOST_SPANS
 few_of d spans objects is adds small = let few = spans_few d in let len = ap length is in omega arith
 
 -- what is read of a line has few spans, and each is readable
 pub few_read : {E : Type 0} (d : Data) (spans : List Span) (objects : ℕ) (result : Result Reading E)
-    → IfOk result (λ r. (r.batch.spans ≡ spans) × (objects ≤ most_spans)) → spans ≡ spans_of d → Adds 0 objects (objects_of d)
-    → IfOk result (λ r. length r.batch.spans ≤ most_spans)
+    → IfOk result (λ r. (r.batch.spans ≡ spans) × (objects ≤ MOST_SPANS)) → spans ≡ spans_of d → Adds 0 objects (objects_of d)
+    → IfOk result (λ r. length r.batch.spans ≤ MOST_SPANS)
 few_read d spans objects (Ok r) h is adds = few_of d r.batch.spans objects (h.0 ∙ is) adds h.1
 few_read d spans objects (Err e) h is adds = tt
 
 pub readable_read : {E : Type 0} (d : Data) (spans : List Span) (objects : ℕ) (result : Result Reading E)
-    → IfOk result (λ r. (r.batch.spans ≡ spans) × (objects ≤ most_spans)) → spans ≡ spans_of d → IfOk result (λ r. All IsReadable r.batch.spans)
+    → IfOk result (λ r. (r.batch.spans ≡ spans) × (objects ≤ MOST_SPANS)) → spans ≡ spans_of d → IfOk result (λ r. All IsReadable r.batch.spans)
 readable_read d spans objects (Ok r) h is = subst (All IsReadable) (sym (h.0 ∙ is)) (spans_readable d)
 readable_read d spans objects (Err e) h is = tt

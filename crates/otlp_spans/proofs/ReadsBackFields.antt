@@ -1,27 +1,24 @@
 -- What is written for ids, moments, whole numbers, kinds and status codes reads back.
 use Rattle.std.proofs.Common.{◌≡◌, ℕ, suc, ◌*◌, ◌^◌, ◌<◌, ◌≤◌, true, false, ltb, leb, ℤ, pos, negsuc, List, [], ◌∷◌, length, Option, Some, None, decimal, refl, arith, rules, lt-ltb, le-leb}
 use Rattle.std.specs.Prelude.{FitsSigned, IfSome}
-use Rattle.std.specs.Char.{is_ascii_digit}
 use Rattle.std.specs.Fmt.{signed_decimal}
 use Rattle.std.specs.Int.{w64}
-use Rattle.std.specs.List.{list_all}
 use Rattle.std.specs.Str.Parse.{digits_value}
 use Rattle.std.proofs.lemmas.Bool.Decides.{nat_tests}
 use Rattle.std.proofs.lemmas.Fmt.{decimal_nonempty, digits_decimal, digits_value-decimal}
-use Rattle.std.proofs.lemmas.Str.Parse.{IsNumeralModel, numerals_by_value}
 use Rattle.hex.specs.Hex.{encode_lower, lower_digits}
 use Rattle.hex.proofs.HexLemmas.{decode_of-encode_lower, decode_sized-twice, length-encode_with}
 use Rattle.serde_json.specs.Data.{number, string, unsigned}
 use Rattle.span_types.specs.declared.ids.SpanId.{SpanId}
 use Rattle.span_types.specs.declared.ids.TraceId.{TraceId}
 use Rattle.span_types.specs.declared.spans.SpanKind.{SpanKind}
-use Rattle.span_types.specs.declared.spans.SpanKind.TheVariants.{Unspecified, Internal, Server, Client, Producer, Consumer}
 use Rattle.span_types.specs.declared.spans.StatusCode.{StatusCode}
-use Rattle.span_types.specs.declared.spans.StatusCode.TheVariants.{Unset, Fine, Error}
+use Rattle.span_types.specs.Numbers.{code_number, code_numbered, kind_number, kind_numbered}
 use Rattle.span_types.specs.Promises.{all_zero}
 use Rattle.otlp_spans.specs.Fields.{after_minus, bytes_of, code_of, int_of, kind_of, moment_of, parent_of, signed_of, span_id_of, trace_id_of, whole_of}
 use Rattle.otlp_spans.specs.Fits.{AreBytes}
-use Rattle.otlp_spans.specs.Writing.{code_number, kind_number, parent_text}
+use Rattle.otlp_spans.specs.Writing.{parent_text}
+use Rattle.otlp_spans.proofs.FieldLemmas.{IsDigits, own}
 
 -- ---- ids
 
@@ -46,12 +43,6 @@ parent_back (Some id) are some =
     some_parent id (encode_lower id.0) (omega (arith, length-encode_with lower_digits id.0, are.len)) (bytes_back 8 id.0 are) some
 
 -- ---- numbers
-
-abbrev IsDigits : List ℕ → Type 0
-IsDigits text = list_all is_ascii_digit text ≡ true
-
-own : IsNumeralModel IsDigits (digits_value 10)
-own = numerals_by_value _ (search rules)
 
 pub moment_back : (n : ℕ) → n < 2 ^ 64 → moment_of (decimal n) ≡ Some n
 moment_back n below =
@@ -88,17 +79,16 @@ int_back z fits = signed_back z fits
 
 -- ---- kinds and codes
 
+numbered_kind : (kind : SpanKind) → kind_numbered (kind_number kind) ≡ Some kind
+numbered_kind kind = search rules
+
+numbered_code : (code : StatusCode) → code_numbered (code_number code) ≡ Some code
+numbered_code code = search rules
+
 pub kind_back : (kind : SpanKind) → kind_of (number (unsigned (kind_number kind))) ≡ kind
 unfolding whole_of
-kind_back Unspecified = refl
-kind_back Internal = refl
-kind_back Server = refl
-kind_back Client = refl
-kind_back Producer = refl
-kind_back Consumer = refl
+kind_back kind = rw (numbered_kind kind) refl
 
 pub code_back : (code : StatusCode) → code_of (number (unsigned (code_number code))) ≡ code
 unfolding whole_of
-code_back Unset = refl
-code_back Fine = refl
-code_back Error = refl
+code_back code = rw (numbered_code code) refl

@@ -1,7 +1,7 @@
 -- What attributes a list of OTLP/JSON has.
-use Rattle.std.specs.Prelude.{ℕ, List, [], ◌∷◌, ◌++◌, length, if◌then◌else◌, Option, Some, None, option_map}
+use Rattle.std.specs.Prelude.{ℕ, List, [], ◌∷◌, ◌++◌, if◌then◌else◌, Option, Some, None, option_map}
 use Rattle.std.specs.List.{filter, filter_map}
-use Rattle.std.specs.Option.{is_some, is_none}
+use Rattle.std.specs.Option.{is_some}
 use Rattle.serde_json.specs.Data.{Data}
 use Rattle.serde_json.specs.Find.{as_bool, as_str}
 use Rattle.span_types.specs.declared.attrs.Attr.{Attr}
@@ -12,7 +12,7 @@ use Rattle.otlp_spans.specs.declared.paths.Member.{Member}
 use Rattle.otlp_spans.specs.declared.paths.Member.TheVariants as m
 use Rattle.otlp_spans.specs.Fields.{int_of}
 use Rattle.otlp_spans.specs.Forms.{found}
-use Rattle.otlp_spans.specs.Json.{◌>>=◌, list_of, or_empty}
+use Rattle.otlp_spans.specs.Json.{◌>>=◌, list_of, or_empty, total}
 
 -- The text that a member is; empty where it is absent.
 abbrev pub text_in : Member → Data → List ℕ
@@ -47,10 +47,13 @@ value_of d = do
   m ← only (present_in d)
   found m d >>= value_by m
 
+abbrev pub value_in : Data → Option AttrValue
+value_in d = found m.Value d >>= value_of
+
 -- An attribute that is kept.
 unfoldable pub attr_of : Data → Option Attr
 attr_of d = do
-  value ← found m.Value d >>= value_of
+  value ← value_in d
   Some (record { key = text_in m.Key d; value = value })
 
 -- Of each key the first attribute, where these attributes stand before them.
@@ -64,6 +67,16 @@ firsts_behind before (a ∷ later) =
 unfoldable pub attrs_in : Data → List Attr
 attrs_in d = firsts_behind [] (filter_map attr_of (list_in m.Attributes d))
 
+-- ---- what is skipped
+
+-- Of an item of a list: the item itself where it isn't kept, else what is skipped inside it.
+abbrev pub skipped_by : {A : Type 0} → (Data → Option A) → (Data → ℕ) → Data → ℕ
+skipped_by of inside d = if is_some (of d) then inside d else 1
+
+-- Inside an attribute nothing is skipped.
+abbrev pub nothing : Data → ℕ
+nothing d = 0
+
 -- How many attributes of an object are skipped: those that aren't kept.
 unfoldable pub skipped_attrs : Data → ℕ
-skipped_attrs d = length (filter (λ a. is_none (attr_of a)) (list_in m.Attributes d))
+skipped_attrs d = total (skipped_by attr_of nothing) (list_in m.Attributes d)

@@ -1,5 +1,5 @@
 -- The texts and numbers that are a span's ids, times, kind and status code.
-use Rattle.std.specs.Prelude.{ℕ, ◌^◌, ◌==◌, ◌&&◌, List, [], ◌∷◌, length, codes, nat_lt, nat_le, if◌then◌else◌, Option, Some, None, ℤ, pos, neg_ℤ}
+use Rattle.std.specs.Prelude.{ℕ, ◌^◌, ◌==◌, ◌&&◌, List, [], ◌∷◌, length, codes, nat_lt, nat_le, if◌then◌else◌, Option, Some, None, unwrap_or, ℤ, pos, neg_ℤ}
 use Rattle.std.specs.Char.{is_ascii_digit}
 use Rattle.std.specs.List.{list_all}
 use Rattle.std.specs.Option.{option_or}
@@ -15,6 +15,7 @@ use Rattle.span_types.specs.declared.spans.SpanKind.{SpanKind}
 use Rattle.span_types.specs.declared.spans.SpanKind.TheVariants.{Unspecified, Internal, Server, Client, Producer, Consumer}
 use Rattle.span_types.specs.declared.spans.StatusCode.{StatusCode}
 use Rattle.span_types.specs.declared.spans.StatusCode.TheVariants.{Unset, Fine, Error}
+use Rattle.span_types.specs.Numbers.{code_numbered, kind_numbered}
 use Rattle.span_types.specs.Promises.{all_zero}
 use Rattle.otlp_spans.specs.Json.{◌>>=◌}
 
@@ -81,43 +82,27 @@ int_of d = option_or (as_number d >>= as_i64) (as_str d >>= signed_of)
 
 -- ---- kinds and codes
 
-abbrev pub kind_numbered : ℕ → SpanKind
-kind_numbered n =
-    if n == 1 then Internal
-    else if n == 2 then Server
-    else if n == 3 then Client
-    else if n == 4 then Producer
-    else if n == 5 then Consumer
-    else Unspecified
-
-abbrev pub kind_named : List ℕ → SpanKind
+abbrev pub kind_named : List ℕ → Option SpanKind
 kind_named name =
-    if bytes_eq name (codes "SPAN_KIND_INTERNAL") then Internal
-    else if bytes_eq name (codes "SPAN_KIND_SERVER") then Server
-    else if bytes_eq name (codes "SPAN_KIND_CLIENT") then Client
-    else if bytes_eq name (codes "SPAN_KIND_PRODUCER") then Producer
-    else if bytes_eq name (codes "SPAN_KIND_CONSUMER") then Consumer
-    else Unspecified
+    if bytes_eq name (codes "SPAN_KIND_UNSPECIFIED") then Some Unspecified
+    else if bytes_eq name (codes "SPAN_KIND_INTERNAL") then Some Internal
+    else if bytes_eq name (codes "SPAN_KIND_SERVER") then Some Server
+    else if bytes_eq name (codes "SPAN_KIND_CLIENT") then Some Client
+    else if bytes_eq name (codes "SPAN_KIND_PRODUCER") then Some Producer
+    else if bytes_eq name (codes "SPAN_KIND_CONSUMER") then Some Consumer
+    else None
 
-abbrev pub code_numbered : ℕ → StatusCode
-code_numbered n = if n == 1 then Fine else if n == 2 then Error else Unset
-
-abbrev pub code_named : List ℕ → StatusCode
+abbrev pub code_named : List ℕ → Option StatusCode
 code_named name =
-    if bytes_eq name (codes "STATUS_CODE_OK") then Fine
-    else if bytes_eq name (codes "STATUS_CODE_ERROR") then Error
-    else Unset
-
--- What the number says, else what the name says; `none` where there is neither.
-abbrev pub said : {A : Type 0} → A → (ℕ → A) → (List ℕ → A) → Option ℕ → Option (List ℕ) → A
-said none numbered named (Some n) name = numbered n
-said none numbered named None (Some name) = named name
-said none numbered named None None = none
+    if bytes_eq name (codes "STATUS_CODE_UNSET") then Some Unset
+    else if bytes_eq name (codes "STATUS_CODE_OK") then Some Fine
+    else if bytes_eq name (codes "STATUS_CODE_ERROR") then Some Error
+    else None
 
 -- A kind is its number, or its name in OTLP. Everything else counts as unspecified.
 abbrev pub kind_of : Data → SpanKind
-kind_of d = said Unspecified kind_numbered kind_named (whole_of d) (as_str d)
+kind_of d = unwrap_or (option_or (whole_of d >>= kind_numbered) (as_str d >>= kind_named)) Unspecified
 
 -- A status code likewise, with unset for everything else.
 abbrev pub code_of : Data → StatusCode
-code_of d = said Unset code_numbered code_named (whole_of d) (as_str d)
+code_of d = unwrap_or (option_or (whole_of d >>= code_numbered) (as_str d >>= code_named)) Unset

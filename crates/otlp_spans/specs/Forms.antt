@@ -15,7 +15,6 @@ mutual
   pub data Form : Type 0 where
     Text : Form
     NumberOrText : Form
-    AnyList : Form
     ListOf : Form → Form
     ObjectOf : Fields → Form
 
@@ -34,14 +33,20 @@ attributes_form = ListOf attribute_form
 abbrev pub status_form : Form
 status_form = ObjectOf (field m.Message Text (field m.Code NumberOrText no_more))
 
+abbrev pub event_form : Form
+event_form = ObjectOf (field m.Name Text (field m.Attributes attributes_form no_more))
+
+abbrev pub link_form : Form
+link_form = ObjectOf (field m.Attributes attributes_form no_more)
+
 abbrev pub span_form : Form
 span_form = ObjectOf (
     field m.Name Text (
     field m.Kind NumberOrText (
     field m.Status status_form (
     field m.Attributes attributes_form (
-    field m.Events AnyList (
-    field m.Links AnyList no_more))))))
+    field m.Events (ListOf event_form) (
+    field m.Links (ListOf link_form) no_more))))))
 
 abbrev pub scope_form : Form
 scope_form = ObjectOf (field m.Name Text (field m.Version Text (field m.Attributes attributes_form no_more)))
@@ -69,7 +74,6 @@ found m d = member_of (member_name m) d
 abbrev pub is_kind : Form → Data → Bool
 is_kind Text d = is_some (as_str d)
 is_kind NumberOrText d = is_some (as_number d) || is_some (as_str d)
-is_kind AnyList d = is_some (as_array d)
 is_kind (ListOf f) d = is_some (as_array d)
 is_kind (ObjectOf fs) d = is_some (as_object d)
 
@@ -132,7 +136,6 @@ abbrev mutual
   pub first_wrong : Form → Data → Option (List Step)
   first_wrong Text d = if_kind (is_some (as_str d)) None
   first_wrong NumberOrText d = if_kind (is_some (as_number d) || is_some (as_str d)) None
-  first_wrong AnyList d = if_kind (is_some (as_array d)) None
   first_wrong (ListOf f) d = if_kind (is_some (as_array d)) (first_in_items (first_wrong f) 0 (or_empty (list_of d)))
   first_wrong (ObjectOf fs) d = if_kind (is_some (as_object d)) (first_in_fields fs d)
 

@@ -7,20 +7,22 @@ use Rattle.otlp_spans.specs.declared.errors.Stop.TheVariants.{Wrong}
 use Rattle.otlp_spans.specs.declared.paths.Member.TheVariants as m
 use Rattle.otlp_spans.specs.declared.paths.Step.{Step}
 use Rattle.otlp_spans.specs.Reading.{last64}
-use Rattle.otlp_spans.specs.Forms.{AnyList, NumberOrText, Text, attributes_form, first_in_field, status_form}
+use Rattle.otlp_spans.specs.Forms.{ListOf, NumberOrText, Text, attributes_form, event_form, first_in_field, link_form, status_form}
 
 -- where the walk stops for a wrong form, this is the first one
 abbrev pub StopsAt : {T : Type 0} → Result T Stop → Option (List Step) → Type 0
 StopsAt result wrong = IfErr result (λ e. (path : List Step) → e ≡ Wrong path → wrong ≡ Some path)
 
 -- the first wrong form in a span's name, kind and status, else in the rest
-abbrev pub head_wrong : Data → Option (List Step) → Option (List Step)
-head_wrong d rest = option_or (first_in_field m.Name Text d) (option_or (first_in_field m.Kind NumberOrText d) (option_or (first_in_field m.Status status_form d) rest))
+abbrev pub labels_wrong : Data → Option (List Step) → Option (List Step)
+labels_wrong d rest = option_or (first_in_field m.Name Text d) (option_or (first_in_field m.Kind NumberOrText d) (option_or (first_in_field m.Status status_form d) rest))
 
 -- the first wrong form in a span's attributes, events and links
-abbrev pub tail_wrong : Data → Option (List Step)
-tail_wrong d = option_or (first_in_field m.Attributes attributes_form d) (option_or (first_in_field m.Events AnyList d) (option_or (first_in_field m.Links AnyList d) None))
+abbrev pub rest_wrong : Data → Option (List Step)
+rest_wrong d =
+    option_or (first_in_field m.Attributes attributes_form d)
+    (option_or (first_in_field m.Events (ListOf event_form) d) (option_or (first_in_field m.Links (ListOf link_form) d) None))
 
--- a count that stands still at its type's end has grown by so much
+-- a count that saturates has grown by so much
 abbrev pub Adds : ℕ → ℕ → ℕ → Type 0
 Adds before now more = min now last64 ≡ min (before + more) last64

@@ -2,7 +2,7 @@
 use Rattle.std.specs.Prelude.{ℕ, List, [], ◌∷◌, map, codes, decimal, Option, Some, None}
 use Rattle.std.specs.Fmt.{signed_decimal}
 use Rattle.hex.specs.Hex.{encode_lower}
-use Rattle.serde_json.specs.Data.{Data, array, boolean, member, no_members, number, object, string, unsigned}
+use Rattle.serde_json.specs.Data.{Data, Members, array, boolean, member, no_members, number, object, string, unsigned}
 use Rattle.serde_json.specs.View.{items_of}
 use Rattle.serde_json.specs.Written.{compact_text}
 use Rattle.span_types.specs.declared.attrs.Attr.{Attr}
@@ -13,12 +13,11 @@ use Rattle.span_types.specs.declared.attrs.Scope.{Scope}
 use Rattle.span_types.specs.declared.ids.SpanId.{SpanId}
 use Rattle.span_types.specs.declared.spans.Row.{Row}
 use Rattle.span_types.specs.declared.spans.Span.{Span}
-use Rattle.span_types.specs.declared.spans.SpanKind.{SpanKind}
-use Rattle.span_types.specs.declared.spans.SpanKind.TheVariants.{Unspecified, Internal, Server, Client, Producer, Consumer}
+use Rattle.span_types.specs.declared.spans.SpanEvent.{SpanEvent}
+use Rattle.span_types.specs.declared.spans.SpanLink.{SpanLink}
 use Rattle.span_types.specs.declared.spans.StatusCode.{StatusCode}
-use Rattle.span_types.specs.declared.spans.StatusCode.TheVariants.{Unset, Fine, Error}
-use Rattle.span_runs.specs.Runs.{runs}
-use Rattle.span_runs.specs.Same.{of_one_resource, of_one_scope}
+use Rattle.span_types.specs.Numbers.{code_number, kind_number}
+use Rattle.span_runs.specs.Runs.{of_one_resource, of_one_scope, runs}
 
 -- The list of what f gives of each item.
 abbrev pub list_json : {A : Type 0} → (A → Data) → List A → Data
@@ -44,20 +43,6 @@ scope_json s = object (
     member (codes "name") (string s.name) (
     member (codes "version") (string s.version) no_members)))
 
--- OTLP's numbers of kinds and of status codes.
-abbrev pub kind_number : SpanKind → ℕ
-kind_number Unspecified = 0
-kind_number Internal = 1
-kind_number Server = 2
-kind_number Client = 3
-kind_number Producer = 4
-kind_number Consumer = 5
-
-abbrev pub code_number : StatusCode → ℕ
-code_number Unset = 0
-code_number Fine = 1
-code_number Error = 2
-
 unfoldable pub status_json : StatusCode → List ℕ → Data
 status_json code message = object (
     member (codes "code") (number (unsigned (code_number code))) (
@@ -68,18 +53,37 @@ abbrev pub parent_text : Option SpanId → List ℕ
 parent_text None = []
 parent_text (Some id) = encode_lower id.0
 
--- A span. Its moments are decimal texts.
+unfoldable pub event_json : SpanEvent → Data
+event_json e = object (
+    member (codes "attributes") (list_json attr_json e.attrs) (
+    member (codes "name") (string e.name) (
+    member (codes "timeUnixNano") (string (decimal e.time)) no_members)))
+
+unfoldable pub link_json : SpanLink → Data
+link_json l = object (
+    member (codes "attributes") (list_json attr_json l.attrs) (
+    member (codes "spanId") (string (encode_lower l.span.0)) (
+    member (codes "traceId") (string (encode_lower l.trace.0)) no_members)))
+
+-- A member that is a list, where the list has an item, before the others.
+abbrev pub some_member : {A : Type 0} → List ℕ → (A → Data) → List A → Members → Members
+some_member name f [] others = others
+some_member name f (x ∷ xs) others = member name (list_json f (x ∷ xs)) others
+
+-- A span. Its moments are decimal texts. It has events and links only where there are some.
 unfoldable pub span_json : Span → Data
 span_json s = object (
     member (codes "attributes") (list_json attr_json s.attrs) (
     member (codes "endTimeUnixNano") (string (decimal s.end)) (
+    some_member (codes "events") event_json s.events (
     member (codes "kind") (number (unsigned (kind_number s.kind))) (
+    some_member (codes "links") link_json s.links (
     member (codes "name") (string s.name) (
     member (codes "parentSpanId") (string (parent_text s.parent)) (
     member (codes "spanId") (string (encode_lower s.id.0)) (
     member (codes "startTimeUnixNano") (string (decimal s.start)) (
     member (codes "status") (status_json s.status s.message) (
-    member (codes "traceId") (string (encode_lower s.trace.0)) no_members)))))))))
+    member (codes "traceId") (string (encode_lower s.trace.0)) no_members)))))))))))
 
 -- A run of spans with equal scopes.
 unfoldable pub scope_spans_json : Span × List Span → Data

@@ -5,7 +5,7 @@ ghost use Rattle.std.specs.Char.{is_ascii_digit};
 ghost use Rattle.std.specs.List.{list_all};
 ghost use Rattle.serde_json.specs.View.{view};
 ghost use Rattle.span_types.specs.Promises.{all_zero};
-ghost use Rattle.otlp_spans.specs.Fields.{after_minus, code_named, code_numbered, code_of, int_of, kind_named, kind_numbered, kind_of, minus_of, moment_of, parent_of, plus_of, signed_of, span_id_of, trace_id_of, whole_of};
+ghost use Rattle.otlp_spans.specs.Fields.{after_minus, code_named, code_of, int_of, kind_named, kind_of, minus_of, moment_of, parent_of, plus_of, signed_of, span_id_of, trace_id_of, whole_of};
 
 use hex::FromHex;
 use serde_json::Value;
@@ -132,31 +132,18 @@ pub(crate) fn int(value: &Value) -> Option<i64>
     }
 }
 
-/// The kind that has this number, and unspecified where none has.
-fn kind_numbered(number: u64) -> SpanKind
-    ensures { result ≡ kind_numbered number }
-{
-    match number {
-        1 => SpanKind::Internal,
-        2 => SpanKind::Server,
-        3 => SpanKind::Client,
-        4 => SpanKind::Producer,
-        5 => SpanKind::Consumer,
-        _ => SpanKind::Unspecified,
-    }
-}
-
-/// The kind that has this name in OTLP, and unspecified where none has.
-fn kind_named(name: &str) -> SpanKind
+/// The kind that has this name in OTLP.
+fn kind_named(name: &str) -> Option<SpanKind>
     ensures { result ≡ kind_named name.now }
 {
     match name {
-        "SPAN_KIND_INTERNAL" => SpanKind::Internal,
-        "SPAN_KIND_SERVER" => SpanKind::Server,
-        "SPAN_KIND_CLIENT" => SpanKind::Client,
-        "SPAN_KIND_PRODUCER" => SpanKind::Producer,
-        "SPAN_KIND_CONSUMER" => SpanKind::Consumer,
-        _ => SpanKind::Unspecified,
+        "SPAN_KIND_UNSPECIFIED" => Some(SpanKind::Unspecified),
+        "SPAN_KIND_INTERNAL" => Some(SpanKind::Internal),
+        "SPAN_KIND_SERVER" => Some(SpanKind::Server),
+        "SPAN_KIND_CLIENT" => Some(SpanKind::Client),
+        "SPAN_KIND_PRODUCER" => Some(SpanKind::Producer),
+        "SPAN_KIND_CONSUMER" => Some(SpanKind::Consumer),
+        _ => None,
     }
 }
 
@@ -164,34 +151,20 @@ fn kind_named(name: &str) -> SpanKind
 pub(crate) fn kind(value: &Value) -> SpanKind
     ensures { result ≡ kind_of (view value.now) }
 {
-    if let Some(number) = whole(value) {
-        return kind_numbered(number);
-    }
-    match value.as_str() {
-        Some(name) => kind_named(name),
-        None => SpanKind::Unspecified,
-    }
+    let numbered = whole(value).and_then(SpanKind::numbered);
+    let named = value.as_str().and_then(kind_named);
+    numbered.or(named).unwrap_or(SpanKind::Unspecified)
 }
 
-/// The status code that has this number, and unset where none has.
-fn code_numbered(number: u64) -> StatusCode
-    ensures { result ≡ code_numbered number }
-{
-    match number {
-        1 => StatusCode::Fine,
-        2 => StatusCode::Error,
-        _ => StatusCode::Unset,
-    }
-}
-
-/// The status code that has this name in OTLP, and unset where none has.
-fn code_named(name: &str) -> StatusCode
+/// The status code that has this name in OTLP.
+fn code_named(name: &str) -> Option<StatusCode>
     ensures { result ≡ code_named name.now }
 {
     match name {
-        "STATUS_CODE_OK" => StatusCode::Fine,
-        "STATUS_CODE_ERROR" => StatusCode::Error,
-        _ => StatusCode::Unset,
+        "STATUS_CODE_UNSET" => Some(StatusCode::Unset),
+        "STATUS_CODE_OK" => Some(StatusCode::Fine),
+        "STATUS_CODE_ERROR" => Some(StatusCode::Error),
+        _ => None,
     }
 }
 
@@ -199,11 +172,7 @@ fn code_named(name: &str) -> StatusCode
 pub(crate) fn code(value: &Value) -> StatusCode
     ensures { result ≡ code_of (view value.now) }
 {
-    if let Some(number) = whole(value) {
-        return code_numbered(number);
-    }
-    match value.as_str() {
-        Some(name) => code_named(name),
-        None => StatusCode::Unset,
-    }
+    let numbered = whole(value).and_then(StatusCode::numbered);
+    let named = value.as_str().and_then(code_named);
+    numbered.or(named).unwrap_or(StatusCode::Unset)
 }

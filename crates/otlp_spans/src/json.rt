@@ -3,15 +3,16 @@
 ghost use Rattle.std.specs.Prelude.{◌≡◌, ◌⊎◌, ◌∷◌, [], map, option_map, IfOk, None};
 ghost use Rattle.serde_json.specs.View.{view};
 ghost use Rattle.otlp_spans.specs.Attributes.{list_in, text_in};
-ghost use Rattle.otlp_spans.specs.Forms.{AnyList, Form, ListOf, Text as AText, behind, first_in_field, first_in_items, first_wrong, found};
+ghost use Rattle.otlp_spans.specs.Forms.{Form, ListOf, NumberOrText, Text as AText, behind, first_in_field, first_in_items, first_wrong, found};
 ghost use Rattle.otlp_spans.specs.Json.{list_of};
 ghost use Rattle.otlp_spans.specs.Walk.{StopsAt};
-ghost use Rattle.otlp_spans.specs.declared.errors.Stop.TheVariants.{Memory, Wrong};
+ghost use Rattle.otlp_spans.specs.declared.errors.Stop.TheVariants.{Memory as NoMemory, Wrong};
 ghost use Rattle.otlp_spans.specs.declared.paths.Step.TheVariants.{Of};
 
 use crate::errors::Stop;
 use crate::paths::{Member, Step};
 use serde_json::Value;
+use span_types::{Memory, Text};
 use std::alloc::Global;
 
 /// The member of an object, where it is there and isn't null.
@@ -33,9 +34,16 @@ pub(crate) fn list(value: &Value) -> Option<&[Value]>
     Some(value.as_array()?.as_slice())
 }
 
+/// A text of its own.
+pub(crate) fn owned(alloc: Global, text: &str) -> Result<Text, Memory>
+    ensures { IfOk result (λ t. t ≡ text.now) }
+{
+    Ok(Text::of(String::from_str(alloc, text)?))
+}
+
 /// The member itself has the wrong form.
 pub(crate) fn wrong(alloc: Global, member: Member) -> Stop
-    ensures { (result ≡ Wrong (Of member ∷ [])) ⊎ (result ≡ Memory) }
+    ensures { (result ≡ Wrong (Of member ∷ [])) ⊎ (result ≡ NoMemory) }
 {
     Stop::here(alloc).behind(Step::Of(member))
 }
@@ -63,9 +71,7 @@ pub(crate) fn list_in<'a>(
 ) -> Result<&'a [Value], Stop>
     ensures list { IfOk result (λ l. map view l.now ≡ list_in member (view value.now)) }
     ensures right { IfOk result (λ l. (f : Form) → first_in_field member (ListOf f) (view value.now) ≡ behind (Of member) (first_in_items (first_wrong f) 0 (map view l.now))) }
-    ensures any_right { IfOk result (λ _. first_in_field member AnyList (view value.now) ≡ None) }
     ensures wrong { (f : Form) → StopsAt result (first_in_field member (ListOf f) (view value.now)) }
-    ensures any_wrong { StopsAt result (first_in_field member AnyList (view value.now)) }
 {
     let Some(found) = found(value, member) else {
         return Ok(&[]);
@@ -73,5 +79,21 @@ pub(crate) fn list_in<'a>(
     match list(found) {
         Some(items) => Ok(items),
         None => Err(wrong(alloc, member)),
+    }
+}
+
+/// The number or text that a member is, where it is there.
+pub(crate) fn number_or_text<'a>(
+    alloc: Global,
+    value: &'a Value,
+    member: Member,
+) -> Result<Option<&'a Value>, Stop>
+    ensures found { IfOk result (λ o. option_map (λ v. view v.now) o ≡ found member (view value.now)) }
+    ensures right { IfOk result (λ _. first_in_field member NumberOrText (view value.now) ≡ None) }
+    ensures wrong { StopsAt result (first_in_field member NumberOrText (view value.now)) }
+{
+    match found(value, member) {
+        Some(found) if !found.is_number() && !found.is_string() => Err(wrong(alloc, member)),
+        found => Ok(found),
     }
 }

@@ -6,12 +6,15 @@
 #![tactic(auto)]
 
 mod attributes;
-mod cores;
 mod errors;
+mod events;
 mod fields;
 mod gathering;
+mod ids;
 mod json;
 mod laws;
+mod lists;
+mod origins;
 mod parts;
 mod paths;
 mod read;
@@ -24,6 +27,3 @@ pub use laws::first_wrong_form;
 pub use paths::{Member, Step};
 pub use read::{Reading, read_line};
 pub use write::write_trace;
-
-#[cfg(test)]
-mod tests;

@@ -1,79 +1,38 @@
 //! Reading the parts of a span.
 
-ghost use Rattle.std.specs.Prelude.{◌≡◌, ◌≤◌, ◌+◌, ◌++◌, ◌∷◌, [], min, length, map, All, IfOk, IfErr, OnOk, List, Option, Ok, Err, Some, None, option_map};
-ghost use Rattle.std.specs.List.{cons_option, filter_map, flat_map};
+ghost use Rattle.std.specs.Prelude.{◌≡◌, IfOk, List, Option, None};
 ghost use Rattle.std.specs.Option.{option_map_or};
 ghost use Rattle.serde_json.specs.Data.{Data};
 ghost use Rattle.serde_json.specs.View.{view};
 ghost use Rattle.span_types.specs.Promises.{AreNames};
-ghost use Rattle.otlp_spans.specs.Forms.{AnyList, Form, IsFirstWrong, ListOf, NumberOrText, Text as AText, attributes_form, behind, first_in_field, first_in_items, first_wrong, found, path_text, request_form, resource_form, resource_spans_form, scope_form, scope_spans_form, span_form, status_form};
-ghost use Rattle.otlp_spans.specs.Json.{json_of, total};
-ghost use Rattle.otlp_spans.specs.Reading.{IsReadable, core_of, kind_in, last64, most_spans, objects_of, objects_of_resource, reading_of, resource_from, resource_spans, scope_from, scope_spans, skipped_from, skipped_of, skipped_of_resource, skipped_of_scope, skipped_of_span, span_of, span_with, spans_of, status_code_in, status_message_in};
-ghost use Rattle.otlp_spans.specs.Attributes.{attrs_in, list_in, skipped_attrs, text_in};
-ghost use Rattle.otlp_spans.specs.Walk.{StopsAt, head_wrong, tail_wrong};
-ghost use Rattle.otlp_spans.specs.declared.errors.OtlpError.TheVariants as e;
+ghost use Rattle.span_types.specs.declared.spans.StatusCode.TheVariants.{Unset};
+ghost use Rattle.otlp_spans.specs.Attributes.{attrs_in, text_in};
+ghost use Rattle.otlp_spans.specs.Fields.{code_of};
+ghost use Rattle.otlp_spans.specs.Forms.{first_in_field, first_wrong, found, status_form};
+ghost use Rattle.otlp_spans.specs.Reading.{events_in, kind_in, links_in, skipped_in, span_with, status_code_in, status_message_in};
+ghost use Rattle.otlp_spans.specs.Walk.{Adds, StopsAt, labels_wrong, rest_wrong};
 ghost use Rattle.otlp_spans.specs.declared.paths.Member.TheVariants as m;
 ghost use Rattle.otlp_spans.specs.declared.paths.Step.{Step};
-ghost use Rattle.otlp_spans.specs.Fields.{code_of};
-ghost use Rattle.span_types.specs.declared.spans.StatusCode.TheVariants.{Unset};
 
 use crate::attributes::attributes_in;
-use crate::cores::{Core, read_core};
-use crate::errors::{OtlpError, Stop};
+use crate::errors::Stop;
 use crate::fields::{code, kind};
-use crate::json::{found, list_in, text_in, wrong};
+use crate::ids::SpanIds;
+use crate::json::{found, number_or_text, owned, text_in};
+use crate::lists::kept_in;
 use crate::paths::{Member, Step};
 use serde_json::Value;
 use span_types::{
-    Attrs, Batch, Memory, Resource, Scope, SharedResource, SharedScope, Span, SpanKind, Spans,
-    StatusCode, Text,
+    Attrs, Events, Links, Memory, SharedResource, SharedScope, Span, SpanEvent, SpanKind, SpanLink,
+    StatusCode, Text, TryCopy,
 };
 use std::alloc::Global;
-
-/// A text of its own.
-pub(crate) fn owned(alloc: Global, text: &str) -> Result<Text, Memory>
-    ensures { IfOk result (λ t. t ≡ text.now) }
-{
-    Ok(Text::of(String::from_str(alloc, text)?))
-}
-
-// ---- a span
-
-/// A span's kind.
-fn kind_in(alloc: Global, value: &Value) -> Result<SpanKind, Stop>
-    ensures kind { IfOk result (λ k. k ≡ kind_in (view value.now)) }
-    ensures right { IfOk result (λ _. first_in_field m.Kind NumberOrText (view value.now) ≡ None) }
-    ensures wrong { StopsAt result (first_in_field m.Kind NumberOrText (view value.now)) }
-{
-    let Some(found) = found(value, Member::Kind) else {
-        return Ok(SpanKind::Unspecified);
-    };
-    if found.is_number() || found.is_string() {
-        return Ok(kind(found));
-    }
-    Err(wrong(alloc, Member::Kind))
-}
 
 /// How a span ended.
 #[derive(Drop)]
 pub(crate) struct Status {
     pub(crate) code: StatusCode,
     pub(crate) message: Text,
-}
-
-/// A status code.
-fn code_in(alloc: Global, value: &Value) -> Result<StatusCode, Stop>
-    ensures code { IfOk result (λ c. c ≡ option_map_or code_of (found m.Code (view value.now)) Unset) }
-    ensures right { IfOk result (λ _. first_in_field m.Code NumberOrText (view value.now) ≡ None) }
-    ensures wrong { StopsAt result (first_in_field m.Code NumberOrText (view value.now)) }
-{
-    let Some(found) = found(value, Member::Code) else {
-        return Ok(StatusCode::Unset);
-    };
-    if found.is_number() || found.is_string() {
-        return Ok(code(found));
-    }
-    Err(wrong(alloc, Member::Code))
 }
 
 /// The status that a value is.
@@ -87,7 +46,8 @@ fn status_of(alloc: Global, value: &Value) -> Result<Status, Stop>
         return Err(Stop::here(alloc));
     }
     let message = text_in(alloc, value, Member::Message)?;
-    let code = code_in(alloc, value)?;
+    let found = number_or_text(alloc, value, Member::Code)?;
+    let code = found.map_or(StatusCode::Unset, code);
     Ok(Status {
         code,
         message: owned(alloc, message)?,
@@ -115,77 +75,89 @@ fn status_in(alloc: Global, value: &Value) -> Result<Status, Stop>
 
 /// A span's name, kind and status.
 #[derive(Drop)]
-pub(crate) struct Head {
+pub(crate) struct SpanLabels {
     pub(crate) name: Text,
     pub(crate) kind: SpanKind,
     pub(crate) status: Status,
 }
 
-pub(crate) fn read_head(alloc: Global, value: &Value) -> Result<Head, Stop>
-    ensures name { IfOk result (λ h. h.name ≡ text_in m.Name (view value.now)) }
-    ensures kind { IfOk result (λ h. h.kind ≡ kind_in (view value.now)) }
-    ensures code { IfOk result (λ h. h.status.code ≡ status_code_in (view value.now)) }
-    ensures message { IfOk result (λ h. h.status.message ≡ status_message_in (view value.now)) }
-    ensures right { IfOk result (λ _. (rest : Option (List Step)) → head_wrong (view value.now) rest ≡ rest) }
-    ensures wrong { (rest : Option (List Step)) → StopsAt result (head_wrong (view value.now) rest) }
+pub(crate) fn read_labels(alloc: Global, value: &Value) -> Result<SpanLabels, Stop>
+    ensures name { IfOk result (λ l. l.name ≡ text_in m.Name (view value.now)) }
+    ensures kind { IfOk result (λ l. l.kind ≡ kind_in (view value.now)) }
+    ensures code { IfOk result (λ l. l.status.code ≡ status_code_in (view value.now)) }
+    ensures message { IfOk result (λ l. l.status.message ≡ status_message_in (view value.now)) }
+    ensures right { IfOk result (λ _. (rest : Option (List Step)) → labels_wrong (view value.now) rest ≡ rest) }
+    ensures wrong { (rest : Option (List Step)) → StopsAt result (labels_wrong (view value.now) rest) }
 {
     let name = text_in(alloc, value, Member::Name)?;
     let name = owned(alloc, name)?;
-    let kind = kind_in(alloc, value)?;
+    let found = number_or_text(alloc, value, Member::Kind)?;
+    let kind = found.map_or(SpanKind::Unspecified, kind);
     let status = status_in(alloc, value)?;
-    Ok(Head { name, kind, status })
+    Ok(SpanLabels { name, kind, status })
 }
 
-/// A span's attributes, and how many of its attributes, events and links are skipped.
+/// A span's attributes, events and links, and how much of them is skipped, at most 2^64 - 1.
 #[derive(Drop)]
-pub(crate) struct Tail {
+pub(crate) struct SpanRest {
     pub(crate) attrs: Attrs,
+    pub(crate) events: Events,
+    pub(crate) links: Links,
     pub(crate) skipped: u64,
 }
 
-pub(crate) fn read_tail(alloc: Global, value: &Value) -> Result<Tail, Stop>
-    ensures attrs { IfOk result (λ t. t.attrs ≡ attrs_in (view value.now)) }
-    ensures skipped { IfOk result (λ t. t.skipped ≡ min (skipped_attrs (view value.now) + (length (list_in m.Events (view value.now)) + length (list_in m.Links (view value.now)))) last64) }
-    ensures right { IfOk result (λ _. tail_wrong (view value.now) ≡ None) }
-    ensures wrong { StopsAt result (tail_wrong (view value.now)) }
+#[tactic(auto, unfolding(crate::specs::Reading::skipped_in))]
+pub(crate) fn read_rest(alloc: Global, value: &Value) -> Result<SpanRest, Stop>
+    ensures attrs { IfOk result (λ r. r.attrs ≡ attrs_in (view value.now)) }
+    ensures events { IfOk result (λ r. r.events ≡ events_in (view value.now)) }
+    ensures links { IfOk result (λ r. r.links ≡ links_in (view value.now)) }
+    ensures skipped { IfOk result (λ r. Adds 0 r.skipped (skipped_in (view value.now))) }
+    ensures right { IfOk result (λ _. rest_wrong (view value.now) ≡ None) }
+    ensures wrong { StopsAt result (rest_wrong (view value.now)) }
 {
     let attributes = attributes_in(alloc, value)?;
-    let events = list_in(alloc, value, Member::Events)?.len();
-    let links = list_in(alloc, value, Member::Links)?.len();
-    let skipped = (attributes.skipped as u64)
-        .saturating_add(events as u64)
-        .saturating_add(links as u64);
-    Ok(Tail {
+    let events = kept_in::<SpanEvent>(alloc, value, Member::Events)?;
+    let links = kept_in::<SpanLink>(alloc, value, Member::Links)?;
+    let skipped = attributes
+        .skipped
+        .saturating_add(events.skipped)
+        .saturating_add(links.skipped);
+    Ok(SpanRest {
         attrs: attributes.attrs,
+        events: Events::of(events.items),
+        links: Links::of(links.items),
         skipped,
     })
 }
 
-/// The span that has this core and these parts.
+/// The span that has these ids and these parts.
 #[tactic(auto, unfolding(crate::specs::Reading::span_with))]
 pub(crate) fn span_with(
     resource: &SharedResource,
     scope: &SharedScope,
-    core: Core,
-    head: Head,
-    tail: Tail,
+    ids: SpanIds,
+    labels: SpanLabels,
+    rest: SpanRest,
 ) -> Result<Span, Memory>
-    requires { AreNames core.trace core.id core.parent }
-    ensures { IfOk result (λ s. (d : Data) → head.name ≡ text_in m.Name d → head.kind ≡ kind_in d → head.status.code ≡ status_code_in d
-        → head.status.message ≡ status_message_in d → tail.attrs ≡ attrs_in d → s ≡ span_with resource.now scope.now d core) }
+    requires { AreNames ids.trace ids.id ids.parent }
+    ensures { IfOk result (λ s. (d : Data) → labels.name ≡ text_in m.Name d → labels.kind ≡ kind_in d → labels.status.code ≡ status_code_in d
+        → labels.status.message ≡ status_message_in d → rest.attrs ≡ attrs_in d → rest.events ≡ events_in d → rest.links ≡ links_in d
+        → s ≡ span_with resource.now scope.now d ids) }
 {
     Ok(Span {
-        trace: core.trace,
-        id: core.id,
-        parent: core.parent,
-        name: head.name,
-        kind: head.kind,
-        start: core.start,
-        end: core.end,
-        status: head.status.code,
-        message: head.status.message,
-        attrs: tail.attrs,
+        trace: ids.trace,
+        id: ids.id,
+        parent: ids.parent,
+        name: labels.name,
+        kind: labels.kind,
+        start: ids.start,
+        end: ids.end,
+        status: labels.status.code,
+        message: labels.status.message,
+        attrs: rest.attrs,
         resource: resource.copy()?,
         scope: scope.copy()?,
+        events: rest.events,
+        links: rest.links,
     })
 }

@@ -31,6 +31,8 @@ pub enum Member {
     StartTime,
     /// `endTimeUnixNano`
     EndTime,
+    /// `timeUnixNano`
+    TimeUnixNano,
     /// `name`
     Name,
     /// `version`
@@ -85,6 +87,7 @@ impl Member {
             Member::ParentSpanId => "parentSpanId",
             Member::StartTime => "startTimeUnixNano",
             Member::EndTime => "endTimeUnixNano",
+            Member::TimeUnixNano => "timeUnixNano",
             Member::Name => "name",
             Member::Version => "version",
             Member::Kind => "kind",

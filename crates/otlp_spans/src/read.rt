@@ -5,7 +5,7 @@ ghost use Rattle.serde_json.specs.Data.{Data};
 ghost use Rattle.serde_json.specs.View.{view};
 ghost use Rattle.otlp_spans.specs.Forms.{path_text};
 ghost use Rattle.otlp_spans.specs.Json.{json_of};
-ghost use Rattle.otlp_spans.specs.Reading.{IsReadable, NoJson, TooManySpans, WrongForm, counted, most_spans, objects_of, reading_of, skipped_of, spans_of};
+ghost use Rattle.otlp_spans.specs.Reading.{IsReadable, NoJson, TooManySpans, WrongForm, counted, objects_of, reading_of, skipped_of, spans_of};
 ghost use Rattle.otlp_spans.specs.Walk.{Adds};
 ghost use Rattle.otlp_spans.specs.declared.errors.OtlpError.TheVariants.{Memory, NotJson, NotRequest, TooMany};
 ghost use Rattle.otlp_spans.specs.declared.paths.Step.{Step};
@@ -14,7 +14,7 @@ use crate::OtlpError;
 use crate::errors::Stop;
 use crate::gathering::{Gathered, gather};
 use serde_json::Value;
-use span_types::{Batch, Spans, Text};
+use span_types::{Batch, MOST_SPANS, Spans, Text};
 use std::alloc::Global;
 
 /// What a line gives: its spans, and how much of it was left out.
@@ -28,9 +28,6 @@ pub struct Reading {
     pub skipped: u32,
 }
 
-/// The most span objects that a line may have.
-const MOST_SPANS: u64 = 16_384;
-
 /// The spans of a line of OTLP/JSON, which is one `ExportTraceServiceRequest`.
 ///
 /// The line is read as JSON. Members that aren't named here are ignored, and a member that is null is as if it weren't
@@ -40,8 +37,8 @@ const MOST_SPANS: u64 = 16_384;
 /// - of each of these `resource` is an object, and `scopeSpans` a list of objects;
 /// - of each of those `scope` is an object, with the texts `name` and `version`, and `spans` a list of objects;
 /// - of a span `name` is a text, `kind` a number or a text, `status` an object with the text `message` and with `code`,
-///   a number or a text, and `events` and `links` are lists;
-/// - the `attributes` of a resource, a scope and a span are a list of objects, whose `key` is a text.
+///   a number or a text, `events` a list of objects, whose `name` is a text, and `links` a list of objects;
+/// - the `attributes` of a resource, a scope, a span, an event and a link are a list of objects, whose `key` is a text.
 ///
 /// A span is rejected, and counted, where `traceId` isn't a text of 32 hexadecimal digits of either case that aren't all
 /// zeros, or `spanId` one of 16, where `parentSpanId` is there and neither empty nor a text of 16 such digits, or where
@@ -49,8 +46,9 @@ const MOST_SPANS: u64 = 16_384;
 /// Sixteen zeros are no parent.
 ///
 /// An attribute is kept where its `value` has exactly one of OTLP's seven kinds of value and this is a text, a truth or a
-/// whole number of 64 signed bits; else it is skipped, and counted. Of a key the first attribute that is kept stays. The
-/// events and links of accepted spans are skipped too.
+/// whole number of 64 signed bits; else it is skipped, and counted. Of a key the first attribute that is kept stays. An
+/// event is kept where its `timeUnixNano` is absent, which is 0, or such a whole number as a span's times; a link where its
+/// `traceId` and `spanId` are valid. Else it is skipped, and counts as one. Of a rejected span nothing counts as skipped.
 ///
 /// [`OtlpError`] has the errors in the order in which they are tested. `Memory` comes wherever memory is wanted and not
 /// given.
@@ -60,7 +58,7 @@ pub fn read_line(alloc: Global, line: &[u8]) -> Result<Reading, OtlpError>
     ensures not_json { IfErr result (λ e. e ≡ NotJson → reading_of line.now ≡ Err NoJson) }
     ensures not_request { IfErr result (λ e. (text : List ℕ) → e ≡ NotRequest text → (path : List Step) × (text ≡ path_text path) × (reading_of line.now ≡ Err (WrongForm path))) }
     ensures too_many { IfErr result (λ e. (spans : ℕ) → e ≡ TooMany spans → reading_of line.now ≡ Err (TooManySpans spans)) }
-    ensures most { IfOk result (λ r. length r.batch.spans ≤ most_spans) }
+    ensures most { IfOk result (λ r. length r.batch.spans ≤ MOST_SPANS) }
     ensures readable { IfOk result (λ r. All IsReadable r.batch.spans) }
 {
     let value = read_json(alloc, line)?;
@@ -92,10 +90,10 @@ fn read_json(alloc: Global, line: &[u8]) -> Result<Value, OtlpError>
 
 /// What was gathered, where there aren't too many spans.
 fn counted(gathered: Gathered) -> Result<Reading, OtlpError>
-    requires { gathered.objects ≤ most_spans → length gathered.spans.items ≤ most_spans }
+    requires { gathered.objects ≤ MOST_SPANS → length gathered.spans.items ≤ MOST_SPANS }
     ensures ok { IfOk result (λ r. (d : Data) → gathered.spans.items ≡ spans_of d → Adds 0 gathered.objects (objects_of d) → Adds 0 gathered.skipped (skipped_of d)
         → counted d ≡ Ok (record { spans = r.batch.spans; rejected = r.rejected; skipped = r.skipped })) }
-    ensures spans { IfOk result (λ r. (r.batch.spans ≡ gathered.spans.items) × (gathered.objects ≤ most_spans)) }
+    ensures spans { IfOk result (λ r. (r.batch.spans ≡ gathered.spans.items) × (gathered.objects ≤ MOST_SPANS)) }
     ensures too_many { IfErr result (λ e. (d : Data) → Adds 0 gathered.objects (objects_of d)
         → (spans : ℕ) × (e ≡ TooMany spans) × (counted d ≡ Err (TooManySpans spans))) }
 {

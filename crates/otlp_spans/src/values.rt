@@ -1,18 +1,20 @@
 //! The JSON values of spans and what they hold.
 
-ghost use Rattle.std.specs.Prelude.{◌≡◌, ◌<◌, ◌^◌, FitsSigned, IfOk, IfSome, OnOk, codes, decimal, map, string_bytes};
+ghost use Rattle.std.specs.Prelude.{◌≡◌, ◌<◌, ◌^◌, All, FitsSigned, IfOk, IfSome, OnOk, codes, decimal, string_bytes};
 ghost use Rattle.std.specs.Fmt.{signed_decimal};
 ghost use Rattle.std.specs.Int.{w64};
 ghost use Rattle.hex.specs.Hex.{encode_lower};
-ghost use Rattle.serde_json.specs.Data.{array, number, put, string, unsigned};
-ghost use Rattle.serde_json.specs.View.{items_view, members_view, view};
+ghost use Rattle.serde_json.specs.Data.{number, put, string, unsigned};
+ghost use Rattle.serde_json.specs.View.{members_view, view};
+ghost use Rattle.span_types.specs.Numbers.{kind_number};
 ghost use Rattle.span_types.specs.Promises.{AreNames};
-ghost use Rattle.otlp_spans.specs.Fits.{AreBytes, AreFit, FitAttrs, FitsSpan, FitsValue};
-ghost use Rattle.otlp_spans.specs.Writing.{attr_json, code_number, kind_number, list_json, parent_text, resource_json, scope_json, span_json, status_json, value_json};
+ghost use Rattle.otlp_spans.specs.Fits.{AreBytes, AreFit, FitsAttr, FitsEvent, FitsLink, FitsSpan, FitsValue, put_some};
+ghost use Rattle.otlp_spans.specs.Writing.{attr_json, event_json, link_json, list_json, parent_text, resource_json, scope_json, span_json, status_json, value_json};
 
 use serde_json::{Map, Value, json};
 use span_types::{
-    Attr, AttrValue, Attrs, Memory, Resource, Scope, Span, SpanId, SpanKind, StatusCode, TraceId,
+    Attr, AttrValue, Attrs, Memory, Resource, Row, Scope, Span, SpanEvent, SpanId, SpanLink,
+    StatusCode, TraceId,
 };
 use std::alloc::Global;
 
@@ -64,35 +66,98 @@ fn attr_value(alloc: Global, value: &AttrValue) -> Result<Value, Memory>
     }
 }
 
-/// An attribute.
-#[tactic(auto, unfolding(crate::specs::Writing::attr_json))]
-fn attr(alloc: Global, attr: &Attr) -> Result<Value, Memory>
-    ensures json { IfOk result (λ v. view v ≡ attr_json attr.now) }
-    ensures fits { OnOk result (FitsValue attr.now.value) }
-{
-    let value = attr_value(alloc, &attr.value)?;
-    Ok(json!(in alloc; {"key": attr.key.as_str(), "value": value})?)
+/// What has a JSON value.
+pub(crate) trait ToJson {
+    ghost use Rattle.serde_json.specs.Data.{Data};
+
+    ghost json: { Self → Data };
+
+    ghost Fits: { Self → Type 0 };
+
+    /// The value.
+    fn json(&self, alloc: Global) -> Result<Value, Memory>
+        ensures value { IfOk result (λ v. view v ≡ json self.now) }
+        ensures fits { OnOk result (Fits self.now) };
 }
 
-/// Each attribute of a list.
-fn attrs(alloc: Global, list: &[Attr]) -> Result<Value, Memory>
-    ensures json { IfOk result (λ v. view v ≡ list_json attr_json list.now) }
-    ensures fit { OnOk result (FitAttrs list.now) }
+/// The list of the values of items.
+pub(crate) fn list<T: ToJson>(alloc: Global, items: &[T]) -> Result<Value, Memory>
+    ensures value { IfOk result (λ v. view v ≡ list_json T.json items.now) }
+    ensures fit { OnOk result (All T.Fits items.now) }
 {
     let mut values = Vec::new(alloc);
-    for item in list {
-        values.push(attr(alloc, item)?)?;
+    for item in items {
+        values.push(item.json(alloc)?)?;
     }
     Ok(Value::from(values))
 }
 
-/// A list of attributes.
-fn attributes(alloc: Global, list: &Attrs) -> Result<Value, Memory>
-    ensures json { IfOk result (λ v. view v ≡ list_json attr_json list.now) }
-    ensures fit { OnOk result (AreFit list.now) }
+/// Puts the list of the values of items into an object, where there is an item.
+fn put_some<T: ToJson>(
+    alloc: Global,
+    object: &mut Map<String, Value>,
+    name: &str,
+    items: &[T],
+) -> Result<(), Memory>
+    ensures json { OnOk result (members_view object.new.entries
+        ≡ put_some name.now T.json items.now (members_view object.old.entries)) }
+    ensures fit { OnOk result (All T.Fits items.now) }
 {
-    list.keys_differ();
-    attrs(alloc, list.as_slice())
+    let values = list(alloc, items)?;
+    if !items.is_empty() {
+        serde_json::put(object, alloc, name, values)?;
+    }
+    Ok(())
+}
+
+impl ToJson for Attr {
+    ghost json = { attr_json };
+
+    ghost Fits = { FitsAttr };
+
+    #[tactic(auto, unfolding(crate::specs::Writing::attr_json))]
+    fn json(&self, alloc: Global) -> Result<Value, Memory> {
+        let value = attr_value(alloc, &self.value)?;
+        Ok(json!(in alloc; {"key": self.key.as_str(), "value": value})?)
+    }
+}
+
+/// A list of attributes.
+fn attributes(alloc: Global, attrs: &Attrs) -> Result<Value, Memory>
+    ensures json { IfOk result (λ v. view v ≡ list_json attr_json attrs.now) }
+    ensures fit { OnOk result (AreFit attrs.now) }
+{
+    attrs.keys_differ();
+    list(alloc, attrs.as_slice())
+}
+
+impl ToJson for SpanEvent {
+    ghost json = { event_json };
+
+    ghost Fits = { FitsEvent };
+
+    #[tactic(auto, unfolding(crate::specs::Writing::event_json))]
+    fn json(&self, alloc: Global) -> Result<Value, Memory> {
+        let attributes = attributes(alloc, &self.attrs)?;
+        let time = moment(alloc, self.time)?;
+        Ok(
+            json!(in alloc; {"attributes": attributes, "name": self.name.as_str(), "timeUnixNano": time})?,
+        )
+    }
+}
+
+impl ToJson for SpanLink {
+    ghost json = { link_json };
+
+    ghost Fits = { FitsLink };
+
+    #[tactic(auto, unfolding(crate::specs::Writing::link_json))]
+    fn json(&self, alloc: Global) -> Result<Value, Memory> {
+        let attributes = attributes(alloc, &self.attrs)?;
+        let span = span_id(alloc, self.span)?;
+        let trace = trace_id(alloc, self.trace)?;
+        Ok(json!(in alloc; {"attributes": attributes, "spanId": span, "traceId": trace})?)
+    }
 }
 
 /// A resource.
@@ -117,37 +182,12 @@ pub(crate) fn scope(alloc: Global, scope: &Scope) -> Result<Value, Memory>
     Ok(json!(in alloc; {"attributes": attributes, "name": name, "version": version})?)
 }
 
-/// OTLP's number of a kind.
-fn kind_number(kind: SpanKind) -> u64
-    ensures { result ≡ kind_number kind }
-{
-    match kind {
-        SpanKind::Unspecified => 0,
-        SpanKind::Internal => 1,
-        SpanKind::Server => 2,
-        SpanKind::Client => 3,
-        SpanKind::Producer => 4,
-        SpanKind::Consumer => 5,
-    }
-}
-
-/// OTLP's number of a status code.
-fn code_number(code: StatusCode) -> u64
-    ensures { result ≡ code_number code }
-{
-    match code {
-        StatusCode::Unset => 0,
-        StatusCode::Fine => 1,
-        StatusCode::Error => 2,
-    }
-}
-
 /// A status.
 #[tactic(auto, unfolding(crate::specs::Writing::status_json))]
 fn status(alloc: Global, code: StatusCode, message: &str) -> Result<Value, Memory>
     ensures { IfOk result (λ v. view v ≡ status_json code message.now) }
 {
-    Ok(json!(in alloc; {"code": code_number(code), "message": message})?)
+    Ok(json!(in alloc; {"code": code.number(), "message": message})?)
 }
 
 /// A parent's id, and the empty text where there is none.
@@ -161,73 +201,90 @@ fn parent(alloc: Global, parent: Option<SpanId>) -> Result<String, Memory>
     }
 }
 
-/// Puts a span's attributes, end and kind into its object.
+/// Puts a span's attributes, end and events into its object.
 fn put_first(alloc: Global, object: &mut Map<String, Value>, span: &Span) -> Result<(), Memory>
     ensures attrs { OnOk result (AreFit span.now.attrs) }
     ensures end { OnOk result (span.now.end < 2 ^ 64) }
+    ensures events { OnOk result (All FitsEvent span.now.events) }
     ensures json { OnOk result (members_view object.new.entries
-        ≡ put (codes "kind") (number (unsigned (kind_number span.now.kind)))
+        ≡ put_some (codes "events") event_json span.now.events
         (put (codes "endTimeUnixNano") (string (decimal span.now.end))
         (put (codes "attributes") (list_json attr_json span.now.attrs)
         (members_view object.old.entries)))) }
 {
     let attributes = attributes(alloc, &span.attrs)?;
     let end = moment(alloc, span.end)?;
-    let kind = kind_number(span.kind);
     serde_json::put(object, alloc, "attributes", attributes)?;
     serde_json::put(object, alloc, "endTimeUnixNano", Value::from(end))?;
-    serde_json::put(object, alloc, "kind", Value::from(kind))?;
-    Ok(())
+    put_some(alloc, object, "events", span.events.as_slice())
 }
 
-/// Puts a span's name, parent and id into its object.
+/// Puts a span's kind, links and name into its object.
 fn put_second(alloc: Global, object: &mut Map<String, Value>, span: &Span) -> Result<(), Memory>
-    ensures parent { OnOk result (IfSome span.now.parent (λ p. AreBytes 8 p.0)) }
-    ensures id { OnOk result (AreBytes 8 span.now.id.0) }
+    ensures links { OnOk result (All FitsLink span.now.links) }
     ensures json { OnOk result (members_view object.new.entries
-        ≡ put (codes "spanId") (string (encode_lower span.now.id.0))
-        (put (codes "parentSpanId") (string (parent_text span.now.parent))
-        (put (codes "name") (string span.now.name)
+        ≡ put (codes "name") (string span.now.name)
+        (put_some (codes "links") link_json span.now.links
+        (put (codes "kind") (number (unsigned (kind_number span.now.kind)))
         (members_view object.old.entries)))) }
 {
     let name = Value::try_from_str(alloc, span.name.as_str())?;
-    let parent = parent(alloc, span.parent)?;
-    let id = span_id(alloc, span.id)?;
+    serde_json::put(object, alloc, "kind", Value::from(span.kind.number()))?;
+    put_some(alloc, object, "links", span.links.as_slice())?;
     serde_json::put(object, alloc, "name", name)?;
-    serde_json::put(object, alloc, "parentSpanId", Value::from(parent))?;
-    serde_json::put(object, alloc, "spanId", Value::from(id))?;
     Ok(())
 }
 
-/// Puts a span's start, status and trace into its object.
+/// Puts a span's parent, id and start into its object.
 fn put_third(alloc: Global, object: &mut Map<String, Value>, span: &Span) -> Result<(), Memory>
+    ensures parent { OnOk result (IfSome span.now.parent (λ p. AreBytes 8 p.0)) }
+    ensures id { OnOk result (AreBytes 8 span.now.id.0) }
     ensures start { OnOk result (span.now.start < 2 ^ 64) }
+    ensures json { OnOk result (members_view object.new.entries
+        ≡ put (codes "startTimeUnixNano") (string (decimal span.now.start))
+        (put (codes "spanId") (string (encode_lower span.now.id.0))
+        (put (codes "parentSpanId") (string (parent_text span.now.parent))
+        (members_view object.old.entries)))) }
+{
+    let parent = parent(alloc, span.parent)?;
+    let id = span_id(alloc, span.id)?;
+    let start = moment(alloc, span.start)?;
+    serde_json::put(object, alloc, "parentSpanId", Value::from(parent))?;
+    serde_json::put(object, alloc, "spanId", Value::from(id))?;
+    serde_json::put(object, alloc, "startTimeUnixNano", Value::from(start))?;
+    Ok(())
+}
+
+/// Puts a span's status and trace into its object.
+fn put_last(alloc: Global, object: &mut Map<String, Value>, span: &Span) -> Result<(), Memory>
     ensures trace { OnOk result (AreBytes 16 span.now.trace.0) }
     ensures names { OnOk result (AreNames span.now.trace span.now.id span.now.parent) }
     ensures json { OnOk result (members_view object.new.entries
         ≡ put (codes "traceId") (string (encode_lower span.now.trace.0))
         (put (codes "status") (status_json span.now.status span.now.message)
-        (put (codes "startTimeUnixNano") (string (decimal span.now.start))
-        (members_view object.old.entries)))) }
+        (members_view object.old.entries))) }
 {
-    let start = moment(alloc, span.start)?;
     let status = status(alloc, span.status, span.message.as_str())?;
     let trace = trace_id(alloc, span.trace)?;
-    serde_json::put(object, alloc, "startTimeUnixNano", Value::from(start))?;
     serde_json::put(object, alloc, "status", status)?;
     serde_json::put(object, alloc, "traceId", Value::from(trace))?;
     Ok(())
 }
 
-/// A span.
-#[tactic(auto, unfolding(crate::specs::Writing::span_json))]
-pub(crate) fn span(alloc: Global, span: &Span) -> Result<Value, Memory>
-    ensures json { IfOk result (λ v. view v ≡ span_json span.now) }
-    ensures fits { OnOk result (FitsSpan span.now) }
-{
-    let mut object = Map::new(alloc);
-    put_first(alloc, &mut object, span)?;
-    put_second(alloc, &mut object, span)?;
-    put_third(alloc, &mut object, span)?;
-    Ok(Value::from(object))
+impl ToJson for Row {
+    ghost json = { λ row. span_json row.span };
+
+    ghost Fits = { λ row. FitsSpan row.span };
+
+    /// That of its span.
+    #[tactic(auto, unfolding(crate::specs::Writing::span_json))]
+    fn json(&self, alloc: Global) -> Result<Value, Memory> {
+        let span = &self.span;
+        let mut object = Map::new(alloc);
+        put_first(alloc, &mut object, span)?;
+        put_second(alloc, &mut object, span)?;
+        put_third(alloc, &mut object, span)?;
+        put_last(alloc, &mut object, span)?;
+        Ok(Value::from(object))
+    }
 }

@@ -1,4 +1,4 @@
--- Rows in block order, a trace at a time.
+-- Private mechanism. Rows in block order, a trace at a time.
 use Rattle.std.specs.Prelude.{◌≡◌, ◌≢◌, ℕ, ◌<◌, List, ◌++◌, Bool, true, false, Option, Some, length, map, slice_index_or}
 use Rattle.std.specs.List.{AllPairs}
 use Rattle.std.specs.Option.{option_map, option_to_list}

@@ -5,6 +5,3 @@ mod search;
 mod traces;
 
 pub use search::answer;
-
-#[cfg(test)]
-mod tests;

@@ -3,12 +3,7 @@
 
 mod printed;
 mod results;
-mod texts;
 mod values;
 
-pub use printed::printed_fields;
+pub use printed::{Texts, printed_fields};
 pub use results::write_results;
-pub use texts::Texts;
-
-#[cfg(test)]
-mod tests;

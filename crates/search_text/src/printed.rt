@@ -6,11 +6,13 @@ ghost use Rattle.traceql_print.specs.Text.{field_text};
 ghost use Rattle.spanset_eval.specs.Stages.{fields_of_stage};
 ghost use Rattle.search_text.specs.Fields.{printed_fields};
 
-use crate::Texts;
-use span_types::{Memory, Text};
+use span_types::{Memory, Seq, Text};
 use std::alloc::Global;
 use traceql_print::print_field;
 use traceql_syntax::{Query, Stage};
+
+/// Texts in order.
+pub type Texts = Seq<Text>;
 
 /// The fields that a query's `select` stages name, in the text's order, each in its printed form. A field that is named
 /// twice stands there twice. It fails only for want of memory.

@@ -2,10 +2,11 @@
 use Rattle.std.specs.Prelude.{◌≡◌, ◌⊎◌, ⊤, ℕ, ◌+◌, ◌≤◌, List, [], ◌∷◌, length, codes, nat_le, if◌then◌else◌, Option, Some, None, Result, Ok, Err}
 use Rattle.std.specs.Str.{bytes_eq, is_utf8}
 use Rattle.span_types.specs.declared.ids.TraceId.{TraceId}
+use Rattle.span_types.specs.declared.limits.TheConstants.{MOST_SPANS}
 use Rattle.io_edges.specs.Lines.{line_limit}
 use Rattle.otlp_spans.specs.Fields.{trace_id_of}
 use Rattle.otlp_spans.specs.Forms.{path_text}
-use Rattle.otlp_spans.specs.Reading.{Given, NoJson, TooManySpans, WrongForm, most_spans, reading_of}
+use Rattle.otlp_spans.specs.Reading.{Given, NoJson, TooManySpans, WrongForm, reading_of}
 use Rattle.otlp_spans.specs.Reading as otlp
 use Rattle.session_text.specs.declared.refusal.Refusal.{Refusal}
 use Rattle.session_text.specs.declared.refusal.Refusal.TheVariants.{TooLong, BadRequest, BadJson, BadOtlp, TooMany, Memory}
@@ -88,6 +89,6 @@ Asks line rose result = Answers (line_of line) rose result
 
 -- A push has at most as many spans as a line may have.
 abbrev pub HasFewSpans : Request → Type 0
-HasFewSpans (Push reading) = length reading.batch.spans ≤ most_spans
+HasFewSpans (Push reading) = length reading.batch.spans ≤ MOST_SPANS
 HasFewSpans (Trace id) = ⊤
 HasFewSpans (Search search) = ⊤

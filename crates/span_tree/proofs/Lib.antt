@@ -3,4 +3,3 @@ pub mod BuildLaws
 pub mod ReachLaws
 pub mod MemberLaws
 pub mod RelationLaws
-pub mod NumberedRows

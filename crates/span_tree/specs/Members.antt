@@ -1,4 +1,4 @@
--- The members of groups, in the order of their positions. A table has for each position the group to which it belongs.
+-- Private mechanism. The members of groups, in the order of their positions. A table has for each position the group to which it belongs.
 use Rattle.std.specs.Prelude.{◌≡◌, ◌==◌, ℕ, ◌<◌, ◌≤◌, Bool, true, false, List, Option, None, Some, is_some, if◌then◌else◌}
 use Rattle.span_tree.specs.Tables.{at}
 

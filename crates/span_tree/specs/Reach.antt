@@ -1,4 +1,4 @@
--- Where tables of positions lead.
+-- Private mechanism. Where tables of positions lead.
 use Rattle.std.specs.Prelude.{◌≡◌, ℕ, ◌<◌, List, Bool, Option, Some, Contains}
 use Rattle.span_tree.specs.Marking.{IsMarked}
 use Rattle.span_tree.specs.Tables.{at}

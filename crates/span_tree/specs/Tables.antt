@@ -1,4 +1,4 @@
--- The tables of a tree: what each has for each span.
+-- Private mechanism. The tables of a tree: what each has for each span.
 use Rattle.std.specs.Prelude.{◌≡◌, ℕ, ◌<◌, ◌⊎◌, List, Option, None, Some, length, slice_index_or}
 use Rattle.std.specs.BTreeMap.{BTreeMap, get}
 use Rattle.span_types.specs.declared.ids.SpanId.{SpanId}

@@ -16,6 +16,3 @@ mod visits;
 pub use node::Node;
 pub use steps::Steps;
 pub use tree::Tree;
-
-#[cfg(test)]
-mod tests;

@@ -1,4 +1,4 @@
--- Marks on the spans of a trace, and the sets for which they stand.
+-- Private mechanism. Marks on the spans of a trace, and the sets for which they stand.
 use Rattle.std.specs.Prelude.{◌≡◌, ℕ, ◌<◌, List, Bool, false, length, slice_index_or}
 use Rattle.span_tree.specs.Marking.{IsMarked}
 

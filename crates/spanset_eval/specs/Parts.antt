@@ -1,4 +1,4 @@
--- Positions split by values: the parts of a list, each of one value, in ascending order.
+-- Private mechanism. Positions split by values: the parts of a list, each of one value, in ascending order.
 use Rattle.std.specs.Prelude.{List, [], ◌∷◌, ◌++◌, ◌≡◌, Option, if◌then◌else◌}
 use Rattle.std.specs.Option.{option_to_list}
 use Rattle.std.specs.Ordering.{is_eq, is_lt}

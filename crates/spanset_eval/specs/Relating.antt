@@ -1,4 +1,4 @@
--- Relations among spans, seen from the other side.
+-- Private mechanism. Relations among spans, seen from the other side.
 use Rattle.traceql_syntax.specs.declared.query.Relation.{Relation}
 use Rattle.traceql_syntax.specs.declared.query.Relation.TheVariants as relation
 

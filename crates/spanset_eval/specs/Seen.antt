@@ -1,4 +1,4 @@
--- What calls keep as it was.
+-- Private mechanism. What calls keep as it was.
 use Rattle.std.specs.Prelude.{◌≡◌, List, Option, Some, None, ⊤}
 use Rattle.span_tree.specs.declared.node.Node.{Node}
 use Rattle.span_tree.specs.Nodes.{nodes_of}

@@ -16,6 +16,3 @@ mod stages;
 pub use outcome::{evaluate, evaluate_rows};
 pub use ranking::rank;
 pub use results::{Hit, Hits, Results, SetResult, Sets, TraceResult};
-
-#[cfg(test)]
-mod tests;

@@ -16,7 +16,7 @@ ghost use Rattle.spanset_eval.specs.Stages.{fields_of_stage, remaining, selected
 use crate::groups::{Group, Members};
 use crate::{Hit, Hits, SetResult, Sets, TraceResult, marks, select, stages};
 use span_tree::Steps;
-use span_types::{Memory, Row, Rows, Span};
+use span_types::{Memory, Row, Rows, Span, TryCopy};
 use std::alloc::Global;
 use std::marker::Brand;
 use std::sync::ledger::{Blank, Ledger};

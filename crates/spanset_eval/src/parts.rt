@@ -4,7 +4,7 @@ ghost use Rattle.std.specs.Prelude.{◌≡◌, ◌∷◌, [], ◌+◌, ◌<◌, 
 ghost use Rattle.spanset_eval.specs.Parts.{arranged, put_all, part_of, with_former, Ascend, Takes};
 
 use crate::groups::Members;
-use span_types::Memory;
+use span_types::{Memory, TryCopy};
 use std::alloc::Global;
 use std::cmp::Ordering;
 use traceql_value::Value;

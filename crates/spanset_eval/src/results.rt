@@ -1,9 +1,6 @@
 //! What a search answers.
 
-ghost use Rattle.std.specs.Prelude.{◌≡◌, length};
-
-use span_types::{SpanId, Text, TraceId};
-use std::marker::Model;
+use span_types::{Seq, SpanId, Text, TraceId};
 use traceql_value::{Value, Values};
 
 /// A span that a query selects.
@@ -50,136 +47,10 @@ pub struct TraceResult {
 }
 
 /// Spans that a query selects, by start and then id.
-#[derive(Drop)]
-pub struct Hits {
-    inner: Vec<Hit>,
-}
-
-impl Model for Hits {
-    ghost use Rattle.std.specs.Prelude.{List};
-    ghost use Rattle.spanset_eval.specs.declared.results.Hit.{Hit};
-
-    ghost Value = { List Hit };
-
-    ghost view = { λ l. l.inner.items };
-}
-
-impl Hits {
-    /// The list of a vector's items, which are moved and not copied.
-    pub fn of(inner: Vec<Hit>) -> Hits
-        ensures { result ≡ inner.items }
-    {
-        Hits { inner }
-    }
-
-    /// The vector again, without a copy.
-    pub fn into_vec(self) -> Vec<Hit>
-        ensures { result.items ≡ self }
-    {
-        self.inner
-    }
-
-    /// The items as a slice.
-    pub fn as_slice(&self) -> &[Hit]
-        ensures { result.now ≡ self.now }
-    {
-        self.inner.as_slice()
-    }
-
-    /// The number of items.
-    pub fn len(&self) -> usize
-        ensures { result ≡ length self.now }
-    {
-        self.inner.len()
-    }
-}
+pub type Hits = Seq<Hit>;
 
 /// Spansets, in order.
-#[derive(Drop)]
-pub struct Sets {
-    inner: Vec<SetResult>,
-}
-
-impl Model for Sets {
-    ghost use Rattle.std.specs.Prelude.{List};
-    ghost use Rattle.spanset_eval.specs.declared.results.SetResult.{SetResult};
-
-    ghost Value = { List SetResult };
-
-    ghost view = { λ l. l.inner.items };
-}
-
-impl Sets {
-    /// The list of a vector's items, which are moved and not copied.
-    pub fn of(inner: Vec<SetResult>) -> Sets
-        ensures { result ≡ inner.items }
-    {
-        Sets { inner }
-    }
-
-    /// The vector again, without a copy.
-    pub fn into_vec(self) -> Vec<SetResult>
-        ensures { result.items ≡ self }
-    {
-        self.inner
-    }
-
-    /// The items as a slice.
-    pub fn as_slice(&self) -> &[SetResult]
-        ensures { result.now ≡ self.now }
-    {
-        self.inner.as_slice()
-    }
-
-    /// The number of items.
-    pub fn len(&self) -> usize
-        ensures { result ≡ length self.now }
-    {
-        self.inner.len()
-    }
-}
+pub type Sets = Seq<SetResult>;
 
 /// Results of a search.
-#[derive(Drop)]
-pub struct Results {
-    inner: Vec<TraceResult>,
-}
-
-impl Model for Results {
-    ghost use Rattle.std.specs.Prelude.{List};
-    ghost use Rattle.spanset_eval.specs.declared.results.TraceResult.{TraceResult};
-
-    ghost Value = { List TraceResult };
-
-    ghost view = { λ l. l.inner.items };
-}
-
-impl Results {
-    /// The list of a vector's items, which are moved and not copied.
-    pub fn of(inner: Vec<TraceResult>) -> Results
-        ensures { result ≡ inner.items }
-    {
-        Results { inner }
-    }
-
-    /// The vector again, without a copy.
-    pub fn into_vec(self) -> Vec<TraceResult>
-        ensures { result.items ≡ self }
-    {
-        self.inner
-    }
-
-    /// The items as a slice.
-    pub fn as_slice(&self) -> &[TraceResult]
-        ensures { result.now ≡ self.now }
-    {
-        self.inner.as_slice()
-    }
-
-    /// The number of items.
-    pub fn len(&self) -> usize
-        ensures { result ≡ length self.now }
-    {
-        self.inner.len()
-    }
-}
+pub type Results = Seq<TraceResult>;

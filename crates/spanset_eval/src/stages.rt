@@ -13,7 +13,7 @@ ghost use Rattle.spanset_eval.specs.declared.groups.Group.{Group as Spanset};
 use crate::groups::{Group, Members};
 use crate::parts::{Part, Valued, arranged};
 use crate::{amounts, look, marks};
-use span_types::{Marks, Memory, Row};
+use span_types::{Marks, Memory, Row, TryCopy};
 use std::alloc::Global;
 use traceql_syntax::{Aggregate, Comparison, FieldExpr, Operand, Stage, Threshold};
 use traceql_value::{Scene, Value, Values};
@@ -65,25 +65,41 @@ fn valued(
 }
 
 // The values by which a spanset was split off, and one more.
-fn with_value(by: &Values, value: Value) -> Result<Values, Memory>
-    ensures { IfOk result (λ more. more ≡ by.now ++ value ∷ []) }
+fn with_value(by: Values, value: Value) -> Result<Values, Memory>
+    ensures { IfOk result (λ more. more ≡ by ++ value ∷ []) }
 {
-    let mut more = by.copy()?.into_vec();
+    let mut more = by.into_vec();
     more.push(value)?;
     Ok(Values::of(more))
 }
 
-// Adds a spanset for each part.
-fn add_parts(by: &Values, parts: Vec<Part>, found: &mut Vec<Group>) -> Result<(), Memory>
-    ensures { OnOk result (found.new.items ≡ found.old.items ++ map (λ (p : Part). record { by = by.now ++ p.value ∷ []; members = p.members }) parts.items) }
+// Adds a spanset for a part.
+fn add_part(by: Values, part: Part, found: &mut Vec<Group>) -> Result<(), Memory>
+    ensures { OnOk result (found.new.items ≡ found.old.items
+        ++ record { by = by ++ part.value ∷ []; members = part.members } ∷ []) }
 {
-    for part in parts {
-        found.push(Group {
-            by: with_value(by, part.value)?,
-            members: part.members,
-        })?;
-    }
+    let by = with_value(by, part.value)?;
+    found.push(Group {
+        by,
+        members: part.members,
+    })?;
     Ok(())
+}
+
+// Adds a spanset for each part. The last one takes the earlier values and the others copy them, so that a spanset that
+// isn't divided copies none: all values that stages copy are no more than those that spansets have in the end.
+fn add_parts(by: Values, parts: Vec<Part>, found: &mut Vec<Group>) -> Result<(), Memory>
+    ensures { OnOk result (found.new.items ≡ found.old.items
+        ++ map (λ (p : Part). record { by = by ++ p.value ∷ []; members = p.members }) parts.items) }
+{
+    let mut parts = parts;
+    let Some(last) = parts.pop() else {
+        return Ok(());
+    };
+    for part in parts {
+        add_part(by.copy()?, part, found)?;
+    }
+    add_part(by, last, found)
 }
 
 // Adds what a spanset is split into.
@@ -92,16 +108,16 @@ fn add_split(
     scene: &mut Scene<'_, '_>,
     rows: &[Row],
     expr: &FieldExpr,
-    group: &Group,
+    group: Group,
     found: &mut Vec<Group>,
 ) -> Result<(), Memory>
     requires { rows.now ≡ scene_rows scene.old }
-    ensures found { OnOk result (found.new.items ≡ found.old.items ++ split_by (scene_patterns scene.old) (scene_rows scene.old) (tree expr.now) group.now) }
+    ensures found { OnOk result (found.new.items ≡ found.old.items ++ split_by (scene_patterns scene.old) (scene_rows scene.old) (tree expr.now) group) }
     ensures scene { IsSame scene.old scene.new }
 {
     let valued = valued(alloc, scene, rows, expr, group.members.as_slice())?;
     let parts = arranged(alloc, valued.as_slice())?;
-    add_parts(&group.by, parts, found)
+    add_parts(group.by, parts, found)
 }
 
 // Each spanset split by the values of an expression.
@@ -110,10 +126,11 @@ fn split(
     scene: &mut Scene<'_, '_>,
     rows: &[Row],
     expr: &FieldExpr,
-    groups: &[Group],
+    groups: Vec<Group>,
 ) -> Result<Vec<Group>, Memory>
     requires { rows.now ≡ scene_rows scene.old }
-    ensures groups { IfOk result (λ found. found.items ≡ flat_map (split_by (scene_patterns scene.old) (scene_rows scene.old) (tree expr.now)) groups.now) }
+    ensures groups { IfOk result (λ found. found.items
+        ≡ flat_map (split_by (scene_patterns scene.old) (scene_rows scene.old) (tree expr.now)) groups.items) }
     ensures scene { IsSame scene.old scene.new }
 {
     let mut found = Vec::new(alloc);
@@ -214,7 +231,7 @@ fn after_stage(
 {
     match stage {
         Stage::Filter { condition, .. } => keep(alloc, scene, rows, condition, groups),
-        Stage::By(operand) => split(alloc, scene, rows, &operand.expr, groups.as_slice()),
+        Stage::By(operand) => split(alloc, scene, rows, &operand.expr, groups),
         Stage::Coalesce => coalesce(alloc, rows, groups.as_slice()),
         Stage::Select(_) => Ok(groups),
         Stage::Compare {

@@ -2,6 +2,10 @@
 #![tactic(auto)]
 
 #[cfg(test)]
+mod disk;
+#[cfg(test)]
 mod fields;
+#[cfg(test)]
+mod list;
 #[cfg(test)]
 mod log;

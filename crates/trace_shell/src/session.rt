@@ -2,7 +2,7 @@
 
 ghost use Rattle.std.specs.Prelude.{◌≡◌, ◌⊎◌, ◌+◌, ◌^◌, ◌<◌, ◌≤◌, ℕ, List, [], ◌∷◌, Ok, Some, None, false, IfOk, IfSome, IfNone, count_by, length};
 ghost use Rattle.span_types.specs.Faults.{Rose};
-ghost use Rattle.otlp_spans.specs.Reading.{most_spans};
+ghost use Rattle.span_types.specs.declared.limits.TheConstants.{MOST_SPANS};
 ghost use Rattle.io_edges.specs.Lines.{taken_limit};
 ghost use Rattle.io_edges.specs.Reader.{TakesBytes, to_come};
 ghost use Rattle.session_meaning.specs.declared.ending.Ending.TheVariants.{Answered, BadWords, ReadFault, Refused, Spent, Starved, WriteFault};
@@ -236,7 +236,7 @@ fn count_of(batch: &Batch) -> u64
 // Appends a batch.
 fn push(held: &mut Held, reading: Reading) -> Reply
     requires counts { held.old.pushes + 1 < 2 ^ 64 }
-    requires few { length reading.batch.spans ≤ most_spans }
+    requires few { length reading.batch.spans ≤ MOST_SPANS }
     ensures answered { (history : History) → Holds held.old history
         → (after : History) × IsAnsweredOrStarved (Ok (Push reading)) history result after × Holds held.new after }
     ensures count { held.new.pushes ≤ held.old.pushes + 1 }

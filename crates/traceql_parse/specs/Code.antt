@@ -1,4 +1,4 @@
--- The parser's own types as the definitions of what it reads see them.
+-- Private mechanism. The parser's own types as the definitions of what it reads see them.
 use Rattle.std.specs.Prelude.{◌≡◌, ℕ, suc, List, Some, None, Result, Ok, Err}
 use Rattle.traceql_tokens.specs.declared.kinds.Token.{Token}
 use Rattle.traceql_syntax.specs.declared.query.SpansetLevel.TheVariants as set_level

@@ -1,4 +1,4 @@
--- What the parser's functions read from the front of a list of tokens.
+-- Private mechanism. What the parser's functions read from the front of a list of tokens.
 use Rattle.std.specs.Prelude.{ℕ, zero, suc, Bool, true, false, List, [], ◌∷◌, ◌++◌, Option, Some, None, option_map, is_some, if◌then◌else◌, Ok, Err}
 use Rattle.traceql_tokens.specs.declared.fixed.Sign.{Sign}
 use Rattle.traceql_tokens.specs.declared.fixed.Word.{Word}

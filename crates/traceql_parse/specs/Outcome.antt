@@ -1,4 +1,4 @@
--- What parsing answers, given what was read.
+-- Private mechanism. What parsing answers, given what was read.
 use Rattle.std.specs.Prelude.{◌≡◌, ℕ, List, [], ◌∷◌, Result, Ok, Err}
 use Rattle.traceql_tokens.specs.declared.kinds.Token.{Token}
 use Rattle.traceql_tokens.specs.declared.kinds.TokenKind.{TokenKind}

@@ -1,4 +1,4 @@
--- Reading tokens from the left: what is read and the tokens after it, or why the first of the tokens is refused.
+-- Private mechanism. Reading tokens from the left: what is read and the tokens after it, or why the first of the tokens is refused.
 use Rattle.std.specs.Prelude.{◌≡◌, ℕ, zero, suc, Bool, true, false, List, [], ◌∷◌, length, Option, Some, None, option_map, is_some, Result, Ok, Err}
 use Rattle.traceql_tokens.specs.Tokens.{mended}
 use Rattle.traceql_tokens.specs.declared.fixed.Sign.{Sign}

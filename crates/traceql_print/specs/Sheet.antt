@@ -1,4 +1,4 @@
--- The text so far, as the printer's own functions see it.
+-- Private mechanism. The text so far, as the printer's own functions see it.
 use Rattle.std.specs.Prelude.{ℕ, Bool, true, List, [], ◌++◌}
 use Rattle.std.specs.List.{fold}
 use Rattle.traceql_tokens.specs.declared.kinds.TokenKind.{TokenKind}

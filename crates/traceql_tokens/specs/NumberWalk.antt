@@ -1,4 +1,4 @@
--- A number or a duration read from the left: what the private functions of the lexer find.
+-- Private mechanism. A number or a duration read from the left.
 use Rattle.std.specs.Prelude.{ℕ, ◌+◌, ◌*◌, ◌/◌, ◌%◌, ◌^◌, ◌==◌, zero, suc, nat_lt, nat_le, nat_eq, List, [], ◌∷◌, length, drop, Option, Some, None, unwrap_or, slice_index, if◌then◌else◌}
 use Rattle.std.specs.Option.{option_map}
 use Rattle.std.specs.List.{prefix_len, take_while, find, flat_map, starts_with}

@@ -1,4 +1,4 @@
--- A string literal read byte by byte: what the private functions of the lexer find.
+-- Private mechanism. A string literal read byte by byte.
 use Rattle.std.specs.Prelude.{ℕ, ◌+◌, ◌==◌, not, List, [], ◌∷◌, length, take, Option, Some, None, Result, Ok, Err, slice_index, if◌then◌else◌}
 use Rattle.std.specs.Option.{is_none, option_map}
 use Rattle.std.specs.List.{prefix_len, filter_map}

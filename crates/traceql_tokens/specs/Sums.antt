@@ -1,4 +1,4 @@
--- The running sum of a duration's parts, in decimal columns.
+-- Private mechanism. The running sum of a duration's parts, in decimal columns.
 use Rattle.std.specs.Prelude.{◌≡◌, ℕ, ◌+◌, ◌*◌, ◌^◌, ◌<◌, min, List, length, fold, All}
 use Rattle.traceql_tokens.specs.Numbers.{LIMIT, Part as ThePart, places, scaled}
 use Rattle.traceql_tokens.specs.declared.numbers.Sum.{Sum}

@@ -1,4 +1,4 @@
--- The token that bytes begin with, by its first byte: what the private functions of the lexer find.
+-- Private mechanism. The token that bytes begin with, by its first byte.
 use Rattle.std.specs.Prelude.{ℕ, ◌+◌, ◌==◌, nat_eq, List, [], ◌∷◌, length, drop, Option, Some, Result, Ok, Err, unwrap_or, if◌then◌else◌}
 use Rattle.std.specs.Option.{option_map, option_or}
 use Rattle.std.specs.List.{prefix_len, take_while, find, starts_with}

@@ -11,7 +11,8 @@ use Rattle.std.proofs.Math.Nat.{mul_comm, mul-le-mul_right}
 use native.Mathlib.Nat.{mul-pos}
 use Rattle.traceql_value.specs.Fractions.{Fraction, whole_fraction}
 use Rattle.traceql_value.specs.Arithmetic.{fraction_cmp}
-use Rattle.traceql_value.specs.Values.{value_cmp, kind_rank, truth_number, status_number, kind_number}
+use Rattle.span_types.specs.Numbers.{code_number, kind_number}
+use Rattle.traceql_value.specs.Values.{value_cmp, kind_rank, truth_number}
 use Rattle.traceql_value.specs.declared.value.Value.{Value}
 use Rattle.traceql_value.specs.declared.value.Value.TheVariants.{Nil, Truth, Number, Text, Status, Kind}
 use Rattle.traceql_value.proofs.Products.{product_assoc}
@@ -93,7 +94,7 @@ fraction_cmp_total = record {
 
 small_number : Value → ℕ
 small_number (Truth truth) = truth_number truth
-small_number (Status status) = status_number status
+small_number (Status status) = code_number status
 small_number (Kind kind) = kind_number kind
 small_number v = 0
 
@@ -149,7 +150,7 @@ by_parts (Status a) Nil = refl
 by_parts (Status a) (Truth b) = refl
 by_parts (Status a) (Number b) = refl
 by_parts (Status a) (Text b) = refl
-by_parts (Status a) (Status b) = only_second (nat_cmp (status_number a) (status_number b))
+by_parts (Status a) (Status b) = only_second (nat_cmp (code_number a) (code_number b))
 by_parts (Status a) (Kind b) = refl
 by_parts (Kind a) Nil = refl
 by_parts (Kind a) (Truth b) = refl

@@ -1,4 +1,4 @@
--- What the patterns that are ready to search answer.
+-- Private mechanism. What the patterns that are ready to search answer.
 use Rattle.std.specs.Prelude.{◌≡◌, ℕ, Bool, false, List, Option, is_some}
 use Rattle.std.specs.BTreeMap.{BTreeMap, get_by}
 use Rattle.std.specs.Cmp.Lexicographic.{slice_cmp}

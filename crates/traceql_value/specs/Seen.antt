@@ -1,4 +1,4 @@
--- The value that the evaluator looks at.
+-- Private mechanism. The value that the evaluator looks at.
 use Rattle.traceql_value.specs.declared.seen.Seen.{Seen}
 use Rattle.traceql_value.specs.declared.seen.Seen.TheVariants as seen
 use Rattle.traceql_value.specs.declared.value.Value.{Value}

@@ -5,10 +5,7 @@ use Rattle.std.specs.Cmp.Lexicographic.{slice_cmp}
 use Rattle.std.specs.declared.cmp.Ordering.{Ordering}
 use Rattle.span_types.specs.declared.attrs.AttrValue.{AttrValue}
 use Rattle.span_types.specs.declared.attrs.AttrValue.TheVariants as attr
-use Rattle.span_types.specs.declared.spans.SpanKind.{SpanKind}
-use Rattle.span_types.specs.declared.spans.SpanKind.TheVariants as role
-use Rattle.span_types.specs.declared.spans.StatusCode.{StatusCode}
-use Rattle.span_types.specs.declared.spans.StatusCode.TheVariants as code
+use Rattle.span_types.specs.Numbers.{code_number, kind_number}
 use Rattle.traceql_syntax.specs.declared.field.BinaryOp.{BinaryOp}
 use Rattle.traceql_syntax.specs.declared.field.BinaryOp.TheVariants as binary
 use Rattle.traceql_syntax.specs.declared.field.Comparison.{Comparison}
@@ -19,20 +16,6 @@ use Rattle.traceql_value.specs.declared.value.Value.{Value}
 use Rattle.traceql_value.specs.declared.value.Value.TheVariants.{Nil, Truth, Number, Text, Status, Kind}
 use Rattle.traceql_value.specs.Fractions.{Fraction, whole_fraction}
 use Rattle.traceql_value.specs.Arithmetic.{sum_of, difference_of, product_of, quotient_of, remainder_of, power_within, negative_of, fraction_cmp}
-
--- OTLP's numbers of statuses and of roles, by which they are ordered
-abbrev pub status_number : StatusCode → ℕ
-status_number code.Unset = 0
-status_number code.Fine = 1
-status_number code.Error = 2
-
-abbrev pub kind_number : SpanKind → ℕ
-kind_number role.Unspecified = 0
-kind_number role.Internal = 1
-kind_number role.Server = 2
-kind_number role.Client = 3
-kind_number role.Producer = 4
-kind_number role.Consumer = 5
 
 -- a number, or none where it is outside of the bounds
 abbrev pub number_or_nil : Option Fraction → Value
@@ -101,7 +84,7 @@ abbrev pub compares : Comparison → Value → Value → Bool
 compares c (Truth a) (Truth b) = accepts_equal c (same_truth a b)
 compares c (Number a) (Number b) = accepts c (fraction_cmp a b)
 compares c (Text a) (Text b) = accepts c (slice_cmp nat_cmp a b)
-compares c (Status a) (Status b) = accepts_equal c (status_number a == status_number b)
+compares c (Status a) (Status b) = accepts_equal c (code_number a == code_number b)
 compares c (Kind a) (Kind b) = accepts_equal c (kind_number a == kind_number b)
 compares c _ _ = false
 
@@ -155,6 +138,6 @@ abbrev pub value_cmp : Value → Value → Ordering
 value_cmp (Truth a) (Truth b) = nat_cmp (truth_number a) (truth_number b)
 value_cmp (Number a) (Number b) = fraction_cmp a b
 value_cmp (Text a) (Text b) = slice_cmp nat_cmp a b
-value_cmp (Status a) (Status b) = nat_cmp (status_number a) (status_number b)
+value_cmp (Status a) (Status b) = nat_cmp (code_number a) (code_number b)
 value_cmp (Kind a) (Kind b) = nat_cmp (kind_number a) (kind_number b)
 value_cmp a b = nat_cmp (kind_rank a) (kind_rank b)

@@ -25,8 +25,3 @@ pub use ratio::Ratio;
 pub use scene::{Scene, field_value};
 pub use searches::Searches;
 pub use value::{Value, Values};
-
-#[cfg(test)]
-mod scene_tests;
-#[cfg(test)]
-mod tests;

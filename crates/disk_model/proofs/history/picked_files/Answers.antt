@@ -1,10 +1,10 @@
-use Rattle.std.proofs.Common.{◌≡◌, ◌<◌, ◌+◌, ℕ, List, [], ◌∷◌, ◌++◌, length, take, refl, sym, ◌∙◌, ap, subst, arith}
-use Rattle.std.proofs.lemmas.List.{take_more}
+use Rattle.std.proofs.Common.{◌≡◌, ◌<◌, ◌+◌, ℕ, List, [], ◌∷◌, ◌++◌, length, take, sym, ◌∙◌, ap, arith}
+use Rattle.std.proofs.lemmas.List.{take_more, map-append}
 use Rattle.disk_model.specs.Images.{Image}
 use Rattle.disk_model.specs.Files.{FileState, settled}
-use Rattle.disk_model.specs.History.{Files, unchanged}
-use Rattle.disk_model.specs.Picks.{ArePicked}
-use Rattle.disk_model.proofs.PicksLemmas.{picked_more, held_more}
+use Rattle.disk_model.specs.History.{unchanged}
+use Rattle.disk_model.specs.Picks.{picked, picked_image}
+use Rattle.disk_model.proofs.PicksLemmas.{held_more}
 use Rattle.disk_model.proofs.history.picked_files.Goals as goal
 
 pub loop-entry-preserved : goal.loop-entry-preserved
@@ -24,9 +24,11 @@ loop-entry-preserved c =
     ∙ ap (λ (s : FileState). c.loop-entry.held.items ++ (entry.0, s) ∷ []) (c.in_ok-holding.ensures ∙ ap settled c.deref.ensures.value) in
     record {
       picked =
-          subst (λ (fs : Files). ArePicked c.args.pick fs c.push-in-loop-entry.new.self.items) (sym one_more)
-          (subst (λ (i : Image). ArePicked c.args.pick (take index files ++ entry ∷ []) i) (sym image_is)
-          (picked_more c.args.pick (take index files) image entry (entry.0, bytes) c.loop-entry.invariant.picked refl c.in_ok-bytes.ensures));
+          image_is
+          ∙ ap (λ (b : List ℕ). image ++ (entry.0, b) ∷ []) c.in_ok-bytes.ensures
+          ∙ ap (λ (i : Image). i ++ (entry.0, picked c.args.pick entry.0 entry.1) ∷ []) c.loop-entry.invariant.picked
+          ∙ sym (map-append (λ (e : ℕ × FileState). (e.0, picked c.args.pick e.0 e.1)) (take index files) (entry ∷ []))
+          ∙ ap (picked_image c.args.pick) (sym one_more);
       held =
           held_is
           ∙ held_more image c.loop-entry.held.items entry.0 bytes c.loop-entry.invariant.held

@@ -4,4 +4,4 @@ use Rattle.std.specs.List.{flat_map}
 use Rattle.live_traces.proofs.run.copies_of_runs.Given as goal
 
 abbrev pub invariant-loop-run : goal.invariant-loop-run
-invariant-loop-run l = l.all.items ≡ flat_map (λ run. run) (take l.run-index l.runs)
+invariant-loop-run l = l.rows.items ≡ flat_map (λ run. run) (take l.run-index l.runs)

@@ -5,4 +5,4 @@ use Rattle.otlp_spans.proofs.ReadableLaws.{firsts_distinct}
 use Rattle.otlp_spans.proofs.attributes.attributes_in.Goals as goal
 
 pub of-requires : goal.of-requires
-of-requires c = subst (λ (l : List Attr). AreDistinct l) (sym c.in_ok-firsts-in-Ok.ensures) (firsts_distinct [] [] _ (λ key. refl))
+of-requires c = subst (λ (l : List Attr). AreDistinct l) (sym c.in_ok-firsts.ensures) (firsts_distinct [] [] _ (λ key. refl))

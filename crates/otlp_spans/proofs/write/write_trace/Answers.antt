@@ -1,13 +1,13 @@
 use Rattle.std.proofs.Common.{◌≡◌, ◌≤◌, List, Some, ◌∙◌, ap, length, subst, arith}
 use Rattle.std.proofs.lemmas.Str.{IsUtf8-string_bytes}
+use Rattle.span_types.specs.declared.limits.TheConstants.{MOST_SPANS}
 use Rattle.span_types.specs.declared.spans.Row.{Row}
 use Rattle.otlp_spans.specs.Fits.{FitsTrace}
 use Rattle.otlp_spans.specs.Json.{json_of}
-use Rattle.otlp_spans.specs.Reading.{most_spans}
 use Rattle.otlp_spans.specs.Writing.{spans_in, trace_json}
-use Rattle.otlp_spans.proofs.FloatLemmas.{written}
-use Rattle.otlp_spans.proofs.ReadBackLemmas.{trace_reads_back}
-use Rattle.otlp_spans.proofs.ReadsBackTrace.{line_back, mapped}
+use Rattle.otlp_spans.proofs.PlainLemmas.{trace_reads_back, written}
+use Rattle.otlp_spans.proofs.ReadsBackLists.{mapped}
+use Rattle.otlp_spans.proofs.ReadsBackTrace.{line_back}
 use Rattle.otlp_spans.proofs.write.write_trace.Goals as goal
 
 pub returns : goal.returns
@@ -22,6 +22,6 @@ returns c =
       text = c.of.ensures ∙ written spans _ _ is printed.text;
       json = json;
       reads_back = λ few.
-          let fewer : length spans ≤ most_spans = omega (arith, mapped (λ row. row.span) c.args.rows.now) in
+          let fewer : length spans ≤ MOST_SPANS = omega (arith, mapped (λ row. row.span) c.args.rows.now) in
           line_back c.of.result spans json fits fewer;
     }

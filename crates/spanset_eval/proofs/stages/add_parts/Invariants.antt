@@ -5,4 +5,4 @@ use Rattle.spanset_eval.proofs.stages.add_parts.Given as goal
 
 abbrev pub invariant-loop-part : goal.invariant-loop-part
 invariant-loop-part l =
-    l.found.items ≡ l.fn.found.items ++ map (λ (p : Part). record { by = l.by ++ p.value ∷ []; members = p.members }) l.yielded
+    l.found.items ≡ l.fn.found.items ++ map (λ (p : Part). record { by = l.fn.by ++ p.value ∷ []; members = p.members }) l.yielded

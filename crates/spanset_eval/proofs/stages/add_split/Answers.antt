@@ -13,7 +13,7 @@ pub returns-clause-found : goal.returns-clause-found
 unfolding split_by
 returns-clause-found c =
     let f = value_at (scene_patterns c.args.scene.now) (scene_rows c.args.scene.now) (tree c.args.expr.now) in
-    let g = c.args.group.now in
+    let g = c.args.group in
     let valued = c.in_ok-valued.valued.items in
     on_ok c.add_parts.result (c.add_parts.new.found.items ≡ c.args.found.now.items ++ map (λ (p : Part). record { by = g.by ++ p.value ∷ []; members = p.members }) c.in_ok-parts.parts.items)
     (c.add_parts.new.found.items ≡ c.args.found.now.items ++ split_by (scene_patterns c.args.scene.now) (scene_rows c.args.scene.now) (tree c.args.expr.now) g)

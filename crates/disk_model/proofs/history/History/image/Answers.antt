@@ -1,10 +1,7 @@
-use Rattle.std.proofs.Common.{◌≡◌, sym, subst}
-use Rattle.disk_model.specs.Images.{bytes_of}
-use Rattle.disk_model.specs.Files.{FileState}
-use Rattle.disk_model.specs.History.{Past, Files, state_of, files_now}
-use Rattle.disk_model.specs.Files.{IsSound}
-use Rattle.disk_model.specs.HistoryLaws.{sound_now}
-use Rattle.disk_model.specs.Picks.{IsPicked, ArePicked}
+use Rattle.std.proofs.Common.{◌∙◌, ap}
+use Rattle.disk_model.specs.Images.{Image, bytes_of}
+use Rattle.disk_model.specs.History.{Past, state_of, files_now}
+use Rattle.disk_model.specs.Picks.{picked, picked_image}
 use Rattle.disk_model.proofs.PicksLemmas.{picked_of}
 use Rattle.disk_model.proofs.history.History.image.Goals as goal
 
@@ -12,9 +9,7 @@ pub returns-clause-picked : goal.returns-clause-picked
 returns-clause-picked c = λ file.
     let past : Past = record { first = c.self.inside.first.items; changes = c.self.inside.changes.items } in
     let files = c.self.inside.files.items in
-    let image = c.in_ok-first.first.items in
-    let are : ArePicked c.args.pick files image = subst (λ (fs : Files). ArePicked c.args.pick fs image) c.deref.ensures.value c.in_ok-first.ensures.picked in
-    let same : state_of files file ≡ state_of (files_now past) file = c.self.invariant file in
-    subst (λ (p : Past). IsPicked c.args.pick (state_of (files_now p) file) (bytes_of image file)) c.self.view_is
-    (subst (λ (s : FileState). IsPicked c.args.pick s (bytes_of image file)) same
-    (picked_of c.args.pick files image are file (subst IsSound (sym same) (sound_now past file))))
+    ap (λ (i : Image). bytes_of i file) (c.in_ok-first.ensures.picked ∙ ap (picked_image c.args.pick) c.deref.ensures.value)
+    ∙ picked_of c.args.pick files file
+    ∙ ap (picked c.args.pick file) (c.self.invariant file)
+    ∙ ap (λ (p : Past). picked c.args.pick file (state_of (files_now p) file)) c.self.view_is

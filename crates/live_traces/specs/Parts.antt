@@ -1,0 +1,47 @@
+-- The parts of what waits in memory.
+use Rattle.std.specs.Prelude.{◌≡◌, ℕ, ◌+◌, ◌<◌, ◌≤◌, ◌^◌, List, [], ◌∷◌, map, nat_le, true, Bool, Option, None, Some, length}
+use Rattle.std.specs.List.{flat_map}
+use Rattle.span_types.specs.declared.spans.Row.{Row}
+use Rattle.store_model.specs.State.{LiveRow}
+use Rattle.store_model.specs.After.{arrived, least}
+use Rattle.store_model.specs.Cut.{is_idle}
+use Rattle.live_traces.specs.Rows.{chunk_rows}
+use Rattle.live_traces.specs.declared.live.Entry.{Entry}
+use Rattle.live_traces.specs.declared.live.Arrival.{Arrival}
+
+pub record LiveParts : Type 0 where
+  -- in the order in which they came
+  pub live : List LiveRow
+  pub head : List Row
+  pub flushing : List Row
+  -- how many more pushes fit without memory, and how many more rows may be held
+  pub spare : ℕ
+  pub room : ℕ
+
+-- room for one push of so many rows
+pub record HasRoom (parts : LiveParts) (rows : ℕ) : Type 0 where
+  pub spare : 1 ≤ parts.spare
+  pub room : rows ≤ parts.room
+
+-- rows that remained live after a cut
+abbrev pub live_of : List Entry → List LiveRow
+live_of entries = map (λ e. record { row = e.row; moment = e.moment }) entries
+
+-- pushes since the last cut
+abbrev pub arrivals_of : List Arrival → List LiveRow
+arrivals_of arrivals = flat_map (λ a. arrived a.moment (chunk_rows a.chunk)) arrivals
+
+-- which live rows a cut takes: all of them, or those that are idle at a moment
+abbrev pub goes : Option ℕ → List LiveRow → LiveRow → Bool
+goes None live entry = true
+goes (Some moment) live entry = is_idle moment live entry
+
+-- the same by the last moment of the row's trace
+abbrev pub goes_by : Option ℕ → ℕ → Bool
+goes_by None last = true
+goes_by (Some moment) last = nat_le (last + 10000000000) moment
+
+-- the least number among rows
+abbrev pub least_number : List Row → Option ℕ
+least_number [] = None
+least_number (row ∷ rows) = Some (least row.place.number rows)

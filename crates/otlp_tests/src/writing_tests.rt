@@ -1,0 +1,151 @@
+//! Traces with their exact bytes, worked out by hand.
+
+ghost use Rattle.std.specs.Prelude.{◌≡◌, false};
+ghost use Rattle.span_types.specs.Promises.{all_zero};
+
+use crate::lines::rows;
+use otlp_spans::write_trace;
+use span_types::{
+    Attr, AttrValue, Attrs, Events, Links, Memory, Place, Resource, Row, Rows, Scope,
+    SharedResource, SharedScope, Span, SpanId, SpanKind, StatusCode, Text, TraceId, TryCopy,
+};
+use std::alloc::{AllocError, Global};
+use std::test::Fail;
+
+/// A line as OpenTelemetry's Collector writes it.
+const SERVER_LINE: &str =
+    r#"{"resourceSpans":[{"resource":{"attributes":[{"key":"service.name","value":{"stringValue":"shop"}}]},"scopeSpans":[{"scope":{"name":"lib","version":"1.0"},"spans":[{"traceId":"5B8EFFF798038103D269B633813FC60C","spanId":"EEE19B7EC3C1B174","parentSpanId":"","name":"I'm a server span","startTimeUnixNano":"1544712660000000000","endTimeUnixNano":"1544712661000000000","kind":2,"attributes":[{"key":"my.span.attr","value":{"stringValue":"some value"}},{"key":"load","value":{"doubleValue":0.5}}]}]}]}]}"#;
+
+/// The trace of that line.
+const SERVER_TRACE: &str =
+    r#"{"resourceSpans":[{"resource":{"attributes":[{"key":"service.name","value":{"stringValue":"shop"}}]},"scopeSpans":[{"scope":{"attributes":[],"name":"lib","version":"1.0"},"spans":[{"attributes":[{"key":"my.span.attr","value":{"stringValue":"some value"}}],"endTimeUnixNano":"1544712661000000000","kind":2,"name":"I'm a server span","parentSpanId":"","spanId":"eee19b7ec3c1b174","startTimeUnixNano":"1544712660000000000","status":{"code":0,"message":""},"traceId":"5b8efff798038103d269b633813fc60c"}]}]}]}"#;
+
+#[test]
+fn a_line_is_read_and_its_trace_written(rt: HostRuntime) -> Result<(), Fail> {
+    let alloc = rt.alloc();
+    let trace = write_trace(alloc, &rows(alloc, SERVER_LINE.as_bytes())?)?;
+    assert_eq!(rt; trace.as_str(), SERVER_TRACE);
+    let again = write_trace(alloc, &rows(alloc, trace.as_str().as_bytes())?)?;
+    assert_eq!(rt; again.as_str(), SERVER_TRACE);
+    let none = write_trace(alloc, &Rows::of(Vec::new(alloc)))?;
+    assert_eq!(rt; none.as_str(), "{\"resourceSpans\":[]}");
+    Ok(())
+}
+
+/// A text of its own.
+fn text(alloc: Global, text: &str) -> Result<Text, AllocError> {
+    Ok(Text::of(String::from_str(alloc, text)?))
+}
+
+/// A list of one attribute.
+fn attr(alloc: Global, key: &str, value: AttrValue) -> Result<Attrs, Memory> {
+    let key = text(alloc, key)?;
+    let mut attrs = Vec::new(alloc);
+    attrs.push(Attr { key, value })?;
+    Ok(Attrs::of(attrs))
+}
+
+/// A row of a span with this id.
+fn row(
+    alloc: Global,
+    id: SpanId,
+    resource: &SharedResource,
+    scope: &SharedScope,
+    attrs: Attrs,
+) -> Result<Row, Memory>
+    requires { all_zero id.0 ≡ false }
+{
+    let span = Span {
+        trace: TraceId([0xa1; 16]),
+        id,
+        parent: Some(SpanId([0xfe; 8])),
+        name: text(alloc, "n")?,
+        kind: SpanKind::Server,
+        start: 5,
+        end: u64::MAX,
+        status: StatusCode::Error,
+        message: text(alloc, "\"")?,
+        attrs,
+        resource: resource.copy()?,
+        scope: scope.copy()?,
+        events: Events::none(alloc),
+        links: Links::none(alloc),
+    };
+    let place = Place {
+        number: 0,
+        position: 0,
+    };
+    Ok(Row { place, span })
+}
+
+/// The text that a row's span has, with these attributes.
+fn written(alloc: Global, id: &str, attrs: &str) -> Result<String, AllocError> {
+    format!(in alloc;
+        "{{\"attributes\":[{attrs}],\"endTimeUnixNano\":\"18446744073709551615\",\"kind\":2,\"name\":\"n\",\"parentSpanId\":\"fefefefefefefefe\",\"spanId\":\"{id}\",\"startTimeUnixNano\":\"5\",\"status\":{{\"code\":2,\"message\":\"\\\"\"}},\"traceId\":\"a1a1a1a1a1a1a1a1a1a1a1a1a1a1a1a1\"}}"
+    )
+}
+
+#[test]
+fn neighbours_with_equal_resources_and_scopes_are_written_together(
+    rt: HostRuntime,
+) -> Result<(), Fail> {
+    let alloc = rt.alloc();
+    let none = Attrs::none(alloc);
+    let shop = attr(alloc, "service.name", AttrValue::Text(text(alloc, "shop")?))?;
+    let shop = SharedResource::of(alloc, Resource { attrs: shop })?;
+    let plain = SharedResource::of(
+        alloc,
+        Resource {
+            attrs: none.copy()?,
+        },
+    )?;
+    let first = SharedScope::of(
+        alloc,
+        Scope {
+            name: text(alloc, "lib")?,
+            version: text(alloc, "1.0")?,
+            attrs: attr(alloc, "old", AttrValue::Truth(false))?,
+        },
+    )?;
+    let second = SharedScope::of(
+        alloc,
+        Scope {
+            name: text(alloc, "lib")?,
+            version: text(alloc, "1.1")?,
+            attrs: none.copy()?,
+        },
+    )?;
+    let number = attr(alloc, "n", AttrValue::Whole(-7))?;
+    let mut rows = Vec::new(alloc);
+    rows.push(row(alloc, SpanId([1; 8]), &shop, &first, number)?)?;
+    rows.push(row(alloc, SpanId([2; 8]), &shop, &first, none.copy()?)?)?;
+    rows.push(row(alloc, SpanId([3; 8]), &shop, &second, none.copy()?)?)?;
+    rows.push(row(alloc, SpanId([4; 8]), &shop, &first, none.copy()?)?)?;
+    rows.push(row(alloc, SpanId([5; 8]), &plain, &first, none.copy()?)?)?;
+    rows.push(row(alloc, SpanId([6; 8]), &shop, &first, none)?)?;
+    let text = write_trace(alloc, &Rows::of(rows))?;
+
+    let shop =
+        "\"resource\":{\"attributes\":[{\"key\":\"service.name\",\"value\":{\"stringValue\":\"shop\"}}]}";
+    let first =
+        "\"scope\":{\"attributes\":[{\"key\":\"old\",\"value\":{\"boolValue\":false}}],\"name\":\"lib\",\"version\":\"1.0\"}";
+    let second = "\"scope\":{\"attributes\":[],\"name\":\"lib\",\"version\":\"1.1\"}";
+    let one = written(
+        alloc,
+        "0101010101010101",
+        "{\"key\":\"n\",\"value\":{\"intValue\":\"-7\"}}",
+    )?;
+    let two = written(alloc, "0202020202020202", "")?;
+    let three = written(alloc, "0303030303030303", "")?;
+    let four = written(alloc, "0404040404040404", "")?;
+    let five = written(alloc, "0505050505050505", "")?;
+    let six = written(alloc, "0606060606060606", "")?;
+    let runs = format!(in alloc;
+        "{{{first},\"spans\":[{one},{two}]}},{{{second},\"spans\":[{three}]}},{{{first},\"spans\":[{four}]}}"
+    )?;
+    let wanted = format!(in alloc;
+        "{{\"resourceSpans\":[{{{shop},\"scopeSpans\":[{runs}]}},{{\"resource\":{{\"attributes\":[]}},\"scopeSpans\":[{{{first},\"spans\":[{five}]}}]}},{{{shop},\"scopeSpans\":[{{{first},\"spans\":[{six}]}}]}}]}}"
+    )?;
+    assert_eq!(rt; text.as_str(), wanted.as_str());
+    Ok(())
+}

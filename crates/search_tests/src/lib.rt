@@ -1,0 +1,19 @@
+//! Tests of searches: values, relations among spans, what queries select and leave, and the text of results.
+//!
+//! They say what no clause says: rows that were worked out by hand, and each public call once.
+#![tactic(auto)]
+
+#[cfg(test)]
+mod lines;
+#[cfg(test)]
+mod one_span;
+#[cfg(test)]
+mod ratios;
+#[cfg(test)]
+mod relations;
+#[cfg(test)]
+mod searches;
+#[cfg(test)]
+mod texts;
+#[cfg(test)]
+mod values;

@@ -1,0 +1,72 @@
+-- What a port shows, and what one call makes of it.
+use Rattle.std.specs.Prelude.{◌≡◌, ℕ, ◌+◌, ◌≤◌, ◌==◌, List, [], ◌++◌, Bool, true, false, if◌then◌else◌, IsTrue}
+use Rattle.std.specs.List.{Contains}
+use Rattle.span_types.specs.Faults.{Rose}
+use Rattle.span_types.specs.declared.spans.Span.{Span}
+use Rattle.store_model.specs.History.{History, pushed, grown, count_of}
+use Rattle.store_model.specs.State.{is_among}
+use Rattle.store_model.specs.Event.{Event, Reply}
+use Rattle.store_model.specs.Event.Event.{Push, WritePiece, ReadPage}
+use Rattle.store_model.specs.Event.Reply.{Count, Fine, Looked, Refused}
+use Rattle.store_model.specs.Event.Refusal.{Fault}
+use Rattle.store_model.specs.Holds.{Hold, ends, holds_after, files_of, own_files}
+
+-- what a port knows: a history, and its own open looks and jobs
+pub record View : Type 0 where
+  pub history : History
+  pub holds : List Hold
+
+-- what a port shows
+pub record Meaning (P : Type 0) : Type 1 where
+  pub knows : P → View → Type 0
+  -- whether contracts speak of bytes, and then the bytes of a file
+  pub tells : P → Bool
+  pub shows : P → ℕ → List ℕ
+  -- how often a device call failed, and how many pages were read
+  pub faults : P → ℕ
+  pub reads : P → ℕ
+  -- what a port says of one call besides, such as that it is a step of the machine that stands behind it
+  pub did : P → Event → Reply → P → Type 0
+
+-- what the port gave out, and nobody gave back
+abbrev pub IsOpen : {P : Type 0} → Meaning P → P → Hold → Type 0
+IsOpen meaning port hold = (v : View) × meaning.knows port v × Contains v.holds hold
+
+-- What a call tells of the history: others may have pushed before it, then comes its own batch.
+abbrev pub Learns : Event → Reply → History → History → Type 0
+Learns (Push spans moment) (Count n) h h' =
+    (others : List (List Span)) × (h' ≡ pushed (grown h others) spans) × (n ≡ count_of (grown h others))
+Learns _ (Looked pin files as_of rows) h h' =
+    (others : List (List Span)) × (h' ≡ grown h others) × (as_of ≡ count_of h')
+Learns _ _ h h' = (others : List (List Span)) × (h' ≡ grown h others)
+
+-- What a call makes of a file that stays held: a piece goes behind the file's bytes. Nothing is said of the bytes of a file
+-- once a write of it failed.
+abbrev pub Rewritten : Event → Reply → ℕ → List ℕ → List ℕ → Type 0
+Rewritten (WritePiece number own bytes) Fine file old new = new ≡ (if own == file then old ++ bytes else old)
+Rewritten (WritePiece number own bytes) reply file old new = (own == file) ≡ false → new ≡ old
+Rewritten _ _ file old new = new ≡ old
+
+abbrev pub reads_of : Event → ℕ
+reads_of (ReadPage pin block page) = 1
+reads_of _ = 0
+
+-- One call.
+pub record Called {P : Type 0} (meaning : Meaning P) (old : P) (event : Event) (reply : Reply) (new : P) : Type 0 where
+  pub did : meaning.did old event reply new
+  -- the history that is known grows, and what is open stays open but for what the call ends
+  pub learns : (v : View) → meaning.knows old v → (v' : View) × meaning.knows new v'
+      × Learns event reply v.history v'.history × (v'.holds ≡ holds_after event reply v.holds)
+  pub telling : meaning.tells new ≡ meaning.tells old
+  -- the files of what stays open
+  pub bytes : IsTrue (meaning.tells old) → (hold : Hold) → IsOpen meaning old hold → ends event reply hold ≡ false →
+      (file : ℕ) → is_among file (files_of hold) ≡ true
+      → Rewritten event reply file (meaning.shows old file) (meaning.shows new file)
+  -- the file of a job that begins
+  pub empty : IsTrue (meaning.tells old) → (file : ℕ) → is_among file (own_files reply) ≡ true → meaning.shows new file ≡ []
+  -- faults are counted, and one is answered only where the count rose
+  pub later : meaning.faults old ≤ meaning.faults new
+  pub cause : reply ≡ Refused Fault → Rose (meaning.faults old) (meaning.faults new)
+  -- a page read alone may count as a read, and as one
+  pub reads_rise : meaning.reads old ≤ meaning.reads new
+  pub reads_bound : meaning.reads new ≤ meaning.reads old + reads_of event

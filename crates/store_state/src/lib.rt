@@ -1,0 +1,13 @@
+//! The calls of a store: the trait `Port`, whose contracts say of each call what it makes of all that a port shows.
+//!
+//! The machine behind the calls stands in `store_model`; `specs/Meaning.antt` says what a port shows and what one call does to
+//! it.
+#![tactic(auto)]
+
+mod errors;
+mod jobs;
+mod port;
+
+pub use errors::{BeginError, PushError, ReclaimError, WriteError};
+pub use jobs::{CompactJob, FlushJob, JobFile, Look, Pin};
+pub use port::Port;

@@ -1,0 +1,227 @@
+//! What a crash may leave after some calls, worked out by hand from the disk model.
+
+use disk_model::{Device, MemDisk, cut_through, write_through};
+use span_types::{Calls, Failed};
+use std::alloc::Global;
+use std::process::Abort;
+use std::test::Fail;
+
+#[derive(Clone, Copy)]
+enum Step<'a> {
+    Write(u32, u64, &'a [u8]),
+    Cut(u32, u64),
+    Sync(u32),
+}
+
+/// Makes the calls, and says how many failed.
+fn run(disk: &mut MemDisk, steps: &[Step<'_>]) -> usize {
+    let mut failed = 0usize;
+    for step in steps {
+        let result = match *step {
+            Step::Write(file, at, bytes) => disk.write(file, at, bytes),
+            Step::Cut(file, len) => disk.cut(file, len),
+            Step::Sync(file) => disk.sync(file),
+        };
+        if result.is_err() {
+            failed = failed.saturating_add(1);
+        }
+    }
+    failed
+}
+
+/// Whether a file has just these bytes, at most 16.
+fn holds(disk: &mut MemDisk, file: u32, bytes: &[u8]) -> Result<bool, Failed> {
+    let mut buf = [0u8; 16];
+    let len = disk.len(file)?;
+    let count = disk.read(file, 0, &mut buf)?;
+    Ok(len == bytes.len() as u64 && buf.get(..count) == Some(bytes))
+}
+
+/// The bytes of a file in the images 0 to 3.
+fn expect<R: Abort>(rt: &R, disk: &MemDisk, file: u32, images: [&[u8]; 4]) -> Result<(), Fail> {
+    for (pick, bytes) in (0u64..4).zip(images) {
+        let mut image = disk.image(pick)?;
+        assert!(rt; holds(&mut image, file, bytes)?, "file {file}, pick {pick}");
+    }
+    Ok(())
+}
+
+/// A disk whose file 0 holds these bytes, synced.
+fn holding(alloc: Global, bytes: &[u8]) -> Result<MemDisk, Failed> {
+    let mut disk = MemDisk::empty(alloc);
+    write_through(&mut disk, 0, 0, bytes)?;
+    Ok(disk)
+}
+
+#[test]
+fn pending_changes_may_be_torn(rt: HostRuntime) -> Result<(), Fail> {
+    let alloc = rt.alloc();
+    // Two writes that overlap.
+    let mut disk = holding(alloc, &[5, 6, 7, 8])?;
+    run(
+        &mut disk,
+        &[Step::Write(0, 1, &[9, 9]), Step::Write(0, 2, &[10, 10, 10])],
+    );
+    expect(
+        &rt,
+        &disk,
+        0,
+        [
+            &[5, 6, 7, 8],
+            &[5, 9, 10, 10, 10],
+            &[5, 1, 1, 1, 1],
+            &[5, 0, 0, 0],
+        ],
+    )?;
+    // A cut below an earlier write, and a write behind the cut.
+    let mut disk = holding(alloc, &[5, 6, 7, 8, 9])?;
+    run(
+        &mut disk,
+        &[
+            Step::Write(0, 3, &[10]),
+            Step::Cut(0, 2),
+            Step::Write(0, 2, &[11]),
+        ],
+    );
+    expect(
+        &rt,
+        &disk,
+        0,
+        [&[5, 6, 7, 8, 9], &[5, 6, 11], &[5, 6, 1, 1, 1], &[5, 6]],
+    )?;
+    // A cut above an earlier write.
+    let mut disk = holding(alloc, &[5, 6, 7, 8, 9])?;
+    run(&mut disk, &[Step::Write(0, 1, &[10]), Step::Cut(0, 3)]);
+    expect(
+        &rt,
+        &disk,
+        0,
+        [&[5, 6, 7, 8, 9], &[5, 10, 7], &[5, 1, 7, 1, 1], &[5, 0, 7]],
+    )?;
+    // A write past the end, whose gap becomes zeros, and an empty one, which changes nothing.
+    let mut disk = holding(alloc, &[5, 6])?;
+    run(
+        &mut disk,
+        &[Step::Write(0, 4, &[7, 8]), Step::Write(0, 9, &[])],
+    );
+    expect(
+        &rt,
+        &disk,
+        0,
+        [&[5, 6], &[5, 6, 0, 0, 7, 8], &[5, 6, 1, 1, 1, 1], &[5, 6]],
+    )?;
+    // A cut of a file that isn't longer: its length counts.
+    let mut disk = holding(alloc, &[5, 6])?;
+    run(&mut disk, &[Step::Cut(0, 4)]);
+    expect(&rt, &disk, 0, [&[5, 6], &[5, 6], &[5, 6, 1, 1], &[5, 6]])?;
+    // After a sync there is one image.
+    run(&mut disk, &[Step::Write(0, 0, &[3]), Step::Sync(0)]);
+    expect(&rt, &disk, 0, [&[3, 6], &[3, 6], &[3, 6], &[3, 6]])?;
+    assert_eq!(rt; disk.starved(), 0);
+    Ok(())
+}
+
+#[test]
+fn failed_calls_leave_their_change_pending(rt: HostRuntime) -> Result<(), Fail> {
+    let alloc = rt.alloc();
+    let mut disk = holding(alloc, &[5, 6, 7])?;
+    disk.fail_at(Calls::of(vec![in alloc; 1, 2, 3, 4]?));
+    let failed = run(
+        &mut disk,
+        &[
+            Step::Write(0, 1, &[9]),
+            Step::Cut(0, 2),
+            Step::Sync(0),
+            Step::Write(0, 5, &[9]),
+        ],
+    );
+    assert_eq!(rt; (failed, disk.faults()), (4, 4));
+    expect(&rt, &disk, 0, [&[5, 6, 7], &[5, 6, 7], &[5, 1, 1], &[5, 0]])?;
+    // The next sync passes, and then they are no longer pending.
+    assert_eq!(rt; run(&mut disk, &[Step::Sync(0)]), 0);
+    expect(
+        &rt,
+        &disk,
+        0,
+        [&[5, 6, 7], &[5, 6, 7], &[5, 6, 7], &[5, 6, 7]],
+    )?;
+    // A write that ends too far and a stopped call leave nothing pending.
+    let far = (1u64 << 63) - 1;
+    assert_eq!(rt;
+        run(
+            &mut disk,
+            &[Step::Write(0, far, &[1]), Step::Write(0, far, &[])]
+        ),
+        1
+    );
+    disk.stop_after(1);
+    assert_eq!(rt;
+        run(
+            &mut disk,
+            &[Step::Write(0, 2, &[8]), Step::Cut(0, 0), Step::Sync(0)]
+        ),
+        2
+    );
+    assert_eq!(rt; disk.faults(), 7);
+    expect(
+        &rt,
+        &disk,
+        0,
+        [&[5, 6, 7], &[5, 6, 8], &[5, 6, 1], &[5, 6, 0]],
+    )?;
+    assert_eq!(rt; disk.starved(), 0);
+    Ok(())
+}
+
+#[test]
+fn files_are_apart(rt: HostRuntime) -> Result<(), Fail> {
+    let mut disk = holding(rt.alloc(), &[5])?;
+    run(
+        &mut disk,
+        &[
+            Step::Write(3, 0, &[6, 7]),
+            Step::Write(0, 0, &[8]),
+            Step::Sync(3),
+        ],
+    );
+    expect(&rt, &disk, 0, [&[5], &[8], &[1], &[0]])?;
+    expect(&rt, &disk, 3, [&[6, 7], &[6, 7], &[6, 7], &[6, 7]])?;
+    expect(&rt, &disk, 4, [&[], &[], &[], &[]])?;
+    cut_through(&mut disk, 3, 1)?;
+    expect(&rt, &disk, 3, [&[6], &[6], &[6], &[6]])?;
+    assert_eq!(rt; (disk.faults(), disk.starved()), (0, 0));
+    Ok(())
+}
+
+/// What file 0 has in an image: its length, and its first 16 bytes.
+fn file_of_image(disk: &MemDisk, pick: u64) -> Result<(u64, [u8; 16]), Fail> {
+    let mut image = disk.image(pick)?;
+    let mut bytes = [0u8; 16];
+    let len = image.len(0)?;
+    image.read(0, 0, &mut bytes)?;
+    Ok((len, bytes))
+}
+
+#[test]
+fn each_other_pick_is_a_mixture_of_its_own(rt: HostRuntime) -> Result<(), Fail> {
+    let alloc = rt.alloc();
+    let mut disk = holding(alloc, &[5, 6, 7, 8, 9, 10, 11, 12])?;
+    run(
+        &mut disk,
+        &[Step::Write(0, 2, &[20, 21, 22, 23]), Step::Cut(0, 4)],
+    );
+    let mut seen = Vec::new(alloc);
+    let mut others = 0u8;
+    for pick in 0..16 {
+        let file = file_of_image(&disk, pick)?;
+        assert_eq!(rt; file_of_image(&disk, pick)?, file, "pick {pick} again");
+        if !seen.contains(&file) {
+            seen.push(file)?;
+            others = others.saturating_add(u8::from(pick >= 4));
+        }
+    }
+    // Of the picks from 4 on more than three differ from one another and from the first four.
+    assert!(rt; others > 3, "{others}");
+    assert_eq!(rt; disk.starved(), 0);
+    Ok(())
+}
