@@ -178,7 +178,7 @@ pub meant_text : (within : Bool) → ReadIsEncoded (in_part within text_at) text
 unfolding in_part
 meant_text within s is x t e =
     let read = or_place_ok within s (text_at s) (x, t) e in
-    let answer = (text_answer (Ok x) s t is read).value in
+    let answer = (text_answer (λ (z : List ℕ). z) (Ok x) s t is read).value in
     record { bytes = took (text_bytes x) s t is answer.1; fits = record { utf8 = answer.0; short = text_short s x t is read } }
 
 -- ---- attributes
