@@ -1,6 +1,6 @@
 -- A text that is read is the text that was written, and what was written is read.
 use Rattle.std.proofs.Common.{◌≡◌, ℕ, ◌+◌, ◌^◌, ◌<◌, Bool, true, false, cond, List, ◌++◌, length, append_assoc, Result, Ok, Err, refl, sym, ap, subst, ◌∙◌, arith, inl, inr, ◌⊎◌}
-use Rattle.std.specs.Prelude.{◌↔◌, IfOk, IfErr, IsOk}
+use Rattle.std.specs.Prelude.{◌↔◌, IfOk, IsOkAnd, IfErr, IsOk}
 use Rattle.std.specs.Str.{IsUtf8, is_utf8}
 use Rattle.std.proofs.lemmas.Bool.{false≢true}
 use Rattle.std.proofs.lemmas.List.{length-append}
@@ -10,8 +10,8 @@ use Rattle.byte_fields.specs.declared.error.FieldError.TheVariants.{Short, NotSh
 use Rattle.byte_fields.specs.Spelling.{var_bytes, text_bytes}
 use Rattle.byte_fields.specs.Numbers.{IsLongNumber}
 use Rattle.byte_fields.specs.Faults.{LacksBytes, EndsInText, IsNoText}
-use Rattle.byte_fields.specs.Reading.{Stand, left, IsWithin, ahead, Passes, ◌>>=◌, MayRead, raw_at, var_at, text_at}
-use Rattle.byte_fields.proofs.FieldLaws.{read_as, same_read, left-ahead, raw_takes, raw_again, raw_short, raw_errors, var_takes, var_below, var_again, var_short, var_long, var_errors}
+use Rattle.byte_fields.specs.Reading.{Stand, left, IsWithin, ahead, Passes, ◌>>=◌, Reads, MayRead, raw_at, var_at, text_at}
+use Rattle.byte_fields.proofs.FieldLaws.{read_as, same_read, slices_are, left-ahead, raw_takes, raw_again, raw_short, raw_errors, var_takes, var_below, var_again, var_short, var_long, var_errors}
 use Rattle.byte_fields.proofs.Texts.{text_at-text, text_at-other, text_at-no_length, text_at-cut}
 
 -- one field after another
@@ -131,86 +131,116 @@ text_ends s within ends =
 
 -- ---- what the call of the reader comes to
 
-pub record TextAnswer (r : Result (List ℕ) FieldError) (old new : Stand) : Type 0 where
-  pub value : IfOk r (λ t. IsUtf8 t × Passes (text_bytes t) old new)
-  pub only : (field rest : List ℕ) → IsUtf8 field → length field < 2 ^ 64 → left old ≡ text_bytes field ++ rest → (r ≡ Ok field) ⊎ (r ≡ Err Memory)
+-- `view` gives the bytes of the text that was answered
+pub record TextAnswer {X : Type 0} (view : X → List ℕ) (r : Result X FieldError) (old new : Stand) : Type 0 where
+  pub value : IfOk r (λ t. IsUtf8 (view t) × Passes (text_bytes (view t)) old new)
+  pub only : (field rest : List ℕ) → IsUtf8 field → length field < 2 ^ 64 → left old ≡ text_bytes field ++ rest → IsOkAnd r (λ t. view t ≡ field) ⊎ (r ≡ Err Memory)
   pub short : (r ≡ Err (Short (length old.whole))) ↔ EndsInText (left old)
   pub not_shortest : (r ≡ Err (NotShortest old.at)) ↔ IsLongNumber 9 (left old)
   pub not_text : (r ≡ Err (NotText old.at)) ↔ IsNoText (left old)
   pub errors : IfErr r (λ e. (e ≡ Short (length old.whole)) ⊎ (e ≡ NotShortest old.at) ⊎ (e ≡ NotText old.at) ⊎ (e ≡ Memory))
 
-value : (r : Result (List ℕ) FieldError) (old new : Stand) → IsWithin old.whole old.at → MayRead (λ x. x) r old new (text_at old) → IfOk r (λ t. IsUtf8 t × Passes (text_bytes t) old new)
-value (Ok x) old new within reads = subst (λ (q : Result (List ℕ × Stand) FieldError). Means old q) reads (text_means old within)
-value (Err e) old new within reads = tt
+value : {X : Type 0} (view : X → List ℕ) (r : Result X FieldError) (old new : Stand) → IsWithin old.whole old.at → MayRead view r old new (text_at old) → IfOk r (λ t. IsUtf8 (view t) × Passes (text_bytes (view t)) old new)
+value view (Ok x) old new within reads = subst (λ (q : Result (List ℕ × Stand) FieldError). Means old q) reads (text_means old within)
+value view (Err e) old new within reads = tt
 
-only_if : (r : Result (List ℕ) FieldError) (old new : Stand) (field : List ℕ) (u : Stand) → MayRead (λ x. x) r old new (text_at old) → text_at old ≡ read_as field u → (r ≡ Ok field) ⊎ (r ≡ Err Memory)
-only_if (Ok x) old new field u reads is = inl (ap (λ (z : List ℕ). Ok z) (same_read x field new u (sym reads ∙ is)).0)
-only_if (Err Memory) old new field u reads is = inr refl
-only_if (Err (Short at)) old new field u reads is = absurd (let bad = sym reads.0 ∙ is in cc)
-only_if (Err (NotShortest at)) old new field u reads is = absurd (let bad = sym reads.0 ∙ is in cc)
-only_if (Err (NotText at)) old new field u reads is = absurd (let bad = sym reads.0 ∙ is in cc)
+only_if : {X : Type 0} (view : X → List ℕ) (r : Result X FieldError) (old new : Stand) (field : List ℕ) (u : Stand) → MayRead view r old new (text_at old) → text_at old ≡ read_as field u → IsOkAnd r (λ t. view t ≡ field) ⊎ (r ≡ Err Memory)
+only_if view (Ok x) old new field u reads is = inl (same_read (view x) field new u (sym reads ∙ is)).0
+only_if view (Err Memory) old new field u reads is = inr refl
+only_if view (Err (Short at)) old new field u reads is = absurd (let bad = sym reads.0 ∙ is in cc)
+only_if view (Err (NotShortest at)) old new field u reads is = absurd (let bad = sym reads.0 ∙ is in cc)
+only_if view (Err (NotText at)) old new field u reads is = absurd (let bad = sym reads.0 ∙ is in cc)
 
-ap_err : {d e : FieldError} (old : Stand) → text_at old ≡ Err d → text_at old ≡ Err e → (let a : Result (List ℕ) FieldError = Err e in let b : Result (List ℕ) FieldError = Err d in a ≡ b)
-ap_err {d} {e} old a b = let same : d ≡ e = (let both = sym a ∙ b in cc) in ap (λ (z : FieldError). Err z) (sym same)
+ap_err : {X : Type 0} {d e : FieldError} (old : Stand) → text_at old ≡ Err d → text_at old ≡ Err e → (let a : Result X FieldError = Err e in let b : Result X FieldError = Err d in a ≡ b)
+ap_err {X} {d} {e} old a b = let same : d ≡ e = (let both = sym a ∙ b in cc) in ap (λ (z : FieldError). Err z) (sym same)
 
 -- the call gives an error that isn't want of memory where reading gives it
-gives_error : (r : Result (List ℕ) FieldError) (old new : Stand) (e : FieldError) → MayRead (λ x. x) r old new (text_at old) → text_at old ≡ Err e → r ≡ Err e
-gives_error (Ok x) old new e reads is = absurd (let bad = sym reads ∙ is in cc)
-gives_error (Err Memory) old new e reads is = absurd (false≢true (subst (λ (q : Result (List ℕ × Stand) FieldError). IsOk q) is reads.0))
-gives_error (Err (Short at)) old new e reads is = sym (ap_err old reads.0 is)
-gives_error (Err (NotShortest at)) old new e reads is = sym (ap_err old reads.0 is)
-gives_error (Err (NotText at)) old new e reads is = sym (ap_err old reads.0 is)
+gives_error : {X : Type 0} (view : X → List ℕ) (r : Result X FieldError) (old new : Stand) (e : FieldError) → MayRead view r old new (text_at old) → text_at old ≡ Err e → r ≡ Err e
+gives_error view (Ok x) old new e reads is = absurd (let bad = sym reads ∙ is in cc)
+gives_error view (Err Memory) old new e reads is = absurd (false≢true (subst (λ (q : Result (List ℕ × Stand) FieldError). IsOk q) is reads.0))
+gives_error view (Err (Short at)) old new e reads is = sym (ap_err old reads.0 is)
+gives_error view (Err (NotShortest at)) old new e reads is = sym (ap_err old reads.0 is)
+gives_error view (Err (NotText at)) old new e reads is = sym (ap_err old reads.0 is)
 
-has_error : (r : Result (List ℕ) FieldError) (old new : Stand) (e : FieldError) → (e ≡ Memory → ⊥) → MayRead (λ x. x) r old new (text_at old) → r ≡ Err e → text_at old ≡ Err e
-has_error (Ok x) old new e differs reads is = absurd (let bad = is in cc)
-has_error (Err Memory) old new e differs reads is = absurd (differs (let same : Memory ≡ e = (let h = is in cc) in sym same))
-has_error (Err (Short at)) old new e differs reads is = reads.0 ∙ ap (λ (d : FieldError). Err d) (let same : Short at ≡ e = (let h = is in cc) in same)
-has_error (Err (NotShortest at)) old new e differs reads is = reads.0 ∙ ap (λ (d : FieldError). Err d) (let same : NotShortest at ≡ e = (let h = is in cc) in same)
-has_error (Err (NotText at)) old new e differs reads is = reads.0 ∙ ap (λ (d : FieldError). Err d) (let same : NotText at ≡ e = (let h = is in cc) in same)
+has_error : {X : Type 0} (view : X → List ℕ) (r : Result X FieldError) (old new : Stand) (e : FieldError) → (e ≡ Memory → ⊥) → MayRead view r old new (text_at old) → r ≡ Err e → text_at old ≡ Err e
+has_error view (Ok x) old new e differs reads is = absurd (let bad = is in cc)
+has_error view (Err Memory) old new e differs reads is = absurd (differs (let same : Memory ≡ e = (let h = is in cc) in sym same))
+has_error view (Err (Short at)) old new e differs reads is = reads.0 ∙ ap (λ (d : FieldError). Err d) (let same : Short at ≡ e = (let h = is in cc) in same)
+has_error view (Err (NotShortest at)) old new e differs reads is = reads.0 ∙ ap (λ (d : FieldError). Err d) (let same : NotShortest at ≡ e = (let h = is in cc) in same)
+has_error view (Err (NotText at)) old new e differs reads is = reads.0 ∙ ap (λ (d : FieldError). Err d) (let same : NotText at ≡ e = (let h = is in cc) in same)
 
-errors_of : (r : Result (List ℕ) FieldError) (old new : Stand) → IsWithin old.whole old.at → MayRead (λ x. x) r old new (text_at old) → IfErr r (λ e. (e ≡ Short (length old.whole)) ⊎ (e ≡ NotShortest old.at) ⊎ (e ≡ NotText old.at) ⊎ (e ≡ Memory))
-errors_of (Ok x) old new within reads = tt
-errors_of (Err Memory) old new within reads = inr (inr (inr refl))
-errors_of (Err (Short at)) old new within reads =
+errors_of : {X : Type 0} (view : X → List ℕ) (r : Result X FieldError) (old new : Stand) → IsWithin old.whole old.at → MayRead view r old new (text_at old) → IfErr r (λ e. (e ≡ Short (length old.whole)) ⊎ (e ≡ NotShortest old.at) ⊎ (e ≡ NotText old.at) ⊎ (e ≡ Memory))
+errors_of view (Ok x) old new within reads = tt
+errors_of view (Err Memory) old new within reads = inr (inr (inr refl))
+errors_of view (Err (Short at)) old new within reads =
     let m = subst (λ (q : Result (List ℕ × Stand) FieldError). Means old q) reads.0 (text_means old within) in
     inl (ap (λ (k : ℕ). Short k) m.0)
-errors_of (Err (NotShortest at)) old new within reads =
+errors_of view (Err (NotShortest at)) old new within reads =
     let m = subst (λ (q : Result (List ℕ × Stand) FieldError). Means old q) reads.0 (text_means old within) in
     inr (inl (ap (λ (k : ℕ). NotShortest k) m.0))
-errors_of (Err (NotText at)) old new within reads =
+errors_of view (Err (NotText at)) old new within reads =
     let m = subst (λ (q : Result (List ℕ × Stand) FieldError). Means old q) reads.0 (text_means old within) in
     inr (inr (inl (ap (λ (k : ℕ). NotText k) m.0)))
 
-pub text_answer : (r : Result (List ℕ) FieldError) (old new : Stand) → IsWithin old.whole old.at → MayRead (λ x. x) r old new (text_at old) → TextAnswer r old new
-text_answer r old new within reads =
+pub text_answer : {X : Type 0} (view : X → List ℕ) (r : Result X FieldError) (old new : Stand) → IsWithin old.whole old.at → MayRead view r old new (text_at old) → TextAnswer view r old new
+text_answer view r old new within reads =
     let meaning = λ (e : FieldError) (is : text_at old ≡ Err e). subst (λ (q : Result (List ℕ × Stand) FieldError). Means old q) is (text_means old within) in
     record {
-      value = value r old new within reads;
-      only = λ field rest is below e. let h = text_again old within field rest is below e in only_if r old new field h.0 reads h.1;
+      value = value view r old new within reads;
+      only = λ field rest is below e. let h = text_again old within field rest is below e in only_if view r old new field h.0 reads h.1;
       short = (
-        λ e. (meaning (Short (length old.whole)) (has_error r old new (Short (length old.whole)) (λ h. absurd (let bad = h in cc)) reads e)).1,
-        λ h. gives_error r old new (Short (length old.whole)) reads (text_ends old within h),
+        λ e. (meaning (Short (length old.whole)) (has_error view r old new (Short (length old.whole)) (λ h. absurd (let bad = h in cc)) reads e)).1,
+        λ h. gives_error view r old new (Short (length old.whole)) reads (text_ends old within h),
       );
       not_shortest = (
-        λ e. (meaning (NotShortest old.at) (has_error r old new (NotShortest old.at) (λ h. absurd (let bad = h in cc)) reads e)).1,
-        λ h. gives_error r old new (NotShortest old.at) reads (text_at-no_length old (NotShortest old.at) ((var_long old within).1 h)),
+        λ e. (meaning (NotShortest old.at) (has_error view r old new (NotShortest old.at) (λ h. absurd (let bad = h in cc)) reads e)).1,
+        λ h. gives_error view r old new (NotShortest old.at) reads (text_at-no_length old (NotShortest old.at) ((var_long old within).1 h)),
       );
       not_text = (
-        λ e. (meaning (NotText old.at) (has_error r old new (NotText old.at) (λ h. absurd (let bad = h in cc)) reads e)).1,
-        λ h. gives_error r old new (NotText old.at) reads (text_other old within h),
+        λ e. (meaning (NotText old.at) (has_error view r old new (NotText old.at) (λ h. absurd (let bad = h in cc)) reads e)).1,
+        λ h. gives_error view r old new (NotText old.at) reads (text_other old within h),
       );
-      errors = errors_of r old new within reads;
+      errors = errors_of view r old new within reads;
     }
 
 -- what is refused before memory is wanted
-pub may_read_length : (old : Stand) (e : FieldError) → var_at old ≡ Err e → MayRead (λ (x : List ℕ). x) (Err e) old old (text_at old)
-may_read_length old (Short at) is = (text_at-no_length old (Short at) is, refl)
-may_read_length old (NotShortest at) is = (text_at-no_length old (NotShortest at) is, refl)
-may_read_length old (NotText at) is = (text_at-no_length old (NotText at) is, refl)
-may_read_length old Memory is = elim (var_errors old Memory is) [ inl h ↦ absurd (let bad = h in cc) | inr h ↦ absurd (let bad = h in cc) ]
+pub may_read : (old : Stand) (e : FieldError) → IsWithin old.whole old.at → text_at old ≡ Err e → MayRead (λ (x : List ℕ). x) (Err e) old old (text_at old)
+may_read old (Short at) within is = (is, refl)
+may_read old (NotShortest at) within is = (is, refl)
+may_read old (NotText at) within is = (is, refl)
+may_read old Memory within is = absurd (subst (λ (q : Result (List ℕ × Stand) FieldError). Means old q) is (text_means old within))
 
-pub may_read_bytes : (old t : Stand) (n : ℕ) (e : FieldError) → var_at old ≡ read_as n t → raw_at n t ≡ Err e → MayRead (λ (x : List ℕ). x) (Err e) old old (text_at old)
-may_read_bytes old t n (Short at) length_read is = (text_at-cut old t n (Short at) length_read is, refl)
-may_read_bytes old t n (NotShortest at) length_read is = (text_at-cut old t n (NotShortest at) length_read is, refl)
-may_read_bytes old t n (NotText at) length_read is = (text_at-cut old t n (NotText at) length_read is, refl)
-may_read_bytes old t n Memory length_read is = absurd (let bad = raw_errors n t Memory is in cc)
+pub reads_may : {X : Type 0} (view : X → List ℕ) (r : Result X FieldError) (old new : Stand) → IsWithin old.whole old.at → Reads view r old new (text_at old) → MayRead view r old new (text_at old)
+reads_may view (Ok x) old new within reads = reads
+reads_may view (Err (Short at)) old new within reads = reads
+reads_may view (Err (NotShortest at)) old new within reads = reads
+reads_may view (Err (NotText at)) old new within reads = reads
+reads_may view (Err Memory) old new within reads = absurd (subst (λ (q : Result (List ℕ × Stand) FieldError). Means old q) reads.0 (text_means old within))
+
+pub ok_is : {X : Type 0} (r : Result X FieldError) (x : X) → IsOkAnd r (λ t. t ≡ x) → r ≡ Ok x
+ok_is {X} (Ok y) x is = ap (λ (z : X). Ok z) is
+ok_is (Err e) x is = absurd is
+
+-- of a text that takes no memory
+pub record StrAnswer {X : Type 0} (view : X → List ℕ) (r : Result X FieldError) (old new : Stand) : Type 0 where
+  pub any : TextAnswer view r old new
+  pub only : (field rest : List ℕ) → IsUtf8 field → length field < 2 ^ 64 → left old ≡ text_bytes field ++ rest → IsOkAnd r (λ t. view t ≡ field)
+  pub errors : IfErr r (λ e. (e ≡ Short (length old.whole)) ⊎ (e ≡ NotShortest old.at) ⊎ (e ≡ NotText old.at))
+
+three : (old : Stand) (e : FieldError) → Means old (Err e) → (e ≡ Short (length old.whole)) ⊎ (e ≡ NotShortest old.at) ⊎ (e ≡ NotText old.at)
+three old (Short at) m = inl (ap (λ (k : ℕ). Short k) m.0)
+three old (NotShortest at) m = inr (inl (ap (λ (k : ℕ). NotShortest k) m.0))
+three old (NotText at) m = inr (inr (ap (λ (k : ℕ). NotText k) m.0))
+three old Memory m = absurd m
+
+str_errors : {X : Type 0} (view : X → List ℕ) (r : Result X FieldError) (old new : Stand) → IsWithin old.whole old.at → Reads view r old new (text_at old)
+    → IfErr r (λ e. (e ≡ Short (length old.whole)) ⊎ (e ≡ NotShortest old.at) ⊎ (e ≡ NotText old.at))
+str_errors view (Ok x) old new within reads = tt
+str_errors view (Err e) old new within reads = three old e (subst (λ (q : Result (List ℕ × Stand) FieldError). Means old q) reads.0 (text_means old within))
+
+pub str_answer : {X : Type 0} (view : X → List ℕ) (r : Result X FieldError) (old new : Stand) → IsWithin old.whole old.at → Reads view r old new (text_at old) → StrAnswer view r old new
+str_answer view r old new within reads = record {
+  any = text_answer view r old new within (reads_may view r old new within reads);
+  only = λ field rest is below e. let h = text_again old within field rest is below e in slices_are view r old new field (text_at old) h.0 reads h.1;
+  errors = str_errors view r old new within reads;
+}

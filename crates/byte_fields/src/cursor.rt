@@ -124,9 +124,9 @@ impl<'a> Cursor<'a> {
         Ok(if number % 2 == 0 { half } else { -half - 1 })
     }
 
-    /// A text, in memory of `alloc`.
-    pub fn text(&mut self, alloc: Global) -> Result<Text, FieldError>
-        ensures reads { MayRead (λ t. t) result self.old self.new (text_at self.old) }
+    /// A text, borrowed from the bytes.
+    pub fn text_str(&mut self) -> Result<&'a str, FieldError>
+        ensures reads { Reads (λ t. t.now) result self.old self.new (text_at self.old) }
         ensures within { IsWithin self.old.whole self.old.at }
     {
         let mut next = Cursor {
@@ -138,7 +138,21 @@ impl<'a> Cursor<'a> {
         let Ok(text) = str::from_utf8(field) else {
             return Err(FieldError::NotText { at: self.at as u64 });
         };
-        let Ok(text) = String::from_str(alloc, text) else {
+        *self = next;
+        Ok(text)
+    }
+
+    /// A text, in memory of `alloc`.
+    pub fn text(&mut self, alloc: Global) -> Result<Text, FieldError>
+        ensures reads { MayRead (λ t. t) result self.old self.new (text_at self.old) }
+        ensures within { IsWithin self.old.whole self.old.at }
+    {
+        let mut next = Cursor {
+            bytes: self.bytes,
+            at: self.at,
+        };
+        let borrowed = next.text_str()?;
+        let Ok(text) = String::from_str(alloc, borrowed) else {
             return Err(FieldError::Memory);
         };
         *self = next;

@@ -149,6 +149,24 @@ impl<'a> Reader<'a> {
         self.cursor.zigzag()
     }
 
+    /// A text: the `var` of its length, and its bytes in UTF-8, which stay where they are.
+    pub fn text_str(&mut self) -> Result<&'a str, FieldError>
+        ensures value { IfOk result (λ t. IsUtf8 t.now × Passes (text_bytes t.now) self.old self.new) }
+        ensures only { (text rest : List ℕ) → IsUtf8 text → length text < 2 ^ 64 → left self.old ≡ text_bytes text ++ rest
+            → IsOkAnd result (λ t. t.now ≡ text) }
+
+        ensures short { IsErrOf result (Short (length self.old.whole)) ↔ EndsInText (left self.old) }
+        ensures not_shortest { IsErrOf result (NotShortest self.old.at) ↔ IsLongNumber 9 (left self.old) }
+        ensures not_text { IsErrOf result (NotText self.old.at) ↔ IsNoText (left self.old) }
+        ensures errors { IfErr result (λ e. (e ≡ Short (length self.old.whole)) ⊎ (e ≡ NotShortest self.old.at)
+            ⊎ (e ≡ NotText self.old.at)) }
+        ensures stays { OnErr result (self.new ≡ self.old) }
+
+        ensures reads { Reads (λ t. t.now) result self.old self.new (text_at self.old) }
+    {
+        self.cursor.text_str()
+    }
+
     /// A text: the `var` of its length, and its bytes in UTF-8. Memory is taken only for bytes that are there.
     pub fn text(&mut self) -> Result<Text, FieldError>
         ensures value { IfOk result (λ t. IsUtf8 t × Passes (text_bytes t) self.old self.new) }

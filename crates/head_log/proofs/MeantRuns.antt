@@ -27,7 +27,7 @@ use Rattle.head_log.specs.Sound.{IsSoundSpan, IsSoundBatch}
 use Rattle.head_log.specs.Scanning.{span_at, last_passes, last_of, repeats, run_at, runs_at, span_count_at, scope_spans_at, run_count_at, scopes_at, spans_at, form_of, all_spans_at, body_at}
 use Rattle.head_log.proofs.AgainSpan.{IsOf}
 use Rattle.head_log.proofs.AgainRuns.{or_false, IsSoundIn, IsSoundOf, AllGood}
-use Rattle.head_log.proofs.RunLaws.{last_of-run}
+use Rattle.head_log.proofs.RunLaws.{last_of-run, all_join}
 use Rattle.head_log.proofs.MeantSpan.{meant_span}
 
 -- ---- runs of items
@@ -168,10 +168,6 @@ are_runs same of P decides has (r ∷ q ∷ rs) later before good = (
   sym (ap (λ (o : Option Span). last_passes (λ span. same (of span) (of q.0)) o) (last_of-run before r.0 r.1)) ∙ good.1.0.fresh,
   are_runs same of P decides has (q ∷ rs) true (before ++ run_items r) good.1,
 )
-
-all_join : (P : Span → Type 0) (xs ys : List Span) → AllByRecursion P xs → AllByRecursion P ys → AllByRecursion P (xs ++ ys)
-all_join P [] ys a b = b
-all_join P (x ∷ xs) ys a b = (a.0, all_join P xs ys a.1 b)
 
 all_weaker : (P Q : Span → Type 0) → ((s : Span) → P s → Q s) → (xs : List Span) → AllByRecursion P xs → AllByRecursion Q xs
 all_weaker P Q weaken [] all = tt

@@ -41,7 +41,7 @@ meant_extras within false s is x t e =
     renamed (pair_bytes false) (AreExtras false) s found x s t same.0 same.1 (record { bytes = took_none s is; fits = (refl, refl) })
 
 -- an empty list is sound
-few_none : {A : Type 0} (P : A → Type 0) (items : List A) → items ≡ [] → AreSound P items
+pub few_none : {A : Type 0} (P : A → Type 0) (items : List A) → items ≡ [] → AreSound P items
 few_none P items none = rw none (record { each = tt; few = omega arith })
 
 sound_extras : (extended : Bool) (x : Extras) → AreExtras extended x → AreSound IsSoundEvent x.0 × AreSound IsSoundLink x.1

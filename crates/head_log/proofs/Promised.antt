@@ -16,6 +16,8 @@ use Rattle.head_log.specs.Bodies.{is_extended, are_extended}
 use Rattle.head_log.specs.Sound.{IsSoundSpan}
 use Rattle.head_log.specs.Written.{AreSoundExtras, IsSoundAlone, IsSoundRun, AreSoundRuns, AreSoundAlone, AreSoundScopes, AreSoundResources}
 use Rattle.head_log.proofs.AgainSpan.{HasForm}
+use Rattle.head_log.proofs.MeantSpan.{few_none}
+use Rattle.head_log.proofs.RunLaws.{all_join}
 use Rattle.head_log.proofs.AgainRuns.{forms}
 
 -- ---- runs, as they are written one after the other
@@ -43,13 +45,9 @@ run_written bytes all front later out now total so_far split is =
 
 -- ---- from runs to their spans
 
-all_joined : (P : Span → Type 0) (xs ys : List Span) → AllByRecursion P xs → AllByRecursion P ys → AllByRecursion P (xs ++ ys)
-all_joined P [] ys h g = g
-all_joined P (x ∷ xs) ys h g = (h.0, all_joined P xs ys h.1 g)
-
 all_of_each : (P : Span → Type 0) (rs : List (Span × List Span)) → AllByRecursion (λ r. AllByRecursion P (run_items r)) rs → AllByRecursion P (all_of rs)
 all_of_each P [] h = tt
-all_of_each P (r ∷ rs) h = all_joined P (run_items r) (all_of rs) h.0 (all_of_each P rs h.1)
+all_of_each P (r ∷ rs) h = all_join P (run_items r) (all_of rs) h.0 (all_of_each P rs h.1)
 
 -- a sound origin, and what holds of a span but for it
 abbrev IsSoundWith : {O : Type 0} → (Span → O) → (O → Type 0) → (Span → Type 0) → Span → Type 0
@@ -73,9 +71,6 @@ from_runs same of IsSound Content P decides content spans sound =
       in_run of IsSound P (run_items r) (of r.0) sound.0.origin (refl, origins_equal same of decides r.0 r.1 linked.0) (content (run_items r) sound.0.content),
       in_runs rs sound.1 linked.1,
     )
-
-few_none : {A : Type 0} (P : A → Type 0) (items : List A) → items ≡ [] → AreSound P items
-few_none P items none = rw none (record { each = tt; few = omega arith })
 
 -- ---- events and links
 

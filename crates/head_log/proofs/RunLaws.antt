@@ -1,6 +1,7 @@
--- The last of spans that end with a run.
+-- The last of spans that end with a run, and what holds of two lists.
 use Rattle.std.proofs.Common.{◌≡◌, ℕ, suc, ◌+◌, ◌-◌, List, [], ◌∷◌, ◌++◌, length, Some, refl, ap, ◌∙◌, arith}
 use Rattle.std.specs.Prelude.{slice_get}
+use Rattle.std.specs.List.{AllByRecursion}
 use Rattle.std.proofs.lemmas.List.{length-append}
 use Rattle.span_types.specs.declared.spans.Span.{Span}
 use Rattle.span_runs.proofs.RunLaws.{last_item}
@@ -20,3 +21,7 @@ pub last_of-run : (before : List Span) (x : Span) (xs : List Span) → last_of (
 last_of-run before x xs =
     let e : length (before ++ x ∷ xs) - 1 ≡ length before + length xs = omega (arith, length-append before (x ∷ xs)) in
     ap (λ (k : ℕ). slice_get (before ++ x ∷ xs) k) e ∙ last_after before x xs
+
+pub all_join : {A : Type 0} (P : A → Type 0) (xs ys : List A) → AllByRecursion P xs → AllByRecursion P ys → AllByRecursion P (xs ++ ys)
+all_join P [] ys a b = b
+all_join P (x ∷ xs) ys a b = (a.0, all_join P xs ys a.1 b)

@@ -99,6 +99,17 @@ step read encode Fits k meant s is y t P e next =
     let a = bound (read s) k (y, t) e in
     next a.value.0 a.value.1 (meant s is a.value.0 a.value.1 a.first) a.last
 
+abbrev made_as : {A B : Type 0} → (A → B) → A × Stand → Result (B × Stand) ℕ
+made_as f x = Ok (f x.0, x.1)
+
+-- a value that is made of what was read
+made_of : {A B : Type 0} (f : A → B) (read : Stand → Result (A × Stand) ℕ) (encode : A → List ℕ) (Fits : A → Type 0) (encode' : B → List ℕ) (Fits' : B → Type 0) (tag : List ℕ) (s u : Stand) → Took tag s u
+    → ReadIsEncoded read encode Fits → ((x : A) → tag ++ encode x ≡ encode' (f x)) → ((x : A) → Fits x → Fits' (f x)) → (y : B) (t : Stand) → (read u >>= made_as f) ≡ Ok (y, t) → Got encode' Fits' s y t
+made_of f read encode Fits encode' Fits' tag s u tagged meant same fits y t e =
+    step read encode Fits (made_as f) meant u tagged.within y t (Got encode' Fits' s y t) e (λ x v on_x ex.
+    let made = same_pair (f x) y v t ex in
+    renamed encode' Fits' s (f x) y v t made.0 made.1 (record { bytes = subst (λ (b : List ℕ). Took b s v) (same x) (took_then tagged on_x.bytes); fits = fits x on_x.fits }))
+
 -- ---- fields
 
 pub meant_byte : (within : Bool) → ReadIsEncoded (in_part within byte_at) one_byte IsAny
@@ -178,7 +189,7 @@ pub meant_text : (within : Bool) → ReadIsEncoded (in_part within text_at) text
 unfolding in_part
 meant_text within s is x t e =
     let read = or_place_ok within s (text_at s) (x, t) e in
-    let answer = (text_answer (Ok x) s t is read).value in
+    let answer = (text_answer (λ (z : List ℕ). z) (Ok x) s t is read).value in
     record { bytes = took (text_bytes x) s t is answer.1; fits = record { utf8 = answer.0; short = text_short s x t is read } }
 
 -- ---- attributes
@@ -206,27 +217,15 @@ meant_truth within s is x t e =
 
 text_value : (within : Bool) (s u : Stand) (v : AttrValue) (t : Stand) → Took (0 ∷ []) s u → text_value_at within u ≡ Ok (v, t) → Got value_bytes IsSoundValue s v t
 unfolding text_value_at value_bytes
-text_value within s u v t kind e =
-    let a = bound (in_part within text_at u) (λ text. Ok (Text text.0, text.1)) (v, t) e in
-    let text = meant_text within u kind.within a.value.0 a.value.1 a.first in
-    let same = same_pair (Text a.value.0) v a.value.1 t a.last in
-    renamed value_bytes IsSoundValue s (Text a.value.0) v a.value.1 t same.0 same.1 (record { bytes = took_then kind text.bytes; fits = text.fits })
+text_value within s u v t kind e = made_of (λ (x : List ℕ). Text x) (in_part within text_at) text_bytes IsWord value_bytes IsSoundValue (0 ∷ []) s u kind (meant_text within) (λ x. refl) (λ x h. h) v t e
 
 whole_value : (within : Bool) (s u : Stand) (v : AttrValue) (t : Stand) → Took (1 ∷ []) s u → whole_value_at within u ≡ Ok (v, t) → Got value_bytes IsSoundValue s v t
 unfolding whole_value_at value_bytes
-whole_value within s u v t kind e =
-    let a = bound (in_part within zigzag_at u) (λ number. Ok (Whole number.0, number.1)) (v, t) e in
-    let number = meant_zigzag within u kind.within a.value.0 a.value.1 a.first in
-    let same = same_pair (Whole a.value.0) v a.value.1 t a.last in
-    renamed value_bytes IsSoundValue s (Whole a.value.0) v a.value.1 t same.0 same.1 (record { bytes = took_then kind number.bytes; fits = number.fits })
+whole_value within s u v t kind e = made_of (λ (x : ℤ). Whole x) (in_part within zigzag_at) zigzag_bytes (FitsSigned w64) value_bytes IsSoundValue (1 ∷ []) s u kind (meant_zigzag within) (λ x. refl) (λ x h. h) v t e
 
 truth_value : (within : Bool) (s u : Stand) (v : AttrValue) (t : Stand) → Took (2 ∷ []) s u → truth_value_at within u ≡ Ok (v, t) → Got value_bytes IsSoundValue s v t
 unfolding truth_value_at value_bytes
-truth_value within s u v t kind e =
-    let a = bound (truth_at within u) (λ truth. Ok (Truth truth.0, truth.1)) (v, t) e in
-    let truth = meant_truth within u kind.within a.value.0 a.value.1 a.first in
-    let same = same_pair (Truth a.value.0) v a.value.1 t a.last in
-    renamed value_bytes IsSoundValue s (Truth a.value.0) v a.value.1 t same.0 same.1 (record { bytes = took_then kind truth.bytes; fits = tt })
+truth_value within s u v t kind e = made_of (λ (x : Bool). Truth x) (truth_at within) truth_bytes IsAny value_bytes IsSoundValue (2 ∷ []) s u kind (meant_truth within) (λ x. refl) (λ x h. h) v t e
 
 pub meant_value : (within : Bool) → ReadIsEncoded (value_at within) value_bytes IsSoundValue
 unfolding value_at
@@ -337,21 +336,11 @@ meant_id count within s is x t e =
 
 pub meant_trace : (within : Bool) → ReadIsEncoded (trace_id_at within) trace_bytes IsTrace
 unfolding trace_id_at
-meant_trace within s is x t e =
-    let a = bound (id_at 16 within s) (λ bytes. Ok (record { 0 = bytes.0 }, bytes.1)) (x, t) e in
-    let id = meant_id 16 within s is a.value.0 a.value.1 a.first in
-    let found : TraceId = record { 0 = a.value.0 } in
-    let same = same_pair found x a.value.1 t a.last in
-    renamed trace_bytes IsTrace s found x a.value.1 t same.0 same.1 (record { bytes = id.bytes; fits = id.fits })
+meant_trace within s is x t e = made_of (λ (b : List ℕ). let id : TraceId = record { 0 = b } in id) (id_at 16 within) (λ l. l) (IsId 16) trace_bytes IsTrace [] s s (took_none s is) (meant_id 16 within) (λ x. refl) (λ x h. h) x t e
 
 pub meant_span_id : (within : Bool) → ReadIsEncoded (span_id_at within) id_bytes IsSpanId
 unfolding span_id_at
-meant_span_id within s is x t e =
-    let a = bound (id_at 8 within s) (λ bytes. Ok (record { 0 = bytes.0 }, bytes.1)) (x, t) e in
-    let id = meant_id 8 within s is a.value.0 a.value.1 a.first in
-    let found : SpanId = record { 0 = a.value.0 } in
-    let same = same_pair found x a.value.1 t a.last in
-    renamed id_bytes IsSpanId s found x a.value.1 t same.0 same.1 (record { bytes = id.bytes; fits = id.fits })
+meant_span_id within s is x t e = made_of (λ (b : List ℕ). let id : SpanId = record { 0 = b } in id) (id_at 8 within) (λ l. l) (IsId 8) id_bytes IsSpanId [] s s (took_none s is) (meant_id 8 within) (λ x. refl) (λ x h. h) x t e
 
 no_parent : (s u : Stand) (x : Option SpanId) (t : Stand) → Took (0 ∷ []) s u → None ≡ x → u ≡ t → Got parent_bytes IsParent s x t
 unfolding parent_bytes
@@ -359,11 +348,7 @@ no_parent s u x t kind none there = renamed parent_bytes IsParent s None x u t n
 
 some_parent : (within : Bool) (s u : Stand) (x : Option SpanId) (t : Stand) → Took (1 ∷ []) s u → some_id_at within u ≡ Ok (x, t) → Got parent_bytes IsParent s x t
 unfolding parent_bytes some_id_at
-some_parent within s u x t kind e =
-    let a = bound (span_id_at within u) (λ id. Ok (Some id.0, id.1)) (x, t) e in
-    let id = meant_span_id within u kind.within a.value.0 a.value.1 a.first in
-    let same = same_pair (Some a.value.0) x a.value.1 t a.last in
-    renamed parent_bytes IsParent s (Some a.value.0) x a.value.1 t same.0 same.1 (record { bytes = took_then kind id.bytes; fits = id.fits })
+some_parent within s u x t kind e = made_of (λ (id : SpanId). Some id) (span_id_at within) id_bytes IsSpanId parent_bytes IsParent (1 ∷ []) s u kind (meant_span_id within) (λ x. refl) (λ x h. h) x t e
 
 pub meant_parent : (within : Bool) → ReadIsEncoded (parent_at within) parent_bytes IsParent
 unfolding parent_at
@@ -468,11 +453,7 @@ meant_link within s is link t e =
 
 pub meant_resource : (within : Bool) → ReadIsEncoded (resource_at within) resource_bytes IsSoundResource
 unfolding resource_at resource_bytes
-meant_resource within s is resource t e =
-    step (attrs_at within) attrs_bytes AreSoundAttrs _ (meant_attrs within) s is resource t (Got resource_bytes IsSoundResource s resource t) e (λ attrs a on_attrs ea.
-    let found : Resource = record { attrs = attrs } in
-    let same = same_pair found resource a t ea in
-    renamed resource_bytes IsSoundResource s found resource a t same.0 same.1 (record { bytes = on_attrs.bytes; fits = record { attrs = on_attrs.fits } }))
+meant_resource within s is x t e = made_of (λ (l : List Attr). let r : Resource = record { attrs = l } in r) (attrs_at within) attrs_bytes AreSoundAttrs resource_bytes IsSoundResource [] s s (took_none s is) (meant_attrs within) (λ x. refl) (λ x h. record { attrs = h }) x t e
 
 pub meant_scope : (within : Bool) → ReadIsEncoded (scope_at within) scope_bytes IsSoundScope
 unfolding scope_at scope_bytes
