@@ -1,6 +1,8 @@
--- Words that ask something are never refused.
-use Rattle.std.proofs.Common.{◌≡◌, ◌∙◌, ℕ, true, false, Option, Some, None, List, [], ◌∷◌, Result, Ok, Err, refl, sym, ap, subst, inl, inr}
-use Rattle.std.specs.Prelude.{IfErr, IfOk, MatchResult, codes, is_some, option_map, string_bytes}
+-- The laws of what words ask, and what is read of them.
+use Rattle.std.proofs.Common.{◌≡◌, ◌∙◌, ℕ, zero, suc, true, false, Option, Some, None, List, [], ◌∷◌, Result, Ok, Err, refl, sym, ap, subst, inl, inr, arith}
+use Rattle.std.specs.Prelude.{All, IfErr, String, codes, is_some, map, option_map, string_bytes}
+use Rattle.std.specs.Str.{IsUtf8}
+use Rattle.std.specs.declared.alloc.Global.{Global}
 use Rattle.std.proofs.lemmas.Str.{IsUtf8-string_bytes}
 use Rattle.clap.specs.Kinds.{Kinds, or_else}
 use Rattle.clap.specs.Words.{first_value, subcommand_of}
@@ -8,16 +10,17 @@ use Rattle.clap.specs.declared.parser.matches.Found.{Found}
 use Rattle.clap.specs.Faults.{fault_of}
 use Rattle.clap.specs.Walk.{Text}
 use Rattle.clap.proofs.OnLiterals.{clap_on_literals}
-use Rattle.command_words.specs.Spelling.{Asks, Given, GivesSearch, GivesTrace, IsSearch, IsSession, IsTaken, IsTrace, given_in, is_flag}
+use Rattle.command_words.specs.Commands.{Alone, Command, Session, Spells, command_of, search, session, trace}
+use Rattle.command_words.specs.Spelling.{Given, IsSearch, IsSession, IsTaken, IsTrace, found_value, given_in, is_flag, search_line, trace_line}
 use Rattle.command_words.specs.Table.{words_app}
 use Rattle.command_words.specs.declared.asked.Asked.{Asked}
-use Rattle.command_words.specs.declared.asked.Asked.TheVariants.{Search, Session, Trace}
 use Rattle.command_words.specs.declared.asked.WordsError.{WordsError}
 use Rattle.command_words.specs.declared.asked.WordsError.TheVariants.{Refused, Memory}
 use Rattle.command_words.proofs.Found.{FindsSearch}
 use Rattle.command_words.proofs.Leaves.{alone_clean, before_clean}
 use Rattle.command_words.proofs.Taken.{taken_asks, taken_clean}
-use Rattle.command_words.proofs.Whole.{IsBareTrace, trace_from_bare}
+use Rattle.command_words.proofs.Whole as read
+use Rattle.command_words.proofs.Whole.{IsBareTrace, Read, read_from, trace_from_bare}
 
 session_clean : (words : List Text) → IsSession words → fault_of words_app words ≡ []
 unfolding words_app clap_on_literals
@@ -93,65 +96,86 @@ same_search words a b x y =
     ∙ (ap (λ (l : Option (List ℕ)). record { limit = b.limit; spss = b.spss; start = b.start; end = l; query = a.query }) (sym x.end ∙ y.end)
     ∙ ap (λ (q : List ℕ). record { limit = b.limit; spss = b.spss; start = b.start; end = b.end; query = q }) query)))
 
--- ---- what is given
+-- ---- the laws
 
-pub session_given : (words : List Text) (r : Result Asked WordsError) → IfOk r (Asks words) → (r ≡ Err Refused → fault_of words_app words ≡ [] → ⊥)
-    → IsSession words → MatchResult r (λ asked. asked ≡ Session) (λ error. error ≡ Memory)
-session_given words (Ok Session) asks refuses is = refl
-session_given words (Ok (Trace id)) asks refuses is = absurd (not_both words (string_bytes id) is asks)
-session_given words (Ok (Search limit spss start end query)) asks refuses is = absurd (session_no_search words _ is asks)
-session_given words (Err Refused) asks refuses is = absurd (refuses refl (session_clean words is))
-session_given words (Err Memory) asks refuses is = refl
+pub spelled_clean : (words : List Text) (c : Command) → Spells words c → fault_of words_app words ≡ []
+spelled_clean words c (session is) = session_clean words is
+spelled_clean words c (trace id is) = trace_clean words id is
+spelled_clean words c (search given is clean) = clean
 
-pub trace_given : (words : List Text) (r : Result Asked WordsError) → IfOk r (Asks words) → (r ≡ Err Refused → fault_of words_app words ≡ [] → ⊥)
-    → (id : List ℕ) → IsTrace id words → MatchResult r (GivesTrace id) (λ error. error ≡ Memory)
-trace_given words (Ok Session) asks refuses id is = absurd (not_both words id asks is)
-trace_given words (Ok (Trace given)) asks refuses id is = same_id words (string_bytes given) id asks is
-trace_given words (Ok (Search limit spss start end query)) asks refuses id is = absurd (trace_no_search words id _ is asks)
-trace_given words (Err Refused) asks refuses id is = absurd (refuses refl (trace_clean words id is))
-trace_given words (Err Memory) asks refuses id is = refl
+pub spelled_one : (words : List Text) (c d : Command) → Spells words c → Spells words d → c ≡ d
+spelled_one words c d (session is) (session also) = refl
+spelled_one words c d (session is) (trace id also) = absurd (not_both words id is also)
+spelled_one words c d (session is) (search given also clean) = absurd (session_no_search words given is also)
+spelled_one words c d (trace id is) (session also) = absurd (not_both words id also is)
+spelled_one words c d (trace id is) (trace other also) = ap (λ (i : List ℕ). Alone (trace_line i)) (same_id words id other is also)
+spelled_one words c d (trace id is) (search given also clean) = absurd (trace_no_search words id given is also)
+spelled_one words c d (search given is clean) (session also) = absurd (session_no_search words given also is)
+spelled_one words c d (search given is clean) (trace id also) = absurd (trace_no_search words id given also is)
+spelled_one words c d (search given is clean) (search other also free) = ap (λ (g : Given). Alone (search_line g)) (same_search words given other is also)
 
-pub search_given : (words : List Text) (r : Result Asked WordsError) → IfOk r (Asks words) → (r ≡ Err Refused → fault_of words_app words ≡ [] → ⊥)
-    → (given : Given) → IsSearch given words → fault_of words_app words ≡ [] → MatchResult r (GivesSearch given) (λ error. error ≡ Memory)
-search_given words (Ok Session) asks refuses given is clean = absurd (session_no_search words given asks is)
-search_given words (Ok (Trace id)) asks refuses given is clean = absurd (trace_no_search words (string_bytes id) given asks is)
-search_given words (Ok (Search limit spss start end query)) asks refuses given is clean = same_search words _ given asks is
-search_given words (Err Refused) asks refuses given is clean = absurd (refuses refl clean)
-search_given words (Err Memory) asks refuses given is clean = refl
+pub spelled_taken : (words : List Text) (given : Given) → IsTaken given words → Spells words (Alone (search_line given))
+spelled_taken words given is = search given (taken_asks given words is) (taken_clean given words is)
 
-pub taken_given : (words : List Text) (r : Result Asked WordsError) → IfOk r (Asks words) → (r ≡ Err Refused → fault_of words_app words ≡ [] → ⊥)
-    → (given : Given) → IsTaken given words → MatchResult r (GivesSearch given) (λ error. error ≡ Memory)
-taken_given words r asks refuses given is = search_given words r asks refuses given (taken_asks given words is) (taken_clean given words is)
+-- The words of a program are UTF-8.
+pub strings_are_text : (strings : List (String Global)) → All IsUtf8 (map string_bytes strings)
+strings_are_text [] k d less = absurd (omega (arith, less))
+strings_are_text (s ∷ ss) zero d less = IsUtf8-string_bytes s
+strings_are_text (s ∷ ss) (suc k) d less = strings_are_text ss k d (omega (arith, less))
 
--- ---- where a search is copied
+-- Words of a look-up have its id among them.
+id_is_text : (words : List Text) (id : List ℕ) → All IsUtf8 words → IsBareTrace id words → IsUtf8 id
+id_is_text words id all (inl (is, bare)) = subst (λ (ws : List Text). All IsUtf8 ws) is all 1 [] (omega arith)
+id_is_text words id all (inr (inl is)) = subst (λ (ws : List Text). All IsUtf8 ws) is all 2 [] (omega arith)
+id_is_text words id all (inr (inr (is, bare))) = subst (λ (ws : List Text). All IsUtf8 ws) is all 1 [] (omega arith)
 
-pub search_asks : (words : List Text) (found : Found) → FindsSearch words found → (asked : Asked)
-    → ((query : List ℕ) → first_value found (codes "query") ≡ Some query → GivesSearch (given_in found query) asked) → Asks words asked
-search_asks words found finds asked gives = go (first_value found (codes "query")) refl finds.has_query
+-- The search that words name.
+search_spelled : (words : List Text) → fault_of words_app words ≡ [] → name_of words ≡ Some (codes "search")
+    → is_some (found_value words (codes "query")) ≡ true → (c : Command) × Spells words c
+search_spelled words clean name some = go (found_value words (codes "query")) refl some
   where
-    of : (asked : Asked) (query : List ℕ) → first_value found (codes "query") ≡ Some query → GivesSearch (given_in found query) asked → Asks words asked
-    of Session query is same = absurd same
-    of (Trace id) query is same = absurd same
-    of (Search l s st e q) query is same = subst (λ (g : Given). IsSearch g words) (sym same) (record {
+    go : (o : Option (List ℕ)) → found_value words (codes "query") ≡ o → is_some o ≡ true → (c : Command) × Spells words c
+    go None is none = let bad : ⊥ = cc in absurd bad
+    go (Some query) is there =
+        let given : Given = record {
+          limit = found_value words (codes "limit");
+          spss = found_value words (codes "spss");
+          start = found_value words (codes "start");
+          end = found_value words (codes "end");
+          query = query;
+        } in
+        (Alone (search_line given), search given (record { name = name; limit = refl; spss = refl; start = refl; end = refl; query = is }) clean)
+
+pub spelled_some : (words : List Text) → All IsUtf8 words → fault_of words_app words ≡ [] → (c : Command) × Spells words c
+spelled_some words all clean = go (read_from words clean)
+  where
+    go : Read words (subcommand_of words_app words) → (c : Command) × Spells words c
+    go (read.session name is) = (Session, session is)
+    go (read.trace id name gives is) = (Alone (trace_line id), trace id (trace_from_bare id words (id_is_text words id all is) is))
+    go (read.search name query) = search_spelled words clean name query
+
+-- ---- what is read
+
+pub search_asked : (words : List Text) (found : Found) → fault_of words_app words ≡ [] → FindsSearch words found → (asked : Asked)
+    → ((query : List ℕ) → first_value found (codes "query") ≡ Some query → command_of asked ≡ Alone (search_line (given_in found query)))
+    → Spells words (command_of asked)
+search_asked words found clean finds asked gives = go (first_value found (codes "query")) refl finds.has_query
+  where
+    go : (o : Option (List ℕ)) → first_value found (codes "query") ≡ o → is_some o ≡ true → Spells words (command_of asked)
+    go None is some = let bad : ⊥ = cc in absurd bad
+    go (Some query) is some = subst (λ (c : Command). Spells words c) (sym (gives query is)) (search (given_in found query) (record {
       name = finds.name;
       limit = finds.values (codes "limit");
       spss = finds.values (codes "spss");
       start = finds.values (codes "start");
       end = finds.values (codes "end");
       query = finds.values (codes "query") ∙ is;
-    })
+    }) clean)
 
-    go : (o : Option (List ℕ)) → first_value found (codes "query") ≡ o → is_some o ≡ true → Asks words asked
-    go None is some = let bad : ⊥ = cc in absurd bad
-    go (Some query) is some = of asked query is (gives query is)
-
--- ---- where the id is copied
-
-pub trace_asks : (words : List Text) (id : List ℕ) → IsBareTrace id words → (asked : Asked) → GivesTrace id asked → Asks words asked
-trace_asks words id is Session gives = absurd gives
-trace_asks words id is (Search limit spss start end query) gives = absurd gives
-trace_asks words id is (Trace given) gives =
-    trace_from_bare (string_bytes given) words (IsUtf8-string_bytes given) (subst (λ (t : List ℕ). IsBareTrace t words) (sym gives) is)
+pub trace_asked : (words : List Text) (id : List ℕ) → All IsUtf8 words → IsBareTrace id words → (asked : Asked)
+    → command_of asked ≡ Alone (trace_line id) → Spells words (command_of asked)
+trace_asked words id all is asked gives =
+    subst (λ (c : Command). Spells words c) (sym gives) (trace id (trace_from_bare id words (id_is_text words id all is) is))
 
 pub never_refused : (r : Result Asked WordsError) → IfErr r (λ error. error ≡ Memory) → r ≡ Err Refused → ⊥
 never_refused (Ok asked) h is = cc

@@ -1,11 +1,8 @@
 -- The words that ask each thing.
-use Rattle.std.specs.Prelude.{◌≡◌, ◌⊎◌, ◌==◌, ℕ, Bool, false, List, [], ◌∷◌, ◌++◌, Option, Some, None, IfSome, option_map, option_and_then, codes, String, string_bytes}
+use Rattle.std.specs.Prelude.{◌≡◌, ◌⊎◌, ◌==◌, ℕ, Bool, false, List, [], ◌∷◌, ◌++◌, Option, Some, None, IfSome, option_map, option_and_then, codes}
 use Rattle.clap.specs.Words.{first_of, first_value, subcommand_of}
 use Rattle.clap.specs.declared.parser.matches.Found.{Found}
-use Rattle.std.specs.declared.alloc.Global.{Global}
 use Rattle.command_words.specs.Table.{words_app}
-use Rattle.command_words.specs.declared.asked.Asked.{Asked}
-use Rattle.command_words.specs.declared.asked.Asked.TheVariants.{Session, Trace, Search}
 
 -- The text is a flag: a hyphen with something behind it.
 abbrev pub is_flag : List ℕ → Bool
@@ -21,6 +18,10 @@ abbrev pub IsTrace : List ℕ → List (List ℕ) → Type 0
 IsTrace id words = ((words ≡ codes "trace" ∷ id ∷ []) × (is_flag id ≡ false))
     ⊎ ((words ≡ codes "trace" ∷ codes "--" ∷ id ∷ [])
     ⊎ ((words ≡ codes "trace" ∷ id ∷ codes "--" ∷ []) × (is_flag id ≡ false)))
+
+-- The request line of a look-up.
+abbrev pub trace_line : List ℕ → List ℕ
+trace_line id = codes "trace " ++ id
 
 -- ---- searches
 
@@ -98,30 +99,3 @@ given_in found query = record {
   end = first_value found (codes "end");
   query = query;
 }
-
-abbrev pub given_of : (limit spss start end : Option (String Global)) → (query : String Global) → Given
-given_of limit spss start end query = record {
-  limit = option_map string_bytes limit;
-  spss = option_map string_bytes spss;
-  start = option_map string_bytes start;
-  end = option_map string_bytes end;
-  query = string_bytes query;
-}
-
--- ---- what is asked
-
--- The words ask this.
-abbrev pub Asks : List (List ℕ) → Asked → Type 0
-Asks words Session = IsSession words
-Asks words (Trace id) = IsTrace (string_bytes id) words
-Asks words (Search limit spss start end query) = IsSearch (given_of limit spss start end query) words
-
--- The trace of this id is asked for.
-abbrev pub GivesTrace : List ℕ → Asked → Type 0
-GivesTrace id (Trace given) = string_bytes given ≡ id
-GivesTrace id _ = ⊥
-
--- This search is asked for.
-abbrev pub GivesSearch : Given → Asked → Type 0
-GivesSearch given (Search limit spss start end query) = given_of limit spss start end query ≡ given
-GivesSearch given _ = ⊥

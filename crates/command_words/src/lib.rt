@@ -4,9 +4,10 @@
 
 mod asked;
 mod command;
+mod laws;
 mod line;
 mod read;
 
 pub use asked::{Asked, WordsError};
-pub use line::search_line;
+pub use laws::what_words_spell;
 pub use read::read_words;

@@ -1,13 +1,22 @@
 //! The request line that words ask for.
 
 ghost use Rattle.std.specs.Prelude.{◌≡◌, ◌++◌, IfOk, OnOk, option_map, string_bytes};
-ghost use Rattle.command_words.specs.Spelling.{option_text, search_line};
+ghost use Rattle.command_words.specs.Spelling.{option_text, search_line, trace_line};
 
 use std::alloc::{AllocError, Global};
 
+/// The request line of a look-up: the word `trace`, one space and the id. It fails only for want of memory.
+pub(crate) fn trace_line(alloc: Global, id: &str) -> Result<String, AllocError>
+    ensures { IfOk result (λ line. string_bytes line ≡ trace_line id.now) }
+{
+    let mut line = String::from_str(alloc, "trace ")?;
+    line.push_str(id)?;
+    Ok(line)
+}
+
 /// The request line of a search: the word `search`, the options that are there as `limit=..`, `spss=..`, `start=..` and
 /// `end=..` in this order, and the query, with one space between. It fails only for want of memory.
-pub fn search_line(
+pub(crate) fn search_line(
     alloc: Global,
     limit: Option<&str>,
     spss: Option<&str>,

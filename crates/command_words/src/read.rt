@@ -1,15 +1,16 @@
 //! Reading the words.
 
 ghost use Rattle.std.specs.Prelude.{◌≡◌, ◌≢◌, ℕ, List, [], Some, true, codes, is_some, map, string_bytes};
-ghost use Rattle.std.specs.Prelude.{IfOk, IfErr, MatchResult};
+ghost use Rattle.std.specs.Prelude.{IfOk, IfErr};
 ghost use Rattle.clap.specs.Words.{fault_of, first_value, found_of, kind_of, subcommand_of, subcommand_rows_of};
 ghost use Rattle.clap.specs.declared.error.kind.ErrorKind.TheVariants.{OutOfMemory};
-ghost use Rattle.std.specs.Prelude.{option_map};
-ghost use Rattle.command_words.specs.Spelling.{Asks, Given, GivesSearch, GivesTrace, IsSearch, IsSession, IsTaken, IsTrace, given_in};
+ghost use Rattle.command_words.specs.Commands.{Alone, Spells, command_of};
+ghost use Rattle.command_words.specs.Spelling.{given_in, search_line, trace_line};
 ghost use Rattle.command_words.specs.Table.{words_app};
 
 use crate::asked::{Asked, WordsError};
 use crate::command::whole_command;
+use crate::line::{search_line, trace_line};
 use clap::error::ErrorKind;
 use clap::{ArgMatches, Error};
 use std::alloc::Global;
@@ -17,20 +18,10 @@ use std::alloc::Global;
 /// Reads the words of the command line, those after the program's name and the store's folder. Words that ask
 /// nothing are refused. Memory may be wanted for any words.
 pub fn read_words(alloc: Global, words: &[String]) -> Result<Asked, WordsError>
-    // `clap` finds nothing at fault in words that are read, and something in those that are refused.
-    ensures no_fault { IfOk result (λ _. fault_of words_app (map string_bytes words.now) ≡ []) }
+    // What is read is what the words ask.
+    ensures asked { IfOk result (λ asked. Spells (map string_bytes words.now) (command_of asked)) }
+    // Words are refused only where `clap` finds something at fault in them.
     ensures refused { result ≡ Err WordsError.Refused → fault_of words_app (map string_bytes words.now) ≢ [] }
-
-    // Words that ask something are never refused, and what is read is what they ask.
-    ensures session { IsSession (map string_bytes words.now)
-        → MatchResult result (λ asked. asked ≡ Asked.Session) (λ error. error ≡ WordsError.Memory) }
-    ensures trace { (id : List ℕ) → IsTrace id (map string_bytes words.now)
-        → MatchResult result (GivesTrace id) (λ error. error ≡ WordsError.Memory) }
-    ensures search { (given : Given) → IsSearch given (map string_bytes words.now) → fault_of words_app (map string_bytes words.now) ≡ []
-        → MatchResult result (GivesSearch given) (λ error. error ≡ WordsError.Memory) }
-    ensures taken { (given : Given) → IsTaken given (map string_bytes words.now)
-        → MatchResult result (GivesSearch given) (λ error. error ≡ WordsError.Memory) }
-    ensures only { IfOk result (Asks (map string_bytes words.now)) }
 {
     let matches = matches_of(alloc, words)?;
     let Some((name, given)) = matches.subcommand() else {
@@ -70,13 +61,13 @@ fn id_of<'a>(given: &ArgMatches<'a>) -> &'a str
     id
 }
 
-// The trace that is asked for.
+// The look-up that is asked for.
 fn asked_trace(alloc: Global, id: &str) -> Result<Asked, WordsError>
-    ensures ok { IfOk result (GivesTrace id.now) }
+    ensures ok { IfOk result (λ asked. command_of asked ≡ Alone (trace_line id.now)) }
     ensures err { IfErr result (λ error. error ≡ WordsError.Memory) }
 {
-    match String::from_str(alloc, id) {
-        Ok(id) => Ok(Asked::Trace { id }),
+    match trace_line(alloc, id) {
+        Ok(line) => Ok(Asked::Alone { line }),
         Err(_) => Err(WordsError::Memory),
     }
 }
@@ -85,37 +76,19 @@ fn asked_trace(alloc: Global, id: &str) -> Result<Asked, WordsError>
 fn asked_search(alloc: Global, given: &ArgMatches<'_>) -> Result<Asked, WordsError>
     requires { is_some (first_value (found_of given.now) (codes "query")) ≡ true }
     ensures ok { IfOk result (λ asked. (query : List ℕ) → first_value (found_of given.now) (codes "query") ≡ Some query
-        → GivesSearch (given_in (found_of given.now) query) asked) }
+        → command_of asked ≡ Alone (search_line (given_in (found_of given.now) query))) }
     ensures err { IfErr result (λ error. error ≡ WordsError.Memory) }
 {
     let Some(query) = given.get_str("query") else {
         unreachable!();
     };
-    Ok(Asked::Search {
-        limit: copied(alloc, given.get_str("limit"))?,
-        spss: copied(alloc, given.get_str("spss"))?,
-        start: copied(alloc, given.get_str("start"))?,
-        end: copied(alloc, given.get_str("end"))?,
-        query: copy_of(alloc, query)?,
-    })
-}
-
-// A copy of a text.
-fn copy_of(alloc: Global, text: &str) -> Result<String, WordsError>
-    ensures ok { IfOk result (λ s. string_bytes s ≡ text.now) }
-    ensures err { IfErr result (λ error. error ≡ WordsError.Memory) }
-{
-    String::from_str(alloc, text).map_err(|_| WordsError::Memory)
-}
-
-// A copy of a text that may be there.
-fn copied(alloc: Global, text: Option<&str>) -> Result<Option<String>, WordsError>
-    ensures ok { IfOk result (λ o. option_map string_bytes o ≡ option_map (λ s. s.now) text.entry) }
-    ensures err { IfErr result (λ error. error ≡ WordsError.Memory) }
-{
-    match text {
-        None => Ok(None),
-        Some(text) => Ok(Some(copy_of(alloc, text)?)),
+    let limit = given.get_str("limit");
+    let spss = given.get_str("spss");
+    let start = given.get_str("start");
+    let end = given.get_str("end");
+    match search_line(alloc, limit, spss, start, end, query) {
+        Ok(line) => Ok(Asked::Alone { line }),
+        Err(_) => Err(WordsError::Memory),
     }
 }
 

@@ -1,6 +1,6 @@
 //! What the words of a command line give.
 
-use command_words::{Asked, WordsError, read_words, search_line};
+use command_words::{Asked, WordsError, read_words};
 use std::alloc::Global;
 
 // The words of the table, as the program has them.
@@ -12,27 +12,12 @@ fn as_strings(alloc: Global, words: &[&str]) -> Option<Vec<String>> {
     Some(strings)
 }
 
-// What reading gives, as one word: the id of a trace stands after `trace:`.
+// What reading gives, as one word: a request line stands after `line:`.
 fn told(alloc: Global, words: &[&str]) -> Option<String> {
     let strings = as_strings(alloc, words)?;
     match read_words(alloc, strings.as_slice()) {
         Ok(Asked::Session) => String::from_str(alloc, "session").ok(),
-        Ok(Asked::Trace { id }) => format!(in alloc; "trace:{id}").ok(),
-        Ok(
-            Asked::Search {
-                limit,
-                spss,
-                start,
-                end,
-                query,
-            },
-        ) => {
-            let limit = limit.as_ref().map_or("-", String::as_str);
-            let spss = spss.as_ref().map_or("-", String::as_str);
-            let start = start.as_ref().map_or("-", String::as_str);
-            let end = end.as_ref().map_or("-", String::as_str);
-            format!(in alloc; "search:{limit}:{spss}:{start}:{end}:{query}").ok()
-        }
+        Ok(Asked::Alone { line }) => format!(in alloc; "line:{line}").ok(),
         Err(WordsError::Refused) => String::from_str(alloc, "refused").ok(),
         Err(WordsError::Memory) => None,
     }
@@ -47,33 +32,39 @@ fn table(rt: HostRuntime) {
         (&["session", "x"], "refused"),
         (&["--", "session"], "refused"),
         (&["trace"], "refused"),
-        (&["trace", "00"], "trace:00"),
-        (&["trace", "session"], "trace:session"),
-        (&["trace", ""], "trace:"),
-        (&["trace", "-"], "trace:-"),
+        (&["trace", "00"], "line:trace 00"),
+        (&["trace", "session"], "line:trace session"),
+        (&["trace", ""], "line:trace "),
+        (&["trace", "-"], "line:trace -"),
         (&["trace", "a", "b"], "refused"),
         (&["trace", "-x"], "refused"),
-        (&["trace", "--", "-x"], "trace:-x"),
-        (&["trace", "a", "--"], "trace:a"),
+        (&["trace", "--", "-x"], "line:trace -x"),
+        (&["trace", "a", "--"], "line:trace a"),
         (&["trace", "--"], "refused"),
         (&["help"], "refused"),
         (&["--help"], "refused"),
         (&["session", "-h"], "refused"),
         (&["search"], "refused"),
-        (&["search", "{ }"], "search:-:-:-:-:{ }"),
-        (&["search", ""], "search:-:-:-:-:"),
-        (&["search", "--limit", "5", "{ }"], "search:5:-:-:-:{ }"),
+        (&["search", "{ }"], "line:search { }"),
+        (&["search", ""], "line:search "),
+        (
+            &["search", "--limit", "5", "{ }"],
+            "line:search limit=5 { }",
+        ),
         (
             &[
                 "search", "--limit", "5", "--spss", "6", "--start", "7", "--end", "8", "{ }",
             ],
-            "search:5:6:7:8:{ }",
+            "line:search limit=5 spss=6 start=7 end=8 { }",
         ),
         (
             &["search", "{ }", "--end=8", "--spss", "6"],
-            "search:-:6:-:8:{ }",
+            "line:search spss=6 end=8 { }",
         ),
-        (&["search", "--limit", "x", "--", "-y"], "search:x:-:-:-:-y"),
+        (
+            &["search", "--limit", "x", "--", "-y"],
+            "line:search limit=x -y",
+        ),
         (&["search", "--limit", "5"], "refused"),
         (&["search", "{ }", "--limit"], "refused"),
         (&["search", "--limit", "-5", "{ }"], "refused"),
@@ -84,7 +75,7 @@ fn table(rt: HostRuntime) {
         (&["search", "{", "}"], "refused"),
         (&["search", "--most", "5", "{ }"], "refused"),
         (&["search", "-l", "{ }"], "refused"),
-        (&["search", "--spss", "-", "-"], "search:-:-:-:-:-"),
+        (&["search", "--spss", "-", "-"], "line:search spss=- -"),
         (&["sessions"], "refused"),
         (&["serve", "--clients", "17"], "refused"),
         (&["drill", "--seed", "x", "--traces", "1"], "refused"),
@@ -94,17 +85,4 @@ fn table(rt: HostRuntime) {
         let got = told(rt.alloc(), words).expect(&rt, "memory");
         assert_eq!(rt; got.as_str(), wanted);
     }
-}
-
-#[test]
-fn lines(rt: HostRuntime) {
-    let alloc = rt.alloc();
-    let none = search_line(alloc, None, None, None, None, "{ }").expect(&rt, "memory");
-    assert_eq!(rt; none.as_str(), "search { }");
-    let all = search_line(alloc, Some("5"), Some("6"), Some("7"), Some("8"), "").expect(
-        &rt, "memory",
-    );
-    assert_eq!(rt; all.as_str(), "search limit=5 spss=6 start=7 end=8 ");
-    let two = search_line(alloc, None, Some("6"), None, Some("8"), "x").expect(&rt, "memory");
-    assert_eq!(rt; two.as_str(), "search spss=6 end=8 x");
 }

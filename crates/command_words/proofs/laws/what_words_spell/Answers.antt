@@ -1,0 +1,14 @@
+use Rattle.command_words.proofs.Spelled.{spelled_clean, spelled_one, spelled_some, spelled_taken}
+use Rattle.command_words.proofs.laws.what_words_spell.Goals as goal
+
+pub returns-clause-clean : goal.returns-clause-clean
+returns-clause-clean c = spelled_clean
+
+pub returns-clause-some : goal.returns-clause-some
+returns-clause-some c = spelled_some
+
+pub returns-clause-one : goal.returns-clause-one
+returns-clause-one c = spelled_one
+
+pub returns-clause-taken : goal.returns-clause-taken
+returns-clause-taken c = spelled_taken
