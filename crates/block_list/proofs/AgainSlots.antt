@@ -135,7 +135,7 @@ slot_again : (slot : ℕ) (other : Option ℕ) (bytes : List ℕ) (body : ListBo
 unfolding slot_at
 slot_again slot other bytes body holds beside =
     let start : Stand = record { whole = bytes; at = 0 } in
-    let gate = again8 start 1 (text_of body ++ holds.rest) holds.spelled in
+    let gate = again8 start 1 (text_of body ++ holds.rest) holds.encoded in
     let list = list_again slot other gate.stand body holds.rest holds.rules holds.parity beside gate.leaves in
     rw (not_vacant_of slot bytes body holds) (rw gate.is (rw list.is refl))
 

@@ -17,8 +17,8 @@ use Rattle.block_list.specs.declared.body.ListBody.{ListBody}
 -- a slot that holds a list isn't vacant
 pub holds_not_vacant : (slot : ℕ) (bytes : List ℕ) (body : ListBody) → SlotHolds slot bytes body → IsVacant bytes → ⊥
 holds_not_vacant slot bytes body holds (inl short) =
-    absurd (omega (arith, ap length holds.spelled, length-append (1 ∷ text_of body) holds.rest, length-text body))
-holds_not_vacant slot bytes body holds (inr closed) = closed (ap (λ (l : List ℕ). get_or l 0 0) holds.spelled)
+    absurd (omega (arith, ap length holds.encoded, length-append (1 ∷ text_of body) holds.rest, length-text body))
+holds_not_vacant slot bytes body holds (inr closed) = closed (ap (λ (l : List ℕ). get_or l 0 0) holds.encoded)
 
 -- a vacant slot may be any other vacant one
 pub still_vacant : (slot : ℕ) (bytes others new : List ℕ) (found : Option ListBody) → SlotsHold slot bytes others found → IsVacant bytes → IsVacant new → SlotsHold slot new others found

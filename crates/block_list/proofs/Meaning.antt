@@ -14,7 +14,7 @@ use Rattle.byte_fields.specs.Reading.{Stand, left, AreBytes, IsWithin, ahead, Pa
 use Rattle.byte_fields.proofs.FieldLaws.{read_as, left_fits, raw_takes, byte_takes, fixed32_takes, fixed64_takes}
 use Rattle.byte_fields.proofs.TextLaws.{Passes-then}
 use Rattle.block_list.specs.Body.{MeetsRules, magic, segment_bytes, block_bytes, head_bytes, text_of}
-use Rattle.block_list.specs.Reading.{placed, ruled, read8, read32, read64, tag, are_neighbours, tag_at, generation_at, count_at, head_at, file_at, goes_on, first_at, segment_at, segments_at, level_at, rows_at, block_at, blocks_at, loose_at, list_at}
+use Rattle.block_list.specs.Reading.{located, ruled, read8, read32, read64, tag, are_neighbours, tag_at, generation_at, count_at, head_at, file_at, goes_on, first_at, segment_at, segments_at, level_at, rows_at, block_at, blocks_at, loose_at, list_at}
 use Rattle.block_list.proofs.ReadingLemmas.{segment_files, block_files}
 use Rattle.block_list.specs.declared.reading.Head.{Head}
 use Rattle.block_list.specs.declared.body.SegmentRef.{SegmentRef}
@@ -37,7 +37,7 @@ ruled_ok : {X : Type 0} (holds : Bool) (at : ℕ) (x y : X) → ruled holds at x
 ruled_ok true at x y is = (refl, cc)
 ruled_ok false at x y is = absurd (cc)
 
-placed_ok : {X : Type 0} (r : Result X FieldError) (x : X) → placed r ≡ Ok x → r ≡ Ok x
+placed_ok : {X : Type 0} (r : Result X FieldError) (x : X) → located r ≡ Ok x → r ≡ Ok x
 placed_ok {X} (Ok y) x is = let same : y ≡ x = cc in ap (λ (z : X). Ok z) same
 placed_ok (Err e) x is = absurd (cc)
 

@@ -1,5 +1,5 @@
 -- After a load or a commit the next list may be laid.
-use Rattle.std.proofs.Common.{◌≡◌, inl, inr, ℕ, ◌-◌, ◌%◌, ◌<◌, ◌≤◌, Option, Some, List, get_or, refl, sym, ◌∙◌, ap, subst, arith}
+use Rattle.std.proofs.Common.{◌≡◌, ◌⊎◌, inl, inr, ⊎_elim, ℕ, ◌-◌, ◌%◌, ◌<◌, ◌≤◌, Option, Some, List, get_or, refl, sym, ◌∙◌, ap, subst, arith}
 use Rattle.std.proofs.lemmas.Bool.{cases_eq}
 use Rattle.disk_model.specs.Images.{Image, bytes_of, Besides, SameBytes}
 use Rattle.disk_model.specs.Crash.{OnlyBytes, Follows, Within}
@@ -53,29 +53,25 @@ pub ready_quiet : (held later : Image) (before after : Image → Type 0) (list :
 ready_quiet held later before after list same within ready =
     ready_same held later before after list (λ slot below. same slot) (λ slot below bytes only image left. only image (within image left)) ready
 
--- the list that counts meets the rules
+-- one of the slots holds the list that counts
+counted : (slot : ℕ) (bytes others : List ℕ) (list : Option ListBody) (body : ListBody) → SlotsHold slot bytes others list → list ≡ Some body → SlotHolds slot bytes body ⊎ SlotHolds (1 - slot) others body
+counted slot bytes others list body (none here there is) e = absurd (let bad = sym is ∙ e in cc)
+counted slot bytes others list body (alone found here there is) e = inl (subst (SlotHolds slot bytes) (same_some found body (sym is ∙ e)) here)
+counted slot bytes others list body (other_alone found here there is) e = inr (subst (SlotHolds (1 - slot) others) (same_some found body (sym is ∙ e)) there)
+counted slot bytes others list body (newer found older here there follows is) e = inl (subst (SlotHolds slot bytes) (same_some found body (sym is ∙ e)) here)
+counted slot bytes others list body (other_newer found older here there follows is) e = inr (subst (SlotHolds (1 - slot) others) (same_some found body (sym is ∙ e)) there)
+
+-- and that list meets the rules
 pub rules_of : (slot : ℕ) (bytes others : List ℕ) (list : Option ListBody) (body : ListBody) → SlotsHold slot bytes others list → list ≡ Some body → MeetsRules body
-rules_of slot bytes others list body (none here there is) e = absurd (let bad = sym is ∙ e in cc)
-rules_of slot bytes others list body (alone found here there is) e = subst MeetsRules (same_some found body (sym is ∙ e)) here.rules
-rules_of slot bytes others list body (other_alone found here there is) e = subst MeetsRules (same_some found body (sym is ∙ e)) there.rules
-rules_of slot bytes others list body (newer found older here there follows is) e = subst MeetsRules (same_some found body (sym is ∙ e)) here.rules
-rules_of slot bytes others list body (other_newer found older here there follows is) e = subst MeetsRules (same_some found body (sym is ∙ e)) there.rules
+rules_of slot bytes others list body holds is = ⊎_elim (λ here. here.rules) (λ there. there.rules) (counted slot bytes others list body holds is)
 
 holds_open : (slot : ℕ) (bytes : List ℕ) (body : ListBody) → SlotHolds slot bytes body → IsOpen bytes
-holds_open slot bytes body holds = ap (λ (l : List ℕ). get_or l 0 0) holds.spelled
-
-wrong_slot : (slot : ℕ) (others : List ℕ) (found body : ListBody) → body.generation % 2 ≡ slot → SlotHolds (1 - slot) others found → found ≡ body → ⊥
-wrong_slot slot others found body parity holds same =
-    let here : found.generation % 2 ≡ body.generation % 2 = ap (λ (b : ListBody). b.generation % 2) same in
-    omega (arith, holds.parity)
+holds_open slot bytes body holds = ap (λ (l : List ℕ). get_or l 0 0) holds.encoded
 
 -- the slot of the list that counts is open
 open_slot : (slot : ℕ) (bytes others : List ℕ) (list : Option ListBody) (body : ListBody) → body.generation % 2 ≡ slot → SlotsHold slot bytes others list → list ≡ Some body → IsOpen bytes
-open_slot slot bytes others list body parity (none here there is) e = absurd (let bad = sym is ∙ e in cc)
-open_slot slot bytes others list body parity (alone found here there is) e = holds_open slot bytes found here
-open_slot slot bytes others list body parity (other_alone found here there is) e = absurd (wrong_slot slot others found body parity there (same_some found body (sym is ∙ e)))
-open_slot slot bytes others list body parity (newer found older here there follows is) e = holds_open slot bytes found here
-open_slot slot bytes others list body parity (other_newer found older here there follows is) e = absurd (wrong_slot slot others found body parity there (same_some found body (sym is ∙ e)))
+open_slot slot bytes others list body parity holds is =
+    ⊎_elim (holds_open slot bytes body) (λ there. absurd (omega (arith, parity, there.parity))) (counted slot bytes others list body holds is)
 
 -- a list was committed where the next one could be laid
 module _ (slot : ℕ) (held later : Image) (may_leave may_later : Image → Type 0) (old : Option ListBody) (new : ListBody) where

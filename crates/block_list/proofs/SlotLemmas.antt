@@ -11,19 +11,18 @@ use Rattle.block_list.specs.Slots.SlotsHold.{none, alone, other_alone, newer, ot
 use Rattle.block_list.specs.declared.body.ListBody.{ListBody}
 
 -- the same two slots, seen from the other one
-pub turned : (image : Image) (list : Option ListBody) → ImageHoldsList image list → SlotsHold 1 (bytes_of image 1) (bytes_of image 0) list
-turned image list (none here there is) = none there here is
-turned image list (alone body here there is) = other_alone body there here is
-turned image list (other_alone body here there is) = alone body there here is
-turned image list (newer body older here there next is) = other_newer body older there here next is
-turned image list (other_newer body older here there next is) = newer body older there here next is
+swapped : (slot : ℕ) (bytes others : List ℕ) (list : Option ListBody) → slot ≡ 1 - (1 - slot) → SlotsHold slot bytes others list → SlotsHold (1 - slot) others bytes list
+swapped slot bytes others list is holds = by holds
+  where
+    back : (body : ListBody) → SlotHolds slot bytes body → SlotHolds (1 - (1 - slot)) bytes body
+    back body here = subst (λ (s : ℕ). SlotHolds s bytes body) is here
 
-pub turned_back : (image : Image) (list : Option ListBody) → SlotsHold 1 (bytes_of image 1) (bytes_of image 0) list → ImageHoldsList image list
-turned_back image list (none here there is) = none there here is
-turned_back image list (alone body here there is) = other_alone body there here is
-turned_back image list (other_alone body here there is) = alone body there here is
-turned_back image list (newer body older here there next is) = other_newer body older there here next is
-turned_back image list (other_newer body older here there next is) = newer body older there here next is
+    by : SlotsHold slot bytes others list → SlotsHold (1 - slot) others bytes list
+    by (none here there l) = none there here l
+    by (alone body here there l) = other_alone body there (back body here) l
+    by (other_alone body here there l) = alone body there here l
+    by (newer body older here there next l) = other_newer body older there (back body here) next l
+    by (other_newer body older here there next l) = newer body older there (back older here) next l
 
 pub zero_or_one : (slot : ℕ) → slot < 2 → (slot ≡ 0) ⊎ (slot ≡ 1)
 zero_or_one slot below = elim (cases_eq slot 0) [ inl is ↦ inl is | inr more ↦ inr (omega arith) ]
@@ -31,13 +30,13 @@ zero_or_one slot below = elim (cases_eq slot 0) [ inl is ↦ inl is | inr more �
 pub seen_from : (slot : ℕ) (image : Image) (list : Option ListBody) → slot < 2 → ImageHoldsList image list → SlotsHold slot (bytes_of image slot) (bytes_of image (1 - slot)) list
 seen_from slot image list below stands = elim (zero_or_one slot below) [
   | inl is ↦ subst (λ (s : ℕ). SlotsHold s (bytes_of image s) (bytes_of image (1 - s)) list) (sym is) stands
-  | inr is ↦ subst (λ (s : ℕ). SlotsHold s (bytes_of image s) (bytes_of image (1 - s)) list) (sym is) (turned image list stands)
+  | inr is ↦ subst (λ (s : ℕ). SlotsHold s (bytes_of image s) (bytes_of image (1 - s)) list) (sym is) (swapped 0 (bytes_of image 0) (bytes_of image 1) list refl stands)
 ]
 
 pub seen_back : (slot : ℕ) (image : Image) (list : Option ListBody) → slot < 2 → SlotsHold slot (bytes_of image slot) (bytes_of image (1 - slot)) list → ImageHoldsList image list
 seen_back slot image list below stands = elim (zero_or_one slot below) [
   | inl is ↦ subst (λ (s : ℕ). SlotsHold s (bytes_of image s) (bytes_of image (1 - s)) list) is stands
-  | inr is ↦ turned_back image list (subst (λ (s : ℕ). SlotsHold s (bytes_of image s) (bytes_of image (1 - s)) list) is stands)
+  | inr is ↦ swapped 1 (bytes_of image 1) (bytes_of image 0) list refl (subst (λ (s : ℕ). SlotsHold s (bytes_of image s) (bytes_of image (1 - s)) list) is stands)
 ]
 
 -- the slot of a list that comes after another isn't that one's
@@ -63,10 +62,10 @@ vacated slot generation bytes others new list parity next (other_newer body olde
 torn_gate : (slot : ℕ) (bytes new : List ℕ) (body : ListBody) → SlotHolds slot bytes body → Torn 0 1 bytes new → SlotHolds slot new body ⊎ IsVacant new
 torn_gate slot bytes new body holds torn =
     let tail = text_of body ++ holds.rest in
-    let whole : bytes ≡ [] ++ 1 ∷ tail = holds.spelled in
+    let whole : bytes ≡ [] ++ 1 ∷ tail = holds.encoded in
     let byte = torn_byte [] 1 tail 0 new refl (subst (λ (b : List ℕ). Torn 0 1 b new) whole torn) in
     elim (cases_eq byte.0 1) [
-      | inl is ↦ inl (record { rest = holds.rest; spelled = byte.1 ∙ ap (λ (n : ℕ). n ∷ tail) is; parity = holds.parity; rules = holds.rules })
+      | inl is ↦ inl (record { rest = holds.rest; encoded = byte.1 ∙ ap (λ (n : ℕ). n ∷ tail) is; parity = holds.parity; rules = holds.rules })
       | inr closed ↦ inr (inr (λ is. closed (sym (ap (λ (l : List ℕ). get_or l 0 0) byte.1) ∙ is)))
     ]
 
@@ -106,14 +105,14 @@ pub opened : (slot : ℕ) (others text rest new : List ℕ) (list : Option ListB
 opened slot others text rest new list body parity rules is next stands one = by stands
   where
     holds : SlotHolds slot new body
-    holds = record { rest = rest; spelled = one ∙ ap (λ (t : List ℕ). 1 ∷ (t ++ rest)) is; parity = parity; rules = rules }
+    holds = record { rest = rest; encoded = one ∙ ap (λ (t : List ℕ). 1 ∷ (t ++ rest)) is; parity = parity; rules = rules }
 
     by : SlotsHold slot ((0 ∷ text) ++ rest) others list → SlotsHold slot new others (Some body)
     by (none here there l) = alone body holds there refl
-    by (alone old here there l) = absurd (omega (arith, ap (λ (l : List ℕ). get_or l 0 0) here.spelled))
+    by (alone old here there l) = absurd (omega (arith, ap (λ (l : List ℕ). get_or l 0 0) here.encoded))
     by (other_alone old here there l) = newer body old holds there (subst (λ (o : Option ListBody). IsNext body.generation o) l next) refl
-    by (newer old older here there follows l) = absurd (omega (arith, ap (λ (l : List ℕ). get_or l 0 0) here.spelled))
-    by (other_newer old older here there follows l) = absurd (omega (arith, ap (λ (l : List ℕ). get_or l 0 0) here.spelled))
+    by (newer old older here there follows l) = absurd (omega (arith, ap (λ (l : List ℕ). get_or l 0 0) here.encoded))
+    by (other_newer old older here there follows l) = absurd (omega (arith, ap (λ (l : List ℕ). get_or l 0 0) here.encoded))
 
 -- opening the gate of a laid list, at every moment
 pub opening : (slot : ℕ) (others text rest new : List ℕ) (list : Option ListBody) (body : ListBody) → body.generation % 2 ≡ slot → MeetsRules body → text ≡ text_of body → IsNext body.generation list

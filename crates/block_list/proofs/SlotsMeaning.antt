@@ -54,10 +54,10 @@ slot_means slot other bytes found fits is = elim (cases_Bool (is_vacant bytes)) 
       let list = list_means slot other a.value.1 b.value.1 b.value.0 gate.bytes.within b.first in
       let one : get_or bytes 0 0 ≡ 1 = eqb-true (get_or bytes 0 0) 1 (not_vacant (ltb (length bytes) 30) (eqb (get_or bytes 0 0) 1) shown) in
       let open_gate : a.value.0 ≡ 1 = sym (ap (λ (l : List ℕ). get_or l 0 0) gate.bytes.passed.spelled) ∙ one in
-      let spelled : bytes ≡ (1 ∷ text_of b.value.0) ++ left b.value.1 =
+      let encoded : bytes ≡ (1 ∷ text_of b.value.0) ++ left b.value.1 =
       gate.bytes.passed.spelled ∙ ap (λ (n : ℕ). (n ∷ []) ++ left a.value.1) open_gate ∙ ap (λ (l : List ℕ). 1 ∷ l) list.spelled in
       subst (λ (f : Option ListBody). SlotMeans slot other bytes f) (same_found (Some b.value.0) found b.last)
-      (record { rest = left b.value.1; spelled = spelled; parity = list.parity; rules = list.rules }, list.neighbours)
+      (record { rest = left b.value.1; encoded = encoded; parity = list.parity; rules = list.rules }, list.neighbours)
 ]
 
 chosen : (first second : List ℕ) (one two : Option ListBody) → SlotMeans 0 None first one → SlotMeans 1 (generation_of one) second two → SlotsHold 0 first second (newer_of one two)

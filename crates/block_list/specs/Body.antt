@@ -1,4 +1,4 @@
--- A list body: how it is spelled, and the rules that it meets.
+-- A list body: how it is encoded, and the rules that it meets.
 use Rattle.std.specs.Prelude.{ℕ, ◌+◌, ◌-◌, ◌%◌, ◌^◌, ◌<◌, ◌≤◌, List, [], ◌∷◌, ◌++◌, length, map, slice_index, nat_eq, All}
 use Rattle.std.specs.List.{flat_map, IsDistinct}
 use Rattle.std.specs.List.Sorted.{IsNonDecreasing}

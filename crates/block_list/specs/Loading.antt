@@ -8,12 +8,12 @@ use Rattle.block_list.specs.declared.body.ListBody.{ListBody}
 use Rattle.block_list.specs.declared.error.ListError.{ListError}
 use Rattle.block_list.specs.declared.error.ListError.TheVariants.{Fault, NotList, Memory}
 
--- the error of a slot that breaks at a place, or of want of memory
+-- the error of a slot that breaks at an offset, or of lack of memory
 abbrev pub error_of : ℕ → Option ℕ → ListError
 error_of slot None = Memory
 error_of slot (Some at) = NotList slot at
 
--- what a call gave is what reading gives, or memory was wanted
+-- what a call gave is what reading gives, or memory ran out
 abbrev pub GivesList : {X : Type 0} → Result X ListError → Result X (ℕ × ℕ) → Type 0
 GivesList (Ok x) read = read ≡ Ok x
 GivesList (Err Memory) read = Unit {0}

@@ -10,31 +10,31 @@ use Rattle.block_list.specs.declared.body.BlockRef.{BlockRef}
 use Rattle.block_list.specs.declared.body.ListBody.{ListBody}
 use Rattle.block_list.specs.declared.reading.Head.{Head}
 
--- the place where a field breaks
-abbrev pub place_of : FieldError → ℕ
-place_of (Short at) = at
-place_of (NotShortest at) = at
-place_of (NotText at) = at
-place_of Memory = 0
+-- the offset where a field breaks
+abbrev pub offset_of : FieldError → ℕ
+offset_of (Short at) = at
+offset_of (NotShortest at) = at
+offset_of (NotText at) = at
+offset_of Memory = 0
 
--- what was read, or the place where it breaks
-abbrev pub placed : {X : Type 0} → Result X FieldError → Result X ℕ
-placed (Ok x) = Ok x
-placed (Err e) = Err (place_of e)
+-- what was read, or the offset where it breaks
+abbrev pub located : {X : Type 0} → Result X FieldError → Result X ℕ
+located (Ok x) = Ok x
+located (Err e) = Err (offset_of e)
 
--- a value that meets its rule, or the place of its field
+-- a value that meets its rule, or the offset of its field
 abbrev pub ruled : {X : Type 0} → Bool → ℕ → X → Result X ℕ
 ruled true at x = Ok x
 ruled false at x = Err at
 
 unfoldable pub read8 : Stand → Result (ℕ × Stand) ℕ
-read8 s = placed (byte_at s)
+read8 s = located (byte_at s)
 
 unfoldable pub read32 : Stand → Result (ℕ × Stand) ℕ
-read32 s = placed (fixed32_at s)
+read32 s = located (fixed32_at s)
 
 unfoldable pub read64 : Stand → Result (ℕ × Stand) ℕ
-read64 s = placed (fixed64_at s)
+read64 s = located (fixed64_at s)
 
 -- `TSL1` as a number
 abbrev pub tag : ℕ
@@ -173,7 +173,7 @@ slot_at slot other bytes =
       list ← list_at slot other gate.1
       Ok (Some list.0))
 
--- with the slot beside the place of its break
+-- with the slot beside the offset of its break
 abbrev pub in_slot : {X : Type 0} → ℕ → Result X ℕ → Result X (ℕ × ℕ)
 in_slot slot (Ok x) = Ok x
 in_slot slot (Err at) = Err (slot, at)
@@ -188,14 +188,14 @@ newer_of None second = second
 newer_of (Some first) None = Some first
 newer_of (Some first) (Some second) = if second.generation == successor first.generation then Some second else Some first
 
--- what the two slots say, or the slot and the place where the first of them breaks
+-- what the two slots say, or the slot and the offset where the first of them breaks
 unfoldable pub slots_at : List ℕ → List ℕ → Result (Option ListBody) (ℕ × ℕ)
 slots_at first second = do
   one ← in_slot 0 (slot_at 0 None first)
   two ← in_slot 1 (slot_at 1 (generation_of one) second)
   Ok (newer_of one two)
 
--- what a call gave is what reading gives, or memory was wanted
+-- what a call gave is what reading gives, or memory ran out
 abbrev pub GivesSlot : {X : Type 0} → Result X (Option ℕ) → Result X ℕ → Type 0
 GivesSlot (Ok x) read = read ≡ Ok x
 GivesSlot (Err None) read = Unit {0}

@@ -15,7 +15,7 @@ IsVacant bytes = (length bytes < 30) ⊎ (slice_index bytes 0 ≢ 1)
 -- the slot of that number holds this list; bytes behind it don't count
 pub record SlotHolds (slot : ℕ) (bytes : List ℕ) (body : ListBody) : Type 0 where
   pub rest : List ℕ
-  pub spelled : bytes ≡ (1 ∷ text_of body) ++ rest
+  pub encoded : bytes ≡ (1 ∷ text_of body) ++ rest
   pub parity : body.generation % 2 ≡ slot
   pub rules : MeetsRules body
 

@@ -21,7 +21,7 @@ use std::alloc::Global;
 /// that has no list, though it is long enough for one, is cut down to its gate.
 ///
 /// A closing gate may then be written to a slot whatever stands in it: it is either open, and holds the list before the
-/// one that counts, or too short to hold one. Where the slots are refused, or memory is wanting, the disk stays as it was.
+/// one that counts, or too short to hold one. Where the slots are refused, or memory runs out, the disk stays as it was.
 pub fn load<D: Device>(alloc: Global, disk: &mut D) -> Result<Option<ListBody>, ListError>
     // What the slots say, and where they break, is by the bytes that the disk held.
     ensures found { IsTrue (D.tells disk.old) → IfOk result (λ list. slots_at (bytes_of (D.held disk.old) 0) (bytes_of (D.held disk.old) 1) ≡ Ok list) }

@@ -2,7 +2,7 @@
 
 ghost use Rattle.std.specs.Prelude.{◌≡◌, ◌||◌, ◌%◌, ℕ, List, [], ◌++◌, Some, None, Option, map, nat_eq, not, true, false, Ok, Err, IfOk, IfSome, IfErr, OnOk, ◌∷◌, ◌==◌};
 ghost use Rattle.std.specs.List.{list_any};
-ghost use Rattle.block_list.specs.Reading.{GivesAt, read8, read32, read64, tag_at, generation_at, count_at, head_at, file_at, first_at, segment_at, segments_at, level_at, rows_at, block_at, blocks_at, loose_at, list_at, slot_at, is_vacant, GivesSlot, are_neighbours, goes_on, tag, place_of, SameFiles, WithFile};
+ghost use Rattle.block_list.specs.Reading.{GivesAt, read8, read32, read64, tag_at, generation_at, count_at, head_at, file_at, first_at, segment_at, segments_at, level_at, rows_at, block_at, blocks_at, loose_at, list_at, slot_at, is_vacant, GivesSlot, are_neighbours, goes_on, tag, offset_of, SameFiles, WithFile};
 
 use crate::{BlockList, BlockRef, FileList, ListBody, SegmentList, SegmentRef};
 use byte_fields::{FieldError, Reader};
@@ -60,7 +60,7 @@ fn number64(reader: &mut Reader<'_>) -> Result<u64, Break>
 
 /// Where a field breaks.
 fn break_of(error: FieldError) -> Break
-    ensures { IfSome result (λ at. at ≡ place_of error) }
+    ensures { IfSome result (λ at. at ≡ offset_of error) }
 {
     match error {
         FieldError::Short { at } => Some(at),

@@ -10,7 +10,7 @@ zeros_more at more size below =
     let count : at + more - size ≡ (at - size) + more = omega arith in
     ap (λ (n : ℕ). replicate n 0) count ∙ sym {a = replicate (at - size) 0 ++ replicate more 0} (replicate-append-replicate (at - size) more 0)
 
--- the zeros past the place don't matter in front of it
+-- the zeros past the offset don't matter in front of it
 take_filled : (old : List ℕ) (at more : ℕ) → take at (old ++ replicate (at + more - length old) 0) ≡ take at (old ++ replicate (at - length old) 0)
 take_filled old at more = elim (cases_lt (length old) at) [
   | inl past ↦
@@ -68,21 +68,21 @@ pub overwritten_byte : (front : List ℕ) (old : ℕ) (rest : List ℕ) (at new 
 overwritten_byte front old rest at new is = overwritten_behind front (old ∷ rest) at (new ∷ []) is ∙ append_assoc front (new ∷ []) rest
 
 -- contents with the same front
-same_front : (front rest new : List ℕ) → length front ≤ length new → ((place : ℕ) → place < length front → get_or new place 0 ≡ get_or (front ++ rest) place 0) → new ≡ front ++ drop (length front) new
+same_front : (front rest new : List ℕ) → length front ≤ length new → ((offset : ℕ) → offset < length front → get_or new offset 0 ≡ get_or (front ++ rest) offset 0) → new ≡ front ++ drop (length front) new
 same_front front rest new long same =
     sym (take-append-drop (length front) new)
     ∙ ap (λ (l : List ℕ). l ++ drop (length front) new)
     (ext_get_or 0 (take (length front) new) front (omega (arith, length-take (length front) new))
-    (λ place inside.
-    let below : place < length front = omega (arith, inside, length-take (length front) new) in
-    get_or-take (length front) new place 0 below ∙ same place below ∙ get_or_append_left front rest 0 place below))
+    (λ offset inside.
+    let below : offset < length front = omega (arith, inside, length-take (length front) new) in
+    get_or-take (length front) new offset 0 below ∙ same offset below ∙ get_or_append_left front rest 0 offset below))
 
 -- a torn write leaves what stands in front of it
 pub torn_behind : (front rest : List ℕ) (at count : ℕ) (new : List ℕ) → length front ≤ at → Torn at count (front ++ rest) new → (left : List ℕ) × (new ≡ front ++ left) × (length rest ≤ length left)
 torn_behind front rest at count new before torn =
     let whole : length front + length rest ≤ length new = omega (arith, torn.no_shorter, length-append front rest) in (
       drop (length front) new,
-      same_front front rest new (omega arith) (λ place inside. torn.same place (omega (arith, inside, length-append front rest)) (inl (omega arith))),
+      same_front front rest new (omega arith) (λ offset inside. torn.same offset (omega (arith, inside, length-append front rest)) (inl (omega arith))),
       omega (arith, length-drop (length front) new),
     )
 
@@ -91,18 +91,18 @@ pub torn_byte : (front : List ℕ) (old : ℕ) (rest : List ℕ) (at : ℕ) (new
 torn_byte front old rest at new is torn =
     let long : length (front ++ old ∷ rest) ≡ at + 1 + length rest = omega (arith, length-append front (old ∷ rest)) in
     let size : length new ≡ at + 1 + length rest = omega (arith, torn.no_shorter, torn.no_longer, long) in
-    let start : new ≡ front ++ drop (length front) new = same_front front (old ∷ rest) new (omega arith) (λ place inside. torn.same place (omega (arith, inside, long)) (inl (omega arith))) in
+    let start : new ≡ front ++ drop (length front) new = same_front front (old ∷ rest) new (omega arith) (λ offset inside. torn.same offset (omega (arith, inside, long)) (inl (omega arith))) in
     let next : drop (length front) new ≡ get_or new (length front) 0 ∷ drop (length front + 1) new = drop_more new (length front) 0 (omega arith) in
     let tail : drop (length front + 1) new ≡ rest =
     ext_get_or 0 (drop (length front + 1) new) rest (omega (arith, length-drop (length front + 1) new, size))
-    (λ place inside.
-    let below : place < length rest = omega (arith, inside, length-drop (length front + 1) new, size) in
-    let there : at + 1 + place ≡ length front + suc place = omega arith in
-    get_or-drop (length front + 1) new place 0
-    ∙ ap (λ (n : ℕ). get_or new n 0) (let same : length front + 1 + place ≡ at + 1 + place = omega arith in same)
-    ∙ torn.same (at + 1 + place) (omega (arith, below, long)) (inr (omega arith))
+    (λ offset inside.
+    let below : offset < length rest = omega (arith, inside, length-drop (length front + 1) new, size) in
+    let there : at + 1 + offset ≡ length front + suc offset = omega arith in
+    get_or-drop (length front + 1) new offset 0
+    ∙ ap (λ (n : ℕ). get_or new n 0) (let same : length front + 1 + offset ≡ at + 1 + offset = omega arith in same)
+    ∙ torn.same (at + 1 + offset) (omega (arith, below, long)) (inr (omega arith))
     ∙ ap (λ (n : ℕ). get_or (front ++ old ∷ rest) n 0) there
-    ∙ get_or-append-add front (old ∷ rest) (suc place) 0) in
+    ∙ get_or-append-add front (old ∷ rest) (suc offset) 0) in
     (get_or new (length front) 0, start ∙ ap (λ (l : List ℕ). front ++ l) (next ∙ ap (λ (l : List ℕ). get_or new (length front) 0 ∷ l) tail))
 
 -- a half done cut leaves what stands below its length
@@ -110,5 +110,5 @@ pub half_cut_front : (front rest : List ℕ) (len : ℕ) (new : List ℕ) → le
 half_cut_front front rest len new below cut =
     let long : length front ≤ length new = omega (arith, cut.no_shorter, length-append front rest) in (
       drop (length front) new,
-      same_front front rest new long (λ place inside. cut.same place (omega arith) (omega (arith, inside, length-append front rest)) (omega (arith, inside, long))),
+      same_front front rest new long (λ offset inside. cut.same offset (omega arith) (omega (arith, inside, length-append front rest)) (omega (arith, inside, long))),
     )

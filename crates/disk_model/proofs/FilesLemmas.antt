@@ -30,13 +30,8 @@ state_of-set (entry ∷ files) file (suc place) state other stands =
     ap (λ (s : FileState). cond (eqb entry.0 other) entry.1 s) (state_of-set files file place state other later) ∙ swapped (cases_eq file other) there
   where
     swapped : (file ≡ other) ⊎ (file ≡ other → ⊥) → entry.0 ≢ file → cond (eqb entry.0 other) entry.1 (cond (eqb file other) state (state_of files other)) ≡ cond (eqb file other) state (cond (eqb entry.0 other) entry.1 (state_of files other))
-    swapped (inl same) there =
-        ap (λ (b : Bool). cond b entry.1 (cond (eqb file other) state (state_of files other))) (ne_eqb entry.0 other (λ e. there (e ∙ sym same)))
-        ∙ ap (λ (b : Bool). cond b state (state_of files other)) (eq-eqb file other same)
-        ∙ ap (λ (b : Bool). cond b state (cond (eqb entry.0 other) entry.1 (state_of files other))) (sym (eq-eqb file other same))
-    swapped (inr differs) there =
-        ap (λ (b : Bool). cond (eqb entry.0 other) entry.1 (cond b state (state_of files other))) (ne_eqb file other differs)
-        ∙ ap (λ (b : Bool). cond b state (cond (eqb entry.0 other) entry.1 (state_of files other))) (sym (ne_eqb file other differs))
+    swapped (inl same) there = rw (eq-eqb file other same, ne_eqb entry.0 other (λ e. there (e ∙ sym same))) refl
+    swapped (inr differs) there = rw (ne_eqb file other differs) refl
 
 -- the state that stands at the place
 pub state_at : (files : Files) (file place : ℕ) (d : ℕ × FileState) → StandsAt files file place → state_of files file ≡ (get_or files place d).1

@@ -7,10 +7,10 @@ use Rattle.disk_model.proofs.Moments.{started, goes_on, widened, joined}
 
 -- a write or a cut that changes nothing
 pub torn_same : (at count : ℕ) (bytes : List ℕ) → Torn at count bytes bytes
-torn_same at count bytes = record { no_shorter = omega arith; no_longer = omega arith; same = λ place inside outside. refl }
+torn_same at count bytes = record { no_shorter = omega arith; no_longer = omega arith; same = λ offset inside outside. refl }
 
 pub cut_same : (len : ℕ) (bytes : List ℕ) → HalfCut len bytes bytes
-cut_same len bytes = record { no_shorter = omega arith; no_longer = omega arith; same = λ place below was is. refl }
+cut_same len bytes = record { no_shorter = omega arith; no_longer = omega arith; same = λ offset below was is. refl }
 
 -- what differs in this file alone from what differs in it alone
 pub but_for_from : (file : ℕ) (P Q : List ℕ → Type 0) (old mid : Image → Type 0) → Within (ButFor file Q old) mid → (image : Image) → ButFor file P mid image → ButFor file P old image

@@ -17,32 +17,32 @@ use Rattle.disk_model.specs.declared.change.Pending.TheVariants.{Written, Shorte
 
 -- a content that the file may be left with, as like the given one as can be: its bytes where they are free
 abbrev alike : FileState → List ℕ → ℕ → List ℕ
-alike file given len = map (λ place. cond (is_free file place) (get_or given place 0) (get_or file.synced place 0)) (range_with_len 0 len)
+alike file given len = map (λ offset. cond (is_free file offset) (get_or given offset 0) (get_or file.synced offset 0)) (range_with_len 0 len)
 
 length-alike : (file : FileState) (given : List ℕ) (len : ℕ) → length (alike file given len) ≡ len
-length-alike file given len = length-map-range_with_len (λ place. cond (is_free file place) (get_or given place 0) (get_or file.synced place 0)) 0 len
+length-alike file given len = length-map-range_with_len (λ offset. cond (is_free file offset) (get_or given offset 0) (get_or file.synced offset 0)) 0 len
 
-get_or-alike : (file : FileState) (given : List ℕ) (len place : ℕ) → place < len → get_or (alike file given len) place 0 ≡ cond (is_free file place) (get_or given place 0) (get_or file.synced place 0)
-get_or-alike file given len place inside = get_or-map-range_with_len (λ place. cond (is_free file place) (get_or given place 0) (get_or file.synced place 0)) 0 len place place 0 inside (omega arith)
+get_or-alike : (file : FileState) (given : List ℕ) (len offset : ℕ) → offset < len → get_or (alike file given len) offset 0 ≡ cond (is_free file offset) (get_or given offset 0) (get_or file.synced offset 0)
+get_or-alike file given len offset inside = get_or-map-range_with_len (λ offset. cond (is_free file offset) (get_or given offset 0) (get_or file.synced offset 0)) 0 len offset offset 0 inside (omega arith)
 
 alike_may_be_left : (file : FileState) (given : List ℕ) (len : ℕ) → file.least ≤ len → len ≤ file.greatest → MayBeLeft file (alike file given len)
 alike_may_be_left file given len low high = record {
   no_shorter = omega (arith, low, length-alike file given len);
   no_longer = omega (arith, high, length-alike file given len);
-  same = λ place inside kept.
-      get_or-alike file given len place (omega (arith, inside, length-alike file given len))
-      ∙ ap (λ (b : Bool). cond b (get_or given place 0) (get_or file.synced place 0)) kept;
+  same = λ offset inside kept.
+      get_or-alike file given len offset (omega (arith, inside, length-alike file given len))
+      ∙ ap (λ (b : Bool). cond b (get_or given offset 0) (get_or file.synced offset 0)) kept;
 }
 
--- where the given content may be left after one change more that leaves this place alone, the two agree there
-alike_same : (file : FileState) (change : Pending) (given : List ℕ) (len place : ℕ) → place < len → frees place change ≡ false
-    → ((leb (length file.synced) place || list_any (frees place) (file.pending ++ change ∷ [])) ≡ false → get_or given place 0 ≡ get_or file.synced place 0)
-    → get_or given place 0 ≡ get_or (alike file given len) place 0
-alike_same file change given len place inside kept same = elim (cases_Bool (is_free file place)) [
-  | inl free ↦ sym (get_or-alike file given len place inside ∙ ap (λ (b : Bool). cond b (get_or given place 0) (get_or file.synced place 0)) free)
+-- where the given content may be left after one change more that leaves this offset alone, the two agree there
+alike_same : (file : FileState) (change : Pending) (given : List ℕ) (len offset : ℕ) → offset < len → frees offset change ≡ false
+    → ((leb (length file.synced) offset || list_any (frees offset) (file.pending ++ change ∷ [])) ≡ false → get_or given offset 0 ≡ get_or file.synced offset 0)
+    → get_or given offset 0 ≡ get_or (alike file given len) offset 0
+alike_same file change given len offset inside kept same = elim (cases_Bool (is_free file offset)) [
+  | inl free ↦ sym (get_or-alike file given len offset inside ∙ ap (λ (b : Bool). cond b (get_or given offset 0) (get_or file.synced offset 0)) free)
   | inr certain ↦
-      same (ap (λ (b : Bool). leb (length file.synced) place || b) (list_any-append (frees place) file.pending (change ∷ [])) ∙ joined (leb (length file.synced) place) (list_any (frees place) file.pending) (frees place change) certain kept)
-      ∙ sym (get_or-alike file given len place inside ∙ ap (λ (b : Bool). cond b (get_or given place 0) (get_or file.synced place 0)) certain)
+      same (ap (λ (b : Bool). leb (length file.synced) offset || b) (list_any-append (frees offset) file.pending (change ∷ [])) ∙ joined (leb (length file.synced) offset) (list_any (frees offset) file.pending) (frees offset change) certain kept)
+      ∙ sym (get_or-alike file given len offset inside ∙ ap (λ (b : Bool). cond b (get_or given offset 0) (get_or file.synced offset 0)) certain)
 ]
   where
     joined : (a b c : Bool) → (a || b) ≡ false → c ≡ false → (a || (b || (c || false))) ≡ false
@@ -51,9 +51,9 @@ alike_same file change given len place inside kept same = elim (cases_Bool (is_f
     joined false false true e f = absurd (cc)
     joined false false false e f = refl
 
-outside_is_kept : (at len place : ℕ) → (place < at) ⊎ (at + len ≤ place) → frees place (Written at len) ≡ false
-outside_is_kept at len place (inl before) = ap (λ (b : Bool). b && ltb place (at + len)) (lt-leb at place before)
-outside_is_kept at len place (inr behind) = elim (leb at place) as (λ b. (b && ltb place (at + len)) ≡ false) [ true ↦ le-ltb place (at + len) behind | false ↦ refl ]
+outside_is_kept : (at len offset : ℕ) → (offset < at) ⊎ (at + len ≤ offset) → frees offset (Written at len) ≡ false
+outside_is_kept at len offset (inl before) = ap (λ (b : Bool). b && ltb offset (at + len)) (lt-leb at offset before)
+outside_is_kept at len offset (inr behind) = elim (leb at offset) as (λ b. (b && ltb offset (at + len)) ≡ false) [ true ↦ le-ltb offset (at + len) behind | false ↦ refl ]
 
 -- a write that is done or lost
 pub torn_from : (at len greatest : ℕ) (held given : List ℕ) (file : FileState) → IsSound file
@@ -68,8 +68,8 @@ torn_from at len greatest held given file sound most left =
       record {
         no_shorter = omega (arith, long);
         no_longer = omega (arith, long, left.no_longer, most);
-        same = λ place inside outside.
-            alike_same file (Written at len) given size place (omega (arith, inside, long)) (outside_is_kept at len place outside) (left.same place (omega (arith, inside, long)));
+        same = λ offset inside outside.
+            alike_same file (Written at len) given size offset (omega (arith, inside, long)) (outside_is_kept at len offset outside) (left.same offset (omega (arith, inside, long)));
       },
     )
 
@@ -86,8 +86,8 @@ cut_from len held given file sound left =
       record {
         no_shorter = omega (arith, long, left.no_shorter, order);
         no_longer = omega (arith, long, left.no_longer, order);
-        same = λ place below was is.
-            alike_same file (Shortened len) given size place (omega (arith, was, long)) (lt-leb len place below) (left.same place is);
+        same = λ offset below was is.
+            alike_same file (Shortened len) given size offset (omega (arith, was, long)) (lt-leb len offset below) (left.same offset is);
       },
     )
 
@@ -96,7 +96,7 @@ pub only_settled : (held given : List ℕ) → MayBeLeft (settled held) given �
 only_settled held given left =
     let same_length : length given ≡ length held = omega (arith, left.no_shorter, left.no_longer) in
     ext_get_or 0 given held same_length
-    (λ place inside. left.same place inside (ap (λ (b : Bool). b || false) (lt-leb (length held) place (omega (arith, inside, same_length)))))
+    (λ offset inside. left.same offset inside (ap (λ (b : Bool). b || false) (lt-leb (length held) offset (omega (arith, inside, same_length)))))
 
 -- one file changes, and the image comes from one that might have been left before
 pub reached : (files : Files) (file : ℕ) (change : FileState → FileState) (step : List ℕ → List ℕ → Type 0)

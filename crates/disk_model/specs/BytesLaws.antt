@@ -14,21 +14,21 @@ length-overwritten old at (byte ∷ bytes) =
     let tail = drop (at + length (byte ∷ bytes)) old in
     omega (arith, length-append (head ++ (byte ∷ bytes)) tail, length-append head (byte ∷ bytes), length-front old at, length-drop (at + length (byte ∷ bytes)) old)
 
-pub get_or-overwritten : (old : List ℕ) (at : ℕ) (bytes : List ℕ) (place : ℕ) → place < length old → (place < at) ⊎ (at + length bytes ≤ place) → get_or (overwritten old at bytes) place 0 ≡ get_or old place 0
-get_or-overwritten old at [] place inside outside = refl
-get_or-overwritten old at (byte ∷ bytes) place inside (inl before) =
+pub get_or-overwritten : (old : List ℕ) (at : ℕ) (bytes : List ℕ) (offset : ℕ) → offset < length old → (offset < at) ⊎ (at + length bytes ≤ offset) → get_or (overwritten old at bytes) offset 0 ≡ get_or old offset 0
+get_or-overwritten old at [] offset inside outside = refl
+get_or-overwritten old at (byte ∷ bytes) offset inside (inl before) =
     let zeros = replicate (at - length old) 0 in
     let head = take at (old ++ zeros) in
     let tail = drop (at + length (byte ∷ bytes)) old in
-    get_or_append_left (head ++ (byte ∷ bytes)) tail 0 place (omega (arith, length-append head (byte ∷ bytes), length-front old at))
-    ∙ get_or_append_left head (byte ∷ bytes) 0 place (omega (arith, length-front old at))
-    ∙ get_or-take at (old ++ zeros) place 0 before
-    ∙ get_or_append_left old zeros 0 place inside
-get_or-overwritten old at (byte ∷ bytes) place inside (inr behind) =
+    get_or_append_left (head ++ (byte ∷ bytes)) tail 0 offset (omega (arith, length-append head (byte ∷ bytes), length-front old at))
+    ∙ get_or_append_left head (byte ∷ bytes) 0 offset (omega (arith, length-front old at))
+    ∙ get_or-take at (old ++ zeros) offset 0 before
+    ∙ get_or_append_left old zeros 0 offset inside
+get_or-overwritten old at (byte ∷ bytes) offset inside (inr behind) =
     let head = take at (old ++ replicate (at - length old) 0) in
     let end = at + length (byte ∷ bytes) in
     let whole : length (head ++ (byte ∷ bytes)) ≡ end = omega (arith, length-append head (byte ∷ bytes), length-front old at) in
-    let there : end + (place - end) ≡ place = omega arith in
-    get_or-append_right (head ++ (byte ∷ bytes)) (drop end old) end place 0 whole behind
-    ∙ get_or-drop end old (place - end) 0
+    let there : end + (offset - end) ≡ offset = omega arith in
+    get_or-append_right (head ++ (byte ∷ bytes)) (drop end old) end offset 0 whole behind
+    ∙ get_or-drop end old (offset - end) 0
     ∙ ap (λ (n : ℕ). get_or old n 0) there

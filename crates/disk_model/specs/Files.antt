@@ -15,27 +15,27 @@ pub record FileState : Type 0 where
   pub least : ℕ
   pub greatest : ℕ
 
--- the change leaves open which byte stands at this place
+-- the change leaves open which byte stands at this offset
 abbrev pub frees : ℕ → Pending → Bool
-frees place (Written at len) = nat_le at place && nat_lt place (at + len)
-frees place (Shortened len) = nat_le len place
+frees offset (Written at len) = nat_le at offset && nat_lt offset (at + len)
+frees offset (Shortened len) = nat_le len offset
 
--- the byte at this place isn't that of the last sync for certain
+-- the byte at this offset isn't that of the last sync for certain
 abbrev pub is_free : FileState → ℕ → Bool
-is_free file place = nat_le (length file.synced) place || list_any (frees place) file.pending
+is_free file offset = nat_le (length file.synced) offset || list_any (frees offset) file.pending
 
 -- a crash may leave these bytes of the file
 pub record MayBeLeft (file : FileState) (bytes : List ℕ) : Type 0 where
   pub no_shorter : file.least ≤ length bytes
   pub no_longer : length bytes ≤ file.greatest
-  pub same : (place : ℕ) → place < length bytes → is_free file place ≡ false → slice_index bytes place ≡ slice_index file.synced place
+  pub same : (offset : ℕ) → offset < length bytes → is_free file offset ≡ false → slice_index bytes offset ≡ slice_index file.synced offset
 
 -- What a file holds is one of the contents that a crash may leave, and so is what was last synced. What it holds reaches
 -- as far as the bytes that are certain.
 pub record IsSound (file : FileState) : Type 0 where
   pub stays : MayBeLeft file file.held
   pub returns : MayBeLeft file file.synced
-  pub inside : (place : ℕ) → is_free file place ≡ false → place < length file.held
+  pub inside : (offset : ℕ) → is_free file offset ≡ false → offset < length file.held
 
 -- a file just synced
 abbrev pub settled : List ℕ → FileState

@@ -17,34 +17,18 @@ use Rattle.disk_model.specs.declared.change.Change.TheVariants.{Write, LostWrite
 pub state_of-updated : (files : Files) (file : ℕ) (change : FileState → FileState) (other : ℕ) → state_of (updated file change files) other ≡ cond (eqb file other) (change (state_of files file)) (state_of files other)
 state_of-updated [] file change other = refl
 state_of-updated (entry ∷ files) file change other = elim (cases_eq entry.0 file) [
-  | inl here ↦
-      ap (λ (b : Bool). state_of (cond b ((file, change entry.1) ∷ files) (entry ∷ updated file change files)) other) (eq-eqb entry.0 file here)
-      ∙ at_here (cases_eq file other) here
-  | inr there ↦
-      ap (λ (b : Bool). state_of (cond b ((file, change entry.1) ∷ files) (entry ∷ updated file change files)) other) (ne_eqb entry.0 file there)
-      ∙ ap (λ (s : FileState). cond (eqb entry.0 other) entry.1 s) (state_of-updated files file change other)
-      ∙ at_there (cases_eq file other) there
+  | inl here ↦ rw (here, eq-eqb file file refl) (first (eqb file other))
+  | inr there ↦ rw (ne_eqb entry.0 file there) (ap (λ (s : FileState). cond (eqb entry.0 other) entry.1 s) (state_of-updated files file change other) ∙ later (cases_eq file other) there)
 ]
   where
-    at_here : (file ≡ other) ⊎ (file ≡ other → ⊥) → entry.0 ≡ file → cond (eqb file other) (change entry.1) (state_of files other) ≡ cond (eqb file other) (change (cond (eqb entry.0 file) entry.1 (state_of files file))) (cond (eqb entry.0 other) entry.1 (state_of files other))
-    at_here (inl same) here =
-        ap (λ (b : Bool). cond b (change entry.1) (state_of files other)) (eq-eqb file other same)
-        ∙ ap (λ (b : Bool). change (cond b entry.1 (state_of files file))) (sym (eq-eqb entry.0 file here))
-        ∙ ap (λ (b : Bool). cond b (change (cond (eqb entry.0 file) entry.1 (state_of files file))) (cond (eqb entry.0 other) entry.1 (state_of files other))) (sym (eq-eqb file other same))
-    at_here (inr differs) here =
-        ap (λ (b : Bool). cond b (change entry.1) (state_of files other)) (ne_eqb file other differs)
-        ∙ ap (λ (b : Bool). cond b entry.1 (state_of files other)) (sym (ne_eqb entry.0 other (λ e. differs (sym here ∙ e))))
-        ∙ ap (λ (b : Bool). cond b (change (cond (eqb entry.0 file) entry.1 (state_of files file))) (cond (eqb entry.0 other) entry.1 (state_of files other))) (sym (ne_eqb file other differs))
+    first : (b : Bool) → cond b (change entry.1) (state_of files other) ≡ cond b (change entry.1) (cond b entry.1 (state_of files other))
+    first true = refl
+    first false = refl
 
-    at_there : (file ≡ other) ⊎ (file ≡ other → ⊥) → (entry.0 ≡ file → ⊥) → cond (eqb entry.0 other) entry.1 (cond (eqb file other) (change (state_of files file)) (state_of files other)) ≡ cond (eqb file other) (change (cond (eqb entry.0 file) entry.1 (state_of files file))) (cond (eqb entry.0 other) entry.1 (state_of files other))
-    at_there (inl same) there =
-        ap (λ (b : Bool). cond b entry.1 (cond (eqb file other) (change (state_of files file)) (state_of files other))) (ne_eqb entry.0 other (λ e. there (e ∙ sym same)))
-        ∙ ap (λ (b : Bool). cond b (change (state_of files file)) (state_of files other)) (eq-eqb file other same)
-        ∙ ap (λ (b : Bool). change (cond b entry.1 (state_of files file))) (sym (ne_eqb entry.0 file there))
-        ∙ ap (λ (b : Bool). cond b (change (cond (eqb entry.0 file) entry.1 (state_of files file))) (cond (eqb entry.0 other) entry.1 (state_of files other))) (sym (eq-eqb file other same))
-    at_there (inr differs) there =
-        ap (λ (b : Bool). cond (eqb entry.0 other) entry.1 (cond b (change (state_of files file)) (state_of files other))) (ne_eqb file other differs)
-        ∙ ap (λ (b : Bool). cond b (change (cond (eqb entry.0 file) entry.1 (state_of files file))) (cond (eqb entry.0 other) entry.1 (state_of files other))) (sym (ne_eqb file other differs))
+    later : (file ≡ other) ⊎ (file ≡ other → ⊥) → (entry.0 ≡ file → ⊥)
+        → cond (eqb entry.0 other) entry.1 (cond (eqb file other) (change (state_of files file)) (state_of files other)) ≡ cond (eqb file other) (change (state_of files file)) (cond (eqb entry.0 other) entry.1 (state_of files other))
+    later (inl same) there = rw (eq-eqb file other same, ne_eqb entry.0 other (λ e. there (e ∙ sym same))) refl
+    later (inr differs) there = rw (ne_eqb file other differs) refl
 
 -- what the files hold
 pub bytes_of-held : (files : Files) (file : ℕ) → bytes_of (map (λ entry. (entry.0, entry.1.held)) files) file ≡ (state_of files file).held
@@ -60,9 +44,9 @@ pub replayed-append : (files : Files) (changes : List Change) (change : Change) 
 replayed-append files [] change = refl
 replayed-append files (first ∷ changes) change = replayed-append (after files first) changes change
 
--- a place that a further change leaves alone was left alone before
-pub free_less : (synced : List ℕ) (pending : List Pending) (change : Pending) (place : ℕ) → (leb (length synced) place || list_any (frees place) (pending ++ change ∷ [])) ≡ false → ((leb (length synced) place || list_any (frees place) pending) ≡ false) × (frees place change ≡ false)
-free_less synced pending change place kept = split (leb (length synced) place) (list_any (frees place) pending) (frees place change) (sym (ap (λ (b : Bool). leb (length synced) place || b) (list_any-append (frees place) pending (change ∷ []))) ∙ kept)
+-- an offset that a further change leaves alone was left alone before
+pub free_less : (synced : List ℕ) (pending : List Pending) (change : Pending) (offset : ℕ) → (leb (length synced) offset || list_any (frees offset) (pending ++ change ∷ [])) ≡ false → ((leb (length synced) offset || list_any (frees offset) pending) ≡ false) × (frees offset change ≡ false)
+free_less synced pending change offset kept = split (leb (length synced) offset) (list_any (frees offset) pending) (frees offset change) (sym (ap (λ (b : Bool). leb (length synced) offset || b) (list_any-append (frees offset) pending (change ∷ []))) ∙ kept)
   where
     split : (a b c : Bool) → (a || (b || (c || false))) ≡ false → ((a || b) ≡ false) × (c ≡ false)
     split true b c e = absurd (cc)
@@ -70,16 +54,16 @@ free_less synced pending change place kept = split (leb (length synced) place) (
     split false false true e = absurd (cc)
     split false false false e = (refl, refl)
 
--- a place that a write leaves alone is outside of its range
-pub outside_range : (at len place : ℕ) → frees place (Written at len) ≡ false → (place < at) ⊎ (at + len ≤ place)
-outside_range at len place kept = elim (and_cases (leb at place) (ltb place (at + len)) kept) [
-  | inl before ↦ inl (leb-false at place before)
-  | inr behind ↦ inr (ltb-false place (at + len) behind)
+-- an offset that a write leaves alone is outside of its range
+pub outside_range : (at len offset : ℕ) → frees offset (Written at len) ≡ false → (offset < at) ⊎ (at + len ≤ offset)
+outside_range at len offset kept = elim (and_cases (leb at offset) (ltb offset (at + len)) kept) [
+  | inl before ↦ inl (leb-false at offset before)
+  | inr behind ↦ inr (ltb-false offset (at + len) behind)
 ]
 
--- a place that a cut leaves alone is below its length
-pub below_cut : (len place : ℕ) → frees place (Shortened len) ≡ false → place < len
-below_cut len place kept = leb-false len place kept
+-- an offset that a cut leaves alone is below its length
+pub below_cut : (len offset : ℕ) → frees offset (Shortened len) ≡ false → offset < len
+below_cut len offset kept = leb-false len offset kept
 
 or_left : (a b : Bool) → (a || b) ≡ false → a ≡ false
 or_left true b e = absurd (cc)
@@ -87,9 +71,9 @@ or_left false b e = refl
 
 pub sound_settled : (bytes : List ℕ) → IsSound (settled bytes)
 sound_settled bytes = record {
-  stays = record { no_shorter = omega arith; no_longer = omega arith; same = λ place inside kept. refl };
-  returns = record { no_shorter = omega arith; no_longer = omega arith; same = λ place inside kept. refl };
-  inside = λ place kept. leb-false (length bytes) place (or_left (leb (length bytes) place) false kept);
+  stays = record { no_shorter = omega arith; no_longer = omega arith; same = λ offset inside kept. refl };
+  returns = record { no_shorter = omega arith; no_longer = omega arith; same = λ offset inside kept. refl };
+  inside = λ offset kept. leb-false (length bytes) offset (or_left (leb (length bytes) offset) false kept);
 }
 
 pub sound_wrote : (at : ℕ) (bytes : List ℕ) (file : FileState) → IsSound file → IsSound (wrote at bytes file)
@@ -99,15 +83,15 @@ sound_wrote at bytes file sound =
       stays = record {
         no_shorter = omega (arith, size, sound.stays.no_shorter);
         no_longer = omega arith;
-        same = λ place below kept.
-            let less = free_less file.synced file.pending (Written at (length bytes)) place kept in
-            let inside = sound.inside place less.0 in
-            get_or-overwritten file.held at bytes place inside (outside_range at (length bytes) place less.1) ∙ sound.stays.same place inside less.0;
+        same = λ offset below kept.
+            let less = free_less file.synced file.pending (Written at (length bytes)) offset kept in
+            let inside = sound.inside offset less.0 in
+            get_or-overwritten file.held at bytes offset inside (outside_range at (length bytes) offset less.1) ∙ sound.stays.same offset inside less.0;
       };
-      returns = record { no_shorter = omega (arith, sound.returns.no_shorter); no_longer = omega (arith, sound.returns.no_longer); same = λ place below kept. refl };
-      inside = λ place kept.
-          let less = free_less file.synced file.pending (Written at (length bytes)) place kept in
-          omega (arith, size, sound.inside place less.0);
+      returns = record { no_shorter = omega (arith, sound.returns.no_shorter); no_longer = omega (arith, sound.returns.no_longer); same = λ offset below kept. refl };
+      inside = λ offset kept.
+          let less = free_less file.synced file.pending (Written at (length bytes)) offset kept in
+          omega (arith, size, sound.inside offset less.0);
     }
 
 pub sound_lost_write : (at len : ℕ) (file : FileState) → IsSound file → IsSound (lost_write at len file)
@@ -115,10 +99,10 @@ sound_lost_write at len file sound = record {
   stays = record {
     no_shorter = sound.stays.no_shorter;
     no_longer = sound.stays.no_longer;
-    same = λ place below kept. sound.stays.same place below (free_less file.synced file.pending (Written at len) place kept).0;
+    same = λ offset below kept. sound.stays.same offset below (free_less file.synced file.pending (Written at len) offset kept).0;
   };
-  returns = record { no_shorter = omega (arith, sound.returns.no_shorter); no_longer = omega (arith, sound.returns.no_longer); same = λ place inside kept. refl };
-  inside = λ place kept. sound.inside place (free_less file.synced file.pending (Written at len) place kept).0;
+  returns = record { no_shorter = omega (arith, sound.returns.no_shorter); no_longer = omega (arith, sound.returns.no_longer); same = λ offset inside kept. refl };
+  inside = λ offset kept. sound.inside offset (free_less file.synced file.pending (Written at len) offset kept).0;
 }
 
 pub sound_cut_to : (len : ℕ) (file : FileState) → IsSound file → IsSound (cut_to len file)
@@ -128,14 +112,14 @@ sound_cut_to len file sound =
       stays = record {
         no_shorter = omega (arith, size, sound.stays.no_shorter);
         no_longer = omega (arith, size, sound.stays.no_longer);
-        same = λ place below kept.
-            let less = free_less file.synced file.pending (Shortened len) place kept in
-            get_or-take len file.held place 0 (below_cut len place less.1) ∙ sound.stays.same place (sound.inside place less.0) less.0;
+        same = λ offset below kept.
+            let less = free_less file.synced file.pending (Shortened len) offset kept in
+            get_or-take len file.held offset 0 (below_cut len offset less.1) ∙ sound.stays.same offset (sound.inside offset less.0) less.0;
       };
-      returns = record { no_shorter = omega (arith, sound.returns.no_shorter); no_longer = omega (arith, sound.returns.no_longer); same = λ place below kept. refl };
-      inside = λ place kept.
-          let less = free_less file.synced file.pending (Shortened len) place kept in
-          omega (arith, size, below_cut len place less.1, sound.inside place less.0);
+      returns = record { no_shorter = omega (arith, sound.returns.no_shorter); no_longer = omega (arith, sound.returns.no_longer); same = λ offset below kept. refl };
+      inside = λ offset kept.
+          let less = free_less file.synced file.pending (Shortened len) offset kept in
+          omega (arith, size, below_cut len offset less.1, sound.inside offset less.0);
     }
 
 pub sound_lost_cut : (len : ℕ) (file : FileState) → IsSound file → IsSound (lost_cut len file)
@@ -143,10 +127,10 @@ sound_lost_cut len file sound = record {
   stays = record {
     no_shorter = omega (arith, sound.stays.no_shorter);
     no_longer = omega (arith, sound.stays.no_longer);
-    same = λ place below kept. sound.stays.same place below (free_less file.synced file.pending (Shortened len) place kept).0;
+    same = λ offset below kept. sound.stays.same offset below (free_less file.synced file.pending (Shortened len) offset kept).0;
   };
-  returns = record { no_shorter = omega (arith, sound.returns.no_shorter); no_longer = omega (arith, sound.returns.no_longer); same = λ place inside kept. refl };
-  inside = λ place kept. sound.inside place (free_less file.synced file.pending (Shortened len) place kept).0;
+  returns = record { no_shorter = omega (arith, sound.returns.no_shorter); no_longer = omega (arith, sound.returns.no_longer); same = λ offset inside kept. refl };
+  inside = λ offset kept. sound.inside offset (free_less file.synced file.pending (Shortened len) offset kept).0;
 }
 
 pub sound_changed : (change : Change) (file : FileState) → IsSound file → IsSound (changed change file)

@@ -16,7 +16,7 @@ past_of disk = disk.history
 abbrev pub next_fate : MemDisk → Fate
 next_fate disk = fate_of disk.script
 
--- how many calls have failed, and how many of those because memory was wanting
+-- how many calls have failed, and how many of those because memory ran out
 abbrev pub faults_of : MemDisk → ℕ
 faults_of disk = disk.faults
 
@@ -49,7 +49,7 @@ passed disk = record disk { script = counted disk.script; calls = raised disk.ca
 abbrev pub failed : MemDisk → MemDisk
 failed disk = record (passed disk) { faults = raised disk.faults }
 
--- the disk after a call that failed because memory was wanting
+-- the disk after a call that failed because memory ran out
 abbrev pub starving : MemDisk → MemDisk
 starving disk = record (failed disk) { starved = raised disk.starved }
 

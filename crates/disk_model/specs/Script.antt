@@ -6,7 +6,7 @@ use Rattle.disk_model.specs.declared.script.Script.{Script}
 use Rattle.disk_model.specs.declared.script.Fate.{Fate}
 use Rattle.disk_model.specs.declared.script.Fate.TheVariants.{Passes, Listed, Stopped}
 
--- a count one higher, which stands still at the last value of its type
+-- a count one higher, which saturates at the last value of its type
 abbrev pub raised : ℕ → ℕ
 raised count = min (count + 1) (2 ^ 64 - 1)
 

@@ -16,13 +16,13 @@ pub enum Pending {
 impl Pending {
     ghost use Rattle.disk_model.specs.Files.{frees};
 
-    /// Whether it leaves open which byte stands at a place.
-    pub fn frees(&self, place: u64) -> bool
-        ensures { result ≡ frees place self.now }
+    /// Whether it leaves open which byte stands at an offset.
+    pub fn frees(&self, offset: u64) -> bool
+        ensures { result ≡ frees offset self.now }
     {
         match self {
-            Pending::Written { at, len } => *at <= place && place - at < *len,
-            Pending::Shortened { len } => *len <= place,
+            Pending::Written { at, len } => *at <= offset && offset - at < *len,
+            Pending::Shortened { len } => *len <= offset,
         }
     }
 }

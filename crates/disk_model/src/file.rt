@@ -206,7 +206,7 @@ fn fill_to(held: &mut Vec<u8>, len: usize) -> Result<(), AllocError>
     Ok(())
 }
 
-/// Puts the bytes in the place of as many, from the byte `at` on.
+/// Puts the bytes over as many, from the byte `at` on.
 fn replace(held: &mut [u8], at: usize, bytes: &[u8])
     requires { at + length bytes.now ≤ length held.old }
     ensures { held.new ≡ take at held.old ++ bytes.now ++ drop (at + length bytes.now) held.old }

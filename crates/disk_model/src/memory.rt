@@ -172,7 +172,7 @@ impl MemDisk {
         Err(Failed)
     }
 
-    /// Counts a fault for want of memory.
+    /// Counts a fault for lack of memory.
     fn starve<T>(&mut self) -> Result<T, Failed>
         ensures fails { IsErr result }
         ensures later { self.old.faults ≤ self.new.faults }
@@ -272,7 +272,7 @@ impl Device for MemDisk {
         ensures one_call { RoseBy 1 (calls_of self.old) (calls_of self.new) }
         ensures no_read { reads_of self.new ≡ reads_of self.old }
 
-        // It fails exactly where it is listed or stopped, ends at 2^63 or more, or memory is wanting.
+        // It fails exactly where it is listed or stopped, ends at 2^63 or more, or memory runs out.
         ensures outcome { at + length bytes.now < 2 ^ 63 → Outcome self.old (noted (Write file at bytes.now)) (noted (LostWrite file at (length bytes.now))) result self.new }
         ensures too_far { 2 ^ 63 ≤ at + length bytes.now → IsErr result × (self.new ≡ failed self.old) }
     {
@@ -293,7 +293,7 @@ impl Device for MemDisk {
         ensures one_call { RoseBy 1 (calls_of self.old) (calls_of self.new) }
         ensures no_read { reads_of self.new ≡ reads_of self.old }
 
-        // It fails exactly where it is listed or stopped, or memory is wanting.
+        // It fails exactly where it is listed or stopped, or memory runs out.
         ensures outcome { Outcome self.old (noted (Cut file len)) (noted (LostCut file len)) result self.new }
     {
         self.cut_file(file, len)
@@ -309,7 +309,7 @@ impl Device for MemDisk {
         ensures one_call { RoseBy 1 (calls_of self.old) (calls_of self.new) }
         ensures no_read { reads_of self.new ≡ reads_of self.old }
 
-        // It fails exactly where it is listed or stopped, or memory is wanting; then it changes nothing.
+        // It fails exactly where it is listed or stopped, or memory runs out; then it changes nothing.
         ensures outcome { Outcome self.old (noted (Sync file)) (λ disk. disk) result self.new }
     {
         self.sync_file(file)
