@@ -4,11 +4,11 @@
 use io_edges::{FixedClock, OpenGate};
 use span_types::Moments;
 use std::process::ExitCode;
-use trace_shell::{StdinSource, StdoutSink, all_arguments, run_program};
+use trace_shell::{Ended, StdinSource, StdoutSink, all_arguments, run_program};
 use traceql_types::RegexMaker;
 
 fn main(rt: HostRuntime) -> ExitCode {
-    let ended = run_program(
+    let Ended { status, disk: () } = run_program(
         &rt,
         rt.alloc(),
         all_arguments(&rt),
@@ -19,5 +19,5 @@ fn main(rt: HostRuntime) -> ExitCode {
         &mut RegexMaker::new(rt.alloc()),
         &OpenGate,
     );
-    ExitCode::from(ended.status)
+    ExitCode::from(status)
 }
