@@ -1,8 +1,7 @@
 -- The rows of a chunk, one after another.
 use Rattle.std.proofs.Common.{add-one, ◌≡◌, ℕ, ◌+◌, ◌-◌, ◌<◌, ◌≤◌, zero, suc, List, [], ◌∷◌, ◌++◌, refl, sym, ◌∙◌, ap, arith, length, take, drop, slice_index_or}
 use Rattle.span_types.specs.declared.spans.Span.{Span}
-use Rattle.span_types.specs.declared.spans.Row.{Row}
-use Rattle.store_model.specs.History.{rows_at, batch_rows}
+use Rattle.store_model.specs.History.{rows_at}
 use Rattle.live_traces.specs.Rows.{ChunkParts, chunk_rows, no_span, row_of}
 
 pub length_rows_at : (n p : ℕ) (spans : List Span) → length (rows_at n p spans) ≡ length spans

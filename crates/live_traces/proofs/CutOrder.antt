@@ -1,7 +1,6 @@
 -- The order of rows in a cut is total.
 use Rattle.std.specs.Cmp.{IsTotalOrder}
 use Rattle.std.proofs.lemmas.Cmp.{then_total, on_total, nat_list_cmp_total}
-use Rattle.span_types.specs.declared.spans.Row.{Row}
 use Rattle.span_types.proofs.FirstLaws.{place_cmp_total}
 use Rattle.store_model.specs.Cut.{cut_order}
 

@@ -2,3 +2,4 @@ pub mod ChunkRows
 pub mod CutOrder
 pub mod TraceRows
 pub mod LiveRows
+pub mod Least

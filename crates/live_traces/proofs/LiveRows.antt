@@ -1,6 +1,5 @@
 -- Live rows as entries and arrivals.
-use Rattle.std.proofs.Common.{add-one, ◌≡◌, ℕ, ◌+◌, zero, suc, List, [], ◌∷◌, ◌++◌, Bool, true, false, Option, None, Some, refl, sym, ◌∙◌, ap, arith, subst, length, map, filter, not, slice_index_or, ◌<◌, append_assoc, take, if◌then◌else◌, cond, unwrap_or, min}
-use Rattle.std.specs.List.{flat_map}
+use Rattle.std.proofs.Common.{add-one, ◌≡◌, ℕ, ◌+◌, zero, suc, List, [], ◌∷◌, ◌++◌, Bool, true, false, Option, None, Some, refl, sym, ◌∙◌, ap, arith, length, map, filter, not, slice_index_or, ◌<◌, append_assoc, take, if◌then◌else◌, cond, unwrap_or}
 use Rattle.std.specs.Ordering.{is_eq}
 use Rattle.std.proofs.lemmas.List.{append-nil}
 use Rattle.std.proofs.lemmas.Grind.{flat_map-append}
@@ -8,10 +7,10 @@ use Rattle.span_types.specs.declared.ids.TraceId.{TraceId}
 use Rattle.span_types.specs.declared.spans.Row.{Row}
 use Rattle.span_types.specs.Orders.{trace_cmp}
 use Rattle.store_model.specs.State.{LiveRow, live_rows}
-use Rattle.store_model.specs.After.{arrived, least}
-use Rattle.store_model.specs.Cut.{last_moment, is_idle}
-use Rattle.live_traces.specs.Rows.{ChunkParts, chunk_rows}
-use Rattle.live_traces.specs.Parts.{live_of, arrivals_of, goes, goes_by, least_number}
+use Rattle.store_model.specs.After.{arrived}
+use Rattle.store_model.specs.Cut.{last_moment}
+use Rattle.live_traces.specs.Rows.{chunk_rows}
+use Rattle.live_traces.specs.Parts.{live_of, arrivals_of, goes, goes_by}
 use Rattle.live_traces.specs.declared.live.Entry.{Entry}
 use Rattle.live_traces.specs.declared.live.Arrival.{Arrival}
 use Rattle.std.specs.BTreeMap.{BTreeMap, get}

@@ -1,5 +1,5 @@
 -- Filtered lists.
-use Rattle.std.proofs.Common.{◌≡◌, ℕ, ◌+◌, zero, suc, List, [], ◌∷◌, ◌++◌, Bool, true, false, not, refl, ap, arith, length, filter, if◌then◌else◌}
+use Rattle.std.proofs.Common.{◌≡◌, ◌+◌, List, [], ◌∷◌, ◌++◌, Bool, true, false, not, refl, ap, arith, length, filter, if◌then◌else◌}
 use Rattle.span_types.specs.declared.ids.TraceId.{TraceId}
 use Rattle.span_types.specs.declared.spans.Row.{Row}
 use Rattle.live_traces.specs.Traces.{is_of_trace, rows_of_trace}

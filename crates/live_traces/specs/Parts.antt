@@ -1,9 +1,9 @@
 -- The parts of what waits in memory.
-use Rattle.std.specs.Prelude.{◌≡◌, ℕ, ◌+◌, ◌<◌, ◌≤◌, ◌^◌, List, [], ◌∷◌, map, nat_le, true, Bool, Option, None, Some, length}
+use Rattle.std.specs.Prelude.{ℕ, ◌+◌, ◌≤◌, List, [], ◌∷◌, min, map, nat_le, true, Bool, Option, None, Some}
 use Rattle.std.specs.List.{flat_map}
 use Rattle.span_types.specs.declared.spans.Row.{Row}
 use Rattle.store_model.specs.State.{LiveRow}
-use Rattle.store_model.specs.After.{arrived, least}
+use Rattle.store_model.specs.After.{arrived}
 use Rattle.store_model.specs.Cut.{is_idle}
 use Rattle.live_traces.specs.Rows.{chunk_rows}
 use Rattle.live_traces.specs.declared.live.Entry.{Entry}
@@ -41,7 +41,14 @@ abbrev pub goes_by : Option ℕ → ℕ → Bool
 goes_by None last = true
 goes_by (Some moment) last = nat_le (last + 10000000000) moment
 
--- the least number among rows
+-- the least number among rows, and one that was found before
+abbrev pub lower : Option ℕ → ℕ → Option ℕ
+lower None number = Some number
+lower (Some found) number = Some (min found number)
+
+abbrev pub least_with : Option ℕ → List Row → Option ℕ
+least_with found [] = found
+least_with found (row ∷ rows) = least_with (lower found row.place.number) rows
+
 abbrev pub least_number : List Row → Option ℕ
-least_number [] = None
-least_number (row ∷ rows) = Some (least row.place.number rows)
+least_number rows = least_with None rows

@@ -1,5 +1,5 @@
 -- Rows of pushes, as chunks hold them.
-use Rattle.std.specs.Prelude.{ℕ, List, [], None, length, slice_index_or}
+use Rattle.std.specs.Prelude.{ℕ, List, [], None, slice_index_or}
 use Rattle.span_types.specs.declared.spans.Span.{Span}
 use Rattle.span_types.specs.declared.spans.Row.{Row}
 use Rattle.span_types.specs.declared.spans.SpanKind.TheVariants.{Unspecified}

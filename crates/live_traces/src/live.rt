@@ -16,7 +16,7 @@ ghost use Rattle.span_types.specs.declared.ids.TraceId.{TraceId};
 ghost use Rattle.store_model.specs.Cut.{last_moment};
 ghost use Rattle.live_traces.specs.Rows.{chunk_rows};
 ghost use Rattle.live_traces.specs.Traces.{rows_of_trace};
-ghost use Rattle.live_traces.specs.Parts.{HasRoom, arrivals_of, goes, goes_by, live_of};
+ghost use Rattle.live_traces.specs.Parts.{HasRoom, arrivals_of, goes, goes_by, least_number, least_with, live_of, lower};
 ghost use Rattle.live_traces.specs.Going.{goes_with};
 
 use crate::chunk::{Chunk, SharedRow};
@@ -26,6 +26,7 @@ use std::alloc::Global;
 use std::cmp::Ordering;
 use std::collections::BTreeMap;
 use std::marker::Model;
+use std::mem;
 
 // A row that remained live after a cut, with the moment of its push.
 #[derive(Drop)]
@@ -138,9 +139,9 @@ impl Live {
         ensures gone { self.new.flushing ≡ [] }
         ensures same { (self.new.live ≡ self.old.live) × (self.new.head ≡ self.old.head) }
     {
-        let rest = self.kept.len() - self.flushing;
-        self.kept.rotate_left(self.flushing);
-        self.flushing = 0;
+        let flushed = mem::replace(&mut self.flushing, 0);
+        let rest = self.kept.len() - flushed;
+        self.kept.rotate_left(flushed);
         self.kept.truncate(rest);
     }
 
@@ -251,6 +252,16 @@ impl Live {
     {
         let rows = self.runs()?.rows_of(trace)?;
         Ok(rows)
+    }
+
+    /// The least number of a push among the rows of the head and the live ones; none where there are none.
+    pub fn least_number(&self) -> Option<u64>
+        ensures { result ≡ least_number (self.now.head ++ live_rows self.now.live) }
+    {
+        let (_, head) = self.kept.as_slice().split_at(self.flushing);
+        let least = least_of_rows(None, head);
+        let least = least_of_entries(least, self.entries.as_slice());
+        least_of_arrivals(least, self.arrivals.as_slice())
     }
 }
 
@@ -455,4 +466,57 @@ fn append_all(kept: &mut Vec<SharedRow>, rows: Vec<SharedRow>)
         Ok(()) => {}
         Err(_) => prove!(false),
     }
+}
+
+// The lesser of a number and one that was found before.
+fn lower_of(found: Option<u64>, number: u64) -> Option<u64>
+    ensures { result ≡ lower found number }
+{
+    match found {
+        None => Some(number),
+        Some(found) => Some(found.min(number)),
+    }
+}
+
+// The least number among rows, and one that was found before.
+fn least_of_rows(found: Option<u64>, rows: &[SharedRow]) -> Option<u64>
+    ensures { result ≡ least_with found rows.now }
+{
+    let mut least = found;
+    for row in rows {
+        least = lower_of(least, row.place().number);
+    }
+    least
+}
+
+// The same among entries.
+fn least_of_entries(found: Option<u64>, entries: &[Entry]) -> Option<u64>
+    ensures { result ≡ least_with found (live_rows (live_of entries.now)) }
+{
+    let mut least = found;
+    for entry in entries {
+        least = lower_of(least, entry.row.place().number);
+    }
+    least
+}
+
+// The same among pushes, whose rows have one number each.
+fn least_of_arrivals(found: Option<u64>, arrivals: &[Arrival]) -> Option<u64>
+    ensures { result ≡ least_with found (live_rows (arrivals_of arrivals.now)) }
+{
+    let mut least = found;
+    for arrival in arrivals {
+        least = least_of_chunk(least, &arrival.chunk);
+    }
+    least
+}
+
+// The same among the rows of one push.
+fn least_of_chunk(found: Option<u64>, chunk: &Chunk) -> Option<u64>
+    ensures { result ≡ least_with found (chunk_rows chunk.now) }
+{
+    if chunk.len() == 0 {
+        return found;
+    }
+    lower_of(found, chunk.place(0).number)
 }

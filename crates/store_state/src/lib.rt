@@ -6,8 +6,12 @@
 
 mod errors;
 mod jobs;
+mod laws;
+mod loose;
 mod port;
 
 pub use errors::{BeginError, PushError, ReclaimError, WriteError};
 pub use jobs::{CompactJob, FlushJob, JobFile, Look, Pin};
+pub use laws::a_step_tells_what_is_learnt;
+pub use loose::{FlushFiles, listed_loose};
 pub use port::Port;

@@ -1,4 +1,4 @@
-//! Tests of the crates that keep the store's bytes, by their public calls alone.
+//! Tests of the crates that keep the store's bytes and its rows in memory, by their public calls alone.
 #![tactic(auto)]
 
 #[cfg(test)]
@@ -7,5 +7,7 @@ mod disk;
 mod fields;
 #[cfg(test)]
 mod list;
+#[cfg(test)]
+mod live;
 #[cfg(test)]
 mod log;

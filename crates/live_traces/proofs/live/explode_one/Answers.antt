@@ -1,4 +1,4 @@
-use Rattle.std.proofs.Common.{rules, ◌≡◌, ◌∙◌, ◌++◌, ◌∷◌, [], ap, sym, arith, append_assoc, take}
+use Rattle.std.proofs.Common.{◌∙◌, ◌++◌, ◌∷◌, [], ap, sym, arith, append_assoc, take}
 use Rattle.span_types.specs.declared.spans.Row.{Row}
 use Rattle.store_model.specs.State.{LiveRow}
 use Rattle.store_model.specs.After.{arrived}

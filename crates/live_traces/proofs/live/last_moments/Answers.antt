@@ -5,7 +5,6 @@ use Rattle.span_types.specs.Orders.{trace_cmp}
 use Rattle.store_model.specs.Cut.{last_moment}
 use Rattle.store_model.specs.State.{LiveRow}
 use Rattle.live_traces.specs.Parts.{live_of}
-use Rattle.live_traces.specs.declared.live.Entry.{Entry}
 use Rattle.live_traces.proofs.LiveRows.{kept_last, live_of-append, take_more_of}
 use Rattle.live_traces.proofs.live.last_moments.Goals as goal
 

@@ -1,4 +1,4 @@
-use Rattle.std.proofs.Common.{◌≡◌, ◌∙◌, ap, sym, unwrap_or}
+use Rattle.std.proofs.Common.{◌≡◌, ◌∙◌, ap, unwrap_or}
 use Rattle.std.specs.BTreeMap.{get}
 use Rattle.span_types.specs.Orders.{trace_cmp}
 use Rattle.live_traces.specs.Parts.{goes_by}

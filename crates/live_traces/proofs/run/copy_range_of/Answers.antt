@@ -1,4 +1,4 @@
-use Rattle.std.proofs.Common.{◌≡◌, ◌∙◌, ◌++◌, ◌∷◌, [], ap, sym, arith, append_assoc, take, drop, ◌-◌}
+use Rattle.std.proofs.Common.{◌∙◌, ◌++◌, ◌∷◌, [], ap, sym, arith, append_assoc, take, drop, ◌-◌}
 use Rattle.live_traces.specs.Rows.{chunk_rows, row_of}
 use Rattle.live_traces.specs.Traces.{rows_of_trace}
 use Rattle.live_traces.proofs.ChunkRows.{one_more_from}

@@ -1,5 +1,5 @@
 -- So far the trace's rows below the counter were added.
-use Rattle.std.proofs.Common.{◌≡◌, ◌≤◌, ◌-◌, ◌++◌, take, drop}
+use Rattle.std.proofs.Common.{◌≡◌, ◌-◌, ◌++◌, take, drop}
 use Rattle.live_traces.specs.Rows.{chunk_rows}
 use Rattle.live_traces.specs.Traces.{rows_of_trace}
 use Rattle.live_traces.proofs.run.copy_range_of.Given as goal

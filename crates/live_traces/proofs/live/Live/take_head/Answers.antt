@@ -1,4 +1,4 @@
-use Rattle.std.proofs.Common.{◌≡◌, ◌≤◌, ◌<◌, ◌+◌, length, take, drop, min, ℕ, zero, suc, List, [], ◌∷◌, refl, sym, ◌∙◌, ap, subst, arith}
+use Rattle.std.proofs.Common.{◌≡◌, length, take, drop, min, ℕ, zero, suc, List, [], ◌∷◌, refl, sym, ◌∙◌, ap, arith}
 use Rattle.span_types.specs.declared.spans.Row.{Row}
 use Rattle.live_traces.specs.Parts.{LiveParts}
 use Rattle.live_traces.proofs.live.Live.take_head.Goals as goal

@@ -1,4 +1,3 @@
-use Rattle.std.proofs.Common.{arith}
 use Rattle.live_traces.proofs.ChunkRows.{single_range}
 use Rattle.live_traces.proofs.run.Run.one.Goals as goal
 

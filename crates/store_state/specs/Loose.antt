@@ -1,0 +1,11 @@
+-- The files of jobs that stay open.
+use Rattle.std.specs.Prelude.{ℕ, List, [], ◌∷◌, Option, None, Some}
+use Rattle.store_state.specs.declared.loose.FlushFiles.{FlushFiles}
+
+abbrev pub flush_part : Option FlushFiles → List ℕ
+flush_part None = []
+flush_part (Some files) = files.block ∷ files.segment ∷ []
+
+abbrev pub compaction_part : Option ℕ → List ℕ
+compaction_part None = []
+compaction_part (Some file) = file ∷ []
