@@ -1,68 +1,66 @@
 -- The body of a record: a batch's number and its spans, in runs of equal resources and of equal scopes.
-use Rattle.std.specs.Prelude.{ℕ, List, [], ◌∷◌, ◌++◌, length, Option, Some, None, if◌then◌else◌}
-use Rattle.std.specs.List.{flat_map}
-use Rattle.span_types.specs.declared.ids.SpanId.{SpanId}
-use Rattle.span_types.specs.declared.attrs.Attr.{Attr}
-use Rattle.span_types.specs.declared.attrs.AttrValue.{AttrValue}
-use Rattle.span_types.specs.declared.attrs.AttrValue.TheVariants.{Text, Whole, Truth}
+use Rattle.std.specs.Prelude.{ℕ, ◌+◌, ◌^◌, ◌==◌, ◌||◌, Bool, true, false, not, List, [], ◌∷◌, ◌++◌, length, if◌then◌else◌}
+use Rattle.std.specs.List.{list_any}
+use Rattle.span_types.specs.declared.attrs.Resource.{Resource}
+use Rattle.span_types.specs.declared.attrs.Scope.{Scope}
 use Rattle.span_types.specs.declared.spans.Span.{Span}
-use Rattle.span_types.specs.declared.spans.SpanKind.{SpanKind}
-use Rattle.span_types.specs.declared.spans.SpanKind.TheVariants as kinds
-use Rattle.span_types.specs.declared.spans.StatusCode.{StatusCode}
-use Rattle.span_types.specs.declared.spans.StatusCode.TheVariants as codes
 use Rattle.span_runs.specs.Runs.{runs}
 use Rattle.span_runs.specs.Same.{of_one_resource, of_one_scope}
-use Rattle.byte_fields.specs.Spelling.{fixed64_bytes, var_bytes, zigzag_bytes, text_bytes}
+use Rattle.byte_fields.specs.Spelling.{fixed64_bytes, text_bytes}
+use Rattle.span_fields.specs.Encodings.{list_bytes, attr_bytes, attrs_bytes, trace_bytes, id_bytes, parent_bytes, kind_bytes, status_bytes, event_bytes, link_bytes}
 
--- items behind their count
-unfoldable pub list_bytes : {A : Type 0} → (A → List ℕ) → List A → List ℕ
-list_bytes spelling items = var_bytes (length items) ++ flat_map spelling items
+-- ---- the form
 
--- a byte that says which kind of value it is, and the value
-unfoldable pub value_bytes : AttrValue → List ℕ
-value_bytes (Text text) = 0 ∷ text_bytes text
-value_bytes (Whole number) = 1 ∷ zigzag_bytes number
-value_bytes (Truth truth) = 2 ∷ (if truth then 1 else 0) ∷ []
+abbrev pub has_items : {A : Type 0} → List A → Bool
+has_items items = not (length items == 0)
 
-unfoldable pub attr_bytes : Attr → List ℕ
-attr_bytes attr = text_bytes attr.key ++ value_bytes attr.value
+-- the span has an event or a link
+abbrev pub is_extended : Span → Bool
+is_extended span = has_items span.events || has_items span.links
 
-unfoldable pub attrs_bytes : List Attr → List ℕ
-attrs_bytes attrs = list_bytes attr_bytes attrs
+-- one of the spans has an event or a link
+unfoldable pub are_extended : List Span → Bool
+are_extended spans = list_any is_extended spans
 
-abbrev pub kind_byte : SpanKind → ℕ
-kind_byte kinds.Unspecified = 0
-kind_byte kinds.Internal = 1
-kind_byte kinds.Server = 2
-kind_byte kinds.Client = 3
-kind_byte kinds.Producer = 4
-kind_byte kinds.Consumer = 5
+-- the first field of a body: its number, and in the highest byte its form, which is 1 where spans are extended and else 0
+abbrev pub first_field : Bool → ℕ → ℕ
+first_field extended number = if extended then number + 2 ^ 56 else number
 
-abbrev pub status_byte : StatusCode → ℕ
-status_byte codes.Unset = 0
-status_byte codes.Fine = 1
-status_byte codes.Error = 2
+-- ---- spans
 
--- a byte 0, or a byte 1 and the id
-unfoldable pub parent_bytes : Option SpanId → List ℕ
-parent_bytes None = 0 ∷ []
-parent_bytes (Some id) = 1 ∷ id.0
+-- the events and the links, which only the extended form has
+abbrev pub extras_bytes : Bool → Span → List ℕ
+extras_bytes true span = list_bytes event_bytes span.events ++ list_bytes link_bytes span.links
+extras_bytes false span = []
 
 -- a span without its resource and its scope
-unfoldable pub span_bytes : Span → List ℕ
-span_bytes span =
-    span.trace.0 ++ (span.id.0 ++ (parent_bytes span.parent ++ (text_bytes span.name ++ (kind_byte span.kind ∷ (fixed64_bytes span.start
-    ++ (fixed64_bytes span.«end» ++ (status_byte span.status ∷ (text_bytes span.message ++ attrs_bytes span.attrs))))))))
+unfoldable pub span_bytes : Bool → Span → List ℕ
+span_bytes extended span =
+    trace_bytes span.trace ++ (id_bytes span.id ++ (parent_bytes span.parent ++ (text_bytes span.name ++ (kind_bytes span.kind
+    ++ (fixed64_bytes span.start ++ (fixed64_bytes span.«end» ++ (status_bytes span.status ++ (text_bytes span.message
+    ++ (attrs_bytes span.attrs ++ extras_bytes extended span)))))))))
+
+-- ---- runs
+
+abbrev pub scope_bytes : Scope → List ℕ
+scope_bytes scope = text_bytes scope.name ++ (text_bytes scope.version ++ attrs_bytes scope.attrs)
+
+abbrev pub resource_bytes : Resource → List ℕ
+resource_bytes resource = attrs_bytes resource.attrs
 
 -- spans of one scope: the scope, how many they are, and they
-unfoldable pub scope_run_bytes : Span × List Span → List ℕ
-scope_run_bytes run =
-    text_bytes run.0.scope.name ++ (text_bytes run.0.scope.version ++ (attrs_bytes run.0.scope.attrs ++ list_bytes span_bytes (run.0 ∷ run.1)))
+unfoldable pub scope_run_bytes : Bool → Span × List Span → List ℕ
+scope_run_bytes extended run = scope_bytes run.0.scope ++ list_bytes (span_bytes extended) (run.0 ∷ run.1)
 
 -- spans of one resource: the resource, how many runs of one scope they are, and these
-unfoldable pub resource_run_bytes : Span × List Span → List ℕ
-resource_run_bytes run = attrs_bytes run.0.resource.attrs ++ list_bytes scope_run_bytes (runs of_one_scope (run.0 ∷ run.1))
+unfoldable pub resource_run_bytes : Bool → Span × List Span → List ℕ
+resource_run_bytes extended run =
+    resource_bytes run.0.resource ++ list_bytes (scope_run_bytes extended) (runs of_one_scope (run.0 ∷ run.1))
 
--- the number, how many runs of one resource the spans are, and these
+-- how many runs of one resource the spans are, and these
+abbrev pub spans_bytes : Bool → List Span → List ℕ
+spans_bytes extended spans = list_bytes (resource_run_bytes extended) (runs of_one_resource spans)
+
+-- the number with the form that the spans need, and the spans
 unfoldable pub body_bytes : ℕ → List Span → List ℕ
-body_bytes number spans = fixed64_bytes number ++ list_bytes resource_run_bytes (runs of_one_resource spans)
+body_bytes number spans = fixed64_bytes (first_field (are_extended spans) number) ++ spans_bytes (are_extended spans) spans

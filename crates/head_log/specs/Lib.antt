@@ -4,9 +4,7 @@ pub mod Sound
 pub mod Written
 pub mod Stands
 pub mod Framing
-pub mod Breaks
 pub mod Scanning
 pub mod Outcomes
 pub mod Blocks
 pub mod Entries
-pub mod Keys

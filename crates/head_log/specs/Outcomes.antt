@@ -9,7 +9,7 @@ use Rattle.head_log.specs.declared.read_back.LogError.TheVariants as errors
 use Rattle.head_log.specs.Entries.{entries}
 use Rattle.head_log.specs.Scanning.{segment_at}
 
--- the segment of this file as it stands behind so many records
+-- the segment of this file as it stands after so many records
 pub record IsAt (segment : Segment) (file first count : ℕ) : Type 0 where
   pub file_is : segment.file ≡ file
   pub first_is : segment.first ≡ first
@@ -22,7 +22,7 @@ Scans file first bytes (Err (errors.NotLog f at)) = (f ≡ file) × (segment_at 
 Scans file first bytes (Err errors.Fault) = Unit {0}
 Scans file first bytes (Err errors.Memory) = Unit {0}
 
--- The answer is these batches and the gate behind them, unless the disk failed or memory was wanted.
+-- The answer is these batches and the gate after them, unless the disk failed or memory was wanted.
 abbrev pub Recalls : ℕ → List (List Span) → ℕ → Result (Segment × List NumberedBatch) LogError → Type 0
 Recalls first batches gate (Ok x) = (x.1 ≡ entries first batches) × (x.0.gate ≡ gate)
 Recalls first batches gate (Err (errors.NotLog f at)) = ⊥

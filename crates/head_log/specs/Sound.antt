@@ -1,56 +1,36 @@
 -- Which batches a log can keep. The types of spans promise all of it but the number.
-use Rattle.std.specs.Prelude.{◌≡◌, ℕ, ◌<◌, ◌≤◌, ◌^◌, false, List, length, IfSome, FitsSigned}
-use Rattle.std.specs.Int.{w64}
+use Rattle.std.specs.Prelude.{ℕ, ◌<◌, ◌≤◌, List, length}
 use Rattle.std.specs.List.{AllByRecursion}
-use Rattle.std.specs.Str.{IsUtf8}
-use Rattle.span_types.specs.declared.attrs.Attr.{Attr}
-use Rattle.span_types.specs.declared.attrs.AttrValue.{AttrValue}
-use Rattle.span_types.specs.declared.attrs.AttrValue.TheVariants.{Text, Whole, Truth}
+use Rattle.span_types.specs.declared.attrs.Resource.{Resource}
+use Rattle.span_types.specs.declared.attrs.Scope.{Scope}
 use Rattle.span_types.specs.declared.spans.Span.{Span}
-use Rattle.span_types.specs.Promises.{AreDistinct, all_zero}
-use Rattle.byte_fields.specs.Reading.{AreBytes}
+use Rattle.span_types.specs.declared.limits.TheConstants.{MOST_SPANS}
+use Rattle.span_fields.specs.Sound.{IsBelow64, IsWord, AreSound, AreSoundAttrs, IsTrace, IsSpanId, IsParent, IsSoundEvent, IsSoundLink}
 
--- a text, of a length that its field can hold
-pub record IsWord (text : List ℕ) : Type 0 where
-  pub utf8 : IsUtf8 text
-  pub short : length text < 2 ^ 64
+pub record IsSoundScope (scope : Scope) : Type 0 where
+  pub name : IsWord scope.name
+  pub version : IsWord scope.version
+  pub attrs : AreSoundAttrs scope.attrs
 
-abbrev pub IsSoundValue : AttrValue → Type 0
-IsSoundValue (Text text) = IsWord text
-IsSoundValue (Whole number) = FitsSigned w64 number
-IsSoundValue (Truth truth) = Unit {0}
-
-pub record IsSoundAttr (attr : Attr) : Type 0 where
-  pub key : IsWord attr.key
-  pub value : IsSoundValue attr.value
-
-pub record AreSoundAttrs (attrs : List Attr) : Type 0 where
-  pub each : AllByRecursion IsSoundAttr attrs
-  pub distinct : AreDistinct attrs
-  pub few : length attrs < 2 ^ 64
-
--- so many bytes, which are not all zeros
-pub record IsId (count : ℕ) (bytes : List ℕ) : Type 0 where
-  pub len : length bytes ≡ count
-  pub fit : AreBytes bytes
-  pub some : all_zero bytes ≡ false
+abbrev pub IsSoundResource : Resource → Type 0
+IsSoundResource resource = AreSoundAttrs resource.attrs
 
 pub record IsSoundSpan (span : Span) : Type 0 where
-  pub trace : IsId 16 span.trace.0
-  pub id : IsId 8 span.id.0
-  pub parent : IfSome span.parent (λ p. IsId 8 p.0)
+  pub trace : IsTrace span.trace
+  pub id : IsSpanId span.id
+  pub parent : IsParent span.parent
   pub name : IsWord span.name
-  pub start : span.start < 2 ^ 64
-  pub ended : span.«end» < 2 ^ 64
+  pub start : IsBelow64 span.start
+  pub ended : IsBelow64 span.«end»
   pub message : IsWord span.message
   pub attrs : AreSoundAttrs span.attrs
-  pub resource : AreSoundAttrs span.resource.attrs
-  pub scope_name : IsWord span.scope.name
-  pub scope_version : IsWord span.scope.version
-  pub scope_attrs : AreSoundAttrs span.scope.attrs
+  pub resource : IsSoundResource span.resource
+  pub scope : IsSoundScope span.scope
+  pub events : AreSound IsSoundEvent span.events
+  pub links : AreSound IsSoundLink span.links
 
 -- a batch that can be kept under this number
 pub record IsSoundBatch (number : ℕ) (spans : List Span) : Type 0 where
   pub below : number < 4294967295
-  pub few : length spans ≤ 16384
+  pub few : length spans ≤ MOST_SPANS
   pub each : AllByRecursion IsSoundSpan spans

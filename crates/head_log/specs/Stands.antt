@@ -22,7 +22,7 @@ AreBodies first (spans ∷ batches) (body ∷ bodies) = IsBody first spans body 
 AreBodies first [] (body ∷ bodies) = ⊥
 AreBodies first (spans ∷ batches) [] = ⊥
 
--- The bytes stand for these batches, numbered from the first number on, and the gate behind them is at this place.
+-- The bytes stand for these batches, numbered from the first number on, and the gate after them is at this place.
 pub record StandsFor (first : ℕ) (batches : List (List Span)) (gate : ℕ) (bytes : List ℕ) : Type 0 where
   pub bodies : List (List ℕ)
   pub numbered : AreBodies first batches bodies

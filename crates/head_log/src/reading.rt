@@ -1,231 +1,23 @@
-//! The body of a record, read field by field.
+//! The spans of a body, read field by field.
 
-ghost use Rattle.std.specs.Prelude.{◌≡◌, ◌++◌, ◌∷◌, ℕ, List, [], false, Ok, IfOk, IfSome, OnOk, IfErr, length, not};
-ghost use Rattle.byte_fields.specs.Reading.{Stand};
-ghost use Rattle.span_types.specs.declared.attrs.Attr.{Attr};
-ghost use Rattle.head_log.specs.declared.breaks.Break.TheVariants as broken;
-ghost use Rattle.head_log.specs.Breaks.{Gives};
-ghost use Rattle.head_log.specs.Keys.{HasKeysOf};
-ghost use Rattle.head_log.specs.Scanning.{attr_at, attrs_at, id_at, items_at, keyed_at, kind_at, parent_at, some_id_at, span_at, span_id_at, status_at, text_value_at, trace_id_at, truth_at, truth_value_at, value_at, whole_value_at};
-ghost use Rattle.span_types.specs.Promises.{all_zero, has_key};
+ghost use Rattle.std.specs.Prelude.{◌≡◌};
+ghost use Rattle.span_fields.specs.Breaks.{Gives};
+ghost use Rattle.head_log.specs.Scanning.{extras_at, some_extras_at, span_at};
 
-use crate::breaks::{self, Break};
 use byte_fields::Reader;
-use span_types::{
-    Attr, AttrValue, Attrs, SharedResource, SharedScope, Span, SpanId, SpanKind, StatusCode, Text,
-    TraceId,
+use span_fields::{
+    Break, attrs, fixed64, kind, list, parent, span_id, status, text, trace_id,
 };
+use span_types::{Events, Links, SharedResource, SharedScope, Span, TryCopy};
 use std::alloc::Global;
-use std::collections::HashSet;
 
-#[tactic(auto, unfolding(crate::specs::Scanning::truth_at))]
-fn truth(reader: &mut Reader, within: bool) -> Result<bool, Break>
-    ensures { Gives (λ x. x) result reader.new (truth_at within reader.old) }
-{
-    let at = reader.at();
-    match breaks::byte(reader, within)? {
-        0 => Ok(false),
-        1 => Ok(true),
-        _ => Err(Break::At(at)),
-    }
-}
-
-#[tactic(auto, unfolding(crate::specs::Scanning::text_value_at))]
-fn text_value(reader: &mut Reader, within: bool) -> Result<AttrValue, Break>
-    ensures { Gives (λ x. x) result reader.new (text_value_at within reader.old) }
-{
-    let text = breaks::text(reader, within)?;
-    Ok(AttrValue::Text(text))
-}
-
-#[tactic(auto, unfolding(crate::specs::Scanning::whole_value_at))]
-fn whole_value(reader: &mut Reader, within: bool) -> Result<AttrValue, Break>
-    ensures { Gives (λ x. x) result reader.new (whole_value_at within reader.old) }
-{
-    let number = breaks::zigzag(reader, within)?;
-    Ok(AttrValue::Whole(number))
-}
-
-#[tactic(auto, unfolding(crate::specs::Scanning::truth_value_at))]
-fn truth_value(reader: &mut Reader, within: bool) -> Result<AttrValue, Break>
-    ensures { Gives (λ x. x) result reader.new (truth_value_at within reader.old) }
-{
-    let truth = truth(reader, within)?;
-    Ok(AttrValue::Truth(truth))
-}
-
-#[tactic(auto, unfolding(crate::specs::Scanning::value_at))]
-fn value(reader: &mut Reader, within: bool) -> Result<AttrValue, Break>
-    ensures { Gives (λ x. x) result reader.new (value_at within reader.old) }
-{
-    let at = reader.at();
-    match breaks::byte(reader, within)? {
-        0 => text_value(reader, within),
-        1 => whole_value(reader, within),
-        2 => truth_value(reader, within),
-        _ => Err(Break::At(at)),
-    }
-}
-
-#[tactic(auto, unfolding(crate::specs::Scanning::keyed_at))]
-fn keyed(reader: &mut Reader, within: bool, key: Text) -> Result<Attr, Break>
-    ensures gives { Gives (λ x. x) result reader.new (keyed_at within key reader.old) }
-    ensures keyed { IfOk result (λ attr. attr.key ≡ key) }
-{
-    let value = value(reader, within)?;
-    Ok(Attr { key, value })
-}
-
-/// An attribute behind those that have these keys, none of which has its key.
-#[tactic(auto, unfolding(crate::specs::Scanning::attr_at))]
-fn attr(
-    alloc: Global,
-    reader: &mut Reader,
-    within: bool,
-    keys: &mut HashSet<String>,
-) -> Result<Attr, Break>
-    ensures gives { (before : List Attr) → HasKeysOf keys.old before → Gives (λ x. x) result reader.new (attr_at within before reader.old) }
-    ensures kept { IfOk result (λ attr. (before : List Attr) → HasKeysOf keys.old before → HasKeysOf keys.new (before ++ attr ∷ [])) }
-{
-    let at = reader.at();
-    let key = breaks::text(reader, within)?;
-    if is_new(alloc, keys, key.as_str())? {
-        return keyed(reader, within, key);
-    }
-    Err(Break::At(at))
-}
-
-/// Whether no attribute before has the key. Then it is one of their keys.
-fn is_new(alloc: Global, keys: &mut HashSet<String>, key: &str) -> Result<bool, Break>
-    ensures new_key { IfOk result (λ new. (before : List Attr) → HasKeysOf keys.old before → new ≡ not (has_key key.now before)) }
-    ensures kept { OnOk result ((before : List Attr) (attr : Attr) → HasKeysOf keys.old before → attr.key ≡ key.now → HasKeysOf keys.new (before ++ attr ∷ [])) }
-    ensures memory { IfErr result (λ why. why ≡ broken.Memory) }
-{
-    let key = key.to_owned(alloc)?;
-    match keys.insert(key) {
-        Ok(new) => Ok(new),
-        Err(_) => Err(Break::Memory),
-    }
-}
-
-fn each_attr(
-    alloc: Global,
-    reader: &mut Reader,
-    within: bool,
-    count: u64,
-) -> Result<Vec<Attr>, Break>
-    ensures { Gives (λ x. x.items) result reader.new (items_at (attr_at within) count [] reader.old) }
-{
-    let mut attrs = Vec::new(alloc);
-    let mut keys = HashSet::new(alloc);
-    for _ in 0..count {
-        let attr = attr(alloc, reader, within, &mut keys)?;
-        attrs.push(attr)?;
-    }
-    Ok(attrs)
-}
-
-#[tactic(auto, unfolding(crate::specs::Scanning::attrs_at))]
-pub fn attrs(alloc: Global, reader: &mut Reader, within: bool) -> Result<Attrs, Break>
-    ensures { Gives (λ x. x) result reader.new (attrs_at within reader.old) }
-{
-    let count = breaks::var(reader, within)?;
-    let attrs = each_attr(alloc, reader, within, count)?;
-    Ok(Attrs::of(attrs))
-}
-
-/// The next `count` bytes, which are not all zeros.
-#[tactic(auto, unfolding(crate::specs::Scanning::id_at))]
-fn id<'a>(reader: &mut Reader<'a>, within: bool, count: u64) -> Result<&'a [u8], Break>
-    ensures gives { Gives (λ x. x.now) result reader.new (id_at count within reader.old) }
-    ensures count { IfOk result (λ x. length x.now ≡ count) }
-    ensures some { IfOk result (λ x. all_zero x.now ≡ false) }
-{
-    let at = reader.at();
-    let bytes = breaks::raw(reader, within, count)?;
-    if all_zero(bytes) {
-        return Err(Break::At(at));
-    }
-    Ok(bytes)
-}
-
-fn all_zero(bytes: &[u8]) -> bool
-    ensures { result ≡ all_zero bytes.now }
-{
-    bytes.iter().all(|b| *b == 0)
-}
-
-#[tactic(auto, unfolding(crate::specs::Scanning::trace_id_at))]
-fn trace_id(reader: &mut Reader, within: bool) -> Result<TraceId, Break>
-    ensures gives { Gives (λ x. x) result reader.new (trace_id_at within reader.old) }
-    ensures some { IfOk result (λ id. all_zero id.0 ≡ false) }
-{
-    let bytes = id(reader, within, 16)?;
-    let mut trace = [0; 16];
-    trace.copy_from_slice(bytes);
-    Ok(TraceId(trace))
-}
-
-#[tactic(auto, unfolding(crate::specs::Scanning::span_id_at))]
-fn span_id(reader: &mut Reader, within: bool) -> Result<SpanId, Break>
-    ensures gives { Gives (λ x. x) result reader.new (span_id_at within reader.old) }
-    ensures some { IfOk result (λ id. all_zero id.0 ≡ false) }
-{
-    let bytes = id(reader, within, 8)?;
-    let mut span = [0; 8];
-    span.copy_from_slice(bytes);
-    Ok(SpanId(span))
-}
-
-#[tactic(auto, unfolding(crate::specs::Scanning::some_id_at))]
-fn some_id(reader: &mut Reader, within: bool) -> Result<Option<SpanId>, Break>
-    ensures gives { Gives (λ x. x) result reader.new (some_id_at within reader.old) }
-    ensures some { IfOk result (λ parent. IfSome parent (λ id. all_zero id.0 ≡ false)) }
-{
-    let id = span_id(reader, within)?;
-    Ok(Some(id))
-}
-
-#[tactic(auto, unfolding(crate::specs::Scanning::parent_at))]
-fn parent(reader: &mut Reader, within: bool) -> Result<Option<SpanId>, Break>
-    ensures gives { Gives (λ x. x) result reader.new (parent_at within reader.old) }
-    ensures some { IfOk result (λ parent. IfSome parent (λ id. all_zero id.0 ≡ false)) }
-{
-    let at = reader.at();
-    match breaks::byte(reader, within)? {
-        0 => Ok(None),
-        1 => some_id(reader, within),
-        _ => Err(Break::At(at)),
-    }
-}
-
-#[tactic(auto, unfolding(crate::specs::Scanning::kind_at))]
-fn kind(reader: &mut Reader, within: bool) -> Result<SpanKind, Break>
-    ensures { Gives (λ x. x) result reader.new (kind_at within reader.old) }
-{
-    let at = reader.at();
-    match breaks::byte(reader, within)? {
-        0 => Ok(SpanKind::Unspecified),
-        1 => Ok(SpanKind::Internal),
-        2 => Ok(SpanKind::Server),
-        3 => Ok(SpanKind::Client),
-        4 => Ok(SpanKind::Producer),
-        5 => Ok(SpanKind::Consumer),
-        _ => Err(Break::At(at)),
-    }
-}
-
-#[tactic(auto, unfolding(crate::specs::Scanning::status_at))]
-fn status(reader: &mut Reader, within: bool) -> Result<StatusCode, Break>
-    ensures { Gives (λ x. x) result reader.new (status_at within reader.old) }
-{
-    let at = reader.at();
-    match breaks::byte(reader, within)? {
-        0 => Ok(StatusCode::Unset),
-        1 => Ok(StatusCode::Fine),
-        2 => Ok(StatusCode::Error),
-        _ => Err(Break::At(at)),
-    }
+/// How a body is read.
+#[derive(Clone, Copy)]
+pub struct Part {
+    /// Whether the file goes on after the body, or the file ends within it.
+    pub within: bool,
+    /// Whether spans have events and links.
+    pub extended: bool,
 }
 
 /// A span of this resource and this scope.
@@ -233,22 +25,23 @@ fn status(reader: &mut Reader, within: bool) -> Result<StatusCode, Break>
 pub fn span(
     alloc: Global,
     reader: &mut Reader,
-    within: bool,
+    part: Part,
     resource: &SharedResource,
     scope: &SharedScope,
 ) -> Result<Span, Break>
-    ensures { Gives (λ x. x) result reader.new (span_at within resource.now scope.now reader.old) }
+    ensures { Gives (λ x. x) result reader.new (span_at part resource.now scope.now reader.old) }
 {
-    let trace = trace_id(reader, within)?;
-    let id = span_id(reader, within)?;
-    let parent = parent(reader, within)?;
-    let name = breaks::text(reader, within)?;
-    let kind = kind(reader, within)?;
-    let start = breaks::fixed64(reader, within)?;
-    let end = breaks::fixed64(reader, within)?;
-    let status = status(reader, within)?;
-    let message = breaks::text(reader, within)?;
-    let attrs = attrs(alloc, reader, within)?;
+    let trace = trace_id(reader, part.within)?;
+    let id = span_id(reader, part.within)?;
+    let parent = parent(reader, part.within)?;
+    let name = text(reader, part.within)?;
+    let kind = kind(reader, part.within)?;
+    let start = fixed64(reader, part.within)?;
+    let end = fixed64(reader, part.within)?;
+    let status = status(reader, part.within)?;
+    let message = text(reader, part.within)?;
+    let attrs = attrs(alloc, reader, part.within)?;
+    let (events, links) = extras(alloc, reader, part)?;
     let resource = resource.copy()?;
     let scope = scope.copy()?;
     Ok(Span {
@@ -264,5 +57,31 @@ pub fn span(
         attrs,
         resource,
         scope,
+        events,
+        links,
     })
+}
+
+/// The events and the links, which only the extended form has.
+#[tactic(auto, unfolding(crate::specs::Scanning::extras_at))]
+fn extras(alloc: Global, reader: &mut Reader, part: Part) -> Result<(Events, Links), Break>
+    ensures { Gives (λ x. x) result reader.new (extras_at part reader.old) }
+{
+    if part.extended {
+        return some_extras(alloc, reader, part.within);
+    }
+    Ok((Events::none(alloc), Links::none(alloc)))
+}
+
+#[tactic(auto, unfolding(crate::specs::Scanning::some_extras_at))]
+fn some_extras(
+    alloc: Global,
+    reader: &mut Reader,
+    within: bool,
+) -> Result<(Events, Links), Break>
+    ensures { Gives (λ x. x) result reader.new (some_extras_at within reader.old) }
+{
+    let events = list(alloc, reader, within)?;
+    let links = list(alloc, reader, within)?;
+    Ok((events, links))
 }

@@ -1,0 +1,6 @@
+pub mod BreakLemmas
+pub mod ReadingLoops
+pub mod Again
+pub mod Meant
+pub mod Distinct
+pub mod Results

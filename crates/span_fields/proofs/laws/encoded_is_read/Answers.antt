@@ -1,0 +1,17 @@
+use Rattle.span_fields.specs.Decodings.{event_at, link_at}
+use Rattle.span_fields.specs.Encodings.{event_bytes, link_bytes}
+use Rattle.span_fields.specs.Sound.{IsSoundEvent, IsSoundLink}
+use Rattle.span_fields.proofs.Again.{again_trace, again_span_id, again_parent, again_kind, again_status, again_attrs, again_list, again_event, again_link}
+use Rattle.span_fields.proofs.laws.encoded_is_read.Goals as goal
+
+pub returns : goal.returns
+returns c = record {
+  trace = again_trace;
+  id = again_span_id;
+  parent = again_parent;
+  kind = again_kind;
+  status = again_status;
+  attrs = again_attrs;
+  events = λ w. again_list w (event_at w) event_bytes IsSoundEvent (again_event w);
+  links = λ w. again_list w (link_at w) link_bytes IsSoundLink (again_link w);
+}

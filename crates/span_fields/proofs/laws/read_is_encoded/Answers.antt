@@ -1,0 +1,17 @@
+use Rattle.span_fields.specs.Decodings.{event_at, link_at}
+use Rattle.span_fields.specs.Encodings.{event_bytes, link_bytes}
+use Rattle.span_fields.specs.Sound.{IsSoundEvent, IsSoundLink}
+use Rattle.span_fields.proofs.Meant.{meant_trace, meant_span_id, meant_parent, meant_kind, meant_status, meant_attrs, meant_list, meant_event, meant_link}
+use Rattle.span_fields.proofs.laws.read_is_encoded.Goals as goal
+
+pub returns : goal.returns
+returns c = record {
+  trace = meant_trace;
+  id = meant_span_id;
+  parent = meant_parent;
+  kind = meant_kind;
+  status = meant_status;
+  attrs = meant_attrs;
+  events = λ w. meant_list w (event_at w) event_bytes IsSoundEvent (meant_event w);
+  links = λ w. meant_list w (link_at w) link_bytes IsSoundLink (meant_link w);
+}
