@@ -9,7 +9,7 @@ use Rattle.span_fields.specs.Laws.{EncodedIsRead, ReadIsEncoded}
 use Rattle.span_fields.specs.Sound.{IsBelow64}
 use Rattle.span_fields.proofs.Meant.{Bound, bound, kept_else}
 use Rattle.block_columns.specs.Tables.{AllAfter, IsNew}
-use Rattle.block_columns.specs.ColumnReadings.{Spot, Read, field, number_at, reference_at, pair_at, made_at, items_at, counted_at, column_at, both_at, new_at, table_at, owners_at}
+use Rattle.block_columns.specs.ColumnReadings.{Spot, Read, field, number_at, reference_at, pair_at, made_at, items_at, counted_at, column_at, both_at, unless_at, new_at, table_at, owners_at}
 use Rattle.block_columns.specs.ColumnEncodings.{Encoded, Encoding, plain, reference, followed, pair, column, counted, both, owners}
 use Rattle.block_columns.specs.ColumnLaws.{read_to, known, IsAt, Begins, Wrote, Found, Stands, after, Adds, ReadsEncoded, EncodedReads, AddsNew, Laws, ColumnLaws, IsColumn, IsBoth, IsPair}
 use Rattle.block_columns.proofs.Basics.{same_read}
@@ -87,23 +87,28 @@ module _ {T : Type 0} {same : T → T → Bool} {P : T → Type 0} {table : List
     pub of_counted : Laws same P table (counted_at read) (counted encode) (IsCounted Good)
     of_counted = record { meant = meant_counted; again = again_counted; adds = adds_counted }
 
-  -- a value that is none of those before it
-  module _ {A : Type 0} (equal : A → A → Bool) {read : Read A} {encode : Encoding T A} {Fits : A → Type 0} (laws : Laws same P table read encode Fits) (before : List A) where
-    meant_new : ReadsEncoded table (new_at equal read before) encode (IsNewOne equal Fits before)
-    unfolding new_at
-    meant_new s is x t e =
-        let a = bound (read s) (λ y. cond (list_any (equal y.0) before) (Err s.stand.at) (Ok y)) (x, t) e in
-        let k = kept_else (list_any (equal a.value.0) before) s.stand.at (Ok a.value) (x, t) a.last in
+  -- a value that isn't bad
+  module _ {A : Type 0} (bad : A → Bool) {read : Read A} {encode : Encoding T A} {Fits : A → Type 0} (laws : Laws same P table read encode Fits) where
+    meant_unless : ReadsEncoded table (unless_at bad read) encode (λ x. Fits x × (bad x ≡ false))
+    unfolding unless_at
+    meant_unless s is x t e =
+        let a = bound (read s) (λ y. cond (bad y.0) (Err s.stand.at) (Ok y)) (x, t) e in
+        let k = kept_else (bad a.value.0) s.stand.at (Ok a.value) (x, t) a.last in
         let same_is = same_read a.value.0 x a.value.1 t k.1 in
         let one = laws.meant s is a.value.0 a.value.1 a.first in
-        found_as table encode (IsNewOne equal Fits before) s a.value.0 x a.value.1 t same_is.0 same_is.1 (record { wrote = one.wrote; fits = (one.fits, k.0) })
+        found_as table encode (λ y. Fits y × (bad y ≡ false)) s a.value.0 x a.value.1 t same_is.0 same_is.1 (record { wrote = one.wrote; fits = (one.fits, k.0) })
 
-    again_new : EncodedReads table (new_at equal read before) encode (IsNewOne equal Fits before)
-    unfolding new_at
-    again_new s is x rest fits stands = rw (laws.again s is x rest fits.0 stands, fits.1) refl
+    again_unless : EncodedReads table (unless_at bad read) encode (λ x. Fits x × (bad x ≡ false))
+    unfolding unless_at
+    again_unless s is x rest fits stands = rw (laws.again s is x rest fits.0 stands, fits.1) refl
 
-    pub of_new : Laws same P table (new_at equal read before) encode (IsNewOne equal Fits before)
-    of_new = record { meant = meant_new; again = again_new; adds = λ x t fits. laws.adds x t fits.0 }
+    pub of_unless : Laws same P table (unless_at bad read) encode (λ x. Fits x × (bad x ≡ false))
+    of_unless = record { meant = meant_unless; again = again_unless; adds = λ x t fits. laws.adds x t fits.0 }
+
+  -- a value that is none of those before it
+  pub of_new : {A : Type 0} (equal : A → A → Bool) {read : Read A} {encode : Encoding T A} {Fits : A → Type 0} → Laws same P table read encode Fits
+      → (before : List A) → Laws same P table (new_at equal read before) encode (IsNewOne equal Fits before)
+  of_new equal laws before = of_unless (λ x. list_any (equal x) before) laws
 
   -- ---- columns
 

@@ -6,7 +6,7 @@ use Rattle.byte_fields.specs.Reading.{Stand, ◌>>=◌}
 use Rattle.span_fields.specs.declared.breaks.Break.{Break}
 use Rattle.span_fields.specs.declared.breaks.Break.TheVariants as breaks
 use Rattle.span_fields.specs.Breaks.{Fails, Gives}
-use Rattle.block_columns.specs.ColumnReadings.{Spot, Read, at_spot, malformed, field, number_at, reference_at, items_at, new_at}
+use Rattle.block_columns.specs.ColumnReadings.{Spot, Read, at_spot, malformed, field, number_at, reference_at, items_at, unless_at, new_at}
 use Rattle.block_columns.specs.ColumnLaws.{read_to}
 use Rattle.block_columns.specs.Outcomes.{Finds}
 use Rattle.block_columns.proofs.MeantParts.{at_spot_ok}
@@ -74,13 +74,13 @@ items_done read count i before s total le so_far =
 -- ---- new values
 
 pub new_broken : {T : Type 0} (e : Break) (same : T → T → Bool) (read : Read T) (before : List T) (s : Spot) → Fails e (read s) → Fails e (new_at same read before s)
-unfolding new_at
+unfolding unless_at
 new_broken breaks.Memory same read before s h = tt
 new_broken (breaks.At place) same read before s h = rw h refl
 
 pub new_given : {T : Type 0} (same : T → T → Bool) (read : Read T) (before : List T) (s : Spot) (x : T) (t : Spot) (new : Bool) → read s ≡ read_to x t → new ≡ not (list_any (same x) before) → new ≡ true
     → (new_at same read before s ≡ read_to x t) × (cond (list_any (same x) before) before (before ++ x ∷ []) ≡ before ++ x ∷ [])
-unfolding new_at
+unfolding unless_at
 new_given same read before s x t new is_read is good =
     let none : list_any (same x) before ≡ false = from_not (list_any (same x) before) (sym is ∙ good) in
     (rw (is_read, none) refl, rw none refl)
@@ -91,7 +91,7 @@ new_given same read before s x t new is_read is good =
 
 pub new_refused : {T : Type 0} (same : T → T → Bool) (read : Read T) (before : List T) (s : Spot) (x : T) (t : Spot) (new : Bool) → read s ≡ read_to x t → new ≡ not (list_any (same x) before) → new ≡ false
     → new_at same read before s ≡ Err s.stand.at
-unfolding new_at
+unfolding unless_at
 new_refused same read before s x t new is_read is there =
     let some : list_any (same x) before ≡ true = from_not (list_any (same x) before) (sym is ∙ there) in
     rw (is_read, some) refl

@@ -80,11 +80,15 @@ both_at left right n s = do
   ys ← right n xs.1
   Ok (beside xs.0 ys.0, ys.1)
 
--- a value that is none of those before it
-unfoldable pub new_at : {T : Type 0} → (T → T → Bool) → Read T → List T → Read T
-new_at same read before s = do
+-- a value that is malformed where it is bad
+unfoldable pub unless_at : {A : Type 0} → (A → Bool) → Read A → Read A
+unless_at bad read s = do
   x ← read s
-  if list_any (same x.0) before then Err s.stand.at else Ok x
+  if bad x.0 then Err s.stand.at else Ok x
+
+-- a value that is none of those before it
+abbrev pub new_at : {T : Type 0} → (T → T → Bool) → Read T → List T → Read T
+new_at same read before = unless_at (λ x. list_any (same x) before) read
 
 -- a table: its values, which are distinct
 abbrev pub table_at : {T : Type 0} → (T → T → Bool) → Read T → Read (List T)

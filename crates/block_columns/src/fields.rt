@@ -1,17 +1,17 @@
 //! Fields that may refer to the values of a table.
 
-ghost use Rattle.std.specs.Prelude.{◌≡◌, ◌<◌, ◌^◌, ◌+◌, max, length, IfOk};
+ghost use Rattle.std.specs.Prelude.{◌≡◌, ◌<◌, ◌^◌, ◌+◌, max, false, length, IfOk, IfSome};
 ghost use Rattle.byte_fields.specs.Reading.{byte_at, fixed64_at, text_at, zigzag_at};
 ghost use Rattle.span_types.specs.Promises.{all_zero};
 ghost use Rattle.span_fields.specs.Breaks.{in_part};
-ghost use Rattle.span_fields.specs.Decodings.{kind_at, parent_at, span_id_at, status_at, trace_id_at};
+ghost use Rattle.span_fields.specs.Decodings.{kind_at, parent_at, span_id_at, status_at, trace_id_at, value_at};
 ghost use Rattle.block_columns.specs.ColumnReadings.{field, number_at, reference_at};
 ghost use Rattle.block_columns.specs.Outcomes.{Finds};
 
 use byte_fields::Reader;
 use indexmap::IndexSet;
 use span_fields::Break;
-use span_types::{SpanId, SpanKind, StatusCode, Text, TraceId};
+use span_types::{AttrValue, SpanId, SpanKind, StatusCode, Text, TraceId};
 use std::hash::Hash;
 use std::marker::Model;
 
@@ -110,7 +110,8 @@ impl<'a> Fields<'a> {
     /// A trace's id.
     #[tactic(auto, using(crate::proofs::ReadingSteps::finds_field))]
     pub fn trace_id(&mut self) -> Result<TraceId, Break>
-        ensures { Finds (λ x. x) result self.new (field trace_id_at self.old) }
+        ensures finds { Finds (λ x. x) result self.new (field trace_id_at self.old) }
+        ensures some { IfOk result (λ id. all_zero id.0 ≡ false) }
     {
         span_fields::trace_id(&mut self.reader, self.within)
     }
@@ -118,7 +119,8 @@ impl<'a> Fields<'a> {
     /// A span's id.
     #[tactic(auto, using(crate::proofs::ReadingSteps::finds_field))]
     pub fn span_id(&mut self) -> Result<SpanId, Break>
-        ensures { Finds (λ x. x) result self.new (field span_id_at self.old) }
+        ensures finds { Finds (λ x. x) result self.new (field span_id_at self.old) }
+        ensures some { IfOk result (λ id. all_zero id.0 ≡ false) }
     {
         span_fields::span_id(&mut self.reader, self.within)
     }
@@ -126,7 +128,8 @@ impl<'a> Fields<'a> {
     /// A span's parent, where it has one.
     #[tactic(auto, using(crate::proofs::ReadingSteps::finds_field))]
     pub fn parent(&mut self) -> Result<Option<SpanId>, Break>
-        ensures { Finds (λ x. x) result self.new (field parent_at self.old) }
+        ensures finds { Finds (λ x. x) result self.new (field parent_at self.old) }
+        ensures some { IfOk result (λ parent. IfSome parent (λ id. all_zero id.0 ≡ false)) }
     {
         span_fields::parent(&mut self.reader, self.within)
     }
@@ -137,6 +140,14 @@ impl<'a> Fields<'a> {
         ensures { Finds (λ x. x) result self.new (field kind_at self.old) }
     {
         span_fields::kind(&mut self.reader, self.within)
+    }
+
+    /// An attribute's value in full.
+    #[tactic(auto, using(crate::proofs::ReadingSteps::finds_field))]
+    pub fn value(&mut self) -> Result<AttrValue, Break>
+        ensures { Finds (λ x. x) result self.new (field value_at self.old) }
+    {
+        span_fields::value(&mut self.reader, self.within)
     }
 
     /// How a span ended.
