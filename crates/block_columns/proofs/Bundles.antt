@@ -140,9 +140,9 @@ module _ {T : Type 0} {same : T → T → Bool} {P : T → Type 0} {table : List
   }
 
 -- a column of values that stand in a table of their own
-pub of_owners : {T U : Type 0} {same : T → T → Bool} {P : T → Type 0} {table : List T} {outer_same : U → U → Bool} {Q : U → Type 0} {outer : List U} (read : Read T) (list : Spot)
+pub of_owners : {T B U : Type 0} {same : T → T → Bool} {P : T → Type 0} {table : List T} {outer_same : U → U → Bool} {Q : U → Type 0} {outer : List U} (read : Read B) (list : Spot)
     → Laws same P table (reference_at table) (reference same) P → ColumnLaws outer_same Q outer (owners_at read list table) (owners same) (IsOwners same P table)
-of_owners {T} {U} {same} {P} {table} {outer_same} {Q} {outer} read list laws = record {
+of_owners {T} {B} {U} {same} {P} {table} {outer_same} {Q} {outer} read list laws = record {
   one = λ n. record {
     meant = meant_owners same P read list table outer (λ k. ((of_values laws).one k).meant) n;
     again = again_owners same P read list table outer (λ k. ((of_values laws).one k).again) n;

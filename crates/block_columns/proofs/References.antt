@@ -93,8 +93,8 @@ malformed_never : {B : Type 0} (r : Result ℕ ℕ) (y : B) → malformed r ≡ 
 malformed_never (Ok at) y e = absurd (cc)
 malformed_never (Err at) y e = absurd (cc)
 
-pub used_up : {T A : Type 0} (read : Read T) (list : Spot) (table : List T) (used : ℕ) (found : A) (w : Spot) (x : A) (t : Spot) → all_used read list table used (found, w) ≡ read_to x t → (used ≡ length table) × (found ≡ x) × (w ≡ t)
-used_up {T} {A} read list table used found w x t e = by (eqb used (length table)) refl e
+pub used_up : {T B A : Type 0} (read : Read B) (list : Spot) (table : List T) (used : ℕ) (found : A) (w : Spot) (x : A) (t : Spot) → all_used read list table used (found, w) ≡ read_to x t → (used ≡ length table) × (found ≡ x) × (w ≡ t)
+used_up {T} {B} {A} read list table used found w x t e = by (eqb used (length table)) refl e
   where
     by : (b : Bool) → eqb used (length table) ≡ b → cond b (Ok (found, w)) (malformed (item_at read used list)) ≡ read_to x t → (used ≡ length table) × (found ≡ x) × (w ≡ t)
     by true is e = (let same = same_read found x w t e in (eqb-true used (length table) is, same.0, same.1))
@@ -105,10 +105,10 @@ pub record IsOwners {T : Type 0} (same : T → T → Bool) (P : T → Type 0) (t
   pub all : IsColumn P n xs
   pub table_is : first_uses same xs ≡ table
 
-pub meant_owners : {T U : Type 0} (same : T → T → Bool) (P : T → Type 0) (read : Read T) (list : Spot) (table : List T) (outer : List U)
+pub meant_owners : {T B U : Type 0} (same : T → T → Bool) (P : T → Type 0) (read : Read B) (list : Spot) (table : List T) (outer : List U)
     → ((n : ℕ) → ReadsEncoded table (column_at (reference_at table) n) (column (reference same)) (IsColumn P n)) → (n : ℕ) → ReadsEncoded outer (owners_at read list table n) (owners same) (IsOwners same P table n)
 unfolding owners_at numbered
-meant_owners {T} {U} same P read list table outer meant n s is xs t e =
+meant_owners {T} {B} {U} same P read list table outer meant n s is xs t e =
     let start : Spot = record { within = s.within; stand = s.stand; used = 0 } in
     let a = bound (column_at (reference_at table) n start) (λ x. all_used read list table x.1.used (x.0, record { within = x.1.within; stand = x.1.stand; used = s.used })) (xs, t) e in
     let got = meant n start (record { within = is.within; few = omega arith }) a.value.0 a.value.1 a.first in
@@ -118,10 +118,10 @@ meant_owners {T} {U} same P read list table outer meant n s is xs t e =
     subst (λ (u : Spot). Found outer (owners same) (IsOwners same P table n) s xs u) done.2 (subst (λ (y : List T). Found outer (owners same) (IsOwners same P table n) s y end) done.1
     (record { wrote = record { bytes = got.wrote.bytes; table_is = refl; few = is.few; same = got.wrote.same }; fits = record { all = got.fits; table_is = full } }))
 
-pub again_owners : {T U : Type 0} (same : T → T → Bool) (P : T → Type 0) (read : Read T) (list : Spot) (table : List T) (outer : List U)
+pub again_owners : {T B U : Type 0} (same : T → T → Bool) (P : T → Type 0) (read : Read B) (list : Spot) (table : List T) (outer : List U)
     → ((n : ℕ) → EncodedReads table (column_at (reference_at table) n) (column (reference same)) (IsColumn P n)) → (n : ℕ) → EncodedReads outer (owners_at read list table n) (owners same) (IsOwners same P table n)
 unfolding owners_at numbered
-again_owners {T} {U} same P read list table outer again n s is xs rest fits stands =
+again_owners {T} {B} {U} same P read list table outer again n s is xs rest fits stands =
     let start : Spot = record { within = s.within; stand = s.stand; used = 0 } in
     let made = column (reference same) xs [] in
     let whole : table ≡ made.1 ++ [] = sym fits.table_is ∙ sym (append-nil made.1) in

@@ -107,11 +107,11 @@ malformed (Ok at) = Err at
 malformed (Err at) = Err at
 
 -- What was found, where each value of its table is used. The list that is the table is malformed at the first value that isn't.
-abbrev pub all_used : {T A : Type 0} → Read T → Spot → List T → ℕ → A × Spot → Result (A × Spot) ℕ
+abbrev pub all_used : {T B A : Type 0} → Read B → Spot → List T → ℕ → A × Spot → Result (A × Spot) ℕ
 all_used read list table used found = if used == length table then Ok found else malformed (item_at read used list)
 
 -- a column of values that stand in a table of their own, each of which is used
-unfoldable pub owners_at : {T : Type 0} → Read T → Spot → List T → ℕ → Read (List T)
+unfoldable pub owners_at : {T B : Type 0} → Read B → Spot → List T → ℕ → Read (List T)
 owners_at read list table n s = do
   xs ← column_at (reference_at table) n (record { within = s.within; stand = s.stand; used = 0 })
   all_used read list table xs.1.used (xs.0, record { within = xs.1.within; stand = xs.1.stand; used = s.used })

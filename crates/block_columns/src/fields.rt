@@ -9,10 +9,8 @@ ghost use Rattle.block_columns.specs.ColumnReadings.{field, number_at, reference
 ghost use Rattle.block_columns.specs.Outcomes.{Finds};
 
 use byte_fields::Reader;
-use indexmap::IndexSet;
 use span_fields::Break;
 use span_types::{AttrValue, SpanId, SpanKind, StatusCode, Text, TraceId};
-use std::hash::Hash;
 use std::marker::Model;
 
 /// A reader of fields, which contracts see as its place and how many values of the table were referred to.
@@ -160,23 +158,22 @@ impl<'a> Fields<'a> {
 
     /// Counts a reference to the value of this number.
     fn count_use(&mut self, number: u64)
-        requires { number < 2 ^ 63 }
+        requires { number + 1 < 2 ^ 64 }
         ensures { self.new ≡ record { within = self.old.within; stand = self.old.stand; used = max self.old.used (number + 1) } }
     {
         self.used = self.used.max(number as usize + 1);
     }
 
     /// A value of the table, by its number.
-    pub fn reference<'t, T: Eq + Hash>(&mut self, table: &'t IndexSet<T>) -> Result<&'t T, Break>
-        ensures { Finds (λ x. x.now) result self.new (reference_at table.now.keys self.old) }
+    pub fn reference<'t, T>(&mut self, table: &'t [T]) -> Result<&'t T, Break>
+        ensures { Finds (λ x. x.now) result self.new (reference_at table.now self.old) }
     {
         let at = self.at();
         let number = self.number()?;
-        let values = table.as_slice();
         if number > self.used() as u64 || number >= table.len() as u64 {
             return Err(Break::At(at));
         }
         self.count_use(number);
-        Ok(&values[number as usize])
+        Ok(&table[number as usize])
     }
 }

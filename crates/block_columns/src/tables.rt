@@ -69,15 +69,15 @@ pub fn unused<K: Kind>(alloc: Global, list: &Fields, kind: &K, number: u64) -> B
 
 /// The values of a table, by their numbers.
 #[derive(Drop)]
-pub struct Referred<'t, T: Eq + Hash> {
+pub struct Referred<'t, T> {
     /// The table.
-    pub table: &'t IndexSet<T>,
+    pub table: &'t [T],
 }
 
-impl<'t, T: Eq + Hash + TryCopy> Kind for Referred<'t, T> {
+impl<'t, T: TryCopy> Kind for Referred<'t, T> {
     type Item = T;
 
-    ghost reading = { λ r. reference_at r.table.now.keys };
+    ghost reading = { λ r. reference_at r.table.now };
 
     fn read(&self, fields: &mut Fields) -> Result<T, Break> {
         let value = fields.reference(self.table)?;
@@ -87,21 +87,21 @@ impl<'t, T: Eq + Hash + TryCopy> Kind for Referred<'t, T> {
 
 /// A column of values that stand in a table of their own, each of which is used.
 #[derive(Drop)]
-pub struct Owners<'t, T: Eq + Hash, K> {
+pub struct Owners<'t, T, K> {
     /// The table.
-    pub table: &'t IndexSet<T>,
+    pub table: &'t [T],
     /// Where the table stands.
     pub list: Fields<'t>,
-    /// The kind of its values.
+    /// The kind of what stands there.
     pub kind: K,
 }
 
-impl<'t, T: Eq + Hash + TryCopy, K: Kind<Item = T>> Columns for Owners<'t, T, K> {
+impl<'t, T: TryCopy, K: Kind> Columns for Owners<'t, T, K> {
     type Item = T;
 
-    ghost reading = { λ o n s. owners_at (K.reading o.kind) o.list o.table.now.keys n s };
+    ghost reading = { λ o n s. owners_at (K.reading o.kind) o.list o.table.now n s };
 
-    #[tactic(auto, unfolding(crate::specs::ColumnReadings::owners_at))]
+    #[tactic(auto, using(crate::proofs::ReadingSteps::malformed_any), unfolding(crate::specs::ColumnReadings::owners_at))]
     fn read_all(&self, alloc: Global, fields: &mut Fields, count: u64) -> Result<Vec<T>, Break> {
         let outer = fields.used();
         fields.count_from(0);
