@@ -1,14 +1,18 @@
 -- What the calls of the reader come to.
-use Rattle.std.proofs.Common.{◌≡◌, ℕ, suc, ◌+◌, ◌-◌, ◌<◌, ◌≤◌, max, Bool, true, false, not, cond, leb, List, [], ◌∷◌, ◌++◌, Option, Some, None, Result, Ok, Err, refl, sym, ap, ◌∙◌, arith}
+use Rattle.std.proofs.Common.{◌≡◌, ℕ, zero, suc, ◌+◌, ◌-◌, ◌<◌, ◌≤◌, max, Bool, true, false, not, cond, leb, List, [], ◌∷◌, ◌++◌, Option, Some, None, Result, Ok, Err, append_assoc, refl, sym, ap, ◌∙◌, arith}
 use Rattle.std.specs.List.{slice_get, list_any}
 use Rattle.std.proofs.lemmas.Bool.{le-leb, lt-leb}
+use Rattle.std.proofs.lemmas.List.{append-nil}
 use Rattle.byte_fields.specs.Reading.{Stand, ◌>>=◌}
 use Rattle.span_fields.specs.declared.breaks.Break.{Break}
 use Rattle.span_fields.specs.declared.breaks.Break.TheVariants as breaks
 use Rattle.span_fields.specs.Breaks.{Fails, Gives}
+use Rattle.span_fields.proofs.Meant.{Bound, bound}
+use Rattle.block_columns.specs.Tables.{AllAfter}
 use Rattle.block_columns.specs.ColumnReadings.{Spot, Read, at_spot, malformed, field, number_at, reference_at, items_at, unless_at, new_at}
 use Rattle.block_columns.specs.ColumnLaws.{read_to}
 use Rattle.block_columns.specs.Outcomes.{Finds}
+use Rattle.block_columns.proofs.Basics.{same_read}
 use Rattle.block_columns.proofs.MeantParts.{at_spot_ok}
 
 pub finds_field : {X Y : Type 0} (view : X → Y) (result : Result X Break) (read : Bool → Stand → Result (Y × Stand) ℕ) (s t : Spot) → Gives view result t.stand (read s.within s.stand) → t ≡ record { within = s.within; stand = t.stand; used = s.used } → Finds view result t (field read s)
@@ -70,6 +74,22 @@ items_done read count i before s total le so_far =
     let k : count - i ≡ 0 = omega arith in
     let one : items_at read (count - i) before s ≡ read_to before s = rw k refl in
     sym so_far ∙ one
+
+-- what holds of each item that is read, holds of all
+pub record GoodItems {A : Type 0} (Good : List A → A → Type 0) (before all : List A) : Type 0 where
+  pub more : List A
+  pub is : all ≡ before ++ more
+  pub good : AllAfter Good before more
+
+pub items_good : {A : Type 0} (read : List A → Read A) (Good : List A → A → Type 0) → ((before : List A) (s : Spot) (x : A) (t : Spot) → read before s ≡ read_to x t → Good before x)
+    → (n : ℕ) (before : List A) (s : Spot) (all : List A) (t : Spot) → items_at read n before s ≡ read_to all t → GoodItems Good before all
+unfolding items_at
+items_good read Good each zero before s all t e = record { more = []; is = sym (same_read before all s t e).0 ∙ sym (append-nil before); good = tt }
+items_good read Good each (suc n) before s all t e =
+    let a = bound (read before s) (λ x. items_at read n (before ++ x.0 ∷ []) x.1) (all, t) e in
+    let x = a.value.0 in
+    let rest = items_good read Good each n (before ++ x ∷ []) a.value.1 all t a.last in
+    record { more = x ∷ rest.more; is = rest.is ∙ append_assoc before (x ∷ []) rest.more; good = (each before s x a.value.1 a.first, rest.good) }
 
 -- ---- new values
 
