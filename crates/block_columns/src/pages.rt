@@ -1,7 +1,7 @@
 //! What is written of columns: bytes, and the values that they refer to.
 
 ghost use Rattle.std.specs.Prelude.{◌≡◌, ◌++◌, [], ℕ, List, OnOk, IfOk, length, map};
-ghost use Rattle.byte_fields.specs.Spelling.{fixed64_bytes, var_bytes};
+ghost use Rattle.byte_fields.specs.Spelling.{fixed64_bytes, var_bytes, zigzag_bytes};
 ghost use Rattle.block_columns.specs.ColumnEncodings.{Encoding, column, counted, plain, reference, wrote};
 
 use byte_fields::Writer;
@@ -57,6 +57,13 @@ impl<'a, T: Eq + Hash> Page<'a, T> {
         ensures { OnOk result (self.new ≡ wrote (plain var_bytes) value self.old) }
     {
         self.out.var(value)
+    }
+
+    /// Adds a signed number.
+    pub fn whole(&mut self, value: i64) -> Result<(), Memory>
+        ensures { OnOk result (self.new ≡ wrote (plain zigzag_bytes) value self.old) }
+    {
+        self.out.zigzag(value)
     }
 
     /// Adds these bytes.
