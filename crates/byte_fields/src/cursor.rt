@@ -36,6 +36,16 @@ impl<'a> Cursor<'a> {
         Cursor { bytes, at }
     }
 
+    /// A second cursor at the same place.
+    pub fn fork(&self) -> Cursor<'a>
+        ensures { result ≡ self.now }
+    {
+        Cursor {
+            bytes: self.bytes,
+            at: self.at,
+        }
+    }
+
     /// The place.
     pub fn at(&self) -> usize
         ensures place { result ≡ self.now.at }

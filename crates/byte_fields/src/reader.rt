@@ -55,6 +55,16 @@ impl<'a> Reader<'a> {
         }
     }
 
+    /// A second reader at the same place of the same bytes.
+    pub fn fork(&self) -> Reader<'a>
+        ensures { result ≡ self.now }
+    {
+        Reader {
+            alloc: self.alloc,
+            cursor: self.cursor.fork(),
+        }
+    }
+
     /// The place of the next byte, which is at most the number of bytes.
     pub fn at(&self) -> u64
         ensures place { result ≡ self.now.at }

@@ -11,7 +11,7 @@ mod writing;
 pub use breaks::{Break, byte, fixed64, text, var};
 pub use laws::{encoded_is_read, read_is_encoded};
 pub use lists::{Decode, Encode, list, put_list};
-pub use reading::{attrs, kind, parent, span_id, status, trace_id};
+pub use reading::{attrs, kind, parent, span_id, status, trace_id, value};
 pub use writing::{
     put_attrs, put_id, put_kind, put_moment, put_parent, put_status, put_text, put_trace,
 };

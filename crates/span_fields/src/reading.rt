@@ -51,8 +51,9 @@ fn truth_value(reader: &mut Reader, within: bool) -> Result<AttrValue, Break>
     Ok(AttrValue::Truth(truth))
 }
 
+/// An attribute's value.
 #[tactic(auto, unfolding(crate::specs::Decodings::value_at))]
-fn value(reader: &mut Reader, within: bool) -> Result<AttrValue, Break>
+pub fn value(reader: &mut Reader, within: bool) -> Result<AttrValue, Break>
     ensures { Gives (λ x. x) result reader.new (value_at within reader.old) }
 {
     let at = reader.at();

@@ -1,0 +1,9 @@
+pub mod Basics
+pub mod Numbering
+pub mod Added
+pub mod MeantParts
+pub mod AgainParts
+pub mod References
+pub mod Bundles
+pub mod ReadingSteps
+pub mod WritingSteps

@@ -1,0 +1,5 @@
+pub mod Tables
+pub mod ColumnEncodings
+pub mod ColumnReadings
+pub mod ColumnLaws
+pub mod Outcomes
