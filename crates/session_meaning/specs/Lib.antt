@@ -1,4 +1,5 @@
 pub mod History
 pub mod Statuses
 pub mod Session
-pub mod SessionLaws
+pub mod Runs
+pub mod Progress

@@ -1,4 +1,4 @@
--- What the lines of a session are answered. Each line is answered at the history that the lines before it left.
+-- What is asked in a session is answered in order, each at the history that what came before it left.
 use Rattle.std.specs.Prelude.{◌≡◌, ◌⊎◌, ℕ, ◌+◌, ◌-◌, ◌^◌, ◌<◌, ◌≤◌, min, Bool, true, false, List, [], ◌∷◌, ◌++◌, length, take, count_by, Option, Some, Result, Ok, Err, if◌then◌else◌}
 use Rattle.io_edges.specs.Lines.{lines, taken_limit}
 use Rattle.io_edges.specs.Reader.{HasNoFeed}
@@ -16,10 +16,10 @@ use Rattle.session_text.specs.declared.reply.Reply.TheVariants.{Pushed, Traced, 
 use Rattle.session_meaning.specs.declared.ending.Ending.{Ending}
 use Rattle.session_meaning.specs.declared.ending.Ending.TheVariants.{Answered, BadWords, ReadFault, Spent, Starved, WriteFault}
 use Rattle.session_meaning.specs.declared.ending.Ending.TheVariants as ending
-use Rattle.session_meaning.specs.History.{Accepted, History, history_rows}
+use Rattle.session_meaning.specs.History.{History, length_of, rows_of, with_push}
 use Rattle.search_answer.specs.Answers.{IsAnswer}
 use Rattle.search_text.specs.Fields.{printed_fields}
-use Rattle.session_text.specs.Requests.{Asks}
+use Rattle.session_text.specs.Items.{Item}
 use Rattle.spanset_eval.specs.declared.results.TraceResult.{TraceResult}
 use Rattle.trace_rows.specs.Traces.{rows_of_trace}
 use Rattle.traceql_syntax.specs.Trees.{query_tree}
@@ -33,6 +33,11 @@ is_for_other _ = true
 abbrev pub is_refusal : Reply → Bool
 is_refusal (Refused why) = is_for_other why
 is_refusal _ = false
+
+-- It was refused in reading for another cause than memory.
+abbrev pub is_refused : Item → Bool
+is_refused (Ok request) = false
+is_refused (Err why) = is_for_other why
 
 -- A refusal for memory.
 abbrev pub is_memory : Refusal → Bool
@@ -60,42 +65,35 @@ reply_texts (r ∷ rs) = reply_text r ++ reply_texts rs
 -- What a search finds at a history: its answer over the first occurrences of all spans in it.
 pub record IsFound (s : Search) (history : History) (results : List TraceResult) : Type 0 where
   pub rows : List Row
-  pub firsts : IsFirstOf (history_rows history) rows
+  pub firsts : IsFirstOf (rows_of history) rows
   pub answer : IsAnswer s.checked.patterns (query_tree s.checked.query) s.range s.limit s.spans_per_set rows results
 
 -- What is asked at a history is answered so, and leaves that history.
--- A push is told how many entries came before it, how many of its spans are kept and were rejected, and how much was
+-- A push is told how many pushes came before it, how many of its spans are kept and were rejected, and how much was
 -- skipped. Its spans are appended.
--- A look-up is told the number of entries too, and the first occurrences of the trace's spans in the history.
+-- A look-up is told that number too, and the first occurrences of the trace's spans in the history.
 -- A search is told that number, and what it finds.
 -- A line that asks nothing is refused for its cause, and appends nothing.
-abbrev pub IsAnswered : Result Request Refusal → History → Reply → History → Type 0
+abbrev pub IsAnswered : Item → History → Reply → History → Type 0
 IsAnswered (Ok (Push reading)) before reply after =
-    (reply ≡ Pushed (length before) (length reading.batch.spans) reading.rejected reading.skipped) × (after ≡ before ++ Accepted reading.batch.spans ∷ [])
+    (reply ≡ Pushed (length_of before) (length reading.batch.spans) reading.rejected reading.skipped) × (after ≡ with_push before reading.batch.spans)
 IsAnswered (Ok (Trace id)) before reply after =
-    (rows : List Row) × IsFirstOf (rows_of_trace id (history_rows before)) rows × (reply ≡ Traced (length before) rows) × (after ≡ before)
+    (rows : List Row) × IsFirstOf (rows_of_trace id (rows_of before)) rows × (reply ≡ Traced (length_of before) rows) × (after ≡ before)
 IsAnswered (Ok (request.Search s)) before reply after =
-    (results : List TraceResult) × IsFound s before results × (reply ≡ Searched (length before) (printed_fields (query_tree s.checked.query)) results) × (after ≡ before)
+    (results : List TraceResult) × IsFound s before results × (reply ≡ Searched (length_of before) (printed_fields (query_tree s.checked.query)) results) × (after ≡ before)
 IsAnswered (Err why) before reply after = (reply ≡ Refused why) × (after ≡ before)
 
 -- The same, or memory was wanted: it is refused for that, and nothing is appended.
-abbrev pub IsAnsweredOrStarved : Result Request Refusal → History → Reply → History → Type 0
+abbrev pub IsAnsweredOrStarved : Item → History → Reply → History → Type 0
 IsAnsweredOrStarved asked before reply after =
     IsAnswered asked before reply after ⊎ ((reply ≡ Refused Memory) × (after ≡ before))
 
--- The line asks something, or has a cause to be refused, and is answered so. That the maker of patterns counted each
--- pattern that is refused for its size is said of the whole run.
-abbrev pub IsLineAnswered : List ℕ → History → Reply → History → Type 0
-IsLineAnswered line before reply after =
-    (asked : Result Request Refusal) × Asks line (Unit {0}) asked × IsAnsweredOrStarved asked before reply after
-
--- The lines are answered in order, from a history to a history. A line without bytes gets no reply.
-abbrev pub Session : History → List (List ℕ) → List Reply → History → Type 0
+-- What is asked is answered in order, from a history to a history.
+abbrev pub Session : History → List Item → List Reply → History → Type 0
 Session before [] replies after = (replies ≡ []) × (after ≡ before)
-Session before ([] ∷ lines) replies after = Session before lines replies after
-Session before ((b ∷ bs) ∷ lines) [] after = ⊥
-Session before ((b ∷ bs) ∷ lines) (reply ∷ replies) after =
-    (between : History) × IsLineAnswered (b ∷ bs) before reply between × Session between lines replies after
+Session before (item ∷ items) [] after = ⊥
+Session before (item ∷ items) (reply ∷ replies) after =
+    (between : History) × IsAnsweredOrStarved item before reply between × Session between items replies after
 
 -- How a session ends whose input was read to its end: with a refusal for another cause than memory among its replies,
 -- else with one for memory among them, else with none.
@@ -146,19 +144,6 @@ Ends BadWords text later left before replies taken = ⊥
 abbrev pub RoseBy : ℕ → ℕ → ℕ → Type 0
 RoseBy n before now = min (before + n) (2 ^ 64 - 1) ≤ now
 
--- What a session did that read `text` and ended so: the lines of a prefix were answered in order from no push on, and
--- their replies, and nothing else, stand written as the ending says. Each refusal of a pattern for its size was counted by
--- the maker of patterns, whose counts are told last.
-pub record HasRun (text before : List ℕ) (left taken : Option (List ℕ)) (ending : Ending) (refused_before refused_now : ℕ) : Type 0 where
-  pub answered : List (List ℕ)
-  pub later : List (List ℕ)
-  pub replies : List Reply
-  pub history : History
-  pub lines_are : lines text ≡ answered ++ later
-  pub session : Session [] answered replies history
-  pub ends : Ends ending text later left before replies taken
-  pub counted : RoseBy (count_by is_too_big replies) refused_before refused_now
-
 -- How a run ends that answers one line alone, and what stands written: the reply; nothing or a first part of it, where
 -- memory was wanted or the sink failed.
 abbrev pub EndsAlone : Ending → List ℕ → Reply → Option (List ℕ) → Type 0
@@ -167,9 +152,3 @@ EndsAlone ending.Refused before reply taken = IsWritten before (reply ∷ []) ta
 EndsAlone Starved before reply taken = (IsWritten before (reply ∷ []) taken × (end_of (reply ∷ []) ≡ Starved)) ⊎ (taken ≡ Some before)
 EndsAlone WriteFault before reply taken = (count : ℕ) × (taken ≡ Some (before ++ take count (reply_text reply)))
 EndsAlone _ before reply taken = ⊥
-
--- The line is answered as the first of a session, and alone.
-abbrev pub AnswersAlone : List ℕ → List ℕ → Option (List ℕ) → Ending → ℕ → ℕ → Type 0
-AnswersAlone line before taken ending refused_before refused_now =
-    (reply : Reply) × (after : History) × IsLineAnswered line [] reply after × EndsAlone ending before reply taken
-    × RoseBy (count_by is_too_big (reply ∷ [])) refused_before refused_now

@@ -243,6 +243,71 @@ fn no_command_needs_a_right_to_wait_yet(rt: HostRuntime) -> Result<(), Memory> {
     Ok(())
 }
 
+// A reader that gives one line a call, where there is room, and counts its calls.
+#[derive(Drop)]
+struct LineByLine<'a> {
+    lines: &'a [&'a [u8]],
+    calls: u64,
+}
+
+impl Read for LineByLine<'_> {
+    fn read(&mut self, buf: &mut [u8]) -> io::Result<usize> {
+        self.calls = self.calls.saturating_add(1);
+        let Some((line, later)) = self.lines.split_first() else {
+            return Ok(0);
+        };
+        let count = line.len();
+        if count > buf.len() {
+            return Ok(0);
+        }
+        buf[..count].copy_from_slice(line);
+        self.lines = later;
+        Ok(count)
+    }
+}
+
+// How often a session over two lines reads, where the sink fails at the listed calls, and the status that it ends with.
+fn reads_of<R: Threads + Wait + Sync>(
+    rt: &R,
+    alloc: Global,
+    failing: &[u64],
+) -> Result<(u64, u8), Memory> {
+    let lines: [&[u8]; 2] = [b"push {}\n", b"push {}\n"];
+    let mut words = Vec::new(alloc);
+    words.push(String::from_str(alloc, "session")?)?;
+    let mut reader = LineByLine {
+        lines: &lines,
+        calls: 0,
+    };
+    let mut sink = MemSink::new(alloc, calls(alloc, failing)?);
+    let mut clock = FixedClock::new(Moments::of(Vec::new(alloc)));
+    let Ended { status, disk: () } = run(
+        rt,
+        alloc,
+        words.as_slice(),
+        &mut StdinSource::new(&mut reader),
+        &mut sink,
+        (),
+        &mut clock,
+        &mut RegexMaker::new(alloc),
+        &OpenGate,
+    );
+    Ok((reader.calls, status))
+}
+
+#[test]
+fn a_reply_is_written_before_the_next_line_is_read(rt: HostRuntime) -> Result<(), Memory> {
+    let alloc = rt.alloc();
+    // The first reply can't be written: the second line isn't read, nor anything after a failed write.
+    let first = reads_of(&rt, alloc, &[1])?;
+    assert!(rt; first == (1, 1));
+    let second = reads_of(&rt, alloc, &[2])?;
+    assert!(rt; second == (2, 1));
+    let none = reads_of(&rt, alloc, &[])?;
+    assert!(rt; none == (3, 0));
+    Ok(())
+}
+
 // A stream that fails at every call.
 #[derive(Drop)]
 struct Broken;

@@ -4,3 +4,4 @@ pub mod Seen
 pub mod Searches
 pub mod Requests
 pub mod Replies
+pub mod Items

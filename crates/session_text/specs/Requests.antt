@@ -61,16 +61,20 @@ other_line word line rest =
     else if bytes_eq word (codes "search") then search_with (search_parts (length line) rest)
     else plain (Err (BadRequest 0))
 
--- What a line is that isn't too long. Only a push may have bytes that aren't UTF-8, and its JSON is then none.
-abbrev pub line_by : List ℕ → List ℕ → Option (List ℕ) → Line
-line_by word line rest =
+-- What a request is, by its first part. Only a push may have bytes that aren't UTF-8, and its JSON is then none.
+abbrev pub request_by : List ℕ → List ℕ → Option (List ℕ) → Line
+request_by word line rest =
     if bytes_eq word (codes "push") then plain (push_with (length line) rest)
     else if is_utf8 line then other_line word line rest
     else plain (Err (BadRequest 0))
 
--- What a line is.
+-- What a request is, however long.
+abbrev pub request_of : List ℕ → Line
+request_of line = request_by (first_part line) line (other_parts line)
+
+-- What a line is: a request, or one that is refused for its length.
 unfoldable pub line_of : List ℕ → Line
-line_of line = if nat_le (length line) line_limit then line_by (first_part line) line (other_parts line) else plain (Err (TooLong (length line)))
+line_of line = if nat_le (length line) line_limit then request_of line else plain (Err (TooLong (length line)))
 
 -- a search as an answer to a line
 abbrev pub AsksSearch : SearchLine → Type 0 → Result Request Refusal → Type 0

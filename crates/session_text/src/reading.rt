@@ -5,7 +5,7 @@ ghost use Rattle.span_types.specs.Faults.{Rose};
 ghost use Rattle.session_text.specs.declared.refusal.Refusal.TheVariants.{Memory};
 ghost use Rattle.session_text.specs.Lines.{first_part, other_parts};
 ghost use Rattle.session_text.specs.Options.{search_parts};
-ghost use Rattle.session_text.specs.Requests.{Answers, Asks, HasFewSpans, line_by, line_of, other_line, push_with, search_with, trace_with, with_id};
+ghost use Rattle.session_text.specs.Requests.{Answers, Asks, HasFewSpans, line_of, other_line, push_with, search_with, trace_with, with_id};
 ghost use Rattle.session_text.specs.Seen.{left_seen};
 
 use crate::options::{search_parts, split_text};

@@ -1,11 +1,10 @@
 -- What a run leaves that answers one line alone.
-use Rattle.std.proofs.Common.{◌≡◌, inl, inr, ℕ, List, [], ◌∷◌, ◌++◌, Bool, true, false, Option, Some, None, Result, Ok, Err, MatchResult, take, refl, sym, ap, ◌∙◌, subst, append-nil, arith, if◌then◌else◌}
+use Rattle.std.proofs.Common.{◌≡◌, inl, inr, ℕ, List, [], ◌∷◌, ◌++◌, Bool, true, false, Option, Some, None, Err, take, refl, sym, ap, ◌∙◌, subst, append-nil, arith, if◌then◌else◌}
 use Rattle.std.specs.Io.KnownBytes.{Appends}
-use Rattle.command_words.specs.declared.asked.WordsError.{WordsError}
-use Rattle.command_words.specs.declared.asked.WordsError.TheVariants as words_error
 use Rattle.session_meaning.specs.declared.ending.Ending.{Ending}
 use Rattle.session_meaning.specs.declared.ending.Ending.TheVariants.{Answered, BadWords, ReadFault, Refused, Spent, Starved, WriteFault}
-use Rattle.session_meaning.specs.Session.{AnswersAlone, EndsAlone, IsWritten, is_for_memory, is_refusal}
+use Rattle.session_meaning.specs.History.{no_push}
+use Rattle.session_meaning.specs.Session.{EndsAlone, IsWritten, is_for_memory, is_refusal}
 use Rattle.session_text.specs.declared.refusal.Refusal.TheVariants as refusal
 use Rattle.session_text.specs.declared.reply.Reply.{Reply}
 use Rattle.session_text.specs.declared.reply.Reply.TheVariants as reply
@@ -14,11 +13,11 @@ use Rattle.session_text.specs.Requests.{Answers, Line, line_of, plain, searched}
 use Rattle.traceql_syntax.specs.declared.errors.ParseError.TheVariants as parse
 use Rattle.trace_shell.specs.declared.session.Seen.{Seen}
 use Rattle.trace_shell.specs.Holding.{Holding, Holds}
-use Rattle.trace_shell.specs.Turn.{HasGiven, ending_of}
+use Rattle.trace_shell.specs.Turn.{CameAlone, HasGiven, ending_of}
 
 -- nothing is held of no push
-pub holds_nothing : (held : Holding) → held ≡ record { rows = []; pushes = 0 } → Holds held []
-holds_nothing held is = subst (λ h. Holds h []) (sym is) (record { rows_are = refl; count = refl })
+pub holds_nothing : (held : Holding) → held ≡ record { rows = []; pushes = 0 } → Holds held no_push
+holds_nothing held is = subst (λ h. Holds h no_push) (sym is) (record { rows_are = refl; count = refl })
 
 -- no reply was seen
 abbrev pub nothing_seen : Seen
@@ -63,20 +62,6 @@ memory_answers (searched line) = inl (record { why = parse.Memory; is = refl; ri
 memory_answers (plain answer) = inr refl
 
 -- nothing was written, since memory was wanted
-pub starved_alone : (line before : List ℕ) (taken : Option (List ℕ)) (count : ℕ) → taken ≡ Some before → AnswersAlone line before taken Starved count count
+pub starved_alone : (line before : List ℕ) (taken : Option (List ℕ)) (count : ℕ) → taken ≡ Some before → CameAlone line before taken Starved count count
 starved_alone line before taken count is =
-    (reply.Refused refusal.Memory, [], (Err refusal.Memory, memory_answers (line_of line), inr (refl, refl)), inr is, omega arith)
-
-same_error : {A : Type 0} (r : Result A WordsError) (e f : WordsError) → r ≡ Err e → r ≡ Err f → e ≡ f
-same_error r e f is other = cc
-
-memory_is_no_refusal : words_error.Memory ≡ words_error.Refused → ⊥
-memory_is_no_refusal s = cc
-
-ok_is_no_error : {A : Type 0} (a : A) (r : Result A WordsError) (e : WordsError) → r ≡ Ok a → r ≡ Err e → ⊥
-ok_is_no_error a r e is other = cc
-
--- words that ask something aren't refused
-pub not_refused : {A : Type 0} (P : A → Type 0) (r : Result A WordsError) → MatchResult r P (λ e. e ≡ words_error.Memory) → r ≡ Err words_error.Refused → ⊥
-not_refused P (Ok a) h is = ok_is_no_error a (Ok a) words_error.Refused refl is
-not_refused P (Err e) h is = memory_is_no_refusal (sym h ∙ same_error (Err e) e words_error.Refused refl is)
+    (reply.Refused refusal.Memory, no_push, (Err refusal.Memory, memory_answers (line_of line), inr (refl, refl)), inr is, omega arith)

@@ -2,5 +2,6 @@ pub mod RowLemmas
 pub mod SessionLemmas
 pub mod TurnLemmas
 pub mod AloneLemmas
-pub mod StatusLemmas
+pub mod RunLemmas
 pub mod SizeLemmas
+pub mod ArgumentLemmas

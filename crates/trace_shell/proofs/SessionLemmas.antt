@@ -1,9 +1,8 @@
 -- What a push, a look-up and a search answer, from what is held.
-use Rattle.std.proofs.Common.{◌≡◌, inl, ℕ, ◌+◌, List, [], ◌∷◌, ◌++◌, Ok, length, refl, sym, ◌∙◌, ap, subst, arith, length-append}
+use Rattle.std.proofs.Common.{◌≡◌, inl, ℕ, ◌+◌, List, ◌++◌, Ok, length, refl, sym, ◌∙◌, ap, subst}
 use Rattle.span_types.specs.declared.ids.TraceId.{TraceId}
 use Rattle.otlp_spans.specs.declared.read.Reading.{Reading}
 use Rattle.span_types.specs.declared.spans.Row.{Row}
-use Rattle.span_types.specs.declared.spans.Span.{Span}
 use Rattle.span_types.specs.First.{IsFirstOf}
 use Rattle.session_text.specs.declared.request.Request.TheVariants.{Push, Trace}
 use Rattle.session_text.specs.declared.request.Request.TheVariants as request
@@ -13,26 +12,23 @@ use Rattle.search_answer.specs.Answers.{IsAnswer}
 use Rattle.search_text.specs.Fields.{printed_fields}
 use Rattle.spanset_eval.specs.declared.results.TraceResult.{TraceResult}
 use Rattle.traceql_syntax.specs.Trees.{query_tree}
-use Rattle.session_meaning.specs.History.{Accepted, History, history_rows, rows_from}
+use Rattle.session_meaning.specs.History.{History, length_of, rows_from, rows_of, with_push}
 use Rattle.trace_rows.specs.Traces.{rows_of_trace}
 use Rattle.session_meaning.specs.Session.{IsAnsweredOrStarved}
-use Rattle.session_meaning.specs.SessionLaws.{history_rows-push}
+use Rattle.session_meaning.proofs.SessionLaws.{length_of-push, rows_of-push}
 use Rattle.trace_shell.specs.Holding.{Holding, Holds}
-
-one_more : (history : History) (spans : List Span) → length (history ++ Accepted spans ∷ []) ≡ length history + 1
-one_more history spans = rw length-append (omega arith)
 
 pub pushed_on : (old new : Holding) (history : History) (reading : Reading) (n accepted : ℕ) → Holds old history → n ≡ old.pushes → accepted ≡ length reading.batch.spans →
     new.pushes ≡ old.pushes + 1 → new.rows ≡ old.rows ++ rows_from n 0 reading.batch.spans →
     (after : History) × IsAnsweredOrStarved (Ok (Push reading)) history (Pushed n accepted reading.rejected reading.skipped) after × Holds new after
 pushed_on old new history reading n accepted h is_n is_count pushes rows =
-    let number : n ≡ length history = is_n ∙ h.count in (
-      history ++ Accepted reading.batch.spans ∷ [],
-      inl (ap (λ k. Pushed k accepted reading.rejected reading.skipped) number ∙ ap (λ k. Pushed (length history) k reading.rejected reading.skipped) is_count, refl),
+    let number : n ≡ length_of history = is_n ∙ h.count in (
+      with_push history reading.batch.spans,
+      inl (ap (λ k. Pushed k accepted reading.rejected reading.skipped) number ∙ ap (λ k. Pushed (length_of history) k reading.rejected reading.skipped) is_count, refl),
       record {
-        rows_are = rows ∙ ap (λ rs. rs ++ rows_from n 0 reading.batch.spans) h.rows_are ∙ ap (λ k. history_rows history ++ rows_from k 0 reading.batch.spans) number
-            ∙ sym (history_rows-push history reading.batch.spans);
-        count = pushes ∙ ap (λ k. k + 1) h.count ∙ sym (one_more history reading.batch.spans);
+        rows_are = rows ∙ ap (λ rs. rs ++ rows_from n 0 reading.batch.spans) h.rows_are ∙ ap (λ k. rows_of history ++ rows_from k 0 reading.batch.spans) number
+            ∙ sym (rows_of-push history reading.batch.spans);
+        count = pushes ∙ ap (λ k. k + 1) h.count ∙ sym (length_of-push history reading.batch.spans);
       },
     )
 
@@ -50,6 +46,6 @@ searched_on held history s rows fields results n h firsts answer printed is_n =
     inl (
       results,
       record { rows = rows; firsts = subst (λ rs. IsFirstOf rs rows) h.rows_are firsts; answer = answer },
-      ap (λ k. Searched k fields results) (is_n ∙ h.count) ∙ ap (λ fs. Searched (length history) fs results) printed,
+      ap (λ k. Searched k fields results) (is_n ∙ h.count) ∙ ap (λ fs. Searched (length_of history) fs results) printed,
       refl,
     )

@@ -14,7 +14,7 @@ use Rattle.session_text.specs.declared.refusal.Refusal.TheVariants as refusal
 use Rattle.session_text.specs.declared.reply.Reply.TheVariants as reply
 use Rattle.session_text.specs.Lines.{first_part, other_parts}
 use Rattle.session_text.specs.Options.{SearchLine, search_parts}
-use Rattle.session_text.specs.Requests.{Answers, Asks, Line, line_by, line_of, other_line, plain, push_with, pushed, search_with, searched, trace_with, with_id}
+use Rattle.session_text.specs.Requests.{Answers, Asks, Line, line_of, other_line, plain, push_with, pushed, request_by, search_with, searched, trace_with, with_id}
 use Rattle.session_text.specs.Searches.{of_check, of_parse}
 use Rattle.traceql_syntax.specs.declared.errors.ParseError.{ParseError}
 use Rattle.traceql_syntax.specs.declared.errors.ParseError.TheVariants as parse
@@ -61,7 +61,7 @@ other_small word line rest =
     choose (bytes_eq word (codes "trace")) _ _ (trace_small (length line) rest)
     (choose (bytes_eq word (codes "search")) _ _ (search_small (search_parts (length line) rest)) refl)
 
-by_small : (word line : List ℕ) (rest : Option (List ℕ)) → Small (line_by word line rest)
+by_small : (word line : List ℕ) (rest : Option (List ℕ)) → Small (request_by word line rest)
 by_small word line rest =
     choose (bytes_eq word (codes "push")) _ _ (push_small (length line) rest) (choose (is_utf8 line) _ _ (other_small word line rest) refl)
 

@@ -12,14 +12,16 @@ use Rattle.session_meaning.specs.declared.ending.Ending.TheVariants.{Answered, B
 use Rattle.session_text.specs.declared.reply.Reply.{Reply}
 use Rattle.session_text.specs.declared.refusal.Refusal.TheVariants as refusal
 use Rattle.session_text.specs.declared.reply.Reply.TheVariants as reply
-use Rattle.session_meaning.specs.History.{History}
+use Rattle.session_meaning.specs.History.{History, no_push}
 use Rattle.session_text.specs.Requests.{Asks, line_of, plain}
 use Rattle.session_text.specs.Replies.{reply_text}
-use Rattle.session_meaning.specs.Session.{Ends, HasRun, IsAllEnded, IsAllRead, IsLineAnswered, IsCutOff, RoseBy, end_of, is_for_memory, is_refusal, is_too_big, reply_texts}
-use Rattle.session_meaning.specs.SessionLaws.{Progress, progress_begins, progress_empty, progress_line, reply_texts-push}
+use Rattle.session_meaning.specs.Session.{Ends, IsAllEnded, IsAllRead, IsCutOff, RoseBy, end_of, is_for_memory, is_refusal, is_too_big, reply_texts}
+use Rattle.session_meaning.specs.Progress.{IsLineAnswered, Progress}
+use Rattle.session_meaning.proofs.EndLaws.{taken_within}
+use Rattle.session_meaning.proofs.SessionLaws.{progress_begins, progress_empty, progress_line, reply_texts-push}
 use Rattle.trace_shell.specs.declared.session.Seen.{Seen}
 use Rattle.trace_shell.specs.Holding.{Holding, Holds}
-use Rattle.trace_shell.specs.Turn.{HasGiven, IsAt, Turned, ending_of, seen_with}
+use Rattle.trace_shell.specs.Turn.{Came, HasGiven, IsAt, Turned, ending_of, seen_with}
 
 -- Bytes taken in two steps.
 pub took_more : (text : List ℕ) (left new : Option (List ℕ)) (a b c : ℕ) → TakesBytes (Some text) left a b → TakesBytes left new b c → TakesBytes (Some text) new a c
@@ -30,13 +32,6 @@ took_more text (Some xs) (Some ys) a b c first second = (
   first.1 ∙ ap (λ zs. first.0 ++ zs) second.1 ∙ sym (append_assoc first.0 second.0 ys),
   rw length-append (omega (arith, first.2, second.2)),
 )
-
--- As many bytes as were taken are in the text.
-pub taken_within : (text : List ℕ) (left : Option (List ℕ)) (taken : ℕ) → TakesBytes (Some text) left 0 taken → taken ≤ length text
-taken_within text None taken took = absurd took.1
-taken_within text (Some xs) taken took =
-    let sizes : length text ≡ length took.0 + length xs = ap length took.1 ∙ length-append took.0 xs in
-    omega (arith, sizes, took.2)
 
 -- Where nothing is left they are just that many.
 pub taken_all : (text : List ℕ) (left : Option (List ℕ)) (taken : ℕ) → TakesBytes (Some text) left 0 taken → left ≡ Some [] → length text ≡ taken
@@ -132,9 +127,11 @@ answered_at text before left_old left taken_old taken reader_old reader held_old
     turned (Some Starved) g = record {
       answered = progress.answered;
       later = lines next.rest;
+      items = progress.items;
       replies = at.replies ++ reply ∷ [];
-      history = after;
+      last = after;
       lines_are = progress.lines_are;
+      asked = progress.asked;
       session = progress.session;
       ends = inr (inr (record {
         whole = at.replies;
@@ -147,9 +144,11 @@ answered_at text before left_old left taken_old taken reader_old reader held_old
     turned (Some WriteFault) g = record {
       answered = progress.answered;
       later = lines next.rest;
+      items = progress.items;
       replies = at.replies ++ reply ∷ [];
-      history = after;
+      last = after;
       lines_are = progress.lines_are;
+      asked = progress.asked;
       session = progress.session;
       ends = (g.0, cut_off before at.replies reply taken_old taken g.0 at.written g.1);
       counted = sum;
@@ -220,13 +219,15 @@ too_long_at text before left_old left taken_old taken reader_old reader held see
 -- The lines that weren't answered are those of what is to be read.
 stops : (text before : List ℕ) (left taken : Option (List ℕ)) (reader : Reader) (held : Holding) (seen : Seen) (ending : Ending)
     (new : Option (List ℕ)) (start now : ℕ) (at : IsAt text before left taken reader held seen start now) → Ends ending text (lines at.rest) new before at.replies taken →
-    HasRun text before new taken ending start now
+    Came text before new taken ending start now
 stops text before left taken reader held seen ending new start now at ends = record {
   answered = at.progress.answered;
   later = lines at.rest;
+  items = at.progress.items;
   replies = at.replies;
-  history = at.history;
+  last = at.history;
   lines_are = at.progress.lines_are;
+  asked = at.progress.asked;
   session = at.progress.session;
   ends = ends;
   counted = at.counted;
@@ -246,7 +247,7 @@ ends_all_read text later left before replies taken all =
 -- All was read.
 pub ended_at : (text before : List ℕ) (left_old left taken : Option (List ℕ)) (reader_old reader : Reader) (held : Holding) (seen : Seen)
     (start now : ℕ) (at : IsAt text before left_old taken reader_old held seen start now) → (at.rest ≡ []) × IsToRead reader left [] → reader.taken < taken_limit →
-    TakesBytes left_old left reader_old.taken reader.taken → HasRun text before left taken (ending_of seen) start now
+    TakesBytes left_old left reader_old.taken reader.taken → Came text before left taken (ending_of seen) start now
 ended_at text before left_old left taken reader_old reader held seen start now at (none, to_read) fewer took =
     let read = took_more text left_old left 0 reader_old.taken reader.taken at.took took in
     let no_more : left ≡ Some [] = nothing_left reader left to_read in
@@ -283,7 +284,7 @@ all_ended text front reader left rest is to_read waiting = record {
 -- As many bytes were taken as are ever taken.
 pub spent_at : (text before : List ℕ) (left_old left taken : Option (List ℕ)) (reader_old reader : Reader) (held : Holding) (seen : Seen)
     (start now : ℕ) (at : IsAt text before left_old taken reader_old held seen start now) → reader.taken ≡ taken_limit →
-    TakesBytes left_old left reader_old.taken reader.taken → IsToRead reader left at.rest → HoldsNoFeed reader → HasRun text before left taken Spent start now
+    TakesBytes left_old left reader_old.taken reader.taken → IsToRead reader left at.rest → HoldsNoFeed reader → Came text before left taken Spent start now
 spent_at text before left_old left taken reader_old reader held seen start now at all took to_read waiting =
     stops text before left_old taken reader_old held seen Spent left start now at (
       at.written,
@@ -293,13 +294,13 @@ spent_at text before left_old left taken reader_old reader held seen start now a
 
 -- The source failed.
 pub failed_at : (text before : List ℕ) (left_old left taken : Option (List ℕ)) (reader_old reader : Reader) (held : Holding) (seen : Seen)
-    (start now : ℕ) (at : IsAt text before left_old taken reader_old held seen start now) → IsToRead reader left at.rest → HoldsNoFeed reader → HasRun text before left taken ReadFault start now
+    (start now : ℕ) (at : IsAt text before left_old taken reader_old held seen start now) → IsToRead reader left at.rest → HoldsNoFeed reader → Came text before left taken ReadFault start now
 failed_at text before left_old left taken reader_old reader held seen start now at to_read waiting =
     stops text before left_old taken reader_old held seen ReadFault left start now at (at.written, all_ended text at.progress.front reader left at.rest at.progress.text_is to_read waiting)
 
 -- Memory was wanted for a line.
 pub starved_at : (text before : List ℕ) (left_old left taken : Option (List ℕ)) (reader : Reader) (held : Holding) (seen : Seen) (start now : ℕ) →
-    IsAt text before left_old taken reader held seen start now → HasRun text before left taken Starved start now
+    IsAt text before left_old taken reader held seen start now → Came text before left taken Starved start now
 starved_at text before left_old left taken reader held seen start now at = stops text before left_old taken reader held seen Starved left start now at (inr (inl at.written))
 
 -- Bytes taken in two steps, wherever they came from.
@@ -336,10 +337,10 @@ pub begins_at : (text before : List ℕ) (left taken : Option (List ℕ)) (reade
 begins_at text before left taken reader held seen start told gave to_read none_taken nothing no_refusal no_hunger = record {
   rest = text;
   replies = [];
-  history = [];
+  history = no_push;
   to_read = subst (λ l. IsToRead reader l text) (sym told) to_read;
   progress = progress_begins text;
-  holds = subst (λ h. Holds h []) (sym nothing) (record { rows_are = refl; count = refl });
+  holds = subst (λ h. Holds h no_push) (sym nothing) (record { rows_are = refl; count = refl });
   written = gave ∙ ap Some (sym (append-nil before));
   refused = no_refusal;
   starved = no_hunger;

@@ -1,3 +1,4 @@
 pub mod Holding
 pub mod Turn
 pub mod Real
+pub mod Arguments

@@ -1,16 +1,19 @@
--- What a turn of a session does: one line is read and answered, and its reply written.
-use Rattle.std.specs.Prelude.{◌≡◌, ℕ, List, ◌++◌, ◌||◌, count_by, Option, Some, None, if◌then◌else◌}
+-- Private mechanism of a session: what a turn does, in which one line is read and answered, and its reply written; and
+-- what a session, and a line alone, come to. A run is specified in session_meaning.
+use Rattle.std.specs.Prelude.{◌≡◌, ℕ, List, [], ◌∷◌, ◌++◌, ◌||◌, count_by, Option, Some, None, if◌then◌else◌}
 use Rattle.std.specs.List.{list_any}
 use Rattle.std.specs.Io.KnownBytes.{Appends}
 use Rattle.io_edges.specs.Devices.{AppendsPrefix}
+use Rattle.io_edges.specs.Lines.{lines}
 use Rattle.io_edges.specs.Reader.{Reader, IsToRead, TakesBytes}
 use Rattle.session_meaning.specs.declared.ending.Ending.{Ending}
 use Rattle.session_meaning.specs.declared.ending.Ending.TheVariants.{Answered, Refused, Starved, WriteFault}
 use Rattle.session_text.specs.declared.reply.Reply.{Reply}
-use Rattle.session_meaning.specs.History.{History}
+use Rattle.session_meaning.specs.History.{History, no_push}
+use Rattle.session_text.specs.Items.{AreAsked, Item}
 use Rattle.session_text.specs.Replies.{reply_text}
-use Rattle.session_meaning.specs.Session.{HasRun, RoseBy, is_for_memory, is_refusal, is_too_big, reply_texts}
-use Rattle.session_meaning.specs.SessionLaws.{Progress}
+use Rattle.session_meaning.specs.Progress.{IsLineAnswered, Progress}
+use Rattle.session_meaning.specs.Session.{Ends, EndsAlone, RoseBy, Session, is_for_memory, is_refusal, is_too_big, reply_texts}
 use Rattle.trace_shell.specs.declared.session.Seen.{Seen}
 use Rattle.trace_shell.specs.Holding.{Holding, Holds}
 
@@ -45,7 +48,26 @@ pub record IsAt (text before : List ℕ) (left taken : Option (List ℕ)) (reade
   pub took : TakesBytes (Some text) left 0 reader.taken
   pub counted : RoseBy (count_by is_too_big replies) start now
 
+-- What a session came to that read `text` and ended so, and how far the maker's count of refusals came.
+pub record Came (text before : List ℕ) (left taken : Option (List ℕ)) (ending : Ending) (start now : ℕ) : Type 0 where
+  pub answered : List (List ℕ)
+  pub later : List (List ℕ)
+  pub items : List Item
+  pub replies : List Reply
+  pub last : History
+  pub lines_are : lines text ≡ answered ++ later
+  pub asked : AreAsked answered items
+  pub session : Session no_push items replies last
+  pub ends : Ends ending text later left before replies taken
+  pub counted : RoseBy (count_by is_too_big replies) start now
+
+-- What a line came to that was answered alone.
+abbrev pub CameAlone : List ℕ → List ℕ → Option (List ℕ) → Ending → ℕ → ℕ → Type 0
+CameAlone line before taken ending start now =
+    (reply : Reply) × (after : History) × IsLineAnswered line no_push reply after × EndsAlone ending before reply taken
+    × RoseBy (count_by is_too_big (reply ∷ [])) start now
+
 -- What a turn leaves: the session is at its next line, or it ended.
 abbrev pub Turned : List ℕ → List ℕ → Option (List ℕ) → Option (List ℕ) → Reader → Holding → Seen → ℕ → ℕ → Option Ending → Type 0
 Turned text before left taken reader held seen start now None = IsAt text before left taken reader held seen start now
-Turned text before left taken reader held seen start now (Some ending) = HasRun text before left taken ending start now
+Turned text before left taken reader held seen start now (Some ending) = Came text before left taken ending start now

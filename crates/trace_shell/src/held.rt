@@ -5,7 +5,7 @@ ghost use Rattle.span_types.specs.First.{IsFirstOf};
 ghost use Rattle.session_meaning.specs.History.{rows_from};
 ghost use Rattle.trace_rows.specs.Traces.{rows_of_trace};
 
-use span_types::{Batch, Memory, Place, Row, Rows, TraceId, first_rows};
+use span_types::{Batch, Memory, Place, Row, Rows, TraceId, TryCopy, first_rows};
 use std::alloc::Global;
 use std::marker::Model;
 use trace_rows::rows_of;

@@ -10,9 +10,10 @@ ghost use Rattle.session_text.specs.declared.reply.Reply.{Reply};
 ghost use Rattle.session_text.specs.declared.request.Request.TheVariants.{Push, Trace};
 ghost use Rattle.session_text.specs.declared.request.Request.TheVariants as request;
 ghost use Rattle.session_meaning.specs.History.{History};
-ghost use Rattle.session_meaning.specs.Session.{AnswersAlone, HasRun, IsAnsweredOrStarved, IsLineAnswered, RoseBy, is_for_memory, is_refusal, is_too_big};
+ghost use Rattle.session_meaning.specs.Progress.{IsLineAnswered};
+ghost use Rattle.session_meaning.specs.Session.{IsAnsweredOrStarved, RoseBy, is_for_memory, is_refusal, is_too_big};
 ghost use Rattle.trace_shell.specs.Holding.{Holds};
-ghost use Rattle.trace_shell.specs.Turn.{seen_with, ending_of, HasGiven, IsAt, Turned};
+ghost use Rattle.trace_shell.specs.Turn.{Came, CameAlone, HasGiven, IsAt, Turned, ending_of, seen_with};
 
 use crate::held::Held;
 use io_edges::{Line, LineError, LineReader, Sink, Source};
@@ -86,7 +87,7 @@ pub(crate) fn session<S: Source, K: Sink, P: PatternMaker>(
     patterns: &mut P,
 ) -> Ending
     ensures ran { (text before : List ℕ) → S.left source.old ≡ Some text → K.taken sink.old ≡ Some before
-        → HasRun text before (S.left source.new) (K.taken sink.new) result (P.refusals patterns.old) (P.refusals patterns.new) }
+        → Came text before (S.left source.new) (K.taken sink.new) result (P.refusals patterns.old) (P.refusals patterns.new) }
     ensures maker_counted { P.refusals patterns.old ≤ P.refusals patterns.new }
     ensures write_fault { result ≡ WriteFault → Rose (K.faults sink.old) (K.faults sink.new) }
     ensures read_fault { result ≡ ReadFault → Rose (S.faults source.old) (S.faults source.new) }
@@ -100,7 +101,7 @@ pub(crate) fn session<S: Source, K: Sink, P: PatternMaker>(
         starved: false,
     };
     'lines: loop {
-        if let Some(ending) = turn(
+        if let Some(ending) = next_line(
             alloc,
             &mut reader,
             source,
@@ -121,7 +122,7 @@ pub(crate) fn one_line<K: Sink, P: PatternMaker>(
     patterns: &mut P,
     line: &[u8],
 ) -> Ending
-    ensures told { (before : List ℕ) → K.taken sink.old ≡ Some before → AnswersAlone line.now before (K.taken sink.new) result (P.refusals patterns.old) (P.refusals patterns.new) }
+    ensures told { (before : List ℕ) → K.taken sink.old ≡ Some before → CameAlone line.now before (K.taken sink.new) result (P.refusals patterns.old) (P.refusals patterns.new) }
     ensures maker_counted { P.refusals patterns.old ≤ P.refusals patterns.new }
     ensures write_fault { result ≡ WriteFault → Rose (K.faults sink.old) (K.faults sink.new) }
     ensures endings { (result ≡ WriteFault) ⊎ ((result ≡ Answered) ⊎ ((result ≡ Refused) ⊎ (result ≡ Starved))) }
@@ -132,14 +133,14 @@ pub(crate) fn one_line<K: Sink, P: PatternMaker>(
         starved: false,
     };
     let reply = answer(alloc, &mut held, patterns, line);
-    match give(alloc, &mut seen, sink, &reply) {
+    match write(alloc, &mut seen, sink, &reply) {
         Some(ending) => ending,
         None => seen.ending(),
     }
 }
 
 // Reads the next line, answers it and writes the reply. Gives how the session ends, where it does.
-fn turn<S: Source, K: Sink, P: PatternMaker>(
+fn next_line<S: Source, K: Sink, P: PatternMaker>(
     alloc: Global,
     reader: &mut LineReader,
     source: &mut S,
@@ -170,7 +171,7 @@ fn turn<S: Source, K: Sink, P: PatternMaker>(
     };
     match line {
         Line::Whole(bytes) => answer_line(alloc, held, seen, sink, patterns, bytes.as_slice()),
-        Line::TooLong { length } => give(
+        Line::TooLong { length } => write(
             alloc,
             seen,
             sink,
@@ -206,7 +207,7 @@ fn answer_line<K: Sink, P: PatternMaker>(
         return None;
     }
     let reply = answer(alloc, held, patterns, line);
-    give(alloc, seen, sink, &reply)
+    write(alloc, seen, sink, &reply)
 }
 
 // Answers a line.
@@ -221,7 +222,7 @@ fn answer<P: PatternMaker>(alloc: Global, held: &mut Held, patterns: &mut P, lin
     match read_request(alloc, line, patterns) {
         Ok(Request::Push(reading)) => push(held, reading),
         Ok(Request::Trace(id)) => trace(held, id),
-        Ok(Request::Search(search)) => found(alloc, held, &search),
+        Ok(Request::Search(search)) => search_reply(alloc, held, &search),
         Err(why) => Reply::Refused(why),
     }
 }
@@ -270,7 +271,7 @@ fn trace(held: &Held, id: TraceId) -> Reply
 }
 
 // Tells what a search finds.
-fn found(alloc: Global, held: &Held, search: &Search) -> Reply
+fn search_reply(alloc: Global, held: &Held, search: &Search) -> Reply
     ensures answered { (history : History) → Holds held.now history
         → IsAnsweredOrStarved (Ok (request.Search search.now)) history result history }
     ensures small { is_too_big result ≡ false }
@@ -305,7 +306,7 @@ fn results_of(alloc: Global, held: &Held, search: &Search) -> Result<Reply, Memo
 }
 
 // Writes a reply. Gives how the session ends, where it can't be written.
-fn give<K: Sink>(alloc: Global, seen: &mut Seen, sink: &mut K, reply: &Reply) -> Option<Ending>
+fn write<K: Sink>(alloc: Global, seen: &mut Seen, sink: &mut K, reply: &Reply) -> Option<Ending>
     ensures given { HasGiven (K.taken sink.old) (K.taken sink.new) seen.old seen.new reply.now result }
     ensures sink_counted { K.faults sink.old ≤ K.faults sink.new }
     ensures write_fault { IfSome result (λ ending. ending ≡ WriteFault → Rose (K.faults sink.old) (K.faults sink.new)) }

@@ -20,17 +20,17 @@ lines-init g c =
 pub lines-preserved : goal.lines-preserved
 lines-preserved g c = record {
   at = λ text before told gave.
-      subst (λ o. Turned text before (g.S.Source.left c.turn.new.source) (g.K.Sink.taken c.turn.new.sink) c.turn.new.reader c.turn.new.held c.turn.new.seen
-      (g.P.PatternMaker.refusals c.args.patterns.now) (g.P.PatternMaker.refusals c.turn.new.patterns) o)
-      c.in_default.is (c.turn.ensures.turned text before (g.P.PatternMaker.refusals c.args.patterns.now) (c.lines.invariant.at text before told gave));
+      subst (λ o. Turned text before (g.S.Source.left c.next_line.new.source) (g.K.Sink.taken c.next_line.new.sink) c.next_line.new.reader c.next_line.new.held c.next_line.new.seen
+      (g.P.PatternMaker.refusals c.args.patterns.now) (g.P.PatternMaker.refusals c.next_line.new.patterns) o)
+      c.in_default.is (c.next_line.ensures.turned text before (g.P.PatternMaker.refusals c.args.patterns.now) (c.lines.invariant.at text before told gave));
   room = c.in_default.ensures.room;
-  source_counted = omega (arith, c.lines.invariant.source_counted, c.turn.ensures.source_counted);
-  sink_counted = omega (arith, c.lines.invariant.sink_counted, c.turn.ensures.sink_counted);
-  maker_counted = omega (arith, c.lines.invariant.maker_counted, c.turn.ensures.maker_counted);
-  took = took_on _ _ _ 0 c.lines.reader.taken c.turn.new.reader.taken c.lines.invariant.took c.turn.ensures.took;
+  source_counted = omega (arith, c.lines.invariant.source_counted, c.next_line.ensures.source_counted);
+  sink_counted = omega (arith, c.lines.invariant.sink_counted, c.next_line.ensures.sink_counted);
+  maker_counted = omega (arith, c.lines.invariant.maker_counted, c.next_line.ensures.maker_counted);
+  took = took_on _ _ _ 0 c.lines.reader.taken c.next_line.new.reader.taken c.lines.invariant.took c.next_line.ensures.took;
 }
 
 pub returns-in-Some-clause-spent : goal.returns-in-Some-clause-spent
 returns-in-Some-clause-spent g c = λ is.
-    subst (λ n. TakesBytes (g.S.Source.left c.args.source.now) (g.S.Source.left c.turn.new.source) 0 n) (c.in-Some.ensures.spent is)
-    (took_on _ _ _ 0 c.lines.reader.taken c.turn.new.reader.taken c.lines.invariant.took c.turn.ensures.took)
+    subst (λ n. TakesBytes (g.S.Source.left c.args.source.now) (g.S.Source.left c.next_line.new.source) 0 n) (c.in-Some.ensures.spent is)
+    (took_on _ _ _ 0 c.lines.reader.taken c.next_line.new.reader.taken c.lines.invariant.took c.next_line.ensures.took)

@@ -1,8 +1,8 @@
 use Rattle.std.proofs.Common.{Err, ap, refl, sym, subst}
 use Rattle.io_edges.specs.Reader.{Answers, IsNextLine, IsToRead, IsWithinLimits, WouldAsk}
-use Rattle.session_meaning.specs.Session.{HasRun}
+use Rattle.trace_shell.specs.Turn.{Came}
 use Rattle.trace_shell.proofs.TurnLemmas.{ended_at, failed_at, spent_at, too_long_at, whole_at}
-use Rattle.trace_shell.proofs.session.turn.Goals as goal
+use Rattle.trace_shell.proofs.session.next_line.Goals as goal
 
 pub returns-in-Whole-clause-turned : goal.returns-in-Whole-clause-turned
 returns-in-Whole-clause-turned g c = λ text before start at.
@@ -16,14 +16,14 @@ returns-in-TooLong-clause-turned g c = λ text before start at.
     let answers = subst (λ l. Answers l at.rest (IsToRead c.next.new.self (g.S.Source.left c.next.new.source))) c.in-TooLong.is
     (c.in-Ok.ensures.line at.rest at.to_read) in
     let long = subst (λ l. IsWithinLimits l c.next.new.self.taken) c.in-TooLong.is c.in-Ok.ensures.limits in
-    too_long_at text before _ _ _ _ _ _ _ _ _ c.in-TooLong.length c.give.result _ _ _ at answers long c.next.ensures.took c.give.ensures.given refl
+    too_long_at text before _ _ _ _ _ _ _ _ _ c.in-TooLong.length c.write.result _ _ _ at answers long c.next.ensures.took c.write.ensures.given refl
 
 pub returns-in-End-clause-turned : goal.returns-in-End-clause-turned
 returns-in-End-clause-turned g c = λ text before start at.
     let answers = subst (λ l. Answers l at.rest (IsToRead c.next.new.self (g.S.Source.left c.next.new.source))) c.in-End.is
     (c.in-Ok.ensures.line at.rest at.to_read) in
     let fewer = subst (λ l. IsWithinLimits l c.next.new.self.taken) c.in-End.is c.in-Ok.ensures.limits in
-    subst (λ e. HasRun text before (g.S.Source.left c.next.new.source) (g.K.Sink.taken c.args.sink.now) e start (g.P.PatternMaker.refusals c.args.patterns.now)) (sym c.ending.ensures)
+    subst (λ e. Came text before (g.S.Source.left c.next.new.source) (g.K.Sink.taken c.args.sink.now) e start (g.P.PatternMaker.refusals c.args.patterns.now)) (sym c.ending.ensures)
     (ended_at text before _ _ _ _ _ _ _ _ _ at answers fewer c.next.ensures.took)
 
 pub returns-in-Err-Fault-clause-turned : goal.returns-in-Err-Fault-clause-turned
