@@ -27,41 +27,47 @@ fn trace(alloc: Global, skipped: &str, events: &str, links: &str) -> Result<Stri
     )
 }
 
+/// What a row wants: how much is skipped and the trace; or the path to the first wrong form, seen from the line.
+fn expected(alloc: Global, member: &str, wanted: &str) -> Result<String, AllocError> {
+    if let Some(path) = wanted.strip_prefix("wrong ") {
+        return format!(in alloc; "wrong $.resourceSpans[0].scopeSpans[0].spans[0]{path}");
+    }
+    let (skipped, own) = match wanted.split_once(" ") {
+        Some((skipped, json)) => (skipped, format!(in alloc; ",\"{member}\":{json}")?),
+        None => (wanted, String::new(alloc)),
+    };
+    if member == "events" {
+        trace(alloc, skipped, own.as_str(), "")
+    } else {
+        trace(alloc, skipped, "", own.as_str())
+    }
+}
+
+/// Whether a trace that was told reads back with nothing skipped.
+fn reads_back(alloc: Global, line: &str) -> Result<bool, Fail> {
+    match line.split_once(" {") {
+        Some((_, rest)) => {
+            let text = format!(in alloc; "{{{rest}")?;
+            let again = told(alloc, text.as_bytes())?;
+            Ok(again.as_str().strip_prefix("0 ") == Some(text.as_str()))
+        }
+        None => Ok(true),
+    }
+}
+
 /// A row is the member's JSON and what the line gives: how much is skipped and, where the written span has the member, its JSON
 /// there; or the path from the span to the first wrong form.
 fn check(rt: &(impl Abort + AllocGlobal), member: &str, table: &str) -> Result<(), Fail> {
     let alloc = rt.alloc();
     for row in table.lines() {
-        let Some((json, wanted)) = row.split_once(" => ") else {
-            continue;
-        };
-        let got = told(alloc, altered(alloc, member, json)?.as_bytes())?;
-        if let Some(path) = wanted.strip_prefix("wrong ") {
-            let at = format!(in alloc; "wrong $.resourceSpans[0].scopeSpans[0].spans[0]{path}")?;
-            assert!(rt; got.as_str() == at.as_str(), "{member} {json} gives {got}");
-            continue;
-        }
-        let mut own = String::new(alloc);
-        let skipped = match wanted.split_once(" ") {
-            Some((skipped, written)) => {
-                write!(own, ",\"{member}\":{written}")?;
-                skipped
-            }
-            None => wanted,
-        };
-        let whole = if member == "events" {
-            trace(alloc, skipped, own.as_str(), "")?
-        } else {
-            trace(alloc, skipped, "", own.as_str())?
-        };
-        assert!(rt;
-            got.as_str() == whole.as_str(),
-            "{member} {json} gives {got}"
-        );
-        if let Some((_, text)) = whole.split_once(" ") {
-            let again = told(alloc, text.as_bytes())?;
-            let same = again.as_str().strip_prefix("0 ") == Some(text);
-            assert!(rt; same, "{text} reads back as {again}");
+        if let Some((json, wanted)) = row.split_once(" => ") {
+            let got = told(alloc, altered(alloc, member, json)?.as_bytes())?;
+            let whole = expected(alloc, member, wanted)?;
+            assert!(rt;
+                got.as_str() == whole.as_str(),
+                "{member} {json} gives {got}"
+            );
+            assert!(rt; reads_back(alloc, got.as_str())?, "{got} doesn't read back");
         }
     }
     Ok(())
