@@ -143,7 +143,7 @@ list_at slot other s = do
   loose ← loose_at head.0.next_file (map (λ segment. segment.file) segments.0 ++ map (λ block. block.file) blocks.0) head.0.loose [] blocks.1
   Ok (record { generation = head.0.generation; next_file = head.0.next_file; floor = head.0.floor; segments = segments.0; blocks = blocks.0; loose = loose.0 }, loose.1)
 
--- ---- for private clauses
+-- ---- what calls that read answer
 
 -- What a call gave, seen by view, and where the reader then stands are what reading gives; or it breaks there, or memory
 -- was wanted.

@@ -45,7 +45,7 @@ byte_of pick seed file offset =
     free_byte pick (slice_index file.synced offset) (slice_index file.held offset) ((seed + offset) % 2 ^ 64)
 
 -- What a pick gives of the file of that number: 0 what was last synced, 1 what is held, 2 the greatest length with ones,
--- 3 the least length with zeros, and each other pick a mixture of its own.
+-- 3 the least length with zeros, and each other pick a mixture that its number determines.
 abbrev pub picked : ℕ → ℕ → FileState → List ℕ
 picked pick number file =
     if pick == 0 then file.synced

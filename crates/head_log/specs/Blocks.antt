@@ -1,4 +1,4 @@
--- Why a file could not be read.
+-- Private mechanism: why a file could not be read.
 use Rattle.std.specs.Prelude.{ℕ, ◌≤◌, Result, IsErrOf}
 use Rattle.span_types.specs.Faults.{Rose}
 use Rattle.head_log.specs.declared.read_back.Unread.{Unread}

@@ -1,4 +1,4 @@
--- How a prepared record is kept.
+-- Private mechanism: how a prepared record is kept.
 use Rattle.std.specs.Prelude.{◌≡◌, ℕ, ◌-◌, ◌<◌, ◌^◌, List, length, take, drop}
 use Rattle.head_log.specs.Records.{framed}
 

@@ -34,11 +34,13 @@ pub struct Reading {
 /// there. These have a form, and are tested in this order, depth first and lists by index:
 ///
 /// - the line is an object, and `resourceSpans` a list of objects;
-/// - of each of these `resource` is an object, and `scopeSpans` a list of objects;
-/// - of each of those `scope` is an object, with the texts `name` and `version`, and `spans` a list of objects;
-/// - of a span `name` is a text, `kind` a number or a text, `status` an object with the text `message` and with `code`,
-///   a number or a text, `events` a list of objects, whose `name` is a text, and `links` a list of objects;
-/// - the `attributes` of a resource, a scope, a span, an event and a link are a list of objects, whose `key` is a text.
+/// - of each of these `resource` is an object with `attributes`, then `scopeSpans` a list of objects;
+/// - of each of those `scope` is an object with the texts `name` and `version`, then `attributes`, and after it `spans`
+///   is a list of objects;
+/// - of a span `name` is a text, then `kind` a number or a text, `status` an object with the text `message` and then
+///   `code`, a number or a text, then `attributes`, then `events` a list of objects, each with the text `name` and then
+///   `attributes`, and last `links` a list of objects with `attributes`;
+/// - `attributes` are a list of objects everywhere, whose `key` is a text.
 ///
 /// A span is rejected, and counted, where `traceId` isn't a text of 32 hexadecimal digits of either case that aren't all
 /// zeros, or `spanId` one of 16, where `parentSpanId` is there and neither empty nor a text of 16 such digits, or where

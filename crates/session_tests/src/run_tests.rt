@@ -160,6 +160,31 @@ fn spellings_of_one_span_are_answered_alike(rt: HostRuntime) -> Result<(), Memor
     Ok(())
 }
 
+/// A span with an event that is kept, one that is skipped, and a link that is skipped.
+const EVENT_PUSH: &str =
+    r#"push {"resourceSpans":[{"scopeSpans":[{"spans":[{"traceId":"000000000000000000000000000000a1","spanId":"00000000000000b1","parentSpanId":"","name":"x","startTimeUnixNano":"1","endTimeUnixNano":"2","events":[{"timeUnixNano":"5","name":"e"},{"name":"f","timeUnixNano":true}],"links":[{"traceId":"00","spanId":"00"}]}]}]}]}"#;
+
+const EVENT_TRACE: &str =
+    r#"{"resourceSpans":[{"resource":{"attributes":[]},"scopeSpans":[{"scope":{"attributes":[],"name":"","version":""},"spans":[{"attributes":[],"endTimeUnixNano":"2","events":[{"attributes":[],"name":"e","timeUnixNano":"5"}],"kind":0,"name":"x","parentSpanId":"","spanId":"00000000000000b1","startTimeUnixNano":"1","status":{"code":0,"message":""},"traceId":"000000000000000000000000000000a1"}]}]}]}"#;
+
+#[test]
+fn events_are_kept_and_told(rt: HostRuntime) -> Result<(), Memory> {
+    let alloc = rt.alloc();
+    let lines = format!(in alloc; "{EVENT_PUSH}\n{LOOK_A1}\n")?;
+    let replies = format!(in alloc;
+        "ok push 0 accepted=1 rejected=0 skipped=2\nok trace as_of=1 spans=1 {EVENT_TRACE}\n"
+    )?;
+    check(
+        &rt,
+        alloc,
+        &["session"],
+        lines.as_str(),
+        (&[], &[]),
+        replies.as_str(),
+        0,
+    )
+}
+
 #[test]
 fn a_look_up_of_the_command_line_is_answered_alone(rt: HostRuntime) -> Result<(), Memory> {
     let alloc = rt.alloc();

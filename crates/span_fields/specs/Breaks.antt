@@ -22,7 +22,7 @@ or_place within s (Err e) = Err (place_of within s e)
 unfoldable pub in_part : {A : Type 0} → Bool → (Stand → Result (A × Stand) FieldError) → Stand → Result (A × Stand) ℕ
 in_part within read s = or_place within s (read s)
 
--- ---- for private clauses
+-- ---- what calls that read answer
 
 -- what is answered for a field's error
 abbrev pub break_of : Bool → ℕ → FieldError → Break

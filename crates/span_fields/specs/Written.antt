@@ -1,4 +1,4 @@
--- For private clauses: what is known of bytes once they are written.
+-- What is known of bytes once they are written.
 use Rattle.std.specs.Prelude.{◌≡◌, ℕ, List, length}
 use Rattle.byte_fields.specs.Reading.{AreBytes}
 

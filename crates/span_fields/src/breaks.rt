@@ -1,4 +1,4 @@
-//! Where a segment breaks its grammar, and fields that say so.
+//! Where bytes are malformed, and fields that say so.
 
 ghost use Rattle.std.specs.Prelude.{◌≡◌, length, IfOk};
 ghost use Rattle.byte_fields.specs.Reading.{byte_at, fixed64_at, raw_at, text_at, var_at, zigzag_at};
@@ -9,7 +9,7 @@ use byte_fields::{FieldError, Reader};
 use span_types::{Memory, Text};
 use std::alloc::{AllocError, AllocFailed};
 
-/// Why a segment could not be read on.
+/// Why bytes could not be read on.
 #[derive(Clone, Copy, Debug, PartialEq, Eq)]
 pub enum Break {
     /// Its bytes break the grammar at this place.
