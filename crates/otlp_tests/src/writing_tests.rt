@@ -78,10 +78,92 @@ fn row(
     Ok(Row { place, span })
 }
 
+/// The same without attributes.
+fn bare(
+    alloc: Global,
+    id: SpanId,
+    resource: &SharedResource,
+    scope: &SharedScope,
+) -> Result<Row, Memory>
+    requires { all_zero id.0 ≡ false }
+{
+    row(alloc, id, resource, scope, Attrs::none(alloc))
+}
+
+/// A resource that is a shop.
+fn shop(alloc: Global) -> Result<SharedResource, Memory> {
+    let name = AttrValue::Text(text(alloc, "shop")?);
+    let attrs = attr(alloc, "service.name", name)?;
+    SharedResource::of(alloc, Resource { attrs })
+}
+
+/// A scope of the library in this version.
+fn scope(alloc: Global, version: &str, attrs: Attrs) -> Result<SharedScope, Memory> {
+    let name = text(alloc, "lib")?;
+    let version = text(alloc, version)?;
+    SharedScope::of(
+        alloc,
+        Scope {
+            name,
+            version,
+            attrs,
+        },
+    )
+}
+
+/// Six rows: two of one scope, one of another, one of the first again, one of another resource, one of the first again.
+fn six_rows(
+    alloc: Global,
+    shop: &SharedResource,
+    plain: &SharedResource,
+    first: &SharedScope,
+    second: &SharedScope,
+) -> Result<Rows, Memory> {
+    let number = attr(alloc, "n", AttrValue::Whole(-7))?;
+    let mut rows = Vec::new(alloc);
+    rows.push(row(alloc, SpanId([1; 8]), shop, first, number)?)?;
+    rows.push(bare(alloc, SpanId([2; 8]), shop, first)?)?;
+    rows.push(bare(alloc, SpanId([3; 8]), shop, second)?)?;
+    rows.push(bare(alloc, SpanId([4; 8]), shop, first)?)?;
+    rows.push(bare(alloc, SpanId([5; 8]), plain, first)?)?;
+    rows.push(bare(alloc, SpanId([6; 8]), shop, first)?)?;
+    Ok(Rows::of(rows))
+}
+
 /// The text that a row's span has, with these attributes.
 fn written(alloc: Global, id: &str, attrs: &str) -> Result<String, AllocError> {
     format!(in alloc;
         "{{\"attributes\":[{attrs}],\"endTimeUnixNano\":\"18446744073709551615\",\"kind\":2,\"name\":\"n\",\"parentSpanId\":\"fefefefefefefefe\",\"spanId\":\"{id}\",\"startTimeUnixNano\":\"5\",\"status\":{{\"code\":2,\"message\":\"\\\"\"}},\"traceId\":\"a1a1a1a1a1a1a1a1a1a1a1a1a1a1a1a1\"}}"
+    )
+}
+
+const SHOP: &str =
+    r#""resource":{"attributes":[{"key":"service.name","value":{"stringValue":"shop"}}]}"#;
+
+const FIRST: &str =
+    r#""scope":{"attributes":[{"key":"old","value":{"boolValue":false}}],"name":"lib","version":"1.0"}"#;
+
+const SECOND: &str = r#""scope":{"attributes":[],"name":"lib","version":"1.1"}"#;
+
+/// The first four rows' runs of scopes.
+fn runs(alloc: Global) -> Result<String, AllocError> {
+    let number = r#"{"key":"n","value":{"intValue":"-7"}}"#;
+    let one = written(alloc, "0101010101010101", number)?;
+    let two = written(alloc, "0202020202020202", "")?;
+    let three = written(alloc, "0303030303030303", "")?;
+    let four = written(alloc, "0404040404040404", "")?;
+    format!(in alloc;
+        "{{{FIRST},\"spans\":[{one},{two}]}},{{{SECOND},\"spans\":[{three}]}},{{{FIRST},\"spans\":[{four}]}}"
+    )
+}
+
+/// The trace of the six rows.
+fn six_written(alloc: Global) -> Result<String, AllocError> {
+    let runs = runs(alloc)?;
+    let five = written(alloc, "0505050505050505", "")?;
+    let six = written(alloc, "0606060606060606", "")?;
+    format!(in alloc;
+        "{{\"resourceSpans\":[{{{SHOP},\"scopeSpans\":[{runs}]}},{{\"resource\":{{\"attributes\":[]}},\"scopeSpans\":[{{{FIRST},\"spans\":[{five}]}}]}},{{{SHOP},\"scopeSpans\":[{{{FIRST},\"spans\":[{six}]}}]}}]}}"
     )
 }
 
@@ -90,62 +172,15 @@ fn neighbours_with_equal_resources_and_scopes_are_written_together(
     rt: HostRuntime,
 ) -> Result<(), Fail> {
     let alloc = rt.alloc();
-    let none = Attrs::none(alloc);
-    let shop = attr(alloc, "service.name", AttrValue::Text(text(alloc, "shop")?))?;
-    let shop = SharedResource::of(alloc, Resource { attrs: shop })?;
-    let plain = SharedResource::of(
-        alloc,
-        Resource {
-            attrs: none.copy()?,
-        },
-    )?;
-    let first = SharedScope::of(
-        alloc,
-        Scope {
-            name: text(alloc, "lib")?,
-            version: text(alloc, "1.0")?,
-            attrs: attr(alloc, "old", AttrValue::Truth(false))?,
-        },
-    )?;
-    let second = SharedScope::of(
-        alloc,
-        Scope {
-            name: text(alloc, "lib")?,
-            version: text(alloc, "1.1")?,
-            attrs: none.copy()?,
-        },
-    )?;
-    let number = attr(alloc, "n", AttrValue::Whole(-7))?;
-    let mut rows = Vec::new(alloc);
-    rows.push(row(alloc, SpanId([1; 8]), &shop, &first, number)?)?;
-    rows.push(row(alloc, SpanId([2; 8]), &shop, &first, none.copy()?)?)?;
-    rows.push(row(alloc, SpanId([3; 8]), &shop, &second, none.copy()?)?)?;
-    rows.push(row(alloc, SpanId([4; 8]), &shop, &first, none.copy()?)?)?;
-    rows.push(row(alloc, SpanId([5; 8]), &plain, &first, none.copy()?)?)?;
-    rows.push(row(alloc, SpanId([6; 8]), &shop, &first, none)?)?;
-    let text = write_trace(alloc, &Rows::of(rows))?;
-
-    let shop =
-        "\"resource\":{\"attributes\":[{\"key\":\"service.name\",\"value\":{\"stringValue\":\"shop\"}}]}";
-    let first =
-        "\"scope\":{\"attributes\":[{\"key\":\"old\",\"value\":{\"boolValue\":false}}],\"name\":\"lib\",\"version\":\"1.0\"}";
-    let second = "\"scope\":{\"attributes\":[],\"name\":\"lib\",\"version\":\"1.1\"}";
-    let one = written(
-        alloc,
-        "0101010101010101",
-        "{\"key\":\"n\",\"value\":{\"intValue\":\"-7\"}}",
-    )?;
-    let two = written(alloc, "0202020202020202", "")?;
-    let three = written(alloc, "0303030303030303", "")?;
-    let four = written(alloc, "0404040404040404", "")?;
-    let five = written(alloc, "0505050505050505", "")?;
-    let six = written(alloc, "0606060606060606", "")?;
-    let runs = format!(in alloc;
-        "{{{first},\"spans\":[{one},{two}]}},{{{second},\"spans\":[{three}]}},{{{first},\"spans\":[{four}]}}"
-    )?;
-    let wanted = format!(in alloc;
-        "{{\"resourceSpans\":[{{{shop},\"scopeSpans\":[{runs}]}},{{\"resource\":{{\"attributes\":[]}},\"scopeSpans\":[{{{first},\"spans\":[{five}]}}]}},{{{shop},\"scopeSpans\":[{{{first},\"spans\":[{six}]}}]}}]}}"
-    )?;
-    assert_eq!(rt; text.as_str(), wanted.as_str());
+    let attrs = Attrs::none(alloc);
+    let plain = SharedResource::of(alloc, Resource { attrs })?;
+    let shop = shop(alloc)?;
+    let old = attr(alloc, "old", AttrValue::Truth(false))?;
+    let first = scope(alloc, "1.0", old)?;
+    let second = scope(alloc, "1.1", Attrs::none(alloc))?;
+    let rows = six_rows(alloc, &shop, &plain, &first, &second)?;
+    let told = write_trace(alloc, &rows)?;
+    let wanted = six_written(alloc)?;
+    assert_eq!(rt; told.as_str(), wanted.as_str());
     Ok(())
 }
