@@ -35,7 +35,8 @@ pub fn load<D: Device>(alloc: Global, disk: &mut D) -> Result<Option<ListBody>, 
     ensures only { IsTrue (D.tells disk.old) → (list : Option ListBody) → ImageHoldsList (D.held disk.old) list → IfOk result (λ found. found ≡ list) }
     ensures readable { IsTrue (D.tells disk.old) → (list : Option ListBody) (slot at : ℕ) → ImageHoldsList (D.held disk.old) list → result ≢ Err (NotList slot at) }
 
-    // A crash at any moment leaves what stands for what some image stood for at the start, with every other file.
+    // A crash at any moment leaves what stands for what some image stood for at the start, with every other file, and with
+    // each slot that wasn't vacant there, be it malformed.
     ensures kept { IsTrue (D.tells disk.old) → Run KeepsList D.moment D.left_since D.may_leave disk.old disk.new }
 
     // At `Ok` the disk still stands for the list, each slot has one image, which is what a read gives, and the next list may
