@@ -11,7 +11,7 @@ use Rattle.block_list.specs.Slots.SlotsHold.{none, alone, other_alone, newer, ot
 use Rattle.block_list.specs.Loading.{StaysOrClears, KeepsList}
 use Rattle.block_list.specs.Reading.{is_vacant}
 use Rattle.block_list.proofs.BodyLemmas.{length-text}
-use Rattle.block_list.proofs.SlotLemmas.{seen_from, seen_back}
+use Rattle.block_list.proofs.SlotLemmas.{zero_or_one, seen_from, seen_back}
 use Rattle.block_list.specs.declared.body.ListBody.{ListBody}
 
 -- a slot that holds a list isn't vacant
@@ -90,6 +90,17 @@ pub kept_cut : {D : Type 0} (moment : D → ℕ) (left_since : D → ℕ → Ima
 kept_cut moment left_since may_leave slot bytes old new below only vacant long run =
     run_more moment left_since may_leave (OnFile slot (HalfCut 1)) KeepsList old new run
     (λ origin image possible on. cut_image slot bytes origin image below (only origin possible) vacant long on)
+
+-- After a run from images that all have one content of each slot, an image's slots come from that content.
+pub slots_after : {D : Type 0} (moment : D → ℕ) (left_since : D → ℕ → Image → Type 0) (may_leave : D → Image → Type 0) (start image : Image) (old new : D) → OnlyBytes 0 (bytes_of start 0) (may_leave old)
+    → OnlyBytes 1 (bytes_of start 1) (may_leave old) → Run KeepsList moment left_since may_leave old new → may_leave new image → (slot : ℕ) → slot < 2 → StaysOrClears (bytes_of start slot) (bytes_of image slot)
+slots_after moment left_since may_leave start image old new only_0 only_1 run left slot below =
+    let r = run.now image left in
+    let same : bytes_of r.0 slot ≡ bytes_of start slot = elim (zero_or_one slot below) [
+      | inl is ↦ subst (λ (s : ℕ). bytes_of r.0 s ≡ bytes_of start s) (sym is) (only_0 r.0 r.1)
+      | inr is ↦ subst (λ (s : ℕ). bytes_of r.0 s ≡ bytes_of start s) (sym is) (only_1 r.0 r.1)
+    ] in
+    subst (λ (l : List ℕ). StaysOrClears l (bytes_of image slot)) same (r.2.slots slot below)
 
 -- what the test for a vacant slot tells
 pub vacant_from : (bytes : List ℕ) → is_vacant bytes ≡ true → IsVacant bytes
