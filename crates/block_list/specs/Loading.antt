@@ -1,8 +1,9 @@
 -- What loading a list answers, and what it leaves.
 use Rattle.std.specs.Prelude.{◌≡◌, ◌⊎◌, ℕ, ◌<◌, ◌≤◌, Option, Some, None, List, length, take, ◌&&◌, nat_le, if◌then◌else◌, Result, Ok, Err}
 use Rattle.disk_model.specs.Images.{Image, bytes_of}
+use Rattle.disk_model.specs.Bytes.{HalfCut}
 use Rattle.disk_model.specs.Crash.{OnlyBytes}
-use Rattle.block_list.specs.Slots.{IsOpen, ImageHoldsList}
+use Rattle.block_list.specs.Slots.{IsOpen, IsVacant, ImageHoldsList}
 use Rattle.block_list.specs.Reading.{is_vacant}
 use Rattle.block_list.specs.declared.body.ListBody.{ListBody}
 use Rattle.block_list.specs.declared.error.ListError.{ListError}
@@ -20,9 +21,16 @@ GivesList (Err Memory) read = Unit {0}
 GivesList (Err (NotList slot at)) read = read ≡ Err (slot, at)
 GivesList (Err Fault) read = ⊥
 
--- the new image stands for what the old one stood for, and has its files but for the two slots
+-- a slot stays as it was, or it is vacant, though long enough for a list, and is cut to its first
+-- byte, or is on the way there
+abbrev pub StaysOrClears : List ℕ → List ℕ → Type 0
+StaysOrClears old new = (new ≡ old) ⊎ (IsVacant old × (30 ≤ length old) × HalfCut 1 old new)
+
+-- The new image stands for what the old one stood for. Whatever the slots hold, malformed bytes
+-- too, one that isn't vacant stays as it was, and so does each other file.
 pub record KeepsList (old new : Image) : Type 0 where
   pub list : (found : Option ListBody) → ImageHoldsList old found → ImageHoldsList new found
+  pub slots : (slot : ℕ) → slot < 2 → StaysOrClears (bytes_of old slot) (bytes_of new slot)
   pub files : (file : ℕ) → 2 ≤ file → bytes_of new file ≡ bytes_of old file
 
 -- a list may be laid into the slot, if it doesn't hold the one that counts

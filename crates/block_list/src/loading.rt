@@ -7,7 +7,7 @@ ghost use Rattle.disk_model.specs.Crash.{OnlyBytes, Run, Untouched, HasCause};
 ghost use Rattle.block_list.specs.Body.{MeetsRules};
 ghost use Rattle.block_list.specs.Slots.{SlotsHold, ImageHoldsList, IsNext};
 ghost use Rattle.block_list.specs.Reading.{slots_at, newer_of, generation_of};
-ghost use Rattle.block_list.specs.Loading.{GivesList, error_of, KeepsList, IsFree, IsReady, cleared};
+ghost use Rattle.block_list.specs.Loading.{GivesList, error_of, StaysOrClears, KeepsList, IsFree, IsReady, cleared};
 ghost use Rattle.block_list.specs.declared.body.ListBody.{ListBody};
 ghost use Rattle.block_list.specs.declared.error.ListError.TheVariants.{Fault, NotList, Memory};
 
@@ -22,6 +22,7 @@ use std::alloc::Global;
 ///
 /// A closing gate may then be written to a slot whatever stands in it: it is either open, and holds the list before the
 /// one that counts, or too short to hold one. Where the slots are refused, or memory runs out, the disk stays as it was.
+/// At a fault too a slot that isn't vacant stays as it was, also a malformed one.
 pub fn load<D: Device>(alloc: Global, disk: &mut D) -> Result<Option<ListBody>, ListError>
     // What the slots say, and where they break, is by the bytes that the disk held.
     ensures found { IsTrue (D.tells disk.old) → IfOk result (λ list. slots_at (bytes_of (D.held disk.old) 0) (bytes_of (D.held disk.old) 1) ≡ Ok list) }
@@ -35,7 +36,8 @@ pub fn load<D: Device>(alloc: Global, disk: &mut D) -> Result<Option<ListBody>, 
     ensures only { IsTrue (D.tells disk.old) → (list : Option ListBody) → ImageHoldsList (D.held disk.old) list → IfOk result (λ found. found ≡ list) }
     ensures readable { IsTrue (D.tells disk.old) → (list : Option ListBody) (slot at : ℕ) → ImageHoldsList (D.held disk.old) list → result ≢ Err (NotList slot at) }
 
-    // A crash at any moment leaves what stands for what some image stood for at the start, with every other file.
+    // A crash at any moment leaves what stands for what some image stood for at the start, with every other file, and with
+    // each slot that wasn't vacant there, be it malformed.
     ensures kept { IsTrue (D.tells disk.old) → Run KeepsList D.moment D.left_since D.may_leave disk.old disk.new }
 
     // At `Ok` the disk still stands for the list, each slot has one image, which is what a read gives, and the next list may
@@ -44,6 +46,10 @@ pub fn load<D: Device>(alloc: Global, disk: &mut D) -> Result<Option<ListBody>, 
     ensures cleared_0 { IsTrue (D.tells disk.old) → OnOk result (bytes_of (D.held disk.new) 0 ≡ cleared (bytes_of (D.held disk.old) 0)) }
     ensures cleared_1 { IsTrue (D.tells disk.old) → OnOk result (bytes_of (D.held disk.new) 1 ≡ cleared (bytes_of (D.held disk.old) 1)) }
     ensures others { IsTrue (D.tells disk.old) → (file : ℕ) → 2 ≤ file → bytes_of (D.held disk.new) file ≡ bytes_of (D.held disk.old) file }
+
+    // Whatever the answer, a fault too, a read gives of a slot that isn't vacant what it gave before.
+    ensures slots { IsTrue (D.tells disk.old) → (slot : ℕ) → slot < 2
+        → StaysOrClears (bytes_of (D.held disk.old) slot) (bytes_of (D.held disk.new) slot) }
 
     // Slots that are refused stay as they were, and so does all else.
     ensures left_alone { IfErr result (λ error. error ≢ Fault

@@ -9,7 +9,7 @@ pub returns-then-bytes-ge30-clause-kept : goal.returns-then-bytes-ge30-clause-ke
 returns-then-bytes-ge30-clause-kept g c = λ told.
     let d = g.D.Device in
     let vacant : IsVacant c.args.bytes.now = vacant_from c.args.bytes.now (sym c.is_vacant.ensures ∙ c.if-is_vacant.true) in
-    kept_cut d.moment d.left_since d.may_leave c.args.slot c.args.bytes.now c.args.disk.now c.cut_through.new.disk c.requires.slot (c.requires.only told) vacant
+    kept_cut d.moment d.left_since d.may_leave c.args.slot c.args.bytes.now c.args.disk.now c.cut_through.new.disk c.requires.slot (c.requires.only told) vacant c.if-bytes-ge30.true
     (record { since = c.cut_through.ensures.any_moment; now = c.cut_through.ensures.crash })
 
 pub returns-clause-kept : goal.returns-clause-kept

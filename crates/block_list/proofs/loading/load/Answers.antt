@@ -5,7 +5,7 @@ use Rattle.block_list.specs.Reading.{slots_at}
 use Rattle.block_list.proofs.AgainSlots.{only_one, never_breaks}
 use Rattle.disk_model.proofs.Runs.{run_on, run_untouched}
 use Rattle.block_list.specs.Loading.{KeepsList}
-use Rattle.block_list.proofs.LoadLemmas.{keeps_same, keeps_trans}
+use Rattle.block_list.proofs.LoadLemmas.{keeps_same, keeps_trans, slots_after}
 use Rattle.block_list.proofs.ReadyLemmas.{rules_of}
 use Rattle.block_list.specs.declared.body.ListBody.{ListBody}
 use Rattle.block_list.specs.declared.error.ListError.{ListError}
@@ -34,6 +34,23 @@ returns-clause-kept g c = λ told.
     run_on d.moment d.left_since d.may_leave KeepsList c.args.disk.now c.read_both.new.disk c.clear_both.new.disk keeps_trans
     (run_untouched d.tells d.held d.may_leave d.moment d.left_since KeepsList c.args.disk.now c.read_both.new.disk keeps_same c.read_both.ensures.untouched)
     (c.clear_both.ensures.kept (subst IsTrue (sym c.read_both.ensures.untouched.telling) told))
+
+-- what a read gives of the slots comes from what it gave
+pub returns-in_err-clear_both-clause-slots : goal.returns-in_err-clear_both-clause-slots
+returns-in_err-clear_both-clause-slots g c = λ told.
+    let d = g.D.Device in
+    let told_mid : IsTrue (d.tells c.read_both.new.disk) = subst IsTrue (sym c.read_both.ensures.untouched.telling) told in
+    let told_new : IsTrue (d.tells c.clear_both.new.disk) = subst IsTrue (sym c.clear_both.ensures.telling) told_mid in
+    slots_after d.moment d.left_since d.may_leave (d.held c.args.disk.now) (d.held c.clear_both.new.disk) c.read_both.new.disk c.clear_both.new.disk (c.in_ok-first.ensures.slot_0 told) (c.in_ok-first.ensures.slot_1 told)
+    (c.clear_both.ensures.kept told_mid) (g.met.D.Device.held_may_stay c.clear_both.new.disk told_new)
+
+pub returns-clause-slots : goal.returns-clause-slots
+returns-clause-slots g c = λ told.
+    let d = g.D.Device in
+    let told_mid : IsTrue (d.tells c.read_both.new.disk) = subst IsTrue (sym c.read_both.ensures.untouched.telling) told in
+    let told_new : IsTrue (d.tells c.clear_both.new.disk) = subst IsTrue (sym c.clear_both.ensures.telling) told_mid in
+    slots_after d.moment d.left_since d.may_leave (d.held c.args.disk.now) (d.held c.clear_both.new.disk) c.read_both.new.disk c.clear_both.new.disk (c.in_ok-first.ensures.slot_0 told) (c.in_ok-first.ensures.slot_1 told)
+    (c.clear_both.ensures.kept told_mid) (g.met.D.Device.held_may_stay c.clear_both.new.disk told_new)
 
 -- the list is that of the bytes that the disk held
 pub returns-clause-list : goal.returns-clause-list
