@@ -19,7 +19,10 @@ pub record Behind {T : Type 0} (table : List T) (first : Encoded T) (s : Spot) :
 
 pub behind : {T : Type 0} (table : List T) (first : Encoded T) (rest : List ℕ) (s : Spot) → IsAt table s → left s.stand ≡ first.0 ++ rest → Begins first.1 table → Behind table first s
 behind table first rest s is bytes front = record {
-  is = record { within = within_ahead s.stand first.0 rest is.within bytes; few = begins_few first.1 table front };
+  is = record {
+    within = record { bytes_fit = is.within.bytes_fit; no_further = within_ahead s.stand first.0 rest is.within.no_further bytes };
+    few = begins_few first.1 table front;
+  };
   knows = begins_take first.1 table front;
 }
 
@@ -64,7 +67,7 @@ pub again_field : {T A : Type 0} (table : List T) (read : Bool → Stand → Res
 unfolding field
 again_field {T} {A} table read bytes Fits again s is x rest fits stands =
     let size : s.used ≡ length (known table s) = sym (length-take-le s.used table is.few) in
-    let e = again s.within s.stand is.within x rest fits stands.bytes in
+    let e = again s.within s.stand is.within.no_further x rest fits stands.bytes in
     ap (at_spot s) e ∙ ap (λ (k : ℕ). read_to x (record { within = s.within; stand = ahead (length (bytes x)) s.stand; used = k })) size
 
 -- ---- values in parts, and made values

@@ -22,7 +22,7 @@ pub wrote_then : {T A B : Type 0} (table : List T) (first : Encoding T A) (secon
 wrote_then {T} table first second x y s t u p q =
     let a = first x (known table s) in
     record {
-      bytes = subst (λ (k : List T). Took (a.0 ++ (second y k).0) s.stand u.stand) (sym p.table_is) (took_then a.0 (second y (known table t)).0 s.stand t.stand u.stand p.bytes q.bytes);
+      bytes = subst (λ (k : List T). Took (a.0 ++ (second y k).0) s.stand u.stand) (sym p.table_is) (took_then p.bytes q.bytes);
       table_is = ap (λ (k : List T). (second y k).1) p.table_is ∙ q.table_is;
       few = q.few;
       same = p.same ∙ q.same;

@@ -10,7 +10,7 @@ use Rattle.byte_fields.specs.Spelling.{fixed32_bytes, fixed64_bytes}
 use Rattle.byte_fields.specs.Reading.{Stand, left, ahead, ◌>>=◌}
 use Rattle.byte_fields.proofs.FieldLaws.{left-ahead, byte_again, fixed32_again, fixed64_again}
 use Rattle.block_list.specs.Body.{segment_bytes, block_bytes}
-use Rattle.block_list.specs.Reading.{ruled, read8, read32, read64, file_at, goes_on, first_at, segment_at, segments_at, level_at, rows_at, block_at, blocks_at, loose_at}
+use Rattle.block_list.specs.Reading.{ruled, read8, read32, read64, file_at, goes_on, first_number_at, segment_ref_at, segments_at, level_at, rows_at, block_at, blocks_at, loose_at}
 use Rattle.block_list.proofs.ReadingLemmas.{segment_files, block_files}
 use Rattle.block_list.proofs.Meaning.{FilesFit, FirstsFit, BlocksFit}
 use Rattle.block_list.specs.declared.body.SegmentRef.{SegmentRef}
@@ -102,8 +102,8 @@ firsts_fit floor before (first ∷ other ∷ firsts) small starts order to =
     )
 
 first_again : (floor : ℕ) (is_last : Bool) (before : Option ℕ) (s : Stand) (first : ℕ) (rest : List ℕ) → first ≤ 4294967295 → goes_on floor before first ≡ true → (not is_last || leb floor first) ≡ true → left s ≡ fixed64_bytes first ++ rest
-    → ReadsTo (first_at floor is_last before s) first rest
-unfolding first_at
+    → ReadsTo (first_number_at floor is_last before s) first rest
+unfolding first_number_at
 first_again floor is_last before s first rest small goes last e =
     then_read (read64 s) (λ first. ruled (leb first.0 4294967295 && goes_on floor before first.0 && (not is_last || leb floor first.0)) s.at first) first rest first rest
     (again64 s first rest (omega arith) e)
@@ -111,12 +111,12 @@ first_again floor is_last before s first rest small goes last e =
     (both_true (leb first 4294967295 && goes_on floor before first) (not is_last || leb floor first) (both_true (leb first 4294967295) (goes_on floor before first) (le-leb first 4294967295 small) goes) last) f)
 
 segment_again : (next_file floor : ℕ) (is_last : Bool) (before : Option ℕ) (seen : List ℕ) (s : Stand) (segment : SegmentRef) (rest : List ℕ) → next_file < 2 ^ 32 → 2 ≤ segment.file → segment.file < next_file → list_any (nat_eq segment.file) seen ≡ false
-    → segment.first ≤ 4294967295 → goes_on floor before segment.first ≡ true → (not is_last || leb floor segment.first) ≡ true → left s ≡ segment_bytes segment ++ rest → ReadsTo (segment_at next_file floor is_last before seen s) segment rest
-unfolding segment_at segment_bytes
+    → segment.first ≤ 4294967295 → goes_on floor before segment.first ≡ true → (not is_last || leb floor segment.first) ≡ true → left s ≡ segment_bytes segment ++ rest → ReadsTo (segment_ref_at next_file floor is_last before seen s) segment rest
+unfolding segment_ref_at segment_bytes
 segment_again next_file floor is_last before seen s segment rest below low high fresh small goes last e =
-    then_read (file_at next_file seen s) (λ file. first_at floor is_last before file.1 >>= λ first. Ok (record { file = file.0; first = first.0 }, first.1)) segment.file (fixed64_bytes segment.first ++ rest) segment rest
+    then_read (file_at next_file seen s) (λ file. first_number_at floor is_last before file.1 >>= λ first. Ok (record { file = file.0; first = first.0 }, first.1)) segment.file (fixed64_bytes segment.first ++ rest) segment rest
     (file_again next_file seen s segment.file (fixed64_bytes segment.first ++ rest) below low high fresh (e ∙ append_assoc (fixed32_bytes segment.file) (fixed64_bytes segment.first) rest))
-    (λ t f. then_read (first_at floor is_last before t) (λ first. Ok (record { file = segment.file; first = first.0 }, first.1)) segment.first rest segment rest (first_again floor is_last before t segment.first rest small goes last f) (λ u g. done_here segment u rest g))
+    (λ t f. then_read (first_number_at floor is_last before t) (λ first. Ok (record { file = segment.file; first = first.0 }, first.1)) segment.first rest segment rest (first_again floor is_last before t segment.first rest small goes last f) (λ u g. done_here segment u rest g))
 
 pub segments_again : (next_file floor : ℕ) (more : List SegmentRef) (before : Option ℕ) (done : List SegmentRef) (s : Stand) (rest : List ℕ) → next_file < 2 ^ 32 → FilesFit next_file (segment_files done) (segment_files more)
     → FirstsFit floor before (map (λ (segment : SegmentRef). segment.first) more) → left s ≡ flat_map segment_bytes more ++ rest → ReadsTo (segments_at next_file floor (length more) before done s) (done ++ more) rest
@@ -124,7 +124,7 @@ unfolding segments_at
 segments_again next_file floor [] before done s rest below files firsts e = record { stand = s; is = rw (append-nil done) refl; leaves = e }
 segments_again next_file floor (segment ∷ more) before done s rest below files firsts e =
     let size : length (map (λ (x : SegmentRef). x.first) more) ≡ length more = length-map more (λ (x : SegmentRef). x.first) in
-    then_read (segment_at next_file floor (eqb (length more) 0) before (segment_files done) s) (λ x. segments_at next_file floor (length more) (Some x.0.first) (done ++ x.0 ∷ []) x.1) segment (flat_map segment_bytes more ++ rest) (done ++ segment ∷ more) rest
+    then_read (segment_ref_at next_file floor (eqb (length more) 0) before (segment_files done) s) (λ x. segments_at next_file floor (length more) (Some x.0.first) (done ++ x.0 ∷ []) x.1) segment (flat_map segment_bytes more ++ rest) (done ++ segment ∷ more) rest
     (segment_again next_file floor (eqb (length more) 0) before (segment_files done) s segment (flat_map segment_bytes more ++ rest) below files.0 files.1 files.2 firsts.0 firsts.1
     (subst (λ (n : ℕ). (not (eqb n 0) || leb floor segment.first) ≡ true) size firsts.2) (e ∙ append_assoc (segment_bytes segment) (flat_map segment_bytes more) rest))
     (λ t f. subst (λ (l : List SegmentRef). ReadsTo (segments_at next_file floor (length more) (Some segment.first) (done ++ segment ∷ []) t) l rest) (append_assoc done (segment ∷ []) more)

@@ -9,7 +9,7 @@ use Rattle.byte_fields.specs.Reading.{Stand, left}
 use Rattle.block_list.specs.Body.{MeetsRules, files_of, firsts_of, magic, segment_bytes, block_bytes, head_bytes, text_of, successor}
 use Rattle.block_list.specs.Slots.{IsVacant, SlotHolds, SlotsHold}
 use Rattle.block_list.specs.Slots.SlotsHold.{none, alone, other_alone, newer, other_newer}
-use Rattle.block_list.specs.Reading.{ruled, read8, read32, read64, tag, are_neighbours, tag_at, generation_at, count_at, head_at, segments_at, blocks_at, loose_at, list_at, is_vacant, slot_at, slots_at}
+use Rattle.block_list.specs.Reading.{ruled, read8, read32, read64, tag, are_neighbours, tag_at, generation_at, count_at, head_at, segments_at, blocks_at, loose_at, list_body_at, is_vacant, slot_at, slots_at}
 use Rattle.block_list.proofs.ReadingLemmas.{segment_files, block_files}
 use Rattle.block_list.proofs.BodyLemmas.{few_segments, few_blocks, few_loose}
 use Rattle.block_list.proofs.LoadLemmas.{holds_not_vacant, vacant_from}
@@ -88,8 +88,8 @@ text_groups : (a b c d rest : List ℕ) → (a ++ b ++ c ++ d) ++ rest ≡ a ++ 
 text_groups a b c d rest = simp append_assoc
 
 list_again : (slot : ℕ) (other : Option ℕ) (s : Stand) (body : ListBody) (rest : List ℕ) → MeetsRules body → body.generation % 2 ≡ slot → are_neighbours body.generation other ≡ true → left s ≡ text_of body ++ rest
-    → ReadsTo (list_at slot other s) body rest
-unfolding list_at text_of
+    → ReadsTo (list_body_at slot other s) body rest
+unfolding list_body_at text_of
 list_again slot other s body rest rules parity beside e =
     let segments = flat_map segment_bytes body.segments in
     let blocks = flat_map block_bytes body.blocks in

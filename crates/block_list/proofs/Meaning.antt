@@ -10,11 +10,11 @@ use Rattle.std.proofs.lemmas.List.Elements.{All-from_recursion}
 use Rattle.std.proofs.lemmas.List.Folds.{list_any-append}
 use Rattle.byte_fields.specs.declared.error.FieldError.{FieldError}
 use Rattle.byte_fields.specs.Spelling.{fixed32_bytes, fixed64_bytes}
-use Rattle.byte_fields.specs.Reading.{Stand, left, AreBytes, IsWithin, ahead, Passes, ◌>>=◌, raw_at, byte_at, fixed32_at, fixed64_at}
+use Rattle.byte_fields.specs.Reading.{Stand, left, AreBytes, IsWithin, ahead, MovesPast, ◌>>=◌, raw_at, byte_at, fixed32_at, fixed64_at}
 use Rattle.byte_fields.proofs.FieldLaws.{read_as, left_fits, raw_takes, byte_takes, fixed32_takes, fixed64_takes}
-use Rattle.byte_fields.proofs.TextLaws.{Passes-then}
+use Rattle.byte_fields.proofs.TextLaws.{MovesPast-then}
 use Rattle.block_list.specs.Body.{MeetsRules, magic, segment_bytes, block_bytes, head_bytes, text_of}
-use Rattle.block_list.specs.Reading.{located, ruled, read8, read32, read64, tag, are_neighbours, tag_at, generation_at, count_at, head_at, file_at, goes_on, first_at, segment_at, segments_at, level_at, rows_at, block_at, blocks_at, loose_at, list_at}
+use Rattle.block_list.specs.Reading.{located, ruled, read8, read32, read64, tag, are_neighbours, tag_at, generation_at, count_at, head_at, file_at, goes_on, first_number_at, segment_ref_at, segments_at, level_at, rows_at, block_at, blocks_at, loose_at, list_body_at}
 use Rattle.block_list.proofs.ReadingLemmas.{segment_files, block_files}
 use Rattle.block_list.specs.declared.reading.Head.{Head}
 use Rattle.block_list.specs.declared.body.SegmentRef.{SegmentRef}
@@ -46,10 +46,10 @@ same_ok x y is = cc
 
 -- these bytes were passed
 pub record Took (spelling : List ℕ) (s t : Stand) : Type 0 where
-  pub passed : Passes spelling s t
+  pub passed : MovesPast spelling s t
   pub within : IsWithin t.whole t.at
 
-took : (spelling : List ℕ) (s t : Stand) → IsWithin s.whole s.at → Passes spelling s t → Took spelling s t
+took : (spelling : List ℕ) (s t : Stand) → IsWithin s.whole s.at → MovesPast spelling s t → Took spelling s t
 took spelling s t within passed =
     let whole : t.whole ≡ s.whole = ap (λ (x : Stand). x.whole) passed.place in
     let at : t.at ≡ s.at + length spelling = ap (λ (x : Stand). x.at) passed.place in
@@ -64,7 +64,7 @@ took_none s within =
     record { passed = record { spelled = refl; place = ap (λ (n : ℕ). record { whole = s.whole; at = n }) none }; within = within }
 
 took_then : (a b : List ℕ) (s t u : Stand) → Took a s t → Took b t u → Took (a ++ b) s u
-took_then a b s t u p q = record { passed = Passes-then a b s t u p.passed q.passed; within = q.within }
+took_then a b s t u p q = record { passed = MovesPast-then a b s t u p.passed q.passed; within = q.within }
 
 pub record TookByte (s t : Stand) (b : ℕ) : Type 0 where
   pub bytes : Took (b ∷ []) s t
@@ -215,13 +215,13 @@ record SegmentMeans (next_file floor : ℕ) (is_last : Bool) (before : Option �
   goes : goes_on floor before segment.first ≡ true
   last : (not is_last || leb floor segment.first) ≡ true
 
-segment_means : (next_file floor : ℕ) (is_last : Bool) (before : Option ℕ) (seen : List ℕ) (s t : Stand) (segment : SegmentRef) → IsWithin s.whole s.at → segment_at next_file floor is_last before seen s ≡ Ok (segment, t)
+segment_means : (next_file floor : ℕ) (is_last : Bool) (before : Option ℕ) (seen : List ℕ) (s t : Stand) (segment : SegmentRef) → IsWithin s.whole s.at → segment_ref_at next_file floor is_last before seen s ≡ Ok (segment, t)
     → SegmentMeans next_file floor is_last before seen s t segment
-unfolding segment_at first_at segment_bytes
+unfolding segment_ref_at first_number_at segment_bytes
 segment_means next_file floor is_last before seen s t segment within is =
-    let f = bound (file_at next_file seen s) (λ file. first_at floor is_last before file.1 >>= λ first. Ok (record { file = file.0; first = first.0 }, first.1)) (segment, t) is in
+    let f = bound (file_at next_file seen s) (λ file. first_number_at floor is_last before file.1 >>= λ first. Ok (record { file = file.0; first = first.0 }, first.1)) (segment, t) is in
     let file = file_means next_file seen s f.value.1 f.value.0 within f.first in
-    let g = bound (first_at floor is_last before f.value.1) (λ first. Ok (record { file = f.value.0; first = first.0 }, first.1)) (segment, t) f.last in
+    let g = bound (first_number_at floor is_last before f.value.1) (λ first. Ok (record { file = f.value.0; first = first.0 }, first.1)) (segment, t) f.last in
     let r = ruled64 f.value.1 g.value.1 g.value.0 (λ first. leb first 4294967295 && goes_on floor before first && (not is_last || leb floor first)) file.bytes.within g.first in
     let same : (record { file = f.value.0; first = g.value.0 }, g.value.1) ≡ (segment, t) = same_ok (record { file = f.value.0; first = g.value.0 }, g.value.1) (segment, t) g.last in
     let parts = and_parts (leb g.value.0 4294967295 && goes_on floor before g.value.0) (not is_last || leb floor g.value.0) r.holds_so in
@@ -251,7 +251,7 @@ segments_mean next_file floor zero before done s t all within is =
     subst (λ (p : List SegmentRef × Stand). SegmentsMean next_file floor before done 0 s p.1 p.0) (same_ok (done, s) (all, t) is)
     (record { more = []; is = sym (append-nil done); size = refl; bytes = took_none s within; files = tt; firsts = tt })
 segments_mean next_file floor (suc count) before done s t all within is =
-    let b = bound (segment_at next_file floor (eqb count 0) before (segment_files done) s) (λ segment. segments_at next_file floor count (Some segment.0.first) (done ++ segment.0 ∷ []) segment.1) (all, t) is in
+    let b = bound (segment_ref_at next_file floor (eqb count 0) before (segment_files done) s) (λ segment. segments_at next_file floor count (Some segment.0.first) (done ++ segment.0 ∷ []) segment.1) (all, t) is in
     let segment = b.value.0 in
     let one = segment_means next_file floor (eqb count 0) before (segment_files done) s b.value.1 segment within b.first in
     let rest = segments_mean next_file floor count (Some segment.first) (done ++ segment ∷ []) b.value.1 t all one.bytes.within b.last in
@@ -441,8 +441,8 @@ pub record ListMeans (slot : ℕ) (other : Option ℕ) (s t : Stand) (body : Lis
   pub neighbours : are_neighbours body.generation other ≡ true
   pub rules : MeetsRules body
 
-pub list_means : (slot : ℕ) (other : Option ℕ) (s t : Stand) (body : ListBody) → IsWithin s.whole s.at → list_at slot other s ≡ Ok (body, t) → ListMeans slot other s t body
-unfolding list_at text_of head_bytes
+pub list_means : (slot : ℕ) (other : Option ℕ) (s t : Stand) (body : ListBody) → IsWithin s.whole s.at → list_body_at slot other s ≡ Ok (body, t) → ListMeans slot other s t body
+unfolding list_body_at text_of head_bytes
 list_means slot other s t body within is =
     let a = bound (head_at slot other s) (λ head. segments_at head.0.next_file head.0.floor head.0.segments None [] head.1 >>= λ segments. blocks_at head.0.next_file (segment_files segments.0) head.0.blocks [] segments.1 >>= λ blocks.
     loose_at head.0.next_file (segment_files segments.0 ++ block_files blocks.0) head.0.loose [] blocks.1 >>= λ loose.

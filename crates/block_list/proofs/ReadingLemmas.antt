@@ -6,7 +6,7 @@ use Rattle.std.proofs.lemmas.List.{map-append}
 use Rattle.std.proofs.lemmas.Bool.Decides.{nat_tests}
 use Rattle.std.proofs.lemmas.List.Folds.{list_any-append}
 use Rattle.byte_fields.specs.Reading.{Stand, ◌>>=◌}
-use Rattle.block_list.specs.Reading.{ruled, read32, file_at, head_at, segment_at, segments_at, block_at, blocks_at, loose_at, list_at, SameFiles, WithFile, GivesAt}
+use Rattle.block_list.specs.Reading.{ruled, read32, file_at, head_at, segment_ref_at, segments_at, block_at, blocks_at, loose_at, list_body_at, SameFiles, WithFile, GivesAt}
 use Rattle.block_list.specs.declared.reading.Head.{Head}
 use Rattle.block_list.specs.declared.body.SegmentRef.{SegmentRef}
 use Rattle.block_list.specs.declared.body.BlockRef.{BlockRef}
@@ -21,9 +21,9 @@ pub file_at-same : (next_file : ℕ) (a b : List ℕ) (s : Stand) → SameFiles 
 unfolding file_at
 file_at-same next_file a b s same = file_same_of next_file a b s (read32 s) same
 
-pub segment_at-same : (next_file floor : ℕ) (is_last : Bool) (before : Option ℕ) (a b : List ℕ) (s : Stand) → SameFiles a b → segment_at next_file floor is_last before a s ≡ segment_at next_file floor is_last before b s
-unfolding segment_at
-segment_at-same next_file floor is_last before a b s same = rw (file_at-same next_file a b s same) refl
+pub segment_ref_at-same : (next_file floor : ℕ) (is_last : Bool) (before : Option ℕ) (a b : List ℕ) (s : Stand) → SameFiles a b → segment_ref_at next_file floor is_last before a s ≡ segment_ref_at next_file floor is_last before b s
+unfolding segment_ref_at
+segment_ref_at-same next_file floor is_last before a b s same = rw (file_at-same next_file a b s same) refl
 
 pub block_at-same : (next_file : ℕ) (a b : List ℕ) (s : Stand) → SameFiles a b → block_at next_file a s ≡ block_at next_file b s
 unfolding block_at
@@ -56,13 +56,13 @@ loose_more before after earlier items item more same =
 
 -- the rest of the segments is one segment and the rest
 pub segments_next : (next_file floor count left : ℕ) (before : Option ℕ) (done : List SegmentRef) (s t : Stand) (segment : SegmentRef) → count ≡ suc left
-    → segment_at next_file floor (eqb left 0) before (map (λ (segment : SegmentRef). segment.file) done) s ≡ Ok (segment, t)
+    → segment_ref_at next_file floor (eqb left 0) before (map (λ (segment : SegmentRef). segment.file) done) s ≡ Ok (segment, t)
     → segments_at next_file floor count before done s ≡ segments_at next_file floor left (Some segment.first) (done ++ segment ∷ []) t
 unfolding segments_at
 segments_next next_file floor count left before done s t segment is read = rw (is, read) refl
 
 pub segments_stop : (next_file floor count left : ℕ) (before : Option ℕ) (done : List SegmentRef) (s : Stand) (at : ℕ) → count ≡ suc left
-    → segment_at next_file floor (eqb left 0) before (map (λ (segment : SegmentRef). segment.file) done) s ≡ Err at
+    → segment_ref_at next_file floor (eqb left 0) before (map (λ (segment : SegmentRef). segment.file) done) s ≡ Err at
     → segments_at next_file floor count before done s ≡ Err at
 unfolding segments_at
 segments_stop next_file floor count left before done s at is read = rw (is, read) refl
@@ -145,17 +145,17 @@ module _ (slot : ℕ) (other : Option ℕ) (s t u v w : Stand) (head : Head) (se
   pub list_read : head_at slot other s ≡ Ok (head, t) → segments_at head.next_file head.floor head.segments None [] t ≡ Ok (segments, u)
       → blocks_at head.next_file (segment_files segments) head.blocks [] u ≡ Ok (blocks, v)
       → loose_at head.next_file (segment_files segments ++ block_files blocks) head.loose [] v ≡ Ok (loose, w)
-      → list_at slot other s ≡ Ok (record { generation = head.generation; next_file = head.next_file; floor = head.floor; segments = segments; blocks = blocks; loose = loose }, w)
-  unfolding list_at
+      → list_body_at slot other s ≡ Ok (record { generation = head.generation; next_file = head.next_file; floor = head.floor; segments = segments; blocks = blocks; loose = loose }, w)
+  unfolding list_body_at
   list_read a b c d = rw (a, b, c, d) refl
 
   pub list_breaks_in_blocks : (at : ℕ) → head_at slot other s ≡ Ok (head, t) → segments_at head.next_file head.floor head.segments None [] t ≡ Ok (segments, u)
-      → blocks_at head.next_file (segment_files segments) head.blocks [] u ≡ Err at → list_at slot other s ≡ Err at
-  unfolding list_at
+      → blocks_at head.next_file (segment_files segments) head.blocks [] u ≡ Err at → list_body_at slot other s ≡ Err at
+  unfolding list_body_at
   list_breaks_in_blocks at a b c = rw (a, b, c) refl
 
   pub list_breaks_in_loose : (at : ℕ) → head_at slot other s ≡ Ok (head, t) → segments_at head.next_file head.floor head.segments None [] t ≡ Ok (segments, u)
       → blocks_at head.next_file (segment_files segments) head.blocks [] u ≡ Ok (blocks, v)
-      → loose_at head.next_file (segment_files segments ++ block_files blocks) head.loose [] v ≡ Err at → list_at slot other s ≡ Err at
-  unfolding list_at
+      → loose_at head.next_file (segment_files segments ++ block_files blocks) head.loose [] v ≡ Err at → list_body_at slot other s ≡ Err at
+  unfolding list_body_at
   list_breaks_in_loose at a b c d = rw (a, b, c, d) refl

@@ -5,7 +5,7 @@ use Rattle.byte_fields.specs.Reading.{Stand, left, AreBytes, IsWithin, ◌>>=◌
 use Rattle.block_list.specs.Body.{text_of, successor}
 use Rattle.block_list.specs.Slots.{IsVacant, SlotHolds, SlotsHold}
 use Rattle.block_list.specs.Slots.SlotsHold.{none, alone, other_alone, newer, other_newer}
-use Rattle.block_list.specs.Reading.{read8, list_at, is_vacant, slot_at, in_slot, generation_of, newer_of, slots_at, are_neighbours}
+use Rattle.block_list.specs.Reading.{read8, list_body_at, is_vacant, slot_at, in_slot, generation_of, newer_of, slots_at, are_neighbours}
 use Rattle.block_list.proofs.LoadLemmas.{vacant_from}
 use Rattle.block_list.proofs.Meaning.{took8, list_means}
 use Rattle.block_list.specs.declared.body.ListBody.{ListBody}
@@ -41,16 +41,16 @@ unfolding slot_at
 slot_means slot other bytes found fits is = elim (cases_Bool (is_vacant bytes)) [
   | inl vacant ↦
       let h : (let r : Result (Option ListBody) ℕ = Ok None in r ≡ Ok found) =
-      subst (λ (b : Bool). cond b (Ok None) (read8 (record { whole = bytes; at = 0 }) >>= λ gate. list_at slot other gate.1 >>= λ list. Ok (Some list.0)) ≡ Ok found) vacant is in
+      subst (λ (b : Bool). cond b (Ok None) (read8 (record { whole = bytes; at = 0 }) >>= λ gate. list_body_at slot other gate.1 >>= λ list. Ok (Some list.0)) ≡ Ok found) vacant is in
       subst (λ (f : Option ListBody). SlotMeans slot other bytes f) (same_found None found h) (vacant_from bytes vacant)
   | inr shown ↦
-      let h : (read8 (record { whole = bytes; at = 0 }) >>= λ gate. list_at slot other gate.1 >>= λ list. Ok (Some list.0)) ≡ Ok found =
-      subst (λ (b : Bool). cond b (Ok None) (read8 (record { whole = bytes; at = 0 }) >>= λ gate. list_at slot other gate.1 >>= λ list. Ok (Some list.0)) ≡ Ok found) shown is in
+      let h : (read8 (record { whole = bytes; at = 0 }) >>= λ gate. list_body_at slot other gate.1 >>= λ list. Ok (Some list.0)) ≡ Ok found =
+      subst (λ (b : Bool). cond b (Ok None) (read8 (record { whole = bytes; at = 0 }) >>= λ gate. list_body_at slot other gate.1 >>= λ list. Ok (Some list.0)) ≡ Ok found) shown is in
       let start : Stand = record { whole = bytes; at = 0 } in
       let within : IsWithin bytes 0 = record { bytes_fit = fits; no_further = omega arith } in
-      let a = step (read8 start) (λ gate. list_at slot other gate.1 >>= λ list. Ok (Some list.0)) found h in
+      let a = step (read8 start) (λ gate. list_body_at slot other gate.1 >>= λ list. Ok (Some list.0)) found h in
       let gate = took8 start a.value.1 a.value.0 within a.first in
-      let b = step (list_at slot other a.value.1) (λ list. Ok (Some list.0)) found a.last in
+      let b = step (list_body_at slot other a.value.1) (λ list. Ok (Some list.0)) found a.last in
       let list = list_means slot other a.value.1 b.value.1 b.value.0 gate.bytes.within b.first in
       let one : get_or bytes 0 0 ≡ 1 = eqb-true (get_or bytes 0 0) 1 (not_vacant (ltb (length bytes) 30) (eqb (get_or bytes 0 0) 1) shown) in
       let open_gate : a.value.0 ≡ 1 = sym (ap (λ (l : List ℕ). get_or l 0 0) gate.bytes.passed.spelled) ∙ one in

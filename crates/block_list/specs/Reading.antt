@@ -85,22 +85,22 @@ goes_on floor None first = nat_le first floor
 goes_on floor (Some before) first = nat_le before first
 
 -- a segment's first number; the last one's is at least the floor
-unfoldable pub first_at : ℕ → Bool → Option ℕ → Stand → Result (ℕ × Stand) ℕ
-first_at floor is_last before s = do
+unfoldable pub first_number_at : ℕ → Bool → Option ℕ → Stand → Result (ℕ × Stand) ℕ
+first_number_at floor is_last before s = do
   first ← read64 s
   ruled (nat_le first.0 4294967295 && goes_on floor before first.0 && (not is_last || nat_le floor first.0)) s.at first
 
-unfoldable pub segment_at : ℕ → ℕ → Bool → Option ℕ → List ℕ → Stand → Result (SegmentRef × Stand) ℕ
-segment_at next_file floor is_last before seen s = do
+unfoldable pub segment_ref_at : ℕ → ℕ → Bool → Option ℕ → List ℕ → Stand → Result (SegmentRef × Stand) ℕ
+segment_ref_at next_file floor is_last before seen s = do
   file ← file_at next_file seen s
-  first ← first_at floor is_last before file.1
+  first ← first_number_at floor is_last before file.1
   Ok (record { file = file.0; first = first.0 }, first.1)
 
 -- so many segments more, behind these
 unfoldable pub segments_at : ℕ → ℕ → ℕ → Option ℕ → List SegmentRef → Stand → Result (List SegmentRef × Stand) ℕ
 segments_at next_file floor zero before done s = Ok (done, s)
 segments_at next_file floor (suc count) before done s = do
-  segment ← segment_at next_file floor (count == 0) before (map (λ segment. segment.file) done) s
+  segment ← segment_ref_at next_file floor (count == 0) before (map (λ segment. segment.file) done) s
   segments_at next_file floor count (Some segment.0.first) (done ++ segment.0 ∷ []) segment.1
 
 unfoldable pub level_at : Stand → Result (ℕ × Stand) ℕ
@@ -135,8 +135,8 @@ loose_at next_file earlier (suc count) done s = do
   loose_at next_file earlier count (done ++ file.0 ∷ []) file.1
 
 -- a list behind an open gate
-unfoldable pub list_at : ℕ → Option ℕ → Stand → Result (ListBody × Stand) ℕ
-list_at slot other s = do
+unfoldable pub list_body_at : ℕ → Option ℕ → Stand → Result (ListBody × Stand) ℕ
+list_body_at slot other s = do
   head ← head_at slot other s
   segments ← segments_at head.0.next_file head.0.floor head.0.segments None [] head.1
   blocks ← blocks_at head.0.next_file (map (λ segment. segment.file) segments.0) head.0.blocks [] segments.1
@@ -170,7 +170,7 @@ slot_at slot other bytes =
     if is_vacant bytes then Ok None
     else (do
       gate ← read8 (record { whole = bytes; at = 0 })
-      list ← list_at slot other gate.1
+      list ← list_body_at slot other gate.1
       Ok (Some list.0))
 
 -- with the slot beside the offset of its break

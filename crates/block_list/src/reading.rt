@@ -2,7 +2,7 @@
 
 ghost use Rattle.std.specs.Prelude.{◌≡◌, ◌||◌, ◌%◌, ℕ, List, [], ◌++◌, Some, None, Option, map, nat_eq, not, true, false, Ok, Err, IfOk, IfSome, IfErr, OnOk, ◌∷◌, ◌==◌};
 ghost use Rattle.std.specs.List.{list_any};
-ghost use Rattle.block_list.specs.Reading.{GivesAt, read8, read32, read64, tag_at, generation_at, count_at, head_at, file_at, first_at, segment_at, segments_at, level_at, rows_at, block_at, blocks_at, loose_at, list_at, slot_at, is_vacant, GivesSlot, are_neighbours, goes_on, tag, offset_of, SameFiles, WithFile};
+ghost use Rattle.block_list.specs.Reading.{GivesAt, read8, read32, read64, tag_at, generation_at, count_at, head_at, file_at, first_number_at, segment_ref_at, segments_at, level_at, rows_at, block_at, blocks_at, loose_at, list_body_at, slot_at, is_vacant, GivesSlot, are_neighbours, goes_on, tag, offset_of, SameFiles, WithFile};
 
 use crate::{BlockList, BlockRef, FileList, ListBody, SegmentList, SegmentRef};
 use byte_fields::{FieldError, Reader};
@@ -154,14 +154,14 @@ fn read_file(reader: &mut Reader<'_>, seen: &mut HashSet<u32>, next_file: u32) -
     }
 }
 
-#[tactic(auto, unfolding(crate::specs::Reading::first_at))]
+#[tactic(auto, unfolding(crate::specs::Reading::first_number_at))]
 fn read_first(
     reader: &mut Reader<'_>,
     floor: u64,
     is_last: bool,
     before: Option<u64>,
 ) -> Result<u64, Break>
-    ensures { GivesAt (λ x. x) result reader.new (first_at floor is_last before reader.old) }
+    ensures { GivesAt (λ x. x) result reader.new (first_number_at floor is_last before reader.old) }
 {
     let at = reader.at();
     let first = number64(reader)?;
@@ -182,7 +182,7 @@ fn goes_on(floor: u64, before: Option<u64>, first: u64) -> bool
     }
 }
 
-#[tactic(auto, unfolding(crate::specs::Reading::segment_at))]
+#[tactic(auto, unfolding(crate::specs::Reading::segment_ref_at))]
 fn read_segment(
     reader: &mut Reader<'_>,
     seen: &mut HashSet<u32>,
@@ -190,7 +190,7 @@ fn read_segment(
     is_last: bool,
     before: Option<u64>,
 ) -> Result<SegmentRef, Break>
-    ensures reads { GivesAt (λ x. x) result reader.new (segment_at head.next_file head.floor is_last before seen.old.keys reader.old) }
+    ensures reads { GivesAt (λ x. x) result reader.new (segment_ref_at head.next_file head.floor is_last before seen.old.keys reader.old) }
     ensures named { IfOk result (λ segment. WithFile segment.file seen.old.keys seen.new.keys) }
 {
     let file = read_file(reader, seen, head.next_file)?;
@@ -306,14 +306,14 @@ fn keep<T: Drop>(items: &mut Vec<T>, item: T) -> Result<(), Break>
 }
 
 /// A list behind an open gate.
-#[tactic(auto, unfolding(crate::specs::Reading::list_at))]
+#[tactic(auto, unfolding(crate::specs::Reading::list_body_at))]
 fn read_list(
     alloc: Global,
     reader: &mut Reader<'_>,
     slot: u8,
     other: Option<u8>,
 ) -> Result<ListBody, Break>
-    ensures { GivesAt (λ x. x) result reader.new (list_at slot other reader.old) }
+    ensures { GivesAt (λ x. x) result reader.new (list_body_at slot other reader.old) }
 {
     let head = read_head(reader, slot, other)?;
     let mut seen = HashSet::new(alloc);

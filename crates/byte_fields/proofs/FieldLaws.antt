@@ -11,7 +11,7 @@ use Rattle.byte_fields.specs.declared.error.FieldError.{FieldError}
 use Rattle.byte_fields.specs.declared.error.FieldError.TheVariants.{Short, NotShortest}
 use Rattle.byte_fields.specs.Spelling.{fixed32_bytes, fixed64_bytes, groups, var_bytes, zigzag_number, zigzag_bytes, text_bytes}
 use Rattle.byte_fields.specs.Numbers.{number_at, EndsInNumber, IsLongNumber}
-use Rattle.byte_fields.specs.Reading.{Stand, left, AreBytes, IsWithin, ahead, Passes, ◌>>=◌, Reads, raw_at, byte_at, fixed32_at, fixed64_at, number_from, var_at, signed_of, zigzag_at}
+use Rattle.byte_fields.specs.Reading.{Stand, left, AreBytes, IsWithin, ahead, MovesPast, ◌>>=◌, Reads, raw_at, byte_at, fixed32_at, fixed64_at, number_from, var_at, signed_of, zigzag_at}
 use Rattle.byte_fields.proofs.NumberLaws.{IsBytes, number_takes, number_again, number_at-short, number_at-long}
 
 -- a field that was read, and where the reader then stands
@@ -29,7 +29,7 @@ same_read {X} x y s t e =
 pub left-ahead : (s : Stand) (field rest : List ℕ) → left s ≡ field ++ rest → left (ahead (length field) s) ≡ rest
 left-ahead s field rest e = sym (drop-drop (length field) s.at s.whole) ∙ ap (λ (b : List ℕ). drop (length field) b) e ∙ drop_at field rest (length field) refl
 
-pub passes : (s : Stand) (field rest : List ℕ) → left s ≡ field ++ rest → Passes field s (ahead (length field) s)
+pub passes : (s : Stand) (field rest : List ℕ) → left s ≡ field ++ rest → MovesPast field s (ahead (length field) s)
 passes s field rest e = record { spelled = e ∙ ap (λ (r : List ℕ). field ++ r) (sym (left-ahead s field rest e)); place = refl }
 
 -- the place of the rest of the bytes, counted from their end
@@ -77,7 +77,7 @@ chosen false x y z e = inr (refl, e)
 pub record Taken (n : ℕ) (s : Stand) (bytes : List ℕ) (t : Stand) : Type 0 where
   pub count : length bytes ≡ n
   pub is : bytes ≡ take n (left s)
-  pub passed : Passes bytes s t
+  pub passed : MovesPast bytes s t
 
 pub raw_takes : (n : ℕ) (s : Stand) (bytes : List ℕ) (t : Stand) → raw_at n s ≡ read_as bytes t → Taken n s bytes t
 unfolding raw_at
@@ -89,7 +89,7 @@ raw_takes n s bytes t e =
           let enough : n ≤ length (left s) = ltb-false (length (left s)) n h.0 in
           let len : length (take n (left s)) ≡ n = omega (arith, length-take n (left s)) in
           let whole = passes s (take n (left s)) (drop n (left s)) (sym (take-append-drop n (left s))) in
-          let there : Passes (take n (left s)) s (ahead n s) = subst (λ (k : ℕ). Passes (take n (left s)) s (ahead k s)) len whole in
+          let there : MovesPast (take n (left s)) s (ahead n s) = subst (λ (k : ℕ). MovesPast (take n (left s)) s (ahead k s)) len whole in
           let counted : Taken n s (take n (left s)) (ahead n s) = record { count = len; is = refl; passed = there } in
           subst (λ (b : List ℕ). Taken n s b t) same.0 (subst (λ (u : Stand). Taken n s (take n (left s)) u) same.1 counted)
     ]
@@ -154,14 +154,14 @@ one_cell [] e = absurd (omega arith)
 one_cell (b ∷ []) e = refl
 one_cell (b ∷ c ∷ bytes) e = absurd (omega arith)
 
-pub byte_takes : (s : Stand) → IsWithin s.whole s.at → (new : Stand) (b : ℕ) → byte_at s ≡ read_as b new → Passes (b ∷ []) s new
+pub byte_takes : (s : Stand) → IsWithin s.whole s.at → (new : Stand) (b : ℕ) → byte_at s ≡ read_as b new → MovesPast (b ∷ []) s new
 unfolding byte_at
 byte_takes s within new b e =
     let h = bind_ok (raw_at 1 s) (λ bytes. Ok (get_or bytes.0 0 0, bytes.1)) (b, new) e in
     let t = raw_takes 1 s h.0.0 h.0.1 h.1 in
     let same = same_read (get_or h.0.0 0 0) b h.0.1 new h.2 in
     let cell : h.0.0 ≡ b ∷ [] = one_cell h.0.0 t.count ∙ ap (λ (x : ℕ). x ∷ []) same.0 in
-    subst (λ (u : Stand). Passes (b ∷ []) s u) same.1 (subst (λ (f : List ℕ). Passes f s h.0.1) cell t.passed)
+    subst (λ (u : Stand). MovesPast (b ∷ []) s u) same.1 (subst (λ (f : List ℕ). MovesPast f s h.0.1) cell t.passed)
 
 pub byte_again : (s : Stand) (b : ℕ) (rest : List ℕ) → left s ≡ (b ∷ []) ++ rest → byte_at s ≡ read_as b (ahead 1 s)
 unfolding byte_at
@@ -184,14 +184,14 @@ byte_errors s e h = bind_errors (raw_at 1 s) (λ bytes. (get_or bytes.0 0 0, byt
 
 -- ---- fixed numbers
 
-pub fixed32_takes : (s : Stand) → IsWithin s.whole s.at → (new : Stand) (n : ℕ) → fixed32_at s ≡ read_as n new → Passes (fixed32_bytes n) s new
+pub fixed32_takes : (s : Stand) → IsWithin s.whole s.at → (new : Stand) (n : ℕ) → fixed32_at s ≡ read_as n new → MovesPast (fixed32_bytes n) s new
 unfolding fixed32_at
 fixed32_takes s within new n e =
     let h = bind_ok (raw_at 4 s) (λ bytes. Ok (from_le_bytes w32 bytes.0, bytes.1)) (n, new) e in
     let t = raw_takes 4 s h.0.0 h.0.1 h.1 in
     let same = same_read (from_le_bytes w32 h.0.0) n h.0.1 new h.2 in
     let cells : h.0.0 ≡ fixed32_bytes n = sym (le_bytes_4 h.0.0 n t.count (taken_fit 4 s h.0.0 h.0.1 within.bytes_fit t) (sym same.0)) in
-    subst (λ (u : Stand). Passes (fixed32_bytes n) s u) same.1 (subst (λ (f : List ℕ). Passes f s h.0.1) cells t.passed)
+    subst (λ (u : Stand). MovesPast (fixed32_bytes n) s u) same.1 (subst (λ (f : List ℕ). MovesPast f s h.0.1) cells t.passed)
 
 pub fixed32_again : (s : Stand) (n : ℕ) (rest : List ℕ) → n < 2 ^ 32 → left s ≡ fixed32_bytes n ++ rest → fixed32_at s ≡ read_as n (ahead 4 s)
 unfolding fixed32_at
@@ -207,14 +207,14 @@ pub fixed32_errors : (s : Stand) (e : FieldError) → fixed32_at s ≡ Err e →
 unfolding fixed32_at
 fixed32_errors s e h = bind_errors (raw_at 4 s) (λ bytes. (from_le_bytes w32 bytes.0, bytes.1)) e (λ d. d ≡ Short (length s.whole)) (raw_errors 4 s) h
 
-pub fixed64_takes : (s : Stand) → IsWithin s.whole s.at → (new : Stand) (n : ℕ) → fixed64_at s ≡ read_as n new → Passes (fixed64_bytes n) s new
+pub fixed64_takes : (s : Stand) → IsWithin s.whole s.at → (new : Stand) (n : ℕ) → fixed64_at s ≡ read_as n new → MovesPast (fixed64_bytes n) s new
 unfolding fixed64_at
 fixed64_takes s within new n e =
     let h = bind_ok (raw_at 8 s) (λ bytes. Ok (from_le_bytes w64 bytes.0, bytes.1)) (n, new) e in
     let t = raw_takes 8 s h.0.0 h.0.1 h.1 in
     let same = same_read (from_le_bytes w64 h.0.0) n h.0.1 new h.2 in
     let cells : h.0.0 ≡ fixed64_bytes n = sym (le_bytes_8 h.0.0 n t.count (taken_fit 8 s h.0.0 h.0.1 within.bytes_fit t) (sym same.0)) in
-    subst (λ (u : Stand). Passes (fixed64_bytes n) s u) same.1 (subst (λ (f : List ℕ). Passes f s h.0.1) cells t.passed)
+    subst (λ (u : Stand). MovesPast (fixed64_bytes n) s u) same.1 (subst (λ (f : List ℕ). MovesPast f s h.0.1) cells t.passed)
 
 pub fixed64_again : (s : Stand) (n : ℕ) (rest : List ℕ) → n < 2 ^ 64 → left s ≡ fixed64_bytes n ++ rest → fixed64_at s ≡ read_as n (ahead 8 s)
 unfolding fixed64_at
@@ -243,13 +243,13 @@ number_from_parts s (Ok x) n new e =
     let same = same_read x.0 n (record { whole = s.whole; at = length s.whole - length x.1 }) new e in
     record { rest = x.1; was = ap (λ (m : ℕ). Ok (m, x.1)) same.0; place = sym same.1 }
 
-pub var_takes : (s : Stand) → IsWithin s.whole s.at → (new : Stand) (n : ℕ) → var_at s ≡ read_as n new → Passes (var_bytes n) s new
+pub var_takes : (s : Stand) → IsWithin s.whole s.at → (new : Stand) (n : ℕ) → var_at s ≡ read_as n new → MovesPast (var_bytes n) s new
 unfolding var_at var_bytes
 var_takes s within new n e =
     let p = number_from_parts s (number_at 9 (left s)) n new e in
     let h = number_takes 9 (left s) n p.rest (left_fits s within.bytes_fit) p.was in
     let place : ahead (length (groups 9 n)) s ≡ new = ap (λ (at : ℕ). record { whole = s.whole; at = at }) (sym (place_of_rest s (groups 9 n) p.rest within.no_further h.parts)) ∙ sym p.place in
-    subst (λ (u : Stand). Passes (groups 9 n) s u) place (passes s (groups 9 n) p.rest h.parts)
+    subst (λ (u : Stand). MovesPast (groups 9 n) s u) place (passes s (groups 9 n) p.rest h.parts)
 
 pub var_below : (s : Stand) → IsWithin s.whole s.at → (new : Stand) (n : ℕ) → var_at s ≡ read_as n new → n < 2 ^ 64
 unfolding var_at
@@ -309,14 +309,14 @@ signed_of-zigzag (negsuc n) =
     let half : (2 * n + 1) / 2 ≡ n = omega arith in
     rw (odd, half) refl
 
-pub zigzag_takes : (s : Stand) → IsWithin s.whole s.at → (new : Stand) (z : ℤ) → zigzag_at s ≡ read_as z new → Passes (zigzag_bytes z) s new
+pub zigzag_takes : (s : Stand) → IsWithin s.whole s.at → (new : Stand) (z : ℤ) → zigzag_at s ≡ read_as z new → MovesPast (zigzag_bytes z) s new
 unfolding zigzag_at
 zigzag_takes s within new z e =
     let h = bind_ok (var_at s) (λ n. Ok (signed_of n.0, n.1)) (z, new) e in
     let same = same_read (signed_of h.0.0) z h.0.1 new h.2 in
     let number : h.0.0 ≡ zigzag_number z = sym (zigzag_number-signed h.0.0) ∙ ap zigzag_number same.0 in
     let t = var_takes s within h.0.1 h.0.0 h.1 in
-    subst (λ (u : Stand). Passes (zigzag_bytes z) s u) same.1 (subst (λ (n : ℕ). Passes (var_bytes n) s h.0.1) number t)
+    subst (λ (u : Stand). MovesPast (zigzag_bytes z) s u) same.1 (subst (λ (n : ℕ). MovesPast (var_bytes n) s h.0.1) number t)
 
 zigzag_fits : (z : ℤ) → FitsSigned w64 z → zigzag_number z < 2 ^ 64
 zigzag_fits (pos n) fits = omega (arith, fits.sfits)
@@ -341,63 +341,63 @@ zigzag_errors s e h = bind_errors (var_at s) (λ n. (signed_of n.0, n.1)) e (λ 
 -- ---- what a call of the reader comes to
 
 pub record RawAnswer {X : Type 0} (view : X → List ℕ) (n : ℕ) (r : Result X FieldError) (old new : Stand) : Type 0 where
-  pub value : IfOk r (λ x. (length (view x) ≡ n) × Passes (view x) old new)
+  pub value : IfOk r (λ x. (length (view x) ≡ n) × MovesPast (view x) old new)
   pub only : (bytes rest : List ℕ) → length bytes ≡ n → left old ≡ bytes ++ rest → IsOkAnd r (λ x. view x ≡ bytes)
   pub short : (r ≡ Err (Short (length old.whole))) ↔ (length (left old) < n)
   pub errors : IfErr r (λ e. e ≡ Short (length old.whole))
 
 pub raw_answer : {X : Type 0} (view : X → List ℕ) (n : ℕ) (r : Result X FieldError) (old new : Stand) → Reads view r old new (raw_at n old) → RawAnswer view n r old new
 raw_answer view n r old new reads = record {
-  value = values_are view r old new (raw_at n old) (λ x. (length (view x) ≡ n) × Passes (view x) old new) reads (λ x e. let t = raw_takes n old (view x) new e in (t.count, t.passed));
+  value = values_are view r old new (raw_at n old) (λ x. (length (view x) ≡ n) × MovesPast (view x) old new) reads (λ x e. let t = raw_takes n old (view x) new e in (t.count, t.passed));
   only = λ bytes rest len e. slices_are view r old new bytes (raw_at n old) (ahead (length bytes) old) reads (subst (λ (k : ℕ). raw_at k old ≡ read_as bytes (ahead (length bytes) old)) len (raw_again old bytes rest e));
   short = only_error view r old new (Short (length old.whole)) (raw_at n old) (length (left old) < n) reads (raw_short n old);
   errors = errors_are view r old new (raw_at n old) (λ e. e ≡ Short (length old.whole)) reads (raw_errors n old);
 }
 
 pub record Fixed32Answer (r : Result ℕ FieldError) (old new : Stand) : Type 0 where
-  pub value : IfOk r (λ n. Passes (fixed32_bytes n) old new)
+  pub value : IfOk r (λ n. MovesPast (fixed32_bytes n) old new)
   pub only : (n : ℕ) (rest : List ℕ) → n < 2 ^ 32 → left old ≡ fixed32_bytes n ++ rest → r ≡ Ok n
   pub short : (r ≡ Err (Short (length old.whole))) ↔ (length (left old) < 4)
   pub errors : IfErr r (λ e. e ≡ Short (length old.whole))
 
 pub fixed32_answer : (r : Result ℕ FieldError) (old new : Stand) → IsWithin old.whole old.at → Reads (λ x. x) r old new (fixed32_at old) → Fixed32Answer r old new
 fixed32_answer r old new within reads = record {
-  value = values_are (λ x. x) r old new (fixed32_at old) (λ n. Passes (fixed32_bytes n) old new) reads (fixed32_takes old within new);
+  value = values_are (λ x. x) r old new (fixed32_at old) (λ n. MovesPast (fixed32_bytes n) old new) reads (fixed32_takes old within new);
   only = λ n rest lt e. only_value r old new n (ahead 4 old) (fixed32_at old) reads (fixed32_again old n rest lt e);
   short = only_error (λ x. x) r old new (Short (length old.whole)) (fixed32_at old) (length (left old) < 4) reads (fixed32_short old);
   errors = errors_are (λ x. x) r old new (fixed32_at old) (λ e. e ≡ Short (length old.whole)) reads (fixed32_errors old);
 }
 
 pub record Fixed64Answer (r : Result ℕ FieldError) (old new : Stand) : Type 0 where
-  pub value : IfOk r (λ n. Passes (fixed64_bytes n) old new)
+  pub value : IfOk r (λ n. MovesPast (fixed64_bytes n) old new)
   pub only : (n : ℕ) (rest : List ℕ) → n < 2 ^ 64 → left old ≡ fixed64_bytes n ++ rest → r ≡ Ok n
   pub short : (r ≡ Err (Short (length old.whole))) ↔ (length (left old) < 8)
   pub errors : IfErr r (λ e. e ≡ Short (length old.whole))
 
 pub fixed64_answer : (r : Result ℕ FieldError) (old new : Stand) → IsWithin old.whole old.at → Reads (λ x. x) r old new (fixed64_at old) → Fixed64Answer r old new
 fixed64_answer r old new within reads = record {
-  value = values_are (λ x. x) r old new (fixed64_at old) (λ n. Passes (fixed64_bytes n) old new) reads (fixed64_takes old within new);
+  value = values_are (λ x. x) r old new (fixed64_at old) (λ n. MovesPast (fixed64_bytes n) old new) reads (fixed64_takes old within new);
   only = λ n rest lt e. only_value r old new n (ahead 8 old) (fixed64_at old) reads (fixed64_again old n rest lt e);
   short = only_error (λ x. x) r old new (Short (length old.whole)) (fixed64_at old) (length (left old) < 8) reads (fixed64_short old);
   errors = errors_are (λ x. x) r old new (fixed64_at old) (λ e. e ≡ Short (length old.whole)) reads (fixed64_errors old);
 }
 
 pub record ByteAnswer (r : Result ℕ FieldError) (old new : Stand) : Type 0 where
-  pub value : IfOk r (λ b. Passes (b ∷ []) old new)
+  pub value : IfOk r (λ b. MovesPast (b ∷ []) old new)
   pub only : (b : ℕ) (rest : List ℕ) → left old ≡ (b ∷ []) ++ rest → r ≡ Ok b
   pub short : (r ≡ Err (Short (length old.whole))) ↔ (left old ≡ [])
   pub errors : IfErr r (λ e. e ≡ Short (length old.whole))
 
 pub byte_answer : (r : Result ℕ FieldError) (old new : Stand) → IsWithin old.whole old.at → Reads (λ x. x) r old new (byte_at old) → ByteAnswer r old new
 byte_answer r old new within reads = record {
-  value = values_are (λ x. x) r old new (byte_at old) (λ b. Passes (b ∷ []) old new) reads (byte_takes old within new);
+  value = values_are (λ x. x) r old new (byte_at old) (λ b. MovesPast (b ∷ []) old new) reads (byte_takes old within new);
   only = λ b rest e. only_value r old new b (ahead 1 old) (byte_at old) reads (byte_again old b rest e);
   short = only_error (λ x. x) r old new (Short (length old.whole)) (byte_at old) (left old ≡ []) reads (byte_short old);
   errors = errors_are (λ x. x) r old new (byte_at old) (λ e. e ≡ Short (length old.whole)) reads (byte_errors old);
 }
 
 pub record VarAnswer (r : Result ℕ FieldError) (old new : Stand) : Type 0 where
-  pub value : IfOk r (λ n. Passes (var_bytes n) old new)
+  pub value : IfOk r (λ n. MovesPast (var_bytes n) old new)
   pub only : (n : ℕ) (rest : List ℕ) → n < 2 ^ 64 → left old ≡ var_bytes n ++ rest → r ≡ Ok n
   pub short : (r ≡ Err (Short (length old.whole))) ↔ EndsInNumber 9 (left old)
   pub not_shortest : (r ≡ Err (NotShortest old.at)) ↔ IsLongNumber 9 (left old)
@@ -405,7 +405,7 @@ pub record VarAnswer (r : Result ℕ FieldError) (old new : Stand) : Type 0 wher
 
 pub var_answer : (r : Result ℕ FieldError) (old new : Stand) → IsWithin old.whole old.at → Reads (λ x. x) r old new (var_at old) → VarAnswer r old new
 var_answer r old new within reads = record {
-  value = values_are (λ x. x) r old new (var_at old) (λ n. Passes (var_bytes n) old new) reads (var_takes old within new);
+  value = values_are (λ x. x) r old new (var_at old) (λ n. MovesPast (var_bytes n) old new) reads (var_takes old within new);
   only = λ n rest fits e. only_value r old new n (ahead (length (var_bytes n)) old) (var_at old) reads (var_again old within.no_further n rest fits e);
   short = only_error (λ x. x) r old new (Short (length old.whole)) (var_at old) (EndsInNumber 9 (left old)) reads (var_short old);
   not_shortest = only_error (λ x. x) r old new (NotShortest old.at) (var_at old) (IsLongNumber 9 (left old)) reads (var_long old within);
@@ -413,7 +413,7 @@ var_answer r old new within reads = record {
 }
 
 pub record ZigzagAnswer (r : Result ℤ FieldError) (old new : Stand) : Type 0 where
-  pub value : IfOk r (λ n. Passes (zigzag_bytes n) old new)
+  pub value : IfOk r (λ n. MovesPast (zigzag_bytes n) old new)
   pub only : (n : ℤ) (rest : List ℕ) → FitsSigned w64 n → left old ≡ zigzag_bytes n ++ rest → r ≡ Ok n
   pub short : (r ≡ Err (Short (length old.whole))) ↔ EndsInNumber 9 (left old)
   pub not_shortest : (r ≡ Err (NotShortest old.at)) ↔ IsLongNumber 9 (left old)
@@ -421,7 +421,7 @@ pub record ZigzagAnswer (r : Result ℤ FieldError) (old new : Stand) : Type 0 w
 
 pub zigzag_answer : (r : Result ℤ FieldError) (old new : Stand) → IsWithin old.whole old.at → Reads (λ x. x) r old new (zigzag_at old) → ZigzagAnswer r old new
 zigzag_answer r old new within reads = record {
-  value = values_are (λ x. x) r old new (zigzag_at old) (λ n. Passes (zigzag_bytes n) old new) reads (zigzag_takes old within new);
+  value = values_are (λ x. x) r old new (zigzag_at old) (λ n. MovesPast (zigzag_bytes n) old new) reads (zigzag_takes old within new);
   only = λ n rest fits e. only_value r old new n (ahead (length (zigzag_bytes n)) old) (zigzag_at old) reads (zigzag_again old within.no_further n rest fits e);
   short = only_error (λ x. x) r old new (Short (length old.whole)) (zigzag_at old) (EndsInNumber 9 (left old)) reads (zigzag_short old);
   not_shortest = only_error (λ x. x) r old new (NotShortest old.at) (zigzag_at old) (IsLongNumber 9 (left old)) reads (zigzag_long old within);

@@ -10,13 +10,13 @@ use Rattle.byte_fields.specs.declared.error.FieldError.TheVariants.{Short, NotSh
 use Rattle.byte_fields.specs.Spelling.{var_bytes, text_bytes}
 use Rattle.byte_fields.specs.Numbers.{IsLongNumber}
 use Rattle.byte_fields.specs.Faults.{LacksBytes, EndsInText, IsNoText}
-use Rattle.byte_fields.specs.Reading.{Stand, left, IsWithin, ahead, Passes, ◌>>=◌, Reads, MayRead, raw_at, var_at, text_at}
+use Rattle.byte_fields.specs.Reading.{Stand, left, IsWithin, ahead, MovesPast, ◌>>=◌, Reads, MayRead, raw_at, var_at, text_at}
 use Rattle.byte_fields.proofs.FieldLaws.{read_as, same_read, slices_are, left-ahead, raw_takes, raw_again, raw_short, raw_errors, var_takes, var_below, var_again, var_short, var_long, var_errors}
 use Rattle.byte_fields.proofs.Texts.{text_at-text, text_at-other, text_at-no_length, text_at-cut}
 
 -- one field after another
-pub Passes-then : (a b : List ℕ) (s t u : Stand) → Passes a s t → Passes b t u → Passes (a ++ b) s u
-Passes-then a b s t u p q =
+pub MovesPast-then : (a b : List ℕ) (s t u : Stand) → MovesPast a s t → MovesPast b t u → MovesPast (a ++ b) s u
+MovesPast-then a b s t u p q =
     let at : t.at ≡ s.at + length a = ap (λ (x : Stand). x.at) p.place in
     let sum : t.at + length b ≡ s.at + length (a ++ b) = omega (arith, length-append a b) in
     record {
@@ -51,18 +51,18 @@ way s = by_length s (var_at s) refl
 -- ---- the laws
 
 -- where a number ended, in the same bytes
-same_whole : (a : List ℕ) (s t : Stand) → Passes a s t → t.whole ≡ s.whole
+same_whole : (a : List ℕ) (s t : Stand) → MovesPast a s t → t.whole ≡ s.whole
 same_whole a s t p = ap (λ (x : Stand). x.whole) p.place
 
-taken : (s : Stand) → IsWithin s.whole s.at → (n : ℕ) (t u : Stand) (field : List ℕ) → var_at s ≡ read_as n t → raw_at n t ≡ read_as field u → (length field ≡ n) × Passes (text_bytes field) s u
+taken : (s : Stand) → IsWithin s.whole s.at → (n : ℕ) (t u : Stand) (field : List ℕ) → var_at s ≡ read_as n t → raw_at n t ≡ read_as field u → (length field ≡ n) × MovesPast (text_bytes field) s u
 taken s within n t u field length_read bytes_read =
     let a = var_takes s within t n length_read in
     let b = raw_takes n t field u bytes_read in
-    (b.count, subst (λ (k : ℕ). Passes (var_bytes k ++ field) s u) (sym b.count) (Passes-then (var_bytes n) field s t u a b.passed))
+    (b.count, subst (λ (k : ℕ). MovesPast (var_bytes k ++ field) s u) (sym b.count) (MovesPast-then (var_bytes n) field s t u a b.passed))
 
 -- what each way says of the bytes
 abbrev Means : Stand → Result (List ℕ × Stand) FieldError → Type 0
-Means s (Ok x) = IsUtf8 x.0 × Passes (text_bytes x.0) s x.1
+Means s (Ok x) = IsUtf8 x.0 × MovesPast (text_bytes x.0) s x.1
 Means s (Err (Short at)) = (at ≡ length s.whole) × EndsInText (left s)
 Means s (Err (NotShortest at)) = (at ≡ s.at) × IsLongNumber 9 (left s)
 Means s (Err (NotText at)) = (at ≡ s.at) × IsNoText (left s)
@@ -133,14 +133,14 @@ text_ends s within ends =
 
 -- `view` gives the bytes of the text that was answered
 pub record TextAnswer {X : Type 0} (view : X → List ℕ) (r : Result X FieldError) (old new : Stand) : Type 0 where
-  pub value : IfOk r (λ t. IsUtf8 (view t) × Passes (text_bytes (view t)) old new)
+  pub value : IfOk r (λ t. IsUtf8 (view t) × MovesPast (text_bytes (view t)) old new)
   pub only : (field rest : List ℕ) → IsUtf8 field → length field < 2 ^ 64 → left old ≡ text_bytes field ++ rest → IsOkAnd r (λ t. view t ≡ field) ⊎ (r ≡ Err Memory)
   pub short : (r ≡ Err (Short (length old.whole))) ↔ EndsInText (left old)
   pub not_shortest : (r ≡ Err (NotShortest old.at)) ↔ IsLongNumber 9 (left old)
   pub not_text : (r ≡ Err (NotText old.at)) ↔ IsNoText (left old)
   pub errors : IfErr r (λ e. (e ≡ Short (length old.whole)) ⊎ (e ≡ NotShortest old.at) ⊎ (e ≡ NotText old.at) ⊎ (e ≡ Memory))
 
-value : {X : Type 0} (view : X → List ℕ) (r : Result X FieldError) (old new : Stand) → IsWithin old.whole old.at → MayRead view r old new (text_at old) → IfOk r (λ t. IsUtf8 (view t) × Passes (text_bytes (view t)) old new)
+value : {X : Type 0} (view : X → List ℕ) (r : Result X FieldError) (old new : Stand) → IsWithin old.whole old.at → MayRead view r old new (text_at old) → IfOk r (λ t. IsUtf8 (view t) × MovesPast (text_bytes (view t)) old new)
 value view (Ok x) old new within reads = subst (λ (q : Result (List ℕ × Stand) FieldError). Means old q) reads (text_means old within)
 value view (Err e) old new within reads = tt
 

@@ -31,7 +31,7 @@ abbrev pub ahead : ℕ → Stand → Stand
 ahead n s = record { whole = s.whole; at = s.at + n }
 
 -- The bytes from the old place on are this spelling, and the new place is the one behind it.
-pub record Passes (spelling : List ℕ) (old new : Stand) : Type 0 where
+pub record MovesPast (spelling : List ℕ) (old new : Stand) : Type 0 where
   pub spelled : left old ≡ spelling ++ left new
   pub place : new ≡ ahead (length spelling) old
 

@@ -6,7 +6,7 @@ ghost use Rattle.std.specs.Str.{IsUtf8};
 ghost use Rattle.byte_fields.specs.Spelling.{fixed32_bytes, fixed64_bytes, var_bytes, zigzag_bytes, text_bytes};
 ghost use Rattle.byte_fields.specs.Numbers.{EndsInNumber, IsLongNumber};
 ghost use Rattle.byte_fields.specs.Faults.{EndsInText, IsNoText};
-ghost use Rattle.byte_fields.specs.Reading.{Reads, MayRead, Passes, left, raw_at, byte_at, fixed32_at, fixed64_at, var_at, zigzag_at, text_at};
+ghost use Rattle.byte_fields.specs.Reading.{Reads, MayRead, MovesPast, left, raw_at, byte_at, fixed32_at, fixed64_at, var_at, zigzag_at, text_at};
 ghost use Rattle.byte_fields.specs.declared.error.FieldError.TheVariants.{Short, NotShortest, NotText, Memory};
 
 use crate::FieldError;
@@ -75,7 +75,7 @@ impl<'a> Reader<'a> {
 
     /// The next `count` bytes.
     pub fn raw(&mut self, count: u64) -> Result<&'a [u8], FieldError>
-        ensures value { IfOk result (λ x. (length x.now ≡ count) × Passes x.now self.old self.new) }
+        ensures value { IfOk result (λ x. (length x.now ≡ count) × MovesPast x.now self.old self.new) }
         ensures only { (bytes rest : List ℕ) → length bytes ≡ count → left self.old ≡ bytes ++ rest → IsOkAnd result (λ x. x.now ≡ bytes) }
 
         ensures short { IsErrOf result (Short (length self.old.whole)) ↔ (length (left self.old) < count) }
@@ -89,7 +89,7 @@ impl<'a> Reader<'a> {
 
     /// A byte.
     pub fn byte(&mut self) -> Result<u8, FieldError>
-        ensures value { IfOk result (λ b. Passes (b ∷ []) self.old self.new) }
+        ensures value { IfOk result (λ b. MovesPast (b ∷ []) self.old self.new) }
         ensures only { (b : ℕ) (rest : List ℕ) → left self.old ≡ (b ∷ []) ++ rest → result ≡ Ok b }
 
         ensures short { IsErrOf result (Short (length self.old.whole)) ↔ (left self.old ≡ []) }
@@ -103,7 +103,7 @@ impl<'a> Reader<'a> {
 
     /// A number of four bytes, little-endian.
     pub fn fixed32(&mut self) -> Result<u32, FieldError>
-        ensures value { IfOk result (λ n. Passes (fixed32_bytes n) self.old self.new) }
+        ensures value { IfOk result (λ n. MovesPast (fixed32_bytes n) self.old self.new) }
         ensures only { (n : ℕ) (rest : List ℕ) → n < 2 ^ 32 → left self.old ≡ fixed32_bytes n ++ rest → result ≡ Ok n }
 
         ensures short { IsErrOf result (Short (length self.old.whole)) ↔ (length (left self.old) < 4) }
@@ -117,7 +117,7 @@ impl<'a> Reader<'a> {
 
     /// A number of eight bytes, little-endian.
     pub fn fixed64(&mut self) -> Result<u64, FieldError>
-        ensures value { IfOk result (λ n. Passes (fixed64_bytes n) self.old self.new) }
+        ensures value { IfOk result (λ n. MovesPast (fixed64_bytes n) self.old self.new) }
         ensures only { (n : ℕ) (rest : List ℕ) → n < 2 ^ 64 → left self.old ≡ fixed64_bytes n ++ rest → result ≡ Ok n }
 
         ensures short { IsErrOf result (Short (length self.old.whole)) ↔ (length (left self.old) < 8) }
@@ -131,7 +131,7 @@ impl<'a> Reader<'a> {
 
     /// A number in groups of seven bits, in its shortest form.
     pub fn var(&mut self) -> Result<u64, FieldError>
-        ensures value { IfOk result (λ n. Passes (var_bytes n) self.old self.new) }
+        ensures value { IfOk result (λ n. MovesPast (var_bytes n) self.old self.new) }
         ensures only { (n : ℕ) (rest : List ℕ) → n < 2 ^ 64 → left self.old ≡ var_bytes n ++ rest → result ≡ Ok n }
 
         ensures short { IsErrOf result (Short (length self.old.whole)) ↔ EndsInNumber 9 (left self.old) }
@@ -146,7 +146,7 @@ impl<'a> Reader<'a> {
 
     /// A signed number: its zigzag number as a `var`.
     pub fn zigzag(&mut self) -> Result<i64, FieldError>
-        ensures value { IfOk result (λ z. Passes (zigzag_bytes z) self.old self.new) }
+        ensures value { IfOk result (λ z. MovesPast (zigzag_bytes z) self.old self.new) }
         ensures only { (z : ℤ) (rest : List ℕ) → FitsSigned w64 z → left self.old ≡ zigzag_bytes z ++ rest → result ≡ Ok z }
 
         ensures short { IsErrOf result (Short (length self.old.whole)) ↔ EndsInNumber 9 (left self.old) }
@@ -161,7 +161,7 @@ impl<'a> Reader<'a> {
 
     /// A text: the `var` of its length, and its bytes in UTF-8, which stay where they are.
     pub fn text_str(&mut self) -> Result<&'a str, FieldError>
-        ensures value { IfOk result (λ t. IsUtf8 t.now × Passes (text_bytes t.now) self.old self.new) }
+        ensures value { IfOk result (λ t. IsUtf8 t.now × MovesPast (text_bytes t.now) self.old self.new) }
         ensures only { (text rest : List ℕ) → IsUtf8 text → length text < 2 ^ 64 → left self.old ≡ text_bytes text ++ rest
             → IsOkAnd result (λ t. t.now ≡ text) }
 
@@ -179,7 +179,7 @@ impl<'a> Reader<'a> {
 
     /// A text: the `var` of its length, and its bytes in UTF-8. Memory is taken only for bytes that are there.
     pub fn text(&mut self) -> Result<Text, FieldError>
-        ensures value { IfOk result (λ t. IsUtf8 t × Passes (text_bytes t) self.old self.new) }
+        ensures value { IfOk result (λ t. IsUtf8 t × MovesPast (text_bytes t) self.old self.new) }
         ensures only { (text rest : List ℕ) → IsUtf8 text → length text < 2 ^ 64 → left self.old ≡ text_bytes text ++ rest
             → (result ≡ Ok text) ⊎ (result ≡ Err Memory) }
 

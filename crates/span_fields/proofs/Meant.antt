@@ -23,9 +23,9 @@ use Rattle.span_types.specs.Numbers.{kind_number, kind_numbered, code_number, co
 use Rattle.span_types.specs.Promises.{has_key, all_zero, AreDistinctAfter}
 use Rattle.byte_fields.specs.declared.error.FieldError.{FieldError}
 use Rattle.byte_fields.specs.Spelling.{fixed64_bytes, var_bytes, zigzag_bytes, text_bytes}
-use Rattle.byte_fields.specs.Reading.{Stand, left, AreBytes, IsWithin, Passes, ◌>>=◌, raw_at, byte_at, fixed64_at, var_at, signed_of, zigzag_at, text_at}
+use Rattle.byte_fields.specs.Reading.{Stand, left, AreBytes, IsWithin, MovesPast, ◌>>=◌, raw_at, byte_at, fixed64_at, var_at, signed_of, zigzag_at, text_at}
 use Rattle.byte_fields.proofs.FieldLaws.{left_fits, raw_takes, byte_takes, fixed64_takes, var_takes, var_below, zigzag_takes}
-use Rattle.byte_fields.proofs.TextLaws.{Passes-then, text_answer}
+use Rattle.byte_fields.proofs.TextLaws.{MovesPast-then, text_answer}
 use Rattle.span_fields.specs.Breaks.{or_place, in_part}
 use Rattle.span_fields.specs.Encodings.{list_bytes, value_bytes, attr_bytes, attrs_bytes, trace_bytes, id_bytes, parent_bytes, kind_bytes, status_bytes, event_bytes, link_bytes, resource_bytes, scope_bytes}
 use Rattle.span_fields.specs.Sound.{IsBelow64, IsAny, IsWord, AreSound, IsSoundValue, IsSoundAttr, AreSoundAttrs, IsId, IsTrace, IsSpanId, IsParent, IsSoundEvent, IsSoundLink, IsSoundResource, IsSoundScope}
@@ -71,7 +71,7 @@ pub or_break_ok : {A : Type 0} (place : ℕ) (o : Option A) (s : Stand) (x : A) 
 or_break_ok {A} place (Some y) s x t is = let both = same_pair y x s t is in (ap (λ (z : A). Some z) both.0, both.1)
 or_break_ok place None s x t is = absurd (cc)
 
-pub took : (encoding : List ℕ) (s t : Stand) → IsWithin s.whole s.at → Passes encoding s t → Took encoding s t
+pub took : (encoding : List ℕ) (s t : Stand) → IsWithin s.whole s.at → MovesPast encoding s t → Took encoding s t
 took encoding s t within passed =
     let whole : t.whole ≡ s.whole = ap (λ (x : Stand). x.whole) passed.place in
     let at : t.at ≡ s.at + length encoding = ap (λ (x : Stand). x.at) passed.place in
@@ -86,7 +86,7 @@ took_none s within =
     record { passed = record { spelled = refl; place = ap (λ (n : ℕ). record { whole = s.whole; at = n }) none }; within = within }
 
 pub took_then : {a b : List ℕ} {s t u : Stand} → Took a s t → Took b t u → Took (a ++ b) s u
-took_then {a} {b} {s} {t} {u} p q = record { passed = Passes-then a b s t u p.passed q.passed; within = q.within }
+took_then {a} {b} {s} {t} {u} p q = record { passed = MovesPast-then a b s t u p.passed q.passed; within = q.within }
 
 -- the same, where what was read is another name of the value
 pub renamed : {A : Type 0} (encode : A → List ℕ) (Fits : A → Type 0) (s : Stand) (x y : A) (t u : Stand) → x ≡ y → t ≡ u → Got encode Fits s x t → Got encode Fits s y u

@@ -1,10 +1,10 @@
 -- How a reading and an encoding belong together.
 use Rattle.std.specs.Prelude.{◌≡◌, ℕ, ◌≤◌, List, ◌++◌, length, Result, Ok}
-use Rattle.byte_fields.specs.Reading.{Stand, left, IsWithin, Passes, ahead}
+use Rattle.byte_fields.specs.Reading.{Stand, left, IsWithin, MovesPast, ahead}
 
 -- these bytes were passed
 pub record Took (encoding : List ℕ) (s t : Stand) : Type 0 where
-  pub passed : Passes encoding s t
+  pub passed : MovesPast encoding s t
   pub within : IsWithin t.whole t.at
 
 -- what was read and where the reader then stands: its encoding was passed, and it can be kept

@@ -1,7 +1,7 @@
 use Rattle.span_fields.specs.Decodings.{event_at, link_at}
 use Rattle.span_fields.specs.Encodings.{event_bytes, link_bytes}
 use Rattle.span_fields.specs.Sound.{IsSoundEvent, IsSoundLink}
-use Rattle.span_fields.proofs.Again.{again_trace, again_span_id, again_parent, again_kind, again_status, again_attrs, again_resource, again_scope, again_list, again_event, again_link}
+use Rattle.span_fields.proofs.Again.{again_trace, again_span_id, again_parent, again_fixed64, again_kind, again_status, again_attrs, again_resource, again_scope, again_list, again_event, again_link}
 use Rattle.span_fields.proofs.laws.encoded_is_read.Goals as goal
 
 pub returns : goal.returns
@@ -9,6 +9,7 @@ returns c = record {
   trace = again_trace;
   id = again_span_id;
   parent = again_parent;
+  time = again_fixed64;
   kind = again_kind;
   status = again_status;
   attrs = again_attrs;

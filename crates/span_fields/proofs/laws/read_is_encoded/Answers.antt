@@ -1,7 +1,7 @@
 use Rattle.span_fields.specs.Decodings.{event_at, link_at}
 use Rattle.span_fields.specs.Encodings.{event_bytes, link_bytes}
 use Rattle.span_fields.specs.Sound.{IsSoundEvent, IsSoundLink}
-use Rattle.span_fields.proofs.Meant.{meant_trace, meant_span_id, meant_parent, meant_kind, meant_status, meant_attrs, meant_resource, meant_scope, meant_list, meant_event, meant_link}
+use Rattle.span_fields.proofs.Meant.{meant_trace, meant_span_id, meant_parent, meant_fixed64, meant_kind, meant_status, meant_attrs, meant_resource, meant_scope, meant_list, meant_event, meant_link}
 use Rattle.span_fields.proofs.laws.read_is_encoded.Goals as goal
 
 pub returns : goal.returns
@@ -9,6 +9,7 @@ returns c = record {
   trace = meant_trace;
   id = meant_span_id;
   parent = meant_parent;
+  time = meant_fixed64;
   kind = meant_kind;
   status = meant_status;
   attrs = meant_attrs;
