@@ -268,26 +268,24 @@ fn no_command_needs_a_right_to_wait_yet(rt: HostRuntime) -> Result<(), Memory> {
     Ok(())
 }
 
-// A reader that gives one line a call, where there is room, and counts its calls.
+const EMPTY_PUSH: &[u8; 8] = b"push {}\n";
+
+// A reader that gives one line a call, so many times, and counts its calls.
 #[derive(Drop)]
-struct LineByLine<'a> {
-    lines: &'a [&'a [u8]],
+struct LineByLine {
+    left: u64,
     calls: u64,
 }
 
-impl Read for LineByLine<'_> {
+impl Read for LineByLine {
     fn read(&mut self, buf: &mut [u8]) -> io::Result<usize> {
         self.calls = self.calls.saturating_add(1);
-        let Some((line, later)) = self.lines.split_first() else {
-            return Ok(0);
-        };
-        let count = line.len();
-        if count > buf.len() {
+        if self.left == 0 || buf.len() < EMPTY_PUSH.len() {
             return Ok(0);
         }
-        buf[..count].copy_from_slice(line);
-        self.lines = later;
-        Ok(count)
+        self.left -= 1;
+        buf[..EMPTY_PUSH.len()].copy_from_slice(EMPTY_PUSH);
+        Ok(EMPTY_PUSH.len())
     }
 }
 
@@ -297,13 +295,9 @@ fn reads_of<R: Threads + Wait + Sync>(
     alloc: Global,
     failing: &[u64],
 ) -> Result<(u64, u8), Memory> {
-    let lines: [&[u8]; 2] = [b"push {}\n", b"push {}\n"];
     let mut words = Vec::new(alloc);
     words.push(String::from_str(alloc, "session")?)?;
-    let mut reader = LineByLine {
-        lines: &lines,
-        calls: 0,
-    };
+    let mut reader = LineByLine { left: 2, calls: 0 };
     let mut sink = MemSink::new(alloc, calls(alloc, failing)?);
     let mut clock = FixedClock::new(Moments::of(Vec::new(alloc)));
     let Ended { status, disk: () } = run(
