@@ -6,7 +6,7 @@ ghost use Rattle.span_tree.specs.Nodes.{IsOneTrace};
 ghost use Rattle.span_types.specs.First.{IsFirstOf};
 ghost use Rattle.span_types.specs.declared.spans.Row.{Row};
 ghost use Rattle.traceql_syntax.specs.Trees.{query_tree};
-ghost use Rattle.traceql_value.specs.Scenes.{searches_patterns};
+ghost use Rattle.traceql_value.specs.EvalContexts.{matchers_patterns};
 ghost use Rattle.search_answer.specs.Answers.{IsAnswer};
 ghost use Rattle.search_answer.specs.Traces.{AddsOf, AreCutResults, IsSorted};
 
@@ -16,7 +16,7 @@ use span_types::{Memory, Row};
 use spanset_eval::{Results, TraceResult, evaluate_rows, rank};
 use std::alloc::Global;
 use traceql_types::Checked;
-use traceql_value::Searches;
+use traceql_value::Matchers;
 
 /// What a search shows: one result for each trace of which a span starts in the range and of which the query answers
 /// something; of these the first `limit`, the latest start first and of one start by trace id; and of each spanset the
@@ -51,37 +51,37 @@ fn results_of(
     ensures { IfOk result (λ all. AreCutResults checked.now.patterns (query_tree checked.now.query) range most rows.now all.items) }
 {
     let mut all = Vec::new(alloc);
-    let mut searches = Searches::of(alloc, checked)?;
+    let mut matchers = Matchers::of(alloc, checked)?;
     let mut rest = rows;
     while !rest.is_empty() {
         let (part, later) = rest.split_at(trace_len(rest));
-        searches = add_result(alloc, checked, searches, range, most, part, &mut all)?;
+        matchers = add_result(alloc, checked, matchers, range, most, part, &mut all)?;
         rest = later;
     }
     Ok(all)
 }
 
-// Adds the result of a trace, where it is in the range and the query answers something of it. Gives the searches back.
+// Adds the result of a trace, where it is in the range and the query answers something of it. Gives the matchers back.
 fn add_result<'q>(
     alloc: Global,
     checked: &Checked,
-    searches: Searches<'q>,
+    matchers: Matchers<'q>,
     range: Range,
     most: usize,
     part: &[Row],
     all: &mut Vec<TraceResult>,
-) -> Result<Searches<'q>, Memory>
+) -> Result<Matchers<'q>, Memory>
     requires one { IsOneTrace part.now }
-    requires patterns { searches_patterns searches ≡ checked.now.patterns }
+    requires patterns { matchers_patterns matchers ≡ checked.now.patterns }
     ensures added { OnOk result (AddsOf checked.now.patterns (query_tree checked.now.query) range most part.now all.old.items all.new.items) }
-    ensures searches { IfOk result (λ s. searches_patterns s ≡ checked.now.patterns) }
+    ensures matchers { IfOk result (λ s. matchers_patterns s ≡ checked.now.patterns) }
 {
     if !starts_in(range, part) {
-        return Ok(searches);
+        return Ok(matchers);
     }
-    let (found, searches) = evaluate_rows(alloc, checked, searches, part, most)?;
+    let (found, matchers) = evaluate_rows(alloc, checked, matchers, part, most)?;
     extend(all, found)?;
-    Ok(searches)
+    Ok(matchers)
 }
 
 // Adds a result at the end, if there is one.

@@ -8,7 +8,7 @@ use std::test::Fail;
 use traceql_syntax::{Field, FieldExpr, Stage};
 use traceql_tokens::Intrinsic;
 use traceql_types::Checked;
-use traceql_value::{Ratio, Scene, Searches, Value, Values, field_value};
+use traceql_value::{Ratio, EvalContext, Matchers, Value, Values, field_value};
 
 /// Five spans of one trace. The first has no parent, and neither have the second and the third, which begin before it and
 /// together; of these two the third has the lesser id. The fourth's parent is missing, and it ends before it begins. The
@@ -271,20 +271,20 @@ fn spans_alone(rt: HostRuntime) -> Result<(), Fail> {
 /// Adds what a condition is for each span of a line's trace, and gives the searches back.
 fn add_truths<'q>(
     alloc: Global,
-    searches: Searches<'q>,
+    searches: Matchers<'q>,
     condition: &FieldExpr,
     line: &str,
     so: &mut Vec<bool>,
-) -> Result<Searches<'q>, Fail> {
+) -> Result<Matchers<'q>, Fail> {
     let trace = rows_of(alloc, &[line])?;
-    let mut scene = Scene::of(alloc, searches, trace.as_slice());
+    let mut context = EvalContext::of(alloc, searches, trace.as_slice());
     for row in trace.as_slice() {
-        let Ok(truth) = scene.is_so(condition, &row.span) else {
+        let Ok(truth) = context.is_so(condition, &row.span) else {
             return Err(Fail::new("no memory"));
         };
         so.push(truth)?;
     }
-    Ok(scene.leave())
+    Ok(context.leave())
 }
 
 #[test]
@@ -297,7 +297,7 @@ fn searches_go_on(rt: HostRuntime) -> Result<(), Fail> {
     let [Stage::By(operand)] = checked.query.stages.as_slice() else {
         return Err(Fail::new("the query has another stage"));
     };
-    let Ok(searches) = Searches::of(alloc, &checked) else {
+    let Ok(searches) = Matchers::of(alloc, &checked) else {
         return Err(Fail::new("no memory"));
     };
     let mut so = Vec::new(alloc);
@@ -312,27 +312,27 @@ fn searches_go_on(rt: HostRuntime) -> Result<(), Fail> {
 }
 
 #[test]
-fn scene_of_a_trace(rt: HostRuntime) -> Result<(), Fail> {
+fn context_of_a_trace(rt: HostRuntime) -> Result<(), Fail> {
     let alloc = rt.alloc();
     let trace = rows_of(alloc, &[LINE])?;
     let checked = grouping(alloc, ".flag")?;
     let [Stage::By(operand)] = checked.query.stages.as_slice() else {
         return Err(Fail::new("the query has another stage"));
     };
-    let Ok(searches) = Searches::of(alloc, &checked) else {
+    let Ok(searches) = Matchers::of(alloc, &checked) else {
         return Err(Fail::new("no memory"));
     };
-    let mut scene = Scene::of(alloc, searches, trace.as_slice());
-    assert_eq!(rt; scene.start(), 50);
-    assert_eq!(rt; scene.nanos(), 350);
+    let mut context = EvalContext::of(alloc, searches, trace.as_slice());
+    assert_eq!(rt; context.start(), 50);
+    assert_eq!(rt; context.nanos(), 350);
     let mut so = Vec::new(alloc);
     let mut names = String::new(alloc);
     for row in trace.as_slice() {
-        let Ok(truth) = scene.is_so(&operand.expr, &row.span) else {
+        let Ok(truth) = context.is_so(&operand.expr, &row.span) else {
             return Err(Fail::new("no memory"));
         };
         so.push(truth)?;
-        let Ok(value) = scene.value(&operand.expr, &row.span) else {
+        let Ok(value) = context.value(&operand.expr, &row.span) else {
             return Err(Fail::new("no memory"));
         };
         names.push_str(shown(alloc, &value)?.as_str())?;
@@ -341,9 +341,9 @@ fn scene_of_a_trace(rt: HostRuntime) -> Result<(), Fail> {
     assert!(rt; names.as_str() == "nilnilnilniltrue");
     let name = Field::Intrinsic(Intrinsic::Name);
     for value in [
-        scene.root_name(),
-        scene.root_service(),
-        scene.field(&name, &trace.as_slice()[0].span),
+        context.root_name(),
+        context.root_service(),
+        context.field(&name, &trace.as_slice()[0].span),
     ] {
         let Ok(value) = value else {
             return Err(Fail::new("no memory"));

@@ -6,7 +6,7 @@ ghost use Rattle.std.specs.List.{list_all};
 ghost use Rattle.otlp_spans.specs.Fields.{moment_of};
 ghost use Rattle.session_text.specs.Lines.{first_part, other_parts};
 ghost use Rattle.session_text.specs.Options.{behind, count_of, if_count, option_first, search_parts, time_of, timestamp_of};
-ghost use Rattle.session_text.specs.Seen.{left_seen, line_seen, option_seen};
+ghost use Rattle.session_text.specs.Parsed.{left_parsed, line_parsed, option_parsed};
 
 use column_scan::Range;
 use jiff::Timestamp;
@@ -37,7 +37,7 @@ pub(crate) struct SearchLine<'a> {
 /// stand there, and the line's length where the query is missing.
 #[tactic(auto, unfolding(crate::specs::Options::search_parts))]
 pub(crate) fn search_parts<'a>(length: u64, left: Option<&'a str>) -> Result<SearchLine<'a>, u64>
-    ensures { line_seen result ≡ search_parts length (left_seen left.entry) }
+    ensures { line_parsed result ≡ search_parts length (left_parsed left.entry) }
 {
     let (limit, left) = count_first("limit=", length, left)?;
     let (spans_per_set, left) = count_first("spss=", length, left)?;
@@ -62,7 +62,7 @@ fn count_first<'a>(
     length: u64,
     left: Option<&'a str>,
 ) -> Result<(Option<u32>, Option<&'a str>), u64>
-    ensures { option_seen result ≡ option_first count_of name.now length (left_seen left.entry) }
+    ensures { option_parsed result ≡ option_first count_of name.now length (left_parsed left.entry) }
 {
     let Some(text) = left else {
         return Ok((None, None));
@@ -84,7 +84,7 @@ fn time_first<'a>(
     length: u64,
     left: Option<&'a str>,
 ) -> Result<(Option<u64>, Option<&'a str>), u64>
-    ensures { option_seen result ≡ option_first time_of name.now length (left_seen left.entry) }
+    ensures { option_parsed result ≡ option_first time_of name.now length (left_parsed left.entry) }
 {
     let Some(text) = left else {
         return Ok((None, None));
@@ -102,7 +102,7 @@ fn time_first<'a>(
 /// The first part, and what follows the space behind it.
 pub(crate) fn split_text(text: &str) -> (&str, Option<&str>)
     ensures first { result.0.now ≡ first_part text.now }
-    ensures others { left_seen result.1 ≡ other_parts text.now }
+    ensures others { left_parsed result.1 ≡ other_parts text.now }
 {
     match text.split_once(' ') {
         Some((part, more)) => (part, Some(more)),
@@ -112,7 +112,7 @@ pub(crate) fn split_text(text: &str) -> (&str, Option<&str>)
 
 /// What follows a name at the beginning of a text.
 fn behind<'a>(name: &str, text: &'a str) -> Option<&'a str>
-    ensures { left_seen result ≡ behind name.now text.now }
+    ensures { left_parsed result ≡ behind name.now text.now }
 {
     text.strip_prefix(name)
 }

@@ -6,7 +6,7 @@ ghost use Rattle.session_text.specs.declared.refusal.Refusal.TheVariants.{Memory
 ghost use Rattle.session_text.specs.Lines.{first_part, other_parts};
 ghost use Rattle.session_text.specs.Options.{search_parts};
 ghost use Rattle.session_text.specs.Requests.{Answers, Asks, HasFewSpans, line_of, other_line, push_with, search_with, trace_with, with_id};
-ghost use Rattle.session_text.specs.Seen.{left_seen};
+ghost use Rattle.session_text.specs.Parsed.{left_parsed};
 
 use crate::options::{search_parts, split_text};
 use crate::searching::search;
@@ -104,7 +104,7 @@ fn push_with(alloc: Global, length: u64, rest: Option<&[u8]>) -> Result<Request,
 
 /// A look-up, in a line of this length.
 fn trace_with(length: u64, rest: Option<&str>) -> Result<Request, Refusal>
-    ensures asked { result ≡ trace_with length (left_seen rest.entry) }
+    ensures asked { result ≡ trace_with length (left_parsed rest.entry) }
     ensures few { IfOk result (λ request. HasFewSpans request) }
 {
     let Some(rest) = rest else {
@@ -129,7 +129,7 @@ fn search_with<P: PatternMaker>(
     rest: Option<&str>,
     maker: &mut P,
 ) -> Result<Request, Refusal>
-    ensures asked { Answers (search_with (search_parts length (left_seen rest.entry))) (Rose (P.refusals maker.old) (P.refusals maker.new)) result }
+    ensures asked { Answers (search_with (search_parts length (left_parsed rest.entry))) (Rose (P.refusals maker.old) (P.refusals maker.new)) result }
     ensures few { IfOk result (λ request. HasFewSpans request) }
     ensures counted { P.refusals maker.old ≤ P.refusals maker.new }
     ensures unrefused { IfOk result (λ request. P.refusals maker.new ≡ P.refusals maker.old) }

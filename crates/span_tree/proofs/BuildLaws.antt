@@ -10,7 +10,7 @@ use Rattle.span_types.specs.declared.spans.Row.{Row}
 use Rattle.span_types.specs.Orders.{span_cmp}
 use Rattle.span_tree.specs.declared.node.Node.{Node}
 use Rattle.span_tree.specs.Nodes.{IsOneTrace, node_of, nodes_of, id_at, parent_at}
-use Rattle.span_tree.specs.Tables.{IdsDiffer, StandsFor, HasParents, HasFamilies, JoinsFamily, at}
+use Rattle.span_tree.specs.Tables.{IdsDiffer, IndexesNodes, HasParents, HasFamilies, JoinsFamily, at}
 use Rattle.span_tree.proofs.Ids.{same_or_not}
 
 -- What stands at a position of a list of spans.
@@ -101,7 +101,7 @@ through g None x h = cc
 through g (Some p) x h = (p, refl, h)
 
 -- What the map has for each span's parent is where the parent stands.
-pub parents_found : (nodes : List Node) (positions : BTreeMap SpanId ℕ) (parents : List (Option ℕ)) → StandsFor nodes positions →
+pub parents_found : (nodes : List Node) (positions : BTreeMap SpanId ℕ) (parents : List (Option ℕ)) → IndexesNodes nodes positions →
     parents ≡ map (λ n. option_and_then (get span_cmp positions) n.parent) nodes → HasParents nodes parents
 parents_found nodes positions parents stands is = record {
   one_each = ap length is ∙ length-map nodes _;

@@ -16,7 +16,7 @@ abbrev pub at : List (Option ℕ) → ℕ → Option ℕ
 at table y = slice_index_or table y None
 
 -- The map has for each id the position of its span.
-pub record StandsFor (nodes : List Node) (positions : BTreeMap SpanId ℕ) : Type 0 where
+pub record IndexesNodes (nodes : List Node) (positions : BTreeMap SpanId ℕ) : Type 0 where
   pub sound : (q : SpanId) (x : ℕ) → get span_cmp positions q ≡ Some x → id_at nodes x ≡ Some q
   pub whole : (q : SpanId) (x : ℕ) → id_at nodes x ≡ Some q → get span_cmp positions q ≡ Some x
 

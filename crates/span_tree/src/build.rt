@@ -5,7 +5,7 @@ ghost use Rattle.std.specs.Option.{option_and_then};
 ghost use Rattle.std.specs.BTreeMap.{get};
 ghost use Rattle.span_types.specs.Orders.{span_cmp};
 ghost use Rattle.span_tree.specs.Nodes.{nodes_of};
-ghost use Rattle.span_tree.specs.Tables.{IdsDiffer, StandsFor, HasParents, HasFamilies, JoinsFamily};
+ghost use Rattle.span_tree.specs.Tables.{IdsDiffer, IndexesNodes, HasParents, HasFamilies, JoinsFamily};
 
 use crate::Node;
 use span_types::{Memory, Row, SpanId};
@@ -29,7 +29,7 @@ pub fn nodes(alloc: Global, rows: &[Row]) -> Result<Vec<Node>, Memory>
 /// For each id the position of the span that has it.
 pub fn positions(alloc: Global, nodes: &[Node]) -> Result<BTreeMap<SpanId, usize>, Memory>
     requires { IdsDiffer nodes.now }
-    ensures { IfOk result (λ positions. StandsFor nodes.now positions) }
+    ensures { IfOk result (λ positions. IndexesNodes nodes.now positions) }
 {
     let mut positions = BTreeMap::new(alloc);
     for (position, node) in nodes.iter().enumerate() {
@@ -44,7 +44,7 @@ pub fn parents(
     nodes: &[Node],
     positions: &BTreeMap<SpanId, usize>,
 ) -> Result<Vec<Option<usize>>, Memory>
-    requires { StandsFor nodes.now positions.now }
+    requires { IndexesNodes nodes.now positions.now }
     ensures { IfOk result (λ parents. HasParents nodes.now parents.items) }
 {
     let mut parents = Vec::with_capacity(alloc, nodes.len())?;

@@ -3,6 +3,6 @@ pub mod Outcomes
 pub mod Parts
 pub mod Ranking
 pub mod Relating
-pub mod Seen
+pub mod Unchanged
 pub mod Sets
 pub mod Stages

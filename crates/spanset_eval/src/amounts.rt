@@ -3,17 +3,17 @@
 ghost use Rattle.std.specs.Prelude.{◌≡◌, ◌<◌, ◌++◌, pos, ◌*ℤ◌, ◌+ℤ◌, IfOk, OnOk};
 ghost use Rattle.std.specs.Option.{option_to_list};
 ghost use Rattle.traceql_syntax.specs.Trees.{tree, aggregate_tree, threshold_tree};
-ghost use Rattle.traceql_value.specs.Scenes.{scene_patterns, scene_rows};
+ghost use Rattle.traceql_value.specs.EvalContexts.{context_patterns, context_rows};
 ghost use Rattle.traceql_value.specs.Values.{accepts};
-ghost use Rattle.spanset_eval.specs.Seen.{IsSame};
+ghost use Rattle.spanset_eval.specs.Unchanged.{IsSame};
 ghost use Rattle.spanset_eval.specs.Stages.{amount_cmp, amount_of, amounts_compare, aggregate_of, greatest_of, least_of, numbers_of, signed, threshold_of, total_of, whole_number};
 
-use crate::look;
+use crate::filter;
 use span_types::{Memory, Row};
 use std::alloc::Global;
 use std::cmp::Ordering;
 use traceql_syntax::{Aggregate, AggregateOp, Comparison, FieldExpr, Threshold};
-use traceql_value::{Scene, Value};
+use traceql_value::{EvalContext, Value};
 
 /// An exact number, as a quotient: the bottom is at least 1.
 #[derive(Clone, Copy)]
@@ -44,18 +44,18 @@ fn whole_number(value: Value) -> Option<i64>
 // The numbers that the argument has for the members.
 fn numbers(
     alloc: Global,
-    scene: &mut Scene<'_, '_>,
+    context: &mut EvalContext<'_, '_>,
     rows: &[Row],
     expr: &FieldExpr,
     members: &[usize],
 ) -> Result<Vec<i64>, Memory>
-    requires { rows.now ≡ scene_rows scene.old }
-    ensures numbers { IfOk result (λ numbers. numbers.items ≡ numbers_of (scene_patterns scene.old) (scene_rows scene.old) (tree expr.now) members.now) }
-    ensures scene { IsSame scene.old scene.new }
+    requires { rows.now ≡ context_rows context.old }
+    ensures numbers { IfOk result (λ numbers. numbers.items ≡ numbers_of (context_patterns context.old) (context_rows context.old) (tree expr.now) members.now) }
+    ensures context { IsSame context.old context.new }
 {
     let mut numbers = Vec::new(alloc);
     for position in members {
-        let value = look::value_at(scene, rows, expr, *position)?;
+        let value = look::value_at(context, rows, expr, *position)?;
         add_number(&mut numbers, value)?;
     }
     Ok(numbers)
@@ -129,19 +129,19 @@ fn amount_from(op: AggregateOp, numbers: &[i64]) -> Option<Amount>
 // An aggregate over the members.
 fn aggregate(
     alloc: Global,
-    scene: &mut Scene<'_, '_>,
+    context: &mut EvalContext<'_, '_>,
     rows: &[Row],
     aggregate: &Aggregate,
     members: &[usize],
 ) -> Result<Option<Amount>, Memory>
-    requires { rows.now ≡ scene_rows scene.old }
-    ensures amount { IfOk result (λ amount. amount ≡ aggregate_of (scene_patterns scene.old) (scene_rows scene.old) (aggregate_tree aggregate.now) members.now) }
-    ensures scene { IsSame scene.old scene.new }
+    requires { rows.now ≡ context_rows context.old }
+    ensures amount { IfOk result (λ amount. amount ≡ aggregate_of (context_patterns context.old) (context_rows context.old) (aggregate_tree aggregate.now) members.now) }
+    ensures context { IsSame context.old context.new }
 {
     match aggregate {
         Aggregate::Count => Ok(Some(whole(members.len() as i128))),
         Aggregate::Of(op, argument) => {
-            let numbers = numbers(alloc, scene, rows, &argument.expr, members)?;
+            let numbers = numbers(alloc, context, rows, &argument.expr, members)?;
             Ok(amount_from(*op, numbers.as_slice()))
         }
     }
@@ -161,17 +161,17 @@ fn signed(negative: bool, number: u64) -> i128
 // What an aggregate is compared with.
 fn threshold(
     alloc: Global,
-    scene: &mut Scene<'_, '_>,
+    context: &mut EvalContext<'_, '_>,
     rows: &[Row],
     threshold: &Threshold,
     members: &[usize],
 ) -> Result<Option<Amount>, Memory>
-    requires { rows.now ≡ scene_rows scene.old }
-    ensures amount { IfOk result (λ amount. amount ≡ threshold_of (scene_patterns scene.old) (scene_rows scene.old) (threshold_tree threshold.now) members.now) }
-    ensures scene { IsSame scene.old scene.new }
+    requires { rows.now ≡ context_rows context.old }
+    ensures amount { IfOk result (λ amount. amount ≡ threshold_of (context_patterns context.old) (context_rows context.old) (threshold_tree threshold.now) members.now) }
+    ensures context { IsSame context.old context.new }
 {
     match threshold {
-        Threshold::Aggregate(other) => aggregate(alloc, scene, rows, other, members),
+        Threshold::Aggregate(other) => aggregate(alloc, context, rows, other, members),
         Threshold::Number { negative, value } => Ok(Some(whole(signed(*negative, *value)))),
         Threshold::Duration { negative, nanos } => Ok(Some(whole(signed(*negative, *nanos)))),
     }
@@ -227,21 +227,21 @@ fn compare(a: Amount, b: Amount) -> Ordering
 /// Whether the comparison of an aggregate over the members is true. It is false where a side has no number.
 pub fn is_true(
     alloc: Global,
-    scene: &mut Scene<'_, '_>,
+    context: &mut EvalContext<'_, '_>,
     rows: &[Row],
     left: &Aggregate,
     op: Comparison,
     right: &Threshold,
     members: &[usize],
 ) -> Result<bool, Memory>
-    requires { rows.now ≡ scene_rows scene.old }
+    requires { rows.now ≡ context_rows context.old }
     ensures answer { IfOk result (λ b. b ≡ amounts_compare op
-        (aggregate_of (scene_patterns scene.old) (scene_rows scene.old) (aggregate_tree left.now) members.now)
-        (threshold_of (scene_patterns scene.old) (scene_rows scene.old) (threshold_tree right.now) members.now)) }
-    ensures scene { IsSame scene.old scene.new }
+        (aggregate_of (context_patterns context.old) (context_rows context.old) (aggregate_tree left.now) members.now)
+        (threshold_of (context_patterns context.old) (context_rows context.old) (threshold_tree right.now) members.now)) }
+    ensures context { IsSame context.old context.new }
 {
-    let left = aggregate(alloc, scene, rows, left, members)?;
-    let right = threshold(alloc, scene, rows, right, members)?;
+    let left = aggregate(alloc, context, rows, left, members)?;
+    let right = threshold(alloc, context, rows, right, members)?;
     Ok(amounts_compare(op, left, right))
 }
 

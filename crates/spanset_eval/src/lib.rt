@@ -3,7 +3,7 @@
 
 mod amounts;
 mod groups;
-mod look;
+mod filter;
 mod marks;
 mod outcome;
 mod parts;

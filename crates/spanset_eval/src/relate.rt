@@ -5,7 +5,7 @@ ghost use Rattle.span_tree.specs.Marking.{IsMarked, MarksExactly};
 ghost use Rattle.span_tree.specs.Nodes.{IsOneTrace, nodes_of};
 ghost use Rattle.spanset_eval.specs.Marked.{MarksSet};
 ghost use Rattle.spanset_eval.specs.Relating.{opposite_of};
-ghost use Rattle.spanset_eval.specs.Seen.{IsTreeOf};
+ghost use Rattle.spanset_eval.specs.Unchanged.{IsTreeOf};
 ghost use Rattle.spanset_eval.specs.Sets.{Relates, Structural, Joined};
 
 use crate::marks;

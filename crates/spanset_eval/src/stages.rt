@@ -4,9 +4,9 @@ ghost use Rattle.std.specs.Prelude.{◌≡◌, ℕ, ◌<◌, ◌==◌, ◌||◌,
 ghost use Rattle.std.specs.List.{flat_map, list_any};
 ghost use Rattle.span_types.specs.declared.spans.Row.{Row};
 ghost use Rattle.traceql_syntax.specs.Trees.{tree, placed_option, aggregate_tree, threshold_tree, stage_tree};
-ghost use Rattle.traceql_value.specs.Scenes.{scene_patterns, scene_rows};
+ghost use Rattle.traceql_value.specs.EvalContexts.{context_patterns, context_rows};
 ghost use Rattle.spanset_eval.specs.Marked.{mark_at, MarksBy};
-ghost use Rattle.spanset_eval.specs.Seen.{IsSame};
+ghost use Rattle.spanset_eval.specs.Unchanged.{IsSame};
 ghost use Rattle.spanset_eval.specs.Stages.{after_stage, after_stages, aggregate_of, amounts_compare, is_in_some, is_left, joined, keeps_at, left, split_by, threshold_of, value_at};
 ghost use Rattle.spanset_eval.specs.declared.groups.Group.{Group as Spanset};
 
@@ -16,23 +16,23 @@ use crate::{amounts, look, marks};
 use span_types::{Marks, Memory, Row, TryCopy};
 use std::alloc::Global;
 use traceql_syntax::{Aggregate, Comparison, FieldExpr, Operand, Stage, Threshold};
-use traceql_value::{Scene, Value, Values};
+use traceql_value::{EvalContext, Value, Values};
 
 // The spansets with the spans of which the condition is true.
 fn keep(
     alloc: Global,
-    scene: &mut Scene<'_, '_>,
+    context: &mut EvalContext<'_, '_>,
     rows: &[Row],
     condition: &Option<Operand>,
     groups: Vec<Group>,
 ) -> Result<Vec<Group>, Memory>
-    requires { rows.now ≡ scene_rows scene.old }
-    ensures groups { IfOk result (λ kept. kept.items ≡ map (λ (g : Spanset). record { by = g.by; members = filter (keeps_at (scene_patterns scene.old) (scene_rows scene.old) (placed_option condition.now)) g.members }) groups.items) }
-    ensures scene { IsSame scene.old scene.new }
+    requires { rows.now ≡ context_rows context.old }
+    ensures groups { IfOk result (λ kept. kept.items ≡ map (λ (g : Spanset). record { by = g.by; members = filter (keeps_at (context_patterns context.old) (context_rows context.old) (placed_option condition.now)) g.members }) groups.items) }
+    ensures context { IsSame context.old context.new }
 {
     let mut kept = Vec::with_capacity(alloc, groups.len())?;
     for group in groups {
-        let members = look::kept_members(alloc, scene, rows, condition, group.members.as_slice())?;
+        let members = look::kept_members(alloc, context, rows, condition, group.members.as_slice())?;
         kept.push(Group {
             by: group.by,
             members,
@@ -44,18 +44,18 @@ fn keep(
 // The members with the values that an expression has there.
 fn valued(
     alloc: Global,
-    scene: &mut Scene<'_, '_>,
+    context: &mut EvalContext<'_, '_>,
     rows: &[Row],
     expr: &FieldExpr,
     members: &[usize],
 ) -> Result<Vec<Valued>, Memory>
-    requires { rows.now ≡ scene_rows scene.old }
-    ensures valued { IfOk result (λ valued. valued.items ≡ map (λ y. record { value = value_at (scene_patterns scene.old) (scene_rows scene.old) (tree expr.now) y; position = y }) members.now) }
-    ensures scene { IsSame scene.old scene.new }
+    requires { rows.now ≡ context_rows context.old }
+    ensures valued { IfOk result (λ valued. valued.items ≡ map (λ y. record { value = value_at (context_patterns context.old) (context_rows context.old) (tree expr.now) y; position = y }) members.now) }
+    ensures context { IsSame context.old context.new }
 {
     let mut valued = Vec::with_capacity(alloc, members.len())?;
     for position in members {
-        let value = look::value_at(scene, rows, expr, *position)?;
+        let value = look::value_at(context, rows, expr, *position)?;
         valued.push(Valued {
             value,
             position: *position,
@@ -105,17 +105,17 @@ fn add_parts(by: Values, parts: Vec<Part>, found: &mut Vec<Group>) -> Result<(),
 // Adds what a spanset is split into.
 fn add_split(
     alloc: Global,
-    scene: &mut Scene<'_, '_>,
+    context: &mut EvalContext<'_, '_>,
     rows: &[Row],
     expr: &FieldExpr,
     group: Group,
     found: &mut Vec<Group>,
 ) -> Result<(), Memory>
-    requires { rows.now ≡ scene_rows scene.old }
-    ensures found { OnOk result (found.new.items ≡ found.old.items ++ split_by (scene_patterns scene.old) (scene_rows scene.old) (tree expr.now) group) }
-    ensures scene { IsSame scene.old scene.new }
+    requires { rows.now ≡ context_rows context.old }
+    ensures found { OnOk result (found.new.items ≡ found.old.items ++ split_by (context_patterns context.old) (context_rows context.old) (tree expr.now) group) }
+    ensures context { IsSame context.old context.new }
 {
-    let valued = valued(alloc, scene, rows, expr, group.members.as_slice())?;
+    let valued = valued(alloc, context, rows, expr, group.members.as_slice())?;
     let parts = arranged(alloc, valued.as_slice())?;
     add_parts(group.by, parts, found)
 }
@@ -123,19 +123,19 @@ fn add_split(
 // Each spanset split by the values of an expression.
 fn split(
     alloc: Global,
-    scene: &mut Scene<'_, '_>,
+    context: &mut EvalContext<'_, '_>,
     rows: &[Row],
     expr: &FieldExpr,
     groups: Vec<Group>,
 ) -> Result<Vec<Group>, Memory>
-    requires { rows.now ≡ scene_rows scene.old }
+    requires { rows.now ≡ context_rows context.old }
     ensures groups { IfOk result (λ found. found.items
-        ≡ flat_map (split_by (scene_patterns scene.old) (scene_rows scene.old) (tree expr.now)) groups.items) }
-    ensures scene { IsSame scene.old scene.new }
+        ≡ flat_map (split_by (context_patterns context.old) (context_rows context.old) (tree expr.now)) groups.items) }
+    ensures context { IsSame context.old context.new }
 {
     let mut found = Vec::new(alloc);
     for group in groups {
-        add_split(alloc, scene, rows, expr, group, &mut found)?;
+        add_split(alloc, context, rows, expr, group, &mut found)?;
     }
     Ok(found)
 }
@@ -186,24 +186,24 @@ pub fn single(alloc: Global, members: Members) -> Result<Vec<Group>, Memory>
 // The spansets for which the comparison of an aggregate is true.
 fn compare(
     alloc: Global,
-    scene: &mut Scene<'_, '_>,
+    context: &mut EvalContext<'_, '_>,
     rows: &[Row],
     left: &Aggregate,
     op: Comparison,
     right: &Threshold,
     groups: Vec<Group>,
 ) -> Result<Vec<Group>, Memory>
-    requires { rows.now ≡ scene_rows scene.old }
+    requires { rows.now ≡ context_rows context.old }
     ensures groups { IfOk result (λ kept. kept.items ≡ filter (λ (g : Spanset). amounts_compare op
-        (aggregate_of (scene_patterns scene.old) (scene_rows scene.old) (aggregate_tree left.now) g.members)
-        (threshold_of (scene_patterns scene.old) (scene_rows scene.old) (threshold_tree right.now) g.members)) groups.items) }
-    ensures scene { IsSame scene.old scene.new }
+        (aggregate_of (context_patterns context.old) (context_rows context.old) (aggregate_tree left.now) g.members)
+        (threshold_of (context_patterns context.old) (context_rows context.old) (threshold_tree right.now) g.members)) groups.items) }
+    ensures context { IsSame context.old context.new }
 {
     let mut kept = Vec::new(alloc);
     for group in groups {
         if amounts::is_true(
             alloc,
-            scene,
+            context,
             rows,
             left,
             op,
@@ -220,18 +220,18 @@ fn compare(
 #[tactic(auto, unfolding(crate::specs::Stages::after_stage))]
 fn after_stage(
     alloc: Global,
-    scene: &mut Scene<'_, '_>,
+    context: &mut EvalContext<'_, '_>,
     rows: &[Row],
     stage: &Stage,
     groups: Vec<Group>,
 ) -> Result<Vec<Group>, Memory>
-    requires { rows.now ≡ scene_rows scene.old }
-    ensures groups { IfOk result (λ after. after.items ≡ after_stage (scene_patterns scene.old) (scene_rows scene.old) (stage_tree stage.now) groups.items) }
-    ensures scene { IsSame scene.old scene.new }
+    requires { rows.now ≡ context_rows context.old }
+    ensures groups { IfOk result (λ after. after.items ≡ after_stage (context_patterns context.old) (context_rows context.old) (stage_tree stage.now) groups.items) }
+    ensures context { IsSame context.old context.new }
 {
     match stage {
-        Stage::Filter { condition, .. } => keep(alloc, scene, rows, condition, groups),
-        Stage::By(operand) => split(alloc, scene, rows, &operand.expr, groups),
+        Stage::Filter { condition, .. } => keep(alloc, context, rows, condition, groups),
+        Stage::By(operand) => split(alloc, context, rows, &operand.expr, groups),
         Stage::Coalesce => coalesce(alloc, rows, groups.as_slice()),
         Stage::Select(_) => Ok(groups),
         Stage::Compare {
@@ -239,7 +239,7 @@ fn after_stage(
             op,
             right,
             ..
-        } => { compare(alloc, scene, rows, left, *op, right, groups) }
+        } => { compare(alloc, context, rows, left, *op, right, groups) }
     }
 }
 
@@ -262,18 +262,18 @@ fn is_left(group: &Group) -> bool
 /// What all stages make of spansets.
 pub fn after_stages(
     alloc: Global,
-    scene: &mut Scene<'_, '_>,
+    context: &mut EvalContext<'_, '_>,
     rows: &[Row],
     stages: &[Stage],
     groups: Vec<Group>,
 ) -> Result<Vec<Group>, Memory>
-    requires { rows.now ≡ scene_rows scene.old }
-    ensures groups { IfOk result (λ after. after.items ≡ after_stages (scene_patterns scene.old) (scene_rows scene.old) (map stage_tree stages.now) groups.items) }
-    ensures scene { IsSame scene.old scene.new }
+    requires { rows.now ≡ context_rows context.old }
+    ensures groups { IfOk result (λ after. after.items ≡ after_stages (context_patterns context.old) (context_rows context.old) (map stage_tree stages.now) groups.items) }
+    ensures context { IsSame context.old context.new }
 {
     let mut groups = groups;
     for stage in stages {
-        groups = left(after_stage(alloc, scene, rows, stage, groups)?);
+        groups = left(after_stage(alloc, context, rows, stage, groups)?);
     }
     Ok(groups)
 }

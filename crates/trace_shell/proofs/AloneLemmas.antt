@@ -11,7 +11,7 @@ use Rattle.session_text.specs.declared.reply.Reply.TheVariants as reply
 use Rattle.session_text.specs.Replies.{reply_text}
 use Rattle.session_text.specs.Requests.{Answers, Line, line_of, plain, searched}
 use Rattle.traceql_syntax.specs.declared.errors.ParseError.TheVariants as parse
-use Rattle.trace_shell.specs.declared.session.Seen.{Seen}
+use Rattle.trace_shell.specs.declared.session.Tally.{Tally}
 use Rattle.trace_shell.specs.Holding.{Holding, Holds}
 use Rattle.trace_shell.specs.Turn.{CameAlone, HasGiven, ending_of}
 
@@ -20,8 +20,8 @@ pub holds_nothing : (held : Holding) → held ≡ record { rows = []; pushes = 0
 holds_nothing held is = subst (λ h. Holds h no_push) (sym is) (record { rows_are = refl; count = refl })
 
 -- no reply was seen
-abbrev pub nothing_seen : Seen
-nothing_seen = record { refused = false; starved = false }
+abbrev pub empty_tally : Tally
+empty_tally = record { refused = false; starved = false }
 
 put_behind : (before bytes : List ℕ) (old new : Option (List ℕ)) → old ≡ Some before → Appends old new bytes → new ≡ Some (before ++ bytes)
 put_behind before bytes None new is h = cc
@@ -32,15 +32,15 @@ put_behind before bytes (Some xs) (Some ys) is h = ap Some (h ∙ ap (λ zs. zs 
     same a b e = cc
 
 -- the reply couldn't be given
-pub stopped_alone : (before : List ℕ) (old new : Option (List ℕ)) (seen : Seen) (r : Reply) (ending : Ending) → old ≡ Some before
-    → HasGiven old new nothing_seen seen r (Some ending) → EndsAlone ending before r new
-stopped_alone before old new seen r Starved is given = inr (given ∙ is)
-stopped_alone before old new seen r WriteFault is given = (given.0, put_behind before (take given.0 (reply_text r)) old new is given.1)
-stopped_alone before old new seen r Answered is given = absurd given
-stopped_alone before old new seen r BadWords is given = absurd given
-stopped_alone before old new seen r ReadFault is given = absurd given
-stopped_alone before old new seen r Refused is given = absurd given
-stopped_alone before old new seen r Spent is given = absurd given
+pub stopped_alone : (before : List ℕ) (old new : Option (List ℕ)) (tally : Tally) (r : Reply) (ending : Ending) → old ≡ Some before
+    → HasGiven old new empty_tally tally r (Some ending) → EndsAlone ending before r new
+stopped_alone before old new tally r Starved is given = inr (given ∙ is)
+stopped_alone before old new tally r WriteFault is given = (given.0, put_behind before (take given.0 (reply_text r)) old new is given.1)
+stopped_alone before old new tally r Answered is given = absurd given
+stopped_alone before old new tally r BadWords is given = absurd given
+stopped_alone before old new tally r ReadFault is given = absurd given
+stopped_alone before old new tally r Refused is given = absurd given
+stopped_alone before old new tally r Spent is given = absurd given
 
 by_refusal : (before : List ℕ) (r : Reply) (new : Option (List ℕ)) (a b : Bool) → is_refusal r ≡ a → is_for_memory r ≡ b → IsWritten before (r ∷ []) new
     → EndsAlone (if a then Refused else if b then Starved else Answered) before r new
@@ -49,9 +49,9 @@ by_refusal before r new false true ea eb written = inl (written, rw (ea, eb) ref
 by_refusal before r new false false ea eb written = (written, rw (ea, eb) refl)
 
 -- the reply was given
-pub written_alone : (before : List ℕ) (old new : Option (List ℕ)) (seen : Seen) (r : Reply) → old ≡ Some before → HasGiven old new nothing_seen seen r None
-    → EndsAlone (ending_of seen) before r new
-written_alone before old new seen r is given =
+pub written_alone : (before : List ℕ) (old new : Option (List ℕ)) (tally : Tally) (r : Reply) → old ≡ Some before → HasGiven old new empty_tally tally r None
+    → EndsAlone (ending_of tally) before r new
+written_alone before old new tally r is given =
     let written : IsWritten before (r ∷ []) new =
     put_behind before (reply_text r) old new is given.0 ∙ ap (λ zs. Some (before ++ zs)) (sym (append-nil (reply_text r))) in
     subst (λ s. EndsAlone (ending_of s) before r new) (sym given.1) (by_refusal before r new (is_refusal r) (is_for_memory r) refl refl written)

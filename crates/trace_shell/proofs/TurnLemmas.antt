@@ -19,9 +19,9 @@ use Rattle.session_meaning.specs.Session.{Ends, IsAllEnded, IsAllRead, IsCutOff,
 use Rattle.session_meaning.specs.Progress.{IsLineAnswered, Progress}
 use Rattle.session_meaning.proofs.EndLaws.{taken_within}
 use Rattle.session_meaning.proofs.SessionLaws.{progress_begins, progress_empty, progress_line, reply_texts-push}
-use Rattle.trace_shell.specs.declared.session.Seen.{Seen}
+use Rattle.trace_shell.specs.declared.session.Tally.{Tally}
 use Rattle.trace_shell.specs.Holding.{Holding, Holds}
-use Rattle.trace_shell.specs.Turn.{Came, HasGiven, IsAt, Turned, ending_of, seen_with}
+use Rattle.trace_shell.specs.Turn.{Came, HasGiven, IsAt, Turned, ending_of, tally_with}
 
 -- Bytes taken in two steps.
 pub took_more : (text : List ℕ) (left new : Option (List ℕ)) (a b c : ℕ) → TakesBytes (Some text) left a b → TakesBytes left new b c → TakesBytes (Some text) new a c
@@ -95,13 +95,13 @@ counted_on replies reply start old now before one =
     added start old now a b c is before one = omega (arith, is, before, one)
 
 -- A line was answered at a history, and its reply given.
-pub answered_at : (text before : List ℕ) (left_old left taken_old taken : Option (List ℕ)) (reader_old reader : Reader) (held_old held : Holding) (seen_old seen : Seen)
-    (line : List ℕ) (reply : Reply) (after : History) (outcome : Option Ending) (start old now : ℕ) (at : IsAt text before left_old taken_old reader_old held_old seen_old start old) →
+pub answered_at : (text before : List ℕ) (left_old left taken_old taken : Option (List ℕ)) (reader_old reader : Reader) (held_old held : Holding) (tally_old tally : Tally)
+    (line : List ℕ) (reply : Reply) (after : History) (outcome : Option Ending) (start old now : ℕ) (at : IsAt text before left_old taken_old reader_old held_old tally_old start old) →
     IsNextLine at.rest line (IsToRead reader left) → 0 < length line → IsLineAnswered line at.history reply after → Holds held after →
-    TakesBytes left_old left reader_old.taken reader.taken → HasGiven taken_old taken seen_old seen reply outcome → RoseBy (count_by is_too_big (reply ∷ [])) old now →
-    Turned text before left taken reader held seen start now outcome
-answered_at text before left_old left taken_old taken reader_old reader held_old held seen_old seen [] reply after outcome start old now at next some a h took given counted = absurd (omega arith)
-answered_at text before left_old left taken_old taken reader_old reader held_old held seen_old seen (b ∷ bs) reply after outcome start old now at next some a h took given counted =
+    TakesBytes left_old left reader_old.taken reader.taken → HasGiven taken_old taken tally_old tally reply outcome → RoseBy (count_by is_too_big (reply ∷ [])) old now →
+    Turned text before left taken reader held tally start now outcome
+answered_at text before left_old left taken_old taken reader_old reader held_old held tally_old tally [] reply after outcome start old now at next some a h took given counted = absurd (omega arith)
+answered_at text before left_old left taken_old taken reader_old reader held_old held tally_old tally (b ∷ bs) reply after outcome start old now at next some a h took given counted =
     turned outcome given
   where
     progress : Progress text next.rest (at.replies ++ reply ∷ []) after
@@ -110,7 +110,7 @@ answered_at text before left_old left taken_old taken reader_old reader held_old
     sum : RoseBy (count_by is_too_big (at.replies ++ reply ∷ [])) start now
     sum = counted_on at.replies reply start old now at.counted counted
 
-    turned : (o : Option Ending) → HasGiven taken_old taken seen_old seen reply o → Turned text before left taken reader held seen start now o
+    turned : (o : Option Ending) → HasGiven taken_old taken tally_old tally reply o → Turned text before left taken reader held tally start now o
     turned None g = record {
       rest = next.rest;
       replies = at.replies ++ reply ∷ [];
@@ -119,8 +119,8 @@ answered_at text before left_old left taken_old taken reader_old reader held_old
       progress = progress;
       holds = h;
       written = appended before at.replies reply taken_old taken at.written g.0;
-      refused = ap (λ s. s.refused) g.1 ∙ seen_of is_refusal seen_old.refused at.replies reply (seen_with seen_old reply).refused at.refused refl;
-      starved = ap (λ s. s.starved) g.1 ∙ seen_of is_for_memory seen_old.starved at.replies reply (seen_with seen_old reply).starved at.starved refl;
+      refused = ap (λ s. s.refused) g.1 ∙ seen_of is_refusal tally_old.refused at.replies reply (tally_with tally_old reply).refused at.refused refl;
+      starved = ap (λ s. s.starved) g.1 ∙ seen_of is_for_memory tally_old.starved at.replies reply (tally_with tally_old reply).starved at.starved refl;
       took = took_more text left_old left 0 reader_old.taken reader.taken at.took took;
       counted = sum;
     }
@@ -160,11 +160,11 @@ answered_at text before left_old left taken_old taken reader_old reader held_old
     turned (Some Spent) g = absurd g
 
 -- A line without bytes was passed over.
-pub passed_at : (text before : List ℕ) (left_old left taken_old taken : Option (List ℕ)) (reader_old reader : Reader) (held_old held : Holding) (seen_old seen : Seen)
-    (start old now : ℕ) (at : IsAt text before left_old taken_old reader_old held_old seen_old start old) →
-    IsNextLine at.rest [] (IsToRead reader left) → held ≡ held_old → seen ≡ seen_old → taken ≡ taken_old →
-    TakesBytes left_old left reader_old.taken reader.taken → now ≡ old → IsAt text before left taken reader held seen start now
-passed_at text before left_old left taken_old taken reader_old reader held_old held seen_old seen start old now at next same_held same_seen same_taken took same_count = record {
+pub passed_at : (text before : List ℕ) (left_old left taken_old taken : Option (List ℕ)) (reader_old reader : Reader) (held_old held : Holding) (tally_old tally : Tally)
+    (start old now : ℕ) (at : IsAt text before left_old taken_old reader_old held_old tally_old start old) →
+    IsNextLine at.rest [] (IsToRead reader left) → held ≡ held_old → tally ≡ tally_old → taken ≡ taken_old →
+    TakesBytes left_old left reader_old.taken reader.taken → now ≡ old → IsAt text before left taken reader held tally start now
+passed_at text before left_old left taken_old taken reader_old reader held_old held tally_old tally start old now at next same_held same_seen same_taken took same_count = record {
   rest = next.rest;
   replies = at.replies;
   history = at.history;
@@ -179,19 +179,19 @@ passed_at text before left_old left taken_old taken reader_old reader held_old h
 }
 
 -- A whole line was read, and answered where it has bytes.
-pub whole_at : (text before : List ℕ) (left_old left taken_old taken : Option (List ℕ)) (reader_old reader : Reader) (held_old held : Holding) (seen_old seen : Seen)
-    (line : List ℕ) (outcome : Option Ending) (start old now : ℕ) (at : IsAt text before left_old taken_old reader_old held_old seen_old start old) →
+pub whole_at : (text before : List ℕ) (left_old left taken_old taken : Option (List ℕ)) (reader_old reader : Reader) (held_old held : Holding) (tally_old tally : Tally)
+    (line : List ℕ) (outcome : Option Ending) (start old now : ℕ) (at : IsAt text before left_old taken_old reader_old held_old tally_old start old) →
     IsNextLine at.rest line (IsToRead reader left) → TakesBytes left_old left reader_old.taken reader.taken →
-    (line ≡ [] → (outcome ≡ None) × (held ≡ held_old) × (seen ≡ seen_old) × (taken ≡ taken_old) × (now ≡ old)) →
+    (line ≡ [] → (outcome ≡ None) × (held ≡ held_old) × (tally ≡ tally_old) × (taken ≡ taken_old) × (now ≡ old)) →
     (0 < length line → (history : History) → Holds held_old history → (reply : Reply) × (after : History)
-    × IsLineAnswered line history reply after × Holds held after × HasGiven taken_old taken seen_old seen reply outcome × RoseBy (count_by is_too_big (reply ∷ [])) old now) →
-    Turned text before left taken reader held seen start now outcome
-whole_at text before left_old left taken_old taken reader_old reader held_old held seen_old seen [] outcome start old now at next took none some =
+    × IsLineAnswered line history reply after × Holds held after × HasGiven taken_old taken tally_old tally reply outcome × RoseBy (count_by is_too_big (reply ∷ [])) old now) →
+    Turned text before left taken reader held tally start now outcome
+whole_at text before left_old left taken_old taken reader_old reader held_old held tally_old tally [] outcome start old now at next took none some =
     let same = none refl in
-    rw same.0 (passed_at text before left_old left taken_old taken reader_old reader held_old held seen_old seen start old now at next same.1 same.2 same.3 took same.4)
-whole_at text before left_old left taken_old taken reader_old reader held_old held seen_old seen (b ∷ bs) outcome start old now at next took none some =
+    rw same.0 (passed_at text before left_old left taken_old taken reader_old reader held_old held tally_old tally start old now at next same.1 same.2 same.3 took same.4)
+whole_at text before left_old left taken_old taken reader_old reader held_old held tally_old tally (b ∷ bs) outcome start old now at next took none some =
     let given = some (omega arith) at.history at.holds in
-    answered_at text before left_old left taken_old taken reader_old reader held_old held seen_old seen (b ∷ bs) given.0 given.1 outcome start old now at next (omega arith)
+    answered_at text before left_old left taken_old taken reader_old reader held_old held tally_old tally (b ∷ bs) given.0 given.1 outcome start old now at next (omega arith)
     given.2 given.3 took given.4 given.5
 
 -- A line of too many bytes asks nothing.
@@ -206,21 +206,21 @@ too_long_asks : (line : List ℕ) → line_limit < length line → Asks line (Un
 too_long_asks line long = rw (too_long_line line long) (inl refl)
 
 -- A line of too many bytes was read, and refused.
-pub too_long_at : (text before : List ℕ) (left_old left taken_old taken : Option (List ℕ)) (reader_old reader : Reader) (held : Holding) (seen_old seen : Seen)
-    (size : ℕ) (outcome : Option Ending) (start old now : ℕ) (at : IsAt text before left_old taken_old reader_old held seen_old start old) →
+pub too_long_at : (text before : List ℕ) (left_old left taken_old taken : Option (List ℕ)) (reader_old reader : Reader) (held : Holding) (tally_old tally : Tally)
+    (size : ℕ) (outcome : Option Ending) (start old now : ℕ) (at : IsAt text before left_old taken_old reader_old held tally_old start old) →
     (line : List ℕ) × IsNextLine at.rest line (IsToRead reader left) × (size ≡ length line) → line_limit < size →
-    TakesBytes left_old left reader_old.taken reader.taken → HasGiven taken_old taken seen_old seen (reply.Refused (refusal.TooLong size)) outcome → now ≡ old →
-    Turned text before left taken reader held seen start now outcome
-too_long_at text before left_old left taken_old taken reader_old reader held seen_old seen size outcome start old now at (line, next, is) long took given same =
+    TakesBytes left_old left reader_old.taken reader.taken → HasGiven taken_old taken tally_old tally (reply.Refused (refusal.TooLong size)) outcome → now ≡ old →
+    Turned text before left taken reader held tally start now outcome
+too_long_at text before left_old left taken_old taken reader_old reader held tally_old tally size outcome start old now at (line, next, is) long took given same =
     let over : line_limit < length line = omega (arith, is, long) in
-    answered_at text before left_old left taken_old taken reader_old reader held held seen_old seen line (reply.Refused (refusal.TooLong size)) at.history outcome start old now at next (omega (arith, over))
+    answered_at text before left_old left taken_old taken reader_old reader held held tally_old tally line (reply.Refused (refusal.TooLong size)) at.history outcome start old now at next (omega (arith, over))
     (Err (refusal.TooLong (length line)), too_long_asks line over, inl (ap (λ n. reply.Refused (refusal.TooLong n)) is, refl)) at.holds took given (omega (arith, same))
 
 -- The lines that weren't answered are those of what is to be read.
-stops : (text before : List ℕ) (left taken : Option (List ℕ)) (reader : Reader) (held : Holding) (seen : Seen) (ending : Ending)
-    (new : Option (List ℕ)) (start now : ℕ) (at : IsAt text before left taken reader held seen start now) → Ends ending text (lines at.rest) new before at.replies taken →
+stops : (text before : List ℕ) (left taken : Option (List ℕ)) (reader : Reader) (held : Holding) (tally : Tally) (ending : Ending)
+    (new : Option (List ℕ)) (start now : ℕ) (at : IsAt text before left taken reader held tally start now) → Ends ending text (lines at.rest) new before at.replies taken →
     Came text before new taken ending start now
-stops text before left taken reader held seen ending new start now at ends = record {
+stops text before left taken reader held tally ending new start now at ends = record {
   answered = at.progress.answered;
   later = lines at.rest;
   items = at.progress.items;
@@ -245,21 +245,21 @@ ends_all_read text later left before replies taken all =
     ] refl
 
 -- All was read.
-pub ended_at : (text before : List ℕ) (left_old left taken : Option (List ℕ)) (reader_old reader : Reader) (held : Holding) (seen : Seen)
-    (start now : ℕ) (at : IsAt text before left_old taken reader_old held seen start now) → (at.rest ≡ []) × IsToRead reader left [] → reader.taken < taken_limit →
-    TakesBytes left_old left reader_old.taken reader.taken → Came text before left taken (ending_of seen) start now
-ended_at text before left_old left taken reader_old reader held seen start now at (none, to_read) fewer took =
+pub ended_at : (text before : List ℕ) (left_old left taken : Option (List ℕ)) (reader_old reader : Reader) (held : Holding) (tally : Tally)
+    (start now : ℕ) (at : IsAt text before left_old taken reader_old held tally start now) → (at.rest ≡ []) × IsToRead reader left [] → reader.taken < taken_limit →
+    TakesBytes left_old left reader_old.taken reader.taken → Came text before left taken (ending_of tally) start now
+ended_at text before left_old left taken reader_old reader held tally start now at (none, to_read) fewer took =
     let read = took_more text left_old left 0 reader_old.taken reader.taken at.took took in
     let no_more : left ≡ Some [] = nothing_left reader left to_read in
     let size : length text ≡ reader.taken = taken_all text left reader.taken read no_more in
     let all : IsAllRead text (lines at.rest) before at.replies taken = (ap lines none, subst (λ n. n < taken_limit) (sym size) fewer, at.written) in
-    stops text before left_old taken reader_old held seen (ending_of seen) left start now at
-    (subst (λ e. Ends e text (lines at.rest) left before at.replies taken) (sym (same_ending seen at.replies at.refused at.starved))
+    stops text before left_old taken reader_old held tally (ending_of tally) left start now at
+    (subst (λ e. Ends e text (lines at.rest) left before at.replies taken) (sym (same_ending tally at.replies at.refused at.starved))
     (ends_all_read text (lines at.rest) left before at.replies taken all))
   where
-    same_ending : (seen : Seen) (replies : List Reply) → seen.refused ≡ list_any is_refusal replies → seen.starved ≡ list_any is_for_memory replies →
-        ending_of seen ≡ end_of replies
-    same_ending seen replies r s = rw (r, s) refl
+    same_ending : (tally : Tally) (replies : List Reply) → tally.refused ≡ list_any is_refusal replies → tally.starved ≡ list_any is_for_memory replies →
+        ending_of tally ≡ end_of replies
+    same_ending tally replies r s = rw (r, s) refl
 
     nothing_left : (reader : Reader) (left : Option (List ℕ)) → IsToRead reader left [] → left ≡ Some []
     nothing_left reader left h = h.told ∙ ap Some (last_empty h.held h.rest h.text_is)
@@ -282,26 +282,26 @@ all_ended text front reader left rest is to_read waiting = record {
 }
 
 -- As many bytes were taken as are ever taken.
-pub spent_at : (text before : List ℕ) (left_old left taken : Option (List ℕ)) (reader_old reader : Reader) (held : Holding) (seen : Seen)
-    (start now : ℕ) (at : IsAt text before left_old taken reader_old held seen start now) → reader.taken ≡ taken_limit →
+pub spent_at : (text before : List ℕ) (left_old left taken : Option (List ℕ)) (reader_old reader : Reader) (held : Holding) (tally : Tally)
+    (start now : ℕ) (at : IsAt text before left_old taken reader_old held tally start now) → reader.taken ≡ taken_limit →
     TakesBytes left_old left reader_old.taken reader.taken → IsToRead reader left at.rest → HoldsNoFeed reader → Came text before left taken Spent start now
-spent_at text before left_old left taken reader_old reader held seen start now at all took to_read waiting =
-    stops text before left_old taken reader_old held seen Spent left start now at (
+spent_at text before left_old left taken reader_old reader held tally start now at all took to_read waiting =
+    stops text before left_old taken reader_old held tally Spent left start now at (
       at.written,
       all_ended text at.progress.front reader left at.rest at.progress.text_is to_read waiting,
       subst (λ n. n ≤ length text) all (taken_within text left reader.taken (took_more text left_old left 0 reader_old.taken reader.taken at.took took)),
     )
 
 -- The source failed.
-pub failed_at : (text before : List ℕ) (left_old left taken : Option (List ℕ)) (reader_old reader : Reader) (held : Holding) (seen : Seen)
-    (start now : ℕ) (at : IsAt text before left_old taken reader_old held seen start now) → IsToRead reader left at.rest → HoldsNoFeed reader → Came text before left taken ReadFault start now
-failed_at text before left_old left taken reader_old reader held seen start now at to_read waiting =
-    stops text before left_old taken reader_old held seen ReadFault left start now at (at.written, all_ended text at.progress.front reader left at.rest at.progress.text_is to_read waiting)
+pub failed_at : (text before : List ℕ) (left_old left taken : Option (List ℕ)) (reader_old reader : Reader) (held : Holding) (tally : Tally)
+    (start now : ℕ) (at : IsAt text before left_old taken reader_old held tally start now) → IsToRead reader left at.rest → HoldsNoFeed reader → Came text before left taken ReadFault start now
+failed_at text before left_old left taken reader_old reader held tally start now at to_read waiting =
+    stops text before left_old taken reader_old held tally ReadFault left start now at (at.written, all_ended text at.progress.front reader left at.rest at.progress.text_is to_read waiting)
 
 -- Memory was wanted for a line.
-pub starved_at : (text before : List ℕ) (left_old left taken : Option (List ℕ)) (reader : Reader) (held : Holding) (seen : Seen) (start now : ℕ) →
-    IsAt text before left_old taken reader held seen start now → Came text before left taken Starved start now
-starved_at text before left_old left taken reader held seen start now at = stops text before left_old taken reader held seen Starved left start now at (inr (inl at.written))
+pub starved_at : (text before : List ℕ) (left_old left taken : Option (List ℕ)) (reader : Reader) (held : Holding) (tally : Tally) (start now : ℕ) →
+    IsAt text before left_old taken reader held tally start now → Came text before left taken Starved start now
+starved_at text before left_old left taken reader held tally start now at = stops text before left_old taken reader held tally Starved left start now at (inr (inl at.written))
 
 -- Bytes taken in two steps, wherever they came from.
 pub took_on : (start left new : Option (List ℕ)) (a b c : ℕ) → TakesBytes start left a b → TakesBytes left new b c → TakesBytes start new a c
@@ -331,10 +331,10 @@ nothing_to_come reader h = omega (arith, held_none reader.begun h.holds.piece re
     held_none (Dropped size r) (x ∷ xs) pending b e = cc
 
 -- A session begins.
-pub begins_at : (text before : List ℕ) (left taken : Option (List ℕ)) (reader : Reader) (held : Holding) (seen : Seen) (start : ℕ) →
+pub begins_at : (text before : List ℕ) (left taken : Option (List ℕ)) (reader : Reader) (held : Holding) (tally : Tally) (start : ℕ) →
     left ≡ Some text → taken ≡ Some before → IsToRead reader (Some text) text → reader.taken ≡ 0 → held ≡ record { rows = []; pushes = 0 } →
-    seen.refused ≡ false → seen.starved ≡ false → IsAt text before left taken reader held seen start start
-begins_at text before left taken reader held seen start told gave to_read none_taken nothing no_refusal no_hunger = record {
+    tally.refused ≡ false → tally.starved ≡ false → IsAt text before left taken reader held tally start start
+begins_at text before left taken reader held tally start told gave to_read none_taken nothing no_refusal no_hunger = record {
   rest = text;
   replies = [];
   history = no_push;

@@ -14,28 +14,28 @@ use Rattle.session_text.specs.Items.{AreAsked, Item}
 use Rattle.session_text.specs.Replies.{reply_text}
 use Rattle.session_meaning.specs.Progress.{IsLineAnswered, Progress}
 use Rattle.session_meaning.specs.Session.{Ends, EndsAlone, RoseBy, Session, is_for_memory, is_refusal, is_too_big, reply_texts}
-use Rattle.trace_shell.specs.declared.session.Seen.{Seen}
+use Rattle.trace_shell.specs.declared.session.Tally.{Tally}
 use Rattle.trace_shell.specs.Holding.{Holding, Holds}
 
 -- Which refusals are among the replies, after one more.
-abbrev pub seen_with : Seen → Reply → Seen
-seen_with seen reply = record { refused = seen.refused || is_refusal reply; starved = seen.starved || is_for_memory reply }
+abbrev pub tally_with : Tally → Reply → Tally
+tally_with tally reply = record { refused = tally.refused || is_refusal reply; starved = tally.starved || is_for_memory reply }
 
 -- How a session ends whose input was read to its end.
-abbrev pub ending_of : Seen → Ending
-ending_of seen = if seen.refused then Refused else if seen.starved then Starved else Answered
+abbrev pub ending_of : Tally → Ending
+ending_of tally = if tally.refused then Refused else if tally.starved then Starved else Answered
 
 -- A reply was written whole; or there was no memory for its text, and nothing was written; or the sink failed, having
 -- taken a part of it.
-abbrev pub HasGiven : Option (List ℕ) → Option (List ℕ) → Seen → Seen → Reply → Option Ending → Type 0
-HasGiven old new seen_old seen_new reply None = Appends old new (reply_text reply) × (seen_new ≡ seen_with seen_old reply)
-HasGiven old new seen_old seen_new reply (Some Starved) = new ≡ old
-HasGiven old new seen_old seen_new reply (Some WriteFault) = AppendsPrefix old new (reply_text reply)
-HasGiven old new seen_old seen_new reply (Some _) = ⊥
+abbrev pub HasGiven : Option (List ℕ) → Option (List ℕ) → Tally → Tally → Reply → Option Ending → Type 0
+HasGiven old new tally_old tally_new reply None = Appends old new (reply_text reply) × (tally_new ≡ tally_with tally_old reply)
+HasGiven old new tally_old tally_new reply (Some Starved) = new ≡ old
+HasGiven old new tally_old tally_new reply (Some WriteFault) = AppendsPrefix old new (reply_text reply)
+HasGiven old new tally_old tally_new reply (Some _) = ⊥
 
 -- Where a session is between two lines: what is to be read, how far it came in `text`, what is held, what stands written
 -- after `before`, and how far the maker's count of refusals came.
-pub record IsAt (text before : List ℕ) (left taken : Option (List ℕ)) (reader : Reader) (held : Holding) (seen : Seen) (start now : ℕ) : Type 0 where
+pub record IsAt (text before : List ℕ) (left taken : Option (List ℕ)) (reader : Reader) (held : Holding) (tally : Tally) (start now : ℕ) : Type 0 where
   pub rest : List ℕ
   pub replies : List Reply
   pub history : History
@@ -43,8 +43,8 @@ pub record IsAt (text before : List ℕ) (left taken : Option (List ℕ)) (reade
   pub progress : Progress text rest replies history
   pub holds : Holds held history
   pub written : taken ≡ Some (before ++ reply_texts replies)
-  pub refused : seen.refused ≡ list_any is_refusal replies
-  pub starved : seen.starved ≡ list_any is_for_memory replies
+  pub refused : tally.refused ≡ list_any is_refusal replies
+  pub starved : tally.starved ≡ list_any is_for_memory replies
   pub took : TakesBytes (Some text) left 0 reader.taken
   pub counted : RoseBy (count_by is_too_big replies) start now
 
@@ -68,6 +68,6 @@ CameAlone line before taken ending start now =
     × RoseBy (count_by is_too_big (reply ∷ [])) start now
 
 -- What a turn leaves: the session is at its next line, or it ended.
-abbrev pub Turned : List ℕ → List ℕ → Option (List ℕ) → Option (List ℕ) → Reader → Holding → Seen → ℕ → ℕ → Option Ending → Type 0
-Turned text before left taken reader held seen start now None = IsAt text before left taken reader held seen start now
-Turned text before left taken reader held seen start now (Some ending) = Came text before left taken ending start now
+abbrev pub Turned : List ℕ → List ℕ → Option (List ℕ) → Option (List ℕ) → Reader → Holding → Tally → ℕ → ℕ → Option Ending → Type 0
+Turned text before left taken reader held tally start now None = IsAt text before left taken reader held tally start now
+Turned text before left taken reader held tally start now (Some ending) = Came text before left taken ending start now

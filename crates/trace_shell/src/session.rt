@@ -13,7 +13,7 @@ ghost use Rattle.session_meaning.specs.History.{History};
 ghost use Rattle.session_meaning.specs.Progress.{IsLineAnswered};
 ghost use Rattle.session_meaning.specs.Session.{IsAnsweredOrStarved, RoseBy, is_for_memory, is_refusal, is_too_big};
 ghost use Rattle.trace_shell.specs.Holding.{Holds};
-ghost use Rattle.trace_shell.specs.Turn.{Came, CameAlone, HasGiven, IsAt, Turned, ending_of, seen_with};
+ghost use Rattle.trace_shell.specs.Turn.{Came, CameAlone, HasGiven, IsAt, Turned, ending_of, tally_with};
 
 use crate::held::Held;
 use io_edges::{Line, LineError, LineReader, Sink, Source};
@@ -28,17 +28,17 @@ use traceql_types::PatternMaker;
 
 /// Which refusals are among the replies so far.
 #[derive(Clone, Copy, Debug)]
-pub(crate) struct Seen {
+pub(crate) struct Tally {
     /// One for another cause than memory.
     refused: bool,
     /// One for memory.
     starved: bool,
 }
 
-impl Seen {
+impl Tally {
     // Adds a reply.
     fn add(&mut self, reply: &Reply)
-        ensures { self.new ≡ seen_with self.old reply.now }
+        ensures { self.new ≡ tally_with self.old reply.now }
     {
         self.refused = self.refused || is_refusal(reply);
         self.starved = self.starved || is_for_memory(reply);
@@ -96,7 +96,7 @@ pub(crate) fn session<S: Source, K: Sink, P: PatternMaker>(
 {
     let mut reader = LineReader::new(alloc);
     let mut held = Held::new(alloc);
-    let mut seen = Seen {
+    let mut tally = Tally {
         refused: false,
         starved: false,
     };
@@ -106,7 +106,7 @@ pub(crate) fn session<S: Source, K: Sink, P: PatternMaker>(
             &mut reader,
             source,
             &mut held,
-            &mut seen,
+            &mut tally,
             sink,
             patterns,
         ) {
@@ -128,14 +128,14 @@ pub(crate) fn one_line<K: Sink, P: PatternMaker>(
     ensures endings { (result ≡ WriteFault) ⊎ ((result ≡ Answered) ⊎ ((result ≡ Refused) ⊎ (result ≡ Starved))) }
 {
     let mut held = Held::new(alloc);
-    let mut seen = Seen {
+    let mut tally = Tally {
         refused: false,
         starved: false,
     };
     let reply = answer(alloc, &mut held, patterns, line);
-    match write(alloc, &mut seen, sink, &reply) {
+    match write(alloc, &mut tally, sink, &reply) {
         Some(ending) => ending,
-        None => seen.ending(),
+        None => tally.ending(),
     }
 }
 
@@ -145,14 +145,14 @@ fn next_line<S: Source, K: Sink, P: PatternMaker>(
     reader: &mut LineReader,
     source: &mut S,
     held: &mut Held,
-    seen: &mut Seen,
+    tally: &mut Tally,
     sink: &mut K,
     patterns: &mut P,
 ) -> Option<Ending>
     requires room { held.old.pushes + to_come reader.old ≤ taken_limit }
     ensures turned { (text before : List ℕ) (start : ℕ)
-        → IsAt text before (S.left source.old) (K.taken sink.old) reader.old held.old seen.old start (P.refusals patterns.old)
-        → Turned text before (S.left source.new) (K.taken sink.new) reader.new held.new seen.new start (P.refusals patterns.new) result }
+        → IsAt text before (S.left source.old) (K.taken sink.old) reader.old held.old tally.old start (P.refusals patterns.old)
+        → Turned text before (S.left source.new) (K.taken sink.new) reader.new held.new tally.new start (P.refusals patterns.new) result }
     ensures room { IfNone result (held.new.pushes + to_come reader.new ≤ taken_limit) }
     ensures nearer { IfNone result (to_come reader.new < to_come reader.old) }
     ensures source_counted { S.faults source.old ≤ S.faults source.new }
@@ -170,14 +170,14 @@ fn next_line<S: Source, K: Sink, P: PatternMaker>(
         Err(LineError::Memory) => return Some(Ending::Starved),
     };
     match line {
-        Line::Whole(bytes) => answer_line(alloc, held, seen, sink, patterns, bytes.as_slice()),
+        Line::Whole(bytes) => answer_line(alloc, held, tally, sink, patterns, bytes.as_slice()),
         Line::TooLong { length } => write(
             alloc,
-            seen,
+            tally,
             sink,
             &Reply::Refused(Refusal::TooLong { length }),
         ),
-        Line::End => Some(seen.ending()),
+        Line::End => Some(tally.ending()),
         Line::Spent { .. } => Some(Ending::Spent),
     }
 }
@@ -186,16 +186,16 @@ fn next_line<S: Source, K: Sink, P: PatternMaker>(
 fn answer_line<K: Sink, P: PatternMaker>(
     alloc: Global,
     held: &mut Held,
-    seen: &mut Seen,
+    tally: &mut Tally,
     sink: &mut K,
     patterns: &mut P,
     line: &[u8],
 ) -> Option<Ending>
     requires { held.old.pushes + 1 < 2 ^ 64 }
-    ensures empty { line.now ≡ [] → (result ≡ None) × (held.new ≡ held.old) × (seen.new ≡ seen.old) × (K.taken sink.new ≡ K.taken sink.old) × (P.refusals patterns.new ≡ P.refusals patterns.old) }
+    ensures empty { line.now ≡ [] → (result ≡ None) × (held.new ≡ held.old) × (tally.new ≡ tally.old) × (K.taken sink.new ≡ K.taken sink.old) × (P.refusals patterns.new ≡ P.refusals patterns.old) }
     ensures answered { 0 < length line.now → (history : History) → Holds held.old history
         → (reply : Reply) × (after : History) × IsLineAnswered line.now history reply after
-        × Holds held.new after × HasGiven (K.taken sink.old) (K.taken sink.new) seen.old seen.new reply result
+        × Holds held.new after × HasGiven (K.taken sink.old) (K.taken sink.new) tally.old tally.new reply result
         × RoseBy (count_by is_too_big (reply ∷ [])) (P.refusals patterns.old) (P.refusals patterns.new) }
     ensures count { held.new.pushes ≤ held.old.pushes + 1 }
     ensures sink_counted { K.faults sink.old ≤ K.faults sink.new }
@@ -207,7 +207,7 @@ fn answer_line<K: Sink, P: PatternMaker>(
         return None;
     }
     let reply = answer(alloc, held, patterns, line);
-    write(alloc, seen, sink, &reply)
+    write(alloc, tally, sink, &reply)
 }
 
 // Answers a line.
@@ -306,8 +306,8 @@ fn results_of(alloc: Global, held: &Held, search: &Search) -> Result<Reply, Memo
 }
 
 // Writes a reply. Gives how the session ends, where it can't be written.
-fn write<K: Sink>(alloc: Global, seen: &mut Seen, sink: &mut K, reply: &Reply) -> Option<Ending>
-    ensures given { HasGiven (K.taken sink.old) (K.taken sink.new) seen.old seen.new reply.now result }
+fn write<K: Sink>(alloc: Global, tally: &mut Tally, sink: &mut K, reply: &Reply) -> Option<Ending>
+    ensures given { HasGiven (K.taken sink.old) (K.taken sink.new) tally.old tally.new reply.now result }
     ensures sink_counted { K.faults sink.old ≤ K.faults sink.new }
     ensures write_fault { IfSome result (λ ending. ending ≡ WriteFault → Rose (K.faults sink.old) (K.faults sink.new)) }
     ensures endings { IfSome result (λ ending. (ending ≡ WriteFault) ⊎ (ending ≡ Starved)) }
@@ -316,7 +316,7 @@ fn write<K: Sink>(alloc: Global, seen: &mut Seen, sink: &mut K, reply: &Reply) -
         Ok(text) => text,
         Err(Memory) => return Some(Ending::Starved),
     };
-    seen.add(reply);
+    tally.add(reply);
     match sink.put(text.as_str().as_bytes()) {
         Ok(()) => None,
         Err(Failed) => Some(Ending::WriteFault),

@@ -13,9 +13,9 @@ use Rattle.traceql_syntax.specs.declared.query.AggregateOp.TheVariants as aggreg
 use Rattle.traceql_tokens.specs.declared.fixed.Word.{Word}
 use Rattle.traceql_tokens.specs.declared.fixed.Word.TheVariants as word
 use Rattle.traceql_syntax.specs.Trees.{AggregateTree, Count, Of as Aggregates}
-use Rattle.traceql_parse.specs.declared.look.Delimiter.TheVariants as delimiter
-use Rattle.traceql_parse.specs.declared.look.AggregateWord.{AggregateWord}
-use Rattle.traceql_parse.specs.declared.look.AggregateWord.TheVariants as aggregate_kind
+use Rattle.traceql_parse.specs.declared.lookahead.Delimiter.TheVariants as delimiter
+use Rattle.traceql_parse.specs.declared.lookahead.AggregateWord.{AggregateWord}
+use Rattle.traceql_parse.specs.declared.lookahead.AggregateWord.TheVariants as aggregate_kind
 use Rattle.traceql_parse.specs.declared.stop.Cause.{Cause}
 use Rattle.traceql_parse.specs.declared.stop.Cause.TheVariants as cause
 use Rattle.traceql_parse.specs.Descent as read

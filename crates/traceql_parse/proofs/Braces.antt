@@ -7,7 +7,7 @@ use Rattle.traceql_syntax.specs.Grammar.{mark, in_parens, in_braces, Whole_expre
 use Rattle.traceql_syntax.specs.Grammar as rule
 use Rattle.traceql_syntax.specs.Tables.{on_sign}
 use Rattle.traceql_syntax.specs.Trees.{Placed}
-use Rattle.traceql_parse.specs.declared.look.Delimiter.TheVariants as delimiter
+use Rattle.traceql_parse.specs.declared.lookahead.Delimiter.TheVariants as delimiter
 use Rattle.traceql_parse.specs.Descent as read
 use Rattle.traceql_parse.specs.Reading.{next_sign, delimits, expect_sign}
 use Rattle.traceql_parse.proofs.Laws.{Reader, Lang, Stops, IsSound, Keeps, Completes, Grows, Occurs, IsRefusing, Seq, next, next_keeps, next_sound, next_completes, next_refuses}

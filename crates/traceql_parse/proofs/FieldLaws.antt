@@ -5,9 +5,9 @@ use Rattle.traceql_syntax.specs.declared.field.Level.{Level}
 use Rattle.traceql_syntax.specs.declared.field.Level.TheVariants as level
 use Rattle.traceql_syntax.specs.Grammar.{Atom, Prefixed, Powered, Grouped, under, Whole_expression}
 use Rattle.traceql_syntax.specs.Tables.{prefix_sign}
-use Rattle.traceql_parse.specs.declared.look.Delimiter.TheVariants as delimiter
-use Rattle.traceql_parse.specs.declared.look.ItemSign.{ItemSign}
-use Rattle.traceql_parse.specs.declared.look.ItemSign.TheVariants as item_sign
+use Rattle.traceql_parse.specs.declared.lookahead.Delimiter.TheVariants as delimiter
+use Rattle.traceql_parse.specs.declared.lookahead.ItemSign.{ItemSign}
+use Rattle.traceql_parse.specs.declared.lookahead.ItemSign.TheVariants as item_sign
 use Rattle.traceql_parse.specs.Descent as read
 use Rattle.traceql_parse.specs.Reading.{delimits, expect, expect_sign}
 use Rattle.traceql_parse.proofs.Laws.{Reader, Lang, IsSound, Keeps, Seq, next, next_keeps, next_sound}

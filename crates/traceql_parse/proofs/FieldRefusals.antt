@@ -14,10 +14,10 @@ use Rattle.traceql_syntax.specs.Grammar.{mark, in_parens, Class, Atom, Prefixed,
 use Rattle.traceql_syntax.specs.Grammar as rule
 use Rattle.traceql_syntax.specs.Tables.{on_sign, prefix_sign, field_of}
 use Rattle.traceql_syntax.specs.Trees.{Literally, Placed}
-use Rattle.traceql_parse.specs.declared.look.Delimiter.{Delimiter}
-use Rattle.traceql_parse.specs.declared.look.Delimiter.TheVariants as delimiter
-use Rattle.traceql_parse.specs.declared.look.ItemSign.{ItemSign}
-use Rattle.traceql_parse.specs.declared.look.ItemSign.TheVariants as item_sign
+use Rattle.traceql_parse.specs.declared.lookahead.Delimiter.{Delimiter}
+use Rattle.traceql_parse.specs.declared.lookahead.Delimiter.TheVariants as delimiter
+use Rattle.traceql_parse.specs.declared.lookahead.ItemSign.{ItemSign}
+use Rattle.traceql_parse.specs.declared.lookahead.ItemSign.TheVariants as item_sign
 use Rattle.traceql_parse.specs.Descent as read
 use Rattle.traceql_parse.specs.Reading.{next_sign, delimits, expect, expect_sign}
 use Rattle.traceql_parse.proofs.Laws.{Reader, Lang, Stops, IsSound, Completes, Grows, Occurs, IsRefusing, Seq, next, next_completes, next_grows, next_occurs, next_refuses}

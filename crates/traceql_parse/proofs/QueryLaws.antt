@@ -11,8 +11,8 @@ use Rattle.traceql_tokens.specs.declared.fixed.Word.{Word}
 use Rattle.traceql_tokens.specs.declared.fixed.Word.TheVariants as word
 use Rattle.traceql_syntax.specs.declared.query.SpansetLevel.TheVariants as set_level
 use Rattle.traceql_syntax.specs.Trees.{Placed, SetTree, StageTree, Keep, By, Select, QueryTree}
-use Rattle.traceql_parse.specs.declared.look.Delimiter.TheVariants as delimiter
-use Rattle.traceql_parse.specs.declared.look.AggregateWord.{AggregateWord}
+use Rattle.traceql_parse.specs.declared.lookahead.Delimiter.TheVariants as delimiter
+use Rattle.traceql_parse.specs.declared.lookahead.AggregateWord.{AggregateWord}
 use Rattle.traceql_parse.specs.Descent as read
 use Rattle.traceql_parse.specs.Reading.{next_sign, next_word, delimits, expect_sign, expect_word}
 use Rattle.traceql_parse.proofs.Laws.{Reader, Lang, IsSound, Keeps, Completes, Grows, Occurs, IsRefusing, Seq, next, next_keeps, next_sound, next_completes, next_grows, next_refuses}

@@ -11,7 +11,7 @@ use Rattle.traceql_syntax.specs.declared.query.SpansetLevel.{SpansetLevel}
 use Rattle.traceql_syntax.specs.declared.query.SpansetLevel.TheVariants as set_level
 use Rattle.traceql_syntax.specs.declared.query.SpansetOp.{SpansetOp}
 use Rattle.traceql_syntax.specs.Trees.{Placed, SetTree, Filter}
-use Rattle.traceql_parse.specs.declared.look.Delimiter.TheVariants as delimiter
+use Rattle.traceql_parse.specs.declared.lookahead.Delimiter.TheVariants as delimiter
 use Rattle.traceql_parse.specs.Descent as read
 use Rattle.traceql_parse.specs.Reading.{next_sign, delimits, expect_sign}
 use Rattle.traceql_parse.proofs.Laws.{Reader, Lang, Stops, IsSound, Keeps, Completes, Grows, Occurs, IsRefusing, Seq, next, next_keeps, next_sound, next_completes, next_grows, next_occurs, next_refuses}

@@ -10,9 +10,9 @@ use Rattle.traceql_syntax.specs.declared.field.Level.{Level}
 use Rattle.traceql_syntax.specs.declared.field.Level.TheVariants as level
 use Rattle.traceql_syntax.specs.Grammar.{mark}
 use Rattle.traceql_syntax.specs.Tables.{on_sign, level_sign, pattern_sign}
-use Rattle.traceql_parse.specs.declared.look.Delimiter.{Delimiter}
-use Rattle.traceql_parse.specs.declared.look.Delimiter.TheVariants as delimiter
-use Rattle.traceql_parse.specs.declared.look.ItemSign.TheVariants as item_sign
+use Rattle.traceql_parse.specs.declared.lookahead.Delimiter.{Delimiter}
+use Rattle.traceql_parse.specs.declared.lookahead.Delimiter.TheVariants as delimiter
+use Rattle.traceql_parse.specs.declared.lookahead.ItemSign.TheVariants as item_sign
 use Rattle.traceql_parse.specs.Descent.{item_sign_of, or_else}
 use Rattle.traceql_parse.specs.Reading.{delimits}
 use Rattle.traceql_parse.proofs.Base.{placing, at_sign}

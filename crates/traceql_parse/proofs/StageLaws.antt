@@ -16,7 +16,7 @@ use Rattle.traceql_tokens.specs.declared.fixed.Word.{Word}
 use Rattle.traceql_tokens.specs.declared.fixed.Word.TheVariants as word
 use Rattle.traceql_tokens.specs.declared.fixed.Intrinsic.TheVariants as intrinsic
 use Rattle.traceql_syntax.specs.Trees.{Placed, AggregateTree, ThresholdTree, Whole, Number, StageTree, Keep, By, Coalesce, Select, Compare}
-use Rattle.traceql_parse.specs.declared.look.Delimiter.TheVariants as delimiter
+use Rattle.traceql_parse.specs.declared.lookahead.Delimiter.TheVariants as delimiter
 use Rattle.traceql_parse.specs.Descent as read
 use Rattle.traceql_parse.specs.Reading.{next_sign, next_word, delimits, expect, expect_sign, expect_word}
 use Rattle.traceql_parse.proofs.Laws.{Reader, Lang, IsSound, Keeps, Completes, Occurs, IsRefusing, Seq, next, next_keeps, next_sound, next_completes, next_grows, next_occurs, next_refuses}

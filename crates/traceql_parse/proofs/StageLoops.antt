@@ -3,7 +3,7 @@ use Rattle.std.proofs.Common.{◌≡◌, ℕ, ◌<◌, true, false, List, [], �
 use Rattle.traceql_tokens.specs.declared.kinds.Token.{Token}
 use Rattle.traceql_syntax.specs.declared.field.Field.{Field}
 use Rattle.traceql_syntax.specs.Trees.{StageTree, QueryTree}
-use Rattle.traceql_parse.specs.declared.look.Delimiter.TheVariants as delimiter
+use Rattle.traceql_parse.specs.declared.lookahead.Delimiter.TheVariants as delimiter
 use Rattle.traceql_parse.specs.declared.stop.Cause.{Cause}
 use Rattle.traceql_parse.specs.declared.stop.Stop.{Stop}
 use Rattle.traceql_parse.specs.declared.stop.Stop.TheVariants as stops

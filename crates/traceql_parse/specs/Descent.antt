@@ -19,13 +19,13 @@ use Rattle.traceql_syntax.specs.Trees.{Literally, Asks, Unary, Binary, Match, Pl
 use Rattle.traceql_syntax.specs.Tables.{prefix_sign, comparison_sign, level_sign, pattern_sign, set_sign, aggregate_word, literal_of, field_of, measure_of}
 use Rattle.traceql_parse.specs.Reading.{Answer, ◌>>=◌, next_sign, next_word, expect_sign, expect_word, expect, begins, delimits, items}
 use Rattle.traceql_parse.specs.declared.stop.Cause.TheVariants as cause
-use Rattle.traceql_parse.specs.declared.look.AggregateWord.{AggregateWord}
-use Rattle.traceql_parse.specs.declared.look.AggregateWord.TheVariants as aggregate
-use Rattle.traceql_parse.specs.declared.look.Delimiter.TheVariants as delimiter
-use Rattle.traceql_parse.specs.declared.look.ItemSign.{ItemSign}
-use Rattle.traceql_parse.specs.declared.look.ItemSign.TheVariants as item_sign
-use Rattle.traceql_parse.specs.declared.look.StageSign.{StageSign}
-use Rattle.traceql_parse.specs.declared.look.StageSign.TheVariants as stage_sign
+use Rattle.traceql_parse.specs.declared.lookahead.AggregateWord.{AggregateWord}
+use Rattle.traceql_parse.specs.declared.lookahead.AggregateWord.TheVariants as aggregate
+use Rattle.traceql_parse.specs.declared.lookahead.Delimiter.TheVariants as delimiter
+use Rattle.traceql_parse.specs.declared.lookahead.ItemSign.{ItemSign}
+use Rattle.traceql_parse.specs.declared.lookahead.ItemSign.TheVariants as item_sign
+use Rattle.traceql_parse.specs.declared.lookahead.StageSign.{StageSign}
+use Rattle.traceql_parse.specs.declared.lookahead.StageSign.TheVariants as stage_sign
 
 -- what is read with one construct more open
 pub record Readers : Type 0 where

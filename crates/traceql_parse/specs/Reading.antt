@@ -11,8 +11,8 @@ use Rattle.traceql_parse.specs.declared.stop.Cause.{Cause}
 use Rattle.traceql_parse.specs.declared.stop.Cause.TheVariants as cause
 use Rattle.traceql_parse.specs.declared.stop.Stop.{Stop}
 use Rattle.traceql_parse.specs.declared.stop.Stop.TheVariants as stop
-use Rattle.traceql_parse.specs.declared.look.Delimiter.{Delimiter}
-use Rattle.traceql_parse.specs.declared.look.Delimiter.TheVariants as delimiter
+use Rattle.traceql_parse.specs.declared.lookahead.Delimiter.{Delimiter}
+use Rattle.traceql_parse.specs.declared.lookahead.Delimiter.TheVariants as delimiter
 
 abbrev pub Refusal : Type 0
 Refusal = Cause × List Token

@@ -9,7 +9,7 @@ ghost use Rattle.traceql_parse.specs.Code.{Enters, item_tree};
 ghost use Rattle.traceql_parse.specs.Reading.{Gives};
 
 use crate::leaf::{read_leaf, read_pattern};
-use crate::look::{
+use crate::lookahead::{
     Delimiter, ItemSign, begins_with, first_item, first_unary, goes_on, refused, take_delimiter,
 };
 use crate::stop::{Cause, Stop};

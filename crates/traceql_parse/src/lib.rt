@@ -3,7 +3,7 @@
 
 mod field;
 mod leaf;
-mod look;
+mod lookahead;
 mod spanset;
 mod stage;
 mod stop;

@@ -8,7 +8,7 @@ ghost use Rattle.traceql_parse.specs.Descent.{aggregate_at, all_sets, comma_fiel
 ghost use Rattle.traceql_parse.specs.Reading.{Gives};
 
 use crate::leaf::{read_field, read_measure};
-use crate::look::{
+use crate::lookahead::{
     AggregateWord, Delimiter, StageSign, after_first, begins_aggregate, begins_with,
     first_aggregate, first_stage, refused, take_comparison, take_delimiter,
 };

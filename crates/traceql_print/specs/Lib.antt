@@ -1,4 +1,4 @@
 pub mod Signs
 pub mod Kinds
 pub mod Text
-pub mod Sheet
+pub mod Printer

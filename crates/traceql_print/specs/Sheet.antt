@@ -5,21 +5,21 @@ use Rattle.traceql_tokens.specs.declared.kinds.TokenKind.{TokenKind}
 use Rattle.traceql_print.specs.Text.{gap, kind_text, opens, closes}
 
 -- what is printed, and whether the next token stands at it without a space
-pub record Sheet : Type 0 where
+pub record Printer : Type 0 where
   pub text : List ℕ
   pub tight : Bool
 
 -- what stands before a token is printed
-abbrev pub spaced : Sheet → (closing : Bool) → Sheet
+abbrev pub spaced : Printer → (closing : Bool) → Printer
 spaced s closing = record { text = s.text ++ gap s.tight closing; tight = s.tight }
 
 -- one token more
-unfoldable pub put : Sheet → TokenKind → Sheet
+unfoldable pub put : Printer → TokenKind → Printer
 put s k = record { text = s.text ++ (gap s.tight (closes k) ++ kind_text k); tight = opens k }
 
 -- several tokens more
-unfoldable pub put_all : Sheet → List TokenKind → Sheet
+unfoldable pub put_all : Printer → List TokenKind → Printer
 put_all s ks = fold put s ks
 
-abbrev pub blank : Sheet
+abbrev pub blank : Printer
 blank = record { text = []; tight = true }

@@ -3,9 +3,9 @@
 ghost use Rattle.std.specs.Prelude.{◌≡◌, OnOk};
 ghost use Rattle.traceql_syntax.specs.Trees.{tree, placed_option, set_tree};
 ghost use Rattle.traceql_print.specs.Kinds as kinds;
-ghost use Rattle.traceql_print.specs.Sheet.{put_all};
+ghost use Rattle.traceql_print.specs.Printer.{put_all};
 
-use crate::sheet::Sheet;
+use crate::printer::Printer;
 use crate::signs::{binary_sign, match_sign, set_sign, unary_sign};
 use span_types::Memory;
 use traceql_syntax::{FieldExpr, Operand, SpansetExpr};
@@ -19,28 +19,28 @@ fn is_binary(expr: &FieldExpr) -> bool
 
 /// Writes an operand, in parentheses where it is binary itself.
 #[cycle(exprs)]
-fn write_operand(sheet: &mut Sheet, operand: &Operand) -> Result<(), Memory>
-    ensures { OnOk result (sheet.new ≡ put_all sheet.old (kinds.operand (kinds.is_binary (tree operand.now.expr)) (kinds.expr_kinds (tree operand.now.expr)))) }
+fn write_operand(printer: &mut Printer, operand: &Operand) -> Result<(), Memory>
+    ensures { OnOk result (printer.new ≡ put_all printer.old (kinds.operand (kinds.is_binary (tree operand.now.expr)) (kinds.expr_kinds (tree operand.now.expr)))) }
 {
     if !is_binary(&operand.expr) {
-        return write_expr(sheet, &operand.expr);
+        return write_expr(printer, &operand.expr);
     }
-    sheet.sign(Sign::OpenParen)?;
-    write_expr(sheet, &operand.expr)?;
-    sheet.sign(Sign::CloseParen)
+    printer.sign(Sign::OpenParen)?;
+    write_expr(printer, &operand.expr)?;
+    printer.sign(Sign::CloseParen)
 }
 
 /// Writes an expression.
 #[cycle(exprs)]
-pub(crate) fn write_expr(sheet: &mut Sheet, expr: &FieldExpr) -> Result<(), Memory>
-    ensures { OnOk result (sheet.new ≡ put_all sheet.old (kinds.expr_kinds (tree expr.now))) }
+pub(crate) fn write_expr(printer: &mut Printer, expr: &FieldExpr) -> Result<(), Memory>
+    ensures { OnOk result (printer.new ≡ put_all printer.old (kinds.expr_kinds (tree expr.now))) }
 {
     match expr {
-        FieldExpr::Literal { literal, .. } => sheet.literal(literal),
-        FieldExpr::Field { field, .. } => sheet.field(field),
+        FieldExpr::Literal { literal, .. } => printer.literal(literal),
+        FieldExpr::Field { field, .. } => printer.field(field),
         FieldExpr::Unary { op, operand, .. } => {
-            sheet.sign(unary_sign(*op))?;
-            write_operand(sheet, operand)
+            printer.sign(unary_sign(*op))?;
+            write_operand(printer, operand)
         }
         FieldExpr::Binary {
             op,
@@ -48,9 +48,9 @@ pub(crate) fn write_expr(sheet: &mut Sheet, expr: &FieldExpr) -> Result<(), Memo
             right,
             ..
         } => {
-            write_operand(sheet, left)?;
-            sheet.sign(binary_sign(*op))?;
-            write_operand(sheet, right)
+            write_operand(printer, left)?;
+            printer.sign(binary_sign(*op))?;
+            write_operand(printer, right)
         }
         FieldExpr::Match {
             negated,
@@ -58,29 +58,29 @@ pub(crate) fn write_expr(sheet: &mut Sheet, expr: &FieldExpr) -> Result<(), Memo
             pattern,
             ..
         } => {
-            write_operand(sheet, left)?;
-            sheet.sign(match_sign(*negated))?;
-            sheet.string(pattern.as_str())
+            write_operand(printer, left)?;
+            printer.sign(match_sign(*negated))?;
+            printer.string(pattern.as_str())
         }
     }
 }
 
-fn write_condition(sheet: &mut Sheet, condition: &Option<Operand>) -> Result<(), Memory>
-    ensures { OnOk result (sheet.new ≡ put_all sheet.old (kinds.condition_kinds (placed_option condition.now))) }
+fn write_condition(printer: &mut Printer, condition: &Option<Operand>) -> Result<(), Memory>
+    ensures { OnOk result (printer.new ≡ put_all printer.old (kinds.condition_kinds (placed_option condition.now))) }
 {
     match condition {
-        Some(operand) => write_expr(sheet, &operand.expr),
+        Some(operand) => write_expr(printer, &operand.expr),
         None => Ok(()),
     }
 }
 
 /// Writes a filter with its braces.
-pub(crate) fn write_filter(sheet: &mut Sheet, condition: &Option<Operand>) -> Result<(), Memory>
-    ensures { OnOk result (sheet.new ≡ put_all sheet.old (kinds.filter_kinds (placed_option condition.now))) }
+pub(crate) fn write_filter(printer: &mut Printer, condition: &Option<Operand>) -> Result<(), Memory>
+    ensures { OnOk result (printer.new ≡ put_all printer.old (kinds.filter_kinds (placed_option condition.now))) }
 {
-    sheet.sign(Sign::OpenBrace)?;
-    write_condition(sheet, condition)?;
-    sheet.sign(Sign::CloseBrace)
+    printer.sign(Sign::OpenBrace)?;
+    write_condition(printer, condition)?;
+    printer.sign(Sign::CloseBrace)
 }
 
 fn is_join(spansets: &SpansetExpr) -> bool
@@ -91,33 +91,33 @@ fn is_join(spansets: &SpansetExpr) -> bool
 
 /// Writes an operand between spansets, in parentheses where it is an operator between spansets itself.
 #[cycle(sets)]
-fn write_set_operand(sheet: &mut Sheet, operand: &SpansetExpr) -> Result<(), Memory>
-    ensures { OnOk result (sheet.new ≡ put_all sheet.old (kinds.operand (kinds.is_join (set_tree operand.now)) (kinds.set_kinds (set_tree operand.now)))) }
+fn write_set_operand(printer: &mut Printer, operand: &SpansetExpr) -> Result<(), Memory>
+    ensures { OnOk result (printer.new ≡ put_all printer.old (kinds.operand (kinds.is_join (set_tree operand.now)) (kinds.set_kinds (set_tree operand.now)))) }
 {
     if !is_join(operand) {
-        return write_set(sheet, operand);
+        return write_set(printer, operand);
     }
-    sheet.sign(Sign::OpenParen)?;
-    write_set(sheet, operand)?;
-    sheet.sign(Sign::CloseParen)
+    printer.sign(Sign::OpenParen)?;
+    write_set(printer, operand)?;
+    printer.sign(Sign::CloseParen)
 }
 
 /// Writes an expression over spansets.
 #[cycle(sets)]
-pub(crate) fn write_set(sheet: &mut Sheet, spansets: &SpansetExpr) -> Result<(), Memory>
-    ensures { OnOk result (sheet.new ≡ put_all sheet.old (kinds.set_kinds (set_tree spansets.now))) }
+pub(crate) fn write_set(printer: &mut Printer, spansets: &SpansetExpr) -> Result<(), Memory>
+    ensures { OnOk result (printer.new ≡ put_all printer.old (kinds.set_kinds (set_tree spansets.now))) }
 {
     match spansets {
-        SpansetExpr::Filter { condition, .. } => write_filter(sheet, condition),
+        SpansetExpr::Filter { condition, .. } => write_filter(printer, condition),
         SpansetExpr::Join {
             op,
             left,
             right,
             ..
         } => {
-            write_set_operand(sheet, left)?;
-            sheet.sign(set_sign(*op))?;
-            write_set_operand(sheet, right)
+            write_set_operand(printer, left)?;
+            printer.sign(set_sign(*op))?;
+            write_set_operand(printer, right)
         }
     }
 }

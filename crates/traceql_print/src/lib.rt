@@ -6,7 +6,7 @@
 
 mod expr;
 mod printing;
-mod sheet;
+mod printer;
 mod signs;
 mod stage;
 mod string;

@@ -7,7 +7,7 @@ ghost use Rattle.traceql_syntax.specs.Trees.{QueryTree, bare_query, query_tree};
 ghost use Rattle.traceql_print.specs.Signs.{field_kind};
 ghost use Rattle.traceql_print.specs.Text.{query_text, field_text, IsNamed};
 
-use crate::sheet::{Sheet, push_field};
+use crate::printer::{Printer, push_field};
 use crate::stage::write_query;
 use span_types::{Memory, Text};
 use std::alloc::Global;
@@ -23,9 +23,9 @@ pub fn print_query(alloc: Global, query: &Query) -> Result<Text, Memory>
     // What some text means, the printed text means too.
     ensures means { (source : List ℕ) → Means source (query_tree query.now) → IfOk result (λ text. Means text (query_tree query.now)) }
 {
-    let mut sheet = Sheet::new(alloc);
-    write_query(&mut sheet, query)?;
-    Ok(sheet.into_text())
+    let mut printer = Printer::new(alloc);
+    write_query(&mut printer, query)?;
+    Ok(printer.into_text())
 }
 
 /// A field in its printed form, which is one token: an attribute or an intrinsic as it was written, but for the quotes

@@ -7,7 +7,7 @@ use Rattle.std.proofs.lemmas.Nat.Gcd.{mod-eq-zero_of_dvd}
 use Rattle.std.proofs.Math.Nat.{mul_comm, mul_assoc}
 use native.Mathlib.Nat.{mul-div_cancel, div-mul_cancel, pos_of_dvd_of_pos, eq_of_mul-eq-mul_right}
 use lib.IntN.{+ℤ_idr}
-use Rattle.traceql_value.specs.Fractions.{Fraction, AreCoprime, IsRatio, StandsFor}
+use Rattle.traceql_value.specs.Fractions.{Fraction, AreCoprime, IsRatio, IsQuotient}
 use Rattle.traceql_value.proofs.Divisors.{one_form, AreCoprime-from_gcd}
 use Rattle.traceql_value.proofs.Products.{product_assoc, cancel}
 
@@ -48,11 +48,11 @@ scaled p q up down h =
     ap (λ n. up *ℤ pos n) (sym h.lower ∙ mul_comm down h.common)
     ∙ sym (product_assoc up h.common down) ∙ ap (λ z. z *ℤ pos down) h.upper
 
-pub Reduces-stands : (p : ℤ) (q : ℕ) (up : ℤ) (down : ℕ) (h : Reduces p q up down) → StandsFor p (pos q) (record { numerator = up; denominator = down })
+pub Reduces-stands : (p : ℤ) (q : ℕ) (up : ℤ) (down : ℕ) (h : Reduces p q up down) → IsQuotient p (pos q) (record { numerator = up; denominator = down })
 Reduces-stands p q up down h = scaled p q up down h
 
 -- a ratio that stands for a fraction is its lowest terms
-pub Reduces-alone : (p : ℤ) (q : ℕ) (up : ℤ) (down : ℕ) (h : Reduces p q up down) (r : Fraction) → IsRatio r → StandsFor p (pos q) r → (r.numerator ≡ up) × (r.denominator ≡ down)
+pub Reduces-alone : (p : ℤ) (q : ℕ) (up : ℤ) (down : ℕ) (h : Reduces p q up down) (r : Fraction) → IsRatio r → IsQuotient p (pos q) r → (r.numerator ≡ up) × (r.denominator ≡ down)
 Reduces-alone p q up down h r is e =
     let size : unsigned_abs r.numerator * q ≡ unsigned_abs p * r.denominator =
     sym (unsigned_abs-mul r.numerator (pos q)) ∙ ap unsigned_abs e ∙ unsigned_abs-mul p (pos r.denominator) in

@@ -10,7 +10,7 @@ use Rattle.std.proofs.lemmas.Nat.Gcd.{mod-eq-zero_of_dvd, dvd_of_mod-eq-zero, le
 use Rattle.std.proofs.Math.Nat.{mul_comm, mul_assoc, mul-mod_left, mul-le-mul_left, eq-or-lt_of_le, eq-zero-or-pos}
 use native.Mathlib.Nat.{div-mul_cancel, pos_of_dvd_of_pos, eq_of_mul-eq-mul_right, dvd-mul_left}
 use lib.IntN.{+ℤ_idr, neg_ℤ-neg_ℤ}
-use Rattle.traceql_value.specs.Fractions.{Fraction, AreCoprime, IsRatio, StandsFor, IsRatioOf, NoneStandsFor}
+use Rattle.traceql_value.specs.Fractions.{Fraction, AreCoprime, IsRatio, IsQuotient, IsRatioOf, NoneIsQuotient}
 use Rattle.traceql_value.specs.Arithmetic.{fits, denominator_from, over, ratio_of}
 use Rattle.traceql_value.proofs.Divisors.{divides_other, AreCoprime-swap}
 use Rattle.traceql_value.proofs.Products.{cancel}
@@ -150,13 +150,13 @@ placed_at r up same signed =
     ap (λ b. cond b (Some r) None) (signed-fits r.numerator signed)
     )
 
-placed : (p q : ℤ) (r : Fraction) → 0 < unsigned_abs q → (unsigned_abs p * r.denominator) % unsigned_abs q ≡ 0 → FitsSigned w64 r.numerator → StandsFor p q r → over p q r.denominator ≡ Some r
+placed : (p q : ℤ) (r : Fraction) → 0 < unsigned_abs q → (unsigned_abs p * r.denominator) % unsigned_abs q ≡ 0 → FitsSigned w64 r.numerator → IsQuotient p q r → over p q r.denominator ≡ Some r
 placed p q r some w signed e =
     let up = int_div (p *ℤ pos r.denominator) q in
     let same : up ≡ r.numerator = cancel_any up r.numerator q some (quotient_exact (p *ℤ pos r.denominator) q (whole_above p q r.denominator w) ∙ sym e) in
     placed_at r up same signed
 
-complete_at : (p q : ℤ) (last d : ℕ) (r : Fraction) → 0 < unsigned_abs q → IsLeast (unsigned_abs p) (unsigned_abs q) 1 last d → IsRatio r → StandsFor p q r → over p q d ≡ Some r
+complete_at : (p q : ℤ) (last d : ℕ) (r : Fraction) → 0 < unsigned_abs q → IsLeast (unsigned_abs p) (unsigned_abs q) 1 last d → IsRatio r → IsQuotient p q r → over p q d ≡ Some r
 complete_at p q last d r some h is e =
     let P = unsigned_abs p in
     let Q = unsigned_abs q in
@@ -178,7 +178,7 @@ complete_at p q last d r some h is e =
     let same : r.denominator ≡ d = elim (eq-or-lt_of_le under) as (λ _. r.denominator ≡ d) [ inl s ↦ s | inr lt ↦ absurd (h.least r.denominator (omega arith) lt whole0) ] in
     subst (λ n. over p q n ≡ Some r) same (placed p q r some whole0 is.signed e)
 
-complete : (p q : ℤ) (n : ℕ) (o : Option ℕ) (r : Fraction) → 0 < unsigned_abs q → denominator_from (unsigned_abs p) (unsigned_abs q) 1 n ≡ o → IsSome o → IsRatio r → StandsFor p q r → option_and_then (over p q) o ≡ Some r
+complete : (p q : ℤ) (n : ℕ) (o : Option ℕ) (r : Fraction) → 0 < unsigned_abs q → denominator_from (unsigned_abs p) (unsigned_abs q) 1 n ≡ o → IsSome o → IsRatio r → IsQuotient p q r → option_and_then (over p q) o ≡ Some r
 complete p q n None r some is there ratio e = absurd (search rules)
 complete p q n (Some d) r some is there ratio e = complete_at p q (1 + n) d r some (found (unsigned_abs p) (unsigned_abs q) 1 n d is) ratio e
 
@@ -202,16 +202,16 @@ ratio_of-complete p q r some h =
     complete p q (2 ^ 63 - 1) (denominator_from (unsigned_abs p) (unsigned_abs q) 1 (2 ^ 63 - 1)) r some refl
     (finds (unsigned_abs p) (unsigned_abs q) 1 (2 ^ 63 - 1) r.denominator (omega arith) (omega arith) whole) is h.1
 
-none_from : (p q : ℤ) (o : Option Fraction) → 0 < unsigned_abs q → ratio_of p q ≡ o → NoneStandsFor p q → o ≡ None
+none_from : (p q : ℤ) (o : Option Fraction) → 0 < unsigned_abs q → ratio_of p q ≡ o → NoneIsQuotient p q → o ≡ None
 none_from p q None some e h = refl
 none_from p q (Some r) some e h = let is = ratio_of-sound p q r some e in absurd (h r is.0 is.1)
 
 -- where no ratio is the quotient, none is found
-pub ratio_of-none : (p q : ℤ) → 0 < unsigned_abs q → NoneStandsFor p q → ratio_of p q ≡ None
+pub ratio_of-none : (p q : ℤ) → 0 < unsigned_abs q → NoneIsQuotient p q → ratio_of p q ≡ None
 ratio_of-none p q some h = none_from p q (ratio_of p q) some refl h
 
 -- an answer that is the quotient's ratio, or none where there is none, is what is found
-pub ratio_of-exact : (o : Option Fraction) (p q : ℤ) → 0 < unsigned_abs q → IfSome o (IsRatioOf p q) → IfNone o (NoneStandsFor p q) → o ≡ ratio_of p q
+pub ratio_of-exact : (o : Option Fraction) (p q : ℤ) → 0 < unsigned_abs q → IfSome o (IsRatioOf p q) → IfNone o (NoneIsQuotient p q) → o ≡ ratio_of p q
 ratio_of-exact None p q some h k = sym (ratio_of-none p q some k)
 ratio_of-exact (Some r) p q some h k = sym (ratio_of-complete p q r some h)
 

@@ -10,7 +10,7 @@ use Rattle.regex.specs.declared.string.matcher.Matcher.{Matcher}
 use Rattle.traceql_types.specs.declared.pattern.Pattern.{Pattern}
 use Rattle.traceql_types.specs.Patterns.{pattern_text, pattern_re}
 use Rattle.traceql_value.specs.Meaning.{matches}
-use Rattle.traceql_value.specs.Searches.{Matchers, matcher_of, searched, finds, SearchFor}
+use Rattle.traceql_value.specs.Matchers.{Matchers, matcher_of, searched, finds, SearchFor}
 
 -- ---- the first pattern of a string answers for it
 
@@ -94,7 +94,7 @@ kept_step : (b : Bool) (w o : Matcher) (found : Option Matcher) → (b ≡ true 
 kept_step true w o found at same = ap Some same ∙ sym (ap (option_map matcher_pattern) (at refl))
 kept_step false w o found at same = refl
 
--- what searched once searches for the same
+-- what searched once searched for the same
 pub searched_kept : (old new : Matchers) (string : List ℕ) (o w : Matcher) → matcher_of old string ≡ Some o → matcher_pattern w ≡ matcher_pattern o → ((s : List ℕ) → matcher_of new s ≡ update bytes_eq (matcher_of old) string (Some w) s) → (s : List ℕ) → searched new s ≡ searched old s
 searched_kept old new string o w at same put = λ s.
     ap (option_map matcher_pattern) (put s)

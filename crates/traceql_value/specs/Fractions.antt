@@ -20,16 +20,16 @@ pub record IsRatio (r : Fraction) : Type 0 where
   pub lowest : AreCoprime (unsigned_abs r.numerator) r.denominator
 
 -- the fraction equals p / q, where q isn't 0
-abbrev pub StandsFor : ℤ → ℤ → Fraction → Type 0
-StandsFor p q r = r.numerator *ℤ q ≡ p *ℤ pos r.denominator
+abbrev pub IsQuotient : ℤ → ℤ → Fraction → Type 0
+IsQuotient p q r = r.numerator *ℤ q ≡ p *ℤ pos r.denominator
 
 -- a ratio that equals p / q
 abbrev pub IsRatioOf : ℤ → ℤ → Fraction → Type 0
-IsRatioOf p q r = IsRatio r × StandsFor p q r
+IsRatioOf p q r = IsRatio r × IsQuotient p q r
 
 -- no ratio equals p / q
-abbrev pub NoneStandsFor : ℤ → ℤ → Type 0
-NoneStandsFor p q = (r : Fraction) → IsRatio r → StandsFor p q r → ⊥
+abbrev pub NoneIsQuotient : ℤ → ℤ → Type 0
+NoneIsQuotient p q = (r : Fraction) → IsRatio r → IsQuotient p q r → ⊥
 
 abbrev pub whole_fraction : ℤ → Fraction
 whole_fraction n = record { numerator = n; denominator = 1 }

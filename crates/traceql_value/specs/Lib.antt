@@ -2,8 +2,8 @@ pub mod Arithmetic
 pub mod Fractions
 pub mod Meaning
 pub mod Readings
-pub mod Scenes
-pub mod Searches
-pub mod Seen
+pub mod EvalContexts
+pub mod Matchers
+pub mod ValueRef
 pub mod Spans
 pub mod Values

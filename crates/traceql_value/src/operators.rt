@@ -2,11 +2,11 @@
 
 ghost use Rattle.std.specs.Prelude.{◌≡◌, Bool, IfSome};
 ghost use Rattle.traceql_value.specs.Meaning.{tests_nil, applied, decided};
-ghost use Rattle.traceql_value.specs.Seen.{seen_value};
+ghost use Rattle.traceql_value.specs.ValueRef.{seen_value};
 ghost use Rattle.traceql_value.specs.Values.{number_or_nil, is_true, is_nil, accepts, accepts_equal, compares, arithmetic, calculated, combined, turned};
 
 use crate::order::text_order;
-use crate::seen::Seen;
+use crate::value_ref::ValueRef;
 use crate::{Ratio, Value};
 use std::cmp::Ordering;
 use traceql_syntax::{BinaryOp, Comparison, UnaryOp};
@@ -22,21 +22,21 @@ fn number_or_nil(number: Option<Ratio>) -> Value
 }
 
 /// Whether a value is `true`.
-pub(crate) fn is_true(value: &Seen<'_>) -> bool
+pub(crate) fn is_true(value: &ValueRef<'_>) -> bool
     ensures { result ≡ is_true (seen_value value.now) }
 {
     match value {
-        Seen::Truth(truth) => *truth,
+        ValueRef::Truth(truth) => *truth,
         _ => false,
     }
 }
 
 // Whether there is no value.
-fn is_nil(value: &Seen<'_>) -> bool
+fn is_nil(value: &ValueRef<'_>) -> bool
     ensures { result ≡ is_nil (seen_value value.now) }
 {
     match value {
-        Seen::Nil => true,
+        ValueRef::Nil => true,
         _ => false,
     }
 }
@@ -67,18 +67,18 @@ fn accepts_equal(op: Comparison, same: bool) -> bool
 }
 
 // Whether a comparison of two values is true.
-fn compares(op: Comparison, left: &Seen<'_>, right: &Seen<'_>) -> bool
+fn compares(op: Comparison, left: &ValueRef<'_>, right: &ValueRef<'_>) -> bool
     ensures { result ≡ compares op (seen_value left.now) (seen_value right.now) }
 {
     match (left, right) {
-        (Seen::Truth(a), Seen::Truth(b)) => accepts_equal(op, *a == *b),
-        (Seen::Number(a), Seen::Number(b)) => accepts(op, a.compare(*b)),
-        (Seen::Text(a), Seen::Text(b)) => accepts(op, text_order(a, b)),
-        (Seen::Text(a), Seen::Made(b)) => accepts(op, text_order(a, b.as_str())),
-        (Seen::Made(a), Seen::Text(b)) => accepts(op, text_order(a.as_str(), b)),
-        (Seen::Made(a), Seen::Made(b)) => accepts(op, text_order(a.as_str(), b.as_str())),
-        (Seen::Status(a), Seen::Status(b)) => accepts_equal(op, *a == *b),
-        (Seen::Kind(a), Seen::Kind(b)) => accepts_equal(op, *a == *b),
+        (ValueRef::Truth(a), ValueRef::Truth(b)) => accepts_equal(op, *a == *b),
+        (ValueRef::Number(a), ValueRef::Number(b)) => accepts(op, a.compare(*b)),
+        (ValueRef::Text(a), ValueRef::Text(b)) => accepts(op, text_order(a, b)),
+        (ValueRef::Text(a), ValueRef::Made(b)) => accepts(op, text_order(a, b.as_str())),
+        (ValueRef::Made(a), ValueRef::Text(b)) => accepts(op, text_order(a.as_str(), b)),
+        (ValueRef::Made(a), ValueRef::Made(b)) => accepts(op, text_order(a.as_str(), b.as_str())),
+        (ValueRef::Status(a), ValueRef::Status(b)) => accepts_equal(op, *a == *b),
+        (ValueRef::Kind(a), ValueRef::Kind(b)) => accepts_equal(op, *a == *b),
         _ => false,
     }
 }
@@ -99,17 +99,17 @@ fn calculated(op: BinaryOp, left: Ratio, right: Ratio) -> Option<Ratio>
 }
 
 // What an arithmetic operator gives: nil where an operand is no number.
-fn arithmetic(op: BinaryOp, left: &Seen<'_>, right: &Seen<'_>) -> Value
+fn arithmetic(op: BinaryOp, left: &ValueRef<'_>, right: &ValueRef<'_>) -> Value
     ensures { result ≡ arithmetic (calculated op) (seen_value left.now) (seen_value right.now) }
 {
     match (left, right) {
-        (Seen::Number(a), Seen::Number(b)) => number_or_nil(calculated(op, *a, *b)),
+        (ValueRef::Number(a), ValueRef::Number(b)) => number_or_nil(calculated(op, *a, *b)),
         _ => Value::Nil,
     }
 }
 
 // What an operator gives that is no comparison with the literal `nil`.
-fn combined(op: BinaryOp, left: &Seen<'_>, right: &Seen<'_>) -> Value
+fn combined(op: BinaryOp, left: &ValueRef<'_>, right: &ValueRef<'_>) -> Value
     ensures { result ≡ combined op (seen_value left.now) (seen_value right.now) }
 {
     match op {
@@ -126,7 +126,7 @@ fn combined(op: BinaryOp, left: &Seen<'_>, right: &Seen<'_>) -> Value
 }
 
 // What a comparison with the literal `nil` gives of the other operand.
-fn tests_nil(op: Comparison, value: &Seen<'_>) -> bool
+fn tests_nil(op: Comparison, value: &ValueRef<'_>) -> bool
     ensures { result ≡ tests_nil op (seen_value value.now) }
 {
     match op {
@@ -137,7 +137,7 @@ fn tests_nil(op: Comparison, value: &Seen<'_>) -> bool
 }
 
 /// What `&&` and `||` give by their left side alone: the right side doesn't matter then.
-pub(crate) fn decided(op: BinaryOp, left: &Seen<'_>) -> Option<bool>
+pub(crate) fn decided(op: BinaryOp, left: &ValueRef<'_>) -> Option<bool>
     ensures decided { result ≡ decided op (seen_value left.now) }
     ensures value { IfSome result (λ truth. (nil_left nil_right : Bool) (right : Value) → applied op nil_left nil_right (seen_value left.now) right ≡ Value.Truth truth) }
 {
@@ -153,8 +153,8 @@ pub(crate) fn applied(
     op: BinaryOp,
     nil_left: bool,
     nil_right: bool,
-    left: &Seen<'_>,
-    right: &Seen<'_>,
+    left: &ValueRef<'_>,
+    right: &ValueRef<'_>,
 ) -> Value
     ensures { result ≡ applied op nil_left nil_right (seen_value left.now) (seen_value right.now) }
 {
@@ -166,12 +166,12 @@ pub(crate) fn applied(
 }
 
 /// What a unary operator gives.
-pub(crate) fn turned(op: UnaryOp, value: &Seen<'_>) -> Value
+pub(crate) fn turned(op: UnaryOp, value: &ValueRef<'_>) -> Value
     ensures { result ≡ turned op (seen_value value.now) }
 {
     match (op, value) {
-        (UnaryOp::Negate, Seen::Number(number)) => number_or_nil(number.neg()),
-        (UnaryOp::Not, Seen::Truth(truth)) => Value::Truth(!*truth),
+        (UnaryOp::Negate, ValueRef::Number(number)) => number_or_nil(number.neg()),
+        (UnaryOp::Not, ValueRef::Truth(truth)) => Value::Truth(!*truth),
         _ => Value::Nil,
     }
 }

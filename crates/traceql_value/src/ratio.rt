@@ -3,7 +3,7 @@
 ghost use Rattle.std.specs.Prelude.{◌≡◌, ◌≢◌, ℤ, pos, ◌*ℤ◌, neg_ℤ, ◌<◌, ◌≤◌, ◌-◌, ◌*◌, ◌^◌, unsigned_abs, int_rem, FitsSigned, IfSome, IfNone, IsNone};
 ghost use Rattle.std.specs.Int.{w64};
 ghost use Rattle.std.specs.Option.{SomeIff};
-ghost use Rattle.traceql_value.specs.Fractions.{IsRatio, IsRatioOf, NoneStandsFor, Compares, HaveRemainder, HavePower, power_of, whole_fraction, under, over_sum, over_difference};
+ghost use Rattle.traceql_value.specs.Fractions.{IsRatio, IsRatioOf, NoneIsQuotient, Compares, HaveRemainder, HavePower, power_of, whole_fraction, under, over_sum, over_difference};
 ghost use Rattle.traceql_value.specs.Arithmetic.{ratio_of, sum_of, difference_of, product_of, quotient_of, remainder_of, power_within, negative_of, fraction_cmp};
 
 use crate::divisor::common_divisor;
@@ -70,7 +70,7 @@ impl Ratio {
     /// The number with the other sign. `None` where that is outside of the bounds.
     pub fn neg(self) -> Option<Ratio>
         ensures value { IfSome result (IsRatioOf (neg_ℤ self.numerator) (pos self.denominator)) }
-        ensures nil { IfNone result (NoneStandsFor (neg_ℤ self.numerator) (pos self.denominator)) }
+        ensures nil { IfNone result (NoneIsQuotient (neg_ℤ self.numerator) (pos self.denominator)) }
         ensures exact { result ≡ negative_of self }
     {
         let numerator = self.numerator.checked_neg()?;
@@ -93,7 +93,7 @@ impl Ratio {
     /// The product. `None` where it is outside of the bounds.
     pub fn mul(self, other: Ratio) -> Option<Ratio>
         ensures value { IfSome result (IsRatioOf (self.numerator *ℤ other.numerator) (under self other)) }
-        ensures nil { IfNone result (NoneStandsFor (self.numerator *ℤ other.numerator) (under self other)) }
+        ensures nil { IfNone result (NoneIsQuotient (self.numerator *ℤ other.numerator) (under self other)) }
         ensures exact { result ≡ product_of self other }
     {
         let up = i128::from(self.numerator) * i128::from(other.numerator);
@@ -106,7 +106,7 @@ impl Ratio {
     /// The sum. `None` where it is outside of the bounds.
     pub fn add(self, other: Ratio) -> Option<Ratio>
         ensures value { IfSome result (IsRatioOf (over_sum self other) (under self other)) }
-        ensures nil { IfNone result (NoneStandsFor (over_sum self other) (under self other)) }
+        ensures nil { IfNone result (NoneIsQuotient (over_sum self other) (under self other)) }
         ensures exact { result ≡ sum_of self other }
     {
         let left = widened(self.numerator, other.denominator);
@@ -120,7 +120,7 @@ impl Ratio {
     /// The difference. `None` where it is outside of the bounds.
     pub fn sub(self, other: Ratio) -> Option<Ratio>
         ensures value { IfSome result (IsRatioOf (over_difference self other) (under self other)) }
-        ensures nil { IfNone result (NoneStandsFor (over_difference self other) (under self other)) }
+        ensures nil { IfNone result (NoneIsQuotient (over_difference self other) (under self other)) }
         ensures exact { result ≡ difference_of self other }
     {
         let left = widened(self.numerator, other.denominator);
@@ -135,7 +135,7 @@ impl Ratio {
     pub fn div(self, other: Ratio) -> Option<Ratio>
         ensures zero { other.numerator ≡ pos 0 → IsNone result }
         ensures value { IfSome result (IsRatioOf (self.numerator *ℤ pos other.denominator) (other.numerator *ℤ pos self.denominator)) }
-        ensures nil { other.numerator ≢ pos 0 → IfNone result (NoneStandsFor (self.numerator *ℤ pos other.denominator) (other.numerator *ℤ pos self.denominator)) }
+        ensures nil { other.numerator ≢ pos 0 → IfNone result (NoneIsQuotient (self.numerator *ℤ pos other.denominator) (other.numerator *ℤ pos self.denominator)) }
         ensures exact { result ≡ quotient_of self other }
     {
         if other.numerator == 0 {
@@ -178,7 +178,7 @@ impl Ratio {
         requires above { unsigned_abs numerator < 2 ^ 127 }
         requires below { unsigned_abs denominator < 2 ^ 127 }
         ensures value { IfSome result (IsRatioOf numerator denominator) }
-        ensures nil { IfNone result (NoneStandsFor numerator denominator) }
+        ensures nil { IfNone result (NoneIsQuotient numerator denominator) }
         ensures exact { result ≡ ratio_of numerator denominator }
     {
         if denominator < 0 {
@@ -192,7 +192,7 @@ impl Ratio {
         requires above { 0 < denominator }
         requires below { denominator < 2 ^ 127 }
         ensures value { IfSome result (IsRatioOf numerator (pos denominator)) }
-        ensures nil { IfNone result (NoneStandsFor numerator (pos denominator)) }
+        ensures nil { IfNone result (NoneIsQuotient numerator (pos denominator)) }
         ensures exact { result ≡ ratio_of numerator (pos denominator) }
     {
         Ratio::reduced(numerator, denominator)
@@ -203,7 +203,7 @@ impl Ratio {
         requires above { 0 < denominator }
         requires below { denominator < 2 ^ 127 }
         ensures value { IfSome result (IsRatioOf numerator (pos denominator)) }
-        ensures nil { IfNone result (NoneStandsFor numerator (pos denominator)) }
+        ensures nil { IfNone result (NoneIsQuotient numerator (pos denominator)) }
     {
         let common = common_divisor(numerator.unsigned_abs(), denominator);
         let down = denominator / common;

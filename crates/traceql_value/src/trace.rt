@@ -3,14 +3,14 @@
 ghost use Rattle.std.specs.Prelude.{◌≡◌, IfOk, option_map};
 ghost use Rattle.std.specs.Option.{option_map_or};
 ghost use Rattle.hex.specs.Hex.{encode_lower};
-ghost use Rattle.traceql_value.specs.Seen.{seen_value};
+ghost use Rattle.traceql_value.specs.ValueRef.{seen_value};
 ghost use Rattle.traceql_value.specs.Spans.{root_of, root_name, service_of, root_service, start_of, trace_nanos, intrinsic_of, field_of_span};
 
 use crate::Value;
 use crate::fields::{
     attr_named, attribute, hexadecimal, span_nanos, text_or_nil, unless_empty, whole_number,
 };
-use crate::seen::Seen;
+use crate::value_ref::ValueRef;
 use crate::whole::{earliest, latest, root_of};
 use span_types::{AttrValue, Memory, Row, Span, SpanId};
 use std::alloc::Global;
@@ -58,17 +58,17 @@ impl<'a> Trace<'a> {
     }
 
     /// The name of the root.
-    pub(crate) fn root_name(&self) -> Seen<'_>
+    pub(crate) fn root_name(&self) -> ValueRef<'_>
         ensures { seen_value result ≡ root_name self.now.rows.now }
     {
         match self.root {
-            Some(root) => Seen::Text(root.span.name.as_str()),
-            None => Seen::Nil,
+            Some(root) => ValueRef::Text(root.span.name.as_str()),
+            None => ValueRef::Nil,
         }
     }
 
     /// What the root's resource calls its service.
-    pub(crate) fn root_service(&self) -> Seen<'_>
+    pub(crate) fn root_service(&self) -> ValueRef<'_>
         ensures { seen_value result ≡ root_service self.now.rows.now }
     {
         text_or_nil(self.service)
@@ -76,12 +76,12 @@ impl<'a> Trace<'a> {
 }
 
 // What an intrinsic that is an id is, in hexadecimal.
-fn parent_id<'s>(alloc: Global, parent: &Option<SpanId>) -> Result<Seen<'s>, Memory>
+fn parent_id<'s>(alloc: Global, parent: &Option<SpanId>) -> Result<ValueRef<'s>, Memory>
     ensures { IfOk result (λ v. seen_value v ≡ option_map_or (λ p. Value.Text (encode_lower p.0)) parent.now Value.Nil) }
 {
     match parent {
         Some(parent) => hexadecimal(alloc, parent.0.as_slice()),
-        None => Ok(Seen::Nil),
+        None => Ok(ValueRef::Nil),
     }
 }
 
@@ -91,16 +91,16 @@ fn intrinsic<'s>(
     intrinsic: Intrinsic,
     trace: &'s Trace<'_>,
     span: &'s Span,
-) -> Result<Seen<'s>, Memory>
+) -> Result<ValueRef<'s>, Memory>
     ensures { IfOk result (λ v. seen_value v ≡ intrinsic_of intrinsic trace.now.rows.now span.now) }
 {
     Ok(match intrinsic {
-        Intrinsic::Name | Intrinsic::SpanName => Seen::Text(span.name.as_str()),
-        Intrinsic::Status | Intrinsic::SpanStatus => Seen::Status(span.status),
+        Intrinsic::Name | Intrinsic::SpanName => ValueRef::Text(span.name.as_str()),
+        Intrinsic::Status | Intrinsic::SpanStatus => ValueRef::Status(span.status),
         Intrinsic::StatusMessage | Intrinsic::SpanStatusMessage => {
-            Seen::Text(span.message.as_str())
+            ValueRef::Text(span.message.as_str())
         }
-        Intrinsic::Kind | Intrinsic::SpanKind => Seen::Kind(span.kind),
+        Intrinsic::Kind | Intrinsic::SpanKind => ValueRef::Kind(span.kind),
         Intrinsic::Duration | Intrinsic::SpanDuration => whole_number(span_nanos(span)),
         Intrinsic::SpanId => hexadecimal(alloc, span.id.0.as_slice())?,
         Intrinsic::TraceId => hexadecimal(alloc, span.trace.0.as_slice())?,
@@ -120,7 +120,7 @@ pub(crate) fn field<'s>(
     field: &Field,
     trace: &'s Trace<'_>,
     span: &'s Span,
-) -> Result<Seen<'s>, Memory>
+) -> Result<ValueRef<'s>, Memory>
     ensures { IfOk result (λ v. seen_value v ≡ field_of_span field.now trace.now.rows.now span.now) }
 {
     match field {

@@ -2,12 +2,12 @@
 use Rattle.std.proofs.Common.{◌≡◌, map}
 use Rattle.std.specs.List.{filter}
 use Rattle.traceql_syntax.specs.Trees.{placed_option}
-use Rattle.traceql_value.specs.Scenes.{scene_patterns, scene_rows}
+use Rattle.traceql_value.specs.EvalContexts.{context_patterns, context_rows}
 use Rattle.spanset_eval.specs.declared.groups.Group.{Group}
-use Rattle.spanset_eval.specs.Seen.{IsSame}
+use Rattle.spanset_eval.specs.Unchanged.{IsSame}
 use Rattle.spanset_eval.specs.Stages.{keeps_at}
 use Rattle.spanset_eval.proofs.stages.keep.Given as goal
 
 abbrev pub invariant-loop-group : goal.invariant-loop-group
 invariant-loop-group l =
-    record { kept : l.kept.items ≡ map (λ (g : Group). record { by = g.by; members = filter (keeps_at (scene_patterns l.fn.scene) (scene_rows l.fn.scene) (placed_option l.condition)) g.members }) l.yielded; scene : IsSame l.fn.scene l.scene }
+    record { kept : l.kept.items ≡ map (λ (g : Group). record { by = g.by; members = filter (keeps_at (context_patterns l.fn.context) (context_rows l.fn.context) (placed_option l.condition)) g.members }) l.yielded; context : IsSame l.fn.context l.context }

@@ -20,7 +20,7 @@ lines-init g c =
 pub lines-preserved : goal.lines-preserved
 lines-preserved g c = record {
   at = λ text before told gave.
-      subst (λ o. Turned text before (g.S.Source.left c.next_line.new.source) (g.K.Sink.taken c.next_line.new.sink) c.next_line.new.reader c.next_line.new.held c.next_line.new.seen
+      subst (λ o. Turned text before (g.S.Source.left c.next_line.new.source) (g.K.Sink.taken c.next_line.new.sink) c.next_line.new.reader c.next_line.new.held c.next_line.new.tally
       (g.P.PatternMaker.refusals c.args.patterns.now) (g.P.PatternMaker.refusals c.next_line.new.patterns) o)
       c.in_default.is (c.next_line.ensures.turned text before (g.P.PatternMaker.refusals c.args.patterns.now) (c.lines.invariant.at text before told gave));
   room = c.in_default.ensures.room;

@@ -9,7 +9,7 @@ use Rattle.trace_shell.proofs.session.session.Given as goal
 abbrev pub invariant-lines : goal.invariant-lines
 invariant-lines g l = record {
   at : (text before : List ℕ) → g.S.Source.left l.fn.source ≡ Some text → g.K.Sink.taken l.fn.sink ≡ Some before →
-      IsAt text before (g.S.Source.left l.source) (g.K.Sink.taken l.sink) l.reader l.held l.seen (g.P.PatternMaker.refusals l.fn.patterns) (g.P.PatternMaker.refusals l.patterns);
+      IsAt text before (g.S.Source.left l.source) (g.K.Sink.taken l.sink) l.reader l.held l.tally (g.P.PatternMaker.refusals l.fn.patterns) (g.P.PatternMaker.refusals l.patterns);
   room : l.held.pushes + to_come l.reader ≤ taken_limit;
   source_counted : g.S.Source.faults l.fn.source ≤ g.S.Source.faults l.source;
   sink_counted : g.K.Sink.faults l.fn.sink ≤ g.K.Sink.faults l.sink;

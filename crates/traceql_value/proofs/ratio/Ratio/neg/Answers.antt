@@ -1,7 +1,7 @@
 use Rattle.std.proofs.Common.{◌≡◌, ℕ, ℤ, pos, negsuc, zero, suc, w64, FitsSigned, to_z, of_z, sym, subst, ap, ◌∙◌, refl}
 use Rattle.std.specs.Prelude.{neg_ℤ, unsigned_abs, ◌*ℤ◌}
 use Rattle.std.proofs.lemmas.Int.{to_z-of_z}
-use Rattle.traceql_value.specs.Fractions.{Fraction, IsRatio, NoneStandsFor, AreCoprime}
+use Rattle.traceql_value.specs.Fractions.{Fraction, IsRatio, NoneIsQuotient, AreCoprime}
 use Rattle.traceql_value.proofs.Reduced.{Reduces-self, Reduces-alone}
 use Rattle.traceql_value.proofs.ratio.Ratio.neg.Goals as goal
 
@@ -19,7 +19,7 @@ other_sign z y d is fits e = record {
 }
 
 -- a number that is in lowest terms is so with the other sign
-alone : (z : ℤ) (d : ℕ) → IsRatio (record { numerator = z; denominator = d }) → (FitsSigned w64 (neg_ℤ z) → ⊥) → NoneStandsFor (neg_ℤ z) (pos d)
+alone : (z : ℤ) (d : ℕ) → IsRatio (record { numerator = z; denominator = d }) → (FitsSigned w64 (neg_ℤ z) → ⊥) → NoneIsQuotient (neg_ℤ z) (pos d)
 alone z d is out = λ r h e.
     let one = Reduces-self (neg_ℤ z) d is.above (subst (λ n. AreCoprime n d) (sym (size z)) is.lowest) in
     let same = Reduces-alone (neg_ℤ z) d (neg_ℤ z) d one r h e in
@@ -38,7 +38,7 @@ pub returns-in_err-numerator-clause-nil : goal.returns-in_err-numerator-clause-n
 returns-in_err-numerator-clause-nil c =
     let none = alone c.self.inside.numerator c.self.inside.denominator c.self.invariant
     (λ f. c.in_err-numerator.ensures (written c.self.inside.numerator c.self.invariant.signed f)) in
-    rw c.from_residual.ensures (subst (λ (f : Fraction). NoneStandsFor (neg_ℤ f.numerator) (pos f.denominator)) c.self.view_is none)
+    rw c.from_residual.ensures (subst (λ (f : Fraction). NoneIsQuotient (neg_ℤ f.numerator) (pos f.denominator)) c.self.view_is none)
 
 pub invariant_of-result : goal.invariant_of-result
 invariant_of-result c =

@@ -1,0 +1,22 @@
+-- What is read of a search's line, as the definitions see it.
+use Rattle.std.specs.Prelude.{ℕ, List, Option, option_map, Result, Ok, Err}
+use Rattle.std.specs.Borrow.{Bor}
+use Rattle.session_text.specs.declared.options.SearchLine.{SearchLine as Found}
+use Rattle.session_text.specs.Options.{Left, Read, SearchLine}
+
+-- what is left of a line
+abbrev pub left_parsed : Option (Bor (List ℕ)) → Left
+left_parsed left = option_map (λ s. s.now) left
+
+-- an option that may stand first, and what is left then
+abbrev pub option_parsed : Result (Option ℕ × Option (Bor (List ℕ))) ℕ → Result Read ℕ
+option_parsed (Ok read) = Ok (read.0, left_parsed read.1)
+option_parsed (Err at) = Err at
+
+abbrev pub parts_parsed : Found → SearchLine
+parts_parsed found = record { limit = found.limit; spans_per_set = found.spans_per_set; range = found.range; query = found.query.now }
+
+-- a whole line
+abbrev pub line_parsed : Result Found ℕ → Result SearchLine ℕ
+line_parsed (Ok found) = Ok (parts_parsed found)
+line_parsed (Err at) = Err at

@@ -1,8 +1,0 @@
--- So far each string's first pattern has its search.
-use Rattle.std.proofs.Common.{◌≡◌, ℕ, List, take}
-use Rattle.traceql_value.specs.Searches.{searched}
-use Rattle.traceql_value.proofs.Searching.{first_re}
-use Rattle.traceql_value.proofs.searches.Searches.of.Given as goal
-
-abbrev pub invariant-loop-pattern : goal.invariant-loop-pattern
-invariant-loop-pattern l = (s : List ℕ) → searched l.matchers s ≡ first_re (take l.pattern-index l.patterns) s

@@ -1,0 +1,18 @@
+-- What clauses see of a query's matchers and of a context.
+use Rattle.std.specs.Prelude.{List}
+use Rattle.span_types.specs.declared.spans.Row.{Row}
+use Rattle.traceql_types.specs.declared.pattern.Pattern.{Pattern}
+use Rattle.traceql_value.specs.declared.context.EvalContext.{EvalContext}
+use Rattle.traceql_value.specs.declared.matchers.Matchers.{Matchers}
+
+-- the patterns that are ready to search
+abbrev pub matchers_patterns : Matchers → List Pattern
+matchers_patterns s = s.patterns.now
+
+-- the patterns that a context has ready to search
+abbrev pub context_patterns : EvalContext → List Pattern
+context_patterns s = matchers_patterns s.matchers
+
+-- the rows of the trace
+abbrev pub context_rows : EvalContext → List Row
+context_rows s = s.trace.rows.now
