@@ -1,13 +1,5 @@
-//! Tests of the crates that keep the store's bytes and its rows in memory, by their public calls alone.
+//! Tests of the crates that keep the store's rows and its state, by their public calls alone.
 #![tactic(auto)]
 
 #[cfg(test)]
-mod disk;
-#[cfg(test)]
-mod fields;
-#[cfg(test)]
-mod list;
-#[cfg(test)]
 mod live;
-#[cfg(test)]
-mod log;

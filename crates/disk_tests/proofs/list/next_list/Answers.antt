@@ -1,8 +1,8 @@
 use Rattle.std.proofs.Common.{ℕ, List, [], ◌∷◌, ◌++◌, ◌∙◌, ap}
-use Rattle.store_tests.proofs.TestedLists.{with_these, later_segment, only_block, next_list_rules}
+use Rattle.disk_tests.proofs.TestedLists.{with_these, later_segment, only_block, next_list_rules}
 use Rattle.block_list.specs.declared.body.SegmentRef.{SegmentRef}
 use Rattle.block_list.specs.declared.body.BlockRef.{BlockRef}
-use Rattle.store_tests.proofs.list.next_list.Goals as goal
+use Rattle.disk_tests.proofs.list.next_list.Goals as goal
 
 pub returns-clause-rules : goal.returns-clause-rules
 returns-clause-rules c =

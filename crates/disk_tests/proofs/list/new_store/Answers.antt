@@ -1,7 +1,7 @@
 use Rattle.std.proofs.Common.{List, [], ◌∷◌, ◌++◌, ◌∙◌, ap}
-use Rattle.store_tests.proofs.TestedLists.{with_these, first_segment, new_store_rules}
+use Rattle.disk_tests.proofs.TestedLists.{with_these, first_segment, new_store_rules}
 use Rattle.block_list.specs.declared.body.SegmentRef.{SegmentRef}
-use Rattle.store_tests.proofs.list.new_store.Goals as goal
+use Rattle.disk_tests.proofs.list.new_store.Goals as goal
 
 pub returns-clause-rules : goal.returns-clause-rules
 returns-clause-rules c =
