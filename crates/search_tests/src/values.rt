@@ -8,7 +8,7 @@ use std::test::Fail;
 use traceql_syntax::{Field, FieldExpr, Stage};
 use traceql_tokens::Intrinsic;
 use traceql_types::Checked;
-use traceql_value::{Ratio, EvalContext, Matchers, Value, Values, field_value};
+use traceql_value::{EvalContext, Matchers, Ratio, Value, Values, field_value};
 
 /// Five spans of one trace. The first has no parent, and neither have the second and the third, which begin before it and
 /// together; of these two the third has the lesser id. The fourth's parent is missing, and it ends before it begins. The

@@ -2,8 +2,8 @@
 #![tactic(auto)]
 
 mod amounts;
-mod groups;
 mod filter;
+mod groups;
 mod marks;
 mod outcome;
 mod parts;

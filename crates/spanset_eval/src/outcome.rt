@@ -71,7 +71,12 @@ fn fields_of(
 }
 
 // A span as it is shown.
-fn hit(alloc: Global, context: &EvalContext<'_, '_>, stages: &[Stage], span: &Span) -> Result<Hit, Memory>
+fn hit(
+    alloc: Global,
+    context: &EvalContext<'_, '_>,
+    stages: &[Stage],
+    span: &Span,
+) -> Result<Hit, Memory>
     ensures { IfOk result (λ hit. hit ≡ hit_of (selected_fields (map stage_tree stages.now)) (context_rows context.now) span.now) }
 {
     let fields = fields_of(alloc, context, stages, span)?;

@@ -32,7 +32,13 @@ fn keep(
 {
     let mut kept = Vec::with_capacity(alloc, groups.len())?;
     for group in groups {
-        let members = look::kept_members(alloc, context, rows, condition, group.members.as_slice())?;
+        let members = look::kept_members(
+            alloc,
+            context,
+            rows,
+            condition,
+            group.members.as_slice(),
+        )?;
         kept.push(Group {
             by: group.by,
             members,

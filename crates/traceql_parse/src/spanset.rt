@@ -9,7 +9,9 @@ ghost use Rattle.traceql_parse.specs.Descent.{braces, condition, part, set_item,
 ghost use Rattle.traceql_parse.specs.Reading.{Gives};
 
 use crate::field::read_level;
-use crate::lookahead::{Delimiter, begins_with, first_set_op, refused, set_goes_on, take_delimiter};
+use crate::lookahead::{
+    Delimiter, begins_with, first_set_op, refused, set_goes_on, take_delimiter,
+};
 use crate::stop::{Cause, Stop};
 use std::alloc::{AllocError, Global};
 use std::boxed::Box;

@@ -5,8 +5,8 @@
 #![tactic(auto)]
 
 mod expr;
-mod printing;
 mod printer;
+mod printing;
 mod signs;
 mod stage;
 mod string;

@@ -8,8 +8,8 @@ ghost use Rattle.traceql_value.specs.Spans.{field_of_span, root_name, root_servi
 
 use crate::Value;
 use crate::evaluate::look;
-use crate::operators::is_true;
 use crate::matchers::Matchers;
+use crate::operators::is_true;
 use crate::trace::{Trace, field};
 use span_types::{Memory, Row, Rows, Span};
 use std::alloc::Global;

@@ -6,10 +6,10 @@ ghost use Rattle.traceql_value.specs.Meaning.{literal_value, is_literal_nil, val
 ghost use Rattle.traceql_value.specs.ValueRef.{seen_value};
 
 use crate::fields::whole_number;
-use crate::operators::{applied, decided, turned};
 use crate::matchers::Matchers;
-use crate::value_ref::ValueRef;
+use crate::operators::{applied, decided, turned};
 use crate::trace::{Trace, field};
+use crate::value_ref::ValueRef;
 use span_types::{Memory, Span};
 use std::alloc::Global;
 use traceql_syntax::{FieldExpr, Literal};

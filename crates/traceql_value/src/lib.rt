@@ -5,23 +5,23 @@
 //! [`Matchers`] are made once for a query, and go from one trace's context to the next one's.
 #![tactic(auto)]
 
+mod context;
 mod divisor;
+mod evaluate;
 mod fields;
 mod laws;
-mod evaluate;
+mod matchers;
 mod operators;
 mod order;
 mod power;
 mod ratio;
-mod context;
-mod matchers;
-mod value_ref;
 mod trace;
 mod value;
+mod value_ref;
 mod whole;
 
-pub use laws::{one_ratio, strings_are_answered, values_in_order, whole_without_division};
-pub use ratio::Ratio;
 pub use context::{EvalContext, field_value};
+pub use laws::{one_ratio, strings_are_answered, values_in_order, whole_without_division};
 pub use matchers::Matchers;
+pub use ratio::Ratio;
 pub use value::{Value, Values};

@@ -66,7 +66,11 @@ impl<'a> Matchers<'a> {
         match value {
             ValueRef::Text(text) => self.matches(string, negated, text),
             ValueRef::Made(text) => self.matches(string, negated, text.as_str()),
-            ValueRef::Nil | ValueRef::Truth(_) | ValueRef::Number(_) | ValueRef::Status(_) | ValueRef::Kind(_) => false,
+            ValueRef::Nil
+            | ValueRef::Truth(_)
+            | ValueRef::Number(_)
+            | ValueRef::Status(_)
+            | ValueRef::Kind(_) => false,
         }
     }
 }
