@@ -7,11 +7,10 @@ use Rattle.disk_model.specs.Crash.{OnlyBytes, Run}
 use Rattle.disk_model.proofs.Runs.{run_more}
 use Rattle.block_list.specs.Body.{text_of}
 use Rattle.block_list.specs.Slots.{IsVacant, SlotHolds, SlotsHold}
-use Rattle.block_list.specs.Slots.SlotsHold.{none, alone, other_alone, newer, other_newer}
 use Rattle.block_list.specs.Loading.{StaysOrClears, KeepsList}
 use Rattle.block_list.specs.Reading.{is_vacant}
 use Rattle.block_list.proofs.BodyLemmas.{length-text}
-use Rattle.block_list.proofs.SlotLemmas.{zero_or_one, seen_from, seen_back}
+use Rattle.block_list.proofs.SlotLemmas.{zero_or_one, seen_from, seen_back, slot_may_change}
 use Rattle.block_list.specs.declared.body.ListBody.{ListBody}
 
 -- a slot that holds a list isn't vacant
@@ -22,11 +21,8 @@ holds_not_vacant slot bytes body holds (inr closed) = closed (ap (λ (l : List �
 
 -- a vacant slot may be any other vacant one
 pub still_vacant : (slot : ℕ) (bytes others new : List ℕ) (found : Option ListBody) → SlotsHold slot bytes others found → IsVacant bytes → IsVacant new → SlotsHold slot new others found
-still_vacant slot bytes others new found (none here there is) vacant gone = none gone there is
-still_vacant slot bytes others new found (alone body here there is) vacant gone = absurd (holds_not_vacant slot bytes body here vacant)
-still_vacant slot bytes others new found (other_alone body here there is) vacant gone = other_alone body gone there is
-still_vacant slot bytes others new found (newer body older here there follows is) vacant gone = absurd (holds_not_vacant slot bytes body here vacant)
-still_vacant slot bytes others new found (other_newer body older here there follows is) vacant gone = absurd (holds_not_vacant slot bytes older here vacant)
+still_vacant slot bytes others new found stands vacant gone =
+    slot_may_change slot bytes others new found (λ body here _. holds_not_vacant slot bytes body here vacant) (λ _. gone) (λ _ _. inr gone) stands
 
 -- a vacant slot stays vacant while it is cut to its first byte
 pub cut_stays_vacant : (bytes new : List ℕ) → IsVacant bytes → HalfCut 1 bytes new → IsVacant new

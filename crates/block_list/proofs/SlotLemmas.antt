@@ -1,5 +1,5 @@
 -- What two slots stand for while one of them is written.
-use Rattle.std.proofs.Common.{◌≡◌, ◌⊎◌, inl, inr, ⊎_elim, ℕ, ◌-◌, ◌%◌, ◌<◌, Option, Some, List, [], ◌∷◌, ◌++◌, length, get_or, refl, sym, ◌∙◌, ap, subst, arith}
+use Rattle.std.proofs.Common.{◌≡◌, ◌≢◌, ◌⊎◌, inl, inr, ⊎_elim, ℕ, ◌-◌, ◌%◌, ◌<◌, Option, Some, List, [], ◌∷◌, ◌++◌, length, get_or, refl, sym, ◌∙◌, ap, subst, arith}
 use Rattle.std.proofs.lemmas.Bool.{cases_eq}
 use Rattle.disk_model.specs.Images.{Image, bytes_of}
 use Rattle.disk_model.specs.Bytes.{Torn}
@@ -46,17 +46,28 @@ parity_differs slot old here there = omega arith
 pub same_some : (a b : ListBody) → Some a ≡ Some b → a ≡ b
 same_some a b is = cc
 
+-- While this slot doesn't hold the list that counts, it may change to a slot that holds what it held, or to a vacant one.
+pub slot_may_change : (slot : ℕ) (bytes others new : List ℕ) (list : Option ListBody) → ((body : ListBody) → SlotHolds slot bytes body → list ≢ Some body)
+    → (IsVacant bytes → IsVacant new) → ((body : ListBody) → SlotHolds slot bytes body → SlotHolds slot new body ⊎ IsVacant new)
+    → SlotsHold slot bytes others list → SlotsHold slot new others list
+slot_may_change slot bytes others new list elsewhere vacant held (none here there is) = none (vacant here) there is
+slot_may_change slot bytes others new list elsewhere vacant held (alone body here there is) = absurd (elsewhere body here is)
+slot_may_change slot bytes others new list elsewhere vacant held (other_alone body here there is) = other_alone body (vacant here) there is
+slot_may_change slot bytes others new list elsewhere vacant held (newer body older here there follows is) = absurd (elsewhere body here is)
+slot_may_change slot bytes others new list elsewhere vacant held (other_newer body older here there follows is) =
+    ⊎_elim (λ still. other_newer body older still there follows is) (λ gone. other_alone body gone there is) (held older here)
+
+-- the slot of the next generation doesn't hold the list that counts
+counts_elsewhere : (slot generation : ℕ) (bytes : List ℕ) (list : Option ListBody) → generation % 2 ≡ slot → IsNext generation list
+    → (body : ListBody) → SlotHolds slot bytes body → list ≢ Some body
+counts_elsewhere slot generation bytes list parity next body here is =
+    let after : generation ≡ successor body.generation = subst (λ (l : Option ListBody). IsNext generation l) is next in
+    parity_differs slot body.generation (sym here.parity) (sym parity ∙ ap (λ (n : ℕ). n % 2) after)
+
 -- While the list that counts stands in the other slot, this one may become vacant.
 pub vacated : (slot generation : ℕ) (bytes others new : List ℕ) (list : Option ListBody) → generation % 2 ≡ slot → IsNext generation list → SlotsHold slot bytes others list → IsVacant new → SlotsHold slot new others list
-vacated slot generation bytes others new list parity next (none here there is) gone = none gone there is
-vacated slot generation bytes others new list parity next (alone body here there is) gone =
-    let after : generation ≡ successor body.generation = subst (λ (l : Option ListBody). IsNext generation l) is next in
-    absurd (parity_differs slot body.generation (sym here.parity) (sym parity ∙ ap (λ (n : ℕ). n % 2) after))
-vacated slot generation bytes others new list parity next (other_alone body here there is) gone = other_alone body gone there is
-vacated slot generation bytes others new list parity next (newer body older here there follows is) gone =
-    let after : generation ≡ successor body.generation = subst (λ (l : Option ListBody). IsNext generation l) is next in
-    absurd (parity_differs slot body.generation (sym here.parity) (sym parity ∙ ap (λ (n : ℕ). n % 2) after))
-vacated slot generation bytes others new list parity next (other_newer body older here there follows is) gone = other_alone body gone there is
+vacated slot generation bytes others new list parity next stands gone =
+    slot_may_change slot bytes others new list (counts_elsewhere slot generation bytes list parity next) (λ _. gone) (λ _ _. inr gone) stands
 
 -- a slot whose first byte is torn, and which held a list
 torn_gate : (slot : ℕ) (bytes new : List ℕ) (body : ListBody) → SlotHolds slot bytes body → Torn 0 1 bytes new → SlotHolds slot new body ⊎ IsVacant new
@@ -71,23 +82,14 @@ torn_gate slot bytes new body holds torn =
 
 -- closing the gate, at every moment
 pub closing : (slot generation : ℕ) (bytes others new : List ℕ) (list : Option ListBody) → generation % 2 ≡ slot → IsNext generation list → IsOpen bytes ⊎ (length bytes < 30) → SlotsHold slot bytes others list → Torn 0 1 bytes new → SlotsHold slot new others list
-closing slot generation bytes others new list parity next free stands torn = by stands
+closing slot generation bytes others new list parity next free stands torn =
+    slot_may_change slot bytes others new list (counts_elsewhere slot generation bytes list parity next) gone (λ body here. torn_gate slot bytes new body here torn) stands
   where
     short : length bytes < 30 → IsVacant new
     short few = inl (omega (arith, torn.no_longer))
 
     gone : IsVacant bytes → IsVacant new
     gone vacant = ⊎_elim (λ is_open. ⊎_elim short (λ closed. absurd (closed is_open)) vacant) short free
-
-    by : SlotsHold slot bytes others list → SlotsHold slot new others list
-    by (none here there is) = vacated slot generation bytes others new list parity next (none here there is) (gone here)
-    by (alone body here there is) = absurd (parity_differs slot body.generation (sym here.parity) (sym parity ∙ ap (λ (n : ℕ). n % 2) (subst (λ (l : Option ListBody). IsNext generation l) is next)))
-    by (other_alone body here there is) = vacated slot generation bytes others new list parity next (other_alone body here there is) (gone here)
-    by (newer body older here there follows is) = absurd (parity_differs slot body.generation (sym here.parity) (sym parity ∙ ap (λ (n : ℕ). n % 2) (subst (λ (l : Option ListBody). IsNext generation l) is next)))
-    by (other_newer body older here there follows is) =
-        ⊎_elim (λ still. other_newer body older still there follows is)
-        (λ vacant. vacated slot generation bytes others new list parity next (other_newer body older here there follows is) vacant)
-        (torn_gate slot bytes new older here torn)
 
 -- a slot whose first byte is 0 is vacant
 pub closed_is_vacant : (bytes rest : List ℕ) → bytes ≡ 0 ∷ rest → IsVacant bytes
