@@ -14,7 +14,7 @@ use Rattle.session_text.specs.declared.request.Request.{Request}
 use Rattle.session_text.specs.declared.request.Request.TheVariants.{Push, Trace, Search}
 use Rattle.session_text.specs.Lines.{first_part, other_parts}
 use Rattle.session_text.specs.Options.{SearchLine, search_parts}
-use Rattle.session_text.specs.Matchers.{Matchers}
+use Rattle.session_text.specs.Searches.{Matchers}
 
 -- Why what is pushed gives nothing.
 abbrev pub refusal_of : otlp.Refusal → Refusal

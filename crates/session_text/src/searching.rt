@@ -3,7 +3,7 @@
 ghost use Rattle.std.specs.Prelude.{◌≡◌, ◌≤◌, IfOk, IfErr};
 ghost use Rattle.span_types.specs.Faults.{Rose};
 ghost use Rattle.traceql_syntax.specs.Trees.{query_tree};
-ghost use Rattle.session_text.specs.Matchers.{DoesNotFit, IsNoQuery, IsQuery, Matchers, of_check, of_parse};
+ghost use Rattle.session_text.specs.Searches.{DoesNotFit, IsNoQuery, IsQuery, Matchers, of_check, of_parse};
 ghost use Rattle.session_text.specs.Parsed.{parts_parsed};
 
 use crate::options::SearchLine;
