@@ -1,5 +1,5 @@
 -- The count of steps is of the new ledger.
-use Rattle.spanset_eval.proofs.outcome.selected.Given as goal
+use Rattle.spanset_eval.proofs.outcome.select_positions.Given as goal
 
-abbrev pub ghosts-counted : goal.ghosts-counted
-ghosts-counted a = record { name = a.blank.name; parts = a.blank.parts }
+abbrev pub ghosts-select_stepping : goal.ghosts-select_stepping
+ghosts-select_stepping a = record { name = a.blank.name; parts = a.blank.parts }

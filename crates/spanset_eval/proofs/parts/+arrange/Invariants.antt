@@ -1,6 +1,6 @@
 -- Each half is shorter.
 use Rattle.std.proofs.Common.{length}
-use Rattle.spanset_eval.proofs.parts.+arranged.Given as goal
+use Rattle.spanset_eval.proofs.parts.+arrange.Given as goal
 
-abbrev pub decreases-arranged : goal.decreases-arranged
-decreases-arranged l = length l.valued.now
+abbrev pub decreases-arrange : goal.decreases-arrange
+decreases-arrange l = length l.valued.now

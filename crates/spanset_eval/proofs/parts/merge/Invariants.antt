@@ -1,7 +1,7 @@
 -- What was taken and what is ahead is all, in order.
 use Rattle.std.proofs.Common.{◌≡◌, ◌+◌, ◌++◌, reverse}
 use Rattle.spanset_eval.specs.Parts.{put_all, Ascend}
-use Rattle.spanset_eval.proofs.parts.merged.Given as goal
+use Rattle.spanset_eval.proofs.parts.merge.Given as goal
 
 abbrev pub invariant-loop-merged : goal.invariant-loop-merged
 invariant-loop-merged l =
