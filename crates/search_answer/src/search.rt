@@ -55,33 +55,33 @@ fn results_of(
     let mut rest = rows;
     while !rest.is_empty() {
         let (part, later) = rest.split_at(trace_len(rest));
-        matchers = add_result(alloc, checked, matchers, range, most, part, &mut all)?;
+        add_result(alloc, checked, &mut matchers, range, most, part, &mut all)?;
         rest = later;
     }
     Ok(all)
 }
 
-// Adds the result of a trace, where it is in the range and the query answers something of it. Gives the matchers back.
-fn add_result<'q>(
+// Adds the result of a trace, where it is in the range and the query answers something of it. The matchers are lent.
+fn add_result(
     alloc: Global,
     checked: &Checked,
-    matchers: Matchers<'q>,
+    matchers: &mut Matchers<'_>,
     range: Range,
     most: usize,
     part: &[Row],
     all: &mut Vec<TraceResult>,
-) -> Result<Matchers<'q>, Memory>
+) -> Result<(), Memory>
     requires one { IsOneTrace part.now }
-    requires patterns { matchers_patterns matchers ≡ checked.now.patterns }
+    requires patterns { matchers_patterns matchers.old ≡ checked.now.patterns }
     ensures added { OnOk result (AddsOf checked.now.patterns (query_tree checked.now.query) range most part.now all.old.items all.new.items) }
-    ensures matchers { IfOk result (λ s. matchers_patterns s ≡ checked.now.patterns) }
+    ensures matchers { matchers_patterns matchers.new ≡ matchers_patterns matchers.old }
 {
     if !starts_in(range, part) {
-        return Ok(matchers);
+        return Ok(());
     }
-    let (found, matchers) = evaluate_rows(alloc, checked, matchers, part, most)?;
+    let found = evaluate_rows(alloc, checked, matchers, part, most)?;
     extend(all, found)?;
-    Ok(matchers)
+    Ok(())
 }
 
 // Adds a result at the end, if there is one.

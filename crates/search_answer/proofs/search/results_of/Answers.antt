@@ -26,8 +26,8 @@ loop-rest-preserved c =
       so_far = walked c.args.checked.now.patterns (query_tree c.args.checked.now.query) c.args.range c.args.most c.args.rows.now c.loop-rest.rest.now c.split_at.result.0.now c.split_at.result.1.now
           c.trace_len.result c.loop-rest.all.items c.add_result.new.all.items
           (cut_front c.loop-rest.rest.now c.trace_len.result some c.trace_len.ensures.some c.trace_len.ensures.front c.loop-rest.invariant.sorted)
-          c.split_at.ensures.front c.split_at.ensures.back c.in_ok-matchers-2.ensures.added c.loop-rest.invariant.so_far;
-      patterns = c.in_ok-matchers-2.ensures.matchers;
+          c.split_at.ensures.front c.split_at.ensures.back c.in_ok-add_result.ensures.added c.loop-rest.invariant.so_far;
+      patterns = c.add_result.ensures.matchers ∙ c.loop-rest.invariant.patterns;
       sorted = subst IsSorted (sym c.split_at.ensures.back) (sorted_later c.loop-rest.rest.now c.trace_len.result c.loop-rest.invariant.sorted);
     }
 
