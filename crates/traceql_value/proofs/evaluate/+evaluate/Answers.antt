@@ -20,11 +20,10 @@ evaluate_chain-evaluate-requires t c =
 
 pub evaluate_chain-finish-requires : goal.evaluate_chain-finish-requires
 evaluate_chain-finish-requires t c =
-    let whole = tree c.args.expr.now in
-    (
+    let whole = tree c.args.expr.now in (
       smaller (tree_size (tree c.in-Some.outer.right.now)) (tree_size whole) t
-      (along_smaller c.args.matchers.now.patterns.now c.args.trace.now.rows.now c.args.span.now whole c.in-Some.outer
-      c.up.pending.items c.pop.new.self.items (ref_value c.up.value) c.in-Some.ensures.items c.up.invariant.so_far) c.decreases,
+          (along_smaller c.args.matchers.now.patterns.now c.args.trace.now.rows.now c.args.span.now whole c.in-Some.outer
+          c.up.pending.items c.pop.new.self.items (ref_value c.up.value) c.in-Some.ensures.items c.up.invariant.so_far) c.decreases,
       tt,
     )
 
