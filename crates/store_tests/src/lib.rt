@@ -11,3 +11,5 @@ mod list;
 mod live;
 #[cfg(test)]
 mod log;
+#[cfg(test)]
+mod upkeep;
