@@ -172,8 +172,8 @@ fn threshold(
 {
     match threshold {
         Threshold::Aggregate(other) => aggregate(alloc, context, rows, other, members),
-        Threshold::Number { negative, value } => Ok(Some(whole(signed(*negative, *value)))),
-        Threshold::Duration { negative, nanos } => Ok(Some(whole(signed(*negative, *nanos)))),
+        Threshold::Number { negative, value, .. } => Ok(Some(whole(signed(*negative, *value)))),
+        Threshold::Duration { negative, nanos, .. } => Ok(Some(whole(signed(*negative, *nanos)))),
     }
 }
 
