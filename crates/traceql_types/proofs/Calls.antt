@@ -206,9 +206,9 @@ called-step ms own m first now made more before calls are (too_big none why) cal
     led-refused ms m first made before (PatternTooBig m.0) (Err make.Refused) refl (refl, refl) are none called
 
 -- before the first pattern
-pub called-start : (kinds : Option TypeError) → IfSome kinds IsOfKinds → Called [] kinds [] []
-called-start None fine = refl
-called-start (Some e) fine = λ asc. record {
+pub called-start : (kinds : Option TypeError) (made : List Pattern) → made ≡ [] → IfSome kinds IsOfKinds → Called [] kinds made []
+called-start None made is fine = rw is refl
+called-start (Some e) made is fine = λ asc. record {
   front = [];
   rest = [];
   patterns_are = refl;

@@ -27,17 +27,18 @@ Rises (t ∷ ts) = AllByRecursion (λ (u : Token). t.at < u.at) ts × Rises ts
 
 rises : (at : ℕ) (text : List ℕ) (ts : List Token) → AreTokens at text ts → AllByRecursion (λ (t : Token). at ≤ t.at) ts × Rises ts
 rises at text [] h = (tt, tt)
-rises at text (t ∷ ts) h = by_step (steps at text t ts h)
+rises at text (t ∷ ts) h = by_step (λ next later more. rises next later ts more) (steps at text t ts h)
   where
-    by_step : Step at text t ts → AllByRecursion (λ (u : Token). at ≤ u.at) (t ∷ ts) × Rises (t ∷ ts)
-    by_step (goes r found here kind more) =
-        let ahead = rises (at + blanks_of text + r.1) (drop r.1 (left_of text)) ts more in
+    by_step : ((next : ℕ) (later : List ℕ) → AreTokens next later ts → AllByRecursion (λ (u : Token). next ≤ u.at) ts × Rises ts)
+        → Step at text t ts → AllByRecursion (λ (u : Token). at ≤ u.at) (t ∷ ts) × Rises (t ∷ ts)
+    by_step rest (goes r found here kind more) =
+        let ahead = rest (at + blanks_of text + r.1) (drop r.1 (left_of text)) more in
         let some : 0 < r.1 = (token_sound (at + blanks_of text) (left_of text) r found).some in
         let far = λ (P : Token → Type 0) (w : (u : Token) → at + blanks_of text + r.1 ≤ u.at → P u). all-weaker (λ (u : Token). at + blanks_of text + r.1 ≤ u.at) P w ts ahead.0 in (
           (omega (arith, here), far (λ u. at ≤ u.at) (λ u low. omega (arith, low))),
           (far (λ u. t.at < u.at) (λ u low. omega (arith, low, here, some)), ahead.1),
         )
-    by_step (stops none more here kind end) = subst (λ us. AllByRecursion (λ (u : Token). at ≤ u.at) (t ∷ us) × Rises (t ∷ us)) (sym end) ((omega (arith, here), tt), (tt, tt))
+    by_step rest (stops none more here kind end) = subst (λ us. AllByRecursion (λ (u : Token). at ≤ u.at) (t ∷ us) × Rises (t ∷ us)) (sym end) ((omega (arith, here), tt), (tt, tt))
 
 -- Patterns that stand among tokens, in their order.
 data Among : List PlacedText → List Token → Type 0 where

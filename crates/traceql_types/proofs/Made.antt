@@ -137,9 +137,9 @@ stands-refused kinds done rose risen m first made against why =
     (refused m (last-contained done m) refl why)
 
 -- before the first pattern
-pub stands-start : (kinds : Option TypeError) (rose : List ℕ → Type 0) → Stands kinds [] rose kinds []
-stands-start None rose = (refl, refl)
-stands-start (Some e) rose = record {
+pub stands-start : (kinds : Option TypeError) (rose : List ℕ → Type 0) (made : List Pattern) → made ≡ [] → Stands kinds [] rose kinds made
+stands-start None rose made is = (refl, rw is refl)
+stands-start (Some e) rose made is = record {
   cause = of_kinds refl;
   first = precedes_self e;
   after_made = All-nil (λ n. n.0 < place e → IsMade n.1);
@@ -167,6 +167,11 @@ cause_of_kinds q rose (NotNumber at) of h = h
 cause_of_kinds q rose (BadPattern at) of h = absurd of
 cause_of_kinds q rose (PatternTooBig at) of h = absurd of
 cause_of_kinds q rose Memory of h = tt
+
+-- the refusal for kinds that goes first is one for kinds
+pub first_is_of_kinds : (q : QueryTree) (kinds : Option TypeError) → IsFirstOf (kind_refusals q) kinds → IfSome kinds IsOfKinds
+first_is_of_kinds q None first = tt
+first_is_of_kinds q (Some e) first = All-contains IsOfKinds (kind_refusals q) e (kinds_fine q) first.among
 
 pub cause-at_end : (q : QueryTree) (kinds : Option TypeError) (rose : List ℕ → Type 0) (e : TypeError) →
     IsFirstOf (kind_refusals q) kinds → IsFound kinds (asked_patterns q) rose e → HasCause q rose e

@@ -1,4 +1,5 @@
 use Rattle.std.proofs.Common.{◌≡◌, ◌∙◌, true, [], ◌∷◌, Ok, Err, refl, subst}
+use Rattle.std.proofs.lemmas.Result.{err_from_is_err_and}
 use Rattle.traceql_types.specs.declared.errors.MakeError.TheVariants as make
 use Rattle.traceql_types.specs.Shown.{shown}
 use Rattle.traceql_types.specs.Steps.{passed, done, bad, too_big}
@@ -34,3 +35,14 @@ returns-in-Err-Refused-clause-step g c =
       (c.make.new.self, call, refl),
       too_big (λ h. (let e : c.goes_before.result ≡ true = c.goes_before.ensures.1 h in cc)) (c.in-Err-Refused.ensures.refused (rw c.in-Err-Refused.field-0-is refl)),
     )
+
+pub returns-in_err-push-in-Ok-clause-step : goal.returns-in_err-push-in-Ok-clause-step
+returns-in_err-push-in-Ok-clause-step g c =
+    let p = err_from_is_err_and c.from_residual.result c.from_residual.ensures.1 in (
+      (c.as_str.result.now, c.make.result) ∷ [],
+      (c.make.new.self, c.make.ensures.call, refl),
+      rw p.1 tt,
+    )
+
+pub returns-in-Err-Memory-clause-step : goal.returns-in-Err-Memory-clause-step
+returns-in-Err-Memory-clause-step g c = ((c.as_str.result.now, c.make.result) ∷ [], (c.make.new.self, c.make.ensures.call, refl), tt)
