@@ -7,6 +7,7 @@ use std::test::Fail;
 use traceql_parse::parse;
 use traceql_types::{
     PatternMaker, Patterns, RegexMaker, ScriptedMaker, TypeError, check, checked_crosses,
+    patterns_in_order,
 };
 
 fn refusal(out: &mut String, error: TypeError) -> Result<(), AllocError> {
@@ -212,6 +213,7 @@ fn queries_are_checked_as_worked_out(rt: HostRuntime) -> Result<(), Fail> {
     check_rows(&rt, STAGES)?;
     check_rows(&rt, SEVERAL)?;
     checked_crosses();
+    patterns_in_order();
     Ok(())
 }
 

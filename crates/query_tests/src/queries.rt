@@ -1,12 +1,12 @@
 //! Texts, and the printed form of the query that each is read as, or its refusal and the offset: worked out by hand.
 
-use span_types::{MOST_QUERY_BYTES, Text};
+use span_types::{MOST_QUERY_BYTES, SpanKind, StatusCode, Text};
 use std::alloc::{AllocError, Global};
 use std::process::Abort;
 use std::test::Fail;
-use traceql_parse::{ParseError, one_query, parse};
-use traceql_print::{print_field, print_query, printed_once};
-use traceql_syntax::Field;
+use traceql_parse::{ParseError, depth_is_nesting, one_query, parse};
+use traceql_print::{kind_word, print_field, print_query, printed_once, read_back, status_word};
+use traceql_syntax::{Field, Query, Stage, Threshold};
 use traceql_tokens::{AttributeScope, Intrinsic};
 
 /// Field expressions.
@@ -449,7 +449,8 @@ fn check_rows(rt: &(impl Abort + AllocGlobal), rows: &str) -> Result<(), Fail> {
             let got = outcome(rt.alloc(), text)?;
             assert!(rt; got.as_str() == wanted, "{text} gives {}", got.as_str());
             if let Ok(query) = parse(rt.alloc(), wanted) {
-                let again = print_query(rt.alloc(), &query)?;
+                let read = read_back(rt.alloc(), &query)?;
+                let again = print_query(rt.alloc(), &read)?;
                 assert!(rt; again.as_str() == wanted, "{wanted}");
             }
         }
@@ -464,6 +465,38 @@ fn texts_are_read_and_printed_as_worked_out(rt: HostRuntime) -> Result<(), Fail>
     }
     one_query();
     printed_once();
+    depth_is_nesting();
+    Ok(())
+}
+
+/// The offset of the number or duration that the first stage of a query compares with, and whether it is negative.
+fn threshold_of(query: &Query) -> Option<(u64, bool)> {
+    match query.stages.as_slice().first() {
+        Some(
+            Stage::Compare {
+                right: Threshold::Number { at, negative, .. }
+                | Threshold::Duration { at, negative, .. },
+                ..
+            },
+        ) => Some((*at, *negative)),
+        _ => None,
+    }
+}
+
+/// Texts, and what `threshold_of` gives.
+const THRESHOLDS: [(&str, Option<(u64, bool)>); 4] = [
+    ("{ } | count() > 12", Some((16, false))),
+    ("{ } | count() > - 12", Some((18, true))),
+    ("{ }|avg(duration)>=-5ms", Some((20, true))),
+    ("{ } | count() > count()", None),
+];
+
+#[test]
+fn thresholds_keep_their_offsets(rt: HostRuntime) -> Result<(), Fail> {
+    for (text, wanted) in THRESHOLDS {
+        let query = parse(rt.alloc(), text)?;
+        assert!(&rt; threshold_of(&query) == wanted, "{text}");
+    }
     Ok(())
 }
 
@@ -511,5 +544,7 @@ fn fields_are_printed_as_worked_out(rt: HostRuntime) -> Result<(), Fail> {
     assert!(rt; quoted.as_str() == "resource.\"http status\"");
     let intrinsic = print_field(rt.alloc(), &Field::Intrinsic(Intrinsic::SpanParentId))?;
     assert!(rt; intrinsic.as_str() == "span:parentID");
+    assert!(rt; status_word(StatusCode::Fine).text() == "ok");
+    assert!(rt; kind_word(SpanKind::Consumer).text() == "consumer");
     Ok(())
 }

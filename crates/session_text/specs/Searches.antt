@@ -63,7 +63,7 @@ pub record DoesNotFit (text : List ℕ) (rose : Type 0) (e : Refusal) : Type 0 w
   pub query : IsQuery text tree
   pub why : TypeError
   pub is : e ≡ of_check why
-  pub cause : HasCause tree rose why
+  pub cause : HasCause tree (λ text. rose) why
   pub first : GoesFirst tree why
   pub after_made : ComesAfterMade tree why
 

@@ -9,7 +9,7 @@ use Rattle.traceql_syntax.specs.declared.field.Comparison.{Comparison}
 use Rattle.traceql_syntax.specs.declared.field.Field.{Field}
 use Rattle.traceql_syntax.specs.declared.query.AggregateOp.{AggregateOp}
 use Rattle.traceql_syntax.specs.declared.query.AggregateOp.TheVariants as aggregate
-use Rattle.traceql_syntax.specs.Trees.{Placed, Tree, AggregateTree, Count, Of, ThresholdTree, Whole, Number, Duration, StageTree, Keep, By, Coalesce, Select, Compare}
+use Rattle.traceql_syntax.specs.Trees.{Placed, Tree, AggregateTree, Count, Of, ThresholdTree, Aggregate, Number, Duration, StageTree, Keep, By, Coalesce, Select, Compare}
 use Rattle.traceql_types.specs.declared.pattern.Pattern.{Pattern}
 use Rattle.traceql_value.specs.declared.value.Value.{Value}
 use Rattle.traceql_value.specs.declared.value.Value.TheVariants as value
@@ -103,9 +103,9 @@ signed true n = neg_ℤ (pos n)
 signed false n = pos n
 
 abbrev pub threshold_of : List Pattern → List Row → ThresholdTree → List ℕ → Option Amount
-threshold_of ps rows (Whole a) members = aggregate_of ps rows a members
-threshold_of ps rows (Number negative n) members = Some (record { top = signed negative n; bottom = 1 })
-threshold_of ps rows (Duration negative n) members = Some (record { top = signed negative n; bottom = 1 })
+threshold_of ps rows (Aggregate a) members = aggregate_of ps rows a members
+threshold_of ps rows (Number at negative n) members = Some (record { top = signed negative n; bottom = 1 })
+threshold_of ps rows (Duration at negative n) members = Some (record { top = signed negative n; bottom = 1 })
 
 -- which of two amounts is less, exactly
 abbrev pub amount_cmp : Amount → Amount → Ordering

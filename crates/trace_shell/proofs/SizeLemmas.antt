@@ -82,7 +82,7 @@ parse_small (parse.TooLong n) = refl
 parse_small (parse.TooDeep at) = refl
 parse_small parse.Memory = refl
 
-check_rose : (tree : QueryTree) (rose : Type 0) (e : TypeError) → is_size (of_check e) ≡ true → HasCause tree rose e → rose
+check_rose : (tree : QueryTree) (rose : Type 0) (e : TypeError) → is_size (of_check e) ≡ true → HasCause tree (λ text. rose) e → rose
 check_rose tree rose (type.KindClash at) h c = absurd (true_false (sym h))
 check_rose tree rose (type.NotTruth at) h c = absurd (true_false (sym h))
 check_rose tree rose (type.DivisionInAggregate at) h c = absurd (true_false (sym h))

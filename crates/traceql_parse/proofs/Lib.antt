@@ -20,3 +20,4 @@ pub mod QueryLaws
 pub mod StageLoops
 pub mod Parsing
 pub mod Promises
+pub mod Nesting

@@ -15,7 +15,7 @@ use Rattle.traceql_syntax.specs.declared.field.Field.TheVariants as field_kind
 use Rattle.traceql_tokens.specs.declared.fixed.Word.{Word}
 use Rattle.traceql_tokens.specs.declared.fixed.Word.TheVariants as word
 use Rattle.traceql_tokens.specs.declared.fixed.Intrinsic.TheVariants as intrinsic
-use Rattle.traceql_syntax.specs.Trees.{Placed, AggregateTree, ThresholdTree, Whole, Number, StageTree, Keep, By, Coalesce, Select, Compare}
+use Rattle.traceql_syntax.specs.Trees.{Placed, AggregateTree, ThresholdTree, Aggregate, Number, StageTree, Keep, By, Coalesce, Select, Compare}
 use Rattle.traceql_parse.specs.declared.lookahead.Delimiter.TheVariants as delimiter
 use Rattle.traceql_parse.specs.Descent as read
 use Rattle.traceql_parse.specs.Reading.{next_sign, next_word, delimits, expect, expect_sign, expect_word}
@@ -73,12 +73,12 @@ abbrev pub r_threshold : Reader ThresholdTree
 r_threshold n ts = read.threshold n ts
 
 abbrev pub ThresholdLang : Lang ThresholdTree
-ThresholdLang = Either (Image Whole AggregateOf) SignedLang
+ThresholdLang = Either (Image Aggregate AggregateOf) SignedLang
 
 abbrev pub ThresholdOf : Lang ThresholdTree
 ThresholdOf n x ts = SpellsThreshold (suc n) x ts
 
-pub threshold_is : (n : ℕ) (ts : List Token) → r_threshold n ts ≡ either has_aggregate (mapped Whole r_aggregate) r_signed n ts
+pub threshold_is : (n : ℕ) (ts : List Token) → r_threshold n ts ≡ either has_aggregate (mapped Aggregate r_aggregate) r_signed n ts
 unfolding read.threshold
 threshold_is n ts = refl
 
@@ -86,7 +86,7 @@ recast : (n : ℕ) (a b : ThresholdTree) (ts us : List Token) → b ≡ a → us
 recast n a b ts us e k d = subst (λ (z : ThresholdTree). SpellsThreshold n z us) (sym e) (subst (λ (z : List Token). SpellsThreshold n a z) (sym k) d)
 
 threshold_to : (n : ℕ) (x : ThresholdTree) (ts : List Token) → ThresholdLang n x ts → ThresholdOf n x ts
-threshold_to n x ts (inl i) = recast (suc n) (Whole i.of) x ts ts i.is refl (rule.aggregate i.spelled)
+threshold_to n x ts (inl i) = recast (suc n) (Aggregate i.of) x ts ts i.is refl (rule.aggregate i.spelled)
 threshold_to n x ts (inr (inr o)) = recast (suc n) x x (o.t ∷ []) ts refl o.cut (rule.plain o.t o.is)
 threshold_to n x ts (inr (inl s)) =
     let t = s.left.t in
@@ -108,19 +108,19 @@ threshold_from n x ts (rule.minus at t h) = inr (inl (record {
   right = record { t = t; cut = refl; is = h };
 }))
 
-measure_no_sign : {V : Type 0} (f : Sign → Option V) (negative : Bool) (k : TokenKind) (x : ThresholdTree) → measure_of negative k ≡ Some x → is_some (on_sign f k) ≡ false
-measure_no_sign f negative (token.Mark s) x h = cc
-measure_no_sign f negative _ x h = refl
+measure_no_sign : {V : Type 0} (f : Sign → Option V) (negative : Bool) (at : ℕ) (k : TokenKind) (x : ThresholdTree) → measure_of negative at k ≡ Some x → is_some (on_sign f k) ≡ false
+measure_no_sign f negative at (token.Mark s) x h = cc
+measure_no_sign f negative at _ x h = refl
 
-measure_no_word : {V : Type 0} (f : Word → Option V) (negative : Bool) (k : TokenKind) (x : ThresholdTree) → measure_of negative k ≡ Some x → is_some (on_word f k) ≡ false
-measure_no_word f negative (token.Keyword w) x h = cc
-measure_no_word f negative _ x h = refl
+measure_no_word : {V : Type 0} (f : Word → Option V) (negative : Bool) (at : ℕ) (k : TokenKind) (x : ThresholdTree) → measure_of negative at k ≡ Some x → is_some (on_word f k) ≡ false
+measure_no_word f negative at (token.Keyword w) x h = cc
+measure_no_word f negative at _ x h = refl
 
 measure_first_sign : {V : Type 0} (f : Sign → Option V) (negative : Bool) (n : ℕ) (x : ThresholdTree) (front rest : List Token) → Measure negative n x front → is_some (next_sign f (front ++ rest)) ≡ false
-measure_first_sign f negative n x front rest o = test_is f (front ++ rest) rest o.t false (ap (λ (z : List Token). z ++ rest) o.cut) (measure_no_sign f negative o.t.kind x o.is)
+measure_first_sign f negative n x front rest o = test_is f (front ++ rest) rest o.t false (ap (λ (z : List Token). z ++ rest) o.cut) (measure_no_sign f negative o.t.at o.t.kind x o.is)
 
 signed_first : (n : ℕ) (x : ThresholdTree) (front rest : List Token) → SignedLang n x front → has_aggregate (front ++ rest) ≡ false
-signed_first n x front rest (inr o) = word_test_is read.aggregate_word_of (front ++ rest) rest o.t false (ap (λ (z : List Token). z ++ rest) o.cut) (measure_no_word read.aggregate_word_of false o.t.kind x o.is)
+signed_first n x front rest (inr o) = word_test_is read.aggregate_word_of (front ++ rest) rest o.t false (ap (λ (z : List Token). z ++ rest) o.cut) (measure_no_word read.aggregate_word_of false o.t.at o.t.kind x o.is)
 signed_first n x front rest (inl s) =
     let t = s.left.t in
     let w = delimiter_token delimiter.Minus t s.first s.left.is in
@@ -157,7 +157,7 @@ signed_completes n = same_completes r_signed (either has_minus negated (measure 
     (λ a front rest d s. measure_first_sign (delimits delimiter.Minus) false n a front rest d))
 
 measure_occurs : (negative : Bool) → Occurs (Measure negative)
-measure_occurs negative n = let t : Token = record { at = 0; kind = token.Number 0 } in (Number negative 0, t ∷ [], record { t = t; cut = refl; is = refl })
+measure_occurs negative n = let t : Token = record { at = 0; kind = token.Number 0 } in (Number 0 negative 0, t ∷ [], record { t = t; cut = refl; is = refl })
 
 signed_refuses : (n : ℕ) → IsRefusing r_signed SignedLang n
 signed_refuses n = same_refuses r_signed (either has_minus negated (measure false)) SignedLang signed_is n
@@ -167,24 +167,24 @@ signed_refuses n = same_refuses r_signed (either has_minus negated (measure fals
     (one_refuses (read.measure_at false) n))
 
 pub threshold_keeps : Keeps r_threshold
-threshold_keeps = same_keeps r_threshold (either has_aggregate (mapped Whole r_aggregate) r_signed) ThresholdLang threshold_is
-    (either_keeps has_aggregate (local_word read.aggregate_word_of) (mapped Whole r_aggregate) r_signed (Image Whole AggregateOf) SignedLang (mapped_keeps Whole r_aggregate AggregateOf aggregate_keeps) signed_keeps)
+threshold_keeps = same_keeps r_threshold (either has_aggregate (mapped Aggregate r_aggregate) r_signed) ThresholdLang threshold_is
+    (either_keeps has_aggregate (local_word read.aggregate_word_of) (mapped Aggregate r_aggregate) r_signed (Image Aggregate AggregateOf) SignedLang (mapped_keeps Aggregate r_aggregate AggregateOf aggregate_keeps) signed_keeps)
 
 pub threshold_sound : (n : ℕ) → IsSound r_threshold ThresholdOf n
-threshold_sound n = relabel_sound r_threshold ThresholdLang ThresholdOf threshold_to n (same_sound r_threshold (either has_aggregate (mapped Whole r_aggregate) r_signed) ThresholdLang threshold_is n
-    (either_sound has_aggregate (local_word read.aggregate_word_of) (mapped Whole r_aggregate) r_signed (Image Whole AggregateOf) SignedLang n (mapped_sound Whole r_aggregate AggregateOf n (aggregate_sound n)) (signed_sound n)))
+threshold_sound n = relabel_sound r_threshold ThresholdLang ThresholdOf threshold_to n (same_sound r_threshold (either has_aggregate (mapped Aggregate r_aggregate) r_signed) ThresholdLang threshold_is n
+    (either_sound has_aggregate (local_word read.aggregate_word_of) (mapped Aggregate r_aggregate) r_signed (Image Aggregate AggregateOf) SignedLang n (mapped_sound Aggregate r_aggregate AggregateOf n (aggregate_sound n)) (signed_sound n)))
 
 pub threshold_completes : (n : ℕ) → Completes r_threshold ThresholdOf never n
-threshold_completes n = relabel_completes r_threshold ThresholdLang ThresholdOf threshold_from never n (same_completes r_threshold (either has_aggregate (mapped Whole r_aggregate) r_signed) ThresholdLang threshold_is never n
-    (either_completes has_aggregate (local_word read.aggregate_word_of) (mapped Whole r_aggregate) r_signed (Image Whole AggregateOf) SignedLang never n (mapped_completes Whole r_aggregate AggregateOf never n (aggregate_completes n)) (signed_completes n)
+threshold_completes n = relabel_completes r_threshold ThresholdLang ThresholdOf threshold_from never n (same_completes r_threshold (either has_aggregate (mapped Aggregate r_aggregate) r_signed) ThresholdLang threshold_is never n
+    (either_completes has_aggregate (local_word read.aggregate_word_of) (mapped Aggregate r_aggregate) r_signed (Image Aggregate AggregateOf) SignedLang never n (mapped_completes Aggregate r_aggregate AggregateOf never n (aggregate_completes n)) (signed_completes n)
     (λ a front rest i s. aggregate_first n i.of front rest i.spelled) (λ a front rest d s. signed_first n a front rest d)))
 
 pub threshold_refuses : (n : ℕ) → IsRefusing r_threshold ThresholdOf n
-threshold_refuses n = relabel_refuses r_threshold ThresholdLang ThresholdOf threshold_to n (same_refuses r_threshold (either has_aggregate (mapped Whole r_aggregate) r_signed) ThresholdLang threshold_is n
-    (either_refuses has_aggregate (local_word read.aggregate_word_of) (mapped Whole r_aggregate) r_signed (Image Whole AggregateOf) SignedLang n (mapped_refuses Whole r_aggregate AggregateOf n (aggregate_refuses n)) (signed_refuses n)))
+threshold_refuses n = relabel_refuses r_threshold ThresholdLang ThresholdOf threshold_to n (same_refuses r_threshold (either has_aggregate (mapped Aggregate r_aggregate) r_signed) ThresholdLang threshold_is n
+    (either_refuses has_aggregate (local_word read.aggregate_word_of) (mapped Aggregate r_aggregate) r_signed (Image Aggregate AggregateOf) SignedLang n (mapped_refuses Aggregate r_aggregate AggregateOf n (aggregate_refuses n)) (signed_refuses n)))
 
 pub threshold_occurs : Occurs ThresholdOf
-threshold_occurs n = let t : Token = record { at = 0; kind = token.Number 0 } in (Number false 0, t ∷ [], rule.plain t refl)
+threshold_occurs n = let t : Token = record { at = 0; kind = token.Number 0 } in (Number 0 false 0, t ∷ [], rule.plain t refl)
 
 pub threshold_grow : (n : ℕ) (x : ThresholdTree) (ts : List Token) → ThresholdOf n x ts → ThresholdOf (suc n) x ts
 threshold_grow n x ts (rule.aggregate {a = a} d) = rule.aggregate (aggregate_grows n a ts d)

@@ -15,7 +15,7 @@ use Rattle.traceql_syntax.specs.declared.field.Literal.{Literal}
 use Rattle.traceql_syntax.specs.declared.query.SpansetLevel.{SpansetLevel}
 use Rattle.traceql_syntax.specs.declared.query.SpansetLevel.TheVariants as set_level
 use Rattle.traceql_syntax.specs.declared.query.SpansetOp.{SpansetOp}
-use Rattle.traceql_syntax.specs.Trees.{Literally, Asks, Unary, Binary, Match, Placed, SetTree, Filter, Join, AggregateTree, Count, Of, ThresholdTree, Whole, StageTree, Keep, By, Coalesce, Select, Compare, QueryTree}
+use Rattle.traceql_syntax.specs.Trees.{Literally, Asks, Unary, Binary, Match, Placed, SetTree, Filter, Join, AggregateTree, Count, Of, ThresholdTree, Aggregate, StageTree, Keep, By, Coalesce, Select, Compare, QueryTree}
 use Rattle.traceql_syntax.specs.Tables.{prefix_sign, comparison_sign, level_sign, pattern_sign, set_sign, aggregate_word, literal_of, field_of, measure_of}
 use Rattle.traceql_parse.specs.Reading.{Answer, ◌>>=◌, next_sign, next_word, expect_sign, expect_word, expect, begins, delimits, items}
 use Rattle.traceql_parse.specs.declared.stop.Cause.TheVariants as cause
@@ -55,7 +55,7 @@ abbrev pub field_at : ℕ → TokenKind → Option Field
 field_at at k = field_of k
 
 abbrev pub measure_at : Bool → ℕ → TokenKind → Option ThresholdTree
-measure_at negative at k = measure_of negative k
+measure_at negative at k = measure_of negative at k
 
 unfoldable pub parens : Option Readers → List Token → Answer Placed
 parens below ts = do
@@ -231,7 +231,7 @@ unfoldable pub signed : List Token → Answer ThresholdTree
 signed ts = if begins delimiter.Minus ts then (expect_sign (delimits delimiter.Minus) ts >>= λ m. expect (measure_at true) m.1) else (expect (measure_at false) ts)
 
 unfoldable pub threshold : ℕ → List Token → Answer ThresholdTree
-threshold n ts = if is_some (next_word aggregate_word_of ts) then (aggregate_at n ts >>= λ a. Ok (Whole a.0, a.1)) else (signed ts)
+threshold n ts = if is_some (next_word aggregate_word_of ts) then (aggregate_at n ts >>= λ a. Ok (Aggregate a.0, a.1)) else (signed ts)
 
 unfoldable pub compare : ℕ → List Token → Answer StageTree
 compare n ts = do

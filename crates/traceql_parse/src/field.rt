@@ -46,6 +46,7 @@ fn entered<'a>(depth: u32, tokens: &'a [Token]) -> Result<u32, Stop<'a>>
     }
 }
 
+/// An operand with an operator of a level and what stands on its right.
 fn joined(alloc: Global, left: Operand, item: Item) -> Result<Operand, AllocError>
     ensures { IfOk result (λ o. placed o ≡ join (placed left) (item_tree item)) }
 {
@@ -84,6 +85,7 @@ fn joined(alloc: Global, left: Operand, item: Item) -> Result<Operand, AllocErro
     }
 }
 
+/// A whole expression in parentheses; its place is that of the opening one.
 #[tactic(auto, unfolding(crate::specs::Descent::parens))]
 #[cycle(fields)]
 fn read_parens<'a>(
@@ -106,6 +108,7 @@ fn read_parens<'a>(
     ))
 }
 
+/// A literal, a field or an expression in parentheses.
 #[tactic(auto, unfolding(crate::specs::Descent::atom))]
 #[cycle(fields)]
 fn read_atom<'a>(
@@ -122,6 +125,7 @@ fn read_atom<'a>(
     }
 }
 
+/// An atom with the unary operators before it.
 #[tactic(auto, unfolding(crate::specs::Descent::prefixed, crate::specs::Descent::prefix))]
 #[cycle(fields)]
 fn read_prefixed<'a>(
@@ -148,6 +152,7 @@ fn read_prefixed<'a>(
     }
 }
 
+/// A `^` and the power on its right, which groups from the right.
 #[tactic(auto, unfolding(crate::specs::Descent::exponent))]
 #[cycle(fields)]
 fn read_exponent<'a>(
@@ -163,6 +168,7 @@ fn read_exponent<'a>(
     Ok((at, right, rest))
 }
 
+/// A prefixed expression, and `^` with its exponent where one follows.
 #[tactic(auto, unfolding(crate::specs::Descent::powered))]
 #[cycle(fields)]
 fn read_power<'a>(
@@ -189,6 +195,7 @@ fn read_power<'a>(
     Ok((operand, rest))
 }
 
+/// What stands between the operators of a level: an expression of the next tighter one.
 #[tactic(auto, unfolding(crate::specs::Descent::operand_of, crate::specs::Descent::grouped))]
 #[cycle(fields)]
 fn read_operand<'a>(
@@ -207,6 +214,7 @@ fn read_operand<'a>(
     }
 }
 
+/// An operator of a level and what stands on its right: an operand, or a pattern.
 #[tactic(auto, unfolding(crate::specs::Descent::item))]
 #[cycle(fields)]
 fn read_item<'a>(

@@ -12,6 +12,7 @@ use span_types::{Memory, SpanKind, StatusCode, Text, TryCopy};
 use traceql_syntax::{Field, FieldExpr, Literal, Operand, Threshold};
 use traceql_tokens::{Class, Token, TokenKind, Word};
 
+/// The literal that a word is.
 fn literal_of_word(word: Word) -> Option<Literal>
     ensures { result ≡ tables.literal_word word }
 {
@@ -32,6 +33,7 @@ fn literal_of_word(word: Word) -> Option<Literal>
     }
 }
 
+/// The literal that a token is.
 fn literal(kind: &TokenKind) -> Result<Option<Literal>, Memory>
     ensures { IfOk result (λ o. o ≡ tables.literal_of kind.now) }
 {
@@ -44,6 +46,7 @@ fn literal(kind: &TokenKind) -> Result<Option<Literal>, Memory>
     }
 }
 
+/// The field that a token is.
 fn field(kind: &TokenKind) -> Result<Option<Field>, Memory>
     ensures { IfOk result (λ o. o ≡ tables.field_of kind.now) }
 {
@@ -54,6 +57,7 @@ fn field(kind: &TokenKind) -> Result<Option<Field>, Memory>
     }
 }
 
+/// Why a token that is no literal and no field is refused: for its fault, where it would be one without it.
 fn blame_leaf(at: u64, kind: &TokenKind) -> Cause
     ensures { leaf_at at kind.now ≡ None → result ≡ blame (leaf_at at (mended kind.now)) }
 {
@@ -111,7 +115,7 @@ pub fn read_field<'a>(tokens: &'a [Token]) -> Result<(Field, &'a [Token]), Stop<
     }
 }
 
-/// A number or a duration, with its sign.
+/// A number or a duration at the front, with its place and the sign that stood before it, and the tokens after it.
 pub fn read_measure<'a>(
     negative: bool,
     tokens: &'a [Token],
@@ -122,8 +126,26 @@ pub fn read_measure<'a>(
         return Err(Stop::Refused(Cause::Unfinished, tokens));
     };
     match first.kind {
-        TokenKind::Number(value) => Ok((Threshold::Number { negative, value }, rest)),
-        TokenKind::Duration(nanos) => Ok((Threshold::Duration { negative, nanos }, rest)),
+        TokenKind::Number(value) => {
+            Ok((
+                Threshold::Number {
+                    at: first.at,
+                    negative,
+                    value,
+                },
+                rest,
+            ))
+        }
+        TokenKind::Duration(nanos) => {
+            Ok((
+                Threshold::Duration {
+                    at: first.at,
+                    negative,
+                    nanos,
+                },
+                rest,
+            ))
+        }
         TokenKind::Broken(Class::Number | Class::Duration, _) => {
             Err(Stop::Refused(Cause::Faulty, tokens))
         }

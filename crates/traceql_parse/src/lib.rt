@@ -9,5 +9,5 @@ mod stage;
 mod stop;
 mod text;
 
-pub use text::{one_query, parse};
+pub use text::{depth_is_nesting, one_query, parse};
 pub use traceql_syntax::ParseError;

@@ -49,6 +49,7 @@ pub enum StageSign {
     Compare,
 }
 
+/// Whether a sign is this delimiter.
 fn is_delimiter(wanted: Delimiter, sign: Sign) -> bool
     ensures { delimits wanted sign ≡ (if result then Some tt else None) }
 {
@@ -111,6 +112,7 @@ pub fn take_delimiter<'a>(
     }
 }
 
+/// The unary operator of a sign.
 fn unary_of(sign: Sign) -> Option<UnaryOp>
     ensures { result ≡ tables.prefix_sign sign }
 {
@@ -121,6 +123,7 @@ fn unary_of(sign: Sign) -> Option<UnaryOp>
     }
 }
 
+/// The comparison of a sign.
 fn comparison_of(sign: Sign) -> Option<Comparison>
     ensures { result ≡ tables.comparison_sign sign }
 {
@@ -135,6 +138,7 @@ fn comparison_of(sign: Sign) -> Option<Comparison>
     }
 }
 
+/// The operator of a sign among `*`, `/` and `%`.
 fn product_of(sign: Sign) -> Option<BinaryOp>
     ensures { result ≡ tables.product_sign sign }
 {
@@ -146,6 +150,7 @@ fn product_of(sign: Sign) -> Option<BinaryOp>
     }
 }
 
+/// The operator of a sign among `+` and `-`.
 fn sum_of(sign: Sign) -> Option<BinaryOp>
     ensures { result ≡ tables.sum_sign sign }
 {
@@ -156,6 +161,7 @@ fn sum_of(sign: Sign) -> Option<BinaryOp>
     }
 }
 
+/// The operator of a sign among `&&` and `||`.
 fn choice_of(sign: Sign) -> Option<BinaryOp>
     ensures { result ≡ tables.choice_sign sign }
 {
@@ -166,6 +172,7 @@ fn choice_of(sign: Sign) -> Option<BinaryOp>
     }
 }
 
+/// Whether a sign asks for a match with a pattern, and whether it negates.
 fn pattern_of(sign: Sign) -> Option<bool>
     ensures { result ≡ tables.pattern_sign sign }
 {
@@ -176,6 +183,7 @@ fn pattern_of(sign: Sign) -> Option<bool>
     }
 }
 
+/// What a sign is at the level of comparisons: an operator with a pattern, or a comparison.
 fn compared(sign: Sign) -> Option<ItemSign>
     ensures { result ≡ item_sign_of level.Comparison sign }
 {
@@ -188,6 +196,7 @@ fn compared(sign: Sign) -> Option<ItemSign>
     }
 }
 
+/// What a sign is at a level.
 fn item_of(level: Level, sign: Sign) -> Option<ItemSign>
     ensures { result ≡ item_sign_of level sign }
 {
@@ -200,6 +209,7 @@ fn item_of(level: Level, sign: Sign) -> Option<ItemSign>
     Some(ItemSign::Operator(op))
 }
 
+/// The structural operator of a sign.
 fn structure_of(sign: Sign) -> Option<SpansetOp>
     ensures { result ≡ tables.structure_sign sign }
 {
@@ -224,6 +234,7 @@ fn structure_of(sign: Sign) -> Option<SpansetOp>
     Some(SpansetOp::Related(relation, side))
 }
 
+/// The operator between spansets of a level that a sign is.
 fn set_of(level: SpansetLevel, sign: Sign) -> Option<SpansetOp>
     ensures { result ≡ tables.set_sign level sign }
 {
@@ -255,6 +266,7 @@ pub fn take_comparison<'a>(tokens: &'a [Token]) -> Result<(u64, Comparison, &'a 
     }
 }
 
+/// A comparison at the front: its place, and the tokens after it.
 fn first_comparison(tokens: &[Token]) -> Option<(u64, Comparison, &[Token])>
     ensures { option_map (λ x. ((x.0, x.1), x.2.now)) result ≡ next_sign tables.comparison_sign tokens.now }
 {
@@ -298,6 +310,7 @@ pub fn first_set_op(level: SpansetLevel, tokens: &[Token]) -> Option<(u64, Spans
     Some((at, set_of(level, sign)?, rest))
 }
 
+/// The aggregate that a word begins.
 fn aggregate_of(word: Word) -> Option<AggregateWord>
     ensures { result ≡ aggregate_word_of word }
 {
@@ -337,6 +350,7 @@ pub fn begins_aggregate(tokens: &[Token]) -> bool
     }
 }
 
+/// The stage that a word begins.
 fn stage_of(word: Word) -> StageSign
     ensures { result ≡ word_stage word }
 {

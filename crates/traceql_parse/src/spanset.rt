@@ -38,6 +38,7 @@ pub fn read_whole<'a>(
     read_level(alloc, Level::Choice, tokens, depth)
 }
 
+/// What stands in braces, and the closing one.
 #[tactic(auto, unfolding(crate::specs::Descent::condition))]
 fn read_condition<'a>(
     alloc: Global,
@@ -80,6 +81,7 @@ fn set_entered<'a>(depth: u32, tokens: &'a [Token]) -> Result<u32, Stop<'a>>
     }
 }
 
+/// A spanset with an operator and the spanset on its right.
 fn set_joined(alloc: Global, left: SpansetExpr, item: SetItem) -> Result<SpansetExpr, AllocError>
     ensures { IfOk result (λ e. set_tree e ≡ set_join (set_tree left) (set_item_tree item)) }
 {
@@ -94,6 +96,7 @@ fn set_joined(alloc: Global, left: SpansetExpr, item: SetItem) -> Result<Spanset
     })
 }
 
+/// An expression over spansets in parentheses.
 #[tactic(auto, unfolding(crate::specs::Descent::set_parens))]
 #[cycle(spansets)]
 fn read_set_parens<'a>(
@@ -110,6 +113,7 @@ fn read_set_parens<'a>(
     Ok((spansets, rest))
 }
 
+/// A filter, or an expression over spansets in parentheses.
 #[tactic(auto, unfolding(crate::specs::Descent::part))]
 #[cycle(spansets)]
 fn read_part<'a>(
@@ -126,6 +130,7 @@ fn read_part<'a>(
     Ok((SpansetExpr::Filter { at, condition }, rest))
 }
 
+/// What stands between the operators of a level.
 #[tactic(auto, unfolding(crate::specs::Descent::set_operand_of, crate::specs::Descent::sets))]
 #[cycle(spansets)]
 fn read_set_operand<'a>(
@@ -142,6 +147,7 @@ fn read_set_operand<'a>(
     }
 }
 
+/// An operator between spansets and the spanset on its right.
 #[tactic(auto, unfolding(crate::specs::Descent::set_item))]
 #[cycle(spansets)]
 fn read_set_item<'a>(

@@ -44,6 +44,7 @@ fn read_empty_parens(tokens: &[Token]) -> Result<&[Token], Stop<'_>>
     Ok(rest)
 }
 
+/// An aggregate: `count ( )`, or a word and its argument in parentheses.
 #[tactic(auto, unfolding(crate::specs::Descent::aggregate_at))]
 fn read_aggregate<'a>(
     alloc: Global,
@@ -65,6 +66,7 @@ fn read_aggregate<'a>(
     }
 }
 
+/// A number or a duration, with or without a minus.
 #[tactic(auto, unfolding(crate::specs::Descent::signed))]
 fn read_signed<'a>(tokens: &'a [Token]) -> Result<(Threshold, &'a [Token]), Stop<'a>>
     ensures { Gives (λ x. (threshold_tree x.0, x.1.now)) result (signed tokens.now) }
@@ -77,6 +79,7 @@ fn read_signed<'a>(tokens: &'a [Token]) -> Result<(Threshold, &'a [Token]), Stop
     }
 }
 
+/// What an aggregate is compared with: an aggregate, or a number or duration.
 #[tactic(auto, unfolding(crate::specs::Descent::threshold))]
 fn read_threshold<'a>(
     alloc: Global,
@@ -92,6 +95,7 @@ fn read_threshold<'a>(
     Ok((Threshold::Aggregate(aggregate), rest))
 }
 
+/// An aggregate, a comparison, and what it is compared with.
 #[tactic(auto, unfolding(crate::specs::Descent::compare))]
 fn read_compare<'a>(
     alloc: Global,
@@ -114,6 +118,7 @@ fn read_compare<'a>(
     ))
 }
 
+/// A comma and a field.
 #[tactic(auto, unfolding(crate::specs::Descent::comma_field))]
 fn read_comma_field<'a>(tokens: &'a [Token]) -> Result<(Field, &'a [Token]), Stop<'a>>
     ensures { Gives (λ x. (x.0, x.1.now)) result (comma_field tokens.now) }
@@ -122,6 +127,7 @@ fn read_comma_field<'a>(tokens: &'a [Token]) -> Result<(Field, &'a [Token]), Sto
     read_field(rest)
 }
 
+/// Fields with a comma between them, one at least.
 #[tactic(auto, using(crate::proofs::StageLoops::more_fields_stops, crate::proofs::StageLoops::more_fields_fails, crate::proofs::StageLoops::more_fields_steps, crate::proofs::StageLoops::comma_field_smaller), unfolding(crate::specs::Descent::fields))]
 fn read_fields<'a>(alloc: Global, tokens: &'a [Token]) -> Result<(Fields, &'a [Token]), Stop<'a>>
     ensures { Gives (λ x. (x.0, x.1.now)) result (fields tokens.now) }
@@ -137,6 +143,7 @@ fn read_fields<'a>(alloc: Global, tokens: &'a [Token]) -> Result<(Fields, &'a [T
     Ok((Fields::of(list), rest))
 }
 
+/// The fields of a `select`, in parentheses.
 fn read_select<'a>(alloc: Global, tokens: &'a [Token]) -> Result<(Fields, &'a [Token]), Stop<'a>>
     ensures { Gives (λ x. (x.0, x.1.now)) result (enclosed fields tokens.now) }
 {
@@ -146,6 +153,7 @@ fn read_select<'a>(alloc: Global, tokens: &'a [Token]) -> Result<(Fields, &'a [T
     Ok((list, rest))
 }
 
+/// The stage that begins with this word.
 fn read_worded<'a>(
     alloc: Global,
     sign: StageSign,
@@ -172,6 +180,7 @@ fn read_worded<'a>(
     }
 }
 
+/// A stage: a filter, or one that begins with a word.
 #[tactic(auto, unfolding(crate::specs::Descent::stage))]
 fn read_stage<'a>(
     alloc: Global,
@@ -188,6 +197,7 @@ fn read_stage<'a>(
     read_worded(alloc, first_stage(tokens), tokens, inner)
 }
 
+/// A bar and a stage.
 #[tactic(auto, unfolding(crate::specs::Descent::piped))]
 fn read_piped<'a>(
     alloc: Global,
@@ -201,6 +211,7 @@ fn read_piped<'a>(
     read_stage(alloc, rest, inner)
 }
 
+/// An expression over spansets, of the loosest level.
 #[tactic(auto, unfolding(crate::specs::Descent::all_sets))]
 fn read_all_sets<'a>(
     alloc: Global,

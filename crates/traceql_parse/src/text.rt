@@ -1,6 +1,7 @@
 //! From a text to its query, or to why it has none.
 
 ghost use Rattle.std.specs.Prelude.{◌≡◌, ◌<◌, ◌≤◌, ℕ, List, length, Ok, Err, IfOk, IfErr, MatchResult};
+ghost use Rattle.traceql_syntax.specs.Depth.{query_nesting};
 ghost use Rattle.traceql_syntax.specs.Refusals.{DEPTH, IsRefusal, Means, Reads};
 ghost use Rattle.traceql_syntax.specs.Refusals as refusals;
 ghost use Rattle.traceql_syntax.specs.Trees.{QueryTree, bare_query, query_tree};
@@ -17,6 +18,7 @@ use traceql_tokens::{Fault, Token, TokenKind, tokens};
 /// How many constructs may be open inside the parentheses of a stage: 64 in all.
 const INNER_DEPTH: u32 = 63;
 
+/// The refusal of a token for its fault.
 fn fault_error(at: u64, fault: Fault) -> ParseError
     ensures { result ≡ refusals.fault_error at fault }
 {
@@ -28,6 +30,7 @@ fn fault_error(at: u64, fault: Fault) -> ParseError
     }
 }
 
+/// The refusal of a token for a cause.
 fn refused_token(cause: Cause, at: u64, kind: &TokenKind) -> ParseError
     ensures { result ≡ token_error cause at kind.now }
 {
@@ -45,6 +48,7 @@ fn refused_token(cause: Cause, at: u64, kind: &TokenKind) -> ParseError
     }
 }
 
+/// The refusal of the first of these tokens, or of the end of a text of this length.
 fn refused(cause: Cause, length: u64, rest: &[Token]) -> ParseError
     ensures { result ≡ error_of cause length rest.now }
 {
@@ -54,6 +58,7 @@ fn refused(cause: Cause, length: u64, rest: &[Token]) -> ParseError
     }
 }
 
+/// The query that a list of tokens is, all of it; the text has this length.
 fn parse_tokens(alloc: Global, tokens: &[Token], length: u64) -> Result<Query, ParseError>
     ensures { Answers result (outcome length (read.query 63 tokens.now)) }
 {
@@ -104,4 +109,14 @@ pub fn one_query()
     ensures one { (text : List ℕ) (p q : QueryTree) (d e : ℕ) → Reads d text p → Reads e text q → p ≡ q }
     // Without places and without limits: two queries that a text means are equal.
     ensures equal { (text : List ℕ) (p q : QueryTree) → Means text p → Means text q → bare_query p ≡ bare_query q }
+{}
+
+/// What `parse` counts against its limit of depth is how deep the text nests in the grammar: a law of the grammar.
+pub fn depth_is_nesting()
+    // What is read within a limit nests no deeper.
+    ensures within { (depth : ℕ) (text : List ℕ) (q : QueryTree) (r : Reads depth text q) →
+        query_nesting r.spelled ≤ depth }
+    // What nests no deeper than a limit is read within it.
+    ensures enough { (d depth : ℕ) (text : List ℕ) (q : QueryTree) (r : Reads d text q) →
+        query_nesting r.spelled ≤ depth → Reads depth text q }
 {}

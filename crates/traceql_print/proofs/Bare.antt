@@ -3,7 +3,7 @@ use Rattle.std.proofs.Common.{◌≡◌, List, [], ◌∷◌, ◌++◌, map, Opt
 use Rattle.traceql_tokens.specs.declared.fixed.Sign.TheVariants as sign
 use Rattle.traceql_tokens.specs.declared.fixed.Word.TheVariants as word
 use Rattle.traceql_tokens.specs.declared.kinds.TokenKind.TheVariants as token
-use Rattle.traceql_syntax.specs.Trees.{Tree, Literally, Asks, Unary, Binary, Match, Placed, SetTree, Filter, Join, AggregateTree, Count, Of, ThresholdTree, Whole, Number, Duration, StageTree, Keep, By, Coalesce, Select, Compare, QueryTree, bare, bare_option, bare_set, bare_aggregate, bare_threshold, bare_stage, bare_query}
+use Rattle.traceql_syntax.specs.Trees.{Tree, Literally, Asks, Unary, Binary, Match, Placed, SetTree, Filter, Join, AggregateTree, Count, Of, ThresholdTree, Aggregate, Number, Duration, StageTree, Keep, By, Coalesce, Select, Compare, QueryTree, bare, bare_option, bare_set, bare_aggregate, bare_threshold, bare_stage, bare_query}
 use Rattle.traceql_print.specs.Signs.{unary_sign, binary_sign, comparison_sign, match_sign, set_sign, aggregate_word}
 use Rattle.traceql_print.specs.Kinds.{call, operand, is_binary, expr_kinds, condition_kinds, filter_kinds, is_join, set_kinds, aggregate_kinds, threshold_kinds, stage_kinds, stages_kinds, query_kinds}
 
@@ -44,9 +44,9 @@ aggregate_bare Count = refl
 aggregate_bare (Of op e) = ap (call (aggregate_word op)) (expr_bare e.1)
 
 threshold_bare : (b : ThresholdTree) → threshold_kinds (bare_threshold b) ≡ threshold_kinds b
-threshold_bare (Whole a) = aggregate_bare a
-threshold_bare (Number negative n) = refl
-threshold_bare (Duration negative n) = refl
+threshold_bare (Aggregate a) = aggregate_bare a
+threshold_bare (Number at negative n) = refl
+threshold_bare (Duration at negative n) = refl
 
 stage_bare : (s : StageTree) → stage_kinds (bare_stage s) ≡ stage_kinds s
 stage_bare (Keep at c) = filter_bare c

@@ -134,22 +134,22 @@ field_of_fits token.Unknown h = tt
 field_fits : (k : TokenKind) (x : Field) → table.field_of k ≡ Some x → Sane k → Fits (field_kind x)
 field_fits k x e h = subst (Where (λ x. Fits (field_kind x))) e (field_of_fits k h)
 
-measure_of_fits : (negative : Bool) (k : TokenKind) → Sane k → Where (λ b. AllFit (threshold_kinds b)) (table.measure_of negative k)
-measure_of_fits true (token.Number n) h = (tt, (h, tt))
-measure_of_fits false (token.Number n) h = (h, tt)
-measure_of_fits true (token.Duration n) h = (tt, (h, tt))
-measure_of_fits false (token.Duration n) h = (h, tt)
-measure_of_fits b (token.Named s name) h = tt
-measure_of_fits b (token.Builtin i) h = tt
-measure_of_fits b (token.Quoted value) h = tt
-measure_of_fits b (token.Keyword w) h = tt
-measure_of_fits b (token.Mark s) h = tt
-measure_of_fits b (token.Broken c f) h = tt
-measure_of_fits b token.Nameless h = tt
-measure_of_fits b token.Unknown h = tt
+measure_of_fits : (negative : Bool) (at : ℕ) (k : TokenKind) → Sane k → Where (λ b. AllFit (threshold_kinds b)) (table.measure_of negative at k)
+measure_of_fits true at (token.Number n) h = (tt, (h, tt))
+measure_of_fits false at (token.Number n) h = (h, tt)
+measure_of_fits true at (token.Duration n) h = (tt, (h, tt))
+measure_of_fits false at (token.Duration n) h = (h, tt)
+measure_of_fits b at (token.Named s name) h = tt
+measure_of_fits b at (token.Builtin i) h = tt
+measure_of_fits b at (token.Quoted value) h = tt
+measure_of_fits b at (token.Keyword w) h = tt
+measure_of_fits b at (token.Mark s) h = tt
+measure_of_fits b at (token.Broken c f) h = tt
+measure_of_fits b at token.Nameless h = tt
+measure_of_fits b at token.Unknown h = tt
 
-measure_fits : (negative : Bool) (k : TokenKind) (b : ThresholdTree) → table.measure_of negative k ≡ Some b → Sane k → AllFit (threshold_kinds b)
-measure_fits negative k b e h = subst (Where (λ b. AllFit (threshold_kinds b))) e (measure_of_fits negative k h)
+measure_fits : (negative : Bool) (at : ℕ) (k : TokenKind) (b : ThresholdTree) → table.measure_of negative at k ≡ Some b → Sane k → AllFit (threshold_kinds b)
+measure_fits negative at k b e h = subst (Where (λ b. AllFit (threshold_kinds b))) e (measure_of_fits negative at k h)
 
 pub expr_fits : {n : ℕ} {c : Class} {e : Placed} {ts : List Token} → Spells n c e ts → AreSane ts → AllFit (expr_kinds e.1)
 expr_fits (rule.literal {x = x} t e) h = (literal_fits t.kind x e h.0, tt)
@@ -189,8 +189,8 @@ aggregate_fits (rule.of {e = e} {ts = ts} at w opened closed k d) h = (tt, paren
 
 threshold_fits : {n : ℕ} {b : ThresholdTree} {ts : List Token} → SpellsThreshold n b ts → AreSane ts → AllFit (threshold_kinds b)
 threshold_fits (rule.aggregate d) h = aggregate_fits d h
-threshold_fits (rule.plain {x = x} t e) h = measure_fits false t.kind x e h.0
-threshold_fits (rule.minus {x = x} at t e) h = measure_fits true t.kind x e h.1.0
+threshold_fits (rule.plain {x = x} t e) h = measure_fits false t.at t.kind x e h.0
+threshold_fits (rule.minus {x = x} at t e) h = measure_fits true t.at t.kind x e h.1.0
 
 -- the fields of a `select`: each is a token's, and there is one
 abbrev pub FieldsFit : List Field → Type 0

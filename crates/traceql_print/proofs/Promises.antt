@@ -1,20 +1,24 @@
 -- What is promised of printed text, for every query that a text means and every field that a token can be.
-use Rattle.std.proofs.Common.{◌≡◌, ℕ, true, List, [], ◌∷◌, map, refl, ap, sym, subst, ◌∙◌, append-nil}
+use Rattle.std.proofs.Common.{◌≡◌, ℕ, ◌≤◌, arith, true, Result, Ok, Err, MatchResult, List, [], ◌∷◌, map, refl, ap, sym, subst, ◌∙◌, append-nil}
 use Rattle.std.specs.List.{AllByRecursion}
 use Rattle.traceql_tokens.specs.Printed.{at_end, IsSound}
 use Rattle.traceql_tokens.specs.Tokens.{AreTokens}
 use Rattle.traceql_tokens.proofs.Printed.{printed_token, printed_end}
 use Rattle.traceql_syntax.specs.declared.field.Field.{Field}
 use Rattle.traceql_syntax.specs.declared.field.Field.TheVariants as field
-use Rattle.traceql_syntax.specs.Refusals.{Means}
-use Rattle.traceql_syntax.specs.Trees.{StageTree, Keep, By, Coalesce, Select, Compare, QueryTree, bare_stage, bare_query}
+use Rattle.traceql_syntax.specs.declared.errors.ParseError.{ParseError}
+use Rattle.traceql_syntax.specs.declared.errors.ParseError.TheVariants as error
+use Rattle.traceql_syntax.specs.declared.query.Query.{Query}
+use Rattle.traceql_syntax.specs.Refusals.{Means, Reads}
+use Rattle.traceql_syntax.specs.Trees.{StageTree, Keep, By, Coalesce, Select, Compare, QueryTree, bare_stage, bare_query, query_tree}
 use Rattle.traceql_print.specs.Signs.{field_kind}
+use Rattle.traceql_print.specs.Depth.{query_depth}
 use Rattle.traceql_print.specs.Kinds.{query_kinds}
 use Rattle.traceql_print.specs.Text.{field_text, query_text, text_of, IsNamed}
 use Rattle.traceql_print.proofs.Bare.{query_bare}
 use Rattle.traceql_print.proofs.Fitting.{AllFit, tokens_sane, query_fits, query_has}
 use Rattle.traceql_print.proofs.Lexed.{Fits, kind_right, lexes}
-use Rattle.traceql_print.proofs.SpelledQueries.{HasFields, query_room, query_spelt}
+use Rattle.traceql_print.proofs.SpelledQueries.{HasFields, query_spelt}
 
 to_bare : (ss : List StageTree) → AllByRecursion HasFields ss → AllByRecursion HasFields (map bare_stage ss)
 to_bare [] h = tt
@@ -38,18 +42,24 @@ from_bare (s ∷ ss) h = (one s h.0, from_bare ss h.1)
     one (Select fs) k = k
     one (Compare a at op b) k = tt
 
-pub printed_means : (source : List ℕ) (q : QueryTree) → Means source q → Means (query_text q) q
-printed_means source q (depth, placed, reads, same) =
+-- What some text means, the printed text is, within every depth that is enough for the printed form.
+pub printed_reads : (source : List ℕ) (q : QueryTree) → Means source q → (n : ℕ) → query_depth q ≤ n → (p : QueryTree) × Reads n (query_text q) p × (bare_query p ≡ bare_query q)
+printed_reads source q (depth, placed, reads, same) n h =
     let kinds : query_kinds placed ≡ query_kinds q = sym (query_bare placed) ∙ ap query_kinds same ∙ query_bare q in
     let fit = subst AllFit kinds (query_fits reads.spelled (tokens_sane 0 source reads.tokens reads.lexed)) in
     let bare_has = subst (AllByRecursion HasFields) (ap (λ (p : QueryTree). p.stages) same) (to_bare placed.stages (query_has reads.spelled)) in
     let lexed = lexes (query_kinds q) fit true 0 in
-    let spelled = query_spelt q (from_bare q.stages bare_has) lexed.0 lexed.2 in (
-      query_room q,
-      spelled.found,
-      record { tokens = lexed.0; lexed = lexed.1; spelled = spelled.spelled },
-      spelled.same,
-    )
+    let spelled = query_spelt q (from_bare q.stages bare_has) lexed.0 lexed.2 n h in
+    (spelled.found, record { tokens = lexed.0; lexed = lexed.1; spelled = spelled.spelled }, spelled.same)
+
+pub printed_means : (source : List ℕ) (q : QueryTree) → Means source q → Means (query_text q) q
+printed_means source q m = let r = printed_reads source q m (query_depth q) (omega arith) in (query_depth q, r.0, r.1, r.2)
+
+-- what is read is the query again, where what is read equals it
+pub read_same : (r : Result Query ParseError) (q p : QueryTree) → MatchResult r (λ x. query_tree x ≡ p) (λ e. e ≡ error.Memory) → bare_query p ≡ bare_query q →
+    MatchResult r (λ x. bare_query (query_tree x) ≡ bare_query q) (λ e. e ≡ error.Memory)
+read_same (Ok x) q p h same = ap bare_query h ∙ same
+read_same (Err e) q p h same = h
 
 named_fits : (f : Field) → IsNamed f → Fits (field_kind f)
 named_fits (field.Attribute scope name) h = h

@@ -7,7 +7,7 @@ use Rattle.traceql_tokens.specs.declared.fixed.Word.TheVariants as word
 use Rattle.traceql_tokens.specs.declared.kinds.TokenKind.{TokenKind}
 use Rattle.traceql_tokens.specs.declared.kinds.TokenKind.TheVariants as token
 use Rattle.traceql_syntax.specs.declared.field.Field.{Field}
-use Rattle.traceql_syntax.specs.Trees.{Tree, Literally, Asks, Unary, Binary, Match, Placed, SetTree, Filter, Join, AggregateTree, Count, Of, ThresholdTree, Whole, Number, Duration, StageTree, Keep, By, Coalesce, Select, Compare, QueryTree}
+use Rattle.traceql_syntax.specs.Trees.{Tree, Literally, Asks, Unary, Binary, Match, Placed, SetTree, Filter, Join, AggregateTree, Count, Of, ThresholdTree, Aggregate, Number, Duration, StageTree, Keep, By, Coalesce, Select, Compare, QueryTree}
 use Rattle.traceql_print.specs.Signs.{unary_sign, binary_sign, comparison_sign, match_sign, set_sign, aggregate_word, literal_kind, field_kind}
 
 abbrev pub in_parens : List TokenKind → List TokenKind
@@ -58,9 +58,9 @@ signed true k = token.Mark sign.Minus ∷ k ∷ []
 signed false k = k ∷ []
 
 abbrev pub threshold_kinds : ThresholdTree → List TokenKind
-threshold_kinds (Whole a) = aggregate_kinds a
-threshold_kinds (Number negative n) = signed negative (token.Number n)
-threshold_kinds (Duration negative n) = signed negative (token.Duration n)
+threshold_kinds (Aggregate a) = aggregate_kinds a
+threshold_kinds (Number at negative n) = signed negative (token.Number n)
+threshold_kinds (Duration at negative n) = signed negative (token.Duration n)
 
 -- fields with a comma before each
 abbrev pub more_fields_kinds : List Field → List TokenKind

@@ -11,6 +11,7 @@ use span_types::Memory;
 use traceql_syntax::{FieldExpr, Operand, SpansetExpr};
 use traceql_tokens::Sign;
 
+/// Whether an expression is an operator between two operands, or a match with a pattern.
 fn is_binary(expr: &FieldExpr) -> bool
     ensures { result ≡ kinds.is_binary (tree expr.now) }
 {
@@ -65,6 +66,7 @@ pub(crate) fn write_expr(printer: &mut Printer, expr: &FieldExpr) -> Result<(), 
     }
 }
 
+/// Writes what stands in the braces of a filter.
 fn write_condition(printer: &mut Printer, condition: &Option<Operand>) -> Result<(), Memory>
     ensures { OnOk result (printer.new ≡ put_all printer.old (kinds.condition_kinds (placed_option condition.now))) }
 {
@@ -83,6 +85,7 @@ pub(crate) fn write_filter(printer: &mut Printer, condition: &Option<Operand>) -
     printer.sign(Sign::CloseBrace)
 }
 
+/// Whether an expression over spansets is an operator between two.
 fn is_join(spansets: &SpansetExpr) -> bool
     ensures { result ≡ kinds.is_join (set_tree spansets.now) }
 {

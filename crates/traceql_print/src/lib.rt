@@ -11,5 +11,5 @@ mod signs;
 mod stage;
 mod string;
 
-pub use printing::{print_field, print_query, printed_once};
+pub use printing::{print_field, print_query, printed_once, read_back};
 pub use signs::{kind_word, status_word};

@@ -13,12 +13,14 @@ use std::marker::Model;
 use traceql_syntax::{Field, Literal};
 use traceql_tokens::{Sign, Word};
 
+/// Whether no space stands after a sign.
 fn opens(sign: Sign) -> bool
     ensures { result ≡ opens (token.Mark sign) }
 {
     matches!(sign, Sign::OpenParen)
 }
 
+/// Whether no space stands before a sign.
 fn closes(sign: Sign) -> bool
     ensures { result ≡ closes (token.Mark sign) }
 {

@@ -1,9 +1,10 @@
 //! The printed form of a query and of a field.
 
-ghost use Rattle.std.specs.Prelude.{◌≡◌, ℕ, List, [], ◌∷◌, IfOk};
+ghost use Rattle.std.specs.Prelude.{◌≡◌, ℕ, List, [], ◌∷◌, IfOk, MatchResult};
 ghost use Rattle.traceql_tokens.specs.Tokens.{AreTokens};
 ghost use Rattle.traceql_syntax.specs.Refusals.{Means};
 ghost use Rattle.traceql_syntax.specs.Trees.{QueryTree, bare_query, query_tree};
+ghost use Rattle.traceql_print.specs.Depth.{KeepsLimits};
 ghost use Rattle.traceql_print.specs.Signs.{field_kind};
 ghost use Rattle.traceql_print.specs.Text.{query_text, field_text, IsNamed};
 
@@ -11,8 +12,8 @@ use crate::printer::{Printer, push_field};
 use crate::stage::write_query;
 use span_types::{Memory, Text};
 use std::alloc::Global;
-use traceql_parse::one_query;
-use traceql_syntax::{Field, Query};
+use traceql_parse::{one_query, parse};
+use traceql_syntax::{Field, ParseError, Query};
 
 /// A query in its printed form, in time linear in the text's length.
 ///
@@ -26,6 +27,19 @@ pub fn print_query(alloc: Global, query: &Query) -> Result<Text, Memory>
     let mut printer = Printer::new(alloc);
     write_query(&mut printer, query)?;
     Ok(printer.into_text())
+}
+
+/// Prints a query and reads the printed text back: the query again, wherever its printed form is within the limits of
+/// length and depth. Else the refusal is that of the printed text.
+pub fn read_back(alloc: Global, query: &Query) -> Result<Query, ParseError>
+    ensures same { (source : List ℕ) → Means source (query_tree query.now) → KeepsLimits (query_tree query.now) →
+        MatchResult result (λ p. bare_query (query_tree p) ≡ bare_query (query_tree query.now))
+        (λ e. e ≡ ParseError.Memory) }
+{
+    match print_query(alloc, query) {
+        Ok(text) => parse(alloc, text.as_str()),
+        Err(_) => Err(ParseError::Memory),
+    }
 }
 
 /// A field in its printed form, which is one token: an attribute or an intrinsic as it was written, but for the quotes

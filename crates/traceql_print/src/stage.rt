@@ -34,6 +34,7 @@ fn write_call(printer: &mut Printer, word: Word, argument: &Operand) -> Result<(
     printer.sign(Sign::CloseParen)
 }
 
+/// Writes an aggregate and its argument.
 fn write_aggregate(printer: &mut Printer, aggregate: &Aggregate) -> Result<(), Memory>
     ensures { OnOk result (printer.new ≡ put_all printer.old (kinds.aggregate_kinds (aggregate_tree aggregate.now))) }
 {
@@ -53,16 +54,25 @@ fn write_minus(printer: &mut Printer, negative: bool) -> Result<(), Memory>
     Ok(())
 }
 
+/// Writes what an aggregate is compared with.
 fn write_threshold(printer: &mut Printer, threshold: &Threshold) -> Result<(), Memory>
     ensures { OnOk result (printer.new ≡ put_all printer.old (kinds.threshold_kinds (threshold_tree threshold.now))) }
 {
     match threshold {
         Threshold::Aggregate(aggregate) => write_aggregate(printer, aggregate),
-        Threshold::Number { negative, value } => {
+        Threshold::Number {
+            negative,
+            value,
+            ..
+        } => {
             write_minus(printer, *negative)?;
             printer.number(*value)
         }
-        Threshold::Duration { negative, nanos } => {
+        Threshold::Duration {
+            negative,
+            nanos,
+            ..
+        } => {
             write_minus(printer, *negative)?;
             printer.duration(*nanos)
         }
@@ -80,6 +90,7 @@ fn write_more_fields(printer: &mut Printer, fields: &[Field]) -> Result<(), Memo
     Ok(())
 }
 
+/// Writes fields with a comma between them.
 fn write_fields(printer: &mut Printer, fields: &Fields) -> Result<(), Memory>
     ensures { OnOk result (printer.new ≡ put_all printer.old (kinds.fields_kinds fields.now)) }
 {
@@ -100,6 +111,7 @@ fn write_select(printer: &mut Printer, fields: &Fields) -> Result<(), Memory>
     printer.sign(Sign::CloseParen)
 }
 
+/// Writes a stage.
 fn write_stage(printer: &mut Printer, stage: &Stage) -> Result<(), Memory>
     ensures { OnOk result (printer.new ≡ put_all printer.old (kinds.stage_kinds (stage_tree stage.now))) }
 {

@@ -22,7 +22,7 @@ use Rattle.traceql_syntax.specs.declared.query.AggregateOp.{AggregateOp}
 use Rattle.traceql_syntax.specs.declared.query.SpansetLevel.{SpansetLevel}
 use Rattle.traceql_syntax.specs.declared.query.SpansetLevel.TheVariants as set_level
 use Rattle.traceql_syntax.specs.declared.query.SpansetOp.{SpansetOp}
-use Rattle.traceql_syntax.specs.Trees.{Literally, Asks, Unary, Binary, Match, Placed, SetTree, Filter, Join, AggregateTree, Count, Of, ThresholdTree, Whole, StageTree, Keep, By, Coalesce, Select, Compare, QueryTree}
+use Rattle.traceql_syntax.specs.Trees.{Literally, Asks, Unary, Binary, Match, Placed, SetTree, Filter, Join, AggregateTree, Count, Of, ThresholdTree, Aggregate, StageTree, Keep, By, Coalesce, Select, Compare, QueryTree}
 use Rattle.traceql_syntax.specs.Tables.{prefix_sign, comparison_sign, level_sign, pattern_sign, set_sign, aggregate_word, literal_of, field_of, measure_of}
 
 -- a sign and a word at a place
@@ -96,9 +96,9 @@ pub data SpellsAggregate : ℕ → AggregateTree → List Token → Type 0 where
 
 -- what an aggregate is compared with: an aggregate, or a number or duration with or without a minus
 pub data SpellsThreshold : ℕ → ThresholdTree → List Token → Type 0 where
-  aggregate : {n : ℕ} {a : AggregateTree} {ts : List Token} → SpellsAggregate n a ts → SpellsThreshold n (Whole a) ts
-  plain : {n : ℕ} {x : ThresholdTree} (t : Token) → measure_of false t.kind ≡ Some x → SpellsThreshold n x (t ∷ [])
-  minus : {n : ℕ} {x : ThresholdTree} (at : ℕ) (t : Token) → measure_of true t.kind ≡ Some x → SpellsThreshold n x (mark at sign.Minus ∷ t ∷ [])
+  aggregate : {n : ℕ} {a : AggregateTree} {ts : List Token} → SpellsAggregate n a ts → SpellsThreshold n (Aggregate a) ts
+  plain : {n : ℕ} {x : ThresholdTree} (t : Token) → measure_of false t.at t.kind ≡ Some x → SpellsThreshold n x (t ∷ [])
+  minus : {n : ℕ} {x : ThresholdTree} (at : ℕ) (t : Token) → measure_of true t.at t.kind ≡ Some x → SpellsThreshold n x (mark at sign.Minus ∷ t ∷ [])
 
 -- the fields of a `select`
 pub data SpellsFields : List Field → List Token → Type 0 where

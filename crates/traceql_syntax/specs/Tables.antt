@@ -1,5 +1,5 @@
 -- What each sign, word and token stands for where a rule of the grammar asks for it.
-use Rattle.std.specs.Prelude.{Bool, true, false, Option, Some, None, option_map}
+use Rattle.std.specs.Prelude.{ℕ, Bool, true, false, Option, Some, None, option_map}
 use Rattle.span_types.specs.declared.spans.SpanKind.TheVariants as span
 use Rattle.span_types.specs.declared.spans.StatusCode.TheVariants as status
 use Rattle.traceql_tokens.specs.declared.fixed.Sign.{Sign}
@@ -151,8 +151,8 @@ field_of (token.Named scope name) = Some (field.Attribute scope name)
 field_of (token.Builtin i) = Some (field.Intrinsic i)
 field_of _ = None
 
--- the numbers and durations behind a comparison of an aggregate, and whether a minus stands before them
-abbrev pub measure_of : Bool → TokenKind → Option ThresholdTree
-measure_of negative (token.Number n) = Some (Number negative n)
-measure_of negative (token.Duration n) = Some (Duration negative n)
-measure_of negative _ = None
+-- the numbers and durations after a comparison of an aggregate: whether a minus stands before it, its place, the token
+abbrev pub measure_of : Bool → ℕ → TokenKind → Option ThresholdTree
+measure_of negative at (token.Number n) = Some (Number at negative n)
+measure_of negative at (token.Duration n) = Some (Duration at negative n)
+measure_of negative at _ = None

@@ -9,7 +9,7 @@ use Rattle.traceql_syntax.specs.declared.field.FieldExpr.TheVariants as expr
 use Rattle.traceql_syntax.specs.declared.field.Literal.{Literal}
 use Rattle.traceql_syntax.specs.declared.field.Operand.{Operand}
 use Rattle.traceql_syntax.specs.declared.field.UnaryOp.{UnaryOp}
-use Rattle.traceql_syntax.specs.declared.query.Aggregate.{Aggregate}
+use Rattle.traceql_syntax.specs.declared.query.Aggregate.{Aggregate as AggregateValue}
 use Rattle.traceql_syntax.specs.declared.query.Aggregate.TheVariants as aggregate
 use Rattle.traceql_syntax.specs.declared.query.AggregateOp.{AggregateOp}
 use Rattle.traceql_syntax.specs.declared.query.Query.{Query}
@@ -43,9 +43,9 @@ pub data AggregateTree : Type 0 where
   Of : AggregateOp → Placed → AggregateTree
 
 pub data ThresholdTree : Type 0 where
-  Whole : AggregateTree → ThresholdTree
-  Number : (negative : Bool) → (value : ℕ) → ThresholdTree
-  Duration : (negative : Bool) → (nanos : ℕ) → ThresholdTree
+  Aggregate : AggregateTree → ThresholdTree
+  Number : (at : ℕ) → (negative : Bool) → (value : ℕ) → ThresholdTree
+  Duration : (at : ℕ) → (negative : Bool) → (nanos : ℕ) → ThresholdTree
 
 pub data StageTree : Type 0 where
   Keep : (at : ℕ) → (condition : Option Placed) → StageTree
@@ -78,14 +78,14 @@ abbrev pub set_tree : SpansetExpr → SetTree
 set_tree (spanset.Filter at condition) = Filter at (placed_option condition)
 set_tree (spanset.Join' at op p a q b) = Join at op (set_tree a) (set_tree b)
 
-abbrev pub aggregate_tree : Aggregate → AggregateTree
+abbrev pub aggregate_tree : AggregateValue → AggregateTree
 aggregate_tree aggregate.Count = Count
 aggregate_tree (aggregate.Of op argument) = Of op (placed argument)
 
 abbrev pub threshold_tree : Threshold → ThresholdTree
-threshold_tree (threshold.Aggregate a) = Whole (aggregate_tree a)
-threshold_tree (threshold.Number negative value) = Number negative value
-threshold_tree (threshold.Duration negative nanos) = Duration negative nanos
+threshold_tree (threshold.Aggregate a) = Aggregate (aggregate_tree a)
+threshold_tree (threshold.Number at negative value) = Number at negative value
+threshold_tree (threshold.Duration at negative nanos) = Duration at negative nanos
 
 abbrev pub stage_tree : Stage → StageTree
 stage_tree (stage.Filter at condition) = Keep at (placed_option condition)
@@ -122,9 +122,9 @@ bare_aggregate Count = Count
 bare_aggregate (Of op argument) = Of op (bare_placed argument)
 
 abbrev pub bare_threshold : ThresholdTree → ThresholdTree
-bare_threshold (Whole a) = Whole (bare_aggregate a)
-bare_threshold (Number negative value) = Number negative value
-bare_threshold (Duration negative nanos) = Duration negative nanos
+bare_threshold (Aggregate a) = Aggregate (bare_aggregate a)
+bare_threshold (Number at negative value) = Number 0 negative value
+bare_threshold (Duration at negative nanos) = Duration 0 negative nanos
 
 abbrev pub bare_stage : StageTree → StageTree
 bare_stage (Keep at condition) = Keep 0 (bare_option condition)

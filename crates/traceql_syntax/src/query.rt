@@ -102,6 +102,8 @@ pub enum Threshold {
     Aggregate(Aggregate),
     /// A number, below 2^63 before its sign.
     Number {
+        /// The place of the number's first byte, which stands after its sign.
+        at: u64,
         /// Whether a `-` stands before it.
         negative: bool,
         /// The number.
@@ -109,6 +111,8 @@ pub enum Threshold {
     },
     /// A duration in nanoseconds, below 2^63 before its sign.
     Duration {
+        /// The place of the duration's first byte, which stands after its sign.
+        at: u64,
         /// Whether a `-` stands before it.
         negative: bool,
         /// The nanoseconds.

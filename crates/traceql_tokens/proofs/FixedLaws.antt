@@ -1,7 +1,7 @@
 -- The tables of the tokens whose text is fixed: where each entry stands, and that what is found is the longest.
-use Rattle.std.proofs.Common.{◌≡◌, ℕ, zero, suc, ◌<◌, ◌≤◌, Bool, true, false, not, ◌&&◌, ◌⊎◌, inl, inr, cond, eqb, nat_eq, List, [], ◌∷◌, ◌++◌, length, drop, Option, None, Some, option_map, find, slice_get, get_or, refl, ap, ap₂, sym, ◌∙◌, subst, arith, length-append}
+use Rattle.std.proofs.Common.{◌≡◌, ℕ, zero, suc, ◌<◌, ◌≤◌, Bool, true, false, not, ◌&&◌, ◌⊎◌, inl, inr, cond, eqb, nat_eq, nat_lt, List, [], ◌∷◌, ◌++◌, length, drop, Option, None, Some, option_map, find, slice_get, get_or, refl, ap, ap₂, sym, ◌∙◌, subst, arith, length-append}
 use Rattle.std.specs.List.{list_all, starts_with}
-use Rattle.std.specs.Option.{option_or}
+use Rattle.std.specs.Option.{is_none, option_or}
 use Rattle.std.proofs.lemmas.List.{get_or_at, get_or_append_left}
 use Rattle.std.proofs.lemmas.List.Sums.{AllPass-from_list_all}
 use Rattle.traceql_tokens.specs.Fixed.{sign_text, word_text, intrinsic_text}
@@ -68,6 +68,14 @@ firsts f (z ∷ zs) (suc i) x rest o e =
     let parts = both (list_all (λ y. not (starts_with nat_eq (f y) (f z))) zs) (in_order f zs) o in
     firsts_at f z zs x rest (starts_with nat_eq (f x ++ rest) (f z)) refl (all_at (λ y. not (starts_with nat_eq (f y) (f z))) zs i x parts.0 e) (firsts f zs i x rest parts.1 e)
 
+some_length : (t : List ℕ) → nat_lt 0 (length t) ≡ true → 0 < length t
+some_length [] h = absurd (cc)
+some_length (x ∷ xs) h = omega arith
+
+none_there : {X : Type 0} (o : Option X) → is_none o ≡ true → o ≡ None
+none_there None h = refl
+none_there (Some x) h = absurd (cc)
+
 sign_order : in_order sign_text SIGNS ≡ true
 sign_order = refl
 
@@ -109,81 +117,15 @@ sign_place sign.Slash = (33, refl)
 sign_place sign.Percent = (34, refl)
 sign_place sign.Caret = (35, refl)
 
+-- what a test says of every entry of the table
+sign_all : (p : Sign → Bool) → list_all p SIGNS ≡ true → (x : Sign) → p x ≡ true
+sign_all p h x = all_at p SIGNS (sign_place x).0 x h (sign_place x).1
+
 sign_low : (x : Sign) → list_all is_low (sign_text x) ≡ true
-sign_low sign.BangGreaterGreater = refl
-sign_low sign.BangLessLess = refl
-sign_low sign.AmpGreaterGreater = refl
-sign_low sign.AmpLessLess = refl
-sign_low sign.BarBar = refl
-sign_low sign.AmpAmp = refl
-sign_low sign.GreaterGreater = refl
-sign_low sign.LessLess = refl
-sign_low sign.BangEqual = refl
-sign_low sign.BangTilde = refl
-sign_low sign.BangGreater = refl
-sign_low sign.BangLess = refl
-sign_low sign.AmpGreater = refl
-sign_low sign.AmpLess = refl
-sign_low sign.AmpTilde = refl
-sign_low sign.EqualTilde = refl
-sign_low sign.GreaterEqual = refl
-sign_low sign.LessEqual = refl
-sign_low sign.OpenBrace = refl
-sign_low sign.CloseBrace = refl
-sign_low sign.OpenParen = refl
-sign_low sign.CloseParen = refl
-sign_low sign.Comma = refl
-sign_low sign.Bar = refl
-sign_low sign.Amp = refl
-sign_low sign.Greater = refl
-sign_low sign.Less = refl
-sign_low sign.Tilde = refl
-sign_low sign.Bang = refl
-sign_low sign.Equal = refl
-sign_low sign.Plus = refl
-sign_low sign.Minus = refl
-sign_low sign.Star = refl
-sign_low sign.Slash = refl
-sign_low sign.Percent = refl
-sign_low sign.Caret = refl
+sign_low = sign_all (λ y. list_all is_low (sign_text y)) refl
 
 sign_some : (x : Sign) → 0 < length (sign_text x)
-sign_some sign.BangGreaterGreater = omega arith
-sign_some sign.BangLessLess = omega arith
-sign_some sign.AmpGreaterGreater = omega arith
-sign_some sign.AmpLessLess = omega arith
-sign_some sign.BarBar = omega arith
-sign_some sign.AmpAmp = omega arith
-sign_some sign.GreaterGreater = omega arith
-sign_some sign.LessLess = omega arith
-sign_some sign.BangEqual = omega arith
-sign_some sign.BangTilde = omega arith
-sign_some sign.BangGreater = omega arith
-sign_some sign.BangLess = omega arith
-sign_some sign.AmpGreater = omega arith
-sign_some sign.AmpLess = omega arith
-sign_some sign.AmpTilde = omega arith
-sign_some sign.EqualTilde = omega arith
-sign_some sign.GreaterEqual = omega arith
-sign_some sign.LessEqual = omega arith
-sign_some sign.OpenBrace = omega arith
-sign_some sign.CloseBrace = omega arith
-sign_some sign.OpenParen = omega arith
-sign_some sign.CloseParen = omega arith
-sign_some sign.Comma = omega arith
-sign_some sign.Bar = omega arith
-sign_some sign.Amp = omega arith
-sign_some sign.Greater = omega arith
-sign_some sign.Less = omega arith
-sign_some sign.Tilde = omega arith
-sign_some sign.Bang = omega arith
-sign_some sign.Equal = omega arith
-sign_some sign.Plus = omega arith
-sign_some sign.Minus = omega arith
-sign_some sign.Star = omega arith
-sign_some sign.Slash = omega arith
-sign_some sign.Percent = omega arith
-sign_some sign.Caret = omega arith
+sign_some x = some_length (sign_text x) (sign_all (λ y. nat_lt 0 (length (sign_text y))) refl x)
 
 -- the walk comes to the tables
 sign_comes : (x : Sign) (at : ℕ) (rest : List ℕ) → token_at at (sign_text x ++ rest) ≡ fixed_at (sign_text x ++ rest)
@@ -250,49 +192,15 @@ word_place word.Sum = (17, refl)
 word_place word.Fine = (18, refl)
 word_place word.By = (19, refl)
 
+-- what a test says of every entry of the table
+word_all : (p : Word → Bool) → list_all p WORDS ≡ true → (x : Word) → p x ≡ true
+word_all p h x = all_at p WORDS (word_place x).0 x h (word_place x).1
+
 word_low : (x : Word) → list_all is_low (word_text x) ≡ true
-word_low word.Unspecified = refl
-word_low word.Producer = refl
-word_low word.Consumer = refl
-word_low word.Internal = refl
-word_low word.Coalesce = refl
-word_low word.Server = refl
-word_low word.Client = refl
-word_low word.Select = refl
-word_low word.False = refl
-word_low word.Error = refl
-word_low word.Unset = refl
-word_low word.Count = refl
-word_low word.True = refl
-word_low word.Nil = refl
-word_low word.Avg = refl
-word_low word.Min = refl
-word_low word.Max = refl
-word_low word.Sum = refl
-word_low word.Fine = refl
-word_low word.By = refl
+word_low = word_all (λ y. list_all is_low (word_text y)) refl
 
 word_some : (x : Word) → 0 < length (word_text x)
-word_some word.Unspecified = omega arith
-word_some word.Producer = omega arith
-word_some word.Consumer = omega arith
-word_some word.Internal = omega arith
-word_some word.Coalesce = omega arith
-word_some word.Server = omega arith
-word_some word.Client = omega arith
-word_some word.Select = omega arith
-word_some word.False = omega arith
-word_some word.Error = omega arith
-word_some word.Unset = omega arith
-word_some word.Count = omega arith
-word_some word.True = omega arith
-word_some word.Nil = omega arith
-word_some word.Avg = omega arith
-word_some word.Min = omega arith
-word_some word.Max = omega arith
-word_some word.Sum = omega arith
-word_some word.Fine = omega arith
-word_some word.By = omega arith
+word_some x = some_length (word_text x) (word_all (λ y. nat_lt 0 (length (word_text y))) refl x)
 
 -- the walk comes to the tables
 word_comes : (x : Word) (at : ℕ) (rest : List ℕ) → token_at at (word_text x ++ rest) ≡ fixed_at (word_text x ++ rest)
@@ -344,51 +252,15 @@ intrinsic_place intrinsic.Status = (18, refl)
 intrinsic_place intrinsic.Name = (19, refl)
 intrinsic_place intrinsic.Kind = (20, refl)
 
+-- what a test says of every entry of the table
+intrinsic_all : (p : Intrinsic → Bool) → list_all p INTRINSICS ≡ true → (x : Intrinsic) → p x ≡ true
+intrinsic_all p h x = all_at p INTRINSICS (intrinsic_place x).0 x h (intrinsic_place x).1
+
 intrinsic_low : (x : Intrinsic) → list_all is_low (intrinsic_text x) ≡ true
-intrinsic_low intrinsic.InstrumentationVersion = refl
-intrinsic_low intrinsic.InstrumentationName = refl
-intrinsic_low intrinsic.SpanStatusMessage = refl
-intrinsic_low intrinsic.TraceRootService = refl
-intrinsic_low intrinsic.RootServiceName = refl
-intrinsic_low intrinsic.TraceColonDuration = refl
-intrinsic_low intrinsic.TraceRootName = refl
-intrinsic_low intrinsic.StatusMessage = refl
-intrinsic_low intrinsic.SpanDuration = refl
-intrinsic_low intrinsic.SpanParentId = refl
-intrinsic_low intrinsic.TraceDuration = refl
-intrinsic_low intrinsic.SpanStatus = refl
-intrinsic_low intrinsic.SpanName = refl
-intrinsic_low intrinsic.SpanKind = refl
-intrinsic_low intrinsic.Duration = refl
-intrinsic_low intrinsic.TraceId = refl
-intrinsic_low intrinsic.RootName = refl
-intrinsic_low intrinsic.SpanId = refl
-intrinsic_low intrinsic.Status = refl
-intrinsic_low intrinsic.Name = refl
-intrinsic_low intrinsic.Kind = refl
+intrinsic_low = intrinsic_all (λ y. list_all is_low (intrinsic_text y)) refl
 
 intrinsic_some : (x : Intrinsic) → 0 < length (intrinsic_text x)
-intrinsic_some intrinsic.InstrumentationVersion = omega arith
-intrinsic_some intrinsic.InstrumentationName = omega arith
-intrinsic_some intrinsic.SpanStatusMessage = omega arith
-intrinsic_some intrinsic.TraceRootService = omega arith
-intrinsic_some intrinsic.RootServiceName = omega arith
-intrinsic_some intrinsic.TraceColonDuration = omega arith
-intrinsic_some intrinsic.TraceRootName = omega arith
-intrinsic_some intrinsic.StatusMessage = omega arith
-intrinsic_some intrinsic.SpanDuration = omega arith
-intrinsic_some intrinsic.SpanParentId = omega arith
-intrinsic_some intrinsic.TraceDuration = omega arith
-intrinsic_some intrinsic.SpanStatus = omega arith
-intrinsic_some intrinsic.SpanName = omega arith
-intrinsic_some intrinsic.SpanKind = omega arith
-intrinsic_some intrinsic.Duration = omega arith
-intrinsic_some intrinsic.TraceId = omega arith
-intrinsic_some intrinsic.RootName = omega arith
-intrinsic_some intrinsic.SpanId = omega arith
-intrinsic_some intrinsic.Status = omega arith
-intrinsic_some intrinsic.Name = omega arith
-intrinsic_some intrinsic.Kind = omega arith
+intrinsic_some x = some_length (intrinsic_text x) (intrinsic_all (λ y. nat_lt 0 (length (intrinsic_text y))) refl x)
 
 -- the walk comes to the tables
 intrinsic_comes : (x : Intrinsic) (at : ℕ) (rest : List ℕ) → token_at at (intrinsic_text x ++ rest) ≡ fixed_at (intrinsic_text x ++ rest)
@@ -416,72 +288,13 @@ intrinsic_comes intrinsic.Name at rest = refl
 intrinsic_comes intrinsic.Kind at rest = refl
 
 word_no_sign : (x : Word) (rest : List ℕ) → find (λ y. starts_with nat_eq (word_text x ++ rest) (sign_text y)) SIGNS ≡ None
-word_no_sign word.Unspecified rest = refl
-word_no_sign word.Producer rest = refl
-word_no_sign word.Consumer rest = refl
-word_no_sign word.Internal rest = refl
-word_no_sign word.Coalesce rest = refl
-word_no_sign word.Server rest = refl
-word_no_sign word.Client rest = refl
-word_no_sign word.Select rest = refl
-word_no_sign word.False rest = refl
-word_no_sign word.Error rest = refl
-word_no_sign word.Unset rest = refl
-word_no_sign word.Count rest = refl
-word_no_sign word.True rest = refl
-word_no_sign word.Nil rest = refl
-word_no_sign word.Avg rest = refl
-word_no_sign word.Min rest = refl
-word_no_sign word.Max rest = refl
-word_no_sign word.Sum rest = refl
-word_no_sign word.Fine rest = refl
-word_no_sign word.By rest = refl
+word_no_sign x rest = none_there (find (λ y. starts_with nat_eq (word_text x ++ rest) (sign_text y)) SIGNS) (word_all (λ z. is_none (find (λ y. starts_with nat_eq (word_text z ++ rest) (sign_text y)) SIGNS)) refl x)
 
 intrinsic_no_sign : (x : Intrinsic) (rest : List ℕ) → find (λ y. starts_with nat_eq (intrinsic_text x ++ rest) (sign_text y)) SIGNS ≡ None
-intrinsic_no_sign intrinsic.InstrumentationVersion rest = refl
-intrinsic_no_sign intrinsic.InstrumentationName rest = refl
-intrinsic_no_sign intrinsic.SpanStatusMessage rest = refl
-intrinsic_no_sign intrinsic.TraceRootService rest = refl
-intrinsic_no_sign intrinsic.RootServiceName rest = refl
-intrinsic_no_sign intrinsic.TraceColonDuration rest = refl
-intrinsic_no_sign intrinsic.TraceRootName rest = refl
-intrinsic_no_sign intrinsic.StatusMessage rest = refl
-intrinsic_no_sign intrinsic.SpanDuration rest = refl
-intrinsic_no_sign intrinsic.SpanParentId rest = refl
-intrinsic_no_sign intrinsic.TraceDuration rest = refl
-intrinsic_no_sign intrinsic.SpanStatus rest = refl
-intrinsic_no_sign intrinsic.SpanName rest = refl
-intrinsic_no_sign intrinsic.SpanKind rest = refl
-intrinsic_no_sign intrinsic.Duration rest = refl
-intrinsic_no_sign intrinsic.TraceId rest = refl
-intrinsic_no_sign intrinsic.RootName rest = refl
-intrinsic_no_sign intrinsic.SpanId rest = refl
-intrinsic_no_sign intrinsic.Status rest = refl
-intrinsic_no_sign intrinsic.Name rest = refl
-intrinsic_no_sign intrinsic.Kind rest = refl
+intrinsic_no_sign x rest = none_there (find (λ y. starts_with nat_eq (intrinsic_text x ++ rest) (sign_text y)) SIGNS) (intrinsic_all (λ z. is_none (find (λ y. starts_with nat_eq (intrinsic_text z ++ rest) (sign_text y)) SIGNS)) refl x)
 
 intrinsic_no_word : (x : Intrinsic) (rest : List ℕ) → find (λ y. starts_with nat_eq (intrinsic_text x ++ rest) (word_text y)) WORDS ≡ None
-intrinsic_no_word intrinsic.InstrumentationVersion rest = refl
-intrinsic_no_word intrinsic.InstrumentationName rest = refl
-intrinsic_no_word intrinsic.SpanStatusMessage rest = refl
-intrinsic_no_word intrinsic.TraceRootService rest = refl
-intrinsic_no_word intrinsic.RootServiceName rest = refl
-intrinsic_no_word intrinsic.TraceColonDuration rest = refl
-intrinsic_no_word intrinsic.TraceRootName rest = refl
-intrinsic_no_word intrinsic.StatusMessage rest = refl
-intrinsic_no_word intrinsic.SpanDuration rest = refl
-intrinsic_no_word intrinsic.SpanParentId rest = refl
-intrinsic_no_word intrinsic.TraceDuration rest = refl
-intrinsic_no_word intrinsic.SpanStatus rest = refl
-intrinsic_no_word intrinsic.SpanName rest = refl
-intrinsic_no_word intrinsic.SpanKind rest = refl
-intrinsic_no_word intrinsic.Duration rest = refl
-intrinsic_no_word intrinsic.TraceId rest = refl
-intrinsic_no_word intrinsic.RootName rest = refl
-intrinsic_no_word intrinsic.SpanId rest = refl
-intrinsic_no_word intrinsic.Status rest = refl
-intrinsic_no_word intrinsic.Name rest = refl
-intrinsic_no_word intrinsic.Kind rest = refl
+intrinsic_no_word x rest = none_there (find (λ y. starts_with nat_eq (intrinsic_text x ++ rest) (word_text y)) WORDS) (intrinsic_all (λ z. is_none (find (λ y. starts_with nat_eq (intrinsic_text z ++ rest) (word_text y)) WORDS)) refl x)
 
 abbrev by_tables : Option Sign → Option Word → Option Intrinsic → Option Measured
 by_tables a b c =
@@ -593,87 +406,13 @@ exact_first f xs x rest first calm some apart_ =
     ]
 
 sign_calm : (x : Sign) → list_all is_calm (drop 1 (sign_text x)) ≡ true
-sign_calm sign.BangGreaterGreater = refl
-sign_calm sign.BangLessLess = refl
-sign_calm sign.AmpGreaterGreater = refl
-sign_calm sign.AmpLessLess = refl
-sign_calm sign.BarBar = refl
-sign_calm sign.AmpAmp = refl
-sign_calm sign.GreaterGreater = refl
-sign_calm sign.LessLess = refl
-sign_calm sign.BangEqual = refl
-sign_calm sign.BangTilde = refl
-sign_calm sign.BangGreater = refl
-sign_calm sign.BangLess = refl
-sign_calm sign.AmpGreater = refl
-sign_calm sign.AmpLess = refl
-sign_calm sign.AmpTilde = refl
-sign_calm sign.EqualTilde = refl
-sign_calm sign.GreaterEqual = refl
-sign_calm sign.LessEqual = refl
-sign_calm sign.OpenBrace = refl
-sign_calm sign.CloseBrace = refl
-sign_calm sign.OpenParen = refl
-sign_calm sign.CloseParen = refl
-sign_calm sign.Comma = refl
-sign_calm sign.Bar = refl
-sign_calm sign.Amp = refl
-sign_calm sign.Greater = refl
-sign_calm sign.Less = refl
-sign_calm sign.Tilde = refl
-sign_calm sign.Bang = refl
-sign_calm sign.Equal = refl
-sign_calm sign.Plus = refl
-sign_calm sign.Minus = refl
-sign_calm sign.Star = refl
-sign_calm sign.Slash = refl
-sign_calm sign.Percent = refl
-sign_calm sign.Caret = refl
+sign_calm = sign_all (λ y. list_all is_calm (drop 1 (sign_text y))) refl
 
 word_calm : (x : Word) → list_all is_calm (drop 1 (word_text x)) ≡ true
-word_calm word.Unspecified = refl
-word_calm word.Producer = refl
-word_calm word.Consumer = refl
-word_calm word.Internal = refl
-word_calm word.Coalesce = refl
-word_calm word.Server = refl
-word_calm word.Client = refl
-word_calm word.Select = refl
-word_calm word.False = refl
-word_calm word.Error = refl
-word_calm word.Unset = refl
-word_calm word.Count = refl
-word_calm word.True = refl
-word_calm word.Nil = refl
-word_calm word.Avg = refl
-word_calm word.Min = refl
-word_calm word.Max = refl
-word_calm word.Sum = refl
-word_calm word.Fine = refl
-word_calm word.By = refl
+word_calm = word_all (λ y. list_all is_calm (drop 1 (word_text y))) refl
 
 intrinsic_calm : (x : Intrinsic) → list_all is_calm (drop 1 (intrinsic_text x)) ≡ true
-intrinsic_calm intrinsic.InstrumentationVersion = refl
-intrinsic_calm intrinsic.InstrumentationName = refl
-intrinsic_calm intrinsic.SpanStatusMessage = refl
-intrinsic_calm intrinsic.TraceRootService = refl
-intrinsic_calm intrinsic.RootServiceName = refl
-intrinsic_calm intrinsic.TraceColonDuration = refl
-intrinsic_calm intrinsic.TraceRootName = refl
-intrinsic_calm intrinsic.StatusMessage = refl
-intrinsic_calm intrinsic.SpanDuration = refl
-intrinsic_calm intrinsic.SpanParentId = refl
-intrinsic_calm intrinsic.TraceDuration = refl
-intrinsic_calm intrinsic.SpanStatus = refl
-intrinsic_calm intrinsic.SpanName = refl
-intrinsic_calm intrinsic.SpanKind = refl
-intrinsic_calm intrinsic.Duration = refl
-intrinsic_calm intrinsic.TraceId = refl
-intrinsic_calm intrinsic.RootName = refl
-intrinsic_calm intrinsic.SpanId = refl
-intrinsic_calm intrinsic.Status = refl
-intrinsic_calm intrinsic.Name = refl
-intrinsic_calm intrinsic.Kind = refl
+intrinsic_calm = intrinsic_all (λ y. list_all is_calm (drop 1 (intrinsic_text y))) refl
 
 -- a sign, a word or an intrinsic is found as it stands before what keeps it apart
 pub sign_exact : (at : ℕ) (s : Sign) (rest : List ℕ) → Apart rest → token_at at (sign_text s ++ rest) ≡ Some (token.Mark s, length (sign_text s))

@@ -51,7 +51,7 @@ aggregate-send = variants_send Aggregate.enum (tt, ((op.the_send, (operand-send,
 
 threshold-send : IsSend Threshold.the_row
 threshold-send =
-    variants_send Threshold.enum ((aggregate-send, tt), ((bool-send, (u64-send, tt)), ((bool-send, (u64-send, tt)), tt)))
+    variants_send Threshold.enum ((aggregate-send, tt), ((u64-send, (bool-send, (u64-send, tt))), ((u64-send, (bool-send, (u64-send, tt))), tt)))
 
 fields-send : IsSend (Seq.the_row Field.the_row)
 fields-send = search (field.the_send, sendable, crosses) depth 40
@@ -120,7 +120,7 @@ aggregate-sync = variants_sync Aggregate.enum (tt, ((op.the_sync, (operand-sync,
 
 threshold-sync : IsSync Threshold.the_row
 threshold-sync =
-    variants_sync Threshold.enum ((aggregate-sync, tt), ((bool-sync, (u64-sync, tt)), ((bool-sync, (u64-sync, tt)), tt)))
+    variants_sync Threshold.enum ((aggregate-sync, tt), ((u64-sync, (bool-sync, (u64-sync, tt))), ((u64-sync, (bool-sync, (u64-sync, tt))), tt)))
 
 fields-sync : IsSync (Seq.the_row Field.the_row)
 fields-sync = search (field.the_sync, sendable, crosses) depth 40

@@ -1,5 +1,5 @@
 -- How the making of patterns goes on.
-use Rattle.std.proofs.Common.{◌≡◌, ℕ, ◌+◌, ◌-◌, ◌^◌, ◌<◌, ◌≤◌, min, ◌⊎◌, inl, inr, List, [], ◌∷◌, ◌++◌, length, take, map, Option, Some, None, refl, sym, ap, ◌∙◌, rules, arith}
+use Rattle.std.proofs.Common.{◌≡◌, ℕ, ◌+◌, ◌-◌, ◌^◌, ◌<◌, ◌≤◌, min, ◌⊎◌, inl, inr, List, [], ◌∷◌, ◌++◌, length, take, map, Option, Some, None, Err, refl, sym, ap, ◌∙◌, rules, arith}
 use Rattle.std.specs.Prelude.{All, Contains, IfSome, IsSomeAnd}
 use Rattle.std.proofs.lemmas.List.{map-append, length-append, take_all}
 use Rattle.std.proofs.lemmas.List.Elements.{All-weaker, All-cons, All-nil, All-push, All-contains, Contains-append_left, Contains-append_right}
@@ -11,8 +11,10 @@ use Rattle.traceql_types.specs.declared.pattern.Pattern.{Pattern}
 use Rattle.traceql_types.specs.declared.asked.Asked.{Asked}
 use Rattle.traceql_types.specs.Shown.{shown}
 use Rattle.traceql_types.specs.Asked.{PlacedText, asked_patterns}
-use Rattle.traceql_types.specs.Checks.{AreMade, IsMade, HasCause, GoesFirst, ComesAfterMade, IsFound, of_kinds, no_pattern, refused, Found, Stands}
-use Rattle.traceql_types.specs.Makers.{Called}
+use Rattle.traceql_types.specs.Checks.{AreMade, IsMade, HasCause, GoesFirst, ComesAfterMade}
+use Rattle.traceql_types.specs.Steps.{IsFound, of_kinds, no_pattern, refused, Found, Stands, Step, passed, done as made_one, bad, too_big}
+use Rattle.traceql_types.specs.declared.errors.MakeError.TheVariants as make
+use Rattle.traceql_types.specs.Makers.{Call}
 use Rattle.traceql_types.specs.Order.{place, number, Precedes, IsFirstOf}
 use Rattle.traceql_types.specs.Patterns.{pattern_text}
 use Rattle.traceql_types.specs.Refusals.{kind_refusals}
@@ -25,15 +27,15 @@ last-contained : (done : List PlacedText) (m : PlacedText) → Contains (done ++
 last-contained done m = Contains-append_right done (m ∷ []) m (search rules)
 
 -- a cause stays one
-found-grows : (kinds : Option TypeError) (done : List PlacedText) (rose risen : Type 0) (m : PlacedText) (e : TypeError) →
-    (rose → risen) → IsFound kinds done rose e → IsFound kinds (done ++ m ∷ []) risen e
+found-grows : (kinds : Option TypeError) (done : List PlacedText) (rose risen : List ℕ → Type 0) (m : PlacedText) (e : TypeError) →
+    ((t : List ℕ) → rose t → risen t) → IsFound kinds done rose e → IsFound kinds (done ++ m ∷ []) risen e
 found-grows kinds done rose risen m e up (of_kinds h) = of_kinds h
 found-grows kinds done rose risen m e up (no_pattern n is at why) = no_pattern n (Contains-append_left done (m ∷ []) n is) at why
-found-grows kinds done rose risen m e up (refused n is at why) = refused n (Contains-append_left done (m ∷ []) n is) at (up why)
+found-grows kinds done rose risen m e up (refused n is at why) = refused n (Contains-append_left done (m ∷ []) n is) at (up n.1 why)
 
 -- nothing is asked for: a refusal goes before
-pub stands-skip : (kinds : Option TypeError) (done : List PlacedText) (rose risen : Type 0) (m : PlacedText) (first : Option TypeError) (made : List Pattern) →
-    (rose → risen) → IsSomeAnd first (λ e. Precedes e (BadPattern m.0)) →
+pub stands-skip : (kinds : Option TypeError) (done : List PlacedText) (rose risen : List ℕ → Type 0) (m : PlacedText) (first : Option TypeError) (made : List Pattern) →
+    ((t : List ℕ) → rose t → risen t) → IsSomeAnd first (λ e. Precedes e (BadPattern m.0)) →
     Stands kinds done rose first made → Stands kinds (done ++ m ∷ []) risen first made
 stands-skip kinds done rose risen m None made up before stands = absurd before
 stands-skip kinds done rose risen m (Some e) made up before stands = record {
@@ -45,15 +47,19 @@ stands-skip kinds done rose risen m (Some e) made up before stands = record {
   behind p k at (inl h) lower = omega arith
   behind p k at (inr h) lower = omega arith
 
--- the pattern was made
-pub stands-made : (kinds : Option TypeError) (done : List PlacedText) (rose risen : Type 0) (m : PlacedText) (first : Option TypeError) (made : List Pattern) (p : Pattern) →
-    (rose → risen) → pattern_text p ≡ m.1 →
-    Stands kinds done rose first made → Stands kinds (done ++ m ∷ []) risen first (made ++ p ∷ [])
-stands-made kinds done rose risen m None made p up shows stands =
-    (stands.0, map-append pattern_text made (p ∷ []) ∙ joined ∙ sym (map-append (λ (n : PlacedText). n.1) done (m ∷ [])))
+-- one pattern more is made
+pub are_made-more : (done : List PlacedText) (m : PlacedText) (made : List Pattern) (p : Pattern) → pattern_text p ≡ m.1 → AreMade done made → AreMade (done ++ m ∷ []) (made ++ p ∷ [])
+are_made-more done m made p shows are =
+    map-append pattern_text made (p ∷ []) ∙ joined ∙ sym (map-append (λ (n : PlacedText). n.1) done (m ∷ []))
   where
     joined : map pattern_text made ++ pattern_text p ∷ [] ≡ map (λ (n : PlacedText). n.1) done ++ m.1 ∷ []
-    joined = let e = stands.1 in cc
+    joined = cc
+
+-- the pattern was made
+pub stands-made : (kinds : Option TypeError) (done : List PlacedText) (rose risen : List ℕ → Type 0) (m : PlacedText) (first : Option TypeError) (made : List Pattern) (p : Pattern) →
+    ((t : List ℕ) → rose t → risen t) → pattern_text p ≡ m.1 →
+    Stands kinds done rose first made → Stands kinds (done ++ m ∷ []) risen first (made ++ p ∷ [])
+stands-made kinds done rose risen m None made p up shows stands = (stands.0, are_made-more done m made p shows stands.1)
 stands-made kinds done rose risen m (Some e) made p up shows stands = record {
   cause = found-grows kinds done rose risen m e up stands.cause;
   first = stands.first;
@@ -77,7 +83,7 @@ all-made (m ∷ done) (p ∷ made) h =
     tail x y xs ys e = cc
 
 -- a refusal at the pattern's place that goes before the one found so far, if there is one
-stands-worse : (kinds : Option TypeError) (done : List PlacedText) (rose risen : Type 0) (m : PlacedText) (x : TypeError) (first : Option TypeError) (made : List Pattern) →
+stands-worse : (kinds : Option TypeError) (done : List PlacedText) (rose risen : List ℕ → Type 0) (m : PlacedText) (x : TypeError) (first : Option TypeError) (made : List Pattern) →
     place x ≡ m.0 → IfSome first (Precedes x) → IsFound kinds (done ++ m ∷ []) risen x →
     Stands kinds done rose first made → Found kinds (done ++ m ∷ []) risen x
 stands-worse kinds done rose risen m x None made here before cause stands = record {
@@ -115,7 +121,7 @@ big-before None at against = tt
 big-before (Some e) at against = big-order (place e) (number e) at against
 
 -- the text was no pattern
-pub stands-bad : (kinds : Option TypeError) (done : List PlacedText) (rose risen : Type 0) (m : PlacedText) (first : Option TypeError) (made : List Pattern) →
+pub stands-bad : (kinds : Option TypeError) (done : List PlacedText) (rose risen : List ℕ → Type 0) (m : PlacedText) (first : Option TypeError) (made : List Pattern) →
     (IsSomeAnd first (λ e. Precedes e (BadPattern m.0)) → ⊥) → IsNoPattern m.1 →
     Stands kinds done rose first made → Found kinds (done ++ m ∷ []) risen (BadPattern m.0)
 stands-bad kinds done rose risen m first made against why =
@@ -123,17 +129,17 @@ stands-bad kinds done rose risen m first made against why =
     (no_pattern m (last-contained done m) refl why)
 
 -- the maker refused it
-pub stands-refused : (kinds : Option TypeError) (done : List PlacedText) (rose risen : Type 0) (m : PlacedText) (first : Option TypeError) (made : List Pattern) →
-    (IsSomeAnd first (λ e. Precedes e (BadPattern m.0)) → ⊥) → risen →
+pub stands-refused : (kinds : Option TypeError) (done : List PlacedText) (rose risen : List ℕ → Type 0) (m : PlacedText) (first : Option TypeError) (made : List Pattern) →
+    (IsSomeAnd first (λ e. Precedes e (BadPattern m.0)) → ⊥) → risen m.1 →
     Stands kinds done rose first made → Found kinds (done ++ m ∷ []) risen (PatternTooBig m.0)
 stands-refused kinds done rose risen m first made against why =
     stands-worse kinds done rose risen m (PatternTooBig m.0) first made refl (big-before first m.0 against)
     (refused m (last-contained done m) refl why)
 
 -- before the first pattern
-pub stands-start : (kinds : Option TypeError) (rose : Type 0) → Stands kinds [] rose kinds []
-stands-start None rose = (refl, refl)
-stands-start (Some e) rose = record {
+pub stands-start : (kinds : Option TypeError) (rose : List ℕ → Type 0) (made : List Pattern) → made ≡ [] → Stands kinds [] rose kinds made
+stands-start None rose made is = (refl, rw is refl)
+stands-start (Some e) rose made is = record {
   cause = of_kinds refl;
   first = precedes_self e;
   after_made = All-nil (λ n. n.0 < place e → IsMade n.1);
@@ -147,26 +153,13 @@ rose_up before a b up h = omega arith
 pub rose_since : (before a b : ℕ) → before ≤ a → Rose a b → Rose before b
 rose_since before a b up h = grind arith
 
--- one call more
-called-sum : (n a b c : ℕ) → Called n a b → Called 1 b c → Called (n + 1) a c
-called-sum n a b c h k = (low h.0 k.0, high h.1 k.1)
-  where
-    low : min (a + n) (2 ^ 64 - 1) ≤ b → min (b + 1) (2 ^ 64 - 1) ≤ c → min (a + (n + 1)) (2 ^ 64 - 1) ≤ c
-    low x y = grind arith
-
-    high : b ≤ a + n → c ≤ b + 1 → c ≤ a + (n + 1)
-    high x y = omega arith
-
-pub called-more : (done : List PlacedText) (m : PlacedText) (a b c : ℕ) → Called (length done) a b → Called 1 b c → Called (length (done ++ m ∷ [])) a c
-called-more done m a b c h k = rw (length-append done (m ∷ [])) (called-sum (length done) a b c h k)
-
 -- after the last pattern, with no refusal
-pub fits-at_end : (q : QueryTree) (kinds : Option TypeError) (done : List PlacedText) (rose : Type 0) (made : List Pattern) →
+pub fits-at_end : (q : QueryTree) (kinds : Option TypeError) (done : List PlacedText) (rose : List ℕ → Type 0) (made : List Pattern) →
     IsFirstOf (kind_refusals q) kinds → Stands kinds done rose None made → kind_refusals q ≡ []
 fits-at_end q kinds done rose made first stands = rw stands.0 at first
 
 -- the cause of a refusal after the last pattern
-cause_of_kinds : (q : QueryTree) (rose : Type 0) (e : TypeError) → IsOfKinds e → Contains (kind_refusals q) e → HasCause q rose e
+cause_of_kinds : (q : QueryTree) (rose : List ℕ → Type 0) (e : TypeError) → IsOfKinds e → Contains (kind_refusals q) e → HasCause q rose e
 cause_of_kinds q rose (KindClash at) of h = h
 cause_of_kinds q rose (NotTruth at) of h = h
 cause_of_kinds q rose (DivisionInAggregate at) of h = h
@@ -175,7 +168,12 @@ cause_of_kinds q rose (BadPattern at) of h = absurd of
 cause_of_kinds q rose (PatternTooBig at) of h = absurd of
 cause_of_kinds q rose Memory of h = tt
 
-pub cause-at_end : (q : QueryTree) (kinds : Option TypeError) (rose : Type 0) (e : TypeError) →
+-- the refusal for kinds that goes first is one for kinds
+pub first_is_of_kinds : (q : QueryTree) (kinds : Option TypeError) → IsFirstOf (kind_refusals q) kinds → IfSome kinds IsOfKinds
+first_is_of_kinds q None first = tt
+first_is_of_kinds q (Some e) first = All-contains IsOfKinds (kind_refusals q) e (kinds_fine q) first.among
+
+pub cause-at_end : (q : QueryTree) (kinds : Option TypeError) (rose : List ℕ → Type 0) (e : TypeError) →
     IsFirstOf (kind_refusals q) kinds → IsFound kinds (asked_patterns q) rose e → HasCause q rose e
 cause-at_end q kinds rose e first (of_kinds h) =
     let is = rw h at first in
@@ -207,9 +205,33 @@ after_made-at_end q (PatternTooBig at) h = h
 after_made-at_end q Memory h = tt
 
 -- what was found, once all were asked for
-pub found-at_end : (kinds first : Option TypeError) (done asked : List PlacedText) (rose : Type 0) (e : TypeError) (made : List Pattern) →
+pub found-at_end : (kinds first : Option TypeError) (done asked : List PlacedText) (rose : List ℕ → Type 0) (e : TypeError) (made : List Pattern) →
     first ≡ Some e → done ≡ asked → Stands kinds done rose first made → Found kinds asked rose e
 found-at_end kinds first done asked rose e made is all stands = rw (← all) (rw is at stands)
 
 pub shown-taken : (xs : List Asked) (i : ℕ) → length xs ≤ i → map shown (take i xs) ≡ map shown xs
 shown-taken xs i h = ap (map shown) (take_all i xs h)
+
+-- one step more
+pub stands-step : (kinds : Option TypeError) (done : List PlacedText) (rose risen : List ℕ → Type 0) (own : Type 0) (m : PlacedText) (first now : Option TypeError) (made more : List Pattern) (calls : List Call) →
+    ((t : List ℕ) → rose t → risen t) → (own → calls ≡ (m.1, Err make.Refused) ∷ [] → risen m.1) → Step m own first made now more calls →
+    Stands kinds done rose first made → Stands kinds (done ++ m ∷ []) risen now more
+stands-step kinds done rose risen own m first now made more calls up last (passed before) stands = stands-skip kinds done rose risen m first made up before stands
+stands-step kinds done rose risen own m first now made more calls up last (made_one p none shows) stands = stands-made kinds done rose risen m first made p up shows stands
+stands-step kinds done rose risen own m first now made more calls up last (bad none why) stands = stands-bad kinds done rose risen m first made none why stands
+stands-step kinds done rose risen own m first now made more calls up last (too_big none why) stands = stands-refused kinds done rose risen m first made none (last why refl) stands
+
+-- the same cause, where less is said of a text that was refused
+pub cause-weaker : (q : QueryTree) (Refused Weaker : List ℕ → Type 0) (e : TypeError) → ((t : List ℕ) → Refused t → Weaker t) → HasCause q Refused e → HasCause q Weaker e
+cause-weaker q Refused Weaker (KindClash at) w h = h
+cause-weaker q Refused Weaker (NotTruth at) w h = h
+cause-weaker q Refused Weaker (DivisionInAggregate at) w h = h
+cause-weaker q Refused Weaker (NotNumber at) w h = h
+cause-weaker q Refused Weaker (BadPattern at) w h = h
+cause-weaker q Refused Weaker (PatternTooBig at) w h = (h.0, h.1, h.2, w h.0.1 h.3)
+cause-weaker q Refused Weaker Memory w h = tt
+
+-- where no refusal was found, all so far were made
+pub made-if-none : (kinds first : Option TypeError) (done : List PlacedText) (rose : List ℕ → Type 0) (made : List Pattern) → Stands kinds done rose first made → first ≡ None → AreMade done made
+made-if-none kinds None done rose made stands none = stands.1
+made-if-none kinds (Some e) done rose made stands none = absurd (cc)

@@ -10,7 +10,7 @@ use Rattle.traceql_syntax.specs.declared.field.Literal.{Literal}
 use Rattle.traceql_syntax.specs.declared.field.Literal.TheVariants as literal
 use Rattle.traceql_syntax.specs.declared.field.UnaryOp.{UnaryOp}
 use Rattle.traceql_syntax.specs.declared.field.UnaryOp.TheVariants as unary
-use Rattle.traceql_syntax.specs.Trees.{Tree, Literally, Asks, Unary, Binary, Match, Placed, SetTree, Filter, Join, AggregateTree, Count, Of, ThresholdTree, Whole, Number, Duration, StageTree, Keep, By, Coalesce, Select, Compare, QueryTree}
+use Rattle.traceql_syntax.specs.Trees.{Tree, Literally, Asks, Unary, Binary, Match, Placed, SetTree, Filter, Join, AggregateTree, Count, Of, ThresholdTree, Aggregate, Number, Duration, StageTree, Keep, By, Coalesce, Select, Compare, QueryTree}
 use Rattle.traceql_types.specs.declared.errors.TypeError.{TypeError}
 use Rattle.traceql_types.specs.declared.errors.TypeError.TheVariants.{KindClash, BadPattern, PatternTooBig, Memory}
 use Rattle.traceql_types.specs.declared.kinds.Kind.{Kind}
@@ -33,47 +33,24 @@ both : (xs ys : List TypeError) → All IsOfKinds xs → All IsOfKinds ys → Al
 both = All-append IsOfKinds
 
 nil_literal : (at : ℕ) (l : Literal) → IfSome (stray_nil (Literally at l)) IsOfKinds
-nil_literal at (literal.Text t) = tt
-nil_literal at (literal.Number n) = tt
-nil_literal at (literal.Duration n) = tt
-nil_literal at (literal.Truth t) = tt
 nil_literal at literal.Nil = tt
-nil_literal at (literal.Status s) = tt
-nil_literal at (literal.Kind k) = tt
+nil_literal at _ = tt
 
 nil_fine : (t : Tree) → IfSome (stray_nil t) IsOfKinds
 nil_fine (Literally at l) = nil_literal at l
-nil_fine (Asks at f) = tt
-nil_fine (Unary at op first e) = tt
-nil_fine (Binary at op first a second b) = tt
-nil_fine (Match at negated first e pattern_at pattern) = tt
+nil_fine _ = tt
 
 truth_fine : (at : ℕ) (k : Kind) → IfSome (unless_truth at k) IsOfKinds
 truth_fine at kind.Open = tt
-truth_fine at kind.Nil = tt
-truth_fine at kind.Text = tt
-truth_fine at kind.Number = tt
-truth_fine at kind.Truth = tt
-truth_fine at kind.Status = tt
-truth_fine at kind.SpanKind = tt
+truth_fine at _ = tt
 
 number_fine : (at : ℕ) (k : Kind) → IfSome (unless_number at k) IsOfKinds
 number_fine at kind.Open = tt
-number_fine at kind.Nil = tt
-number_fine at kind.Text = tt
-number_fine at kind.Number = tt
-number_fine at kind.Truth = tt
-number_fine at kind.Status = tt
-number_fine at kind.SpanKind = tt
+number_fine at _ = tt
 
 text_fine : (at : ℕ) (k : Kind) → IfSome (unless_text at k) IsOfKinds
 text_fine at kind.Open = tt
-text_fine at kind.Nil = tt
-text_fine at kind.Text = tt
-text_fine at kind.Number = tt
-text_fine at kind.Truth = tt
-text_fine at kind.Status = tt
-text_fine at kind.SpanKind = tt
+text_fine at _ = tt
 
 as_truth_fine : (e : Placed) → All IsOfKinds (as_truth e)
 as_truth_fine e = both _ _ (one _ (nil_fine e.1)) (one _ (truth_fine e.0 (kind_of e.1)))
@@ -93,12 +70,7 @@ binary_fine : (at : ℕ) (op : BinaryOp) (a b : Placed) → All IsOfKinds (under
 binary_fine at binary.Or a b = both _ _ (as_truth_fine a) (as_truth_fine b)
 binary_fine at binary.And a b = both _ _ (as_truth_fine a) (as_truth_fine b)
 binary_fine at (binary.Compare c) a b = one _ (if_fine (clashes c (kind_of a.1) (kind_of b.1)) at)
-binary_fine at binary.Add a b = both _ _ (as_number_fine a) (as_number_fine b)
-binary_fine at binary.Subtract a b = both _ _ (as_number_fine a) (as_number_fine b)
-binary_fine at binary.Multiply a b = both _ _ (as_number_fine a) (as_number_fine b)
-binary_fine at binary.Divide a b = both _ _ (as_number_fine a) (as_number_fine b)
-binary_fine at binary.Remainder a b = both _ _ (as_number_fine a) (as_number_fine b)
-binary_fine at binary.Power a b = both _ _ (as_number_fine a) (as_number_fine b)
+binary_fine at _ a b = both _ _ (as_number_fine a) (as_number_fine b)
 
 match_fine : (at : ℕ) (e : Tree) → All IsOfKinds (under_match at e)
 match_fine at e = both _ _ (one _ (nil_fine e)) (one _ (text_fine at (kind_of e)))
@@ -112,15 +84,8 @@ expr_fine (Binary at op first a second b) =
 expr_fine (Match at negated first e pattern_at pattern) = both _ _ (match_fine at e) (expr_fine e)
 
 own_fine : (at : ℕ) (op : BinaryOp) → IfSome (own_division at op) IsOfKinds
-own_fine at binary.Or = tt
-own_fine at binary.And = tt
-own_fine at (binary.Compare c) = tt
-own_fine at binary.Add = tt
-own_fine at binary.Subtract = tt
-own_fine at binary.Multiply = tt
 own_fine at binary.Divide = tt
-own_fine at binary.Remainder = tt
-own_fine at binary.Power = tt
+own_fine at _ = tt
 
 division_fine : (t : Tree) → All IsOfKinds (divisions t)
 division_fine (Literally at l) = All-nil IsOfKinds
@@ -139,9 +104,9 @@ aggregate_fine Count = All-nil IsOfKinds
 aggregate_fine (Of op e) = both _ _ (both _ _ (as_number_fine e) (expr_fine e.1)) (division_fine e.1)
 
 threshold_fine : (t : ThresholdTree) → All IsOfKinds (threshold_refusals t)
-threshold_fine (Whole a) = aggregate_fine a
-threshold_fine (Number negative value) = All-nil IsOfKinds
-threshold_fine (Duration negative nanos) = All-nil IsOfKinds
+threshold_fine (Aggregate a) = aggregate_fine a
+threshold_fine (Number at negative value) = All-nil IsOfKinds
+threshold_fine (Duration at negative nanos) = All-nil IsOfKinds
 
 set_fine : (s : SetTree) → All IsOfKinds (set_refusals s)
 set_fine (Filter at condition) = filter_fine condition

@@ -1,7 +1,7 @@
 -- The patterns that a query asks for, in the text's order: the place of each one's string, and the string.
 use Rattle.std.specs.Prelude.{ℕ, List, [], ◌∷◌, ◌++◌, Option, Some, None}
 use Rattle.std.specs.List.{flat_map}
-use Rattle.traceql_syntax.specs.Trees.{Tree, Literally, Asks, Unary, Binary, Match, Placed, SetTree, Filter, Join, AggregateTree, Count, Of, ThresholdTree, Whole, Number, Duration, StageTree, Keep, By, Coalesce, Select, Compare, QueryTree}
+use Rattle.traceql_syntax.specs.Trees.{Tree, Literally, Asks, Unary, Binary, Match, Placed, SetTree, Filter, Join, AggregateTree, Count, Of, ThresholdTree, Aggregate, Number, Duration, StageTree, Keep, By, Coalesce, Select, Compare, QueryTree}
 
 -- a place and the string that begins there
 abbrev pub PlacedText : Type 0
@@ -27,9 +27,9 @@ in_aggregate Count = []
 in_aggregate (Of op e) = in_expr e.1
 
 abbrev pub in_threshold : ThresholdTree → List PlacedText
-in_threshold (Whole a) = in_aggregate a
-in_threshold (Number negative value) = []
-in_threshold (Duration negative nanos) = []
+in_threshold (Aggregate a) = in_aggregate a
+in_threshold (Number at negative value) = []
+in_threshold (Duration at negative nanos) = []
 
 abbrev pub in_stage : StageTree → List PlacedText
 in_stage (Keep at condition) = in_filter condition

@@ -1,10 +1,14 @@
 -- What an answer of `check` is.
-use Rattle.std.specs.Prelude.{◌≡◌, ℕ, ◌<◌, List, Option, Some, None, map, All, Contains, IfSome}
+use Rattle.std.specs.Prelude.{◌≡◌, ℕ, ◌<◌, ◌≤◌, List, [], ◌∷◌, ◌++◌, Result, Ok, Err, map, All, Contains}
+use Rattle.std.specs.List.{AllByRecursion}
 use Rattle.traceql_syntax.specs.Trees.{QueryTree}
 use Rattle.traceql_types.specs.declared.errors.TypeError.{TypeError}
+use Rattle.traceql_types.specs.declared.errors.MakeError.{MakeError}
+use Rattle.traceql_types.specs.declared.errors.MakeError.TheVariants as make
 use Rattle.traceql_types.specs.declared.errors.TypeError.TheVariants.{BadPattern, PatternTooBig, Memory}
 use Rattle.traceql_types.specs.declared.pattern.Pattern.{Pattern}
 use Rattle.traceql_types.specs.Asked.{PlacedText, asked_patterns}
+use Rattle.traceql_types.specs.Makers.{Call}
 use Rattle.traceql_types.specs.Order.{place, Precedes}
 use Rattle.traceql_types.specs.Patterns.{pattern_text}
 use Rattle.traceql_types.specs.Refusals.{kind_refusals}
@@ -22,13 +26,13 @@ IsMade text = (p : Pattern) × (pattern_text p ≡ text)
 abbrev pub AskedAt : QueryTree → ℕ → (List ℕ → Type 0) → Type 0
 AskedAt q at P = (m : PlacedText) × Contains (asked_patterns q) m × (m.0 ≡ at) × P m.1
 
--- Why a query is refused: for its kinds; for a text that is no pattern; or for a pattern that the maker refused, and
--- the maker's count of refusals rose. Want of memory is always a cause.
-abbrev pub HasCause : QueryTree → Type 0 → TypeError → Type 0
-HasCause q rose (BadPattern at) = AskedAt q at IsNoPattern
-HasCause q rose (PatternTooBig at) = AskedAt q at (λ text. rose)
-HasCause q rose Memory = Unit {0}
-HasCause q rose e = Contains (kind_refusals q) e
+-- Why a query is refused: for its kinds; for a text that is no pattern; or for a pattern whose text the maker refused.
+-- Want of memory is always a cause.
+abbrev pub HasCause : QueryTree → (List ℕ → Type 0) → TypeError → Type 0
+HasCause q Refused (BadPattern at) = AskedAt q at IsNoPattern
+HasCause q Refused (PatternTooBig at) = AskedAt q at Refused
+HasCause q Refused Memory = Unit {0}
+HasCause q Refused e = Contains (kind_refusals q) e
 
 -- the refusal stands before every refusal for kinds, or is the one of them that goes first
 abbrev pub GoesFirst : QueryTree → TypeError → Type 0
@@ -40,20 +44,43 @@ abbrev pub ComesAfterMade : QueryTree → TypeError → Type 0
 ComesAfterMade q Memory = Unit {0}
 ComesAfterMade q e = All (λ m. m.0 < place e → IsMade m.1) (asked_patterns q)
 
--- Why a refusal was found among the kinds and the patterns so far.
-pub data IsFound (kinds : Option TypeError) (done : List PlacedText) (rose : Type 0) (e : TypeError) : Type 0 where
-  of_kinds : kinds ≡ Some e → IsFound kinds done rose e
-  no_pattern : (m : PlacedText) → Contains done m → e ≡ BadPattern m.0 → IsNoPattern m.1 → IsFound kinds done rose e
-  refused : (m : PlacedText) → Contains done m → e ≡ PatternTooBig m.0 → rose → IsFound kinds done rose e
+-- the calls that made these patterns
+abbrev pub made_calls : List Pattern → List Call
+made_calls patterns = map (λ p. (pattern_text p, Ok p)) patterns
 
--- It goes before the first refusal for kinds or is that one, and the patterns so far before it were made.
-pub record Found (kinds : Option TypeError) (done : List PlacedText) (rose : Type 0) (e : TypeError) : Type 0 where
-  pub cause : IsFound kinds done rose e
-  pub first : IfSome kinds (Precedes e)
-  pub after_made : All (λ m. m.0 < place e → IsMade m.1) done
+-- each stands at a later place than those in front of it
+abbrev pub Ascends : List PlacedText → Type 0
+Ascends [] = Unit {0}
+Ascends (m ∷ ms) = AllByRecursion (λ n. m.0 < n.0) ms × Ascends ms
 
--- How the making of a query's patterns stands: all that were asked for so far were made, and the kinds fit; or a
--- refusal was found.
-abbrev pub Stands : Option TypeError → List PlacedText → Type 0 → Option TypeError → List Pattern → Type 0
-Stands kinds done rose None made = (kinds ≡ None) × AreMade done made
-Stands kinds done rose (Some e) made = Found kinds done rose e
+-- the first of these patterns stands at this place, and the last call asked for it and was answered so
+abbrev pub IsLastAsked : ℕ → Result Pattern MakeError → List PlacedText → List Call → Type 0
+IsLastAsked at answer [] last = ⊥
+IsLastAsked at answer (m ∷ ms) last = (m.0 ≡ at) × (last ≡ (m.1, answer) ∷ [])
+
+-- The call that a refusal rests on, where these patterns aren't before it. A refusal for kinds rests on none.
+abbrev pub IsLastCall : TypeError → List PlacedText → List Call → Type 0
+IsLastCall (BadPattern at) rest last = IsLastAsked at (Err make.Syntax) rest last
+IsLastCall (PatternTooBig at) rest last = IsLastAsked at (Err make.Refused) rest last
+IsLastCall Memory rest last = ⊥
+IsLastCall e rest last = last ≡ []
+
+-- The calls that lead to a refusal: every pattern before its place was asked for, in order, and made; then the pattern at
+-- its place, if the refusal is of one; and none behind it.
+pub record LeadsTo (patterns : List PlacedText) (e : TypeError) (calls : List Call) : Type 0 where
+  pub front : List PlacedText
+  pub rest : List PlacedText
+  pub patterns_are : patterns ≡ front ++ rest
+  pub before : AllByRecursion (λ m. m.0 < place e) front
+  pub behind : AllByRecursion (λ m. place e ≤ m.0) rest
+  pub made : List Pattern
+  pub are_made : AreMade front made
+  pub last : List Call
+  pub is_last : IsLastCall e rest last
+  pub calls_are : calls ≡ made_calls made ++ last
+
+-- What a maker was asked for where a query was refused: what leads to the refusal, if its patterns stand in the text's
+-- order. Where memory ran out nothing is said.
+abbrev pub AskedUpTo : QueryTree → TypeError → List Call → Type 0
+AskedUpTo q Memory calls = Unit {0}
+AskedUpTo q e calls = Ascends (asked_patterns q) → LeadsTo (asked_patterns q) e calls

@@ -7,4 +7,5 @@ pub mod Patterns
 pub mod Refusals
 pub mod Shared
 pub mod Shown
+pub mod Steps
 pub mod Whole

@@ -7,7 +7,7 @@ use Rattle.traceql_syntax.specs.declared.field.Comparison.{Comparison}
 use Rattle.traceql_syntax.specs.declared.field.Literal.TheVariants as literal
 use Rattle.traceql_syntax.specs.declared.field.UnaryOp.{UnaryOp}
 use Rattle.traceql_syntax.specs.declared.field.UnaryOp.TheVariants as unary
-use Rattle.traceql_syntax.specs.Trees.{Tree, Literally, Asks, Unary, Binary, Match, Placed, SetTree, Filter, Join, AggregateTree, Count, Of, ThresholdTree, Whole, Number, Duration, StageTree, Keep, By, Coalesce, Select, Compare, QueryTree}
+use Rattle.traceql_syntax.specs.Trees.{Tree, Literally, Asks, Unary, Binary, Match, Placed, SetTree, Filter, Join, AggregateTree, Count, Of, ThresholdTree, Aggregate, Number, Duration, StageTree, Keep, By, Coalesce, Select, Compare, QueryTree}
 use Rattle.traceql_types.specs.declared.errors.TypeError.{TypeError}
 use Rattle.traceql_types.specs.declared.errors.TypeError.TheVariants.{KindClash, NotTruth, DivisionInAggregate, NotNumber}
 use Rattle.traceql_types.specs.declared.kinds.Kind.{Kind}
@@ -101,9 +101,9 @@ aggregate_refusals Count = []
 aggregate_refusals (Of op e) = as_number e ++ expr_refusals e.1 ++ divisions e.1
 
 abbrev pub threshold_refusals : ThresholdTree → List TypeError
-threshold_refusals (Whole a) = aggregate_refusals a
-threshold_refusals (Number negative value) = []
-threshold_refusals (Duration negative nanos) = []
+threshold_refusals (Aggregate a) = aggregate_refusals a
+threshold_refusals (Number at negative value) = []
+threshold_refusals (Duration at negative nanos) = []
 
 abbrev pub set_refusals : SetTree → List TypeError
 set_refusals (Filter at condition) = filter_refusals condition

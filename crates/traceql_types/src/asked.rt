@@ -1,9 +1,11 @@
 //! The patterns that a query asks for.
 
-ghost use Rattle.std.specs.Prelude.{◌≡◌, ◌++◌, map, OnOk, IfOk};
+ghost use Rattle.std.specs.Prelude.{◌≡◌, ◌++◌, ℕ, List, map, OnOk, IfOk};
 ghost use Rattle.std.specs.List.{flat_map};
-ghost use Rattle.traceql_syntax.specs.Trees.{tree, placed_option, set_tree, aggregate_tree, threshold_tree, stage_tree, query_tree};
+ghost use Rattle.traceql_syntax.specs.Refusals.{Reads};
+ghost use Rattle.traceql_syntax.specs.Trees.{QueryTree, tree, placed_option, set_tree, aggregate_tree, threshold_tree, stage_tree, query_tree};
 ghost use Rattle.traceql_types.specs.Asked.{in_expr, in_filter, in_set, in_aggregate, in_threshold, in_stage, asked_patterns};
+ghost use Rattle.traceql_types.specs.Checks.{Ascends};
 ghost use Rattle.traceql_types.specs.Shown.{shown_all};
 
 use span_types::{Memory, Text};
@@ -121,3 +123,9 @@ pub(crate) fn patterns_of(alloc: Global, query: &Query) -> Result<Vec<Asked<'_>>
     add_stages(&query.stages, &mut found)?;
     Ok(found)
 }
+
+/// The patterns of a query that was read from a text stand in the text's order: a law, which the clause of `check` on what
+/// its maker was asked for rests on.
+pub fn patterns_in_order()
+    ensures { (depth : ℕ) (text : List ℕ) (q : QueryTree) → Reads depth text q → Ascends (asked_patterns q) }
+{}

@@ -1,16 +1,15 @@
 //! Kinds and patterns of a query at once.
 
-ghost use Rattle.std.specs.Prelude.{◌≡◌, ℕ, ◌≤◌, List, [], ◌∷◌, ◌++◌, Option, None, IfOk, IfErr, IsTrue, ◌↔◌, IsSomeAnd, length};
+ghost use Rattle.std.specs.Prelude.{◌≡◌, ◌≤◌, List, [], None, IfOk, IfErr, MatchResult, IsTrue, ◌↔◌, IsSomeAnd};
 ghost use Rattle.span_types.specs.Faults.{Rose};
 ghost use Rattle.traceql_syntax.specs.Trees.{query_tree};
 ghost use Rattle.traceql_types.specs.Asked.{asked_patterns};
-ghost use Rattle.traceql_types.specs.declared.errors.TypeError.{TypeError as Refusal};
-ghost use Rattle.traceql_types.specs.Asked.{PlacedText};
-ghost use Rattle.traceql_types.specs.Checks.{HasCause, GoesFirst, ComesAfterMade, AreMade, Stands};
-ghost use Rattle.traceql_types.specs.Makers.{Called};
+ghost use Rattle.traceql_types.specs.Checks.{HasCause, GoesFirst, ComesAfterMade, AreMade, AskedUpTo, made_calls};
+ghost use Rattle.traceql_types.specs.Makers.{Call, CallsLead, WasRefused};
 ghost use Rattle.traceql_types.specs.Order.{Precedes};
 ghost use Rattle.traceql_types.specs.Shown.{shown};
 ghost use Rattle.traceql_types.specs.Refusals.{kind_refusals};
+ghost use Rattle.traceql_types.specs.Steps.{Step};
 
 use crate::asked::{Asked, patterns_of};
 use crate::queries::query_refusal;
@@ -48,14 +47,12 @@ fn make_next<P: PatternMaker>(
     first: Option<TypeError>,
     made: &mut Vec<Pattern>,
 ) -> Result<Option<TypeError>, Memory>
-    ensures stands { IfOk result (λ now. (kinds : Option Refusal) (done : List PlacedText) (before : ℕ) →
-        before ≤ P.refusals maker.old →
-        Stands kinds done (Rose before (P.refusals maker.old)) first made.old.items →
-        Stands kinds (done ++ shown asked.entry ∷ []) (Rose before (P.refusals maker.new)) now made.new.items) }
+    ensures step { (calls : List Call) × CallsLead P.makes maker.old calls maker.new
+        × IfOk result (λ now. Step (shown asked.entry) (Rose (P.refusals maker.old) (P.refusals maker.new))
+        first made.old.items now made.new.items calls) }
     ensures counted { P.refusals maker.old ≤ P.refusals maker.new }
     ensures none_before { IfOk result (λ now. now ≡ None → first ≡ None) }
     ensures unrefused { IfOk result (λ now. now ≡ None → P.refusals maker.new ≡ P.refusals maker.old) }
-    ensures asked { IfOk result (λ now. now ≡ None → Called 1 (P.calls maker.old) (P.calls maker.new)) }
 {
     if goes_before(first, asked.at) {
         return Ok(first);
@@ -79,12 +76,17 @@ fn make_all<P: PatternMaker>(
 ) -> Result<Patterns, TypeError>
     ensures fits { IfOk result (λ patterns. kind_refusals (query_tree query.now) ≡ []) }
     ensures made { IfOk result (AreMade (asked_patterns (query_tree query.now))) }
-    ensures cause { IfErr result (HasCause (query_tree query.now) (Rose (P.refusals maker.old) (P.refusals maker.new))) }
+    ensures cause { IfErr result (HasCause (query_tree query.now)
+        (WasRefused P.makes P.refusals maker.old maker.new)) }
+    ensures risen { IfErr result (HasCause (query_tree query.now)
+        (λ text. Rose (P.refusals maker.old) (P.refusals maker.new))) }
     ensures first { IfErr result (GoesFirst (query_tree query.now)) }
     ensures after_made { IfErr result (ComesAfterMade (query_tree query.now)) }
     ensures counted { P.refusals maker.old ≤ P.refusals maker.new }
     ensures unrefused { IfOk result (λ patterns. P.refusals maker.new ≡ P.refusals maker.old) }
-    ensures asked { IfOk result (λ patterns. Called (length (asked_patterns (query_tree query.now))) (P.calls maker.old) (P.calls maker.new)) }
+    ensures asked { (calls : List Call) × CallsLead P.makes maker.old calls maker.new
+        × MatchResult result (λ patterns. calls ≡ made_calls patterns)
+        (λ e. AskedUpTo (query_tree query.now) e calls) }
 {
     let asked = patterns_of(alloc, query)?;
     let mut first = query_refusal(query);
@@ -99,8 +101,8 @@ fn make_all<P: PatternMaker>(
 }
 
 /// Tests the kinds of a query and makes its patterns. Of several refusals the one of the earliest place is given,
-/// whether it is for kinds or for a pattern. Where all is made, the maker was called once for each pattern, and it
-/// refused none. That a pattern isn't asked for where a refusal goes before one of it is tested, and no clause says it.
+/// whether it is for kinds or for a pattern. The maker is asked for the patterns in the text's order, up to the first that
+/// it refuses, and for none behind a refusal.
 pub fn check<P: PatternMaker>(
     alloc: Global,
     query: Query,
@@ -109,12 +111,18 @@ pub fn check<P: PatternMaker>(
     ensures query { IfOk result (λ c. c.query ≡ query) }
     ensures fits { IfOk result (λ c. kind_refusals (query_tree query) ≡ []) }
     ensures made { IfOk result (λ c. AreMade (asked_patterns (query_tree query)) c.patterns) }
-    ensures cause { IfErr result (HasCause (query_tree query) (Rose (P.refusals maker.old) (P.refusals maker.new))) }
+    ensures cause { IfErr result (HasCause (query_tree query)
+        (WasRefused P.makes P.refusals maker.old maker.new)) }
+    // A pattern is refused for its size only where the maker counted a refusal.
+    ensures risen { IfErr result (HasCause (query_tree query)
+        (λ text. Rose (P.refusals maker.old) (P.refusals maker.new))) }
     ensures first { IfErr result (GoesFirst (query_tree query)) }
     ensures after_made { IfErr result (ComesAfterMade (query_tree query)) }
     ensures counted { P.refusals maker.old ≤ P.refusals maker.new }
     ensures unrefused { IfOk result (λ c. P.refusals maker.new ≡ P.refusals maker.old) }
-    ensures asked { IfOk result (λ c. Called (length (asked_patterns (query_tree query))) (P.calls maker.old) (P.calls maker.new)) }
+    // The maker was asked for just the patterns before the refusal, in the text's order, and for the refused one.
+    ensures asked { (calls : List Call) × CallsLead P.makes maker.old calls maker.new
+        × MatchResult result (λ c. calls ≡ made_calls c.patterns) (λ e. AskedUpTo (query_tree query) e calls) }
 {
     let patterns = make_all(alloc, &query, maker)?;
     Ok(Checked { query, patterns })

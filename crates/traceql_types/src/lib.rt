@@ -14,6 +14,7 @@ mod pattern;
 mod queries;
 mod shared;
 
+pub use asked::patterns_in_order;
 pub use checked::{Checked, check};
 pub use errors::{MakeError, TypeError};
 pub use kinds::Kind;

@@ -1,9 +1,9 @@
 //! What makes patterns: the trait, the maker over `regex`, and one for tests whose refusals are listed.
 
-ghost use Rattle.std.specs.Prelude.{◌≡◌, ◌≢◌, ℕ, ◌≤◌, ◌⊎◌, Contains, IfOk, IfErr, IsErrOf, string_bytes};
+ghost use Rattle.std.specs.Prelude.{◌≡◌, ◌≢◌, ℕ, ◌≤◌, IfOk, IfErr, IsErrOf, string_bytes};
 ghost use Rattle.span_types.specs.Faults.{Rose};
 ghost use Rattle.traceql_types.specs.Patterns.{pattern_text};
-ghost use Rattle.traceql_types.specs.Makers.{Called, counted_up, count_after, cause_of_error};
+ghost use Rattle.traceql_types.specs.Makers.{Makes, RegexCall, ScriptedCall, counted_up, cause_of_error};
 ghost use Rattle.traceql_types.specs.Whole.{whole_text, IsReadable, IsUnreadable, IsNoPattern};
 
 use crate::{MakeError, Pattern};
@@ -18,8 +18,8 @@ pub trait PatternMaker {
     // How many patterns were refused so far for a cause that is neither their text nor want of memory.
     ghost refusals: { Self → ℕ };
 
-    // How many times `make` was called so far, in a count that may stand still from 2^64 - 1 on.
-    ghost calls: { Self → ℕ };
+    // Which call, a text with its answer, leads from which state of the maker to which.
+    ghost makes: { Makes Self };
 
     /// The pattern of a text. `Syntax` says that `regex` reads no pattern from the text, or none from it when it is put
     /// between `\A(?:` and `)\z`, or that it nests too deep.
@@ -29,7 +29,7 @@ pub trait PatternMaker {
         ensures refused { IsErrOf result MakeError.Refused → Rose (refusals self.old) (refusals self.new) }
         ensures counted { refusals self.old ≤ refusals self.new }
         ensures steady { IfOk result (λ p. refusals self.new ≡ refusals self.old) }
-        ensures called { Called 1 (calls self.old) (calls self.new) };
+        ensures call { makes self.old (text.now, result) self.new };
 }
 
 // The cause of a refusal by the parser of patterns.
@@ -101,69 +101,59 @@ fn compiled(alloc: Global, text: &str) -> Result<Pattern, MakeError>
     }
 }
 
-/// Makes patterns by `regex`, and counts its calls, and the patterns that it refuses for their size: their text is a
-/// pattern, but what is compiled of it passes `regex`'s limit.
+/// Makes patterns by `regex`, and counts those that it refuses for their size: their text is a pattern, but what is
+/// compiled of it passes `regex`'s limit.
 #[derive(Drop)]
 pub struct RegexMaker {
     alloc: Global,
-    calls: u64,
     refusals: u64,
 }
 
 impl Model for RegexMaker {
-    ghost use Rattle.traceql_types.specs.Makers.{Counts};
+    ghost use Rattle.std.specs.Prelude.{ℕ};
 
-    ghost Value = { Counts };
+    ghost Value = { ℕ };
 
-    ghost view = { λ m. record { calls = m.calls; refusals = m.refusals } };
+    ghost view = { λ m. m.refusals };
 }
 
 impl RegexMaker {
     /// A maker that was not called yet.
     pub fn new(alloc: Global) -> RegexMaker
-        ensures { result ≡ record { calls = 0; refusals = 0 } }
+        ensures { result ≡ 0 }
     {
-        RegexMaker {
-            alloc,
-            calls: 0,
-            refusals: 0,
-        }
+        RegexMaker { alloc, refusals: 0 }
     }
 
     /// How many patterns were refused so far. The count stands still at its type's end.
     pub fn refusals(&self) -> u64
-        ensures { result ≡ self.now.refusals }
+        ensures { result ≡ self.now }
     {
         self.refusals
     }
 
     // Counts a refusal.
     fn refuse(&mut self)
-        ensures count { self.new.refusals ≡ counted_up self.old.refusals }
-        ensures grows { self.old.refusals ≤ self.new.refusals }
-        ensures calls { self.new.calls ≡ self.old.calls }
+        ensures count { self.new ≡ counted_up self.old }
+        ensures grows { self.old ≤ self.new }
     {
         self.refusals = self.refusals.saturating_add(1);
     }
 }
 
 impl PatternMaker for RegexMaker {
-    ghost refusals = { λ m. m.refusals };
+    ghost refusals = { λ m. m };
 
-    ghost calls = { λ m. m.calls };
+    ghost makes = { RegexCall };
 
     fn make(&mut self, text: &str) -> Result<Pattern, MakeError>
         ensures shows { IfOk result (λ p. pattern_text p ≡ text.now) }
         ensures syntax { IsErrOf result MakeError.Syntax → IsNoPattern text.now }
-        ensures refused { IsErrOf result MakeError.Refused → Rose self.old.refusals self.new.refusals }
-        ensures counted { self.old.refusals ≤ self.new.refusals }
-        ensures steady { IfOk result (λ p. self.new.refusals ≡ self.old.refusals) }
-        ensures called { Called 1 self.old.calls self.new.calls }
-        ensures too_big { IsErrOf result MakeError.Refused → IsReadable (whole_text text.now) }
-        ensures count { self.new.refusals ≡ count_after self.old.refusals result }
-        ensures calls { self.new.calls ≡ counted_up self.old.calls }
+        ensures refused { IsErrOf result MakeError.Refused → Rose self.old self.new }
+        ensures counted { self.old ≤ self.new }
+        ensures steady { IfOk result (λ p. self.new ≡ self.old) }
+        ensures call { RegexCall self.old (text.now, result) self.new }
     {
-        self.calls = self.calls.saturating_add(1);
         let made = compiled(self.alloc, text);
         if let Err(MakeError::Refused) = &made {
             self.refuse();
@@ -185,7 +175,7 @@ impl Model for ScriptedMaker {
 
     ghost Value = { Script };
 
-    ghost view = { λ m. record { refused = m.refused; calls = m.calls; refusals = m.inner.refusals } };
+    ghost view = { λ m. record { refused = m.refused; calls = m.calls; refusals = m.inner } };
 }
 
 impl ScriptedMaker {
@@ -212,7 +202,7 @@ impl ScriptedMaker {
 impl PatternMaker for ScriptedMaker {
     ghost refusals = { λ m. m.refusals };
 
-    ghost calls = { λ m. m.calls };
+    ghost makes = { ScriptedCall };
 
     fn make(&mut self, text: &str) -> Result<Pattern, MakeError>
         ensures shows { IfOk result (λ p. pattern_text p ≡ text.now) }
@@ -220,12 +210,7 @@ impl PatternMaker for ScriptedMaker {
         ensures refused { IsErrOf result MakeError.Refused → Rose self.old.refusals self.new.refusals }
         ensures counted { self.old.refusals ≤ self.new.refusals }
         ensures steady { IfOk result (λ p. self.new.refusals ≡ self.old.refusals) }
-        ensures called { Called 1 self.old.calls self.new.calls }
-        ensures listed { Contains self.old.refused (counted_up self.old.calls) → IsErrOf result MakeError.Refused }
-        ensures handed_on { IsErrOf result MakeError.Refused → Contains self.old.refused (counted_up self.old.calls) ⊎ IsReadable (whole_text text.now) }
-        ensures count { self.new.refusals ≡ count_after self.old.refusals result }
-        ensures calls { self.new.calls ≡ counted_up self.old.calls }
-        ensures script { self.new.refused ≡ self.old.refused }
+        ensures call { ScriptedCall self.old (text.now, result) self.new }
     {
         self.calls = self.calls.saturating_add(1);
         if self.refused.as_slice().contains(&self.calls) {

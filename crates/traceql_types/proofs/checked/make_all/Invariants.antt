@@ -1,14 +1,15 @@
-use Rattle.std.proofs.Common.{◌≡◌, ◌≤◌, None, take, length, map}
-use Rattle.span_types.specs.Faults.{Rose}
-use Rattle.traceql_types.specs.Checks.{Stands}
-use Rattle.traceql_types.specs.Makers.{Called}
+use Rattle.std.proofs.Common.{◌≡◌, ◌≤◌, List, None, take, map}
+use Rattle.traceql_types.specs.Makers.{Call, CallsLead, WasRefused}
 use Rattle.traceql_types.specs.Shown.{shown}
+use Rattle.traceql_types.specs.Steps.{Stands, Called}
 use Rattle.traceql_types.proofs.checked.make_all.Given as goal
 
 abbrev pub invariant-loop-pattern : goal.invariant-loop-pattern
-invariant-loop-pattern g l = record {
-  stands : Stands l.initial.first (map shown (take l.pattern-index l.pattern-items)) (Rose (g.P.PatternMaker.refusals l.fn.maker) (g.P.PatternMaker.refusals l.maker)) l.first l.made.items;
-  counted : g.P.PatternMaker.refusals l.fn.maker ≤ g.P.PatternMaker.refusals l.maker;
-  unrefused : l.first ≡ None → g.P.PatternMaker.refusals l.maker ≡ g.P.PatternMaker.refusals l.fn.maker;
-  asked : l.first ≡ None → Called (length (map shown (take l.pattern-index l.pattern-items))) (g.P.PatternMaker.calls l.fn.maker) (g.P.PatternMaker.calls l.maker);
-}
+invariant-loop-pattern g l =
+    let maker = g.P.PatternMaker in
+    record {
+      stands : Stands l.initial.first (map shown (take l.pattern-index l.pattern-items)) (WasRefused maker.makes maker.refusals l.fn.maker l.maker) l.first l.made.items;
+      called : (calls : List Call) × CallsLead maker.makes l.fn.maker calls l.maker × Called (map shown (take l.pattern-index l.pattern-items)) l.first l.made.items calls;
+      counted : maker.refusals l.fn.maker ≤ maker.refusals l.maker;
+      unrefused : l.first ≡ None → maker.refusals l.maker ≡ maker.refusals l.fn.maker;
+    }

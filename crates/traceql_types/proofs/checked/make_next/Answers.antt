@@ -1,23 +1,48 @@
-use Rattle.std.proofs.Common.{◌≡◌, ◌∙◌, true, refl, subst}
+use Rattle.std.proofs.Common.{◌≡◌, ◌∙◌, true, [], ◌∷◌, Ok, Err, refl, subst}
+use Rattle.std.proofs.lemmas.Result.{err_from_is_err_and}
+use Rattle.traceql_types.specs.declared.errors.MakeError.TheVariants as make
+use Rattle.traceql_types.specs.Shown.{shown}
+use Rattle.traceql_types.specs.Steps.{passed, done, bad, too_big}
 use Rattle.traceql_types.specs.Whole.{IsNoPattern}
-use Rattle.traceql_types.proofs.Made.{stands-skip, stands-made, stands-bad, stands-refused, rose_up, rose_since}
 use Rattle.traceql_types.proofs.checked.make_next.Goals as goal
 
-pub returns-then-goes_before-clause-stands : goal.returns-then-goes_before-clause-stands
-returns-then-goes_before-clause-stands g c kinds done before up stands =
-    stands-skip kinds done _ _ _ _ _ (λ rose. rose) (c.goes_before.ensures.0 c.if-goes_before.true) stands
+pub returns-then-goes_before-clause-step : goal.returns-then-goes_before-clause-step
+returns-then-goes_before-clause-step g c = ([], refl, passed (c.goes_before.ensures.0 c.if-goes_before.true))
 
-pub returns-in_ok-push-in-Ok-clause-stands : goal.returns-in_ok-push-in-Ok-clause-stands
-returns-in_ok-push-in-Ok-clause-stands g c kinds done before up stands =
-    rw c.in_ok-push-in-Ok.ensures.items
-    (stands-made kinds done _ _ _ _ _ c.in-Ok.pattern (rose_up before _ _ c.make.ensures.counted) (c.in-Ok.ensures.shows ∙ c.as_str.ensures) stands)
+pub returns-in_ok-push-in-Ok-clause-step : goal.returns-in_ok-push-in-Ok-clause-step
+returns-in_ok-push-in-Ok-clause-step g c =
+    let m = shown c.args.asked in
+    let call = rw c.as_str.ensures at c.in-Ok.ensures.call in (
+      (m.1, Ok c.in-Ok.pattern) ∷ [],
+      (c.make.new.self, call, refl),
+      rw c.in_ok-push-in-Ok.ensures.items (done c.in-Ok.pattern (λ h. (let e : c.goes_before.result ≡ true = c.goes_before.ensures.1 h in cc)) (c.in-Ok.ensures.shows ∙ c.as_str.ensures)),
+    )
 
-pub returns-in-Err-Syntax-clause-stands : goal.returns-in-Err-Syntax-clause-stands
-returns-in-Err-Syntax-clause-stands g c kinds done before up stands =
-    stands-bad kinds done _ _ _ _ _ (λ h. (let e : c.goes_before.result ≡ true = c.goes_before.ensures.1 h in cc))
-    (subst IsNoPattern c.as_str.ensures (c.in-Err-Syntax.ensures.syntax (rw c.in-Err-Syntax.field-0-is refl))) stands
+pub returns-in-Err-Syntax-clause-step : goal.returns-in-Err-Syntax-clause-step
+returns-in-Err-Syntax-clause-step g c =
+    let m = shown c.args.asked in
+    let call = rw (c.in-Err-Syntax.field-0-is, c.as_str.ensures) at c.in-Err-Syntax.ensures.call in (
+      (m.1, Err make.Syntax) ∷ [],
+      (c.make.new.self, call, refl),
+      bad (λ h. (let e : c.goes_before.result ≡ true = c.goes_before.ensures.1 h in cc)) (subst IsNoPattern c.as_str.ensures (c.in-Err-Syntax.ensures.syntax (rw c.in-Err-Syntax.field-0-is refl))),
+    )
 
-pub returns-in-Err-Refused-clause-stands : goal.returns-in-Err-Refused-clause-stands
-returns-in-Err-Refused-clause-stands g c kinds done before up stands =
-    stands-refused kinds done _ _ _ _ _ (λ h. (let e : c.goes_before.result ≡ true = c.goes_before.ensures.1 h in cc))
-    (rose_since before _ _ up (c.in-Err-Refused.ensures.refused (rw c.in-Err-Refused.field-0-is refl))) stands
+pub returns-in-Err-Refused-clause-step : goal.returns-in-Err-Refused-clause-step
+returns-in-Err-Refused-clause-step g c =
+    let m = shown c.args.asked in
+    let call = rw (c.in-Err-Refused.field-0-is, c.as_str.ensures) at c.in-Err-Refused.ensures.call in (
+      (m.1, Err make.Refused) ∷ [],
+      (c.make.new.self, call, refl),
+      too_big (λ h. (let e : c.goes_before.result ≡ true = c.goes_before.ensures.1 h in cc)) (c.in-Err-Refused.ensures.refused (rw c.in-Err-Refused.field-0-is refl)),
+    )
+
+pub returns-in_err-push-in-Ok-clause-step : goal.returns-in_err-push-in-Ok-clause-step
+returns-in_err-push-in-Ok-clause-step g c =
+    let p = err_from_is_err_and c.from_residual.result c.from_residual.ensures.1 in (
+      (c.as_str.result.now, c.make.result) ∷ [],
+      (c.make.new.self, c.make.ensures.call, refl),
+      rw p.1 tt,
+    )
+
+pub returns-in-Err-Memory-clause-step : goal.returns-in-Err-Memory-clause-step
+returns-in-Err-Memory-clause-step g c = ((c.as_str.result.now, c.make.result) ∷ [], (c.make.new.self, c.make.ensures.call, refl), tt)
