@@ -55,7 +55,7 @@ fn numbers(
 {
     let mut numbers = Vec::new(alloc);
     for position in members {
-        let value = look::value_at(context, rows, expr, *position)?;
+        let value = filter::value_at(context, rows, expr, *position)?;
         add_number(&mut numbers, value)?;
     }
     Ok(numbers)

@@ -8,7 +8,7 @@ ghost use Rattle.spanset_eval.specs.Marked.{MarksSet};
 ghost use Rattle.spanset_eval.specs.Unchanged.{IsSame, IsTreeOf};
 ghost use Rattle.spanset_eval.specs.Sets.{Selects};
 
-use crate::{look, relate};
+use crate::{filter, relate};
 use span_tree::{Steps, Tree};
 use span_types::{Marks, Memory, Row};
 use std::alloc::Global;
@@ -34,7 +34,7 @@ pub fn select<L: Ledger>(
     ensures made { IsTreeOf rows.now made.new }
 {
     match expr {
-        SpansetExpr::Filter { condition, .. } => look::kept(alloc, context, rows, condition),
+        SpansetExpr::Filter { condition, .. } => filter::kept(alloc, context, rows, condition),
         SpansetExpr::Join {
             op,
             left,

@@ -12,7 +12,7 @@ ghost use Rattle.spanset_eval.specs.declared.groups.Group.{Group as Spanset};
 
 use crate::groups::{Group, Members};
 use crate::parts::{Part, Valued, arranged};
-use crate::{amounts, look, marks};
+use crate::{amounts, filter, marks};
 use span_types::{Marks, Memory, Row, TryCopy};
 use std::alloc::Global;
 use traceql_syntax::{Aggregate, Comparison, FieldExpr, Operand, Stage, Threshold};
@@ -32,7 +32,7 @@ fn keep(
 {
     let mut kept = Vec::with_capacity(alloc, groups.len())?;
     for group in groups {
-        let members = look::kept_members(
+        let members = filter::kept_members(
             alloc,
             context,
             rows,
@@ -61,7 +61,7 @@ fn valued(
 {
     let mut valued = Vec::with_capacity(alloc, members.len())?;
     for position in members {
-        let value = look::value_at(context, rows, expr, *position)?;
+        let value = filter::value_at(context, rows, expr, *position)?;
         valued.push(Valued {
             value,
             position: *position,
