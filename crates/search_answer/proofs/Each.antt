@@ -24,7 +24,7 @@ use Rattle.span_types.specs.declared.ids.SpanId.{SpanId}
 use Rattle.span_types.specs.declared.spans.Row.{Row}
 use Rattle.spanset_eval.specs.declared.results.TraceResult.{TraceResult}
 use Rattle.spanset_eval.specs.Outcomes.{IsListOf, IsOutcome, shown}
-use Rattle.spanset_eval.specs.Sets.{IsKept, IsReached, IsSome, Joined, Relates, Selects, Structural, keeps}
+use Rattle.spanset_eval.specs.Sets.{IsReached, IsSome, Joined, PassesFilter, Relates, Selects, Structural, filter_span}
 use Rattle.spanset_eval.specs.Stages.{remaining, selected_fields}
 use Rattle.traceql_syntax.specs.declared.query.Relation.{Relation}
 use Rattle.traceql_syntax.specs.declared.query.Relation.TheVariants as relation
@@ -336,19 +336,19 @@ module _ (nodes : List Node) (differ : IdsDiffer nodes) where
 
 -- ---- expressions
 
-kept : (ps : List Pattern) (rows : List Row) (condition : Option Placed) → Finite (length rows) (IsKept ps rows condition)
+kept : (ps : List Pattern) (rows : List Row) (condition : Option Placed) → Finite (length rows) (PassesFilter ps rows condition)
 kept ps rows condition = record {
   decided = λ y. by_row y (slice_get rows y) refl;
   below = λ y h. slice_get_within rows y h.row h.is;
 }
   where
-    by_row : (y : ℕ) (o : Option Row) → slice_get rows y ≡ o → Decided (IsKept ps rows condition y)
+    by_row : (y : ℕ) (o : Option Row) → slice_get rows y ≡ o → Decided (PassesFilter ps rows condition y)
     by_row y None e = inr (λ h. none-some h.row (sym e ∙ h.is))
-    by_row y (Some r) e = by (cases_Bool (keeps ps rows condition r.span))
+    by_row y (Some r) e = by (cases_Bool (filter_span ps rows condition r.span))
       where
-        by : (keeps ps rows condition r.span ≡ true) ⊎ (keeps ps rows condition r.span ≡ false) → Decided (IsKept ps rows condition y)
+        by : (filter_span ps rows condition r.span ≡ true) ⊎ (filter_span ps rows condition r.span ≡ false) → Decided (PassesFilter ps rows condition y)
         by (inl so) = inl (record { row = r; is = e; kept = so })
-        by (inr never) = inr (λ h. true≢false (sym h.kept ∙ ap (λ (w : Row). keeps ps rows condition w.span) (same_Some h.row r (sym h.is ∙ e)) ∙ never))
+        by (inr never) = inr (λ h. true≢false (sym h.kept ∙ ap (λ (w : Row). filter_span ps rows condition w.span) (same_Some h.row r (sym h.is ∙ e)) ∙ never))
 
 selects : (ps : List Pattern) (rows : List Row) → IdsDiffer (nodes_of rows) → (tree : SetTree) → Finite (length rows) (Selects ps rows tree)
 selects ps rows differ (Filter place condition) = kept ps rows condition

@@ -1,4 +1,4 @@
-//! Matchers over small traces, worked out by hand.
+//! Searches over small traces, worked out by hand.
 
 ghost use Rattle.std.specs.Prelude.{List, IfOk};
 ghost use Rattle.span_types.specs.First.{IsFirstOf};

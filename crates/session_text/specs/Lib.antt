@@ -1,7 +1,7 @@
 pub mod Lines
 pub mod Options
 pub mod Parsed
-pub mod Matchers
+pub mod Searches
 pub mod Requests
 pub mod Replies
 pub mod Items

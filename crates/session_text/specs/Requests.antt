@@ -14,7 +14,7 @@ use Rattle.session_text.specs.declared.request.Request.{Request}
 use Rattle.session_text.specs.declared.request.Request.TheVariants.{Push, Trace, Search}
 use Rattle.session_text.specs.Lines.{first_part, other_parts}
 use Rattle.session_text.specs.Options.{SearchLine, search_parts}
-use Rattle.session_text.specs.Matchers.{Matchers}
+use Rattle.session_text.specs.Searches.{ReadsSearch}
 
 -- Why what is pushed gives nothing.
 abbrev pub refusal_of : otlp.Refusal → Refusal
@@ -78,9 +78,9 @@ line_of line = if nat_le (length line) line_limit then request_of line else plai
 
 -- a search as an answer to a line
 abbrev pub AsksSearch : SearchLine → Type 0 → Result Request Refusal → Type 0
-AsksSearch line rose (Ok (Search s)) = Matchers line rose (Ok s)
+AsksSearch line rose (Ok (Search s)) = ReadsSearch line rose (Ok s)
 AsksSearch line rose (Ok other) = ⊥
-AsksSearch line rose (Err e) = Matchers line rose (Err e)
+AsksSearch line rose (Err e) = ReadsSearch line rose (Err e)
 
 -- what may be answered to a line of which this is known; want of memory may take the place of any answer
 abbrev pub Answers : Line → Type 0 → Result Request Refusal → Type 0

@@ -68,6 +68,6 @@ pub record DoesNotFit (text : List ℕ) (rose : Type 0) (e : Refusal) : Type 0 w
   pub after_made : ComesAfterMade tree why
 
 -- what a search's line may be answered
-abbrev pub Matchers : SearchLine → Type 0 → Result Search Refusal → Type 0
-Matchers line rose (Ok s) = IsSearch line s
-Matchers line rose (Err e) = IsNoQuery line.query e ⊎ DoesNotFit line.query rose e
+abbrev pub ReadsSearch : SearchLine → Type 0 → Result Search Refusal → Type 0
+ReadsSearch line rose (Ok s) = IsSearch line s
+ReadsSearch line rose (Err e) = IsNoQuery line.query e ⊎ DoesNotFit line.query rose e

@@ -3,7 +3,7 @@
 ghost use Rattle.std.specs.Prelude.{◌≡◌, ◌≤◌, IfOk, IfErr};
 ghost use Rattle.span_types.specs.Faults.{Rose};
 ghost use Rattle.traceql_syntax.specs.Trees.{query_tree};
-ghost use Rattle.session_text.specs.Matchers.{DoesNotFit, IsNoQuery, IsQuery, Matchers, of_check, of_parse};
+ghost use Rattle.session_text.specs.Searches.{DoesNotFit, IsNoQuery, IsQuery, ReadsSearch, of_check, of_parse};
 ghost use Rattle.session_text.specs.Parsed.{parts_parsed};
 
 use crate::options::SearchLine;
@@ -65,7 +65,7 @@ pub(crate) fn search<P: PatternMaker>(
     line: SearchLine<'_>,
     maker: &mut P,
 ) -> Result<Search, Refusal>
-    ensures search { Matchers (parts_parsed line.entry) (Rose (P.refusals maker.old) (P.refusals maker.new)) result }
+    ensures search { ReadsSearch (parts_parsed line.entry) (Rose (P.refusals maker.old) (P.refusals maker.new)) result }
     ensures counted { P.refusals maker.old ≤ P.refusals maker.new }
     ensures unrefused { IfOk result (λ s. P.refusals maker.new ≡ P.refusals maker.old) }
 {

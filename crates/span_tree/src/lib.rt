@@ -2,7 +2,8 @@
 //!
 //! A [`Tree`] is made once of a trace's rows. Each of its five calls takes marks, one for each row, and marks the spans
 //! that stand in the relation to a marked one, in at most eight [`Steps`] a row. Any rows of one trace will do: with spans
-//! whose parent isn't there, with several roots, with spans that are their own parents, and with rings of spans.
+//! whose parent isn't there, with several roots, with spans that are their own parents, and with rings of spans. A tree
+//! takes memory and time in the number of rows, so a caller that has no marks need not make one.
 #![tactic(auto)]
 
 mod build;

@@ -1,6 +1,10 @@
 mod AmountLaws
+mod BestLaws
+mod Chaining
 mod CutLaws
 mod MarkLaws
+mod Membership
 mod PartLaws
+mod PartitionLaws
 mod ProductLaws
 mod SelectLaws

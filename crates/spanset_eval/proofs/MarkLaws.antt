@@ -185,3 +185,31 @@ no_marks left right marks none by = record {
 -- `&&` doesn't look at the relations.
 pub and_nodes : (nodes : List Node) (count : ℕ) (A B : ℕ → Type 0) (marks : List Bool) → MarksSet count (Joined set.And [] A B) marks → MarksSet count (Joined set.And nodes A B) marks
 and_nodes nodes count A B marks is = record { one_each = is.one_each; only = is.only; whole = is.whole }
+
+-- ---- where a side has no marks
+
+-- No marks stand for a set of nothing.
+nothing_marked : (count : ℕ) (A : ℕ → Type 0) (marks : List Bool) → ((y : ℕ) → A y → ⊥) → MarksBy count (λ y. false) marks → MarksSet count A marks
+nothing_marked count A marks none by =
+    set_by count (λ y. false) A marks by (λ y h. let clash : false ≡ true = h in cc) (λ y a. absurd (none y a)) (λ y a. absurd (none y a))
+
+pub right_empty : (left right marks : List Bool) → (IsSome (IsMarked left) → IsSome (IsMarked right) → ⊥) → MarksBy (length right) (λ y. false) marks →
+    (R : ℕ → ℕ → Type 0) → MarksSet (length right) (Structural side.Right R (IsMarked left) (IsMarked right)) marks
+right_empty left right marks none by R =
+    nothing_marked (length right) (Structural side.Right R (IsMarked left) (IsMarked right)) marks (λ y h. none (h.1.0, h.1.1) (y, h.0)) by
+
+pub both_empty : (left right marks : List Bool) → (IsSome (IsMarked left) → IsSome (IsMarked right) → ⊥) → MarksBy (length right) (λ y. false) marks →
+    (R : ℕ → ℕ → Type 0) → MarksSet (length right) (Structural side.Both R (IsMarked left) (IsMarked right)) marks
+both_empty left right marks none by R =
+    nothing_marked (length right) (Structural side.Both R (IsMarked left) (IsMarked right)) marks
+    (λ y h. elim h as (λ _. ⊥) [ inl p ↦ none (p.1.0, p.1.1) (y, p.0) | inr p ↦ none (y, p.0) (p.1.0, p.1.1) ]) by
+
+pub unrelated_empty : (left right : List Bool) → (IsSome (IsMarked left) → IsSome (IsMarked right) → ⊥) →
+    (R : ℕ → ℕ → Type 0) → MarksSet (length right) (Structural side.Unrelated R (IsMarked left) (IsMarked right)) right
+unrelated_empty left right none R =
+    set_as (length right) (IsMarked right) (Structural side.Unrelated R (IsMarked left) (IsMarked right)) right (marked_set (length right) right refl)
+    (λ y h. (h, λ is. none (is.0, is.1) (y, h))) (λ y h. h.0)
+
+-- None is marked, and so not some one.
+pub none_some : (marks : List Bool) → ((y : ℕ) → mark_at marks y ≡ false) → IsSome (IsMarked marks) → ⊥
+none_some marks none h = let clash : true ≡ false = sym h.1 ∙ none h.0 in cc

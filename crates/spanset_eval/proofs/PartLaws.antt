@@ -12,9 +12,9 @@ use Rattle.std.proofs.lemmas.Cmp.{tied_itself}
 use Rattle.traceql_value.specs.declared.value.Value.{Value}
 use Rattle.traceql_value.specs.Values.{value_cmp}
 use Rattle.spanset_eval.specs.declared.groups.Group.{Group}
-use Rattle.spanset_eval.specs.declared.parts.Part.{Part}
+use Rattle.spanset_eval.specs.Parts.{SplitPart}
 use Rattle.spanset_eval.specs.declared.parts.Valued.{Valued}
-use Rattle.spanset_eval.specs.Parts.{with_former, part_of, put_part, put_all, arranged, Above, Ascend, Takes}
+use Rattle.spanset_eval.specs.Parts.{with_former, part_of, part_at, part_group, put_part, put_all, arranged, Above, Ascend, Takes}
 use Rattle.spanset_eval.specs.Stages.{occurring, put}
 
 pub three : (o : Ordering) → (o ≡ Less) ⊎ ((o ≡ Equal) ⊎ (o ≡ Greater))
@@ -24,33 +24,33 @@ three Greater = inr (inr refl)
 
 -- ---- one step of `put_part`
 
-put_step : Part → Part → List Part → Ordering → List Part
+put_step : SplitPart → SplitPart → List SplitPart → Ordering → List SplitPart
 put_step p q qs o = cond (is_lt o) (p ∷ q ∷ qs) (cond (is_eq o) (with_former p q ∷ qs) (q ∷ put_part p qs))
 
-put_less : (p q : Part) (qs : List Part) → value_cmp p.value q.value ≡ Less → put_part p (q ∷ qs) ≡ p ∷ q ∷ qs
+put_less : (p q : SplitPart) (qs : List SplitPart) → value_cmp p.value q.value ≡ Less → put_part p (q ∷ qs) ≡ p ∷ q ∷ qs
 unfolding put_step
 put_less p q qs e = ap (put_step p q qs) e
 
-put_equal : (p q : Part) (qs : List Part) → value_cmp p.value q.value ≡ Equal → put_part p (q ∷ qs) ≡ with_former p q ∷ qs
+put_equal : (p q : SplitPart) (qs : List SplitPart) → value_cmp p.value q.value ≡ Equal → put_part p (q ∷ qs) ≡ with_former p q ∷ qs
 unfolding put_step
 put_equal p q qs e = ap (put_step p q qs) e
 
-put_greater : (p q : Part) (qs : List Part) → value_cmp p.value q.value ≡ Greater → put_part p (q ∷ qs) ≡ q ∷ put_part p qs
+put_greater : (p q : SplitPart) (qs : List SplitPart) → value_cmp p.value q.value ≡ Greater → put_part p (q ∷ qs) ≡ q ∷ put_part p qs
 unfolding put_step
 put_greater p q qs e = ap (put_step p q qs) e
 
 -- ---- the order
 
-flip_less : IsTotalOrder value_cmp → (v w : Value) → value_cmp v w ≡ Less → value_cmp w v ≡ Greater
+pub flip_less : IsTotalOrder value_cmp → (v w : Value) → value_cmp v w ≡ Less → value_cmp w v ≡ Greater
 flip_less o v w e = o.antisymm w v ∙ ap ordering_reverse e
 
-flip_greater : IsTotalOrder value_cmp → (v w : Value) → value_cmp v w ≡ Greater → value_cmp w v ≡ Less
+pub flip_greater : IsTotalOrder value_cmp → (v w : Value) → value_cmp v w ≡ Greater → value_cmp w v ≡ Less
 flip_greater o v w e = o.antisymm w v ∙ ap ordering_reverse e
 
 -- ---- putting in any order
 
 -- Parts of one value may be joined before.
-put_same : IsTotalOrder value_cmp → (p a : Part) → value_cmp p.value a.value ≡ Equal → (rs : List Part) → put_part p (put_part a rs) ≡ put_part (with_former p a) rs
+put_same : IsTotalOrder value_cmp → (p a : SplitPart) → value_cmp p.value a.value ≡ Equal → (rs : List SplitPart) → put_part p (put_part a rs) ≡ put_part (with_former p a) rs
 put_same o p a e [] = put_equal p a [] e
 put_same o p a e (r ∷ rs) =
     let like : value_cmp p.value r.value ≡ value_cmp a.value r.value = o.congr p.value a.value r.value e in
@@ -68,7 +68,7 @@ put_same o p a e (r ∷ rs) =
     ]
 
 -- Parts of two values may be put in either order.
-put_swapped : IsTotalOrder value_cmp → (a p : Part) → value_cmp a.value p.value ≡ Less → (rs : List Part) → put_part a (put_part p rs) ≡ put_part p (put_part a rs)
+put_swapped : IsTotalOrder value_cmp → (a p : SplitPart) → value_cmp a.value p.value ≡ Less → (rs : List SplitPart) → put_part a (put_part p rs) ≡ put_part p (put_part a rs)
 put_swapped o a p e [] = put_less a p [] e ∙ sym (put_greater p a [] (flip_less o a.value p.value e))
 put_swapped o a p e (r ∷ rs) =
     let back : value_cmp p.value a.value ≡ Greater = flip_less o a.value p.value e in
@@ -103,7 +103,7 @@ put_swapped o a p e (r ∷ rs) =
     ]
 
 -- A part put among some is put among all.
-put_all_put : IsTotalOrder value_cmp → (p : Part) (ps qs : List Part) → put_all (put_part p ps) qs ≡ put_part p (put_all ps qs)
+put_all_put : IsTotalOrder value_cmp → (p : SplitPart) (ps qs : List SplitPart) → put_all (put_part p ps) qs ≡ put_part p (put_all ps qs)
 put_all_put o p [] qs = refl
 put_all_put o p (a ∷ ps) qs = elim (three (value_cmp p.value a.value)) as (λ _. put_all (put_part p (a ∷ ps)) qs ≡ put_part p (put_all (a ∷ ps) qs)) [
   | inl l ↦ ap (λ xs. put_all xs qs) (put_less p a ps l)
@@ -115,21 +115,21 @@ put_all_put o p (a ∷ ps) qs = elim (three (value_cmp p.value a.value)) as (λ 
   ]
 ]
 
-put_all_arranged : IsTotalOrder value_cmp → (ps qs : List Part) → put_all (arranged ps) qs ≡ put_all ps qs
+put_all_arranged : IsTotalOrder value_cmp → (ps qs : List SplitPart) → put_all (arranged ps) qs ≡ put_all ps qs
 put_all_arranged o [] qs = refl
 put_all_arranged o (p ∷ ps) qs = put_all_put o p (arranged ps) qs ∙ ap (put_part p) (put_all_arranged o ps qs)
 
-put_all-append : (ps qs rs : List Part) → put_all (ps ++ qs) rs ≡ put_all ps (put_all qs rs)
+put_all-append : (ps qs rs : List SplitPart) → put_all (ps ++ qs) rs ≡ put_all ps (put_all qs rs)
 put_all-append [] qs rs = refl
 put_all-append (p ∷ ps) qs rs = ap (put_part p) (put_all-append ps qs rs)
 
 -- Two halves may be arranged first.
-pub arranged-append : IsTotalOrder value_cmp → (ps qs : List Part) → put_all (arranged ps) (arranged qs) ≡ arranged (ps ++ qs)
+pub arranged-append : IsTotalOrder value_cmp → (ps qs : List SplitPart) → put_all (arranged ps) (arranged qs) ≡ arranged (ps ++ qs)
 arranged-append o ps qs = put_all_arranged o ps (arranged qs) ∙ sym (put_all-append ps qs [])
 
 -- ---- ascending parts
 
-above_put : (v : Value) (p : Part) (ps : List Part) → value_cmp v p.value ≡ Less → Above v ps → Above v (put_part p ps)
+above_put : (v : Value) (p : SplitPart) (ps : List SplitPart) → value_cmp v p.value ≡ Less → Above v ps → Above v (put_part p ps)
 above_put v p [] l all = (l, tt)
 above_put v p (q ∷ qs) l all = elim (three (value_cmp p.value q.value)) as (λ _. Above v (put_part p (q ∷ qs))) [
   | inl e ↦ subst (Above v) (sym (put_less p q qs e)) (l, all)
@@ -139,19 +139,19 @@ above_put v p (q ∷ qs) l all = elim (three (value_cmp p.value q.value)) as (λ
   ]
 ]
 
-above_all : (v : Value) (ps qs : List Part) → Above v ps → Above v qs → Above v (put_all ps qs)
+above_all : (v : Value) (ps qs : List SplitPart) → Above v ps → Above v qs → Above v (put_all ps qs)
 above_all v [] qs a b = b
 above_all v (p ∷ ps) qs a b = above_put v p (put_all ps qs) a.0 (above_all v ps qs a.1 b)
 
-above_less : IsTotalOrder value_cmp → (v w : Value) (ps : List Part) → value_cmp v w ≡ Less → Above w ps → Above v ps
+above_less : IsTotalOrder value_cmp → (v w : Value) (ps : List SplitPart) → value_cmp v w ≡ Less → Above w ps → Above v ps
 above_less o v w [] e a = tt
 above_less o v w (p ∷ ps) e a = (o.trans v w p.value e a.0, above_less o v w ps e a.1)
 
-above_equal : IsTotalOrder value_cmp → (v w : Value) (ps : List Part) → value_cmp w v ≡ Equal → Above w ps → Above v ps
+above_equal : IsTotalOrder value_cmp → (v w : Value) (ps : List SplitPart) → value_cmp w v ≡ Equal → Above w ps → Above v ps
 above_equal o v w [] e a = tt
 above_equal o v w (p ∷ ps) e a = (sym (o.congr w v p.value e) ∙ a.0, above_equal o v w ps e a.1)
 
-ascend_put : IsTotalOrder value_cmp → (p : Part) (ps : List Part) → Ascend ps → Ascend (put_part p ps)
+ascend_put : IsTotalOrder value_cmp → (p : SplitPart) (ps : List SplitPart) → Ascend ps → Ascend (put_part p ps)
 ascend_put o p [] up = (tt, tt)
 ascend_put o p (q ∷ qs) up = elim (three (value_cmp p.value q.value)) as (λ _. Ascend (put_part p (q ∷ qs))) [
   | inl e ↦ subst Ascend (sym (put_less p q qs e)) ((e, above_less o p.value q.value qs e up.0), up)
@@ -161,56 +161,53 @@ ascend_put o p (q ∷ qs) up = elim (three (value_cmp p.value q.value)) as (λ _
   ]
 ]
 
-pub ascend_arranged : IsTotalOrder value_cmp → (ps : List Part) → Ascend (arranged ps)
+pub ascend_arranged : IsTotalOrder value_cmp → (ps : List SplitPart) → Ascend (arranged ps)
 ascend_arranged o [] = tt
 ascend_arranged o (p ∷ ps) = ascend_put o p (arranged ps) (ascend_arranged o ps)
 
-put_front : (p : Part) (ps : List Part) → Above p.value ps → put_part p ps ≡ p ∷ ps
+put_front : (p : SplitPart) (ps : List SplitPart) → Above p.value ps → put_part p ps ≡ p ∷ ps
 put_front p [] a = refl
 put_front p (q ∷ qs) a = put_less p q qs a.0
 
-pub put_all_nil : (ps : List Part) → Ascend ps → put_all ps [] ≡ ps
+pub put_all_nil : (ps : List SplitPart) → Ascend ps → put_all ps [] ≡ ps
 put_all_nil [] up = refl
 put_all_nil (p ∷ ps) up = ap (put_part p) (put_all_nil ps up.1) ∙ put_front p ps up.0
 
 -- The least part goes to the front.
-put_all_front : IsTotalOrder value_cmp → (b : Part) (ps qs : List Part) → Above b.value ps → put_all ps (b ∷ qs) ≡ b ∷ put_all ps qs
+put_all_front : IsTotalOrder value_cmp → (b : SplitPart) (ps qs : List SplitPart) → Above b.value ps → put_all ps (b ∷ qs) ≡ b ∷ put_all ps qs
 put_all_front o b [] qs a = refl
 put_all_front o b (p ∷ ps) qs a = ap (put_part p) (put_all_front o b ps qs a.1) ∙ put_greater p b (put_all ps qs) (flip_less o b.value p.value a.0)
 
 -- ---- the steps of a merge
 
-pub takes_left : IsTotalOrder value_cmp → (a b : Part) (ps qs : List Part) → Ascend (a ∷ ps) → Ascend (b ∷ qs) → value_cmp a.value b.value ≡ Less →
+pub takes_left : IsTotalOrder value_cmp → (a b : SplitPart) (ps qs : List SplitPart) → Ascend (a ∷ ps) → Ascend (b ∷ qs) → value_cmp a.value b.value ≡ Less →
     put_all (a ∷ ps) (b ∷ qs) ≡ a ∷ put_all ps (b ∷ qs)
 takes_left o a b ps qs up vp e = put_front a (put_all ps (b ∷ qs)) (above_all a.value ps (b ∷ qs) up.0 (e, above_less o a.value b.value qs e vp.0))
 
-pub takes_right : IsTotalOrder value_cmp → (a b : Part) (ps qs : List Part) → Ascend (a ∷ ps) → value_cmp a.value b.value ≡ Greater →
+pub takes_right : IsTotalOrder value_cmp → (a b : SplitPart) (ps qs : List SplitPart) → Ascend (a ∷ ps) → value_cmp a.value b.value ≡ Greater →
     put_all (a ∷ ps) (b ∷ qs) ≡ b ∷ put_all (a ∷ ps) qs
 takes_right o a b ps qs up e =
     let less : value_cmp b.value a.value ≡ Less = flip_greater o a.value b.value e in
     put_all_front o b (a ∷ ps) qs (less, above_less o b.value a.value ps less up.0)
 
-pub takes_both : IsTotalOrder value_cmp → (a b : Part) (ps qs : List Part) → Ascend (a ∷ ps) → value_cmp a.value b.value ≡ Equal →
+pub takes_both : IsTotalOrder value_cmp → (a b : SplitPart) (ps qs : List SplitPart) → Ascend (a ∷ ps) → value_cmp a.value b.value ≡ Equal →
     put_all (a ∷ ps) (b ∷ qs) ≡ with_former a b ∷ put_all ps qs
 takes_both o a b ps qs up e =
     ap (put_part a) (put_all_front o b ps qs (above_equal o b.value a.value ps e up.0)) ∙ put_equal a b (put_all ps qs) e
 
 -- ---- what the parts are in the end
 
-abbrev single : (ℕ → Value) → ℕ → Part
-single f y = record { value = f y; members = y ∷ [] }
-
-abbrev whole_part : (ℕ → Value) → List ℕ → Value → Part
+abbrev whole_part : (ℕ → Value) → List ℕ → Value → SplitPart
 whole_part f ys v = record { value = v; members = filter (λ y. is_eq (value_cmp (f y) v)) ys }
 
 abbrev Differ : Value → List Value → Type 0
 Differ v [] = Unit
 Differ v (w ∷ ws) = (is_eq (value_cmp w v) ≡ false) × Differ v ws
 
-step_of : Value → Value → List Value → Ordering → List Value
+pub step_of : Value → Value → List Value → Ordering → List Value
 step_of v w ws o = cond (is_lt o) (v ∷ w ∷ ws) (cond (is_eq o) (w ∷ ws) (w ∷ put v ws))
 
-sp_step : (v w : Value) (ws : List Value) (o : Ordering) → value_cmp v w ≡ o → put v (w ∷ ws) ≡ step_of v w ws o
+pub sp_step : (v w : Value) (ws : List Value) (o : Ordering) → value_cmp v w ≡ o → put v (w ∷ ws) ≡ step_of v w ws o
 unfolding step_of
 sp_step v w ws o e = ap (step_of v w ws) e
 
@@ -253,31 +250,31 @@ differ_above : IsTotalOrder value_cmp → (v : Value) (f : ℕ → Value) (ys : 
 differ_above o v f ys [] a = tt
 differ_above o v f ys (w ∷ ws) a = (ap is_eq (flip_less o v w a.0), differ_above o v f ys ws a.1)
 
-new_part : IsTotalOrder value_cmp → (f : ℕ → Value) (y : ℕ) (ys : List ℕ) → filter (λ z. is_eq (value_cmp (f z) (f y))) ys ≡ [] → whole_part f (y ∷ ys) (f y) ≡ single f y
+new_part : IsTotalOrder value_cmp → (f : ℕ → Value) (y : ℕ) (ys : List ℕ) → filter (λ z. is_eq (value_cmp (f z) (f y))) ys ≡ [] → whole_part f (y ∷ ys) (f y) ≡ part_at f y
 new_part o f y ys none = own_part f y ys (f y) (ap is_eq (tied_itself o (f y))) ∙ ap (λ zs. record { value = f y; members = y ∷ zs }) none
 
 put_whole : IsTotalOrder value_cmp → (f : ℕ → Value) (y : ℕ) (ys : List ℕ) (ws : List Value) → Ascend (map (whole_part f ys) ws) →
     (Differ (f y) ws → filter (λ z. is_eq (value_cmp (f z) (f y))) ys ≡ []) →
-    put_part (single f y) (map (whole_part f ys) ws) ≡ map (whole_part f (y ∷ ys)) (put (f y) ws)
+    put_part (part_at f y) (map (whole_part f ys) ws) ≡ map (whole_part f (y ∷ ys)) (put (f y) ws)
 unfolding step_of
 put_whole o f y ys [] up none = ap (λ p. p ∷ []) (sym (new_part o f y ys (none tt)))
-put_whole o f y ys (w ∷ ws) up none = elim (three (value_cmp (f y) w)) as (λ _. put_part (single f y) (map (whole_part f ys) (w ∷ ws)) ≡ map (whole_part f (y ∷ ys)) (put (f y) (w ∷ ws))) [
+put_whole o f y ys (w ∷ ws) up none = elim (three (value_cmp (f y) w)) as (λ _. put_part (part_at f y) (map (whole_part f ys) (w ∷ ws)) ≡ map (whole_part f (y ∷ ys)) (put (f y) (w ∷ ws))) [
   | inl e ↦
       let above : Above (f y) (map (whole_part f ys) (w ∷ ws)) = (e, above_less o (f y) w (map (whole_part f ys) ws) e up.0) in
       let new = new_part o f y ys (none (differ_above o (f y) f ys (w ∷ ws) above)) in
       let same = others_same f y ys (w ∷ ws) above in
-      put_less (single f y) (whole_part f ys w) (map (whole_part f ys) ws) e
+      put_less (part_at f y) (whole_part f ys w) (map (whole_part f ys) ws) e
       ∙ ap (λ p. p ∷ map (whole_part f ys) (w ∷ ws)) (sym new) ∙ ap (λ ps. whole_part f (y ∷ ys) (f y) ∷ ps) (sym same)
       ∙ ap (map (whole_part f (y ∷ ys))) (sym (sp_step (f y) w ws Less e))
-  | inr m ↦ elim m as (λ _. put_part (single f y) (map (whole_part f ys) (w ∷ ws)) ≡ map (whole_part f (y ∷ ys)) (put (f y) (w ∷ ws))) [
+  | inr m ↦ elim m as (λ _. put_part (part_at f y) (map (whole_part f ys) (w ∷ ws)) ≡ map (whole_part f (y ∷ ys)) (put (f y) (w ∷ ws))) [
     | inl e ↦
         let above : Above (f y) (map (whole_part f ys) ws) = above_equal o (f y) w (map (whole_part f ys) ws) (back_equal e) up.0 in
-        put_equal (single f y) (whole_part f ys w) (map (whole_part f ys) ws) e
+        put_equal (part_at f y) (whole_part f ys w) (map (whole_part f ys) ws) e
         ∙ ap (λ p. p ∷ map (whole_part f ys) ws) (sym (own_part f y ys w (ap is_eq e)))
         ∙ ap (λ ps. whole_part f (y ∷ ys) w ∷ ps) (sym (others_same f y ys ws above))
         ∙ ap (map (whole_part f (y ∷ ys))) (sym (sp_step (f y) w ws Equal e))
     | inr e ↦
-        put_greater (single f y) (whole_part f ys w) (map (whole_part f ys) ws) e
+        put_greater (part_at f y) (whole_part f ys w) (map (whole_part f ys) ws) e
         ∙ ap (λ ps. whole_part f ys w ∷ ps) (put_whole o f y ys ws up.1 (λ d. none (ap is_eq (flip_greater o (f y) w e), d)))
         ∙ ap (λ p. p ∷ map (whole_part f (y ∷ ys)) (put (f y) ws)) (sym (other_part f y ys w (ap is_eq e)))
         ∙ ap (map (whole_part f (y ∷ ys))) (sym (sp_step (f y) w ws Greater e))
@@ -287,77 +284,69 @@ put_whole o f y ys (w ∷ ws) up none = elim (three (value_cmp (f y) w)) as (λ 
     back_equal : value_cmp (f y) w ≡ Equal → value_cmp w (f y) ≡ Equal
     back_equal e = o.antisymm w (f y) ∙ ap ordering_reverse e
 
-arranged_whole : IsTotalOrder value_cmp → (f : ℕ → Value) (ys : List ℕ) → arranged (map (single f) ys) ≡ map (whole_part f ys) (occurring (map f ys))
+arranged_whole : IsTotalOrder value_cmp → (f : ℕ → Value) (ys : List ℕ) → arranged (map (part_at f) ys) ≡ map (whole_part f ys) (occurring (map f ys))
 arranged_whole o f [] = refl
 arranged_whole o f (y ∷ ys) =
     let before = arranged_whole o f ys in
-    ap (put_part (single f y)) before
-    ∙ put_whole o f y ys (occurring (map f ys)) (subst Ascend before (ascend_arranged o (map (single f) ys))) (none_alike o f (f y) ys)
+    ap (put_part (part_at f y)) before
+    ∙ put_whole o f y ys (occurring (map f ys)) (subst Ascend before (ascend_arranged o (map (part_at f) ys))) (none_alike o f (f y) ys)
 
-abbrev grouped : List Value → Part → Group
-grouped by p = record { by = by ++ p.value ∷ []; members = p.members }
-
-abbrev group_at : (ℕ → Value) → List Value → List ℕ → Value → Group
+abbrev pub group_at : (ℕ → Value) → List Value → List ℕ → Value → Group
 group_at f by ys v = record { by = by ++ v ∷ []; members = filter (λ y. is_eq (value_cmp (f y) v)) ys }
 
-groups_same : (f : ℕ → Value) (by : List Value) (ys : List ℕ) (ws : List Value) → map (grouped by) (map (whole_part f ys) ws) ≡ map (group_at f by ys) ws
+groups_same : (f : ℕ → Value) (by : List Value) (ys : List ℕ) (ws : List Value) → map (part_group by) (map (whole_part f ys) ws) ≡ map (group_at f by ys) ws
 groups_same f by ys [] = refl
 groups_same f by ys (w ∷ ws) = ap (λ gs. group_at f by ys w ∷ gs) (groups_same f by ys ws)
 
 -- The parts of a list are the groups of its values.
 groups_are : IsTotalOrder value_cmp → (f : ℕ → Value) (by : List Value) (ys : List ℕ) →
-    map (grouped by) (arranged (map (single f) ys)) ≡ map (group_at f by ys) (occurring (map f ys))
-groups_are o f by ys = ap (map (grouped by)) (arranged_whole o f ys) ∙ groups_same f by ys (occurring (map f ys))
-
-singles_are : (f : ℕ → Value) (ys : List ℕ) → map part_of (map (λ y. record { value = f y; position = y }) ys) ≡ map (single f) ys
-singles_are f [] = refl
-singles_are f (y ∷ ys) = ap (λ ps. single f y ∷ ps) (singles_are f ys)
+    map (part_group by) (arranged (map (part_at f) ys)) ≡ map (group_at f by ys) (occurring (map f ys))
+groups_are o f by ys = ap (map (part_group by)) (arranged_whole o f ys) ∙ groups_same f by ys (occurring (map f ys))
 
 -- What the arranged parts of the valued members are as groups.
-pub split_is : IsTotalOrder value_cmp → (f : ℕ → Value) (by : List Value) (ys : List ℕ) (vs : List Valued) (ps : List Part) →
-    vs ≡ map (λ y. record { value = f y; position = y }) ys → ps ≡ arranged (map part_of vs) →
-    map (grouped by) ps ≡ map (group_at f by ys) (occurring (map f ys))
+pub split_is : IsTotalOrder value_cmp → (f : ℕ → Value) (by : List Value) (ys : List ℕ) (vs : List Valued) (ps : List SplitPart) →
+    map part_of vs ≡ map (part_at f) ys → ps ≡ arranged (map part_of vs) →
+    map (part_group by) ps ≡ map (group_at f by ys) (occurring (map f ys))
 split_is o f by ys vs ps is parts =
-    ap (map (grouped by)) (parts ∙ ap (λ xs. arranged (map part_of xs)) is ∙ ap arranged (singles_are f ys))
-    ∙ groups_are o f by ys
+    ap (map (part_group by)) (parts ∙ ap arranged is) ∙ groups_are o f by ys
 
 -- ---- a step of a merge of two lists that are turned round
 
-Ascend-tail : (p : Part) (ps : List Part) → Ascend (p ∷ ps) → Ascend ps
+Ascend-tail : (p : SplitPart) (ps : List SplitPart) → Ascend (p ∷ ps) → Ascend ps
 Ascend-tail p ps h = h.1
 
-pub takes_former : (a b : Part) (ps qs : List Part) → Ascend (a ∷ ps) → Ascend (b ∷ qs) → value_cmp a.value b.value ≡ Less → IsTotalOrder value_cmp →
+pub takes_former : (a b : SplitPart) (ps qs : List SplitPart) → Ascend (a ∷ ps) → Ascend (b ∷ qs) → value_cmp a.value b.value ≡ Less → IsTotalOrder value_cmp →
     Takes (a ∷ ps) (b ∷ qs) (Some a) ps (b ∷ qs)
 takes_former a b ps qs up vp e o = record { left_up = up.1; right_up = vp; all = takes_left o a b ps qs up vp e }
 
-pub takes_latter : (a b : Part) (ps qs : List Part) → Ascend (a ∷ ps) → Ascend (b ∷ qs) → value_cmp a.value b.value ≡ Greater → IsTotalOrder value_cmp →
+pub takes_latter : (a b : SplitPart) (ps qs : List SplitPart) → Ascend (a ∷ ps) → Ascend (b ∷ qs) → value_cmp a.value b.value ≡ Greater → IsTotalOrder value_cmp →
     Takes (a ∷ ps) (b ∷ qs) (Some b) (a ∷ ps) qs
 takes_latter a b ps qs up vp e o = record { left_up = up; right_up = vp.1; all = takes_right o a b ps qs up e }
 
-pub takes_joined : (a b : Part) (ps qs : List Part) → Ascend (a ∷ ps) → Ascend (b ∷ qs) → value_cmp a.value b.value ≡ Equal → IsTotalOrder value_cmp →
+pub takes_joined : (a b : SplitPart) (ps qs : List SplitPart) → Ascend (a ∷ ps) → Ascend (b ∷ qs) → value_cmp a.value b.value ≡ Equal → IsTotalOrder value_cmp →
     Takes (a ∷ ps) (b ∷ qs) (Some (with_former a b)) ps qs
 takes_joined a b ps qs up vp e o = record { left_up = up.1; right_up = vp.1; all = takes_both o a b ps qs up e }
 
 -- where one list is empty
-pub takes_rest : (ls rs ls' rs' : List Part) (r : Option Part) → ls ≡ [] → ls' ≡ [] → rs ≡ option_to_list r ++ rs' → Ascend rs → Takes ls rs r ls' rs'
+pub takes_rest : (ls rs ls' rs' : List SplitPart) (r : Option SplitPart) → ls ≡ [] → ls' ≡ [] → rs ≡ option_to_list r ++ rs' → Ascend rs → Takes ls rs r ls' rs'
 takes_rest ls rs ls' rs' r el el' er up = record {
   left_up = subst Ascend (sym el') tt;
   right_up = behind r (subst Ascend er up);
   all = ap (λ xs. put_all xs rs) el ∙ er ∙ ap (λ xs. option_to_list r ++ put_all xs rs') (sym el');
 }
   where
-    behind : (o : Option Part) → Ascend (option_to_list o ++ rs') → Ascend rs'
+    behind : (o : Option SplitPart) → Ascend (option_to_list o ++ rs') → Ascend rs'
     behind None h = h
     behind (Some p) h = h.1
 
-pub takes_first : (ls rs ls' rs' : List Part) (r : Option Part) → rs ≡ [] → rs' ≡ [] → ls ≡ option_to_list r ++ ls' → Ascend ls → Takes ls rs r ls' rs'
+pub takes_first : (ls rs ls' rs' : List SplitPart) (r : Option SplitPart) → rs ≡ [] → rs' ≡ [] → ls ≡ option_to_list r ++ ls' → Ascend ls → Takes ls rs r ls' rs'
 takes_first ls rs ls' rs' r er er' el up = record {
   left_up = behind;
   right_up = subst Ascend (sym er') tt;
   all = ap (put_all ls) er ∙ put_all_nil ls up ∙ el ∙ ap (λ xs. option_to_list r ++ xs) (sym (put_all_nil ls' behind)) ∙ ap (λ xs. option_to_list r ++ put_all ls' xs) (sym er');
 }
   where
-    after : (o : Option Part) → Ascend (option_to_list o ++ ls') → Ascend ls'
+    after : (o : Option SplitPart) → Ascend (option_to_list o ++ ls') → Ascend ls'
     after None h = h
     after (Some p) h = h.1
 
@@ -365,13 +354,13 @@ takes_first ls rs ls' rs' r er er' el up = record {
     behind = after r (subst Ascend el up)
 
 -- A list turned round begins with what was its end.
-pub turned : (xs ys : List Part) (r : Option Part) → xs ≡ ys ++ option_to_list r → reverse xs ≡ option_to_list r ++ reverse ys
+pub turned : (xs ys : List SplitPart) (r : Option SplitPart) → xs ≡ ys ++ option_to_list r → reverse xs ≡ option_to_list r ++ reverse ys
 turned xs ys None e = ap reverse (e ∙ append-nil ys)
 turned xs ys (Some p) e = ap reverse e ∙ reverse-append ys (p ∷ [])
 
 -- ---- the arms of a step, over lists that are turned round
 
-pub less_arm : (lo ro l r ro' : List Part) (a b : Part) → lo ≡ l ++ a ∷ [] → ro ≡ r ++ b ∷ [] → ro' ≡ r ++ b ∷ [] → Ascend (reverse lo) → Ascend (reverse ro) →
+pub less_arm : (lo ro l r ro' : List SplitPart) (a b : SplitPart) → lo ≡ l ++ a ∷ [] → ro ≡ r ++ b ∷ [] → ro' ≡ r ++ b ∷ [] → Ascend (reverse lo) → Ascend (reverse ro) →
     value_cmp a.value b.value ≡ Less → Takes (reverse lo) (reverse ro) (Some a) (reverse l) (reverse ro')
 less_arm lo ro l r ro' a b el er er' ul ur e =
     let tl : reverse lo ≡ a ∷ reverse l = turned lo l (Some a) el in
@@ -382,7 +371,7 @@ less_arm lo ro l r ro' a b el er er' ul ur e =
     (subst (λ z. Takes (a ∷ reverse l) (b ∷ reverse r) (Some a) (reverse l) z) (sym tr')
     (takes_former a b (reverse l) (reverse r) (subst Ascend tl ul) (subst Ascend tr ur) e value_cmp_total)))
 
-pub greater_arm : (lo ro l r lo' : List Part) (a b : Part) → lo ≡ l ++ a ∷ [] → ro ≡ r ++ b ∷ [] → lo' ≡ l ++ a ∷ [] → Ascend (reverse lo) → Ascend (reverse ro) →
+pub greater_arm : (lo ro l r lo' : List SplitPart) (a b : SplitPart) → lo ≡ l ++ a ∷ [] → ro ≡ r ++ b ∷ [] → lo' ≡ l ++ a ∷ [] → Ascend (reverse lo) → Ascend (reverse ro) →
     value_cmp a.value b.value ≡ Greater → Takes (reverse lo) (reverse ro) (Some b) (reverse lo') (reverse r)
 greater_arm lo ro l r lo' a b el er el' ul ur e =
     let tl : reverse lo ≡ a ∷ reverse l = turned lo l (Some a) el in
@@ -393,7 +382,7 @@ greater_arm lo ro l r lo' a b el er el' ul ur e =
     (subst (λ z. Takes (a ∷ reverse l) (b ∷ reverse r) (Some b) z (reverse r)) (sym tl')
     (takes_latter a b (reverse l) (reverse r) (subst Ascend tl ul) (subst Ascend tr ur) e value_cmp_total)))
 
-pub equal_arm : (lo ro l r : List Part) (a b p : Part) → lo ≡ l ++ a ∷ [] → ro ≡ r ++ b ∷ [] → p ≡ with_former a b → Ascend (reverse lo) → Ascend (reverse ro) →
+pub equal_arm : (lo ro l r : List SplitPart) (a b p : SplitPart) → lo ≡ l ++ a ∷ [] → ro ≡ r ++ b ∷ [] → p ≡ with_former a b → Ascend (reverse lo) → Ascend (reverse ro) →
     value_cmp a.value b.value ≡ Equal → Takes (reverse lo) (reverse ro) (Some p) (reverse l) (reverse r)
 equal_arm lo ro l r a b p el er ep ul ur e =
     let tl : reverse lo ≡ a ∷ reverse l = turned lo l (Some a) el in
@@ -403,17 +392,17 @@ equal_arm lo ro l r a b p el er ep ul ur e =
     (subst (λ q. Takes (a ∷ reverse l) (b ∷ reverse r) (Some q) (reverse l) (reverse r)) (sym ep)
     (takes_joined a b (reverse l) (reverse r) (subst Ascend tl ul) (subst Ascend tr ur) e value_cmp_total)))
 
-nil_of : (xs : List Part) → length xs ≡ 0 → xs ≡ []
+nil_of : (xs : List SplitPart) → length xs ≡ 0 → xs ≡ []
 nil_of [] e = refl
 nil_of (x ∷ xs) e = absurd (omega arith)
 
 -- where the right list is empty
-pub first_arm : (lo ro l r : List Part) (found next : Option Part) → lo ≡ l ++ option_to_list found → length ro ≡ 0 → length r ≡ 0 → found ≡ next → Ascend (reverse lo) →
+pub first_arm : (lo ro l r : List SplitPart) (found next : Option SplitPart) → lo ≡ l ++ option_to_list found → length ro ≡ 0 → length r ≡ 0 → found ≡ next → Ascend (reverse lo) →
     Takes (reverse lo) (reverse ro) next (reverse l) (reverse r)
 first_arm lo ro l r found next el er er' same ul =
     subst (λ o. Takes (reverse lo) (reverse ro) o (reverse l) (reverse r)) same
     (takes_first (reverse lo) (reverse ro) (reverse l) (reverse r) found (ap reverse (nil_of ro er)) (ap reverse (nil_of r er')) (turned lo l found el) ul)
 
-pub at_none : (o : Option Part) (P : Type 0) (Q : Part → Type 0) → o ≡ None → MatchOption o P Q → P
+pub at_none : (o : Option SplitPart) (P : Type 0) (Q : SplitPart → Type 0) → o ≡ None → MatchOption o P Q → P
 at_none None P Q e h = h
 at_none (Some x) P Q e h = cc

@@ -12,7 +12,7 @@ use Rattle.traceql_syntax.specs.Trees.{Placed}
 use Rattle.traceql_types.specs.declared.pattern.Pattern.{Pattern}
 use Rattle.spanset_eval.specs.Marked.{mark_at, MarksSet}
 use Rattle.spanset_eval.specs.Outcomes.{IsListOf}
-use Rattle.spanset_eval.specs.Sets.{keeps, IsKept}
+use Rattle.spanset_eval.specs.Sets.{filter_span, PassesFilter}
 use Rattle.spanset_eval.specs.Stages.{positions_from}
 use Rattle.spanset_eval.proofs.MarkLaws.{in_marks}
 
@@ -36,15 +36,15 @@ kept_whole f (q ∷ rows) zero r is so = ap f (same_Some q r is) ∙ so
 kept_whole f (q ∷ rows) (suc y) r is so = kept_whole f rows y r is so
 
 -- The marks of a filter stand for what it keeps.
-pub kept_set : (ps : List Pattern) (rows : List Row) (condition : Option Placed) (marks : List Bool) → marks ≡ map (λ (r : Row). keeps ps rows condition r.span) rows →
-    MarksSet (length rows) (IsKept ps rows condition) marks
+pub kept_set : (ps : List Pattern) (rows : List Row) (condition : Option Placed) (marks : List Bool) → marks ≡ map (λ (r : Row). filter_span ps rows condition r.span) rows →
+    MarksSet (length rows) (PassesFilter ps rows condition) marks
 kept_set ps rows condition marks is = record {
-  one_each = ap length is ∙ length-map rows (λ (r : Row). keeps ps rows condition r.span);
+  one_each = ap length is ∙ length-map rows (λ (r : Row). filter_span ps rows condition r.span);
   only = λ y h.
-      let w = kept_only (λ (r : Row). keeps ps rows condition r.span) rows y (subst (λ ms. get_or ms y false ≡ true) is h) in
+      let w = kept_only (λ (r : Row). filter_span ps rows condition r.span) rows y (subst (λ ms. get_or ms y false ≡ true) is h) in
       record { row = w.0; is = w.1; kept = w.2 };
   whole = λ y h.
-      subst (λ ms. get_or ms y false ≡ true) (sym is) (kept_whole (λ (r : Row). keeps ps rows condition r.span) rows y h.row h.is h.kept);
+      subst (λ ms. get_or ms y false ≡ true) (sym is) (kept_whole (λ (r : Row). filter_span ps rows condition r.span) rows y h.row h.is h.kept);
 }
 
 -- ---- lists of positions

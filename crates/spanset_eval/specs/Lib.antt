@@ -1,8 +1,12 @@
+pub mod Chains
+pub mod InContext
+pub mod Laws
 pub mod Marked
 pub mod Outcomes
 pub mod Parts
 pub mod Ranking
 pub mod Relating
-pub mod Unchanged
+pub mod MadeTree
 pub mod Sets
+pub mod Showing
 pub mod Stages

@@ -16,15 +16,15 @@ use Rattle.traceql_types.specs.declared.pattern.Pattern.{Pattern}
 use Rattle.traceql_value.specs.Meaning.{is_so}
 
 -- whether a filter keeps a span; an empty one keeps each
-abbrev pub keeps : List Pattern → List Row → Option Placed → Span → Bool
-keeps ps rows None s = true
-keeps ps rows (Some e) s = is_so ps rows s e.1
+abbrev pub filter_span : List Pattern → List Row → Option Placed → Span → Bool
+filter_span ps rows None s = true
+filter_span ps rows (Some e) s = is_so ps rows s e.1
 
 -- the span at a position is there, and the filter keeps it
-pub record IsKept (ps : List Pattern) (rows : List Row) (condition : Option Placed) (y : ℕ) : Type 0 where
+pub record PassesFilter (ps : List Pattern) (rows : List Row) (condition : Option Placed) (y : ℕ) : Type 0 where
   pub row : Row
   pub is : slice_get rows y ≡ Some row
-  pub kept : keeps ps rows condition row.span ≡ true
+  pub kept : filter_span ps rows condition row.span ≡ true
 
 -- how a span x on the left stands to a span y on the right
 abbrev pub Relates : Relation → List Node → ℕ → ℕ → Type 0
@@ -57,5 +57,5 @@ Joined (set.Related r s) nodes A B y = Structural s (Relates r nodes) A B y
 
 -- The expression selects the span at this position.
 abbrev pub Selects : List Pattern → List Row → SetTree → ℕ → Type 0
-Selects ps rows (Filter at condition) y = IsKept ps rows condition y
+Selects ps rows (Filter at condition) y = PassesFilter ps rows condition y
 Selects ps rows (Join at op a b) y = Joined op (nodes_of rows) (Selects ps rows a) (Selects ps rows b) y

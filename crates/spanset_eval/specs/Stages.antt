@@ -14,17 +14,22 @@ use Rattle.traceql_types.specs.declared.pattern.Pattern.{Pattern}
 use Rattle.traceql_value.specs.declared.value.Value.{Value}
 use Rattle.traceql_value.specs.declared.value.Value.TheVariants as value
 use Rattle.traceql_value.specs.Meaning.{value_of}
-use Rattle.traceql_value.specs.Values.{accepts, value_cmp}
+use Rattle.traceql_value.specs.Values.{accepts, value_cmp, whole_of}
 use Rattle.spanset_eval.specs.declared.amounts.Amount.{Amount}
 use Rattle.spanset_eval.specs.declared.groups.Group.{Group}
-use Rattle.spanset_eval.specs.Sets.{keeps}
+use Rattle.spanset_eval.specs.Sets.{filter_span}
 
 -- the value of an expression for the span at a position; nil where there is none
 abbrev pub value_at : List Pattern → List Row → Tree → ℕ → Value
 value_at ps rows e y = option_map_or (λ r. value_of ps rows r.span e) (slice_get rows y) value.Nil
 
-abbrev pub keeps_at : List Pattern → List Row → Option Placed → ℕ → Bool
-keeps_at ps rows condition y = option_map_or (λ r. keeps ps rows condition r.span) (slice_get rows y) false
+-- whether a filter keeps the span at a position; not where there is none
+abbrev pub filter_position : List Pattern → List Row → Option Placed → ℕ → Bool
+filter_position ps rows condition y = option_map_or (λ r. filter_span ps rows condition r.span) (slice_get rows y) false
+
+-- a spanset with the spans that a filter keeps
+abbrev pub filter_spanset : List Pattern → List Row → Option Placed → Group → Group
+filter_spanset ps rows condition g = record { by = g.by; members = filter (filter_position ps rows condition) g.members }
 
 -- ---- `by`
 
@@ -59,19 +64,14 @@ positions_from first zero = []
 positions_from first (suc more) = first ∷ positions_from (suc first) more
 
 -- all spansets as one that wasn't split
-unfoldable pub joined : List Row → List Group → List Group
-joined rows groups = record { by = []; members = filter (is_in_some groups) (positions_from 0 (length rows)) } ∷ []
+unfoldable pub coalesced : List Row → List Group → List Group
+coalesced rows groups = record { by = []; members = filter (is_in_some groups) (positions_from 0 (length rows)) } ∷ []
 
 -- ---- aggregates
 
--- A number of an aggregate's argument, which has no division: it is whole.
-abbrev pub whole_number : Value → Option ℤ
-whole_number (value.Number r) = if r.denominator == 1 then Some r.numerator else None
-whole_number _ = None
-
--- the numbers that the argument has in a spanset
+-- The numbers that the argument has in a spanset. It has no division, so they are whole.
 abbrev pub numbers_of : List Pattern → List Row → Tree → List ℕ → List ℤ
-numbers_of ps rows e members = filter_map (λ y. whole_number (value_at ps rows e y)) members
+numbers_of ps rows e members = filter_map (λ y. whole_of (value_at ps rows e y)) members
 
 abbrev pub total_of : List ℤ → ℤ
 total_of [] = pos 0
@@ -119,17 +119,17 @@ amounts_compare c _ _ = false
 -- ---- pipelines
 
 -- spansets without spans are dropped
-abbrev pub is_left : Group → Bool
-is_left g = not (length g.members == 0)
+abbrev pub has_spans : Group → Bool
+has_spans g = not (length g.members == 0)
 
-abbrev pub left : List Group → List Group
-left groups = filter is_left groups
+abbrev pub drop_empty : List Group → List Group
+drop_empty groups = filter has_spans groups
 
 -- what a stage makes of spansets; `select` changes what is shown and not the spansets
 unfoldable pub after_stage : List Pattern → List Row → StageTree → List Group → List Group
-after_stage ps rows (Keep at condition) groups = map (λ g. record { by = g.by; members = filter (keeps_at ps rows condition) g.members }) groups
+after_stage ps rows (Keep at condition) groups = map (filter_spanset ps rows condition) groups
 after_stage ps rows (By e) groups = flat_map (split_by ps rows e.1) groups
-after_stage ps rows Coalesce groups = joined rows groups
+after_stage ps rows Coalesce groups = coalesced rows groups
 after_stage ps rows (Select fields) groups = groups
 after_stage ps rows (Compare a at op b) groups =
     filter (λ g. amounts_compare op (aggregate_of ps rows a g.members) (threshold_of ps rows b g.members)) groups
@@ -137,11 +137,11 @@ after_stage ps rows (Compare a at op b) groups =
 -- what all stages make of spansets
 abbrev pub after_stages : List Pattern → List Row → List StageTree → List Group → List Group
 after_stages ps rows [] groups = groups
-after_stages ps rows (stage ∷ stages) groups = after_stages ps rows stages (left (after_stage ps rows stage groups))
+after_stages ps rows (stage ∷ stages) groups = after_stages ps rows stages (drop_empty (after_stage ps rows stage groups))
 
 -- what a query leaves of a trace whose spans at these positions it selects
 abbrev pub remaining : List Pattern → List Row → List StageTree → List ℕ → List Group
-remaining ps rows stages selected = after_stages ps rows stages (left (record { by = []; members = selected } ∷ []))
+remaining ps rows stages selected = after_stages ps rows stages (drop_empty (record { by = []; members = selected } ∷ []))
 
 -- the fields that the stages select, in the text's order
 abbrev pub fields_of_stage : StageTree → List Field

@@ -2,18 +2,15 @@
 
 ghost use Rattle.std.specs.Prelude.{◌≡◌, ◌<◌, ◌++◌, pos, ◌*ℤ◌, ◌+ℤ◌, IfOk, OnOk};
 ghost use Rattle.std.specs.Option.{option_to_list};
-ghost use Rattle.traceql_syntax.specs.Trees.{tree, aggregate_tree, threshold_tree};
-ghost use Rattle.traceql_value.specs.EvalContexts.{context_patterns, context_rows};
-ghost use Rattle.traceql_value.specs.Values.{accepts};
-ghost use Rattle.spanset_eval.specs.Unchanged.{IsSame};
-ghost use Rattle.spanset_eval.specs.Stages.{amount_cmp, amount_of, amounts_compare, aggregate_of, greatest_of, least_of, numbers_of, signed, threshold_of, total_of, whole_number};
+ghost use Rattle.traceql_value.specs.EvalContexts.{IsSame};
+ghost use Rattle.spanset_eval.specs.InContext.{aggregate_in, numbers_in, threshold_in};
+ghost use Rattle.spanset_eval.specs.Stages.{amount_cmp, amount_of, amounts_compare, greatest_of, least_of, signed, total_of};
 
 use crate::filter;
-use span_types::{Memory, Row};
-use std::alloc::Global;
+use span_types::Memory;
 use std::cmp::Ordering;
 use traceql_syntax::{Aggregate, AggregateOp, Comparison, FieldExpr, Threshold};
-use traceql_value::{EvalContext, Value};
+use traceql_value::{EvalContext, accepts};
 
 /// An exact number, as a quotient: the bottom is at least 1.
 #[derive(Clone, Copy)]
@@ -31,41 +28,29 @@ fn whole(top: i128) -> Amount
     Amount { top, bottom: 1 }
 }
 
-// The number of a value that is a whole one.
-fn whole_number(value: Value) -> Option<i64>
-    ensures { result ≡ whole_number value }
-{
-    match value {
-        Value::Number(number) if number.denominator() == 1 => Some(number.numerator()),
-        _ => None,
-    }
-}
-
-// The numbers that the argument has for the members.
-fn numbers(
-    alloc: Global,
-    context: &mut EvalContext<'_, '_>,
-    rows: &[Row],
-    expr: &FieldExpr,
+// The numbers that the argument has for the members: what has none is left out, and no text is copied.
+fn numbers<'a>(
+    context: &mut EvalContext<'_, 'a>,
+    expr: &'a FieldExpr,
     members: &[usize],
 ) -> Result<Vec<i64>, Memory>
-    requires { rows.now ≡ context_rows context.old }
-    ensures numbers { IfOk result (λ numbers. numbers.items ≡ numbers_of (context_patterns context.old) (context_rows context.old) (tree expr.now) members.now) }
+    ensures numbers { IfOk result (λ numbers.
+        numbers.items ≡ numbers_in context.old expr.now members.now) }
     ensures context { IsSame context.old context.new }
 {
-    let mut numbers = Vec::new(alloc);
+    let mut numbers = Vec::new(context.alloc());
     for position in members {
-        let value = filter::value_at(context, rows, expr, *position)?;
-        add_number(&mut numbers, value)?;
+        let value = filter::value_at(context, expr, *position)?;
+        add_number(&mut numbers, value.whole())?;
     }
     Ok(numbers)
 }
 
-// Adds the number of a value that is a whole one.
-fn add_number(numbers: &mut Vec<i64>, value: Value) -> Result<(), Memory>
-    ensures { OnOk result (numbers.new.items ≡ numbers.old.items ++ option_to_list (whole_number value)) }
+// Adds a number, if there is one.
+fn add_number(numbers: &mut Vec<i64>, more: Option<i64>) -> Result<(), Memory>
+    ensures { OnOk result (numbers.new.items ≡ numbers.old.items ++ option_to_list more) }
 {
-    if let Some(number) = whole_number(value) {
+    if let Some(number) = more {
         numbers.push(number)?;
     }
     Ok(())
@@ -126,22 +111,20 @@ fn amount_from(op: AggregateOp, numbers: &[i64]) -> Option<Amount>
     }
 }
 
-// An aggregate over the members.
-fn aggregate(
-    alloc: Global,
-    context: &mut EvalContext<'_, '_>,
-    rows: &[Row],
-    aggregate: &Aggregate,
+// An aggregate over the members; none where none of them has a number.
+fn aggregate<'a>(
+    context: &mut EvalContext<'_, 'a>,
+    aggregate: &'a Aggregate,
     members: &[usize],
 ) -> Result<Option<Amount>, Memory>
-    requires { rows.now ≡ context_rows context.old }
-    ensures amount { IfOk result (λ amount. amount ≡ aggregate_of (context_patterns context.old) (context_rows context.old) (aggregate_tree aggregate.now) members.now) }
+    ensures amount { IfOk result (λ amount.
+        amount ≡ aggregate_in context.old aggregate.now members.now) }
     ensures context { IsSame context.old context.new }
 {
     match aggregate {
         Aggregate::Count => Ok(Some(whole(members.len() as i128))),
         Aggregate::Of(op, argument) => {
-            let numbers = numbers(alloc, context, rows, &argument.expr, members)?;
+            let numbers = numbers(context, &argument.expr, members)?;
             Ok(amount_from(*op, numbers.as_slice()))
         }
     }
@@ -159,35 +142,19 @@ fn signed(negative: bool, number: u64) -> i128
 }
 
 // What an aggregate is compared with.
-fn threshold(
-    alloc: Global,
-    context: &mut EvalContext<'_, '_>,
-    rows: &[Row],
-    threshold: &Threshold,
+fn threshold<'a>(
+    context: &mut EvalContext<'_, 'a>,
+    threshold: &'a Threshold,
     members: &[usize],
 ) -> Result<Option<Amount>, Memory>
-    requires { rows.now ≡ context_rows context.old }
-    ensures amount { IfOk result (λ amount. amount ≡ threshold_of (context_patterns context.old) (context_rows context.old) (threshold_tree threshold.now) members.now) }
+    ensures amount { IfOk result (λ amount.
+        amount ≡ threshold_in context.old threshold.now members.now) }
     ensures context { IsSame context.old context.new }
 {
     match threshold {
-        Threshold::Aggregate(other) => aggregate(alloc, context, rows, other, members),
+        Threshold::Aggregate(other) => aggregate(context, other, members),
         Threshold::Number { negative, value } => Ok(Some(whole(signed(*negative, *value)))),
         Threshold::Duration { negative, nanos } => Ok(Some(whole(signed(*negative, *nanos)))),
-    }
-}
-
-// Whether a comparison is true of what stands in this order.
-fn accepts(op: Comparison, order: Ordering) -> bool
-    ensures { result ≡ accepts op order }
-{
-    match op {
-        Comparison::Equal => order.is_eq(),
-        Comparison::NotEqual => order.is_ne(),
-        Comparison::Less => order.is_lt(),
-        Comparison::AtMost => order.is_le(),
-        Comparison::Greater => order.is_gt(),
-        Comparison::AtLeast => order.is_ge(),
     }
 }
 
@@ -225,23 +192,20 @@ fn compare(a: Amount, b: Amount) -> Ordering
 }
 
 /// Whether the comparison of an aggregate over the members is true. It is false where a side has no number.
-pub fn is_true(
-    alloc: Global,
-    context: &mut EvalContext<'_, '_>,
-    rows: &[Row],
-    left: &Aggregate,
+pub fn is_true<'a>(
+    context: &mut EvalContext<'_, 'a>,
+    left: &'a Aggregate,
     op: Comparison,
-    right: &Threshold,
+    right: &'a Threshold,
     members: &[usize],
 ) -> Result<bool, Memory>
-    requires { rows.now ≡ context_rows context.old }
     ensures answer { IfOk result (λ b. b ≡ amounts_compare op
-        (aggregate_of (context_patterns context.old) (context_rows context.old) (aggregate_tree left.now) members.now)
-        (threshold_of (context_patterns context.old) (context_rows context.old) (threshold_tree right.now) members.now)) }
+        (aggregate_in context.old left.now members.now)
+        (threshold_in context.old right.now members.now)) }
     ensures context { IsSame context.old context.new }
 {
-    let left = aggregate(alloc, context, rows, left, members)?;
-    let right = threshold(alloc, context, rows, right, members)?;
+    let left = aggregate(context, left, members)?;
+    let right = threshold(context, right, members)?;
     Ok(amounts_compare(op, left, right))
 }
 

@@ -1,26 +1,22 @@
-//! What expressions are for the spans of a trace, by position.
+//! Filters, and what expressions are, for the spans of a trace by their positions.
 
-ghost use Rattle.std.specs.Prelude.{◌≡◌, ℕ, length, map, filter, slice_get, IfOk, Option};
-ghost use Rattle.span_types.specs.declared.spans.Row.{Row};
-ghost use Rattle.traceql_syntax.specs.Trees.{tree, placed_option};
-ghost use Rattle.traceql_value.specs.EvalContexts.{context_patterns, context_rows};
-ghost use Rattle.spanset_eval.specs.Sets.{keeps};
-ghost use Rattle.spanset_eval.specs.Unchanged.{IsSame};
-ghost use Rattle.spanset_eval.specs.Stages.{keeps_at, value_at};
+ghost use Rattle.std.specs.Prelude.{◌≡◌, length, map, filter, IfOk};
+ghost use Rattle.traceql_value.specs.EvalContexts.{context_rows, IsSame};
+ghost use Rattle.traceql_value.specs.ValueRef.{ref_value};
+ghost use Rattle.spanset_eval.specs.InContext.{filters_row, filters_position, filters_span, value_in};
 
 use crate::groups::Members;
-use span_types::{Marks, Memory, Row, Span};
-use std::alloc::Global;
+use span_types::{Marks, Memory, Span};
 use traceql_syntax::{FieldExpr, Operand};
-use traceql_value::{EvalContext, Value};
+use traceql_value::{EvalContext, ValueRef};
 
-// Whether the condition is true of a span; each passes where there is none.
-fn keeps(
+// Whether the filter keeps a span: its condition is true of the span, or it has none.
+fn filter_span(
     context: &mut EvalContext<'_, '_>,
     condition: &Option<Operand>,
     span: &Span,
 ) -> Result<bool, Memory>
-    ensures kept { IfOk result (λ b. b ≡ keeps (context_patterns context.old) (context_rows context.old) (placed_option condition.now) span.now) }
+    ensures kept { IfOk result (λ b. b ≡ filters_span context.old condition.now span.now) }
     ensures context { IsSame context.old context.new }
 {
     match condition {
@@ -29,75 +25,68 @@ fn keeps(
     }
 }
 
-// Whether the condition is true of the span at a position.
-fn keeps_at(
+// Whether the filter keeps the span at a position; it doesn't where there is none.
+fn filter_position(
     context: &mut EvalContext<'_, '_>,
-    rows: &[Row],
     condition: &Option<Operand>,
     position: usize,
 ) -> Result<bool, Memory>
-    requires { rows.now ≡ context_rows context.old }
-    ensures kept { IfOk result (λ b. b ≡ keeps_at (context_patterns context.old) (context_rows context.old) (placed_option condition.now) position) }
+    ensures kept { IfOk result (λ b. b ≡ filters_position context.old condition.now position) }
     ensures context { IsSame context.old context.new }
 {
-    match rows.get(position) {
+    match context.rows().get(position) {
         None => Ok(false),
-        Some(row) => keeps(context, condition, &row.span),
+        Some(row) => filter_span(context, condition, &row.span),
     }
 }
 
-/// Marks on the spans of which the condition is true.
-pub fn kept(
-    alloc: Global,
+/// Marks on the spans of the trace that the filter keeps, one for each row.
+pub fn filter_rows(
     context: &mut EvalContext<'_, '_>,
-    rows: &[Row],
     condition: &Option<Operand>,
 ) -> Result<Marks, Memory>
-    requires { rows.now ≡ context_rows context.old }
-    ensures marks { IfOk result (λ marks. marks ≡ map (λ (r : Row). keeps (context_patterns context.old) (context_rows context.old) (placed_option condition.now) r.span) rows.now) }
+    ensures marks { IfOk result (λ marks.
+        marks ≡ map (filters_row context.old condition.now) (context_rows context.old)) }
     ensures context { IsSame context.old context.new }
 {
-    let mut marks = Vec::with_capacity(alloc, rows.len())?;
+    let rows = context.rows();
+    let mut marks = Vec::with_capacity(context.alloc(), rows.len())?;
     for row in rows {
-        marks.push(keeps(context, condition, &row.span)?)?;
+        marks.push(filter_span(context, condition, &row.span)?)?;
     }
     Ok(Marks::of(marks))
 }
 
-/// The members of which the condition is true.
-pub fn kept_members(
-    alloc: Global,
+/// The members that the filter keeps, in the same order.
+pub fn filter_members(
     context: &mut EvalContext<'_, '_>,
-    rows: &[Row],
     condition: &Option<Operand>,
     members: &[usize],
 ) -> Result<Members, Memory>
-    requires { rows.now ≡ context_rows context.old }
-    ensures kept { IfOk result (λ kept. kept ≡ filter (keeps_at (context_patterns context.old) (context_rows context.old) (placed_option condition.now)) members.now) }
+    ensures kept { IfOk result (λ kept.
+        kept ≡ filter (filters_position context.old condition.now) members.now) }
     ensures context { IsSame context.old context.new }
 {
-    let mut kept = Vec::new(alloc);
+    let mut kept = Vec::new(context.alloc());
     for position in members {
-        if keeps_at(context, rows, condition, *position)? {
+        if filter_position(context, condition, *position)? {
             kept.push(*position)?;
         }
     }
     Ok(Members::of(kept))
 }
 
-/// What the expression is for the span at a position; nil where there is none.
-pub fn value_at(
-    context: &mut EvalContext<'_, '_>,
-    rows: &[Row],
-    expr: &FieldExpr,
+/// What the expression is for the span at a position, looked at where it stands; nil where there is no span.
+pub fn value_at<'a>(
+    context: &mut EvalContext<'_, 'a>,
+    expr: &'a FieldExpr,
     position: usize,
-) -> Result<Value, Memory>
-    requires { rows.now ≡ context_rows context.old }
-    ensures value { IfOk result (λ v. v ≡ value_at (context_patterns context.old) (context_rows context.old) (tree expr.now) position) }
+) -> Result<ValueRef<'a>, Memory>
+    ensures value { IfOk result (λ v. ref_value v ≡ value_in context.old expr.now position) }
     ensures context { IsSame context.old context.new }
 {
-    match rows.get(position) {
-        None => Ok(Value::Nil),
-        Some(row) => context.value(expr, &row.span),
+    match context.rows().get(position) {
+        None => Ok(ValueRef::Nil),
+        Some(row) => context.evaluate(expr, &row.span),
     }
 }

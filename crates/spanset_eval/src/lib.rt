@@ -4,6 +4,7 @@
 mod amounts;
 mod filter;
 mod groups;
+mod laws;
 mod marks;
 mod outcome;
 mod parts;
@@ -11,8 +12,10 @@ mod ranking;
 mod relate;
 mod results;
 mod select;
+mod show;
 mod stages;
 
+pub use laws::{least_and_greatest, split_is_a_partition};
 pub use outcome::{evaluate, evaluate_rows};
 pub use ranking::rank;
 pub use results::{Hit, Hits, Results, SetResult, Sets, TraceResult};

@@ -1,49 +1,80 @@
 //! Which spans an expression over spansets selects.
 
-ghost use Rattle.std.specs.Prelude.{◌≡◌, IfOk, length};
+ghost use Rattle.std.specs.Prelude.{◌≡◌, ℕ, IfOk, length, reverse};
 ghost use Rattle.span_tree.specs.Nodes.{IsOneTrace};
-ghost use Rattle.traceql_syntax.specs.Trees.{set_tree};
-ghost use Rattle.traceql_value.specs.EvalContexts.{context_patterns, context_rows};
+ghost use Rattle.traceql_syntax.specs.Trees.{placed_option, set_tree, Filter};
+ghost use Rattle.traceql_value.specs.EvalContexts.{context_patterns, context_rows, IsSame};
+ghost use Rattle.spanset_eval.specs.Chains.{Chains};
 ghost use Rattle.spanset_eval.specs.Marked.{MarksSet};
-ghost use Rattle.spanset_eval.specs.Unchanged.{IsSame, IsTreeOf};
+ghost use Rattle.spanset_eval.specs.MadeTree.{IsTreeOf};
 ghost use Rattle.spanset_eval.specs.Sets.{Selects};
 
 use crate::{filter, relate};
 use span_tree::{Steps, Tree};
-use span_types::{Marks, Memory, Row};
+use span_types::{Marks, Memory};
 use std::alloc::Global;
 use std::sync::ledger::Ledger;
-use traceql_syntax::SpansetExpr;
+use traceql_syntax::{Operand, SpansetExpr, SpansetOp};
 use traceql_value::EvalContext;
 
-/// Marks on the spans that the expression selects. `made` has the trace's tree where one was made, and is for the next
-/// call.
-pub fn select<L: Ledger>(
+/// An operator whose left operand's spans are marked.
+#[derive(Clone, Copy)]
+pub struct Pending<'e> {
+    /// The operator.
+    pub op: SpansetOp,
+    /// Its right operand.
+    pub right: &'e SpansetExpr,
+}
+
+// The condition of the first operand of a chain of operators, and what is left to do then, the innermost operator last.
+fn unchain<'e>(
     alloc: Global,
+    expr: &'e SpansetExpr,
+) -> Result<(&'e Option<Operand>, Vec<Pending<'e>>), Memory>
+    ensures { IfOk result (λ r. (at : ℕ)
+        × Chains (Filter at (placed_option r.0.now)) (reverse r.1.items) (set_tree expr.now)) }
+{
+    let mut pending = Vec::new(alloc);
+    let mut first = expr;
+    'down: loop {
+        match first {
+            SpansetExpr::Filter { condition, .. } => return Ok((condition, pending)),
+            SpansetExpr::Join {
+                op,
+                left,
+                right,
+                ..
+            } => {
+                pending.push(Pending { op: *op, right })?;
+                first = left;
+            }
+        }
+    }
+}
+
+/// Marks on the spans that the expression selects, one for each row of the trace. `made` has the trace's tree where one
+/// was made, and is for the next call. A chain of operators, each the left operand of the next, is worked off a list and
+/// needs no stack.
+pub fn select<L: Ledger>(
     context: &mut EvalContext<'_, '_>,
-    rows: &[Row],
     made: &mut Option<Tree>,
     expr: &SpansetExpr,
     steps: &mut Steps<L>,
 ) -> Result<Marks, Memory>
-    requires rows { rows.now ≡ context_rows context.old }
-    requires one { IsOneTrace rows.now }
-    requires made { IsTreeOf rows.now made.old }
-    ensures marks { IfOk result (MarksSet (length rows.now) (Selects (context_patterns context.old) rows.now (set_tree expr.now))) }
+    requires one { IsOneTrace (context_rows context.old) }
+    requires made { IsTreeOf (context_rows context.old) made.old }
+    ensures marks { IfOk result (MarksSet (length (context_rows context.old))
+        (Selects (context_patterns context.old) (context_rows context.old) (set_tree expr.now))) }
     ensures context { IsSame context.old context.new }
-    ensures made { IsTreeOf rows.now made.new }
+    ensures made { IsTreeOf (context_rows context.old) made.new }
 {
-    match expr {
-        SpansetExpr::Filter { condition, .. } => filter::kept(alloc, context, rows, condition),
-        SpansetExpr::Join {
-            op,
-            left,
-            right,
-            ..
-        } => {
-            let left = select(alloc, context, rows, made, left, steps)?;
-            let right = select(alloc, context, rows, made, right, steps)?;
-            relate::joined(alloc, rows, made, *op, &left, &right, steps)
-        }
+    let (condition, pending) = unchain(context.alloc(), expr)?;
+    let mut pending = pending;
+    let mut marks = filter::filter_rows(context, condition)?;
+    'up: while let Some(outer) = pending.pop() {
+        let right = select(context, made, outer.right, steps)?;
+        let (alloc, rows) = (context.alloc(), context.rows());
+        marks = relate::join_marks(alloc, rows, made, outer.op, marks, right, steps)?;
     }
+    Ok(marks)
 }

@@ -2,43 +2,33 @@
 
 ghost use Rattle.std.specs.Prelude.{◌≡◌, ℕ, ◌<◌, ◌==◌, ◌||◌, ◌++◌, ◌∷◌, [], IfOk, OnOk, length, map, filter};
 ghost use Rattle.std.specs.List.{flat_map, list_any};
-ghost use Rattle.span_types.specs.declared.spans.Row.{Row};
-ghost use Rattle.traceql_syntax.specs.Trees.{tree, placed_option, aggregate_tree, threshold_tree, stage_tree};
-ghost use Rattle.traceql_value.specs.EvalContexts.{context_patterns, context_rows};
+ghost use Rattle.traceql_value.specs.EvalContexts.{context_rows, IsSame};
+ghost use Rattle.spanset_eval.specs.InContext.{filters_spanset, passes_in, split_in, stage_in, stages_in, value_in};
 ghost use Rattle.spanset_eval.specs.Marked.{mark_at, MarksBy};
-ghost use Rattle.spanset_eval.specs.Unchanged.{IsSame};
-ghost use Rattle.spanset_eval.specs.Stages.{after_stage, after_stages, aggregate_of, amounts_compare, is_in_some, is_left, joined, keeps_at, left, split_by, threshold_of, value_at};
-ghost use Rattle.spanset_eval.specs.declared.groups.Group.{Group as Spanset};
+ghost use Rattle.spanset_eval.specs.Parts.{part_at, part_group, part_of};
+ghost use Rattle.spanset_eval.specs.Stages.{coalesced, drop_empty, has_spans, is_in_some};
 
 use crate::groups::{Group, Members};
-use crate::parts::{Part, Valued, arranged};
+use crate::parts::{Part, Valued, arrange};
 use crate::{amounts, filter, marks};
 use span_types::{Marks, Memory, Row, TryCopy};
 use std::alloc::Global;
 use traceql_syntax::{Aggregate, Comparison, FieldExpr, Operand, Stage, Threshold};
-use traceql_value::{EvalContext, Value, Values};
+use traceql_value::{EvalContext, Values};
 
-// The spansets with the spans of which the condition is true.
-fn keep(
-    alloc: Global,
+// The spansets with the spans that the filter keeps.
+fn filter_spansets(
     context: &mut EvalContext<'_, '_>,
-    rows: &[Row],
     condition: &Option<Operand>,
     groups: Vec<Group>,
 ) -> Result<Vec<Group>, Memory>
-    requires { rows.now ≡ context_rows context.old }
-    ensures groups { IfOk result (λ kept. kept.items ≡ map (λ (g : Spanset). record { by = g.by; members = filter (keeps_at (context_patterns context.old) (context_rows context.old) (placed_option condition.now)) g.members }) groups.items) }
+    ensures groups { IfOk result (λ kept.
+        kept.items ≡ map (filters_spanset context.old condition.now) groups.items) }
     ensures context { IsSame context.old context.new }
 {
-    let mut kept = Vec::with_capacity(alloc, groups.len())?;
+    let mut kept = Vec::with_capacity(context.alloc(), groups.len())?;
     for group in groups {
-        let members = filter::kept_members(
-            alloc,
-            context,
-            rows,
-            condition,
-            group.members.as_slice(),
-        )?;
+        let members = filter::filter_members(context, condition, group.members.as_slice())?;
         kept.push(Group {
             by: group.by,
             members,
@@ -47,21 +37,19 @@ fn keep(
     Ok(kept)
 }
 
-// The members with the values that an expression has there.
-fn valued(
-    alloc: Global,
-    context: &mut EvalContext<'_, '_>,
-    rows: &[Row],
-    expr: &FieldExpr,
+// The members with the values that an expression has there; no text is copied.
+fn with_values<'a>(
+    context: &mut EvalContext<'_, 'a>,
+    expr: &'a FieldExpr,
     members: &[usize],
-) -> Result<Vec<Valued>, Memory>
-    requires { rows.now ≡ context_rows context.old }
-    ensures valued { IfOk result (λ valued. valued.items ≡ map (λ y. record { value = value_at (context_patterns context.old) (context_rows context.old) (tree expr.now) y; position = y }) members.now) }
+) -> Result<Vec<Valued<'a>>, Memory>
+    ensures valued { IfOk result (λ valued.
+        map part_of valued.items ≡ map (part_at (value_in context.old expr.now)) members.now) }
     ensures context { IsSame context.old context.new }
 {
-    let mut valued = Vec::with_capacity(alloc, members.len())?;
+    let mut valued = Vec::with_capacity(context.alloc(), members.len())?;
     for position in members {
-        let value = filter::value_at(context, rows, expr, *position)?;
+        let value = filter::value_at(context, expr, *position)?;
         valued.push(Valued {
             value,
             position: *position,
@@ -70,78 +58,64 @@ fn valued(
     Ok(valued)
 }
 
-// The values by which a spanset was split off, and one more.
-fn with_value(by: Values, value: Value) -> Result<Values, Memory>
-    ensures { IfOk result (λ more. more ≡ by ++ value ∷ []) }
+// Adds the spanset of a part.
+fn add_part(alloc: Global, by: Values, part: Part<'_>, found: &mut Vec<Group>) -> Result<(), Memory>
+    ensures { OnOk result (found.new.items ≡ found.old.items ++ part_group by part.entry ∷ []) }
 {
-    let mut more = by.into_vec();
-    more.push(value)?;
-    Ok(Values::of(more))
-}
-
-// Adds a spanset for a part.
-fn add_part(by: Values, part: Part, found: &mut Vec<Group>) -> Result<(), Memory>
-    ensures { OnOk result (found.new.items ≡ found.old.items
-        ++ record { by = by ++ part.value ∷ []; members = part.members } ∷ []) }
-{
-    let by = with_value(by, part.value)?;
-    found.push(Group {
-        by,
-        members: part.members,
-    })?;
+    found.push(part.into_group(alloc, by)?)?;
     Ok(())
 }
 
-// Adds a spanset for each part. The last one takes the earlier values and the others copy them, so that a spanset that
+// Adds the spanset of each part. The last one takes the earlier values and the others copy them, so that a spanset that
 // isn't divided copies none: all values that stages copy are no more than those that spansets have in the end.
-fn add_parts(by: Values, parts: Vec<Part>, found: &mut Vec<Group>) -> Result<(), Memory>
-    ensures { OnOk result (found.new.items ≡ found.old.items
-        ++ map (λ (p : Part). record { by = by ++ p.value ∷ []; members = p.members }) parts.items) }
+fn add_parts(
+    alloc: Global,
+    by: Values,
+    parts: Vec<Part<'_>>,
+    found: &mut Vec<Group>,
+) -> Result<(), Memory>
+    ensures { OnOk result (found.new.items ≡ found.old.items ++ map (part_group by) parts.entry.items) }
 {
     let mut parts = parts;
     let Some(last) = parts.pop() else {
         return Ok(());
     };
     for part in parts {
-        add_part(by.copy()?, part, found)?;
+        add_part(alloc, by.copy()?, part, found)?;
     }
-    add_part(by, last, found)
+    add_part(alloc, by, last, found)
 }
 
 // Adds what a spanset is split into.
-fn add_split(
-    alloc: Global,
-    context: &mut EvalContext<'_, '_>,
-    rows: &[Row],
-    expr: &FieldExpr,
+fn add_split<'a>(
+    context: &mut EvalContext<'_, 'a>,
+    expr: &'a FieldExpr,
     group: Group,
     found: &mut Vec<Group>,
 ) -> Result<(), Memory>
-    requires { rows.now ≡ context_rows context.old }
-    ensures found { OnOk result (found.new.items ≡ found.old.items ++ split_by (context_patterns context.old) (context_rows context.old) (tree expr.now) group) }
+    ensures found { OnOk result (
+        found.new.items ≡ found.old.items ++ split_in context.old expr.now group) }
     ensures context { IsSame context.old context.new }
 {
-    let valued = valued(alloc, context, rows, expr, group.members.as_slice())?;
-    let parts = arranged(alloc, valued.as_slice())?;
-    add_parts(group.by, parts, found)
+    let alloc = context.alloc();
+    let valued = with_values(context, expr, group.members.as_slice())?;
+    let parts = arrange(alloc, valued.as_slice())?;
+    add_parts(alloc, group.by, parts, found)
 }
 
 // Each spanset split by the values of an expression.
-fn split(
-    alloc: Global,
-    context: &mut EvalContext<'_, '_>,
-    rows: &[Row],
-    expr: &FieldExpr,
+fn split<'a>(
+    context: &mut EvalContext<'_, 'a>,
+    expr: &'a FieldExpr,
     groups: Vec<Group>,
 ) -> Result<Vec<Group>, Memory>
-    requires { rows.now ≡ context_rows context.old }
-    ensures groups { IfOk result (λ found. found.items
-        ≡ flat_map (split_by (context_patterns context.old) (context_rows context.old) (tree expr.now)) groups.items) }
+    ensures groups { IfOk result (λ found.
+        found.items ≡ flat_map (split_in context.old expr.now) groups.items) }
     ensures context { IsSame context.old context.new }
 {
-    let mut found = Vec::new(alloc);
+    let mut found = Vec::new(context.alloc());
     for group in groups {
-        add_split(alloc, context, rows, expr, group, &mut found)?;
+        add_split(context, expr, group, &mut found)?;
     }
     Ok(found)
 }
@@ -170,14 +144,14 @@ fn in_some(alloc: Global, count: usize, groups: &[Group]) -> Result<Marks, Memor
 
 // All spansets as one.
 fn coalesce(alloc: Global, rows: &[Row], groups: &[Group]) -> Result<Vec<Group>, Memory>
-    ensures { IfOk result (λ one. one.items ≡ joined rows.now groups.now) }
+    ensures { IfOk result (λ one. one.items ≡ coalesced rows.now groups.now) }
 {
     let marks = in_some(alloc, rows.len(), groups)?;
     let members = marks::marked(alloc, &marks)?;
     single(alloc, members)
 }
 
-/// One spanset that wasn't split.
+/// One spanset that wasn't split, of these members.
 pub fn single(alloc: Global, members: Members) -> Result<Vec<Group>, Memory>
     ensures { IfOk result (λ one. one.items ≡ record { by = []; members = members } ∷ []) }
 {
@@ -190,32 +164,20 @@ pub fn single(alloc: Global, members: Members) -> Result<Vec<Group>, Memory>
 }
 
 // The spansets for which the comparison of an aggregate is true.
-fn compare(
-    alloc: Global,
-    context: &mut EvalContext<'_, '_>,
-    rows: &[Row],
-    left: &Aggregate,
+fn compare<'a>(
+    context: &mut EvalContext<'_, 'a>,
+    left: &'a Aggregate,
     op: Comparison,
-    right: &Threshold,
+    right: &'a Threshold,
     groups: Vec<Group>,
 ) -> Result<Vec<Group>, Memory>
-    requires { rows.now ≡ context_rows context.old }
-    ensures groups { IfOk result (λ kept. kept.items ≡ filter (λ (g : Spanset). amounts_compare op
-        (aggregate_of (context_patterns context.old) (context_rows context.old) (aggregate_tree left.now) g.members)
-        (threshold_of (context_patterns context.old) (context_rows context.old) (threshold_tree right.now) g.members)) groups.items) }
+    ensures groups { IfOk result (λ kept.
+        kept.items ≡ filter (passes_in context.old left.now op right.now) groups.items) }
     ensures context { IsSame context.old context.new }
 {
-    let mut kept = Vec::new(alloc);
+    let mut kept = Vec::new(context.alloc());
     for group in groups {
-        if amounts::is_true(
-            alloc,
-            context,
-            rows,
-            left,
-            op,
-            right,
-            group.members.as_slice(),
-        )? {
+        if amounts::is_true(context, left, op, right, group.members.as_slice())? {
             kept.push(group)?;
         }
     }
@@ -224,62 +186,58 @@ fn compare(
 
 // What a stage makes of spansets.
 #[tactic(auto, unfolding(crate::specs::Stages::after_stage))]
-fn after_stage(
-    alloc: Global,
-    context: &mut EvalContext<'_, '_>,
-    rows: &[Row],
-    stage: &Stage,
+fn after_stage<'a>(
+    context: &mut EvalContext<'_, 'a>,
+    stage: &'a Stage,
     groups: Vec<Group>,
 ) -> Result<Vec<Group>, Memory>
-    requires { rows.now ≡ context_rows context.old }
-    ensures groups { IfOk result (λ after. after.items ≡ after_stage (context_patterns context.old) (context_rows context.old) (stage_tree stage.now) groups.items) }
+    ensures groups { IfOk result (λ after.
+        after.items ≡ stage_in context.old stage.now groups.items) }
     ensures context { IsSame context.old context.new }
 {
     match stage {
-        Stage::Filter { condition, .. } => keep(alloc, context, rows, condition, groups),
-        Stage::By(operand) => split(alloc, context, rows, &operand.expr, groups),
-        Stage::Coalesce => coalesce(alloc, rows, groups.as_slice()),
+        Stage::Filter { condition, .. } => filter_spansets(context, condition, groups),
+        Stage::By(operand) => split(context, &operand.expr, groups),
+        Stage::Coalesce => coalesce(context.alloc(), context.rows(), groups.as_slice()),
         Stage::Select(_) => Ok(groups),
         Stage::Compare {
             left,
             op,
             right,
             ..
-        } => { compare(alloc, context, rows, left, *op, right, groups) }
+        } => compare(context, left, *op, right, groups),
     }
 }
 
-/// The spansets that have spans.
-pub fn left(groups: Vec<Group>) -> Vec<Group>
-    ensures { result.items ≡ left groups.items }
+/// The spansets that have spans, in the same order.
+pub fn drop_empty(groups: Vec<Group>) -> Vec<Group>
+    ensures { result.items ≡ drop_empty groups.items }
 {
     let mut groups = groups;
-    groups.retain(is_left);
+    groups.retain(has_spans);
     groups
 }
 
 // Whether a spanset has spans.
-fn is_left(group: &Group) -> bool
-    ensures { result ≡ is_left group.now }
+fn has_spans(group: &Group) -> bool
+    ensures { result ≡ has_spans group.now }
 {
     group.members.len() != 0
 }
 
-/// What all stages make of spansets.
-pub fn after_stages(
-    alloc: Global,
-    context: &mut EvalContext<'_, '_>,
-    rows: &[Row],
-    stages: &[Stage],
+/// What all stages make of spansets, one after another: what one leaves without spans the next one doesn't see.
+pub fn after_stages<'a>(
+    context: &mut EvalContext<'_, 'a>,
+    stages: &'a [Stage],
     groups: Vec<Group>,
 ) -> Result<Vec<Group>, Memory>
-    requires { rows.now ≡ context_rows context.old }
-    ensures groups { IfOk result (λ after. after.items ≡ after_stages (context_patterns context.old) (context_rows context.old) (map stage_tree stages.now) groups.items) }
+    ensures groups { IfOk result (λ after.
+        after.items ≡ stages_in context.old stages.now groups.items) }
     ensures context { IsSame context.old context.new }
 {
     let mut groups = groups;
     for stage in stages {
-        groups = left(after_stage(alloc, context, rows, stage, groups)?);
+        groups = drop_empty(after_stage(context, stage, groups)?);
     }
     Ok(groups)
 }

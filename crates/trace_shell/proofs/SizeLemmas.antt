@@ -15,7 +15,7 @@ use Rattle.session_text.specs.declared.reply.Reply.TheVariants as reply
 use Rattle.session_text.specs.Lines.{first_part, other_parts}
 use Rattle.session_text.specs.Options.{SearchLine, search_parts}
 use Rattle.session_text.specs.Requests.{Answers, Asks, Line, line_of, other_line, plain, push_with, pushed, request_by, search_with, searched, trace_with, with_id}
-use Rattle.session_text.specs.Matchers.{of_check, of_parse}
+use Rattle.session_text.specs.Searches.{of_check, of_parse}
 use Rattle.traceql_syntax.specs.declared.errors.ParseError.{ParseError}
 use Rattle.traceql_syntax.specs.declared.errors.ParseError.TheVariants as parse
 use Rattle.traceql_syntax.specs.Trees.{QueryTree}

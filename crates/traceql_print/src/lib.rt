@@ -12,3 +12,4 @@ mod stage;
 mod string;
 
 pub use printing::{print_field, print_query, printed_once};
+pub use signs::{kind_word, status_word};

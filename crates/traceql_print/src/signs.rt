@@ -7,6 +7,7 @@ use span_types::{SpanKind, StatusCode};
 use traceql_syntax::{AggregateOp, BinaryOp, Comparison, Relation, Side, SpansetOp, UnaryOp};
 use traceql_tokens::{Sign, Word};
 
+/// The sign of a unary operator.
 pub(crate) fn unary_sign(op: UnaryOp) -> Sign
     ensures { result ≡ signs.unary_sign op }
 {
@@ -16,6 +17,7 @@ pub(crate) fn unary_sign(op: UnaryOp) -> Sign
     }
 }
 
+/// The sign of a comparison.
 pub(crate) fn comparison_sign(op: Comparison) -> Sign
     ensures { result ≡ signs.comparison_sign op }
 {
@@ -29,6 +31,7 @@ pub(crate) fn comparison_sign(op: Comparison) -> Sign
     }
 }
 
+/// The sign of a binary operator.
 pub(crate) fn binary_sign(op: BinaryOp) -> Sign
     ensures { result ≡ signs.binary_sign op }
 {
@@ -45,6 +48,7 @@ pub(crate) fn binary_sign(op: BinaryOp) -> Sign
     }
 }
 
+/// The sign of a match with a pattern, or of its opposite.
 pub(crate) fn match_sign(negated: bool) -> Sign
     ensures { result ≡ signs.match_sign negated }
 {
@@ -55,6 +59,7 @@ pub(crate) fn match_sign(negated: bool) -> Sign
     }
 }
 
+/// The sign of a relation without prefix.
 fn plain_sign(relation: Relation) -> Sign
     ensures { result ≡ signs.related_sign relation Side.Right }
 {
@@ -67,6 +72,7 @@ fn plain_sign(relation: Relation) -> Sign
     }
 }
 
+/// The sign of a relation with the prefix `!`.
 fn unrelated_sign(relation: Relation) -> Sign
     ensures { result ≡ signs.related_sign relation Side.Unrelated }
 {
@@ -79,6 +85,7 @@ fn unrelated_sign(relation: Relation) -> Sign
     }
 }
 
+/// The sign of a relation with the prefix `&`.
 fn both_sign(relation: Relation) -> Sign
     ensures { result ≡ signs.related_sign relation Side.Both }
 {
@@ -91,6 +98,7 @@ fn both_sign(relation: Relation) -> Sign
     }
 }
 
+/// The sign of an operator between spansets.
 pub(crate) fn set_sign(op: SpansetOp) -> Sign
     ensures { result ≡ signs.set_sign op }
 {
@@ -103,6 +111,7 @@ pub(crate) fn set_sign(op: SpansetOp) -> Sign
     }
 }
 
+/// The word of an aggregate with an argument.
 pub(crate) fn aggregate_word(op: AggregateOp) -> Word
     ensures { result ≡ signs.aggregate_word op }
 {
@@ -114,13 +123,15 @@ pub(crate) fn aggregate_word(op: AggregateOp) -> Word
     }
 }
 
+/// The word of a truth: `true` or `false`.
 pub(crate) fn truth_word(truth: bool) -> Word
     ensures { result ≡ signs.truth_word truth }
 {
     if truth { Word::True } else { Word::False }
 }
 
-pub(crate) fn status_word(status: StatusCode) -> Word
+/// The word of a status: `unset`, `ok` or `error`, as a query names it and a reply shows it.
+pub fn status_word(status: StatusCode) -> Word
     ensures { result ≡ signs.status_word status }
 {
     match status {
@@ -130,7 +141,9 @@ pub(crate) fn status_word(status: StatusCode) -> Word
     }
 }
 
-pub(crate) fn kind_word(kind: SpanKind) -> Word
+/// The word of a span kind: `unspecified`, `internal`, `server`, `client`, `producer` or `consumer`, as a query names it
+/// and a reply shows it.
+pub fn kind_word(kind: SpanKind) -> Word
     ensures { result ≡ signs.kind_word kind }
 {
     match kind {

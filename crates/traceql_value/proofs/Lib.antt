@@ -8,3 +8,4 @@ pub mod Searching
 pub mod Orders
 pub mod Undivided
 pub mod Answering
+pub mod Chaining

@@ -34,9 +34,9 @@ use Rattle.traceql_value.specs.declared.value.Value.{Value}
 use Rattle.traceql_value.specs.declared.value.Value.TheVariants.{Nil, Truth, Number, Text, Status, Kind}
 use Rattle.traceql_value.specs.Fractions.{Fraction, IsWhole, whole_fraction, power_of, under, over_sum, over_difference}
 use Rattle.traceql_value.specs.Arithmetic.{ratio_of, sum_of, difference_of, product_of, remainder_of, power_within, negative_of}
-use Rattle.traceql_value.specs.Values.{IfNumber, number_or_nil, attr_value, unless_empty, arithmetic, turned}
+use Rattle.traceql_value.specs.Values.{IfNumber, number_or_nil, attr_value, unless_empty, arithmetic, apply_unary}
 use Rattle.traceql_value.specs.Spans.{attr_named, value_named, or_else, attribute_of, text_or_nil, root_of, service_of, span_nanos, trace_nanos, intrinsic_of, field_of_span}
-use Rattle.traceql_value.specs.Meaning.{literal_value, is_literal_nil, applied, value_of}
+use Rattle.traceql_value.specs.Meaning.{literal_value, is_literal_nil, apply_binary, value_of}
 use Rattle.traceql_value.proofs.Searched.{ratio_of-sound}
 
 -- ---- arithmetic
@@ -80,7 +80,7 @@ arithmetic_whole f keeps (Text t) w p q = tt
 arithmetic_whole f keeps (Status t) w p q = tt
 arithmetic_whole f keeps (Kind t) w p q = tt
 
-turned_whole : (op : UnaryOp) (v : Value) → IfNumber v IsWhole → IfNumber (turned op v) IsWhole
+turned_whole : (op : UnaryOp) (v : Value) → IfNumber v IsWhole → IfNumber (apply_unary op v) IsWhole
 turned_whole unary.Negate (Number a) h = or_nil (negative_of a) (tested_whole _ (record { numerator = neg_ℤ a.numerator; denominator = a.denominator }) h)
 turned_whole unary.Negate Nil h = tt
 turned_whole unary.Negate (Truth t) h = tt
@@ -181,13 +181,13 @@ none_of_both : (xs ys : List TypeError) → xs ++ ys ≡ [] → (xs ≡ []) × (
 none_of_both [] ys e = (refl, e)
 none_of_both (x ∷ xs) ys e = absurd cc
 
-compared_whole : (c : Comparison) (nil_left nil_right : Bool) (v w : Value) → IfNumber (applied (binary.Compare c) nil_left nil_right v w) IsWhole
+compared_whole : (c : Comparison) (nil_left nil_right : Bool) (v w : Value) → IfNumber (apply_binary (binary.Compare c) nil_left nil_right v w) IsWhole
 compared_whole c true nil_right v w = tt
 compared_whole c false true v w = tt
 compared_whole c false false v w = tt
 
 -- an operator other than `/` gives whole numbers of whole ones
-applied_whole : (at : ℕ) (op : BinaryOp) (nil_left nil_right : Bool) (v w : Value) → own_division at op ≡ None → IfNumber v IsWhole → IfNumber w IsWhole → IfNumber (applied op nil_left nil_right v w) IsWhole
+applied_whole : (at : ℕ) (op : BinaryOp) (nil_left nil_right : Bool) (v w : Value) → own_division at op ≡ None → IfNumber v IsWhole → IfNumber w IsWhole → IfNumber (apply_binary op nil_left nil_right v w) IsWhole
 applied_whole at (binary.Compare c) nil_left nil_right v w undivided p q = compared_whole c nil_left nil_right v w
 applied_whole at binary.Or nil_left nil_right v w undivided p q = tt
 applied_whole at binary.And nil_left nil_right v w undivided p q = tt

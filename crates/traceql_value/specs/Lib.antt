@@ -1,4 +1,5 @@
 pub mod Arithmetic
+pub mod Chains
 pub mod Fractions
 pub mod Meaning
 pub mod Readings
@@ -6,4 +7,5 @@ pub mod EvalContexts
 pub mod Matchers
 pub mod ValueRef
 pub mod Spans
+pub mod Summaries
 pub mod Values

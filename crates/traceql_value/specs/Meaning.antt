@@ -16,7 +16,7 @@ use Rattle.traceql_types.specs.Patterns.{pattern_text, pattern_re}
 use Rattle.traceql_value.specs.declared.value.Value.{Value}
 use Rattle.traceql_value.specs.declared.value.Value.TheVariants.{Nil, Truth, Text, Status, Kind}
 use Rattle.traceql_value.specs.Spans.{field_of_span}
-use Rattle.traceql_value.specs.Values.{combined, turned, is_nil, is_true, whole_number, nanoseconds}
+use Rattle.traceql_value.specs.Values.{combine_values, apply_unary, is_nil, is_true, whole_number, nanoseconds}
 
 -- The value of a literal. The numbers in a query's text are below 2^63.
 abbrev pub literal_value : Literal → Value
@@ -51,24 +51,24 @@ tests_nil comparison.NotEqual v = not (is_nil v)
 tests_nil _ v = false
 
 -- what a binary operator gives of its operands, of which one may be the literal `nil`
-abbrev pub applied : BinaryOp → Bool → Bool → Value → Value → Value
-applied (binary.Compare c) true nil_right a b = Truth (tests_nil c b)
-applied (binary.Compare c) false true a b = Truth (tests_nil c a)
-applied op nil_left nil_right a b = combined op a b
+abbrev pub apply_binary : BinaryOp → Bool → Bool → Value → Value → Value
+apply_binary (binary.Compare c) true nil_right a b = Truth (tests_nil c b)
+apply_binary (binary.Compare c) false true a b = Truth (tests_nil c a)
+apply_binary op nil_left nil_right a b = combine_values op a b
 
 -- what `&&` and `||` give by their left side alone: `&&` is false where that isn't true, and `||` is true where it is
-abbrev pub decided : BinaryOp → Value → Option Bool
-decided binary.And a = if is_true a then None else Some false
-decided binary.Or a = if is_true a then Some true else None
-decided op a = None
+abbrev pub decide_by_left : BinaryOp → Value → Option Bool
+decide_by_left binary.And a = if is_true a then None else Some false
+decide_by_left binary.Or a = if is_true a then Some true else None
+decide_by_left op a = None
 
 -- the value of an expression for a span, under a query's patterns and in the trace of these rows
 unfoldable pub value_of : List Pattern → List Row → Span → Tree → Value
 value_of ps rows s (Literally at l) = literal_value l
 value_of ps rows s (Asks at f) = field_of_span f rows s
-value_of ps rows s (Unary at op first e) = turned op (value_of ps rows s e)
+value_of ps rows s (Unary at op first e) = apply_unary op (value_of ps rows s e)
 value_of ps rows s (Binary at op first a second b) =
-    applied op (is_literal_nil a) (is_literal_nil b) (value_of ps rows s a) (value_of ps rows s b)
+    apply_binary op (is_literal_nil a) (is_literal_nil b) (value_of ps rows s a) (value_of ps rows s b)
 value_of ps rows s (Match at negated first e pattern_at pattern) = Truth (matched ps pattern negated (value_of ps rows s e))
 
 -- whether a condition is true of a span

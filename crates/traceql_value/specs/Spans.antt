@@ -23,20 +23,20 @@ use Rattle.traceql_value.specs.Values.{attr_value, nanoseconds, unless_empty}
 
 -- ---- the whole trace
 
--- the former of two in trace order; the first where they are alike
-abbrev pub former : Row → Option Row → Row
-former a None = a
-former a (Some b) = if is_lt (trace_order b a) then b else a
+-- the earlier of two in trace order; the first where they are alike
+abbrev pub earlier_row : Row → Option Row → Row
+earlier_row a None = a
+earlier_row a (Some b) = if is_lt (trace_order b a) then b else a
 
 -- The root: of the spans without a parent the one that starts first, and of those that start together the one of the
 -- least id. A span whose parent is missing is no root.
-abbrev pub or_root : Option SpanId → Row → Option Row → Option Row
-or_root None r rest = Some (former r rest)
-or_root (Some parent) r rest = rest
+abbrev pub choose_root : Option SpanId → Row → Option Row → Option Row
+choose_root None r rest = Some (earlier_row r rest)
+choose_root (Some parent) r rest = rest
 
 abbrev pub root_of : List Row → Option Row
 root_of [] = None
-root_of (r ∷ rows) = or_root r.span.parent r (root_of rows)
+root_of (r ∷ rows) = choose_root r.span.parent r (root_of rows)
 
 -- the earliest start, given one that is known
 abbrev pub earliest : ℕ → List Row → ℕ

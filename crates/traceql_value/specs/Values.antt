@@ -1,5 +1,5 @@
 -- Values, and what operators make of them.
-use Rattle.std.specs.Prelude.{ℕ, ◌^◌, pos, List, [], ◌∷◌, Bool, true, false, not, ◌&&◌, ◌||◌, ◌==◌, nat_lt, Option, Some, None, if◌then◌else◌}
+use Rattle.std.specs.Prelude.{ℕ, ◌^◌, ℤ, pos, List, [], ◌∷◌, Bool, true, false, not, ◌&&◌, ◌||◌, ◌==◌, nat_lt, Option, Some, None, if◌then◌else◌}
 use Rattle.std.specs.Ordering.{nat_cmp, is_lt, is_le, is_gt, is_ge, is_eq, is_ne}
 use Rattle.std.specs.Cmp.Lexicographic.{slice_cmp}
 use Rattle.std.specs.declared.cmp.Ordering.{Ordering}
@@ -54,6 +54,11 @@ abbrev pub IfNumber : Value → (Fraction → Type 0) → Type 0
 IfNumber (Number n) P = P n
 IfNumber _ P = Unit {0}
 
+-- the number, where the value is a whole one
+abbrev pub whole_of : Value → Option ℤ
+whole_of (Number r) = if r.denominator == 1 then Some r.numerator else None
+whole_of _ = None
+
 -- what arithmetic gives: nil where an operand is no number
 abbrev pub arithmetic : (Fraction → Fraction → Option Fraction) → Value → Value → Value
 arithmetic f (Number a) (Number b) = number_or_nil (f a b)
@@ -89,35 +94,35 @@ compares c (Kind a) (Kind b) = accepts_equal c (kind_number a == kind_number b)
 compares c _ _ = false
 
 -- what an operator gives that is no comparison with the literal nil
-abbrev pub combined : BinaryOp → Value → Value → Value
-combined binary.Or a b = Truth (is_true a || is_true b)
-combined binary.And a b = Truth (is_true a && is_true b)
-combined (binary.Compare c) a b = Truth (compares c a b)
-combined binary.Add a b = arithmetic sum_of a b
-combined binary.Subtract a b = arithmetic difference_of a b
-combined binary.Multiply a b = arithmetic product_of a b
-combined binary.Divide a b = arithmetic quotient_of a b
-combined binary.Remainder a b = arithmetic remainder_of a b
-combined binary.Power a b = arithmetic power_within a b
+abbrev pub combine_values : BinaryOp → Value → Value → Value
+combine_values binary.Or a b = Truth (is_true a || is_true b)
+combine_values binary.And a b = Truth (is_true a && is_true b)
+combine_values (binary.Compare c) a b = Truth (compares c a b)
+combine_values binary.Add a b = arithmetic sum_of a b
+combine_values binary.Subtract a b = arithmetic difference_of a b
+combine_values binary.Multiply a b = arithmetic product_of a b
+combine_values binary.Divide a b = arithmetic quotient_of a b
+combine_values binary.Remainder a b = arithmetic remainder_of a b
+combine_values binary.Power a b = arithmetic power_within a b
 
 -- what an arithmetic operator makes of two numbers; nothing where the operator is another
-abbrev pub calculated : BinaryOp → Fraction → Fraction → Option Fraction
-calculated binary.Or a b = None
-calculated binary.And a b = None
-calculated (binary.Compare c) a b = None
-calculated binary.Add a b = sum_of a b
-calculated binary.Subtract a b = difference_of a b
-calculated binary.Multiply a b = product_of a b
-calculated binary.Divide a b = quotient_of a b
-calculated binary.Remainder a b = remainder_of a b
-calculated binary.Power a b = power_within a b
+abbrev pub compute_number : BinaryOp → Fraction → Fraction → Option Fraction
+compute_number binary.Or a b = None
+compute_number binary.And a b = None
+compute_number (binary.Compare c) a b = None
+compute_number binary.Add a b = sum_of a b
+compute_number binary.Subtract a b = difference_of a b
+compute_number binary.Multiply a b = product_of a b
+compute_number binary.Divide a b = quotient_of a b
+compute_number binary.Remainder a b = remainder_of a b
+compute_number binary.Power a b = power_within a b
 
 -- what a unary operator gives
-abbrev pub turned : UnaryOp → Value → Value
-turned unary.Negate (Number a) = number_or_nil (negative_of a)
-turned unary.Negate _ = Nil
-turned unary.Not (Truth truth) = Truth (not truth)
-turned unary.Not _ = Nil
+abbrev pub apply_unary : UnaryOp → Value → Value
+apply_unary unary.Negate (Number a) = number_or_nil (negative_of a)
+apply_unary unary.Negate _ = Nil
+apply_unary unary.Not (Truth truth) = Truth (not truth)
+apply_unary unary.Not _ = Nil
 
 -- which kind of value stands first
 abbrev pub kind_rank : Value → ℕ

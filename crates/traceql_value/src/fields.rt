@@ -1,7 +1,7 @@
 //! What fields are for a span.
 
 ghost use Rattle.std.specs.Prelude.{◌≡◌, IfOk, option_map};
-ghost use Rattle.traceql_value.specs.ValueRef.{seen_value};
+ghost use Rattle.traceql_value.specs.ValueRef.{ref_value};
 ghost use Rattle.traceql_value.specs.Spans.{attr_named, value_named, attribute_of, span_nanos, text_or_nil};
 ghost use Rattle.traceql_value.specs.Values.{attr_value, whole_number, unless_empty};
 ghost use Rattle.hex.specs.Hex.{encode_lower};
@@ -14,7 +14,7 @@ use traceql_tokens::AttributeScope;
 
 /// A whole number, none from 2^63 on.
 pub(crate) fn whole_number<'s>(number: u64) -> ValueRef<'s>
-    ensures { seen_value result ≡ whole_number number }
+    ensures { ref_value result ≡ whole_number number }
 {
     if number < 1 << 63 {
         ValueRef::Number(Ratio::whole(number as i64))
@@ -25,7 +25,7 @@ pub(crate) fn whole_number<'s>(number: u64) -> ValueRef<'s>
 
 // The value of an attribute.
 fn attr_value(value: &AttrValue) -> ValueRef<'_>
-    ensures { seen_value result ≡ attr_value value.now }
+    ensures { ref_value result ≡ attr_value value.now }
 {
     match value {
         AttrValue::Text(text) => ValueRef::Text(text.as_str()),
@@ -48,7 +48,7 @@ pub(crate) fn attr_named<'s>(attrs: &'s [Attr], name: &str) -> Option<&'s AttrVa
 
 // What an attribute is, and nil where there is none of this name.
 fn value_named<'s>(attrs: &'s [Attr], name: &str) -> ValueRef<'s>
-    ensures { seen_value result ≡ value_named name.now attrs.now }
+    ensures { ref_value result ≡ value_named name.now attrs.now }
 {
     match attr_named(attrs, name) {
         Some(value) => attr_value(value),
@@ -58,7 +58,7 @@ fn value_named<'s>(attrs: &'s [Attr], name: &str) -> ValueRef<'s>
 
 // What an attribute of the span or else of its resource is.
 fn any_named<'s>(span: &'s Span, name: &str) -> ValueRef<'s>
-    ensures { seen_value result ≡ attribute_of AttributeScope.Any name.now span.now }
+    ensures { ref_value result ≡ attribute_of AttributeScope.Any name.now span.now }
 {
     match attr_named(span.attrs.as_slice(), name) {
         Some(value) => attr_value(value),
@@ -68,7 +68,7 @@ fn any_named<'s>(span: &'s Span, name: &str) -> ValueRef<'s>
 
 /// What an attribute is, looked for where its prefix says.
 pub(crate) fn attribute<'s>(scope: AttributeScope, name: &str, span: &'s Span) -> ValueRef<'s>
-    ensures { seen_value result ≡ attribute_of scope name.now span.now }
+    ensures { ref_value result ≡ attribute_of scope name.now span.now }
 {
     match scope {
         AttributeScope::Any => any_named(span, name),
@@ -87,7 +87,7 @@ pub(crate) fn span_nanos(span: &Span) -> u64
 
 /// A text that may be absent.
 pub(crate) fn unless_empty(text: &Text) -> ValueRef<'_>
-    ensures { seen_value result ≡ unless_empty text.now }
+    ensures { ref_value result ≡ unless_empty text.now }
 {
     if text.is_empty() {
         ValueRef::Nil
@@ -98,7 +98,7 @@ pub(crate) fn unless_empty(text: &Text) -> ValueRef<'_>
 
 /// A text, and nil for what is no text.
 pub(crate) fn text_or_nil<'s>(value: Option<&'s AttrValue>) -> ValueRef<'s>
-    ensures { seen_value result ≡ text_or_nil (option_map (λ v. v.now) value.entry) }
+    ensures { ref_value result ≡ text_or_nil (option_map (λ v. v.now) value.entry) }
 {
     match value {
         Some(AttrValue::Text(text)) => ValueRef::Text(text.as_str()),
@@ -108,7 +108,7 @@ pub(crate) fn text_or_nil<'s>(value: Option<&'s AttrValue>) -> ValueRef<'s>
 
 /// An id in hexadecimal, in lower case.
 pub(crate) fn hexadecimal<'s>(alloc: Global, id: &[u8]) -> Result<ValueRef<'s>, Memory>
-    ensures { IfOk result (λ v. seen_value v ≡ Value.Text (encode_lower id.now)) }
+    ensures { IfOk result (λ v. ref_value v ≡ Value.Text (encode_lower id.now)) }
 {
     Ok(ValueRef::Made(Text::of(hex::encode(alloc, id)?)))
 }

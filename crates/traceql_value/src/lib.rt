@@ -1,8 +1,8 @@
 //! The values that TraceQL's field expressions have.
 //!
 //! Numbers are exact fractions: a [`Ratio`] has a numerator of 64 signed bits and a denominator from 1 to 2^63 - 1, in
-//! lowest terms. A result outside of these bounds is no value. A [`EvalContext`] says what an expression is for a span of one trace.
-//! [`Matchers`] are made once for a query, and go from one trace's context to the next one's.
+//! lowest terms. A result outside of these bounds is no value. An [`EvalContext`] says what an expression is for a span of one
+//! trace. [`Matchers`] are made once for a query, and lent to one trace's context after another.
 #![tactic(auto)]
 
 mod context;
@@ -23,5 +23,7 @@ mod whole;
 pub use context::{EvalContext, field_value};
 pub use laws::{one_ratio, strings_are_answered, values_in_order, whole_without_division};
 pub use matchers::Matchers;
+pub use operators::accepts;
 pub use ratio::Ratio;
 pub use value::{Value, Values};
+pub use value_ref::ValueRef;

@@ -3,7 +3,7 @@
 ghost use Rattle.std.specs.Prelude.{◌≡◌, ℕ, List, IfOk, not, if◌then◌else◌};
 ghost use Rattle.traceql_value.specs.Meaning.{matches, matched};
 ghost use Rattle.traceql_value.specs.Matchers.{searched, found_by, SearchFor};
-ghost use Rattle.traceql_value.specs.ValueRef.{seen_value};
+ghost use Rattle.traceql_value.specs.ValueRef.{ref_value};
 
 use crate::value_ref::ValueRef;
 use regex::Matcher;
@@ -12,8 +12,8 @@ use std::alloc::Global;
 use std::collections::BTreeMap;
 use traceql_types::{Checked, Pattern};
 
-/// A query's patterns, and what searches for each string of them: made once for a query, and handed on from one trace's
-/// context to the next one's.
+/// A query's patterns, and what searches for each string of them: made once for a query, and lent to one trace's context
+/// after another.
 #[derive(Drop)]
 pub struct Matchers<'a> {
     pub(crate) patterns: &'a [Pattern],
@@ -21,7 +21,7 @@ pub struct Matchers<'a> {
     ghost tied: { SearchFor matchers patterns.now },
 }
 
-// Matchers a text for the pattern of this string.
+// Whether a text matches the pattern of this string.
 fn is_match(matchers: &mut BTreeMap<&str, Matcher<'_>>, string: &str, text: &str) -> bool
     ensures found { result ≡ found_by matchers.old string.now text.now }
     ensures same { (s : List ℕ) → searched matchers.new s ≡ searched matchers.old s }
@@ -60,7 +60,7 @@ impl<'a> Matchers<'a> {
 
     /// What a match with a pattern gives, or its opposite: what is no text neither matches nor differs.
     pub(crate) fn matched(&mut self, string: &str, negated: bool, value: &ValueRef<'_>) -> bool
-        ensures value { result ≡ matched self.old.patterns.now string.now negated (seen_value value.now) }
+        ensures value { result ≡ matched self.old.patterns.now string.now negated (ref_value value.now) }
         ensures same { self.new.patterns.now ≡ self.old.patterns.now }
     {
         match value {

@@ -1,9 +1,9 @@
 //! What operators make of values.
 
 ghost use Rattle.std.specs.Prelude.{◌≡◌, Bool, IfSome};
-ghost use Rattle.traceql_value.specs.Meaning.{tests_nil, applied, decided};
-ghost use Rattle.traceql_value.specs.ValueRef.{seen_value};
-ghost use Rattle.traceql_value.specs.Values.{number_or_nil, is_true, is_nil, accepts, accepts_equal, compares, arithmetic, calculated, combined, turned};
+ghost use Rattle.traceql_value.specs.Meaning.{tests_nil, apply_binary, decide_by_left};
+ghost use Rattle.traceql_value.specs.ValueRef.{ref_value};
+ghost use Rattle.traceql_value.specs.Values.{number_or_nil, is_true, is_nil, accepts, accepts_equal, compares, arithmetic, compute_number, combine_values, apply_unary};
 
 use crate::order::text_order;
 use crate::value_ref::ValueRef;
@@ -23,7 +23,7 @@ fn number_or_nil(number: Option<Ratio>) -> Value
 
 /// Whether a value is `true`.
 pub(crate) fn is_true(value: &ValueRef<'_>) -> bool
-    ensures { result ≡ is_true (seen_value value.now) }
+    ensures { result ≡ is_true (ref_value value.now) }
 {
     match value {
         ValueRef::Truth(truth) => *truth,
@@ -33,7 +33,7 @@ pub(crate) fn is_true(value: &ValueRef<'_>) -> bool
 
 // Whether there is no value.
 fn is_nil(value: &ValueRef<'_>) -> bool
-    ensures { result ≡ is_nil (seen_value value.now) }
+    ensures { result ≡ is_nil (ref_value value.now) }
 {
     match value {
         ValueRef::Nil => true,
@@ -41,8 +41,8 @@ fn is_nil(value: &ValueRef<'_>) -> bool
     }
 }
 
-// Whether a comparison is true of what stands in this order.
-fn accepts(op: Comparison, order: Ordering) -> bool
+/// Whether a comparison is true of what stands in this order.
+pub fn accepts(op: Comparison, order: Ordering) -> bool
     ensures { result ≡ accepts op order }
 {
     match op {
@@ -68,7 +68,7 @@ fn accepts_equal(op: Comparison, same: bool) -> bool
 
 // Whether a comparison of two values is true.
 fn compares(op: Comparison, left: &ValueRef<'_>, right: &ValueRef<'_>) -> bool
-    ensures { result ≡ compares op (seen_value left.now) (seen_value right.now) }
+    ensures { result ≡ compares op (ref_value left.now) (ref_value right.now) }
 {
     match (left, right) {
         (ValueRef::Truth(a), ValueRef::Truth(b)) => accepts_equal(op, *a == *b),
@@ -84,8 +84,8 @@ fn compares(op: Comparison, left: &ValueRef<'_>, right: &ValueRef<'_>) -> bool
 }
 
 // What an arithmetic operator makes of two numbers.
-fn calculated(op: BinaryOp, left: Ratio, right: Ratio) -> Option<Ratio>
-    ensures { result ≡ calculated op left right }
+fn compute_number(op: BinaryOp, left: Ratio, right: Ratio) -> Option<Ratio>
+    ensures { result ≡ compute_number op left right }
 {
     match op {
         BinaryOp::Or | BinaryOp::And | BinaryOp::Compare(_) => None,
@@ -100,17 +100,17 @@ fn calculated(op: BinaryOp, left: Ratio, right: Ratio) -> Option<Ratio>
 
 // What an arithmetic operator gives: nil where an operand is no number.
 fn arithmetic(op: BinaryOp, left: &ValueRef<'_>, right: &ValueRef<'_>) -> Value
-    ensures { result ≡ arithmetic (calculated op) (seen_value left.now) (seen_value right.now) }
+    ensures { result ≡ arithmetic (compute_number op) (ref_value left.now) (ref_value right.now) }
 {
     match (left, right) {
-        (ValueRef::Number(a), ValueRef::Number(b)) => number_or_nil(calculated(op, *a, *b)),
+        (ValueRef::Number(a), ValueRef::Number(b)) => number_or_nil(compute_number(op, *a, *b)),
         _ => Value::Nil,
     }
 }
 
 // What an operator gives that is no comparison with the literal `nil`.
-fn combined(op: BinaryOp, left: &ValueRef<'_>, right: &ValueRef<'_>) -> Value
-    ensures { result ≡ combined op (seen_value left.now) (seen_value right.now) }
+fn combine_values(op: BinaryOp, left: &ValueRef<'_>, right: &ValueRef<'_>) -> Value
+    ensures { result ≡ combine_values op (ref_value left.now) (ref_value right.now) }
 {
     match op {
         BinaryOp::Or => Value::Truth(is_true(left) || is_true(right)),
@@ -127,7 +127,7 @@ fn combined(op: BinaryOp, left: &ValueRef<'_>, right: &ValueRef<'_>) -> Value
 
 // What a comparison with the literal `nil` gives of the other operand.
 fn tests_nil(op: Comparison, value: &ValueRef<'_>) -> bool
-    ensures { result ≡ tests_nil op (seen_value value.now) }
+    ensures { result ≡ tests_nil op (ref_value value.now) }
 {
     match op {
         Comparison::Equal => is_nil(value),
@@ -137,9 +137,9 @@ fn tests_nil(op: Comparison, value: &ValueRef<'_>) -> bool
 }
 
 /// What `&&` and `||` give by their left side alone: the right side doesn't matter then.
-pub(crate) fn decided(op: BinaryOp, left: &ValueRef<'_>) -> Option<bool>
-    ensures decided { result ≡ decided op (seen_value left.now) }
-    ensures value { IfSome result (λ truth. (nil_left nil_right : Bool) (right : Value) → applied op nil_left nil_right (seen_value left.now) right ≡ Value.Truth truth) }
+pub(crate) fn decide_by_left(op: BinaryOp, left: &ValueRef<'_>) -> Option<bool>
+    ensures decision { result ≡ decide_by_left op (ref_value left.now) }
+    ensures value { IfSome result (λ truth. (nil_left nil_right : Bool) (right : Value) → apply_binary op nil_left nil_right (ref_value left.now) right ≡ Value.Truth truth) }
 {
     match op {
         BinaryOp::And if !is_true(left) => Some(false),
@@ -149,25 +149,25 @@ pub(crate) fn decided(op: BinaryOp, left: &ValueRef<'_>) -> Option<bool>
 }
 
 /// What a binary operator gives, where the operands may be the literal `nil`.
-pub(crate) fn applied(
+pub(crate) fn apply_binary(
     op: BinaryOp,
     nil_left: bool,
     nil_right: bool,
     left: &ValueRef<'_>,
     right: &ValueRef<'_>,
 ) -> Value
-    ensures { result ≡ applied op nil_left nil_right (seen_value left.now) (seen_value right.now) }
+    ensures { result ≡ apply_binary op nil_left nil_right (ref_value left.now) (ref_value right.now) }
 {
     match (op, nil_left, nil_right) {
         (BinaryOp::Compare(comparison), true, _) => Value::Truth(tests_nil(comparison, right)),
         (BinaryOp::Compare(comparison), false, true) => Value::Truth(tests_nil(comparison, left)),
-        _ => combined(op, left, right),
+        _ => combine_values(op, left, right),
     }
 }
 
 /// What a unary operator gives.
-pub(crate) fn turned(op: UnaryOp, value: &ValueRef<'_>) -> Value
-    ensures { result ≡ turned op (seen_value value.now) }
+pub(crate) fn apply_unary(op: UnaryOp, value: &ValueRef<'_>) -> Value
+    ensures { result ≡ apply_unary op (ref_value value.now) }
 {
     match (op, value) {
         (UnaryOp::Negate, ValueRef::Number(number)) => number_or_nil(number.neg()),

@@ -2,7 +2,7 @@
 
 ghost use Rattle.std.specs.Prelude.{◌≡◌, option_map};
 ghost use Rattle.span_types.specs.Orders.{trace_order};
-ghost use Rattle.traceql_value.specs.Spans.{or_root, root_of, earliest, latest};
+ghost use Rattle.traceql_value.specs.Spans.{choose_root, root_of, earliest, latest};
 
 use span_types::Row;
 use std::cmp::Ordering;
@@ -25,8 +25,8 @@ fn trace_order(left: &Row, right: &Row) -> Ordering
 }
 
 // The root among a row and the rows behind it.
-fn or_root<'a>(row: &'a Row, rest: Option<&'a Row>) -> Option<&'a Row>
-    ensures { option_map (λ r. r.now) result ≡ or_root row.now.span.parent row.now (option_map (λ r. r.now) rest.entry) }
+fn choose_root<'a>(row: &'a Row, rest: Option<&'a Row>) -> Option<&'a Row>
+    ensures { option_map (λ r. r.now) result ≡ choose_root row.now.span.parent row.now (option_map (λ r. r.now) rest.entry) }
 {
     if row.span.parent.is_some() {
         return rest;
@@ -46,7 +46,7 @@ pub(crate) fn root_of(rows: &[Row]) -> Option<&Row>
     let mut left = rows.len();
     while left > 0 {
         left -= 1;
-        root = or_root(&rows[left], root);
+        root = choose_root(&rows[left], root);
     }
     root
 }

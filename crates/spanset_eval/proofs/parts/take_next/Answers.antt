@@ -18,7 +18,7 @@ returns-in_ok-push-in-Greater-clause-takes c =
     greater_arm c.args.left.now.items c.args.right.now.items c.pop.new.self.items c.pop-latter.new.self.items c.push-in-Greater.new.self.items c.in-Some-Some.former c.in-Some-Some.latter
     c.in-Some-Some.ensures.items c.in-Some-Some.ensures'.items c.in_ok-push-in-Greater.ensures.items c.requires.left_up c.requires.right_up (sym c.order.ensures ∙ c.in-Greater.is)
 
-pub returns-in_ok-joined-in-Equal-clause-takes : goal.returns-in_ok-joined-in-Equal-clause-takes
-returns-in_ok-joined-in-Equal-clause-takes c =
-    equal_arm c.args.left.now.items c.args.right.now.items c.pop.new.self.items c.pop-latter.new.self.items c.in-Some-Some.former c.in-Some-Some.latter c.in_ok-joined-in-Equal.field-0
-    c.in-Some-Some.ensures.items c.in-Some-Some.ensures'.items c.in_ok-joined-in-Equal.ensures c.requires.left_up c.requires.right_up (sym c.order.ensures ∙ c.in-Equal.is)
+pub returns-in_ok-join-in-Equal-clause-takes : goal.returns-in_ok-join-in-Equal-clause-takes
+returns-in_ok-join-in-Equal-clause-takes c =
+    equal_arm c.args.left.now.items c.args.right.now.items c.pop.new.self.items c.pop-latter.new.self.items c.in-Some-Some.former c.in-Some-Some.latter c.in_ok-join-in-Equal.field-0
+    c.in-Some-Some.ensures.items c.in-Some-Some.ensures'.items c.in_ok-join-in-Equal.ensures c.requires.left_up c.requires.right_up (sym c.order.ensures ∙ c.in-Equal.is)

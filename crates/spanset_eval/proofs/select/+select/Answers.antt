@@ -1,38 +1,42 @@
-use Rattle.std.proofs.Common.{◌≡◌, ◌∙◌, length, sym, ap, subst, map}
-use Rattle.span_types.specs.declared.spans.Row.{Row}
+use Rattle.std.proofs.Common.{◌≡◌, ◌∙◌, length, subst}
 use Rattle.span_tree.specs.Marking.{IsMarked}
-use Rattle.span_tree.specs.Nodes.{nodes_of}
-use Rattle.traceql_syntax.specs.Trees.{placed_option, set_tree}
+use Rattle.traceql_syntax.specs.Trees.{placed_option, set_tree, Filter}
 use Rattle.traceql_value.specs.EvalContexts.{context_patterns, context_rows}
-use Rattle.spanset_eval.specs.Marked.{MarksSet}
-use Rattle.spanset_eval.specs.Sets.{keeps, Selects, Joined}
-use Rattle.spanset_eval.proofs.MarkLaws.{joined_sets}
-use Rattle.spanset_eval.proofs.SelectLaws.{if_ok, kept_set}
+use Rattle.spanset_eval.specs.MadeTree.{IsTreeOf}
+use Rattle.spanset_eval.proofs.Chaining.{along_step, joined_along, selects_along}
+use Rattle.spanset_eval.proofs.SelectLaws.{kept_set}
 use Rattle.spanset_eval.proofs.select.+select.Goals as goal
 
-pub returns-in-Filter-clause-marks : goal.returns-in-Filter-clause-marks
-returns-in-Filter-clause-marks g t c =
-    let ps = context_patterns c.args.context.now in
-    let rows = c.args.rows.now in
-    let condition = placed_option c.in-Filter.condition in
-    if_ok c.kept.result (λ m. m ≡ map (λ (r : Row). keeps ps (context_rows c.args.context.now) condition r.span) rows) (MarksSet (length rows) (Selects ps rows (set_tree c.args.expr.now)))
-    (λ m e. subst (λ x. MarksSet (length rows) (Selects ps rows (set_tree x)) m) (sym c.in-Filter.is)
-    (kept_set ps rows condition m (e ∙ ap (λ rs. map (λ (r : Row). keeps ps rs condition r.span) rows) (sym c.requires.rows))))
-    c.kept.ensures.marks
+pub up-init : goal.up-init
+up-init g t c =
+    let context = c.args.context.now in
+    let chain = c.in_ok-condition.ensures in
+    let condition = placed_option c.in_ok-condition.condition.now in
+    record {
+      marks = (Filter chain.0 condition, kept_set (context_patterns context) (context_rows context) condition c.in_ok-marks.marks c.in_ok-marks.ensures.marks, chain.1);
+      context = c.filter_rows.ensures.context;
+      made = c.requires.made;
+    }
 
-pub returns-in_ok-right-in-Join-clause-marks : goal.returns-in_ok-right-in-Join-clause-marks
-returns-in_ok-right-in-Join-clause-marks g t c =
+pub up-preserved : goal.up-preserved
+up-preserved g t c =
     let ps = context_patterns c.args.context.now in
-    let rows = c.args.rows.now in
-    let n = length rows in
-    let left = c.in_ok-left-in-Join.left in
-    let right = c.in_ok-right-in-Join.right in
-    let first : MarksSet n (Selects ps rows (set_tree c.in-Join.left.value)) left =
-    subst (λ e. MarksSet n (Selects ps rows (set_tree e)) left) c.deref.ensures c.in_ok-left-in-Join.ensures.marks in
-    let second : MarksSet n (Selects ps rows (set_tree c.in-Join.right.value)) right =
-    subst (λ e. MarksSet n (Selects ps rows (set_tree e)) right) c.deref-in-Join.ensures
-    (subst (λ qs. MarksSet n (Selects qs rows (set_tree c.deref-in-Join.result.now)) right) c.in_ok-left-in-Join.ensures.context.patterns c.in_ok-right-in-Join.ensures.marks) in
-    if_ok c.joined.result (MarksSet n (Joined c.in-Join.op (nodes_of rows) (IsMarked left) (IsMarked right))) (MarksSet n (Selects ps rows (set_tree c.args.expr.now)))
-    (λ m h. subst (λ x. MarksSet n (Selects ps rows (set_tree x)) m) (sym c.in-Join.is)
-    (joined_sets c.in-Join.op (nodes_of rows) n (Selects ps rows (set_tree c.in-Join.left.value)) (Selects ps rows (set_tree c.in-Join.right.value)) left right m first second h))
-    c.joined.ensures.marks
+    let rows = context_rows c.args.context.now in
+    let p = c.in-Some.outer in
+    let before = c.up.invariant in
+    let within = c.select.ensures.context in
+    let left = c.up.marks in
+    let right = c.in_ok-right.right in
+    let marks = c.in_ok-marks-2.marks in
+    let same_rows = c.rows.ensures ∙ within.rows ∙ before.context.rows in
+    record {
+      marks = along_step ps rows (set_tree c.args.expr.now) p c.up.pending.items c.pop.new.self.items left right marks c.in-Some.ensures.items before.marks
+          (selects_along ps (context_patterns c.up.context) rows (context_rows c.up.context) (set_tree p.right.now) right before.context.patterns before.context.rows c.in_ok-right.ensures.marks)
+          (joined_along p.op rows c.rows.result.now (IsMarked left) (IsMarked right) marks same_rows c.in_ok-marks-2.ensures.marks);
+      context = record {
+        lent = within.lent ∙ before.context.lent;
+        patterns = within.patterns ∙ before.context.patterns;
+        rows = within.rows ∙ before.context.rows;
+      };
+      made = subst (λ rs. IsTreeOf rs c.join_marks.new.made) same_rows c.join_marks.ensures.made;
+    }

@@ -1,8 +1,7 @@
 -- So far a spanset was added for each part that was passed.
-use Rattle.std.proofs.Common.{◌≡◌, ◌++◌, ◌∷◌, [], map}
-use Rattle.spanset_eval.specs.declared.parts.Part.{Part}
+use Rattle.std.proofs.Common.{◌≡◌, ◌++◌, map}
+use Rattle.spanset_eval.specs.Parts.{part_group}
 use Rattle.spanset_eval.proofs.stages.add_parts.Given as goal
 
 abbrev pub invariant-loop-part : goal.invariant-loop-part
-invariant-loop-part l =
-    l.found.items ≡ l.fn.found.items ++ map (λ (p : Part). record { by = l.fn.by ++ p.value ∷ []; members = p.members }) l.yielded
+invariant-loop-part l = l.found.items ≡ l.fn.found.items ++ map (part_group l.fn.by) l.yielded

@@ -1,7 +1,0 @@
-use Rattle.std.proofs.Common.{rules}
-use Rattle.std.proofs.lemmas.List.Elements.{filter_from_retain}
-use Rattle.spanset_eval.specs.Stages.{is_left}
-use Rattle.spanset_eval.proofs.stages.left.Goals as goal
-
-pub returns : goal.returns
-returns c = filter_from_retain _ is_left (λ p x b q h. search rules) _ _ _ c.retain.ensures.filtered
