@@ -6,8 +6,8 @@ use Rattle.span_types.specs.declared.spans.Row.{Row}
 use Rattle.span_types.specs.Orders.{block_order}
 use Rattle.span_types.specs.First.{IsFirstOf, first_at}
 use Rattle.span_types.proofs.FirstLaws.{block_order_total}
-use Rattle.trace_rows.proofs.TraceLaws.{all_pairs}
-use Rattle.search_answer.specs.Traces.{IsSorted}
+use Rattle.rows_by_trace.proofs.TraceLaws.{all_pairs}
+use Rattle.search_answer.specs.Walking.{IsSorted}
 
 equal_less : Equal ≡ Less → ⊥
 equal_less e = cc

@@ -13,8 +13,8 @@ use Rattle.span_types.specs.declared.ids.TraceId.{TraceId}
 use Rattle.span_types.specs.declared.spans.Row.{Row}
 use Rattle.span_types.specs.Keys.{row_key}
 use Rattle.span_types.specs.Orders.{block_order, trace_cmp}
-use Rattle.trace_rows.specs.Traces.{is_of_trace, rows_of_trace}
-use Rattle.search_answer.specs.Traces.{IsFront, IsSorted}
+use Rattle.rows_by_trace.specs.Traces.{is_of_trace, rows_of_trace}
+use Rattle.search_answer.specs.Walking.{IsFront, IsSorted}
 
 pub trace_cmp_total : IsTotalOrder trace_cmp
 trace_cmp_total = on_total (λ t. t.0) nat_list_cmp_total
@@ -64,7 +64,7 @@ rows_of_other id other front later s differs =
 
 -- ---- from the order of the rows
 
-then_less : (o p : Ordering) → ordering_then o p ≡ Less → (o ≡ Less) ⊎ (o ≡ Equal)
+pub then_less : (o p : Ordering) → ordering_then o p ≡ Less → (o ≡ Less) ⊎ (o ≡ Equal)
 then_less Less p h = inl refl
 then_less Equal p h = inr refl
 then_less Greater p h = cc

@@ -1,5 +1,10 @@
-pub mod OneList
-mod Ranks
-pub mod Fronts
-pub mod Steps
+mod Each
 pub mod Firsts
+pub mod Fronts
+pub mod InRangeLaws
+pub mod OneList
+pub mod PartLaws
+pub mod RankLaws
+pub mod Sorting
+mod Shown
+mod Starts

@@ -8,9 +8,11 @@ use Rattle.span_types.specs.declared.spans.Row.{Row}
 use Rattle.spanset_eval.specs.declared.results.TraceResult.{TraceResult}
 use Rattle.spanset_eval.specs.Outcomes.{IsOutcome, cut}
 use Rattle.spanset_eval.specs.Ranking.{AreFirst}
-use Rattle.traceql_syntax.specs.Trees.{QueryTree}
+use Rattle.traceql_syntax.specs.Trees.{QueryTree, query_tree}
+use Rattle.traceql_types.specs.declared.checked.Checked.{Checked}
 use Rattle.traceql_types.specs.declared.pattern.Pattern.{Pattern}
-use Rattle.trace_rows.specs.Traces.{rows_of_trace}
+use Rattle.rows_by_trace.specs.Traces.{rows_of_trace}
+use Rattle.search_answer.specs.declared.bounds.Bounds.{Bounds}
 
 -- A trace is in a range where one of its spans starts in it.
 abbrev pub is_in_range : Range → List Row → Bool
@@ -40,3 +42,8 @@ pub record IsAnswer (ps : List Pattern) (q : QueryTree) (range : Range) (limit m
   pub first : List TraceResult
   pub ranked : AreFirst all limit first
   pub is : answer ≡ map (cut (Some most)) first
+
+-- The same of a checked query, with the numbers by their names.
+abbrev pub IsAnswerTo : Checked → Range → Bounds → List Row → List TraceResult → Type 0
+IsAnswerTo checked range bounds rows answer =
+    IsAnswer checked.patterns (query_tree checked.query) range bounds.limit bounds.spans_per_set rows answer

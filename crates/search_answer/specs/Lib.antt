@@ -1,2 +1,5 @@
 pub mod Answers
-pub mod Traces
+pub mod InRange
+pub mod Parts
+pub mod Threads
+pub mod Walking

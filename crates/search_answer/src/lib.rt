@@ -1,7 +1,22 @@
 //! What a search answers over rows in memory.
+//!
+//! The entry point is `answer`; what it promises is `IsAnswer` of `specs/Answers.antt`. The calls that it is made of stand
+//! by themselves, so that traces that come from elsewhere, or are looked at in several threads, are answered by the same
+//! ones; `laws` says how the parts' answers are joined.
 #![tactic(auto)]
 
+mod bounds;
+mod laws;
+mod ranking;
+mod results;
 mod search;
+mod threads;
 mod traces;
 
+pub use bounds::Bounds;
+pub use laws::{first_of_parts, one_answer_each, parts_answer_the_whole};
+pub use ranking::rank_traces;
+pub use results::first_results;
 pub use search::answer;
+pub use threads::rows_and_results_cross;
+pub use traces::{TraceInRange, traces_in_range};

@@ -4,6 +4,7 @@ ghost use Rattle.std.specs.Prelude.{◌≡◌, ◌<◌, IfOk, length};
 ghost use Rattle.span_tree.specs.Nodes.{IsOneTrace};
 
 use crate::lines::query_of;
+use rows_by_trace::rows_of;
 use span_tree::{Steps, Tree};
 use span_types::{
     Attrs, Events, Links, Marks, Memory, Place, Resource, Row, Rows, Scope, SharedResource,
@@ -14,7 +15,6 @@ use std::alloc::Global;
 use std::marker::Brand;
 use std::sync::ledger::{Blank, Ledger};
 use std::test::Fail;
-use trace_rows::rows_of;
 
 /// A span that is alone in its trace.
 fn span(alloc: Global) -> Result<Span, Memory> {

@@ -7,7 +7,7 @@ ghost use Rattle.span_types.specs.declared.spans.Row.{Row};
 
 use crate::lines::{firsts_of, query_of, rows_of};
 use column_scan::Range;
-use search_answer::answer;
+use search_answer::{Bounds, answer};
 use span_types::Rows;
 use spanset_eval::{Results, TraceResult};
 use std::alloc::{AllocError, Global};
@@ -121,7 +121,11 @@ fn related(alloc: Global, sign: &str, rows: &Rows) -> Result<String, Fail>
         from: 0,
         until: None,
     };
-    let Ok(results) = answer(alloc, &checked, always, 20, 20, rows.as_slice()) else {
+    let bounds = Bounds {
+        limit: 20,
+        spans_per_set: 20,
+    };
+    let Ok(results) = answer(alloc, &checked, always, bounds, rows.as_slice()) else {
         return Err(Fail::new("no memory"));
     };
     Ok(marks_of(alloc, &results, rows.len())?)

@@ -6,7 +6,7 @@ ghost use Rattle.span_types.specs.declared.spans.Row.{Row};
 
 use crate::lines::{firsts_of, query_of, rows_of};
 use column_scan::Range;
-use search_answer::answer;
+use search_answer::{Bounds, answer};
 use span_types::{Rows, StatusCode};
 use spanset_eval::{SetResult, TraceResult};
 use std::alloc::{AllocError, Global};
@@ -133,13 +133,13 @@ fn told(
     alloc: Global,
     text: &str,
     range: Range,
-    limits: (u32, u32),
+    bounds: Bounds,
     rows: &Rows,
 ) -> Result<String, Fail>
     requires { (all : List Row) × IsFirstOf all rows.now }
 {
     let checked = query_of(alloc, text)?;
-    let Ok(results) = answer(alloc, &checked, range, limits.0, limits.1, rows.as_slice()) else {
+    let Ok(results) = answer(alloc, &checked, range, bounds, rows.as_slice()) else {
         return Err(Fail::new("no memory"));
     };
     let mut told = String::new(alloc);
@@ -159,6 +159,26 @@ const ALWAYS: Range = Range {
     until: None,
 };
 
+/// More than there is.
+const ALL: Bounds = Bounds {
+    limit: 20,
+    spans_per_set: 20,
+};
+
+/// One span of each spanset.
+const ONE_SPAN: Bounds = Bounds {
+    limit: 20,
+    spans_per_set: 1,
+};
+
+// At most so many traces.
+fn at_most(limit: u32) -> Bounds {
+    Bounds {
+        limit,
+        spans_per_set: 20,
+    }
+}
+
 fn check_rows(rt: &(impl Abort + AllocGlobal), line: &str, table: &str) -> Result<(), Fail> {
     let rows = rows(rt.alloc(), &[line])?;
     for row in table.lines() {
@@ -168,7 +188,7 @@ fn check_rows(rt: &(impl Abort + AllocGlobal), line: &str, table: &str) -> Resul
         let Some((text, wanted)) = row.split_once(" => ") else {
             return Err(Fail::new("a row does not split"));
         };
-        let got = told(rt.alloc(), text, ALWAYS, (20, 20), &rows)?;
+        let got = told(rt.alloc(), text, ALWAYS, ALL, &rows)?;
         assert!(rt; got.as_str() == wanted, "{text} gives {got}");
     }
     Ok(())
@@ -184,6 +204,26 @@ fn stages_leave_spansets(rt: HostRuntime) -> Result<(), Fail> {
     check_rows(&rt, SHOP, STAGED)
 }
 
+/// A trace of one span that starts later than the others.
+const LATE: &str =
+    r#"{"resourceSpans":[{"scopeSpans":[{"spans":[{"traceId":"000000000000000000000000000000c1","spanId":"0000000000000001","parentSpanId":"","name":"z","startTimeUnixNano":"5","endTimeUnixNano":"6"}]}]}]}"#;
+
+#[test]
+fn traces_are_ranked_before_they_are_cut(rt: HostRuntime) -> Result<(), Fail> {
+    let alloc = rt.alloc();
+    let rows = rows(alloc, &[SHOP, KIN, LATE])?;
+    let all = told(alloc, "{ name =~ \"a|e|z\" }", ALWAYS, ALL, &rows)?;
+    assert!(rt; all.as_str() == "z ; a ; e");
+    let two = told(alloc, "{ name =~ \"a|e|z\" }", ALWAYS, at_most(2), &rows)?;
+    assert!(rt; two.as_str() == "z ; a");
+    // A trace of which nothing is left counts for nothing.
+    let one = told(alloc, "{ name = \"e\" }", ALWAYS, at_most(1), &rows)?;
+    assert!(rt; one.as_str() == "e");
+    let none = told(alloc, "{ }", ALWAYS, at_most(0), &rows)?;
+    assert!(rt; none.as_str() == "none");
+    Ok(())
+}
+
 // A range of moments below an end.
 fn between(from: u64, until: u64) -> Range {
     Range {
@@ -196,17 +236,17 @@ fn between(from: u64, until: u64) -> Range {
 fn ranges_and_limits(rt: HostRuntime) -> Result<(), Fail> {
     let alloc = rt.alloc();
     let rows = rows(alloc, &[SHOP, KIN])?;
-    let all = told(alloc, "{ name =~ \"a|e|g\" }", ALWAYS, (20, 20), &rows)?;
+    let all = told(alloc, "{ name =~ \"a|e|g\" }", ALWAYS, ALL, &rows)?;
     assert!(rt; all.as_str() == "a ; e g");
-    let first = told(alloc, "{ name =~ \"a|e|g\" }", ALWAYS, (1, 20), &rows)?;
+    let first = told(alloc, "{ name =~ \"a|e|g\" }", ALWAYS, at_most(1), &rows)?;
     assert!(rt; first.as_str() == "a");
-    let shown = told(alloc, "{ name =~ \"a|e|g\" }", ALWAYS, (20, 1), &rows)?;
+    let shown = told(alloc, "{ name =~ \"a|e|g\" }", ALWAYS, ONE_SPAN, &rows)?;
     assert!(rt; shown.as_str() == "a ; e ..");
-    let later = told(alloc, "{ } | by(.w)", between(9, 10), (20, 1), &rows)?;
+    let later = told(alloc, "{ } | by(.w)", between(9, 10), ONE_SPAN, &rows)?;
     assert!(rt; later.as_str() == "\"x\": e .. | \"y\": g ..");
-    let before = told(alloc, "{ name = \"h\" }", between(2, 9), (20, 20), &rows)?;
+    let before = told(alloc, "{ name = \"h\" }", between(2, 9), ALL, &rows)?;
     assert!(rt; before.as_str() == "none");
-    let ends = told(alloc, "{ }", between(2, 3), (20, 20), &rows)?;
+    let ends = told(alloc, "{ }", between(2, 3), ALL, &rows)?;
     assert!(rt; ends.as_str() == "none");
     Ok(())
 }

@@ -6,10 +6,8 @@ use Rattle.hex.specs.Hex.{encode_lower}
 use Rattle.serde_json.specs.Data.{Data, array, boolean, member, no_members, null, number, object, string, unsigned}
 use Rattle.serde_json.specs.View.{items_of}
 use Rattle.serde_json.specs.Written.{compact_text}
-use Rattle.span_types.specs.declared.spans.SpanKind.{SpanKind}
-use Rattle.span_types.specs.declared.spans.SpanKind.TheVariants.{Unspecified, Internal, Server, Client, Producer, Consumer}
-use Rattle.span_types.specs.declared.spans.StatusCode.{StatusCode}
-use Rattle.span_types.specs.declared.spans.StatusCode.TheVariants.{Unset, Fine, Error}
+use Rattle.traceql_tokens.specs.Fixed.{word_text}
+use Rattle.traceql_print.specs.Signs.{kind_word, status_word}
 use Rattle.traceql_value.specs.Fractions.{Fraction}
 use Rattle.traceql_value.specs.declared.value.Value.{Value}
 use Rattle.traceql_value.specs.declared.value.Value.TheVariants.{Nil, Truth, Number, Text, Status, Kind}
@@ -20,20 +18,6 @@ use Rattle.spanset_eval.specs.declared.results.TraceResult.{TraceResult}
 -- the list of what f gives of each item
 abbrev pub list_json : {A : Type 0} → (A → Data) → List A → Data
 list_json f xs = array (items_of (map f xs))
-
--- TraceQL's words for how a span ended, and for its role
-abbrev pub status_word : StatusCode → List ℕ
-status_word Unset = codes "unset"
-status_word Fine = codes "ok"
-status_word Error = codes "error"
-
-abbrev pub kind_word : SpanKind → List ℕ
-kind_word Unspecified = codes "unspecified"
-kind_word Internal = codes "internal"
-kind_word Server = codes "server"
-kind_word Client = codes "client"
-kind_word Producer = codes "producer"
-kind_word Consumer = codes "consumer"
 
 -- an object of this one member
 abbrev pub only : List ℕ → Data → Data
@@ -47,14 +31,14 @@ fraction_text r = signed_decimal r.numerator ++ (codes "/" ++ decimal r.denomina
 unfoldable pub number_json : Fraction → Data
 number_json r = if r.denominator == 1 then only (codes "intValue") (string (signed_decimal r.numerator)) else only (codes "ratioValue") (string (fraction_text r))
 
--- what a field expression is for a span
+-- What a field expression is for a span. Statuses and kinds have TraceQL's words.
 unfoldable pub value_json : Value → Data
 value_json Nil = null
 value_json (Truth truth) = only (codes "boolValue") (boolean truth)
 value_json (Number r) = number_json r
 value_json (Text text) = only (codes "stringValue") (string text)
-value_json (Status code) = only (codes "statusValue") (string (status_word code))
-value_json (Kind kind) = only (codes "kindValue") (string (kind_word kind))
+value_json (Status code) = only (codes "statusValue") (string (word_text (status_word code)))
+value_json (Kind kind) = only (codes "kindValue") (string (word_text (kind_word kind)))
 
 -- a text, and null for what is none
 abbrev pub text_json : Value → Data

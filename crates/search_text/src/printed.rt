@@ -29,7 +29,8 @@ pub fn printed_fields(alloc: Global, query: &Query) -> Result<Texts, Memory>
 
 /// Puts the fields of a stage behind others.
 fn push_fields(alloc: Global, texts: &mut Vec<Text>, stage: &Stage) -> Result<(), Memory>
-    ensures { OnOk result (texts.new.items ≡ texts.old.items ++ map field_text (fields_of_stage (stage_tree stage.now))) }
+    ensures { OnOk result (texts.new.items
+        ≡ texts.old.items ++ map field_text (fields_of_stage (stage_tree stage.now))) }
 {
     if let Stage::Select(fields) = stage {
         for field in fields.as_slice() {

@@ -6,38 +6,14 @@ ghost use Rattle.std.specs.List.{zip};
 ghost use Rattle.hex.specs.Hex.{encode_lower};
 ghost use Rattle.serde_json.specs.Data.{put, string};
 ghost use Rattle.serde_json.specs.View.{members_view, view};
-ghost use Rattle.search_text.specs.Results.{field_json, fraction_text, hit_json, kind_word, list_json, number_json, status_word, text_json, value_json};
+ghost use Rattle.search_text.specs.Results.{field_json, fraction_text, hit_json, list_json, number_json, text_json, value_json};
 
 use serde_json::{Map, Value as Json, json};
-use span_types::{Memory, SpanKind, StatusCode, Text};
+use span_types::{Memory, Text};
 use spanset_eval::Hit;
 use std::alloc::Global;
+use traceql_print::{kind_word, status_word};
 use traceql_value::{Ratio, Value};
-
-/// TraceQL's word for how a span ended.
-fn status_word(code: StatusCode) -> &'static str
-    ensures { result.now ≡ status_word code }
-{
-    match code {
-        StatusCode::Unset => "unset",
-        StatusCode::Fine => "ok",
-        StatusCode::Error => "error",
-    }
-}
-
-/// TraceQL's word for a span's role.
-fn kind_word(kind: SpanKind) -> &'static str
-    ensures { result.now ≡ kind_word kind }
-{
-    match kind {
-        SpanKind::Unspecified => "unspecified",
-        SpanKind::Internal => "internal",
-        SpanKind::Server => "server",
-        SpanKind::Client => "client",
-        SpanKind::Producer => "producer",
-        SpanKind::Consumer => "consumer",
-    }
-}
 
 /// A whole number as a decimal text.
 fn whole(alloc: Global, number: i64) -> Result<String, Memory>
@@ -85,8 +61,8 @@ fn value(alloc: Global, value: &Value) -> Result<Json, Memory>
         Value::Truth(truth) => Ok(json!(in alloc; {"boolValue": *truth})?),
         Value::Number(ratio) => number(alloc, *ratio),
         Value::Text(text) => Ok(json!(in alloc; {"stringValue": text.as_str()})?),
-        Value::Status(code) => Ok(json!(in alloc; {"statusValue": status_word(*code)})?),
-        Value::Kind(kind) => Ok(json!(in alloc; {"kindValue": kind_word(*kind)})?),
+        Value::Status(code) => Ok(json!(in alloc; {"statusValue": status_word(*code).text()})?),
+        Value::Kind(kind) => Ok(json!(in alloc; {"kindValue": kind_word(*kind).text()})?),
     }
 }
 

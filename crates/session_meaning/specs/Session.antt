@@ -21,7 +21,7 @@ use Rattle.search_answer.specs.Answers.{IsAnswer}
 use Rattle.search_text.specs.Fields.{printed_fields}
 use Rattle.session_text.specs.Items.{Item}
 use Rattle.spanset_eval.specs.declared.results.TraceResult.{TraceResult}
-use Rattle.trace_rows.specs.Traces.{rows_of_trace}
+use Rattle.rows_by_trace.specs.Traces.{rows_of_trace}
 use Rattle.traceql_syntax.specs.Trees.{query_tree}
 use Rattle.session_text.specs.Replies.{reply_text}
 

@@ -13,7 +13,7 @@ use Rattle.search_text.specs.Fields.{printed_fields}
 use Rattle.spanset_eval.specs.declared.results.TraceResult.{TraceResult}
 use Rattle.traceql_syntax.specs.Trees.{query_tree}
 use Rattle.session_meaning.specs.History.{History, length_of, rows_from, rows_of, with_push}
-use Rattle.trace_rows.specs.Traces.{rows_of_trace}
+use Rattle.rows_by_trace.specs.Traces.{rows_of_trace}
 use Rattle.session_meaning.specs.Session.{IsAnsweredOrStarved}
 use Rattle.session_meaning.proofs.SessionLaws.{length_of-push, rows_of-push}
 use Rattle.trace_shell.specs.Holding.{Holding, Holds}

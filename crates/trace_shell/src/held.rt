@@ -3,12 +3,12 @@
 ghost use Rattle.std.specs.Prelude.{◌≡◌, ◌+◌, ◌^◌, ◌<◌, ◌≤◌, [], ◌++◌, length, IfOk, OnErr, MatchResult};
 ghost use Rattle.span_types.specs.First.{IsFirstOf};
 ghost use Rattle.session_meaning.specs.History.{rows_from};
-ghost use Rattle.trace_rows.specs.Traces.{rows_of_trace};
+ghost use Rattle.rows_by_trace.specs.Traces.{rows_of_trace};
 
+use rows_by_trace::rows_of;
 use span_types::{Batch, Memory, Place, Row, Rows, TraceId, TryCopy, first_rows};
 use std::alloc::Global;
 use std::marker::Model;
-use trace_rows::rows_of;
 
 /// The rows of all pushes so far, in order, and how many pushes there were.
 #[derive(Debug, Drop)]

@@ -18,7 +18,7 @@ ghost use Rattle.trace_shell.specs.Turn.{Came, CameAlone, HasGiven, IsAt, Turned
 use crate::held::Held;
 use io_edges::{Line, LineError, LineReader, Sink, Source};
 use otlp_spans::Reading;
-use search_answer::answer as shown_for;
+use search_answer::{Bounds, answer as shown_for};
 use search_text::printed_fields;
 use session_meaning::Ending;
 use session_text::{Refusal, Reply, Request, Search, read_request, write_reply};
@@ -289,12 +289,15 @@ fn results_of(alloc: Global, held: &Held, search: &Search) -> Result<Reply, Memo
     ensures small { IfOk result (λ reply. is_too_big reply ≡ false) }
 {
     let rows = held.firsts()?;
+    let bounds = Bounds {
+        limit: search.limit,
+        spans_per_set: search.spans_per_set,
+    };
     let results = shown_for(
         alloc,
         &search.checked,
         search.range,
-        search.limit,
-        search.spans_per_set,
+        bounds,
         rows.as_slice(),
     )?;
     let fields = printed_fields(alloc, &search.checked.query)?;

@@ -1,7 +1,7 @@
 use Rattle.std.proofs.Common.{◌≡◌, ap, arith, subst, true, slice_index_or}
 use Rattle.std.proofs.lemmas.Cmp.{tied_itself}
 use Rattle.std.specs.Ordering.{is_eq}
-use Rattle.search_answer.specs.Traces.{of_one_trace}
+use Rattle.search_answer.specs.Walking.{of_one_trace}
 use Rattle.search_answer.proofs.Fronts.{trace_cmp_total}
 use Rattle.search_answer.proofs.traces.trace_len.Goals as goal
 

@@ -1,7 +1,7 @@
 -- The rows so far are of the first one's trace.
 use Rattle.std.proofs.Common.{◌≡◌, ℕ, ◌<◌, true, slice_index_or}
 use Rattle.span_types.specs.declared.spans.Row.{Row}
-use Rattle.search_answer.specs.Traces.{of_one_trace}
+use Rattle.search_answer.specs.Walking.{of_one_trace}
 use Rattle.search_answer.proofs.traces.trace_len.Given as goal
 
 abbrev pub invariant-loop-i : goal.invariant-loop-i

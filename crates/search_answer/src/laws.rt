@@ -1,0 +1,21 @@
+//! Laws of answers: of several traces, and of parts of them that are looked at by themselves, as in several threads.
+
+ghost use Rattle.search_answer.specs.Parts.{EachIsAnswered, FirstOfFirsts, JoinedAnswers, OneAnswer, PartedAnswers};
+
+/// Of each trace a query answers something or nothing, and only one thing.
+pub fn one_answer_each()
+    ensures some { EachIsAnswered }
+    ensures one { OneAnswer }
+{}
+
+/// What a list of traces answers is what its parts answer, joined.
+pub fn parts_answer_the_whole()
+    ensures joined { JoinedAnswers }
+    ensures parted { PartedAnswers }
+{}
+
+/// The first results of joined lists are the first of the lists' first results, joined: so a part may be ranked and cut
+/// by itself.
+pub fn first_of_parts()
+    ensures { FirstOfFirsts }
+{}

@@ -1,0 +1,46 @@
+//! The results of traces that were ranked.
+
+ghost use Rattle.std.specs.Prelude.{◌≡◌, All, IfOk};
+ghost use Rattle.span_tree.specs.Nodes.{IsOneTrace};
+ghost use Rattle.traceql_syntax.specs.Trees.{query_tree};
+ghost use Rattle.traceql_value.specs.EvalContexts.{matchers_patterns};
+ghost use Rattle.search_answer.specs.InRange.{rows_of_each};
+ghost use Rattle.search_answer.specs.Parts.{AreFirstAnswers};
+
+use crate::traces::extend;
+use crate::{Bounds, TraceInRange};
+use span_types::Memory;
+use spanset_eval::{TraceResult, evaluate_rows};
+use std::alloc::Global;
+use traceql_types::Checked;
+use traceql_value::Matchers;
+
+/// The results of the first `limit` of these traces of which the query answers something, in their order, with the first
+/// `spans_per_set` spans of each spanset. No trace after them is evaluated, and none twice.
+///
+/// The matchers are those of the query's patterns. They are lent, and search for the same afterwards, whatever comes of
+/// this. The one error is want of memory.
+pub fn first_results(
+    alloc: Global,
+    checked: &Checked,
+    matchers: &mut Matchers<'_>,
+    bounds: Bounds,
+    traces: &[TraceInRange<'_>],
+) -> Result<Vec<TraceResult>, Memory>
+    requires one { All (λ t. IsOneTrace t.rows.now) traces.now }
+    requires patterns { matchers_patterns matchers.old ≡ checked.now.patterns }
+    ensures results { IfOk result (λ found. AreFirstAnswers checked.now.patterns
+        (query_tree checked.now.query) bounds (rows_of_each traces.now) found.items) }
+    ensures matchers { matchers_patterns matchers.new ≡ matchers_patterns matchers.old }
+{
+    let mut found = Vec::new(alloc);
+    for trace in traces {
+        if found.len() >= bounds.limit as usize {
+            return Ok(found);
+        }
+        let most = bounds.spans_per_set as usize;
+        let more = evaluate_rows(alloc, checked, matchers, trace.rows, most)?;
+        extend(&mut found, more)?;
+    }
+    Ok(found)
+}
