@@ -155,28 +155,28 @@ impl Live {
     }
 
     /// How many rows there are in all three parts, repeats among them.
-    pub fn held(&self) -> usize
+    pub fn held(&self) -> u64
         ensures { result ≡ length self.now.flushing + length self.now.head + length self.now.live }
     {
-        self.entries.len() + self.count + self.kept.len()
+        (self.entries.len() + self.count + self.kept.len()) as u64
     }
 
     /// Takes the first rows of the head for a flush.
-    pub fn take_head(&mut self, most: usize) -> Result<Runs, Memory>
+    pub fn take_head(&mut self, most: u32) -> Result<Runs, Memory>
         requires { self.now.flushing ≡ [] }
         ensures taken { IfOk result (λ rows. (rows ≡ take most self.old.head) × (self.new.flushing ≡ rows)
             × (self.new.head ≡ drop most self.old.head)) }
         ensures refused { OnErr result ((self.new.flushing ≡ []) × (self.new.head ≡ self.old.head)) }
         ensures same { self.new.live ≡ self.old.live }
     {
-        let size = most.min(self.kept.len());
+        let size = self.kept.len().min(most as usize);
         let runs = runs_of(*self.kept.allocator(), &self.kept.as_slice()[..size])?;
         self.flushing = size;
         Ok(runs)
     }
 
     /// Moves all live rows to the head, by trace and then place, and answers how many.
-    pub fn cut_all(&mut self) -> Result<usize, Memory>
+    pub fn cut_all(&mut self) -> Result<u64, Memory>
         ensures moved { IfOk result (λ count. (moved : List Row) × AreMoved (λ entry. true) self.old.live moved
             × (count ≡ length moved) × (self.new.head ≡ self.old.head ++ moved)
             × (self.new.live ≡ filter (λ entry. not true) self.old.live)) }
@@ -189,7 +189,7 @@ impl Live {
 
     /// Moves the traces to the head that had no push for ten seconds before the moment, by trace and then place, and answers
     /// how many rows it moved.
-    pub fn cut_idle(&mut self, moment: u64) -> Result<usize, Memory>
+    pub fn cut_idle(&mut self, moment: u64) -> Result<u64, Memory>
         ensures moved { IfOk result (λ count. (moved : List Row)
             × AreMoved (is_idle moment self.old.live) self.old.live moved
             × (count ≡ length moved) × (self.new.head ≡ self.old.head ++ moved)
@@ -202,7 +202,7 @@ impl Live {
     }
 
     // Moves the live rows that go.
-    fn cut(&mut self, idle: Option<u64>) -> Result<usize, Memory>
+    fn cut(&mut self, idle: Option<u64>) -> Result<u64, Memory>
         ensures moved { IfOk result (λ count. (moved : List Row) × AreMoved (goes idle self.old.live) self.old.live moved
             × (count ≡ length moved) × (self.new.head ≡ self.old.head ++ moved)
             × (self.new.live ≡ filter (λ entry. not (goes idle self.old.live entry)) self.old.live)) }
@@ -218,7 +218,7 @@ impl Live {
         )?;
         self.kept.reserve(moved.len())?;
         let moved = in_order(moved);
-        let count = moved.len();
+        let count = moved.len() as u64;
         append_all(&mut self.kept, moved);
         self.entries = stay;
         self.arrivals.truncate(0);

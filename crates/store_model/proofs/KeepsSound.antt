@@ -4,13 +4,13 @@ use Rattle.store_model.specs.State.{State, is_among, pinned_files}
 use Rattle.store_model.specs.Event.{Event, Reply}
 use Rattle.store_model.specs.Event.Event.{BeginFlush, BeginCompact, Reclaim}
 use Rattle.store_model.specs.Step.{Machine, Step}
-use Rattle.store_model.specs.Sound.{times, HasOwnFiles, IsSound, emptied}
+use Rattle.store_model.specs.Sound.{times, HasOwnFiles, StateIsSound, emptied}
 use Rattle.store_model.proofs.Numbers.{times_not, named, not_among, passes, times_pair, below_or_not}
 use Rattle.store_model.proofs.KeepsFiles as files
 use Rattle.store_model.proofs.KeepsNumbers as numbers
 use Rattle.store_model.proofs.KeepsJoining as joining
 
-pub step_keeps : (before faults : ℕ) (m m' : Machine) (e : Event) (r : Reply) → IsSound m.state → Step before faults m e r m' → IsSound m'.state
+pub step_keeps : (before faults : ℕ) (m m' : Machine) (e : Event) (r : Reply) → StateIsSound m.state → Step before faults m e r m' → StateIsSound m'.state
 step_keeps before faults m m' e r is step = record {
   files = files.step_keeps before faults m m' e r is.files step;
   numbers = numbers.step_keeps before faults m m' e r is.numbers step;
@@ -38,7 +38,7 @@ low_of_two f n (inl l) h =
     absurd (omega (arith, h, times_pair f n (n + 1), times_not f n (inr l), times_not f (n + 1) (inr (omega arith))))
 low_of_two f n (inr l) h = l
 
-pub never_pinned : (u : State) (e : Event) (f : ℕ) → IsSound u → is_among f (emptied e u) ≡ true → is_among f (pinned_files u.pins) ≡ false
+pub never_pinned : (u : State) (e : Event) (f : ℕ) → StateIsSound u → is_among f (emptied e u) ≡ true → is_among f (pinned_files u.pins) ≡ false
 never_pinned u BeginFlush f is h =
     pinned_below f u is.files (low_of_two f u.next_file (below_or_not f u.next_file) (named f (u.next_file ∷ (u.next_file + 1) ∷ []) h))
 never_pinned u BeginCompact f is h =

@@ -19,7 +19,7 @@ use Rattle.store_model.specs.Holds.{Hold, opened, OpenIn}
 use Rattle.store_model.specs.Holds.Hold.{OpenLook, OpenFlush, OpenCompact}
 use Rattle.store_model.specs.Told.{history_after, TellsLength}
 use Rattle.store_model.specs.Laws.{Agrees}
-use Rattle.store_model.specs.Sound.{IsSound}
+use Rattle.store_model.specs.Sound.{StateIsSound}
 use Rattle.store_model.proofs.KeepsFirsts.{look_is}
 use Rattle.store_model.proofs.Numbers.{same_number}
 use Rattle.store_model.proofs.Pins.{open-added, blocks-added}
@@ -169,7 +169,7 @@ opens_one m' n r r' hold own er en one is h =
     subst (λ q. OpenIn q hold) (sym en) (subst (OpenIn n) (only_one hold own (subst (λ hs. Contains hs hold) (ap opened er ∙ one) h)) is)
 
 -- a free number isn't that of the open compaction's pin
-free_apart : (pin : ℕ) (u : State) (o : Option Compaction) → u.compaction ≡ o → IsSound u → IsFreeNumber pin u.pins → is_among pin (compaction_pins o) ≡ false
+free_apart : (pin : ℕ) (u : State) (o : Option Compaction) → u.compaction ≡ o → StateIsSound u → IsFreeNumber pin u.pins → is_among pin (compaction_pins o) ≡ false
 free_apart pin u None e is free = refl
 free_apart pin u (Some job) e is free = elim (job.pin == pin) as (λ t. (job.pin == pin) ≡ t → (t || false) ≡ false) [
   | true ↦ λ s. let both : true ≡ false = sym (is.joining job e).is_open ∙ ap (λ q. is_among q (pin_numbers u.pins)) (same_number job.pin pin s) ∙ free.is_free in cc
@@ -186,7 +186,7 @@ whole h = ap (λ bs. record { base = h.base; start = h.start; entries = bs }) (a
     same : (a b : ℕ) → a + b - a ≡ b
     same a b = omega arith
 
-opens_look : (m : Machine) (pin : ℕ) (rows : List Row) → Agrees m → IsSound m.state → IsFreeNumber pin m.state.pins →
+opens_look : (m : Machine) (pin : ℕ) (rows : List Row) → Agrees m → StateIsSound m.state → IsFreeNumber pin m.state.pins →
     ((k : Key) → first_at k (rows ++ block_rows m.state.blocks) ≡ first_at k (history_rows m.history)) →
     OpenIn (with_state (after_look pin m.state) m) (OpenLook pin (block_files m.state.blocks) (count_of m.history) rows)
 opens_look m pin rows is sound free firsts = record {
@@ -202,7 +202,7 @@ opens_look m pin rows is sound free firsts = record {
     its : pinned_blocks pin (m.state.pins ++ new ∷ []) ≡ m.state.blocks
     its = blocks-added m.state.pins new free.is_free
 
-happens_opens : (m m' : Machine) (e : Event) (r : Reply) (hold : Hold) → Agrees m → IsSound m.state → Happens m e r m' → Contains (opened r) hold → OpenIn m' hold
+happens_opens : (m m' : Machine) (e : Event) (r : Reply) (hold : Hold) → Agrees m → StateIsSound m.state → Happens m e r m' → Contains (opened r) hold → OpenIn m' hold
 happens_opens m m' (Push spans moment) r hold is sound d h = opens_nothing r _ hold (OpenIn m' hold) d.0 refl h
 happens_opens m m' (Cut moment) r hold is sound d h = opens_nothing r _ hold (OpenIn m' hold) d.2 refl h
 happens_opens m m' CutAll r hold is sound d h = opens_nothing r _ hold (OpenIn m' hold) d.2 refl h
@@ -234,7 +234,7 @@ happens_opens m m' (ReadPage pin block page) r hold is sound d h = opens_nothing
 happens_opens m m' (Done pin) r hold is sound d h = opens_nothing r _ hold (OpenIn m' hold) d.1 refl h
 happens_opens m m' Reclaim r hold is sound d h = opens_nothing r _ hold (OpenIn m' hold) d.0 refl h
 
-pub step_opens : (before faults : ℕ) (m m' : Machine) (e : Event) (r : Reply) (hold : Hold) → Agrees m → IsSound m.state →
+pub step_opens : (before faults : ℕ) (m m' : Machine) (e : Event) (r : Reply) (hold : Hold) → Agrees m → StateIsSound m.state →
     Step before faults m e r m' → Contains (opened r) hold → OpenIn m' hold
 step_opens before faults m m' e r hold is sound step h =
     split before faults m m' e r (OpenIn m' hold) step (λ plain _. plain_opens r hold (OpenIn m' hold) plain h) (λ d. happens_opens m m' e r hold is sound d h)

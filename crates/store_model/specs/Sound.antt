@@ -41,7 +41,7 @@ pub record IsJoining (job : Compaction) (u : State) : Type 0 where
   pub is_open : is_among job.pin (pin_numbers u.pins) ≡ true
   pub listed : in_files (job_files job u) u.blocks ≡ pinned_blocks job.pin u.pins
 
-pub record IsSound (u : State) : Type 0 where
+pub record StateIsSound (u : State) : Type 0 where
   pub files : HasOwnFiles u
   pub numbers : HasOwnNumbers u
   pub joining : (job : Compaction) → u.compaction ≡ Some job → IsJoining job u

@@ -15,7 +15,7 @@ ghost use Rattle.std.specs.List.{Contains};
 ghost use Rattle.store_model.specs.Holds.{Hold, OpenIn, ends, opened};
 ghost use Rattle.store_model.specs.Told.{history_after, TellsLength, AreCounted, SizeFits, IsAboveFloor};
 ghost use Rattle.store_model.specs.Laws.{Agrees};
-ghost use Rattle.store_model.specs.Sound.{IsSound, emptied};
+ghost use Rattle.store_model.specs.Sound.{StateIsSound, emptied};
 
 /// A push adds its rows behind those of the history.
 pub fn history_grows()
@@ -44,12 +44,12 @@ pub fn look_is_the_history()
 /// Each step keeps files, pins and jobs apart.
 pub fn step_keeps_sound()
     ensures { (before faults : ℕ) (m m' : Machine) (e : Event) (r : Reply) →
-        IsSound m.state → Step before faults m e r m' → IsSound m'.state }
+        StateIsSound m.state → Step before faults m e r m' → StateIsSound m'.state }
 {}
 
 /// No event empties a file that an open pin names.
 pub fn pinned_files_are_not_emptied()
-    ensures { (u : State) (e : Event) (file : ℕ) → IsSound u → is_among file (emptied e u) ≡ true →
+    ensures { (u : State) (e : Event) (file : ℕ) → StateIsSound u → is_among file (emptied e u) ≡ true →
         is_among file (pinned_files u.pins) ≡ false }
 {}
 
@@ -70,7 +70,7 @@ pub fn step_tells_the_history()
 /// What a reply gives is open after it.
 pub fn step_opens_what_it_gives()
     ensures { (before faults : ℕ) (m m' : Machine) (e : Event) (r : Reply) (hold : Hold) → Agrees m →
-        IsSound m.state → Step before faults m e r m' → Contains (opened r) hold → OpenIn m' hold }
+        StateIsSound m.state → Step before faults m e r m' → Contains (opened r) hold → OpenIn m' hold }
 {}
 
 /// Each step keeps blocks counted, where a commit counts the rows of its block.
