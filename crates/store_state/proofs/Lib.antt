@@ -1,2 +1,5 @@
 pub mod LearnLaws
 pub mod HoldLaws
+pub mod CallLaws
+pub mod Choosing
+pub mod Listings

@@ -3,3 +3,7 @@ pub mod Given
 pub mod Replies
 pub mod Written
 pub mod Loose
+pub mod Listed
+pub mod Pairing
+pub mod Parted
+pub mod Cores

@@ -1,6 +1,7 @@
 -- The files of jobs that stay open.
-use Rattle.std.specs.Prelude.{ℕ, List, [], ◌∷◌, Option, None, Some}
-use Rattle.store_state.specs.declared.loose.FlushFiles.{FlushFiles}
+use Rattle.std.specs.Prelude.{◌≡◌, ℕ, List, [], ◌∷◌, Option, None, Some}
+use Rattle.store_model.specs.State.{Flush}
+use Rattle.store_state.specs.declared.listing.FlushFiles.{FlushFiles}
 
 abbrev pub flush_part : Option FlushFiles → List ℕ
 flush_part None = []
@@ -9,3 +10,8 @@ flush_part (Some files) = files.block ∷ files.segment ∷ []
 abbrev pub compaction_part : Option ℕ → List ℕ
 compaction_part None = []
 compaction_part (Some file) = file ∷ []
+
+-- the files of an open flush
+pub record AreFilesOf (files : FlushFiles) (job : Flush) : Type 0 where
+  pub block : files.block ≡ job.file
+  pub segment : files.segment ≡ job.segment

@@ -9,6 +9,7 @@ use Rattle.store_model.specs.Event.{Event, Reply}
 use Rattle.store_model.specs.Event.Event.{Push, WritePiece, ReadPage}
 use Rattle.store_model.specs.Event.Reply.{Count, Fine, Looked, Refused}
 use Rattle.store_model.specs.Event.Refusal.{Fault}
+use Rattle.store_state.specs.Written.{BlockRelation}
 use Rattle.store_model.specs.Holds.{Hold, ends, holds_after, files_of, own_files}
 
 -- what a port knows: a history, and its own open looks and jobs
@@ -22,6 +23,8 @@ pub record Meaning (P : Type 0) : Type 1 where
   -- whether contracts speak of bytes, and then the bytes of a file
   pub tells : P → Bool
   pub shows : P → ℕ → List ℕ
+  -- what it means that bytes are a block of rows
+  pub block_holds : BlockRelation
   -- how often a device call failed, and how many pages were read
   pub faults : P → ℕ
   pub reads : P → ℕ

@@ -1,6 +1,10 @@
 //! What a step of the machine is to a port that shows it.
 
-ghost use Rattle.std.specs.Prelude.{ℕ};
+ghost use Rattle.std.specs.Prelude.{◌≡◌, ◌++◌, ℕ};
+ghost use Rattle.store_model.specs.State.{State, live_rows};
+ghost use Rattle.store_model.specs.After.{floor_after};
+ghost use Rattle.live_traces.specs.Parts.{least_number};
+ghost use Rattle.store_state.specs.Listed.{floor_from};
 ghost use Rattle.store_model.specs.Event.{Event, Reply};
 ghost use Rattle.store_model.specs.Step.{Machine, Step};
 ghost use Rattle.store_state.specs.Meaning.{Learns};
@@ -9,4 +13,11 @@ ghost use Rattle.store_state.specs.Meaning.{Learns};
 pub fn a_step_tells_what_is_learnt()
     ensures { (before faults : ℕ) (m m' : Machine) (e : Event) (r : Reply) → Step before faults m e r m' →
         Learns e r m.history m'.history }
+{}
+
+/// The floor that a flush's commit sets is the least number of a push of which a row waits in the head or live, and the
+/// history's length where none does.
+pub fn the_floor_is_the_least_that_waits()
+    ensures { (count : ℕ) (u : State) →
+        floor_after count u ≡ floor_from count (least_number (u.head ++ live_rows u.live)) }
 {}

@@ -4,14 +4,18 @@
 //! it.
 #![tactic(auto)]
 
+mod choice;
 mod errors;
 mod jobs;
 mod laws;
-mod loose;
+mod listing;
+mod parts;
 mod port;
+mod room;
 
+pub use choice::choose;
 pub use errors::{BeginError, PushError, ReclaimError, WriteError};
 pub use jobs::{CompactJob, FlushJob, JobFile, Look, Pin};
-pub use laws::a_step_tells_what_is_learnt;
-pub use loose::{FlushFiles, listed_loose};
+pub use laws::{a_step_tells_what_is_learnt, the_floor_is_the_least_that_waits};
+pub use listing::{FlushFiles, Listing, commit_compact, commit_flush, list_body};
 pub use port::Port;

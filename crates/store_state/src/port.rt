@@ -6,7 +6,7 @@ ghost use Rattle.store_model.specs.Event.Reply.{Count, Fine};
 ghost use Rattle.store_state.specs.Meaning.{Meaning, Called, IsOpen};
 ghost use Rattle.store_state.specs.Given.{look_of, flush_of, compact_of, IsJobOf, IsPinOf};
 ghost use Rattle.store_state.specs.Replies.{push_reply, count_reply, begin_flush_reply, begin_compact_reply, write_reply, look_reply, page_reply, reclaim_reply};
-ghost use Rattle.store_state.specs.Written.{IsInfoOf, page_of};
+ghost use Rattle.store_state.specs.Written.{IsBlockOf, IsJoinedBlock, page_of};
 
 use crate::{
     BeginError, CompactJob, FlushJob, JobFile, Look, Pin, PushError, ReclaimError, WriteError,
@@ -63,14 +63,16 @@ pub trait Port {
     fn commit_flush(&mut self, job: FlushJob, info: SharedInfo) -> Result<(), WriteError>
         requires open { IsOpen meaning self.now (flush_of job) }
         requires size { (1 ≤ info.rows) × (info.rows ≤ 1048576) }
-        requires block { IsTrue (meaning.tells self.now) → IsInfoOf job.out.file 0 info job.rows }
+        requires block { IsTrue (meaning.tells self.now) →
+            IsBlockOf meaning.block_holds (meaning.shows self.now job.out.file) job.out.file 0 info job.rows }
         ensures { Called meaning self.old (CommitFlush job.out.number info.rows) (write_reply result) self.new };
 
     /// Lists a compaction's block, which its file holds, in the place of those that it joins. The job is spent, refused or not.
     fn commit_compact(&mut self, job: CompactJob, info: SharedInfo) -> Result<(), WriteError>
         requires open { IsOpen meaning self.now (compact_of job) }
         requires size { (1 ≤ info.rows) × (info.rows ≤ 1048576) }
-        requires block { IsTrue (meaning.tells self.now) → (info.file ≡ job.out.file) × (info.level ≡ job.level) }
+        requires block { IsTrue (meaning.tells self.now) → IsJoinedBlock
+            meaning.block_holds (meaning.shows self.now) job.out.file job.level info job.pin.blocks }
         ensures { Called meaning self.old (CommitCompact job.out.number info.rows) (write_reply result) self.new };
 
     /// Gives a flush up: its rows go back to the head's front, and its files become loose.

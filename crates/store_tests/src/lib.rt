@@ -3,3 +3,5 @@
 
 #[cfg(test)]
 mod live;
+#[cfg(test)]
+mod upkeep;

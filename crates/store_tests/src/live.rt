@@ -26,7 +26,7 @@ const TWO: Key = Key {
     span: SpanId([2; 8]),
 };
 
-const SECOND: u64 = 1_000_000_000;
+pub(crate) const SECOND: u64 = 1_000_000_000;
 
 fn text(alloc: Global) -> Result<Text, Memory> {
     Ok(Text::of(String::from_str(alloc, "")?))
@@ -62,7 +62,7 @@ fn span(alloc: Global, key: Key) -> Result<Span, Memory>
 }
 
 // A batch of the latter trace's span and a span of the former trace.
-fn both(alloc: Global) -> Result<Batch, Memory> {
+pub(crate) fn both(alloc: Global) -> Result<Batch, Memory> {
     let latter = span(alloc, LATTER)?;
     let former = span(alloc, ONE)?;
     let spans = Vec::from_array(alloc, [latter, former])?;
@@ -72,7 +72,7 @@ fn both(alloc: Global) -> Result<Batch, Memory> {
 }
 
 // A batch of another span of the former trace.
-fn another(alloc: Global) -> Result<Batch, Memory> {
+pub(crate) fn another(alloc: Global) -> Result<Batch, Memory> {
     let former = span(alloc, TWO)?;
     let spans = Vec::from_array(alloc, [former])?;
     Ok(Batch {
@@ -80,7 +80,7 @@ fn another(alloc: Global) -> Result<Batch, Memory> {
     })
 }
 
-fn push(live: &mut Live, number: u64, batch: Batch, moment: u64) -> Result<(), Memory>
+pub(crate) fn push(live: &mut Live, number: u64, batch: Batch, moment: u64) -> Result<(), Memory>
     ensures { (live.old.flushing ≡ []) → live.new.flushing ≡ [] }
 {
     match live.reserve(number, batch) {
@@ -92,7 +92,7 @@ fn push(live: &mut Live, number: u64, batch: Batch, moment: u64) -> Result<(), M
     }
 }
 
-fn are_at(rows: &Rows, places: &[(u64, u32)]) -> bool {
+pub(crate) fn are_at(rows: &Rows, places: &[(u64, u32)]) -> bool {
     let mut same = rows.len() == places.len();
     for (row, place) in rows.as_slice().iter().zip(places) {
         same &= row.place.number == place.0 && row.place.position == place.1;

@@ -1,0 +1,205 @@
+-- What a listing becomes.
+use Rattle.std.proofs.Common.{rules, ◌≡◌, ℕ, append_assoc, ◌+◌, ◌<◌, ◌≤◌, min, nat_le, zero, suc, List, [], ◌∷◌, ◌++◌, Bool, true, false, not, Option, None, Some, refl, sym, ◌∙◌, ap, subst, arith, length, map, filter, take, drop, if◌then◌else◌}
+use Rattle.span_types.specs.declared.spans.Row.{Row}
+use Rattle.block_list.specs.declared.body.BlockRef.{BlockRef}
+use Rattle.block_list.specs.declared.body.SegmentRef.{SegmentRef}
+use Rattle.store_model.specs.State.{State, Block, Segment, Flush, Compaction, block_files, is_among, live_rows, flush_files, compaction_files, listed_loose}
+use Rattle.store_model.specs.Choice.{in_files, outside_files}
+use Rattle.store_model.specs.After.{floor_after, least, released, staying, with_segment, job_files, after_commit_flush, after_commit_compact, after_drop_flush, after_drop_compact}
+use Rattle.live_traces.specs.Parts.{least_number, least_with}
+use Rattle.store_state.specs.Listed.{IsListingOf, floor_from, ref_of, segment_of}
+use Rattle.store_state.specs.Loose.{AreFilesOf}
+use Rattle.store_state.specs.declared.listing.Listing.{Listing}
+use Rattle.store_state.specs.declared.listing.FlushFiles.{FlushFiles}
+use Rattle.store_state.specs.Parted.{inside, outside}
+
+pub map_append : {X Y : Type 0} (f : X → Y) (xs ys : List X) → map f (xs ++ ys) ≡ map f xs ++ map f ys
+map_append f [] ys = refl
+map_append f (x ∷ xs) ys = ap (λ zs. f x ∷ zs) (map_append f xs ys)
+
+-- ---- the floor
+
+found_least : (count n : ℕ) (rows : List Row) → floor_from count (least_with (Some n) rows) ≡ min n (least count rows)
+found_least count n [] = refl
+found_least count n (row ∷ rows) = found_least count (min n row.place.number) rows ∙ regroup n row.place.number (least count rows)
+  where
+    regroup : (a b c : ℕ) → min (min a b) c ≡ min a (min b c)
+    regroup a b c = omega arith
+
+pub least_is : (count : ℕ) (rows : List Row) → floor_from count (least_number rows) ≡ least count rows
+least_is count [] = refl
+least_is count (row ∷ rows) = found_least count row.place.number rows
+
+pub floor_is : (count : ℕ) (u : State) (found : Option ℕ) → found ≡ least_number (u.head ++ live_rows u.live) → floor_after count u ≡ floor_from count found
+floor_is count u found e = sym (least_is count (u.head ++ live_rows u.live)) ∙ ap (floor_from count) (sym e)
+
+-- ---- segments
+
+le_test : (a b : ℕ) → a ≤ b → nat_le a b ≡ true
+le_test a b h = search rules
+
+lt_test : (a b : ℕ) → b < a → nat_le a b ≡ false
+lt_test a b h = search rules
+
+-- a segment whose follower begins at or below the floor goes, and another one stays
+pub goes_staying : (floor : ℕ) (a b : SegmentRef) (rest : List SegmentRef) → b.first ≤ floor →
+    staying floor (map segment_of (b ∷ rest)) ≡ staying floor (map segment_of (a ∷ b ∷ rest))
+goes_staying floor a b rest h =
+    ap (λ t. if t then staying floor (map segment_of (b ∷ rest)) else segment_of a ∷ staying floor (map segment_of (b ∷ rest))) (sym (le_test b.first floor h))
+
+pub goes_released : (floor : ℕ) (a b : SegmentRef) (rest : List SegmentRef) → b.first ≤ floor →
+    a.file ∷ released floor (map segment_of (b ∷ rest)) ≡ released floor (map segment_of (a ∷ b ∷ rest))
+goes_released floor a b rest h =
+    ap (λ t. if t then a.file ∷ released floor (map segment_of (b ∷ rest)) else released floor (map segment_of (b ∷ rest))) (sym (le_test b.first floor h))
+
+pub stays_staying : (floor : ℕ) (a b : SegmentRef) (rest : List SegmentRef) → floor < b.first →
+    segment_of a ∷ staying floor (map segment_of (b ∷ rest)) ≡ staying floor (map segment_of (a ∷ b ∷ rest))
+stays_staying floor a b rest h =
+    ap (λ t. if t then staying floor (map segment_of (b ∷ rest)) else segment_of a ∷ staying floor (map segment_of (b ∷ rest))) (sym (lt_test b.first floor h))
+
+pub stays_released : (floor : ℕ) (a b : SegmentRef) (rest : List SegmentRef) → floor < b.first →
+    released floor (map segment_of (b ∷ rest)) ≡ released floor (map segment_of (a ∷ b ∷ rest))
+stays_released floor a b rest h =
+    ap (λ t. if t then a.file ∷ released floor (map segment_of (b ∷ rest)) else released floor (map segment_of (b ∷ rest))) (sym (lt_test b.first floor h))
+
+pub one_kept : (floor : ℕ) (kept : List SegmentRef) (a b : SegmentRef) (rest : List SegmentRef) → floor < b.first →
+    map segment_of (kept ++ a ∷ []) ++ staying floor (map segment_of (b ∷ rest)) ≡ map segment_of kept ++ staying floor (map segment_of (a ∷ b ∷ rest))
+one_kept floor kept a b rest h =
+    ap (λ xs. xs ++ staying floor (map segment_of (b ∷ rest))) (map_append segment_of kept (a ∷ []))
+    ∙ append_assoc (map segment_of kept) (segment_of a ∷ []) (staying floor (map segment_of (b ∷ rest)))
+    ∙ ap (λ xs. map segment_of kept ++ xs) (stays_staying floor a b rest h)
+
+pub one_released : (floor : ℕ) (loose : List ℕ) (a b : SegmentRef) (rest : List SegmentRef) → b.first ≤ floor →
+    (loose ++ a.file ∷ []) ++ released floor (map segment_of (b ∷ rest)) ≡ loose ++ released floor (map segment_of (a ∷ b ∷ rest))
+one_released floor loose a b rest h =
+    append_assoc loose (a.file ∷ []) (released floor (map segment_of (b ∷ rest))) ∙ ap (λ xs. loose ++ xs) (goes_released floor a b rest h)
+
+-- ---- blocks
+
+pub blocks_outside : (files : List ℕ) (blocks : List Block) → map ref_of (outside_files files blocks) ≡ outside files (map ref_of blocks)
+blocks_outside files [] = refl
+blocks_outside files (b ∷ bs) = by_test (is_among b.file files) (blocks_outside files bs)
+  where
+    by_test : (t : Bool) → map ref_of (outside_files files bs) ≡ outside files (map ref_of bs) →
+        map ref_of (if not t then b ∷ outside_files files bs else outside_files files bs) ≡ (if not t then ref_of b ∷ outside files (map ref_of bs) else outside files (map ref_of bs))
+    by_test true h = h
+    by_test false h = ap (λ xs. ref_of b ∷ xs) h
+
+pub files_inside : (files : List ℕ) (blocks : List Block) → block_files (in_files files blocks) ≡ inside files (map ref_of blocks)
+files_inside files [] = refl
+files_inside files (b ∷ bs) = by_test (is_among b.file files) (files_inside files bs)
+  where
+    by_test : (t : Bool) → block_files (in_files files bs) ≡ inside files (map ref_of bs) →
+        block_files (if t then b ∷ in_files files bs else in_files files bs)
+        ≡ map (λ (r : BlockRef). r.file) (if t then ref_of b ∷ filter (λ (r : BlockRef). is_among r.file files) (map ref_of bs) else filter (λ (r : BlockRef). is_among r.file files) (map ref_of bs))
+    by_test true h = ap (λ xs. b.file ∷ xs) h
+    by_test false h = h
+
+pub outside-append : (files : List ℕ) (xs ys : List BlockRef) → outside files (xs ++ ys) ≡ outside files xs ++ outside files ys
+outside-append files [] ys = refl
+outside-append files (x ∷ xs) ys = by_test (is_among x.file files) (outside-append files xs ys)
+  where
+    by_test : (t : Bool) → outside files (xs ++ ys) ≡ outside files xs ++ outside files ys →
+        (if not t then x ∷ outside files (xs ++ ys) else outside files (xs ++ ys)) ≡ (if not t then x ∷ outside files xs else outside files xs) ++ outside files ys
+    by_test true h = h
+    by_test false h = ap (λ zs. x ∷ zs) h
+
+pub inside-append : (files : List ℕ) (xs ys : List BlockRef) → inside files (xs ++ ys) ≡ inside files xs ++ inside files ys
+inside-append files [] ys = refl
+inside-append files (x ∷ xs) ys = by_test (is_among x.file files) (inside-append files xs ys)
+  where
+    by_test : (t : Bool) → inside files (xs ++ ys) ≡ inside files xs ++ inside files ys →
+        map (λ (r : BlockRef). r.file) (if t then x ∷ filter (λ (r : BlockRef). is_among r.file files) (xs ++ ys) else filter (λ (r : BlockRef). is_among r.file files) (xs ++ ys))
+        ≡ map (λ (r : BlockRef). r.file) (if t then x ∷ filter (λ (r : BlockRef). is_among r.file files) xs else filter (λ (r : BlockRef). is_among r.file files) xs) ++ inside files ys
+    by_test true h = ap (λ zs. x.file ∷ zs) h
+    by_test false h = h
+
+-- ---- what an event makes of a listing
+
+-- all but the loose files is the same
+pub record IsBeside (new old : Listing) : Type 0 where
+  pub blocks : new.blocks.items ≡ old.blocks.items
+  pub segments : new.segments.items ≡ old.segments.items
+  pub floor : new.floor ≡ old.floor
+  pub next_file : new.next_file ≡ old.next_file
+
+pub flush_listing : (count rows : ℕ) (found : Option ℕ) (files : FlushFiles) (now next : Listing) (u : State) (job : Flush) (firsts : List Row) →
+    IsListingOf now u → AreFilesOf files job → found ≡ least_number (u.head ++ live_rows u.live) →
+    next.blocks.items ≡ now.blocks.items ++ record { file = files.block; level = 0; rows = rows } ∷ [] →
+    map segment_of next.segments.items ≡ staying (floor_from count found) (map segment_of (now.segments.items ++ record { file = files.segment; first = count } ∷ [])) →
+    next.floor ≡ floor_from count found →
+    next.loose.items ≡ now.loose.items ++ released (floor_from count found) (map segment_of (now.segments.items ++ record { file = files.segment; first = count } ∷ [])) →
+    next.next_file ≡ now.next_file → IsListingOf next (after_commit_flush count job rows firsts u)
+flush_listing count rows found files now next u job firsts is own least blocks segments floor loose next_file = record {
+  blocks = map_append ref_of u.blocks (new ∷ []) ∙ ap (λ xs. xs ++ ref_of new ∷ []) is.blocks
+      ∙ ap (λ f. now.blocks.items ++ record { file = f; level = 0; rows = rows } ∷ []) (sym own.block) ∙ sym blocks;
+  segments = ap (λ f. staying f (with_segment count job u)) at ∙ ap (staying (floor_from count found)) all ∙ sym segments;
+  floor = at ∙ sym floor;
+  loose = ap (λ xs. xs ++ released (floor_after count u) (with_segment count job u)) is.loose
+      ∙ ap (λ f. now.loose.items ++ released f (with_segment count job u)) at
+      ∙ ap (λ xs. now.loose.items ++ released (floor_from count found) xs) all ∙ sym loose;
+  next_file = is.next_file ∙ sym next_file;
+}
+  where
+    new : Block
+    new = record { file = job.file; level = 0; size = rows; rows = firsts }
+
+    at : floor_after count u ≡ floor_from count found
+    at = floor_is count u found least
+
+    all : with_segment count job u ≡ map segment_of (now.segments.items ++ record { file = files.segment; first = count } ∷ [])
+    all = ap (λ xs. xs ++ record { file = job.segment; first = count } ∷ []) is.segments
+        ∙ ap (λ f. map segment_of now.segments.items ++ record { file = f; first = count } ∷ []) (sym own.segment)
+        ∙ sym (map_append segment_of now.segments.items (record { file = files.segment; first = count } ∷ []))
+
+pub compact_listing : (block : BlockRef) (joined : List ℕ) (now next : Listing) (u : State) (job : Compaction) (firsts : List Row) →
+    IsListingOf now u → job.file ≡ block.file → job.level ≡ block.level → job_files job u ≡ joined →
+    next.blocks.items ≡ outside joined now.blocks.items ++ block ∷ [] → next.segments.items ≡ now.segments.items → next.floor ≡ now.floor →
+    next.loose.items ≡ now.loose.items ++ inside joined now.blocks.items → next.next_file ≡ now.next_file →
+    IsListingOf next (after_commit_compact job block.rows firsts u)
+compact_listing block joined now next u job firsts is file level mine blocks segments floor loose next_file = record {
+  blocks = map_append ref_of (outside_files (job_files job u) u.blocks) (new ∷ [])
+      ∙ ap (λ xs. xs ++ ref_of new ∷ []) (blocks_outside (job_files job u) u.blocks)
+      ∙ ap (λ fs. outside fs (map ref_of u.blocks) ++ ref_of new ∷ []) mine
+      ∙ ap (λ bs. outside joined bs ++ ref_of new ∷ []) is.blocks
+      ∙ ap (λ b. outside joined now.blocks.items ++ b ∷ []) same ∙ sym blocks;
+  segments = is.segments ∙ ap (map segment_of) (sym segments);
+  floor = is.floor ∙ sym floor;
+  loose = ap (λ xs. xs ++ block_files (in_files (job_files job u) u.blocks)) is.loose
+      ∙ ap (λ xs. now.loose.items ++ xs) (files_inside (job_files job u) u.blocks ∙ ap (λ fs. inside fs (map ref_of u.blocks)) mine ∙ ap (inside joined) is.blocks)
+      ∙ sym loose;
+  next_file = is.next_file ∙ sym next_file;
+}
+  where
+    new : Block
+    new = record { file = job.file; level = job.level; size = block.rows; rows = firsts }
+
+    same : ref_of (record { file = job.file; level = job.level; size = block.rows; rows = firsts }) ≡ block
+    same = ap (λ f. record { file = f; level = job.level; rows = block.rows }) file ∙ ap (λ l. record { file = block.file; level = l; rows = block.rows }) level
+
+pub drop_flush_listing : (files : FlushFiles) (old new : Listing) (u : State) (job : Flush) → IsListingOf old u → AreFilesOf files job → IsBeside new old →
+    new.loose.items ≡ (old.loose.items ++ files.block ∷ []) ++ files.segment ∷ [] → IsListingOf new (after_drop_flush job u)
+drop_flush_listing files old new u job is own same loose = record {
+  blocks = is.blocks ∙ sym same.blocks;
+  segments = is.segments ∙ ap (map segment_of) (sym same.segments);
+  floor = is.floor ∙ sym same.floor;
+  loose = ap (λ xs. xs ++ job.file ∷ job.segment ∷ []) is.loose
+      ∙ ap (λ f. old.loose.items ++ f ∷ job.segment ∷ []) (sym own.block) ∙ ap (λ f. old.loose.items ++ files.block ∷ f ∷ []) (sym own.segment)
+      ∙ sym (append_assoc old.loose.items (files.block ∷ []) (files.segment ∷ [])) ∙ sym loose;
+  next_file = is.next_file ∙ sym same.next_file;
+}
+
+pub drop_compact_listing : (file : ℕ) (old new : Listing) (u : State) (job : Compaction) → IsListingOf old u → job.file ≡ file → IsBeside new old →
+    new.loose.items ≡ old.loose.items ++ file ∷ [] → IsListingOf new (after_drop_compact job u)
+drop_compact_listing file old new u job is own same loose = record {
+  blocks = is.blocks ∙ sym same.blocks;
+  segments = is.segments ∙ ap (map segment_of) (sym same.segments);
+  floor = is.floor ∙ sym same.floor;
+  loose = ap (λ xs. xs ++ job.file ∷ []) is.loose ∙ ap (λ f. old.loose.items ++ f ∷ []) own ∙ sym loose;
+  next_file = is.next_file ∙ sym same.next_file;
+}
+
+pub listed_as_loose : (listing : Listing) (u : State) (flush compaction : List ℕ) → IsListingOf listing u → flush ≡ flush_files u.flush → compaction ≡ compaction_files u.compaction →
+    (listing.loose.items ++ flush) ++ compaction ≡ listed_loose u
+listed_as_loose listing u flush compaction is f g =
+    ap (λ xs. (xs ++ flush) ++ compaction) (sym is.loose) ∙ ap (λ xs. (u.loose ++ xs) ++ compaction) f ∙ ap (λ xs. (u.loose ++ flush_files u.flush) ++ xs) g

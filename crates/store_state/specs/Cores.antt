@@ -1,0 +1,61 @@
+-- A port behind which one machine stands, as a core has it.
+use Rattle.std.specs.Prelude.{◌≡◌, ℕ, ◌+◌, ◌≤◌, List, [], Bool, true, false, IsTrue}
+use Rattle.std.specs.List.{Contains}
+use Rattle.span_types.specs.Faults.{Rose}
+use Rattle.store_model.specs.State.{is_among}
+use Rattle.store_model.specs.Event.{Event, Reply}
+use Rattle.store_model.specs.Event.Reply.{Refused}
+use Rattle.store_model.specs.Event.Refusal.{Fault}
+use Rattle.store_model.specs.Step.{Machine, Step}
+use Rattle.store_model.specs.Laws.{Agrees}
+use Rattle.store_model.specs.Sound.{StateIsSound}
+use Rattle.store_model.specs.Holds.{Hold, OpenIn, ends, files_of, own_files}
+use Rattle.store_state.specs.Written.{BlockRelation}
+use Rattle.store_state.specs.Meaning.{View, Meaning, Rewritten, reads_of}
+
+-- Which machines a core stands for, and what it shows besides.
+pub record CoreMeaning (P : Type 0) : Type 1 where
+  pub stands_for : P → Machine → Type 0
+  pub tells : P → Bool
+  pub shows : P → ℕ → List ℕ
+  pub block_holds : BlockRelation
+  pub faults : P → ℕ
+  pub reads : P → ℕ
+
+-- A core knows the history of a sound machine that it stands for, and holds what is open in it.
+pub record CoreKnows {P : Type 0} (core : CoreMeaning P) (port : P) (v : View) : Type 0 where
+  pub machine : Machine
+  pub stands : core.stands_for port machine
+  pub agrees : Agrees machine
+  pub sound : StateIsSound machine.state
+  pub history : machine.history ≡ v.history
+  pub open_holds : (hold : Hold) → Contains v.holds hold → OpenIn machine hold
+
+-- The event is a step of each machine that the core stands for.
+abbrev pub CoreDid : {P : Type 0} → CoreMeaning P → P → Event → Reply → P → Type 0
+CoreDid core old event reply new = (m : Machine) → core.stands_for old m →
+    (m' : Machine) × core.stands_for new m' × Step (core.faults old) (core.faults new) m event reply m'
+
+abbrev pub meaning_of : {P : Type 0} → CoreMeaning P → Meaning P
+meaning_of {P} core = record {
+  knows = CoreKnows core;
+  tells = core.tells;
+  shows = core.shows;
+  block_holds = core.block_holds;
+  faults = core.faults;
+  reads = core.reads;
+  did = CoreDid core;
+}
+
+-- What a core shows of one event.
+pub record CoreSteps {P : Type 0} (core : CoreMeaning P) (old : P) (event : Event) (reply : Reply) (new : P) : Type 0 where
+  pub did : CoreDid core old event reply new
+  pub telling : core.tells new ≡ core.tells old
+  pub bytes : IsTrue (core.tells old) → (m : Machine) → core.stands_for old m → (hold : Hold) → OpenIn m hold →
+      ends event reply hold ≡ false → (file : ℕ) → is_among file (files_of hold) ≡ true
+      → Rewritten event reply file (core.shows old file) (core.shows new file)
+  pub empty : IsTrue (core.tells old) → (file : ℕ) → is_among file (own_files reply) ≡ true → core.shows new file ≡ []
+  pub later : core.faults old ≤ core.faults new
+  pub cause : reply ≡ Refused Fault → Rose (core.faults old) (core.faults new)
+  pub reads_rise : core.reads old ≤ core.reads new
+  pub reads_bound : core.reads new ≤ core.reads old + reads_of event

@@ -1,0 +1,237 @@
+//! What a store's list names, and what flushes and compactions make of it. Nothing here takes memory but `reserve`.
+
+ghost use Rattle.std.specs.Prelude.{◌≡◌, ℕ, ◌≤◌, ◌<◌, ◌+◌, ◌++◌, List, length, IfOk};
+ghost use Rattle.std.specs.Vec.{vec_len, vec_capacity};
+ghost use Rattle.span_types.specs.declared.spans.Row.{Row};
+ghost use Rattle.store_model.specs.State.{State, Flush, Compaction, live_rows, flush_files, compaction_files, listed_loose};
+ghost use Rattle.store_model.specs.After.{after_begin_flush, after_begin_compact, after_commit_flush, after_drop_flush, after_commit_compact, after_drop_compact, job_files, taken};
+ghost use Rattle.live_traces.specs.Parts.{least_number};
+ghost use Rattle.store_state.specs.Listed.{HasRoomFor, IsListingOf, floor_from, listed_body};
+ghost use Rattle.store_state.specs.Loose.{AreFilesOf, compaction_part, flush_part};
+
+use crate::parts::{part_blocks, part_segments};
+use crate::room::{fill, put};
+use block_list::{BlockRef, ListBody, SegmentRef};
+use span_types::{Memory, Seq};
+use std::alloc::Global;
+
+// A list doesn't name more files than there are numbers for.
+const MOST_LISTED: usize = 4_294_967_296;
+
+/// The files of an open flush.
+#[derive(Clone, Copy, Debug)]
+pub struct FlushFiles {
+    /// Its block's.
+    pub block: u32,
+    /// Its new segment's.
+    pub segment: u32,
+}
+
+/// What a store's list names, but for the files of open jobs.
+#[derive(Debug, Drop)]
+pub struct Listing {
+    /// The blocks, the oldest first.
+    pub blocks: Vec<BlockRef>,
+    /// The log segments, the oldest first.
+    pub segments: Vec<SegmentRef>,
+    /// The least number of a push of which a row may wait outside of blocks.
+    pub floor: u64,
+    /// Files that are neither blocks nor segments, and not empty yet.
+    pub loose: Vec<u32>,
+    /// The next file number that is given out.
+    pub next_file: u32,
+}
+
+/// A flush's commit: `next` becomes what `now` is with the flush's block, of so many rows, at the end of the blocks and its
+/// segment at the end of the segments. `count` is the history's length, and `least` the least number in the head and live.
+pub fn commit_flush(
+    now: &Listing,
+    next: &mut Listing,
+    files: FlushFiles,
+    rows: u32,
+    count: u64,
+    least: Option<u64>,
+)
+    requires { HasRoomFor next.now now.now }
+    ensures { (u : State) (job : Flush) (firsts : List Row) → IsListingOf now.now u → AreFilesOf files job →
+        least ≡ least_number (u.head ++ live_rows u.live) →
+        IsListingOf next.new (after_commit_flush count job rows firsts u) }
+{
+    fill(&mut next.blocks, now.blocks.as_slice());
+    put(
+        &mut next.blocks,
+        BlockRef {
+            file: files.block,
+            level: 0,
+            rows,
+        },
+    );
+    fill(&mut next.loose, now.loose.as_slice());
+    let floor = floor_of(count, least);
+    next.floor = floor;
+    next.next_file = now.next_file;
+    let last = SegmentRef {
+        file: files.segment,
+        first: count,
+    };
+    part_segments(
+        now.segments.as_slice(),
+        last,
+        floor,
+        &mut next.segments,
+        &mut next.loose,
+    );
+}
+
+// The floor from the history's length and the least number that waits.
+fn floor_of(count: u64, least: Option<u64>) -> u64
+    ensures { result ≡ floor_from count least }
+{
+    match least {
+        None => count,
+        Some(number) => number.min(count),
+    }
+}
+
+/// A compaction's commit: `next` becomes what `now` is without the blocks in the job's files, which are loose then, and with its
+/// own block, of so many rows, at the end.
+pub fn commit_compact(now: &Listing, next: &mut Listing, joined: &[u32], block: BlockRef)
+    requires { HasRoomFor next.now now.now }
+    ensures { (u : State) (job : Compaction) (firsts : List Row) → IsListingOf now.now u →
+        job.file ≡ block.file → job.level ≡ block.level → job_files job u ≡ joined.now →
+        IsListingOf next.new (after_commit_compact job block.rows firsts u) }
+{
+    fill(&mut next.segments, now.segments.as_slice());
+    fill(&mut next.loose, now.loose.as_slice());
+    next.floor = now.floor;
+    next.next_file = now.next_file;
+    part_blocks(
+        now.blocks.as_slice(),
+        joined,
+        &mut next.blocks,
+        &mut next.loose,
+    );
+    put(&mut next.blocks, block);
+}
+
+/// The list that is committed. As loose it names also the files of the jobs that stay open.
+pub fn list_body(
+    listing: Listing,
+    generation: u8,
+    flush: Option<FlushFiles>,
+    compaction: Option<u32>,
+) -> ListBody
+    requires { vec_len listing.loose + 3 ≤ vec_capacity listing.loose }
+    ensures body { result ≡ listed_body generation listing flush compaction }
+    ensures loose { (u : State) → IsListingOf listing u → flush_part flush ≡ flush_files u.flush →
+        compaction_part compaction ≡ compaction_files u.compaction → result.loose ≡ listed_loose u }
+{
+    let Listing {
+        blocks,
+        segments,
+        floor,
+        loose,
+        next_file,
+    } = listing;
+    let mut loose = loose;
+    put_flush(&mut loose, flush);
+    put_compaction(&mut loose, compaction);
+    ListBody {
+        generation,
+        next_file,
+        floor,
+        segments: Seq::of(segments),
+        blocks: Seq::of(blocks),
+        loose: Seq::of(loose),
+    }
+}
+
+// Adds the files of an open flush.
+fn put_flush(loose: &mut Vec<u32>, flush: Option<FlushFiles>)
+    requires { vec_len loose.now + 2 ≤ vec_capacity loose.now }
+    ensures items { loose.new.items ≡ loose.old.items ++ flush_part flush }
+    ensures len { vec_len loose.new ≤ vec_len loose.old + 2 }
+    ensures room { vec_capacity loose.old ≤ vec_capacity loose.new }
+{
+    if let Some(files) = flush {
+        put(loose, files.block);
+        put(loose, files.segment);
+    }
+}
+
+// Adds the file of an open compaction.
+fn put_compaction(loose: &mut Vec<u32>, compaction: Option<u32>)
+    requires { vec_len loose.now + 1 ≤ vec_capacity loose.now }
+    ensures { loose.new.items ≡ loose.old.items ++ compaction_part compaction }
+{
+    if let Some(file) = compaction {
+        put(loose, file);
+    }
+}
+
+impl Listing {
+    /// An empty one, which has room for whatever an event makes of this one.
+    pub fn spare(&self, alloc: Global) -> Result<Listing, Memory>
+        ensures { IfOk result (λ spare. HasRoomFor spare self.now) }
+    {
+        let (blocks, segments) = (self.blocks.len(), self.segments.len());
+        let loose = self.loose.len();
+        if loose > MOST_LISTED || segments > MOST_LISTED || blocks > MOST_LISTED {
+            return Err(Memory);
+        }
+        let loose = Vec::with_capacity(alloc, loose + segments + blocks + 3)?;
+        let blocks = Vec::with_capacity(alloc, blocks + 1)?;
+        let segments = Vec::with_capacity(alloc, segments + 1)?;
+        Ok(Listing {
+            blocks,
+            segments,
+            floor: 0,
+            loose,
+            next_file: 0,
+        })
+    }
+
+    /// The file numbers of a flush that begins: its block's first.
+    pub fn begin_flush(&mut self) -> FlushFiles
+        requires { self.now.next_file < 4294967294 }
+        ensures { (u : State) → IsListingOf self.old u →
+            AreFilesOf result (taken u) × IsListingOf self.new (after_begin_flush u) }
+    {
+        let block = self.next_file;
+        self.next_file += 2;
+        FlushFiles {
+            block,
+            segment: block + 1,
+        }
+    }
+
+    /// The file number of a compaction that begins.
+    pub fn begin_compact(&mut self) -> u32
+        requires { self.now.next_file < 4294967294 }
+        ensures file { result ≡ self.old.next_file }
+        ensures listing { (u : State) (pin : ℕ) → IsListingOf self.old u → IsListingOf self.new (after_begin_compact pin u) }
+    {
+        let file = self.next_file;
+        self.next_file += 1;
+        file
+    }
+
+    /// A flush that is given up leaves its files loose.
+    pub fn drop_flush(&mut self, files: FlushFiles)
+        requires { vec_len self.now.loose + 2 ≤ vec_capacity self.now.loose }
+        ensures { (u : State) (job : Flush) → IsListingOf self.old u → AreFilesOf files job →
+            IsListingOf self.new (after_drop_flush job u) }
+    {
+        put(&mut self.loose, files.block);
+        put(&mut self.loose, files.segment);
+    }
+
+    /// A compaction that is given up leaves its file loose.
+    pub fn drop_compact(&mut self, file: u32)
+        requires { vec_len self.now.loose + 1 ≤ vec_capacity self.now.loose }
+        ensures { (u : State) (job : Compaction) → IsListingOf self.old u → job.file ≡ file →
+            IsListingOf self.new (after_drop_compact job u) }
+    {
+        put(&mut self.loose, file);
+    }
+}
