@@ -153,8 +153,16 @@ fn threshold<'a>(
 {
     match threshold {
         Threshold::Aggregate(other) => aggregate(context, other, members),
-        Threshold::Number { negative, value, .. } => Ok(Some(whole(signed(*negative, *value)))),
-        Threshold::Duration { negative, nanos, .. } => Ok(Some(whole(signed(*negative, *nanos)))),
+        Threshold::Number {
+            negative,
+            value,
+            ..
+        } => Ok(Some(whole(signed(*negative, *value)))),
+        Threshold::Duration {
+            negative,
+            nanos,
+            ..
+        } => Ok(Some(whole(signed(*negative, *nanos)))),
     }
 }
 

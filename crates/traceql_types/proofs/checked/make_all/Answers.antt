@@ -73,7 +73,7 @@ returns-clause-asked g c =
       old.0,
       old.1,
       called-at_end (query_tree c.args.query.now) c.in-Some.refusal old.0
-      (called-found _ (asked_patterns (query_tree c.args.query.now)) c.loop-pattern.first c.in-Some.refusal _ old.0 c.in-Some.is all old.2),
+          (called-found _ (asked_patterns (query_tree c.args.query.now)) c.loop-pattern.first c.in-Some.refusal _ old.0 c.in-Some.is all old.2),
     )
 
 pub loop-pattern-init : goal.loop-pattern-init
