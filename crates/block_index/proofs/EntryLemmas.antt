@@ -123,7 +123,7 @@ run_at ids row rows d low is =
     let first : id ≡ get_or (drop row ids) 0 id = get_or_default ids row d id low ∙ ap (λ k. get_or ids k id) (sym none) ∙ sym (get_or-drop row ids 0 id) in
     let run = run_of_first row (drop row ids) id some first in
     let whole : RunAt ids row id (prefix_len (is_same id) (drop row ids)) =
-        record { some = run.some; within = omega (arith, run.within, length-drop row ids); run = run } in
+    record { some = run.some; within = omega (arith, run.within, length-drop row ids); run = run } in
     subst (RunAt ids row id) (sym (is ∙ ap (prefix_len (is_same id)) (take_rest ids row))) whole
 
 pub next_run : (ids : List TraceId) (found new : List IndexEntry) (row : ℕ) (id : TraceId) (rows : ℕ) (all : List IndexEntry) → RunAt ids row id rows → new ≡ found ++ entry id row rows ∷ []
