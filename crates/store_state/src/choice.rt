@@ -33,12 +33,8 @@ pub fn choose(alloc: Global, blocks: &[BlockRef]) -> Result<Vec<usize>, Memory>
 
 // The choice at one level.
 fn choose_at(alloc: Global, level: u8, blocks: &[BlockRef]) -> Result<Vec<usize>, Memory>
-<<<<<<< HEAD
-    ensures { IfOk result (λ chosen. chosen.items ≡ from_pair level (pair_at level 0 blocks.now) blocks.now) }
-=======
     ensures { IfOk result (λ chosen.
         chosen.items ≡ from_pair level (pair_at level 0 blocks.now) blocks.now) }
->>>>>>> 73be55e12330dbd16da8b7fd9500c53f73aababc
 {
     match first_pair(level, blocks) {
         None => Ok(Vec::new(alloc)),
@@ -57,12 +53,8 @@ struct Pairing {
 
 // Goes on to the block before.
 fn met(pairing: Pairing, at: usize, block: &BlockRef) -> Pairing
-<<<<<<< HEAD
-    ensures known { (rest : List BlockRef) → IsPairing pairing (at + 1) rest → IsPairing result at (block.now ∷ rest) }
-=======
     ensures known { (rest : List BlockRef) →
         IsPairing pairing (at + 1) rest → IsPairing result at (block.now ∷ rest) }
->>>>>>> 73be55e12330dbd16da8b7fd9500c53f73aababc
     ensures level { result.level ≡ pairing.level }
 {
     let fits = is_partner(pairing.level, pairing.smallest, block);
@@ -127,15 +119,10 @@ impl Joining {
     // Takes the next block, where it fits.
     fn meet(&mut self, at: usize, block: &BlockRef) -> Result<(), Memory>
         ensures { OnOk result ((rest : List BlockRef) →
-<<<<<<< HEAD
-            self.new.chosen.items ++ joined_at self.new.level self.new.room self.new.left (at + 1) rest
-            ≡ self.old.chosen.items ++ joined_at self.old.level self.old.room self.old.left at (block.now ∷ rest)) }
-=======
             self.new.chosen.items
             ++ joined_at self.new.level self.new.room self.new.left (at + 1) rest
             ≡ self.old.chosen.items
             ++ joined_at self.old.level self.old.room self.old.left at (block.now ∷ rest)) }
->>>>>>> 73be55e12330dbd16da8b7fd9500c53f73aababc
     {
         if self.left == 0 || !has_room(self.level, self.room, block) {
             return Ok(());

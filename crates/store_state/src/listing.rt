@@ -53,12 +53,8 @@ pub fn commit_flush(
     least: Option<u64>,
 )
     requires { HasRoomFor next.now now.now }
-<<<<<<< HEAD
-    ensures { (u : State) (job : Flush) (firsts : List Row) → IsListingOf now.now u → AreFilesOf files job →
-=======
     ensures { (u : State) (job : Flush) (firsts : List Row) →
         IsListingOf now.now u → AreFilesOf files job →
->>>>>>> 73be55e12330dbd16da8b7fd9500c53f73aababc
         least ≡ least_number (u.head ++ live_rows u.live) →
         IsListingOf next.new (after_commit_flush count job rows firsts u) }
 {
@@ -214,12 +210,8 @@ impl Listing {
     pub fn begin_compact(&mut self) -> u32
         requires { self.now.next_file < 4294967294 }
         ensures file { result ≡ self.old.next_file }
-<<<<<<< HEAD
-        ensures listing { (u : State) (pin : ℕ) → IsListingOf self.old u → IsListingOf self.new (after_begin_compact pin u) }
-=======
         ensures listing { (u : State) (pin : ℕ) → IsListingOf self.old u →
             IsListingOf self.new (after_begin_compact pin u) }
->>>>>>> 73be55e12330dbd16da8b7fd9500c53f73aababc
     {
         let file = self.next_file;
         self.next_file += 1;

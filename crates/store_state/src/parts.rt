@@ -22,15 +22,10 @@ pub(crate) fn part_segments(
 )
     requires segments { length now.now + 1 ≤ vec_capacity segments.now }
     requires loose { vec_len loose.now + length now.now ≤ vec_capacity loose.now }
-<<<<<<< HEAD
-    ensures stay { map segment_of segments.new.items ≡ staying floor (map segment_of (now.now ++ last ∷ [])) }
-    ensures go { loose.new.items ≡ loose.old.items ++ released floor (map segment_of (now.now ++ last ∷ [])) }
-=======
     ensures stay { map segment_of segments.new.items
         ≡ staying floor (map segment_of (now.now ++ last ∷ [])) }
     ensures go { loose.new.items
         ≡ loose.old.items ++ released floor (map segment_of (now.now ++ last ∷ [])) }
->>>>>>> 73be55e12330dbd16da8b7fd9500c53f73aababc
 {
     segments.clear();
     for at in 0..now.len() {
@@ -43,12 +38,8 @@ pub(crate) fn part_segments(
 // What stands behind a position.
 fn follower(now: &[SegmentRef], last: SegmentRef, at: usize) -> SegmentRef
     requires { at < length now.now }
-<<<<<<< HEAD
-    ensures { drop (at + 1) now.now ++ last ∷ [] ≡ result ∷ drop 1 (drop (at + 1) now.now ++ last ∷ []) }
-=======
     ensures { drop (at + 1) now.now ++ last ∷ []
         ≡ result ∷ drop 1 (drop (at + 1) now.now ++ last ∷ []) }
->>>>>>> 73be55e12330dbd16da8b7fd9500c53f73aababc
 {
     if at + 1 < now.len() {
         return now[at + 1];
@@ -68,12 +59,8 @@ fn part_segment(
     requires loose { vec_len loose.now + 1 ≤ vec_capacity loose.now }
     ensures stay { (rest : List SegmentRef) →
         map segment_of segments.new.items ++ staying floor (map segment_of (next ∷ rest))
-<<<<<<< HEAD
-        ≡ map segment_of segments.old.items ++ staying floor (map segment_of (segment ∷ next ∷ rest)) }
-=======
         ≡ map segment_of segments.old.items
         ++ staying floor (map segment_of (segment ∷ next ∷ rest)) }
->>>>>>> 73be55e12330dbd16da8b7fd9500c53f73aababc
     ensures go { (rest : List SegmentRef) →
         loose.new.items ++ released floor (map segment_of (next ∷ rest))
         ≡ loose.old.items ++ released floor (map segment_of (segment ∷ next ∷ rest)) }

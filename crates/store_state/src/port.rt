@@ -64,30 +64,20 @@ pub trait Port {
         requires open { IsOpen meaning self.now (flush_of job) }
         requires size { (1 ≤ info.rows) × (info.rows ≤ 1048576) }
         requires block { IsTrue (meaning.tells self.now) →
-<<<<<<< HEAD
-            IsBlockOf meaning.block_holds (meaning.shows self.now job.out.file) job.out.file 0 info job.rows }
-        ensures { Called meaning self.old (CommitFlush job.out.number info.rows) (write_reply result) self.new };
-=======
             IsBlockOf meaning.block_holds (meaning.shows self.now job.out.file)
             job.out.file 0 info job.rows }
         ensures { Called meaning self.old (CommitFlush job.out.number info.rows)
             (write_reply result) self.new };
->>>>>>> 73be55e12330dbd16da8b7fd9500c53f73aababc
 
     /// Lists a compaction's block, which its file holds, in the place of those that it joins. The job is spent, refused or not.
     fn commit_compact(&mut self, job: CompactJob, info: SharedInfo) -> Result<(), WriteError>
         requires open { IsOpen meaning self.now (compact_of job) }
         requires size { (1 ≤ info.rows) × (info.rows ≤ 1048576) }
         requires block { IsTrue (meaning.tells self.now) → IsJoinedBlock
-<<<<<<< HEAD
-            meaning.block_holds (meaning.shows self.now) job.out.file job.level info job.pin.blocks }
-        ensures { Called meaning self.old (CommitCompact job.out.number info.rows) (write_reply result) self.new };
-=======
             meaning.block_holds (meaning.shows self.now)
             job.out.file job.level info job.pin.blocks }
         ensures { Called meaning self.old (CommitCompact job.out.number info.rows)
             (write_reply result) self.new };
->>>>>>> 73be55e12330dbd16da8b7fd9500c53f73aababc
 
     /// Gives a flush up: its rows go back to the head's front, and its files become loose.
     fn drop_flush(&mut self, job: FlushJob)

@@ -1,0 +1,6 @@
+mod Searching
+mod EntryLemmas
+mod BloomLaws
+mod PageLaws
+mod FoundLaws
+mod RowLaws

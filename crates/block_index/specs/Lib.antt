@@ -1,0 +1,5 @@
+pub mod Hash
+pub mod Pages
+pub mod Index
+pub mod Bloom
+pub mod Found

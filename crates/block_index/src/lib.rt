@@ -1,0 +1,18 @@
+//! The index of a block by trace id, and its Bloom filters.
+//!
+//! `index_pages` and `bloom_pages` write them from the ids of a block's rows, `find_in_page` and `may_hold` read one page.
+//! What the bytes mean is in `specs/Index.antt` and `specs/Bloom.antt`; `docs/BLOCK-FORMAT.md` has them with examples.
+#![tactic(auto)]
+
+mod bloom;
+mod entries;
+mod hash;
+mod index;
+mod laws;
+mod search;
+
+pub use bloom::{bloom_pages, may_hold};
+pub use hash::fnv1a;
+pub use index::index_pages;
+pub use laws::{entries_tell_rows, filters_hold_their_traces, pages_find_their_traces};
+pub use search::{Found, find_in_page};
