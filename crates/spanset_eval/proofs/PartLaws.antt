@@ -204,7 +204,7 @@ abbrev Differ : Value → List Value → Type 0
 Differ v [] = Unit
 Differ v (w ∷ ws) = (is_eq (value_cmp w v) ≡ false) × Differ v ws
 
-pub step_of : Value → Value → List Value → Ordering → List Value
+unfoldable pub step_of : Value → Value → List Value → Ordering → List Value
 step_of v w ws o = cond (is_lt o) (v ∷ w ∷ ws) (cond (is_eq o) (w ∷ ws) (w ∷ put v ws))
 
 pub sp_step : (v w : Value) (ws : List Value) (o : Ordering) → value_cmp v w ≡ o → put v (w ∷ ws) ≡ step_of v w ws o

@@ -109,11 +109,11 @@ put_more v x (w ∷ ws) h = put_cases (In x) v w ws (λ l. inr h) (λ q. h)
 
 put_from : (v x : Value) (ws : List Value) → In x (put v ws) → (v ≡ x) ⊎ In x ws
 put_from v x [] h = h
-put_from v x (w ∷ ws) = put_cases (λ xs. In x xs → (v ≡ x) ⊎ In x (w ∷ ws)) v w ws (λ l h. h) (λ q h. inr h)
+put_from v x (w ∷ ws) here = put_cases (λ xs. In x xs → (v ≡ x) ⊎ In x (w ∷ ws)) v w ws (λ l h. h) (λ q h. inr h)
     (λ g h. elim h as (λ _. (v ≡ x) ⊎ In x (w ∷ ws)) [
       | inl e ↦ inr (inl e)
       | inr m ↦ elim (put_from v x ws m) as (λ _. (v ≡ x) ⊎ In x (w ∷ ws)) [ inl e ↦ inl e | inr n ↦ inr (inr n) ]
-    ])
+    ]) here
 
 occurring_has : IsTotalOrder value_cmp → (vs : List Value) (v : Value) → In v vs → (w : Value) × In w (occurring vs) × (value_cmp v w ≡ Equal)
 occurring_has o [] v h = absurd h

@@ -28,11 +28,11 @@ up-preserved g t c =
     let left = c.up.marks in
     let right = c.in_ok-right.right in
     let marks = c.in_ok-marks-2.marks in
-    let same_rows = c.rows.ensures ∙ within.rows ∙ before.context.rows in
+    let same_rows = c.rows-rows.ensures ∙ within.rows ∙ before.context.rows in
     record {
       marks = along_step ps rows (set_tree c.args.expr.now) p c.up.pending.items c.pop.new.self.items left right marks c.in-Some.ensures.items before.marks
           (selects_along ps (context_patterns c.up.context) rows (context_rows c.up.context) (set_tree p.right.now) right before.context.patterns before.context.rows c.in_ok-right.ensures.marks)
-          (joined_along p.op rows c.rows.result.now (IsMarked left) (IsMarked right) marks same_rows c.in_ok-marks-2.ensures.marks);
+          (joined_along p.op rows c.rows-rows.result.now (IsMarked left) (IsMarked right) marks same_rows c.in_ok-marks-2.ensures.marks);
       context = record {
         lent = within.lent ∙ before.context.lent;
         patterns = within.patterns ∙ before.context.patterns;
@@ -40,3 +40,6 @@ up-preserved g t c =
       };
       made = subst (λ rs. IsTreeOf rs c.join_marks.new.made) same_rows c.join_marks.ensures.made;
     }
+
+pub select-requires : goal.select-requires
+select-requires g t c = ?
