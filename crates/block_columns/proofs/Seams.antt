@@ -98,9 +98,11 @@ pub record GoodColumn {A : Type 0} (read : ℕ → Read (List A)) (P : A → Typ
   pub good : (n : ℕ) (s : Spot) (xs : List A) (t : Spot) → read n s ≡ read_to xs t → AllByRecursion P xs
 
 pub good_values : {A : Type 0} {read : Read A} {P : A → Type 0} → ((s : Spot) (x : A) (t : Spot) → read s ≡ read_to x t → P x) → GoodColumn (column_at read) P
-good_values {A} {read} {P} one = record { good = λ n s xs t e.
-    let all = items_good (λ _. read) (λ _. P) (λ before. one) n [] s xs t e in
-    subst (λ (l : List A). AllByRecursion P l) (sym all.is) (each_of P [] all.more all.good) }
+good_values {A} {read} {P} one = record {
+  good = λ n s xs t e.
+      let all = items_good (λ _. read) (λ _. P) (λ before. one) n [] s xs t e in
+      subst (λ (l : List A). AllByRecursion P l) (sym all.is) (each_of P [] all.more all.good);
+}
 
 pub good_any : {A : Type 0} {read : ℕ → Read (List A)} → GoodColumn read (λ _. Unit {0})
 good_any {A} {read} = record { good = λ n s xs t e. any xs }

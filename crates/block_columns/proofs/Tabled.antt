@@ -93,7 +93,6 @@ IsWith same P get Fits rows = Fits rows × IsOwnerTable same P (first_uses same 
 module _ {T O R : Type 0} {outer : T → T → Bool} {Q : T → Type 0} {table : List T} (same : O → O → Bool) {P : O → Type 0} {read : Read O} {encode : Encoding T O} (laws : Laws outer Q table read encode P) (get : R → O)
     (inner_at : Spot → List O → Read (List R)) (inner_by : Encoding T (List R)) (Fits : List R → Type 0)
     (inner : (list : Spot) (os : List O) → IsOwnerTable same P os → Laws outer Q table (inner_at list os) inner_by (IsOver same get Fits os)) where
-
   abbrev uses : List R → List O
   uses rows = first_uses same (map get rows)
 

@@ -133,9 +133,46 @@ module _ (extended : Bool) (rs : List Resource) (ss : List Scope) (rows : List R
   pub cells_are : AreRowsOver extended rs ss rows → AreCells extended rs ss (length rows) (map cells_of rows)
   cells_are is =
       let of : (P : Row → Type 0) → ((r : Row) → IsKeptRow extended r → P r) → AllByRecursion P rows = λ P f. all_same (IsKeptRow extended) P f rows is.each in
-      cells_kept.to (of _ (λ r k. k.trace), (of _ (λ r k. k.id), (of _ (λ r k. k.parent), (of _ (λ r k. k.number), (of _ (λ r k. k.position), (of _ (λ r k. k.name), (any rows,
-      (of _ (λ r k. k.start), (of _ (λ r k. k.ended), (any rows, (of _ (λ r k. k.message), ((of _ (λ r k. k.resource), is.resources), ((of _ (λ r k. k.scope), is.scopes),
-      (of _ (λ r k. k.attrs), (of _ (λ r k. k.events), of _ (λ r k. k.links))))))))))))))))
+      cells_kept.to (
+        of _ (λ r k. k.trace),
+        (
+          of _ (λ r k. k.id),
+          (
+            of _ (λ r k. k.parent),
+            (
+              of _ (λ r k. k.number),
+              (
+                of _ (λ r k. k.position),
+                (
+                  of _ (λ r k. k.name),
+                  (
+                    any rows,
+                    (
+                      of _ (λ r k. k.start),
+                      (
+                        of _ (λ r k. k.ended),
+                        (
+                          any rows,
+                          (
+                            of _ (λ r k. k.message),
+                            (
+                              (of _ (λ r k. k.resource), is.resources),
+                              (
+                                (of _ (λ r k. k.scope), is.scopes),
+                                (of _ (λ r k. k.attrs), (of _ (λ r k. k.events), of _ (λ r k. k.links))),
+                              ),
+                            ),
+                          ),
+                        ),
+                      ),
+                    ),
+                  ),
+                ),
+              ),
+            ),
+          ),
+        ),
+      )
 
 -- ---- laws
 

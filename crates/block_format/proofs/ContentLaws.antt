@@ -104,9 +104,9 @@ module _ (texts : List (List ℕ)) (are : AreTexts texts) (extended : Bool) wher
         let k = known texts s in
         let both = wrote_then texts (plain var_bytes) (cells_by extended) n cells s u v number.wrote found.wrote in
         let of_rows : Wrote texts (followed (plain var_bytes) (columns (row_columns extended)) (length rows) rows k) s v =
-            subst (λ (b : Encoded (List ℕ)). Wrote texts (var_bytes (length rows) ++ b.0, b.1) s v) ((cells_seam extended).is rows k)
-            (subst (λ (l : List Cells). Wrote texts (followed (plain var_bytes) (cells_by extended) (length rows) l k) s v) from
-            (subst (λ (m : ℕ). Wrote texts (followed (plain var_bytes) (cells_by extended) m cells k) s v) long both)) in
+        subst (λ (b : Encoded (List ℕ)). Wrote texts (var_bytes (length rows) ++ b.0, b.1) s v) ((cells_seam extended).is rows k)
+        (subst (λ (l : List Cells). Wrote texts (followed (plain var_bytes) (cells_by extended) (length rows) l k) s v) from
+        (subst (λ (m : ℕ). Wrote texts (followed (plain var_bytes) (cells_by extended) m cells k) s v) long both)) in
         record {
           wrote = subst (λ (w : Spot). Wrote texts (followed (plain var_bytes) (columns (row_columns extended)) (length rows) rows k) s w) equal.1 of_rows;
           fits = ((record { size = subst (λ (m : ℕ). is_no_size m ≡ false) long number.fits.1; each = fits.each }, fits.resources), fits.scopes);
@@ -138,6 +138,7 @@ module _ (texts : List (List ℕ)) (are : AreTexts texts) (extended : Bool) wher
         parts : (a b : Bool) → (a || b) ≡ false → b ≡ false
         parts true b e = absurd (cc)
         parts false b e = e
+
         size_below : (rows : List Row) → is_no_size (length rows) ≡ false → length rows < 2 ^ 64
         size_below rows e = (let few = ltb-false 256 (length rows) (parts (eqb (length rows) 0) (ltb 256 (length rows)) e) in omega (arith, few))
 
@@ -222,7 +223,7 @@ again_content extended s within is rows rest fits short e =
     let none : (counted {T = List ℕ} (plain text_bytes) texts []).1 ≡ [] = plain_adds_none texts [] in
     let read = texts_laws.again start (record { within = is; few = omega arith }) texts (body.0 ++ rest) words (record { bytes = grouped; table_is = record { rest = []; is = sym (ap (λ (l : List (List ℕ)). l ++ []) none) } }) in
     let table : table_at bytes_eq whole_text_at start ≡ read_to texts (record { within = within; stand = ahead (length front) s; used = 0 }) =
-        read ∙ ap (λ (l : List (List ℕ)). read_to texts (record { within = within; stand = ahead (length front) s; used = length l })) none in
+    read ∙ ap (λ (l : List (List ℕ)). read_to texts (record { within = within; stand = ahead (length front) s; used = length l })) none in
     let are = are_texts texts words in
     let u = ahead (length front) s in
     let there : Spot = record { within = within; stand = u; used = 0 } in

@@ -119,24 +119,27 @@ meant_stripe extended bytes rows fit e =
     let front : take 8 bytes ≡ fixed64_bytes size = ap (take 8) first.bytes.passed.spelled ∙ take_at (fixed64_bytes size) (left a.value.1) 8 refl in
     let all = content_bytes extended b.value in
     let text : take (8 + size) bytes ≡ after_length all =
-        sym (take-append-drop 8 (take (8 + size) bytes)) ∙ ap (λ (l : List ℕ). l ++ drop 8 (take (8 + size) bytes)) (take_front size bytes ∙ front)
-        ∙ ap (λ (l : List ℕ). fixed64_bytes size ++ l) content.is ∙ ap (λ (k : ℕ). fixed64_bytes k ++ all) (sym content.long) in
+    sym (take-append-drop 8 (take (8 + size) bytes)) ∙ ap (λ (l : List ℕ). l ++ drop 8 (take (8 + size) bytes)) (take_front size bytes ∙ front)
+    ∙ ap (λ (l : List ℕ). fixed64_bytes size ++ l) content.is ∙ ap (λ (k : ℕ). fixed64_bytes k ++ all) (sym content.long) in
     let long : length (after_length all) ≡ 8 + size = length-append (fixed64_bytes (length all)) all ∙ omega (arith, content.long) in
     let whole : bytes ≡ padded (after_length all) =
-        sym (take-append-drop (8 + size) bytes) ∙ ap (λ (l : List ℕ). l ++ drop (8 + size) bytes) text ∙ ap (λ (l : List ℕ). after_length all ++ l) fill.0
-        ∙ ap (λ (k : ℕ). after_length all ++ replicate (fill_size k) 0) (sym long) in
+    sym (take-append-drop (8 + size) bytes) ∙ ap (λ (l : List ℕ). l ++ drop (8 + size) bytes) text ∙ ap (λ (l : List ℕ). after_length all ++ l) fill.0
+    ∙ ap (λ (k : ℕ). after_length all ++ replicate (fill_size k) 0) (sym long) in
     let ordered : ascend rows ≡ true = ap ascend (sym equal ∙ fill.1) ∙ order.0 in
-    subst (λ (l : List Row). AreStripe extended l × (bytes ≡ padded (after_length (content_bytes extended l)))) equal
-    (record {
-      some = (sizes (length b.value) content.owned.0.0.size).0;
-      few = (sizes (length b.value) content.owned.0.0.size).1;
-      order = ap ascend equal ∙ ordered;
-      each = content.owned.0.0.each;
-      short = omega (arith, first.fits, content.long);
-    }, whole)
+    subst (λ (l : List Row). AreStripe extended l × (bytes ≡ padded (after_length (content_bytes extended l)))) equal (
+      record {
+        some = (sizes (length b.value) content.owned.0.0.size).0;
+        few = (sizes (length b.value) content.owned.0.0.size).1;
+        order = ap ascend equal ∙ ordered;
+        each = content.owned.0.0.each;
+        short = omega (arith, first.fits, content.long);
+      },
+      whole,
+    )
   where
     take_front : (size : ℕ) (bytes : List ℕ) → take 8 (take (8 + size) bytes) ≡ take 8 bytes
     take_front size bytes = take-take 8 (8 + size) bytes (omega arith)
+
     sizes : (n : ℕ) → (eqb n 0 || ltb 256 n) ≡ false → (1 ≤ n) × (n ≤ 256)
     sizes zero e = absurd (cc)
     sizes (suc n) e = (omega arith, ltb-false 256 (suc n) (or_right (eqb (suc n) 0) (ltb 256 (suc n)) e))
@@ -171,9 +174,10 @@ owned_of : (extended : Bool) (rows : List Row) → AreStripe extended rows → A
 owned_of extended rows are =
     let few : length rows < 2 ^ 64 = (let h = are.few in omega (arith, h)) in
     let resources = all_cells (λ (r : Row). r.span.resource) IsKeptResource rows (all_same _ _ (λ r k. k.resource) rows are.each) in
-    let scopes = all_cells (λ (r : Row). r.span.scope) IsKeptScope rows (all_same _ _ (λ r k. k.scope) rows are.each) in
-    ((record { size = sized (length rows) are.some are.few; each = are.each }, uses_are_table same_scope IsKeptScope (scopes_of rows) scopes (omega (arith, few, length-map rows (λ (r : Row). r.span.scope)))),
-     uses_are_table same_resource IsKeptResource (resources_of rows) resources (omega (arith, few, length-map rows (λ (r : Row). r.span.resource))))
+    let scopes = all_cells (λ (r : Row). r.span.scope) IsKeptScope rows (all_same _ _ (λ r k. k.scope) rows are.each) in (
+      (record { size = sized (length rows) are.some are.few; each = are.each }, uses_are_table same_scope IsKeptScope (scopes_of rows) scopes (omega (arith, few, length-map rows (λ (r : Row). r.span.scope)))),
+      uses_are_table same_resource IsKeptResource (resources_of rows) resources (omega (arith, few, length-map rows (λ (r : Row). r.span.resource))),
+    )
   where
     sized : (n : ℕ) → 1 ≤ n → n ≤ 256 → (eqb n 0 || ltb 256 n) ≡ false
     sized zero some few = absurd (omega (arith, some))

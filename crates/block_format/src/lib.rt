@@ -8,7 +8,8 @@ mod puts;
 
 pub use error::FormatError;
 pub use laws::{
-    encoded_is_read, held_is_read, no_rows_have_no_bytes, one_meaning, read_is_encoded, read_is_held,
+    encoded_is_read, held_is_read, no_rows_have_no_bytes, one_meaning, read_is_encoded,
+    read_is_held,
 };
 pub use parts::{attrs, event, link, resource, scope};
 pub use puts::{
