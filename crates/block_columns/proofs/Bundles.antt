@@ -1,5 +1,5 @@
 -- All laws in one record, closed under the ways in which encodings are put together.
-use Rattle.std.proofs.Common.{◌≡◌, ℕ, ◌+◌, ◌^◌, ◌<◌, ◌≤◌, Bool, List, [], ◌∷◌, ◌++◌, length, map, take, Some, Result, Ok, Err, cond, false, refl, sym, ap, subst, ◌∙◌, arith}
+use Rattle.std.proofs.Common.{◌≡◌, ℕ, ◌+◌, ◌^◌, ◌<◌, ◌≤◌, Bool, List, [], ◌∷◌, ◌++◌, length, map, take, Some, Result, Ok, Err, cond, false, true, refl, sym, ap, subst, ◌∙◌, arith}
 use Rattle.std.specs.Prelude.{Decides}
 use Rattle.std.specs.List.{slice_get, list_any, AllByRecursion}
 use Rattle.std.proofs.lemmas.List.{length-map}
@@ -9,14 +9,14 @@ use Rattle.span_fields.specs.Laws.{EncodedIsRead, ReadIsEncoded}
 use Rattle.span_fields.specs.Sound.{IsBelow64}
 use Rattle.span_fields.proofs.Meant.{Bound, bound, kept_else}
 use Rattle.block_columns.specs.Tables.{AllAfter, IsNew}
-use Rattle.block_columns.specs.ColumnReadings.{Spot, Read, field, number_at, reference_at, pair_at, made_at, items_at, counted_at, column_at, both_at, unless_at, new_at, table_at, owners_at}
-use Rattle.block_columns.specs.ColumnEncodings.{Encoded, Encoding, plain, reference, followed, pair, column, counted, both, owners}
-use Rattle.block_columns.specs.ColumnLaws.{read_to, known, IsAt, Begins, Wrote, Found, Stands, after, Adds, ReadsEncoded, EncodedReads, AddsNew, Laws, ColumnLaws, IsColumn, IsBoth, IsPair}
+use Rattle.block_columns.specs.ColumnReadings.{Spot, Read, field, number_at, reference_at, pair_at, made_at, items_at, counted_at, column_at, both_at, unless_at, new_at, only_if_at, table_at, owners_at}
+use Rattle.block_columns.specs.ColumnEncodings.{Encoded, Encoding, plain, reference, followed, pair, column, counted, both, only_if, owners}
+use Rattle.block_columns.specs.ColumnLaws.{read_to, known, IsAt, Begins, Wrote, Found, Stands, after, Adds, ReadsEncoded, EncodedReads, AddsNew, Laws, ColumnLaws, IsColumn, IsBoth, IsOnlyIf, IsPair}
 use Rattle.block_columns.proofs.Basics.{same_read}
 use Rattle.block_columns.proofs.Numbering.{IsTable}
 use Rattle.block_columns.proofs.Added.{adds_none, adds_begins, adds_reference, adds_pair, adds_items, adds_both, all_after, each_of}
-use Rattle.block_columns.proofs.MeantParts.{wrote_at, wrote_then, found_as, meant_field, meant_pair, meant_made, items_mean, meant_both}
-use Rattle.block_columns.proofs.AgainParts.{seq, again_field, again_pair, again_made, items_again, again_both}
+use Rattle.block_columns.proofs.MeantParts.{wrote_at, wrote_none, wrote_then, found_as, meant_field, meant_pair, meant_made, items_mean, meant_both}
+use Rattle.block_columns.proofs.AgainParts.{seq, after_none, again_field, again_pair, again_made, items_again, again_both}
 use Rattle.block_columns.proofs.References.{meant_number, again_number, meant_reference, again_reference, IsOwners, meant_owners, again_owners}
 
 -- a count, and so many items that can each be kept after those before it
@@ -104,6 +104,27 @@ module _ {T : Type 0} {same : T → T → Bool} {P : T → Type 0} {table : List
 
     pub of_unless : Laws same P table (unless_at bad read) encode (λ x. Fits x × (bad x ≡ false))
     of_unless = record { meant = meant_unless; again = again_unless; adds = λ x t fits. laws.adds x t fits.0 }
+
+  -- the same laws, where what can be kept is said in other words
+  pub of_fits : {A : Type 0} {read : Read A} {encode : Encoding T A} {Fits Other : A → Type 0} → ((x : A) → Fits x → Other x) → ((x : A) → Other x → Fits x)
+      → Laws same P table read encode Fits → Laws same P table read encode Other
+  of_fits {A} {read} {encode} {Fits} {Other} to from laws = record {
+    meant = λ s is x t e. (let one = laws.meant s is x t e in record { wrote = one.wrote; fits = to x one.fits });
+    again = λ s is x rest fits stands. laws.again s is x rest (from x fits) stands;
+    adds = λ x t fits. laws.adds x t (from x fits);
+  }
+
+  -- a list whose bytes are there, or for which there are none
+  pub of_only_if : {A : Type 0} (there : Bool) {read : Read (List A)} {encode : Encoding T (List A)} {Fits : List A → Type 0}
+      → Laws same P table read encode Fits → Laws same P table (only_if_at there read) (only_if there encode) (IsOnlyIf there Fits)
+  unfolding only_if_at only_if
+  of_only_if true laws = record { meant = laws.meant; again = laws.again; adds = laws.adds }
+  of_only_if {A} false {read} {encode} {Fits} laws = record {
+    meant = λ s is x t e. (let equal = same_read [] x s t e in
+        found_as table (λ xs t. ([], t)) (IsOnlyIf false Fits) s [] x s t equal.0 equal.1 (record { wrote = wrote_none table s is; fits = refl }));
+    again = λ s is x rest fits stands. ap (λ (l : List A). read_to l s) (sym fits) ∙ ap (λ (u : Spot). read_to x u) (after_none table s is);
+    adds = λ x t fits. adds_none same P t;
+  }
 
   -- a value that is none of those before it
   pub of_new : {A : Type 0} (equal : A → A → Bool) {read : Read A} {encode : Encoding T A} {Fits : A → Type 0} → Laws same P table read encode Fits

@@ -7,3 +7,5 @@ pub mod References
 pub mod Bundles
 pub mod ReadingSteps
 pub mod WritingSteps
+pub mod Seams
+pub mod Tabled

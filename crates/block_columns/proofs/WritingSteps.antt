@@ -1,9 +1,10 @@
 -- What the calls of the writer come to.
-use Rattle.std.proofs.Common.{◌≡◌, ℕ, suc, ◌+◌, Bool, true, false, ◌||◌, cond, List, [], ◌∷◌, ◌++◌, map, take, get_or, length, ◌<◌, append_assoc, refl, sym, ap, ◌∙◌, arith}
-use Rattle.std.specs.List.{position_or_len, list_any}
-use Rattle.std.proofs.lemmas.List.{map-append, append-nil, take_more}
+use Rattle.std.proofs.Common.{◌≡◌, ◌^◌, ℕ, suc, ◌+◌, Bool, true, false, ◌||◌, cond, List, [], ◌∷◌, ◌++◌, map, take, get_or, length, ◌<◌, append_assoc, refl, sym, ap, ◌∙◌, arith}
+use Rattle.std.specs.List.{position_or_len, list_any, AllByRecursion}
+use Rattle.std.proofs.lemmas.List.{map-append, append-nil, length-map, take_more}
 use Rattle.byte_fields.specs.Spelling.{var_bytes}
-use Rattle.block_columns.specs.ColumnEncodings.{Encoded, Encoding, reference, column, wrote}
+use Rattle.span_fields.specs.Sound.{AreSound}
+use Rattle.block_columns.specs.ColumnEncodings.{Encoded, Encoding, plain, reference, column, columns, counted, wrote}
 use Rattle.block_columns.proofs.Numbering.{position_step}
 
 module _ {A B : Type 0} (f : A → B) (p : A → Bool) (q : B → Bool) (same : (a : A) → q (f a) ≡ p a) where
@@ -55,3 +56,35 @@ pub column_more : {T A : Type 0} (encode : Encoding T A) (xs : List A) (i : ℕ)
 column_more {T} {A} encode xs i x p q r lt is before now =
     let more : take (i + 1) xs ≡ take i xs ++ x ∷ [] = take_more xs i x lt ∙ ap (λ (y : A). take i xs ++ y ∷ []) (sym is) in
     now ∙ ap (λ (o : Encoded T). wrote encode x o) before ∙ sym (column_one encode x (wrote (column encode) (take i xs) p)) ∙ sym (column_append encode (take i xs) (x ∷ []) p) ∙ ap (λ (l : List A). wrote (column encode) l p) (sym more)
+
+-- ---- columns of rows, in groups
+
+pub columns_append : {T A : Type 0} (first later : List (Encoding T (List A))) (rows : List A) (p : Encoded T) → wrote (columns (first ++ later)) rows p ≡ wrote (columns later) rows (wrote (columns first) rows p)
+unfolding columns
+columns_append {T} [] later rows p = ap (λ (l : List ℕ). wrote (columns later) rows (l, p.1)) (sym (append-nil p.0))
+columns_append {T} (c ∷ first) later rows p =
+    let a = c rows p.1 in
+    let b = columns (first ++ later) rows a.1 in
+    let d = columns first rows a.1 in
+    ap (λ (l : List ℕ). (l, b.1)) (sym (append_assoc p.0 a.0 b.0)) ∙ columns_append first later rows (p.0 ++ a.0, a.1)
+    ∙ ap (λ (l : List ℕ). wrote (columns later) rows (l, d.1)) (append_assoc p.0 a.0 d.0)
+
+-- ---- a table of borrowed values
+
+column_seen : {T A B : Type 0} (view : B → A) (encode : Encoding T A) (keys : List B) (t : List T) → column (λ k. encode (view k)) keys t ≡ column encode (map view keys) t
+unfolding column
+column_seen view encode [] t = refl
+column_seen {T} view encode (k ∷ keys) t = ap (λ (b : Encoded T). ((encode (view k) t).0 ++ b.0, b.1)) (column_seen view encode keys (encode (view k) t).1)
+
+pub counted_seen : {T A B : Type 0} (view : B → A) (encode : Encoding T A) (keys : List B) (p q : Encoded T) → q ≡ wrote (counted (λ k. encode (view k))) keys p → q ≡ wrote (counted encode) (map view keys) p
+unfolding counted
+counted_seen {T} view encode keys p q e =
+    e ∙ ap (λ (b : Encoded T). (p.0 ++ (var_bytes (length keys) ++ b.0), b.1)) (column_seen view encode keys p.1)
+    ∙ ap (λ (n : ℕ). (p.0 ++ (var_bytes n ++ (column encode (map view keys) p.1).0), (column encode (map view keys) p.1).1)) (sym (length-map keys view))
+
+all_seen : {A B : Type 0} (view : B → A) (P : A → Type 0) (keys : List B) → AllByRecursion (λ k. P (view k)) keys → AllByRecursion P (map view keys)
+all_seen view P [] all = tt
+all_seen view P (k ∷ keys) all = (all.0, all_seen view P keys all.1)
+
+pub sound_seen : {A B : Type 0} (view : B → A) (P : A → Type 0) (keys : List B) → AreSound (λ k. P (view k)) keys → AreSound P (map view keys)
+sound_seen view P keys are = record { each = all_seen view P keys are.each; few = omega (arith, are.few, length-map keys view) }

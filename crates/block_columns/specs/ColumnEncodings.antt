@@ -1,5 +1,5 @@
 -- The bytes of a value that refers to a table, and the table after it.
-use Rattle.std.specs.Prelude.{ℕ, Bool, List, [], ◌∷◌, ◌++◌, length, map}
+use Rattle.std.specs.Prelude.{ℕ, Bool, List, [], ◌∷◌, ◌++◌, length, map, if◌then◌else◌}
 use Rattle.byte_fields.specs.Spelling.{var_bytes}
 use Rattle.block_columns.specs.Tables.{number_in, with_value}
 
@@ -39,6 +39,15 @@ counted encode xs table = followed (plain var_bytes) (column encode) (length xs)
 -- columns, and then further columns
 unfoldable pub both : {T A B : Type 0} → Encoding T (List A) → Encoding T (List B) → Encoding T (List (A × B))
 both left right rows table = followed left right (map (λ r. r.0) rows) (map (λ r. r.1) rows) table
+
+-- columns of rows, one after the other
+unfoldable pub columns : {T A : Type 0} → List (Encoding T (List A)) → Encoding T (List A)
+columns [] rows table = ([], table)
+columns (first ∷ later) rows table = followed first (columns later) rows rows table
+
+-- a list whose bytes are there, or for which there are none
+unfoldable pub only_if : {T A : Type 0} → Bool → Encoding T (List A) → Encoding T (List A)
+only_if there encode xs table = if there then encode xs table else ([], table)
 
 -- the numbers of values in a table of their own, and that table: each value once, in order of first use
 unfoldable pub numbered : {T : Type 0} → (T → T → Bool) → List T → Encoded T

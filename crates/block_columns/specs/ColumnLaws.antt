@@ -1,5 +1,5 @@
 -- How a reading and an encoding belong together, where both refer to one table.
-use Rattle.std.specs.Prelude.{◌≡◌, ℕ, ◌+◌, ◌≤◌, Bool, List, [], ◌∷◌, ◌++◌, length, map, take, Result, Ok}
+use Rattle.std.specs.Prelude.{◌≡◌, ℕ, ◌+◌, ◌≤◌, Bool, true, false, List, [], ◌∷◌, ◌++◌, length, map, take, Result, Ok}
 use Rattle.std.specs.List.{AllByRecursion}
 use Rattle.byte_fields.specs.Reading.{Stand, left, ahead, IsWithin}
 use Rattle.span_fields.specs.Laws.{Took}
@@ -79,6 +79,11 @@ pub record ColumnLaws {T A : Type 0} (same : T → T → Bool) (P : T → Type 0
 -- so many values, each of which can be kept
 abbrev pub IsColumn : {A : Type 0} → (A → Type 0) → ℕ → List A → Type 0
 IsColumn Fits n xs = (length xs ≡ n) × AllByRecursion Fits xs
+
+-- a list that can be kept, and that is empty where there are no bytes for it
+abbrev pub IsOnlyIf : {A : Type 0} → Bool → (List A → Type 0) → List A → Type 0
+IsOnlyIf true Fits xs = Fits xs
+IsOnlyIf false Fits xs = xs ≡ []
 
 abbrev pub IsBoth : {A B : Type 0} → (ℕ → List A → Type 0) → (ℕ → List B → Type 0) → ℕ → List (A × B) → Type 0
 IsBoth Left Right n rows = Left n (map (λ r. r.0) rows) × Right n (map (λ r. r.1) rows)

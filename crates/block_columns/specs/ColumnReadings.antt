@@ -80,6 +80,10 @@ both_at left right n s = do
   ys ← right n xs.1
   Ok (beside xs.0 ys.0, ys.1)
 
+-- a list whose bytes are there, or for which there are none
+unfoldable pub only_if_at : {A : Type 0} → Bool → Read (List A) → Read (List A)
+only_if_at there read s = if there then read s else Ok ([], s)
+
 -- a value that is malformed where it is bad
 unfoldable pub unless_at : {A : Type 0} → (A → Bool) → Read A → Read A
 unless_at bad read s = do

@@ -131,3 +131,13 @@ impl<L: Columns, R: Columns> Columns for Both<L, R> {
         Ok(rows)
     }
 }
+
+/// One column, and then further columns.
+pub fn further<K, R>(kind: K, right: R) -> Both<Single<K>, R>
+    ensures { result ≡ record { left = record { kind = kind }; right = right } }
+{
+    Both {
+        left: Single { kind },
+        right,
+    }
+}

@@ -1,7 +1,8 @@
 //! What is written of columns: bytes, and the values that they refer to.
 
-ghost use Rattle.std.specs.Prelude.{◌≡◌, ◌++◌, [], ℕ, List, OnOk, IfOk, length, map};
-ghost use Rattle.byte_fields.specs.Spelling.{fixed64_bytes, var_bytes, zigzag_bytes};
+ghost use Rattle.std.specs.Prelude.{◌≡◌, ◌++◌, [], ℕ, All, List, OnOk, IfOk, length, map};
+ghost use Rattle.byte_fields.specs.Spelling.{fixed64_bytes, text_bytes, var_bytes, zigzag_bytes};
+ghost use Rattle.span_fields.specs.Sound.{AreSound};
 ghost use Rattle.block_columns.specs.ColumnEncodings.{Encoding, column, counted, plain, reference, wrote};
 
 use byte_fields::Writer;
@@ -66,6 +67,13 @@ impl<'a, T: Eq + Hash> Page<'a, T> {
         self.out.zigzag(value)
     }
 
+    /// Adds a text in full.
+    pub fn text(&mut self, value: &str) -> Result<(), Memory>
+        ensures { OnOk result (self.new ≡ wrote (plain text_bytes) value.now self.old) }
+    {
+        self.out.text(value)
+    }
+
     /// Adds these bytes.
     pub fn raw(&mut self, value: &[u8]) -> Result<(), Memory>
         ensures { OnOk result (self.new ≡ wrote (plain (λ x. x)) value.now self.old) }
@@ -85,11 +93,32 @@ impl<'a, T: Eq + Hash> Page<'a, T> {
 /// How values are written.
 pub trait Put<T: Eq + Hash, A> {
     /// What a value is encoded as.
-    ghost encoding: { Encoding T A };
+    ghost encoding: { Self → Encoding T A };
+
+    /// What its type promises, as far as its reader asks for it.
+    ghost promise: { Self → A → Type 0 };
 
     /// Adds a value.
     fn put<'a>(&self, page: &mut Page<'a, T>, value: &'a A) -> Result<(), Memory>
-        ensures { OnOk result (page.new ≡ wrote encoding value.now page.old) };
+        ensures written { OnOk result (page.new ≡ wrote (encoding self.now) value.now page.old) }
+        ensures sound { OnOk result (promise self.now value.now) };
+}
+
+/// How a borrowed value is written: as the value.
+#[derive(Drop)]
+pub struct Borrowed<P> {
+    /// How the value is written.
+    pub kind: P,
+}
+
+impl<'b, T: Eq + Hash, A, P: Put<T, A>> Put<T, &'b A> for Borrowed<P> {
+    ghost encoding = { λ b value. P.encoding b.kind value.now };
+
+    ghost promise = { λ b value. P.promise b.kind value.now };
+
+    fn put<'a>(&self, page: &mut Page<'a, T>, value: &'a &'b A) -> Result<(), Memory> {
+        self.kind.put(page, *value)
+    }
 }
 
 /// Adds a column.
@@ -98,7 +127,8 @@ pub fn put_column<'a, T: Eq + Hash, A, P: Put<T, A>>(
     kind: &P,
     values: &'a [A],
 ) -> Result<(), Memory>
-    ensures { OnOk result (page.new ≡ wrote (column P.encoding) values.now page.old) }
+    ensures written { OnOk result (page.new ≡ wrote (column (P.encoding kind.now)) values.now page.old) }
+    ensures sound { OnOk result (All (P.promise kind.now) values.now) }
 {
     for value in values {
         kind.put(page, value)?;
@@ -113,8 +143,29 @@ pub fn put_counted<'a, T: Eq + Hash, A, P: Put<T, A>>(
     kind: &P,
     values: &'a [A],
 ) -> Result<(), Memory>
-    ensures { OnOk result (page.new ≡ wrote (counted P.encoding) values.now page.old) }
+    ensures written { OnOk result (page.new ≡ wrote (counted (P.encoding kind.now)) values.now page.old) }
+    ensures sound { OnOk result (AreSound (P.promise kind.now) values.now) }
 {
-    page.number(values.len() as u64)?;
+    page.number(count(values))?;
     put_column(page, kind, values)
+}
+
+/// How many values there are.
+fn count<A>(values: &[A]) -> u64
+    ensures { result ≡ length values.now }
+{
+    values.len() as u64
+}
+
+/// Adds a table: a count, and so many values, which are borrowed.
+pub fn put_table<'a, 'b, T: Eq + Hash, A: Eq + Hash, P: Put<T, A> + Drop>(
+    page: &mut Page<'a, T>,
+    kind: P,
+    table: &'a IndexSet<&'b A>,
+) -> Result<(), Memory>
+    ensures written { OnOk result (page.new ≡ wrote (counted (P.encoding kind)) (map (λ k. k.now) table.now.keys) page.old) }
+    ensures sound { OnOk result (AreSound (P.promise kind) (map (λ k. k.now) table.now.keys)) }
+{
+    put_counted(page, &Borrowed { kind }, table.as_slice())?;
+    Ok(())
 }
