@@ -1,0 +1,64 @@
+-- A file of what is held open is no segment's.
+use Rattle.std.proofs.Common.{◌≡◌, ℕ, ◌+◌, ◌≤◌, ◌==◌, Bool, true, false, List, [], ◌∷◌, ◌++◌, Option, Some, None, refl, sym, ◌∙◌, ap, subst, arith, if◌then◌else◌}
+use Rattle.std.proofs.lemmas.Grind.{flat_map-append}
+use Rattle.store_model.specs.State.{State, Pinned, Flush, Compaction, is_among, segment_files, block_files, flush_files, compaction_files, pinned_files, pinned_blocks}
+use Rattle.store_model.specs.Sound.{times, uses, StateIsSound}
+use Rattle.store_model.specs.Holds.{Hold, OpenIn, files_of}
+use Rattle.store_model.specs.Holds.Hold.{OpenLook, OpenFlush, OpenCompact}
+use Rattle.store_model.specs.Step.{Machine}
+use Rattle.store_model.proofs.Numbers.{times-append, times_itself, named}
+use Rattle.store_model.proofs.KeepsFirsts.{map_append}
+
+pinned_within : (file n : ℕ) (pins : List Pinned) → times file (block_files (pinned_blocks n pins)) ≤ times file (pinned_files pins)
+pinned_within file n [] = omega arith
+pinned_within file n (p ∷ ps) =
+    let joined = times-append file (block_files p.blocks) (pinned_files ps) in
+    let rest = pinned_within file n ps in
+    elim (p.number == n) as (λ t. times file (block_files (if t then p.blocks else pinned_blocks n ps)) ≤ times file (block_files p.blocks ++ pinned_files ps)) [
+      | true ↦ omega (arith, joined)
+      | false ↦ omega (arith, joined, rest)
+    ]
+
+-- a pinned file has its use as a block's or as a loose one
+pinned_apart : (u : State) → StateIsSound u → (pin file : ℕ) (files : List ℕ) → block_files (pinned_blocks pin u.pins) ≡ files → is_among file files ≡ true → times file (segment_files u.segments) ≡ 0
+pinned_apart u sound pin file files its among =
+    let one : 1 ≤ times file files = named file files among in
+    let same : times file (block_files (pinned_blocks pin u.pins)) ≡ times file files = ap (times file) its in
+    let within = pinned_within file pin u.pins in
+    let used = sound.files.pinned file (omega (arith, one, same, within)) in
+    let once = sound.files.once file in
+    omega (arith, used, once)
+
+-- a job's file has its use there
+flush_apart : (u : State) → StateIsSound u → (file : ℕ) → 1 ≤ times file (flush_files u.flush) → times file (segment_files u.segments) ≡ 0
+flush_apart u sound file used = let once = sound.files.once file in omega (arith, used, once)
+
+compact_apart : (u : State) → StateIsSound u → (file : ℕ) → 1 ≤ times file (compaction_files u.compaction) → times file (segment_files u.segments) ≡ 0
+compact_apart u sound file used = let once = sound.files.once file in omega (arith, used, once)
+
+one_of : (file own : ℕ) → is_among file (own ∷ []) ≡ true → 1 ≤ times file (own ∷ [])
+one_of file own among = named file (own ∷ []) among
+
+in_flush : (file : ℕ) (flush : Option Flush) (job : Flush) → flush ≡ Some job → 1 ≤ times file (job.file ∷ []) → 1 ≤ times file (flush_files flush)
+in_flush file flush job is one =
+    let joined = times-append file (job.file ∷ []) (job.segment ∷ []) in
+    subst (λ (o : Option Flush). 1 ≤ times file (flush_files o)) (sym is) (omega (arith, one, joined))
+
+in_compaction : (file : ℕ) (compaction : Option Compaction) (job : Compaction) → compaction ≡ Some job → 1 ≤ times file (job.file ∷ []) → 1 ≤ times file (compaction_files compaction)
+in_compaction file compaction job is one = subst (λ (o : Option Compaction). 1 ≤ times file (compaction_files o)) (sym is) one
+
+by_head : (file own : ℕ) (files : List ℕ) (G : Type 0) → is_among file (own ∷ files) ≡ true → (is_among file (own ∷ []) ≡ true → G) → (is_among file files ≡ true → G) → G
+by_head file own files G among here there = at (own == file) refl
+  where
+    at : (t : Bool) → (own == file) ≡ t → G
+    at true e = here (rw e refl)
+    at false e = there (let k : is_among file (own ∷ files) ≡ is_among file files = rw e refl in sym k ∙ among)
+
+pub held_apart : (m : Machine) (hold : Hold) → StateIsSound m.state → OpenIn m hold → (file : ℕ) → is_among file (files_of hold) ≡ true → times file (segment_files m.state.segments) ≡ 0
+held_apart m (OpenLook pin files as_of rows) sound is file among = pinned_apart m.state sound pin file files is.its_files among
+held_apart m (OpenFlush number own rows) sound is file among =
+    flush_apart m.state sound file (in_flush file m.state.flush is.job is.is_open (subst (λ (f : ℕ). 1 ≤ times file (f ∷ [])) (sym is.its_file) (one_of file own among)))
+held_apart m (OpenCompact number own level pin files) sound is file among =
+    by_head file own files (times file (segment_files m.state.segments) ≡ 0) among
+    (λ here. compact_apart m.state sound file (in_compaction file m.state.compaction is.job is.is_open (subst (λ (f : ℕ). 1 ≤ times file (f ∷ [])) (sym is.its_file) (one_of file own here))))
+    (λ there. pinned_apart m.state sound pin file files is.its_files there)

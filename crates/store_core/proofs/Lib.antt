@@ -1,0 +1,11 @@
+mod Quiet
+mod States
+mod HeldFiles
+mod Pushing
+mod PinNumbers
+mod Looking
+mod Founding
+mod NewCores
+mod PushEvents
+mod Past
+mod LookEvents

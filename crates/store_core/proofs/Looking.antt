@@ -1,0 +1,109 @@
+-- What a look and its end make of a core.
+use Rattle.std.proofs.Common.{◌≡◌, ℕ, ◌≤◌, ◌==◌, Bool, true, false, not, List, [], ◌∷◌, ◌++◌, Some, None, Option, map, refl, sym, ◌∙◌, ap, subst}
+use Rattle.std.specs.Prelude.{◌||◌, ◌&&◌}
+use Rattle.std.specs.Prelude.{Vec}
+use Rattle.std.specs.declared.alloc.Global.{Global}
+use Rattle.std.specs.List.Sorted.{IsPermutation}
+use Rattle.std.proofs.lemmas.List.Sorted.{IsPermutation-refl}
+use Rattle.span_types.specs.declared.spans.Row.{Row}
+use Rattle.disk_model.specs.Images.{Image}
+use Rattle.store_model.specs.State.{State, Flush, Compaction, LiveRow, is_among, pin_numbers, compaction_pins, block_files, flush_rows, live_rows, IsFreeNumber}
+use Rattle.store_model.specs.History.{count_of}
+use Rattle.store_model.specs.After.{after_look, after_done}
+use Rattle.store_model.specs.Event.{Event, Reply}
+use Rattle.store_model.specs.Event.Event.{Look, Done}
+use Rattle.store_model.specs.Event.Reply.{Looked, Fine}
+use Rattle.store_model.specs.Step.{Machine, Step, IsLookPin, with_state}
+use Rattle.store_model.specs.Step.Step.{Succeeds}
+use Rattle.store_model.proofs.KeepsFirsts.{step_keeps as keeps_firsts}
+use Rattle.store_model.proofs.KeepsSound.{step_keeps as keeps_sound}
+use Rattle.store_model.proofs.KeepsFloor.{step_keeps as keeps_floor}
+use Rattle.store_core.specs.Pins.{is_taken}
+use Rattle.store_core.specs.declared.state.CoreState.{CoreState}
+use Rattle.store_images.specs.Stored.{ref_of}
+use Rattle.store_images.specs.Settled.{IsSettled}
+use Rattle.store_core.specs.Cores.{HasState, StandsFor, tail_of}
+use Rattle.store_core.proofs.PinNumbers.{among-more, among-less}
+
+-- a change of the pins alone
+has_pins : (core : CoreState) (pins : Vec Bool Global) (m m' : Machine) → HasState core m → m'.history ≡ m.history → m'.read_only ≡ m.read_only
+    → m'.state ≡ record m.state { pins = m'.state.pins } → ((n : ℕ) → is_among n (pin_numbers m'.state.pins) ≡ is_taken n pins.items)
+    → HasState (record core { pins = pins }) m'
+has_pins core pins m m' has history read_only state taken = record {
+  count = ap count_of history ∙ has.count;
+  few = has.few;
+  live = ap (λ (u : State). u.live) state ∙ has.live;
+  head = ap (λ (u : State). u.head) state ∙ has.head;
+  flushing = has.flushing;
+  flush = ap (λ (u : State). u.flush) state ∙ has.flush;
+  compaction = ap (λ (u : State). u.compaction) state ∙ has.compaction;
+  blocks = has.blocks ∙ ap (λ (u : State). map ref_of u.blocks) (sym state);
+  infos = has.infos ∙ ap (λ (u : State). block_files u.blocks) (sym state);
+  segments = ap (λ (u : State). u.segments) state ∙ has.segments;
+  floor = ap (λ (u : State). u.floor) state ∙ has.floor;
+  loose = ap (λ (u : State). u.loose) state ∙ has.loose;
+  next_file = ap (λ (u : State). u.next_file) state ∙ has.next_file;
+  begun = ap (λ (u : State). u.begun) state ∙ has.begun;
+  pins = taken;
+  read_only = read_only ∙ has.read_only;
+}
+
+-- the core stands for what the step leaves
+pub stands_stepped : (told : Type 0) (held : Image) (may_leave : Image → Type 0) (core : CoreState) (pins : Vec Bool Global) (m : Machine) (u : State) (before faults : ℕ) (e : Event) (r : Reply)
+    → StandsFor told held may_leave core m → u ≡ record m.state { pins = u.pins } → Step before faults m e r (with_state u m)
+    → ((n : ℕ) → is_among n (pin_numbers u.pins) ≡ is_taken n pins.items)
+    → StandsFor told held may_leave (record core { pins = pins }) (with_state u m)
+stands_stepped told held may_leave core pins m u before faults e r s state step taken = record {
+  has = has_pins core pins m (with_state u m) s.has refl refl state taken;
+  agrees = keeps_firsts before faults m _ e r s.agrees step;
+  sound = keeps_sound before faults m _ e r s.sound step;
+  above = keeps_floor before faults m _ e r s.above step;
+  now = s.now;
+  settled = λ t free. subst (λ (b : _). IsSettled held may_leave core.list b (tail_of core.segment) m.history) (sym (ap (λ (v : State). v.blocks) state)) (s.settled t free);
+  sure = s.sure;
+}
+
+-- ---- a look
+
+pub step_looked : (core : CoreState) (m : Machine) (before faults number as_of : ℕ) (files : List ℕ) (rows : List Row) → HasState core m → as_of ≡ count_of m.history → files ≡ block_files m.state.blocks
+    → rows ≡ core.live.flushing ++ core.live.head ++ live_rows core.live.live
+    → is_taken number core.pins.items ≡ false → ((other : ℕ) → is_taken other core.pins.items ≡ false → number ≤ other)
+    → Step before faults m Look (Looked number files as_of rows) (with_state (after_look number m.state) m)
+step_looked core m before faults number as_of files rows has length listed is free least =
+    let all : rows ≡ flush_rows m.state.flush ++ m.state.head ++ live_rows m.state.live =
+    is ∙ ap (λ (r : List Row). r ++ core.live.head ++ live_rows core.live.live) (has.flushing ∙ sym (ap flush_rows has.flush))
+    ∙ ap (λ (r : List Row). flush_rows m.state.flush ++ r ++ live_rows core.live.live) (sym has.head)
+    ∙ ap (λ (l : List LiveRow). flush_rows m.state.flush ++ m.state.head ++ live_rows l) (sym has.live) in
+    Succeeds refl (
+      number,
+      rows,
+      record { is_free = has.pins number ∙ free; least = λ other no_pin. least other (sym (has.pins other) ∙ no_pin) },
+      subst (λ (r : List Row). IsPermutation r rows) all (IsPermutation-refl rows),
+      ap (λ (f : List ℕ). Looked number f as_of rows) listed ∙ ap (λ (n : ℕ). Looked number (block_files m.state.blocks) n rows) length,
+      refl,
+    )
+
+pub taken_more : (core : CoreState) (m : Machine) (number : ℕ) (pins : List Bool) → HasState core m
+    → ((other : ℕ) → is_taken other pins ≡ (is_taken other core.pins.items || (number == other)))
+    → (n : ℕ) → is_among n (pin_numbers (after_look number m.state).pins) ≡ is_taken n pins
+taken_more core m number pins has taken n =
+    among-more n m.state.pins (record { number = number; blocks = m.state.blocks })
+    ∙ ap (λ (b : Bool). b || (number == n)) (has.pins n) ∙ sym (taken n)
+
+-- ---- its end
+
+-- a pin that is open in one machine that the core stands for is open in each
+pub look_open : (core : CoreState) (m other : Machine) (pin : ℕ) → HasState core m → HasState core other → IsLookPin pin m.state → IsLookPin pin other.state
+look_open core m other pin has its open_pin = record {
+  is_open = its.pins pin ∙ sym (has.pins pin) ∙ open_pin.is_open;
+  no_job = ap (λ (c : Option Compaction). is_among pin (compaction_pins c)) its.compaction;
+}
+
+pub step_done : (m : Machine) (before faults pin : ℕ) → IsLookPin pin m.state → Step before faults m (Done pin) Fine (with_state (after_done pin m.state) m)
+step_done m before faults pin open_pin = Succeeds refl (open_pin, refl, refl)
+
+pub taken_less : (core : CoreState) (m : Machine) (number : ℕ) (pins : List Bool) → HasState core m
+    → ((other : ℕ) → is_taken other pins ≡ (is_taken other core.pins.items && not (number == other)))
+    → (n : ℕ) → is_among n (pin_numbers (after_done number m.state).pins) ≡ is_taken n pins
+taken_less core m number pins has taken n =
+    among-less n number m.state.pins ∙ ap (λ (b : Bool). b && not (number == n)) (has.pins n) ∙ sym (taken n)

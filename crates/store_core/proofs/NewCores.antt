@@ -1,0 +1,77 @@
+-- What the core of a new store stands for.
+use Rattle.std.proofs.Common.{◌≡◌, ◌⊎◌, inl, ℕ, ◌+◌, ◌<◌, ◌≤◌, ◌==◌, List, [], ◌∷◌, map, Some, None, Option, refl, sym, ◌∙◌, ap, subst, arith}
+use Rattle.std.specs.List.{Contains}
+use Rattle.span_types.specs.declared.spans.Span.{Span}
+use Rattle.disk_model.specs.Images.{Image}
+use Rattle.block_list.specs.declared.body.ListBody.{ListBody}
+use Rattle.store_model.specs.History.{History}
+use Rattle.store_model.specs.State.{State, Compaction}
+use Rattle.store_model.specs.Sound.{times, StateIsSound}
+use Rattle.store_model.proofs.Numbers.{times_one, times_not}
+use Rattle.store_images.specs.Stored.{MayStandFor}
+use Rattle.store_images.specs.Settled.{Tail, IsSettled}
+use Rattle.store_images.proofs.Lists.{not_in_nil}
+use Rattle.store_images.proofs.Storing.{settled_now}
+use Rattle.store_core.specs.declared.state.CoreState.{CoreState}
+use Rattle.store_state.specs.Given.{info_files}
+use Rattle.store_core.specs.Pins.{is_taken}
+use Rattle.store_core.specs.Cores.{HasState, StandsFor, segment_of, tail_of, unsure_of}
+use Rattle.store_core.specs.New.{new_list, new_tail, IsEmptyHistory, IsNewStore}
+use Rattle.store_core.specs.NewCore.{new_machine, IsNewState}
+
+new_sound : (h : History) → StateIsSound (new_machine h).state
+new_sound h = record {
+  files = record {
+    new = λ file above. let none = times_not file 2 (inl (omega (arith, above))) in omega (arith, none);
+    once = λ file. let one = times_one file 2 in omega (arith, one);
+    pinned = λ file some. absurd (omega (arith, some));
+  };
+  numbers = record {
+    pins = λ n. omega arith;
+    jobs = λ n. omega arith;
+    new = λ n above. refl;
+  };
+  joining = λ job is. absurd (let bad : None ≡ Some job = is in cc);
+}
+
+pub new_stands : (told : Type 0) (held : Image) (may_leave : Image → Type 0) (core : CoreState) (h : History) → IsNewState core → (told → IsNewStore held may_leave) → IsEmptyHistory h
+    → StandsFor told held may_leave core (new_machine h)
+new_stands told held may_leave core h new made empty = record {
+  has = new.has h empty;
+  agrees = empty.no_rows;
+  sound = new_sound h;
+  above = record { waiting = λ row c. absurd (not_in_nil row c); next = omega arith };
+  now = λ t image left. subst (λ (u : Option (List Span)). MayStandFor h u image) (sym new.sure) (settled_now held may_leave new_list [] new_tail h (made t h empty) image left);
+  settled = λ t free. subst (λ (l : ListBody). IsSettled held may_leave l [] (tail_of core.segment) h) (sym new.list) (subst (λ (x : Tail). IsSettled held may_leave new_list [] x h) (sym new.tail) (made t h empty));
+  sure = λ free. new.sure;
+}
+
+pub new_state_is : (core : CoreState) → core.list ≡ new_list → core.live.live ≡ [] → core.live.head ≡ [] → core.live.flushing ≡ [] → core.infos ≡ []
+    → core.segment.file ≡ 2 → core.segment.first ≡ 0 → core.segment.count ≡ 0 → core.segment.gate ≡ 1 → core.pins.items ≡ [] → core.read_only ≡ None → unsure_of core ≡ None → IsNewState core
+new_state_is core list live head flushing infos file first count gate pins writes sure = record {
+  has = λ h empty. record {
+    count = (let none = empty.no_entries in omega (arith, none, first, count));
+    few = omega (arith, first, count);
+    live = sym live;
+    head = sym head;
+    flushing = flushing;
+    flush = refl;
+    compaction = refl;
+    blocks = ap (λ (l : ListBody). l.blocks) list;
+    infos = ap info_files infos;
+    segments = sym (ap (λ (l : ListBody). map segment_of l.segments) list);
+    floor = sym (ap (λ (l : ListBody). l.floor) list);
+    loose = sym (ap (λ (l : ListBody). l.loose) list);
+    next_file = sym (ap (λ (l : ListBody). l.next_file) list);
+    begun = refl;
+    pins = λ n. sym (ap (is_taken n) pins);
+    read_only = sym writes;
+  };
+  list = list;
+  tail = ap (λ (n : ℕ). record { file = n; first = core.segment.first; count = core.segment.count; gate = core.segment.gate }) file
+      ∙ ap (λ (n : ℕ). record { file = 2; first = n; count = core.segment.count; gate = core.segment.gate }) first
+      ∙ ap (λ (n : ℕ). record { file = 2; first = 0; count = n; gate = core.segment.gate }) count
+      ∙ ap (λ (n : ℕ). record { file = 2; first = 0; count = 0; gate = n }) gate;
+  writes = writes;
+  sure = sure;
+}

@@ -1,0 +1,59 @@
+-- What was left since the opening, from event to event.
+use Rattle.std.proofs.Common.{◌≡◌, ◌⊎◌, inl, inr, ℕ, ◌+◌, ◌-◌, ◌≤◌, List, [], ◌∷◌, ◌++◌, length, take, None, Some, Option, IsTrue, refl, sym, ◌∙◌, ap, subst, arith}
+use Rattle.std.proofs.lemmas.List.{take_all}
+use Rattle.span_types.specs.declared.spans.Span.{Span}
+use Rattle.disk_model.specs.Images.{Image}
+use Rattle.disk_model.specs.declared.disk.Device.{Ghosts}
+use Rattle.store_model.specs.History.{History, count_of, pushed, up_to}
+use Rattle.store_model.specs.Event.{Event, Reply}
+use Rattle.store_model.specs.Event.Event.{Push}
+use Rattle.store_model.specs.Event.Reply.{Count}
+use Rattle.store_model.specs.Step.{Machine}
+use Rattle.store_model.specs.Told.{history_after}
+use Rattle.store_model.proofs.KeepsHolds.{grown_up}
+use Rattle.store_model.proofs.TellsHistory.{step_tells}
+use Rattle.store_images.specs.Stored.{MayStandFor, ImageStandsFor}
+use Rattle.store_images.proofs.Growing.{count_of-pushed}
+use Rattle.store_core.specs.Cores.{CoreStandsFor, unsure_of}
+use Rattle.store_core.specs.Events.{Stepped, Between}
+use Rattle.store_core.specs.Past.{StoodFor, KeepsPast}
+use Rattle.store_core.specs.declared.store.Core.{Core}
+
+now_is : (h : History) → up_to (count_of h) h ≡ h
+now_is h = ap (λ (bs : List (List Span)). record { base = h.base; start = h.start; entries = bs }) (take_all (h.start + length h.entries - h.start) h.entries (omega arith))
+
+-- a history that an event leaves has the one before it as its past
+past_in : (e : Event) (r : Reply) (h : History) (n : ℕ) → n ≤ count_of h → (up_to n (history_after e r h) ≡ up_to n h) × (n ≤ count_of (history_after e r h))
+past_in (Push spans moment) (Count number) h n low = (grown_up h spans n low, (let grown = count_of-pushed h spans in omega (arith, grown, low)))
+past_in _ _ h n low = (refl, low)
+
+module _ (e : Event) (r : Reply) (h h' : History) (unsure unsure' : Option (List Span)) (least : ℕ) (after : h' ≡ history_after e r h) (low : least ≤ count_of h)
+    (sure : (unsure ≡ None) ⊎ ((h' ≡ h) × (unsure' ≡ unsure))) where
+  at_length : (n : ℕ) (image : Image) → least ≤ n → n ≤ count_of h → ImageStandsFor image (up_to n h) → StoodFor least h' unsure' image
+  at_length n image first last stands =
+      let past = past_in e r h n last in
+      inl (n, first, subst (λ (x : History). n ≤ count_of x) (sym after) past.1, subst (λ (x : History). ImageStandsFor image (up_to n x)) (sym after) (subst (λ (x : History). ImageStandsFor image x) (sym past.0) stands))
+
+  before : (image : Image) → MayStandFor h unsure image → StoodFor least h' unsure' image
+  before image stands = elim sure [
+    | inl none ↦ at_length (count_of h) image low (omega arith) (subst (λ (x : History). ImageStandsFor image x) (sym (now_is h)) (subst (λ (u : Option (List Span)). MayStandFor h u image) none stands))
+    | inr same ↦ inr (subst (λ (u : Option (List Span)). MayStandFor h' u image) (sym same.1) (subst (λ (x : History). MayStandFor x unsure image) (sym same.0) stands))
+  ]
+
+  stood : (image : Image) → StoodFor least h unsure image → StoodFor least h' unsure' image
+  stood image was = elim was [
+    | inl past ↦ at_length past.0 image past.1 past.2 past.3
+    | inr now ↦ before image now
+  ]
+
+  between : (image : Image) → Between h unsure h' unsure' image → StoodFor least h' unsure' image
+  between image was = elim was [ inl old ↦ before image old | inr new ↦ inr new ]
+
+pub keeps_past : {D : Type 0} (g : Ghosts D) (old new : Core D) (e : Event) (r : Reply) (m : Machine) (did : Stepped g old e r new m) (start least : ℕ)
+    → IsTrue (g.tells old.disk) → start ≤ g.moment old.disk → least ≤ count_of m.history → KeepsPast g old m start least → KeepsPast g new did.machine start least
+keeps_past g old new e r m did start least told earlier low past image left =
+    let after = (step_tells (g.faults old.disk) (g.faults new.disk) m did.machine e r did.step).0 in
+    elim ((did.images told).before start image earlier left) [
+      | inl was ↦ stood e r m.history did.machine.history (unsure_of old.state) (unsure_of new.state) least after low did.unsure image (past image was)
+      | inr here ↦ between e r m.history did.machine.history (unsure_of old.state) (unsure_of new.state) least after low did.unsure image here
+    ]

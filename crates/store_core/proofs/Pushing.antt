@@ -1,0 +1,59 @@
+-- What a crash within a push leaves.
+use Rattle.std.proofs.Common.{◌≡◌, ◌≢◌, ◌⊎◌, inl, inr, ℕ, ◌+◌, ◌≤◌, List, [], ◌∷◌, ◌++◌, Some, None, Option, length, map, false, true, refl, sym, ◌∙◌, ap, subst, arith}
+use Rattle.std.specs.List.{Contains}
+use Rattle.std.proofs.lemmas.List.{map-append}
+use Rattle.span_types.specs.declared.spans.Span.{Span}
+use Rattle.disk_model.specs.Images.{Image, bytes_of, Besides}
+use Rattle.disk_model.specs.Crash.{LeavesOnly, RunInFile, ButFor, OnlyBytes}
+use Rattle.disk_model.proofs.Moments.{widened}
+use Rattle.head_log.specs.declared.segment.Segment.{Segment}
+use Rattle.head_log.specs.Stands.{SegmentHolds, SegmentKeepsEither}
+use Rattle.block_list.specs.declared.body.SegmentRef.{SegmentRef}
+use Rattle.block_list.specs.declared.body.ListBody.{ListBody}
+use Rattle.store_model.specs.History.{History, pushed}
+use Rattle.store_model.specs.State.{Block, is_among, segment_files}
+use Rattle.store_model.specs.Sound.{times}
+use Rattle.store_model.specs.Holds.{Hold, OpenIn, files_of}
+use Rattle.store_model.specs.Step.{Machine}
+use Rattle.store_model.proofs.Numbers.{times-append, times_itself}
+use Rattle.store_images.specs.Stored.{MayStandFor, ImageStandsFor, IsTidy}
+use Rattle.store_images.specs.Settled.{Tail, IsSettled}
+use Rattle.store_images.proofs.Storing.{settled_either, settled_tidy, only_tail}
+use Rattle.store_core.specs.declared.state.CoreState.{CoreState}
+use Rattle.store_core.specs.Cores.{HasState, StandsFor, tail_of, segment_of}
+use Rattle.store_core.proofs.HeldFiles.{held_apart}
+
+module _ {D : Type 0} (moment : D → ℕ) (left_since : D → ℕ → Image → Type 0) (may_leave : D → Image → Type 0) (held : Image) (body : ListBody) (blocks : List Block) (tail : Tail) (h : History) (old new : D)
+    (s : IsSettled held (may_leave old) body blocks tail h) where
+  -- at every moment, and after it
+  pub pushing : (spans : List Span)
+      → RunInFile moment left_since may_leave tail.file (SegmentKeepsEither tail.first s.mine spans) (SegmentKeepsEither tail.first s.mine spans) old new
+      → LeavesOnly moment left_since old new (MayStandFor h (Some spans)) × ((image : Image) → may_leave new image → MayStandFor h (Some spans) image)
+  pushing spans run =
+      let each = settled_either held (may_leave old) body blocks tail h s spans in
+      (widened moment left_since old new _ (MayStandFor h (Some spans)) run.since each, λ image left. each image (run.now image left))
+
+  pub tidy_push : (P Q : List ℕ → Type 0) → RunInFile moment left_since may_leave tail.file P Q old new → ((image : Image) → may_leave old image → IsTidy image)
+      → LeavesOnly moment left_since old new IsTidy
+  tidy_push P Q run tidy = widened moment left_since old new _ IsTidy run.since
+      (λ image b. settled_tidy held (may_leave old) body blocks tail h s b.origin image b.possible b.besides (tidy b.origin b.possible))
+
+-- what is held open has no segment
+named_once : (front : List SegmentRef) (last : SegmentRef) → 1 ≤ times last.file (segment_files (map segment_of (front ++ last ∷ [])))
+named_once [] last = omega (arith, times_itself last.file)
+named_once (x ∷ front) last = let rest = named_once front last in omega (arith, rest)
+
+pub tail_apart : (core : CoreState) (m : Machine) (held : Image) (may_leave : Image → Type 0) → HasState core m → IsSettled held may_leave core.list m.state.blocks (tail_of core.segment) m.history
+    → (hold : Hold) → (file : ℕ) → times file (segment_files m.state.segments) ≡ 0 → file ≢ core.segment.file
+tail_apart core m held may_leave has s hold file none is =
+    let last : SegmentRef = record { file = core.segment.file; first = core.segment.first } in
+    let listed : m.state.segments ≡ map segment_of (s.written.front ++ last ∷ []) = has.segments ∙ ap (map segment_of) s.written.last in
+    let once = named_once s.written.front last in
+    let same : times core.segment.file (segment_files m.state.segments) ≡ times core.segment.file (segment_files (map segment_of (s.written.front ++ last ∷ []))) = ap (λ l. times core.segment.file (segment_files l)) listed in
+    let zero : times core.segment.file (segment_files m.state.segments) ≡ 0 = subst (λ (f : ℕ). times f (segment_files m.state.segments) ≡ 0) is none in
+    absurd (omega (arith, once, same, zero))
+
+pub held_stays : (core : CoreState) (m : Machine) (told : Type 0) (held later : Image) (may_leave : Image → Type 0) → told → core.read_only ≡ None → StandsFor told held may_leave core m
+    → Besides core.segment.file held later → (hold : Hold) → OpenIn m hold → (file : ℕ) → is_among file (files_of hold) ≡ true → bytes_of later file ≡ bytes_of held file
+held_stays core m told held later may_leave t writes s besides hold is_open file among =
+    besides file (tail_apart core m held may_leave s.has (s.settled t writes) hold file (held_apart m hold s.sound is_open file among))

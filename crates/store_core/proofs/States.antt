@@ -1,0 +1,164 @@
+-- What a core stands for after a change of its memory.
+use Rattle.std.proofs.Common.{◌≡◌, ◌≢◌, ℕ, ◌+◌, ◌<◌, ◌≤◌, List, [], ◌∷◌, ◌++◌, Bool, Some, None, Option, refl, sym, ◌∙◌, ap, subst, arith}
+use Rattle.span_types.specs.declared.spans.Span.{Span}
+use Rattle.disk_model.specs.Images.{Image}
+use Rattle.head_log.specs.declared.segment.Segment.{Segment}
+use Rattle.live_traces.specs.Parts.{LiveParts}
+use Rattle.live_traces.specs.Rows.{ChunkParts}
+use Rattle.store_model.specs.History.{History, batch_rows, count_of, pushed}
+use Rattle.store_model.specs.State.{State, LiveRow}
+use Rattle.store_model.specs.After.{arrived, after_push}
+use Rattle.store_model.specs.Event.{Event, Reply}
+use Rattle.store_model.specs.Event.Event.{Push}
+use Rattle.store_model.specs.Event.Reply.{Count}
+use Rattle.store_model.specs.Step.{Machine, Step, early, broken}
+use Rattle.store_model.specs.Step.Step.{Succeeds}
+use Rattle.store_model.proofs.KeepsFirsts.{step_keeps as keeps_firsts}
+use Rattle.store_model.proofs.KeepsSound.{step_keeps as keeps_sound}
+use Rattle.store_model.proofs.KeepsFloor.{step_keeps as keeps_floor}
+use Rattle.store_images.specs.Stored.{MayStandFor, ImageStandsFor}
+use Rattle.store_images.specs.Settled.{Tail, IsSettled}
+use Rattle.store_images.proofs.Growing.{count_of-pushed}
+use Rattle.store_images.proofs.Storing.{settled_now}
+use Rattle.store_core.specs.declared.state.CoreState.{CoreState}
+use Rattle.store_core.specs.Cores.{HasState, StandsFor, tail_of, unsure_of}
+
+-- the same rows, with room for others
+pub record SameParts (old new : LiveParts) : Type 0 where
+  pub live : new.live ≡ old.live
+  pub head : new.head ≡ old.head
+  pub flushing : new.flushing ≡ old.flushing
+
+-- ---- memory for a push was taken, and no more was done
+
+pub has_same : (core : CoreState) (live : LiveParts) (m : Machine) → SameParts core.live live → HasState core m → HasState (record core { live = live }) m
+has_same core live m same has = record {
+  count = has.count;
+  few = has.few;
+  live = has.live ∙ sym same.live;
+  head = has.head ∙ sym same.head;
+  flushing = same.flushing ∙ has.flushing;
+  flush = has.flush;
+  compaction = has.compaction;
+  blocks = has.blocks;
+  infos = has.infos;
+  segments = has.segments;
+  floor = has.floor;
+  loose = has.loose;
+  next_file = has.next_file;
+  begun = has.begun;
+  pins = has.pins;
+  read_only = has.read_only;
+}
+
+pub stands_lacking : (told : Type 0) (held : Image) (may_leave : Image → Type 0) (core : CoreState) (live : LiveParts) (m : Machine) → SameParts core.live live
+    → StandsFor told held may_leave core m → StandsFor told held may_leave (record core { live = live }) m
+stands_lacking told held may_leave core live m same s = record {
+  has = has_same core live m same s.has;
+  agrees = s.agrees;
+  sound = s.sound;
+  above = s.above;
+  now = s.now;
+  settled = s.settled;
+  sure = s.sure;
+}
+
+-- ---- a push was added
+
+abbrev pub after_pushed : List Span → ℕ → Machine → Machine
+after_pushed spans moment m = record {
+  state = after_push (count_of m.history) spans moment m.state;
+  history = pushed m.history spans;
+  read_only = m.read_only;
+}
+
+pub step_pushed : (before faults : ℕ) (m : Machine) (spans : List Span) (moment number : ℕ) → number ≡ count_of m.history → early m (Push spans moment) ≡ None
+    → Step before faults m (Push spans moment) (Count number) (after_pushed spans moment m)
+step_pushed before faults m spans moment number is free = Succeeds free (ap Count is, refl)
+
+pub has_pushed : (core : CoreState) (live : LiveParts) (segment : Segment) (m : Machine) (spans : List Span) (moment number : ℕ) → HasState core m
+    → live.live ≡ core.live.live ++ arrived moment (batch_rows number spans) → live.head ≡ core.live.head → live.flushing ≡ core.live.flushing
+    → number ≡ core.segment.first + core.segment.count → number < 4294967295
+    → segment.first ≡ core.segment.first → segment.count ≡ core.segment.count + 1
+    → HasState (record core { live = live; segment = segment }) (after_pushed spans moment m)
+has_pushed core live segment m spans moment number has added head flushing is below first count =
+    let grown = count_of-pushed m.history spans in
+    let was = has.count in
+    record {
+      count = omega (arith, grown, was, first, count);
+      few = omega (arith, is, below, first, count);
+      live = ap (λ (l : List LiveRow). l ++ arrived moment (batch_rows (count_of m.history) spans)) has.live
+          ∙ ap (λ (n : ℕ). core.live.live ++ arrived moment (batch_rows n spans)) (was ∙ sym is) ∙ sym added;
+      head = has.head ∙ sym head;
+      flushing = flushing ∙ has.flushing;
+      flush = has.flush;
+      compaction = has.compaction;
+      blocks = has.blocks;
+      infos = has.infos;
+      segments = has.segments;
+      floor = has.floor;
+      loose = has.loose;
+      next_file = has.next_file;
+      begun = has.begun;
+      pins = has.pins;
+      read_only = has.read_only;
+    }
+
+pub stands_pushed : (told told' : Type 0) (held held' : Image) (may_leave may_leave' : Image → Type 0) (core : CoreState) (live : LiveParts) (segment : Segment) (m : Machine) (spans : List Span) (moment number before faults : ℕ)
+    → StandsFor told held may_leave core m → (told' → told) → core.read_only ≡ None
+    → Step before faults m (Push spans moment) (Count number) (after_pushed spans moment m)
+    → HasState (record core { live = live; segment = segment }) (after_pushed spans moment m)
+    → (told → IsSettled held may_leave core.list m.state.blocks (tail_of core.segment) m.history
+    → IsSettled held' may_leave' core.list m.state.blocks (tail_of segment) (pushed m.history spans))
+    → StandsFor told' held' may_leave' (record core { live = live; segment = segment }) (after_pushed spans moment m)
+stands_pushed told told' held held' may_leave may_leave' core live segment m spans moment number before faults s known writes step has settles = record {
+  has = has;
+  agrees = keeps_firsts before faults m _ _ _ s.agrees step;
+  sound = keeps_sound before faults m _ _ _ s.sound step;
+  above = keeps_floor before faults m _ _ _ s.above step;
+  now = λ t image left. subst (λ (u : Option (List Span)). MayStandFor (pushed m.history spans) u image) (sym (s.sure writes))
+      (settled_now held' may_leave' core.list m.state.blocks (tail_of segment) (pushed m.history spans) (settles (known t) (s.settled (known t) writes)) image left);
+  settled = λ t free. settles (known t) (s.settled (known t) writes);
+  sure = s.sure;
+}
+
+-- ---- a push answered a fault
+
+pub has_broken : (core : CoreState) (live : LiveParts) (segment : Segment) (ready : ChunkParts) (faults : ℕ) (m : Machine) → SameParts core.live live → segment ≡ core.segment → HasState core m
+    → HasState (record core { live = live; segment = segment; read_only = Some faults; unsure = Some ready }) (broken faults m)
+has_broken core live segment ready faults m same still has = record {
+  count = has.count ∙ sym (ap (λ (x : Segment). x.first + x.count) still);
+  few = subst (λ (x : Segment). x.first + x.count ≤ 4294967295) (sym still) has.few;
+  live = has.live ∙ sym same.live;
+  head = has.head ∙ sym same.head;
+  flushing = same.flushing ∙ has.flushing;
+  flush = has.flush;
+  compaction = has.compaction;
+  blocks = has.blocks;
+  infos = has.infos;
+  segments = has.segments;
+  floor = has.floor;
+  loose = has.loose;
+  next_file = has.next_file;
+  begun = has.begun;
+  pins = has.pins;
+  read_only = refl;
+}
+
+pub stands_broken : (told told' : Type 0) (held held' : Image) (may_leave may_leave' : Image → Type 0) (core : CoreState) (live : LiveParts) (segment : Segment) (ready : ChunkParts) (faults : ℕ) (m : Machine)
+    → SameParts core.live live → segment ≡ core.segment → StandsFor told held may_leave core m → (told' → told)
+    → (told → (image : Image) → may_leave' image → MayStandFor m.history (Some ready.spans) image)
+    → StandsFor told' held' may_leave' (record core { live = live; segment = segment; read_only = Some faults; unsure = Some ready }) (broken faults m)
+stands_broken told told' held held' may_leave may_leave' core live segment ready faults m same still s known now = record {
+  has = has_broken core live segment ready faults m same still s.has;
+  agrees = s.agrees;
+  sound = s.sound;
+  above = record { waiting = s.above.waiting; next = s.above.next };
+  now = λ t image left. now (known t) image left;
+  settled = λ t none. absurd (let bad : Some faults ≡ None = none in cc);
+  sure = λ none. absurd (let bad : Some faults ≡ None = none in cc);
+}
+
+pub none_of : {A : Type 0} (o : Option A) → ((x : A) → o ≡ Some x → ⊥) → o ≡ None
+none_of None h = refl
+none_of (Some x) h = absurd (h x refl)

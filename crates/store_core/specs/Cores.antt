@@ -1,0 +1,65 @@
+-- What a core stands for: a machine of the store's model, which its memory shows in part, and a history that its disk holds.
+use Rattle.std.specs.Prelude.{◌≡◌, ◌⊎◌, ℕ, ◌+◌, ◌≤◌, List, [], map, Option, None, IsTrue}
+use Rattle.std.specs.Option.{option_map}
+use Rattle.span_types.specs.declared.spans.Span.{Span}
+use Rattle.disk_model.specs.Images.{Image}
+use Rattle.disk_model.specs.declared.disk.Device.{Ghosts}
+use Rattle.head_log.specs.declared.segment.Segment.{Segment}
+use Rattle.block_list.specs.declared.body.SegmentRef.{SegmentRef}
+use Rattle.store_model.specs.History.{History, count_of}
+use Rattle.store_model.specs.State.{State, Segment as ModelSegment, pin_numbers, block_files, is_among}
+use Rattle.store_model.specs.Step.{Machine}
+use Rattle.store_model.specs.Laws.{Agrees}
+use Rattle.store_model.specs.Sound.{StateIsSound}
+use Rattle.store_model.specs.Told.{IsAboveFloor}
+use Rattle.store_state.specs.Given.{info_files}
+use Rattle.store_images.specs.Stored.{MayStandFor, ref_of}
+use Rattle.store_images.specs.Settled.{Tail, IsSettled}
+use Rattle.store_core.specs.Pins.{is_taken}
+use Rattle.store_core.specs.declared.state.CoreState.{CoreState}
+use Rattle.store_core.specs.declared.store.Core.{Core}
+
+abbrev pub tail_of : Segment → Tail
+tail_of segment = record { file = segment.file; first = segment.first; count = segment.count; gate = segment.gate }
+
+-- the batch whose push answered a fault
+abbrev pub unsure_of : CoreState → Option (List Span)
+unsure_of core = option_map (λ ready. ready.spans) core.unsure
+
+abbrev pub segment_of : SegmentRef → ModelSegment
+segment_of ref = record { file = ref.file; first = ref.first }
+
+-- What the core's memory shows of the machine. No job is open as long as there are no calls that begin one.
+pub record HasState (core : CoreState) (m : Machine) : Type 0 where
+  pub count : count_of m.history ≡ core.segment.first + core.segment.count
+  pub few : core.segment.first + core.segment.count ≤ 4294967295
+  pub live : m.state.live ≡ core.live.live
+  pub head : m.state.head ≡ core.live.head
+  pub flushing : core.live.flushing ≡ []
+  pub flush : m.state.flush ≡ None
+  pub compaction : m.state.compaction ≡ None
+  pub blocks : core.list.blocks ≡ map ref_of m.state.blocks
+  pub infos : info_files core.infos ≡ block_files m.state.blocks
+  pub segments : m.state.segments ≡ map segment_of core.list.segments
+  pub floor : m.state.floor ≡ core.list.floor
+  pub loose : m.state.loose ≡ core.list.loose
+  pub next_file : m.state.next_file ≡ core.list.next_file
+  pub begun : m.state.begun ≡ 0
+  pub pins : (n : ℕ) → is_among n (pin_numbers m.state.pins) ≡ is_taken n core.pins.items
+  pub read_only : m.read_only ≡ core.read_only
+
+-- A core with this memory, over a disk that holds this and may leave that, stands for the machine: what it keeps has the
+-- history's first occurrences, and so has every image that a crash may leave now, or it has besides the batch whose push
+-- failed. While the store writes, the disk is settled. `told` says that the disk tells its bytes.
+pub record StandsFor (told : Type 0) (held : Image) (may_leave : Image → Type 0) (core : CoreState) (m : Machine) : Type 0 where
+  pub has : HasState core m
+  pub agrees : Agrees m
+  pub sound : StateIsSound m.state
+  pub above : IsAboveFloor m
+  pub now : told → (image : Image) → may_leave image → MayStandFor m.history (unsure_of core) image
+  pub settled : told → core.read_only ≡ None → IsSettled held may_leave core.list m.state.blocks (tail_of core.segment) m.history
+  pub sure : core.read_only ≡ None → unsure_of core ≡ None
+
+-- the core stands for the machine
+abbrev pub CoreStandsFor : {D : Type 0} (g : Ghosts D) → Core D → Machine → Type 0
+CoreStandsFor {D} g core m = StandsFor (IsTrue (g.tells core.disk)) (g.held core.disk) (g.may_leave core.disk) core.state m

@@ -1,0 +1,49 @@
+-- What one event makes of a core and of its disk.
+use Rattle.std.specs.Prelude.{◌≡◌, ◌⊎◌, ◌≤◌, ℕ, List, Option, None, IsTrue, true, false}
+use Rattle.span_types.specs.Faults.{Rose}
+use Rattle.span_types.specs.declared.spans.Span.{Span}
+use Rattle.disk_model.specs.Images.{Image, bytes_of}
+use Rattle.disk_model.specs.Crash.{LeavesOnly}
+use Rattle.disk_model.specs.declared.disk.Device.{Ghosts}
+use Rattle.store_model.specs.History.{History}
+use Rattle.store_model.specs.State.{is_among}
+use Rattle.store_model.specs.Event.{Event, Reply}
+use Rattle.store_model.specs.Event.Reply.{Refused}
+use Rattle.store_model.specs.Event.Refusal.{Fault}
+use Rattle.store_model.specs.Holds.{Hold, OpenIn, ends, files_of}
+use Rattle.store_model.specs.Step.{Machine, Step}
+use Rattle.store_state.specs.Meaning.{Rewritten}
+use Rattle.store_images.specs.Stored.{MayStandFor, IsTidy}
+use Rattle.store_core.specs.Cores.{CoreStandsFor, unsure_of}
+use Rattle.store_core.specs.declared.store.Core.{Core}
+
+-- Whenever a crash comes in the event, what it leaves stands for what it might have stood for before, or for what it may stand
+-- for after it.
+abbrev pub Between : History → Option (List Span) → History → Option (List Span) → Image → Type 0
+Between before unsure after later_unsure image = MayStandFor before unsure image ⊎ MayStandFor after later_unsure image
+
+-- A step of the machine for which the core stood: the core stands for what it leaves, and so do all images in between.
+pub record Stepped {D : Type 0} (g : Ghosts D) (old : Core D) (event : Event) (reply : Reply) (new : Core D) (m : Machine) : Type 0 where
+  pub machine : Machine
+  pub stands : CoreStandsFor g new machine
+  pub step : Step (g.faults old.disk) (g.faults new.disk) m event reply machine
+  pub images : IsTrue (g.tells old.disk) → LeavesOnly g.moment g.left_since old.disk new.disk
+      (Between m.history (unsure_of old.state) machine.history (unsure_of new.state))
+  -- one batch at most isn't sure, and from then on nothing is pushed
+  pub unsure : (unsure_of old.state ≡ None) ⊎ ((machine.history ≡ m.history) × (unsure_of new.state ≡ unsure_of old.state))
+
+-- One event of a core, with its reply.
+pub record Did {D : Type 0} (g : Ghosts D) (old : Core D) (event : Event) (reply : Reply) (new : Core D) : Type 0 where
+  pub stepped : (m : Machine) → CoreStandsFor g old m → Stepped g old event reply new m
+  -- where all images were tidy, all stay so
+  pub tidy : IsTrue (g.tells old.disk) → (m : Machine) → CoreStandsFor g old m
+      → ((image : Image) → g.may_leave old.disk image → IsTidy image)
+      → LeavesOnly g.moment g.left_since old.disk new.disk IsTidy
+  -- the files of what is open and stays so
+  pub files : IsTrue (g.tells old.disk) → (m : Machine) → CoreStandsFor g old m → (hold : Hold) → OpenIn m hold
+      → ends event reply hold ≡ false → (file : ℕ) → is_among file (files_of hold) ≡ true
+      → Rewritten event reply file (bytes_of (g.held old.disk) file) (bytes_of (g.held new.disk) file)
+  pub telling : g.tells new.disk ≡ g.tells old.disk
+  pub later : g.faults old.disk ≤ g.faults new.disk
+  pub cause : reply ≡ Refused Fault → Rose (g.faults old.disk) (g.faults new.disk)
+  pub reads : g.reads new.disk ≡ g.reads old.disk

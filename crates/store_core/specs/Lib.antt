@@ -1,0 +1,7 @@
+pub mod Pins
+pub mod Cores
+pub mod Events
+pub mod Past
+pub mod New
+pub mod NewCore
+pub mod Opening

@@ -1,0 +1,19 @@
+//! The store over a disk: its events, each of which is a step of the store's model, and what a crash may leave at any moment.
+//!
+//! `specs/Cores.antt` says what a core stands for, `specs/Events.antt` what one event makes of it.
+#![tactic(auto)]
+
+mod admit;
+mod error;
+mod events;
+mod laws;
+mod new_store;
+mod pins;
+mod state;
+mod store;
+
+pub use error::OpenError;
+pub use laws::images_since_opening;
+pub use new_store::{make_store, open_new};
+pub use state::CoreState;
+pub use store::Core;

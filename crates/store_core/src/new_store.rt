@@ -1,0 +1,110 @@
+//! A new store is made on a disk that has none.
+
+ghost use Rattle.std.specs.Prelude.{◌≡◌, ◌≤◌, None, Err, IsTrue, IfOk, IfErr, OnOk};
+ghost use Rattle.span_types.specs.Faults.{Rose};
+ghost use Rattle.disk_model.specs.Crash.{LeavesOnly};
+ghost use Rattle.block_list.specs.Loading.{IsReady};
+ghost use Rattle.store_model.specs.History.{History};
+ghost use Rattle.store_core.specs.New.{new_list, IsEmptyHistory, StoresNothing, IsNewStore};
+ghost use Rattle.store_core.specs.NewCore.{new_machine, IsNewState};
+ghost use Rattle.store_core.specs.Cores.{CoreStandsFor};
+ghost use Rattle.store_core.specs.declared.error.OpenError.TheVariants.{Fault};
+
+use crate::error::OpenError;
+use crate::state::CoreState;
+use crate::store::Core;
+use block_info::Infos;
+use block_list::{BlockList, FileList, ListBody, SegmentList, SegmentRef, commit, prepare};
+use disk_model::Device;
+use head_log::{Segment, create};
+use live_traces::Live;
+use span_types::Memory;
+use std::alloc::Global;
+
+/// Opens a new store on a disk whose slots are vacant. At `Ok` the core stands for each history without rows and entries.
+///
+/// Refused, it hands the disk back as far as it came.
+pub fn open_new<D: Device>(alloc: Global, disk: D) -> Result<Core<D>, (OpenError, D)>
+    requires vacant { IsTrue (D.tells disk) → IsReady (D.held disk) (D.may_leave disk) None }
+    ensures stands { IfOk result (λ core. (h : History) → IsEmptyHistory h → CoreStandsFor D.Device.own core (new_machine h)) }
+    // Whenever a crash comes, nothing is stored, and what is left is tidy.
+    ensures any_moment { IfOk result (λ core. IsTrue (D.tells disk) →
+        LeavesOnly D.moment D.left_since disk core.disk StoresNothing) }
+    ensures any_moment_refused { IfErr result (λ e. IsTrue (D.tells disk) →
+        LeavesOnly D.moment D.left_since disk e.1 StoresNothing) }
+    ensures telling { IfOk result (λ core. D.tells core.disk ≡ D.tells disk) }
+    ensures telling_refused { IfErr result (λ e. D.tells e.1 ≡ D.tells disk) }
+    ensures later { IfOk result (λ core. D.faults disk ≤ D.faults core.disk) }
+    ensures later_refused { IfErr result (λ e. D.faults disk ≤ D.faults e.1) }
+    ensures fault { IfErr result (λ e. e.0 ≡ Fault → Rose (D.faults disk) (D.faults e.1)) }
+{
+    let mut disk = disk;
+    match make_store(alloc, &mut disk) {
+        Ok(list) => Ok(Core {
+            alloc,
+            disk,
+            state: new_state(alloc, list),
+        }),
+        Err(error) => Err((error, disk)),
+    }
+}
+
+// What a new store keeps in memory.
+fn new_state(alloc: Global, list: ListBody) -> CoreState
+    requires { list ≡ new_list }
+    ensures { IsNewState result }
+{
+    CoreState {
+        live: Live::new(alloc),
+        list,
+        infos: Infos::none(alloc),
+        segment: Segment::fresh(2, 0),
+        pins: Vec::new(alloc),
+        read_only: None,
+        unsure: None,
+    }
+}
+
+/// Makes a new store on a disk whose slots are vacant: an empty segment, and a list that names it. All memory is taken before the
+/// disk is changed.
+pub fn make_store<D: Device>(alloc: Global, disk: &mut D) -> Result<ListBody, OpenError>
+    requires vacant { IsTrue (D.tells disk.old) → IsReady (D.held disk.old) (D.may_leave disk.old) None }
+    ensures list { IfOk result (λ list. list ≡ new_list) }
+    // Whenever a crash comes, nothing is stored, and what is left is tidy.
+    ensures any_moment { IsTrue (D.tells disk.old) → LeavesOnly D.moment D.left_since disk.old disk.new StoresNothing }
+    ensures made { IsTrue (D.tells disk.old) → OnOk result (IsNewStore (D.held disk.new) (D.may_leave disk.new)) }
+    ensures telling { D.tells disk.new ≡ D.tells disk.old }
+    ensures later { D.faults disk.old ≤ D.faults disk.new }
+    ensures fault { result ≡ Err Fault → Rose (D.faults disk.old) (D.faults disk.new) }
+    ensures no_read { D.reads disk.new ≡ D.reads disk.old }
+{
+    let Ok(list) = first_list(alloc) else {
+        return Err(OpenError::Memory);
+    };
+    let Ok(prepared) = prepare(alloc, &list) else {
+        return Err(OpenError::Memory);
+    };
+    let Ok(()) = create(disk, 2) else {
+        return Err(OpenError::Fault);
+    };
+    let Ok(()) = commit(disk, &prepared) else {
+        return Err(OpenError::Fault);
+    };
+    Ok(list)
+}
+
+// The list of a new store.
+fn first_list(alloc: Global) -> Result<ListBody, Memory>
+    ensures { IfOk result (λ list. list ≡ new_list) }
+{
+    let mut segments = Vec::new(alloc);
+    segments.push(SegmentRef { file: 2, first: 0 })?;
+    Ok(ListBody {
+        generation: 0,
+        next_file: 3,
+        floor: 0,
+        segments: SegmentList::of(segments),
+        blocks: BlockList::none(alloc),
+        loose: FileList::none(alloc),
+    })
+}

@@ -1,0 +1,25 @@
+//! What a store keeps in memory.
+
+use block_info::Infos;
+use block_list::ListBody;
+use head_log::Segment;
+use live_traces::{Live, Ready};
+
+/// What a store keeps in memory beside its disk.
+#[derive(Drop)]
+pub struct CoreState {
+    /// The rows that are in no block yet.
+    pub live: Live,
+    /// The list that counts on the disk.
+    pub list: ListBody,
+    /// The information of the listed blocks, in list order.
+    pub infos: Infos,
+    /// The last segment of the list, which is written on.
+    pub segment: Segment,
+    /// For each number of a pin whether a pin has it.
+    pub pins: Vec<bool>,
+    /// The disk's count of faults after the first write, cut or sync that failed since opening.
+    pub read_only: Option<u64>,
+    /// The batch of the push that answered a fault, if there is one: a later image may have it as the next entry.
+    pub unsure: Option<Ready>,
+}

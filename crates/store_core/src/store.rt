@@ -1,0 +1,28 @@
+//! A store over a disk.
+
+ghost use Rattle.std.specs.Prelude.{◌≡◌};
+
+use crate::state::CoreState;
+use disk_model::Device;
+use std::alloc::Global;
+
+/// A store over a disk, whose calls are its events. It makes them one after another; each takes all memory that it needs before
+/// it first changes the disk.
+#[derive(Drop)]
+pub struct Core<D: Device> {
+    /// Where its memory comes from.
+    pub alloc: Global,
+    /// The disk, which nobody else writes.
+    pub disk: D,
+    /// What it keeps in memory.
+    pub state: CoreState,
+}
+
+impl<D: Device> Core<D> {
+    /// Closes the store, and gives the disk back. It makes no device call and takes no memory.
+    pub fn close(self) -> D
+        ensures { result ≡ self.disk }
+    {
+        self.disk
+    }
+}

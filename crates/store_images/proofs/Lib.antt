@@ -1,0 +1,5 @@
+pub mod Lists
+pub mod Growing
+pub mod Logs
+pub mod Keeping
+pub mod Storing

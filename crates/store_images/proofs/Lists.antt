@@ -1,0 +1,23 @@
+-- Members of lists.
+use Rattle.std.proofs.Common.{◌≡◌, ◌⊎◌, inl, inr, ℕ, ◌<◌, zero, suc, List, [], ◌∷◌, ◌++◌, map, length, refl, subst, arith, ap}
+use Rattle.std.specs.List.{Contains}
+
+pub not_in_nil : {X : Type 0} (x : X) → Contains [] x → ⊥
+not_in_nil x c = absurd (omega (arith, c.1))
+
+pub at_front : {X : Type 0} (x : X) (xs : List X) → Contains (x ∷ xs) x
+at_front x xs = (zero, omega arith, refl)
+
+pub behind : {X : Type 0} (x y : X) (xs : List X) → Contains xs x → Contains (y ∷ xs) x
+behind x y xs (k, l, e) = (suc k, omega (arith, l), e)
+
+pub in_cons : {X : Type 0} (x y : X) (ys : List X) → Contains (y ∷ ys) x → (y ≡ x) ⊎ Contains ys x
+in_cons x y ys (zero, l, e) = inl e
+in_cons x y ys (suc k, l, e) = inr (k, omega (arith, l), e)
+
+pub in_map : {X Y : Type 0} (f : X → Y) (xs : List X) (x : X) → Contains xs x → Contains (map f xs) (f x)
+in_map f [] x c = absurd (not_in_nil x c)
+in_map f (y ∷ ys) x c = elim (in_cons x y ys c) [
+  | inl is ↦ subst (λ z. Contains (f y ∷ map f ys) (f z)) is (at_front (f y) (map f ys))
+  | inr rest ↦ behind (f x) (f y) (map f ys) (in_map f ys x rest)
+]

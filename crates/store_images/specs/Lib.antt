@@ -1,0 +1,4 @@
+pub mod BlockFile
+pub mod Log
+pub mod Stored
+pub mod Settled
