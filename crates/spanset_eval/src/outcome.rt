@@ -3,7 +3,7 @@
 ghost use Rattle.std.specs.Prelude.{◌≡◌, ◌<◌, IfOk, None};
 ghost use Rattle.span_tree.specs.Nodes.{IsOneTrace};
 ghost use Rattle.traceql_syntax.specs.Trees.{query_tree, set_tree};
-ghost use Rattle.traceql_value.specs.EvalContexts.{context_patterns, context_rows, matchers_patterns, IsSame};
+ghost use Rattle.traceql_value.specs.EvalContexts.{context_loan, context_patterns, context_rows, matchers_patterns, IsSame};
 ghost use Rattle.spanset_eval.specs.Outcomes.{IsCutOutcome, IsListOf, IsOutcome};
 ghost use Rattle.spanset_eval.specs.Sets.{Selects};
 
@@ -84,7 +84,9 @@ pub fn evaluate_rows(
     ensures matchers { matchers_patterns matchers.new ≡ matchers_patterns matchers.old }
 {
     let mut context = EvalContext::of(alloc, matchers, rows);
-    outcome(&checked.query, &mut context, Some(most))
+    let found = outcome(&checked.query, &mut context, Some(most));
+    context.into_matchers();
+    found
 }
 
 // What a query answers of the context's trace, with at most so many spans of each spanset.
@@ -96,7 +98,8 @@ fn outcome<'a>(
     requires { IsOneTrace (context_rows context.old) }
     ensures outcome { IfOk result (IsCutOutcome most (context_patterns context.old)
         (context_rows context.old) (query_tree query.now)) }
-    ensures context { IsSame context.old context.new }
+    ensures lent { context_loan context.new ≡ context_loan context.old }
+    ensures patterns { context_patterns context.new ≡ context_patterns context.old }
 {
     let members = select_positions(context, &query.spansets)?;
     let groups = stages::drop_empty(stages::single(context.alloc(), members)?);

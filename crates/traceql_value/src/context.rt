@@ -41,6 +41,14 @@ impl<'q, 'a> EvalContext<'q, 'a> {
         }
     }
 
+    /// The loan of the matchers again, where the context ends.
+    pub fn into_matchers(self) -> &'a mut Matchers<'q>
+        ensures lent { result.ghost_name ≡ context_loan self.entry }
+        ensures patterns { matchers_patterns result.now ≡ context_patterns self.entry }
+    {
+        self.matchers
+    }
+
     /// Where memory comes from.
     pub fn alloc(&self) -> Global {
         self.alloc

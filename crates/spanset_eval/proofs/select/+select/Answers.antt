@@ -1,9 +1,11 @@
-use Rattle.std.proofs.Common.{◌≡◌, ◌∙◌, length, subst}
+use Rattle.std.proofs.Common.{◌≡◌, ◌∙◌, ◌<◌, length, sym, subst, arith}
 use Rattle.span_tree.specs.Marking.{IsMarked}
+use Rattle.span_tree.specs.Nodes.{IsOneTrace}
 use Rattle.traceql_syntax.specs.Trees.{placed_option, set_tree, Filter}
 use Rattle.traceql_value.specs.EvalContexts.{context_patterns, context_rows}
+use Rattle.spanset_eval.specs.Chains.{set_size}
 use Rattle.spanset_eval.specs.MadeTree.{IsTreeOf}
-use Rattle.spanset_eval.proofs.Chaining.{along_step, joined_along, selects_along}
+use Rattle.spanset_eval.proofs.Chaining.{along_smaller, along_step, joined_along, selects_along}
 use Rattle.spanset_eval.proofs.SelectLaws.{kept_set}
 use Rattle.spanset_eval.proofs.select.+select.Goals as goal
 
@@ -42,4 +44,13 @@ up-preserved g t c =
     }
 
 pub select-requires : goal.select-requires
-select-requires g t c = ?
+select-requires g t c =
+    let context = c.args.context.now in
+    let before = c.up.invariant in
+    let smaller = along_smaller (context_patterns context) (context_rows context) (set_tree c.args.expr.now) c.in-Some.outer
+    c.up.pending.items c.pop.new.self.items c.up.marks c.in-Some.ensures.items before.marks in
+    let less : set_size (set_tree c.in-Some.outer.right.now) < t = omega (arith, smaller, c.decreases) in
+    λ κs outlives. (
+      less,
+      (outlives, (subst IsOneTrace (sym before.context.rows) c.requires.one, subst (λ rs. IsTreeOf rs c.up.made) (sym before.context.rows) before.made)),
+    )
