@@ -84,9 +84,7 @@ pub fn evaluate_rows(
     ensures matchers { matchers_patterns matchers.new ≡ matchers_patterns matchers.old }
 {
     let mut context = EvalContext::of(alloc, matchers, rows);
-    let found = outcome(&checked.query, &mut context, Some(most));
-    context.into_matchers();
-    found
+    outcome(&checked.query, &mut context, Some(most))
 }
 
 // What a query answers of the context's trace, with at most so many spans of each spanset.

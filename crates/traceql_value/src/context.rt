@@ -20,11 +20,23 @@ use traceql_types::Checked;
 
 /// A trace, and a query's matchers lent to it: what is computed once and not for each span. The matchers are free again
 /// where the context ends, and search for the same patterns as before, whatever failed meanwhile.
-#[derive(Drop)]
 pub struct EvalContext<'q, 'a> {
+    matchers: &'a mut Matchers<'q>,
     alloc: Global,
     trace: Trace<'a>,
-    matchers: &'a mut Matchers<'q>,
+}
+
+impl Drop for EvalContext<'_, '_> {
+    // The matchers that were lent are left with the same patterns.
+    fn drop(self)
+        ensures { matchers_patterns self.exit.0.now ≡ context_patterns self.entry }
+    {
+        let Self {
+            matchers: _matchers,
+            alloc: _alloc,
+            trace: _trace,
+        } = self;
+    }
 }
 
 impl<'q, 'a> EvalContext<'q, 'a> {
@@ -35,18 +47,10 @@ impl<'q, 'a> EvalContext<'q, 'a> {
         ensures rows { context_rows result ≡ rows.now }
     {
         EvalContext {
+            matchers,
             alloc,
             trace: Trace::of(rows),
-            matchers,
         }
-    }
-
-    /// The loan of the matchers again, where the context ends.
-    pub fn into_matchers(self) -> &'a mut Matchers<'q>
-        ensures lent { result.ghost_name ≡ context_loan self.entry }
-        ensures patterns { matchers_patterns result.now ≡ context_patterns self.entry }
-    {
-        self.matchers
     }
 
     /// Where memory comes from.
