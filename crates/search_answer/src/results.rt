@@ -18,29 +18,29 @@ use traceql_value::Matchers;
 /// The results of the first `limit` of these traces of which the query answers something, in their order, with the first
 /// `spans_per_set` spans of each spanset. No trace after them is evaluated, and none twice.
 ///
-/// The matchers are those of the query's patterns. They are lent, and search for the same afterwards, whatever comes of
-/// this. The one error is want of memory.
+/// The matchers are those of the query's patterns. The one error is want of memory.
 pub fn first_results(
     alloc: Global,
     checked: &Checked,
-    matchers: &mut Matchers<'_>,
+    matchers: Matchers<'_>,
     bounds: Bounds,
     traces: &[TraceInRange<'_>],
 ) -> Result<Vec<TraceResult>, Memory>
     requires one { All (λ t. IsOneTrace t.rows.now) traces.now }
-    requires patterns { matchers_patterns matchers.old ≡ checked.now.patterns }
-    ensures results { IfOk result (λ found. AreFirstAnswers checked.now.patterns
+    requires patterns { matchers_patterns matchers ≡ checked.now.patterns }
+    ensures { IfOk result (λ found. AreFirstAnswers checked.now.patterns
         (query_tree checked.now.query) bounds (rows_of_each traces.now) found.items) }
-    ensures matchers { matchers_patterns matchers.new ≡ matchers_patterns matchers.old }
 {
+    let mut matchers = matchers;
     let mut found = Vec::new(alloc);
     for trace in traces {
         if found.len() >= bounds.limit as usize {
             return Ok(found);
         }
         let most = bounds.spans_per_set as usize;
-        let more = evaluate_rows(alloc, checked, matchers, trace.rows, most)?;
-        extend(&mut found, more)?;
+        let (more, same) = evaluate_rows(alloc, checked, matchers, trace.rows, most);
+        matchers = same;
+        extend(&mut found, more?)?;
     }
     Ok(found)
 }

@@ -33,7 +33,7 @@ pub fn answer(
 {
     let found = traces_in_range(alloc, range, rows)?;
     let traces = rank_traces(found);
-    let mut matchers = Matchers::of(alloc, checked)?;
-    let results = first_results(alloc, checked, &mut matchers, bounds, traces.as_slice())?;
+    let matchers = Matchers::of(alloc, checked)?;
+    let results = first_results(alloc, checked, matchers, bounds, traces.as_slice())?;
     Ok(Results::of(results))
 }

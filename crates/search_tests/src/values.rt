@@ -268,14 +268,14 @@ fn spans_alone(rt: HostRuntime) -> Result<(), Fail> {
     check_rows(&rt, NUMBERED, OF_NUMBERED, 0)
 }
 
-/// Adds what a condition is for each span of a line's trace.
-fn add_truths(
+/// Adds what a condition is for each span of a line's trace, and gives the matchers back.
+fn add_truths<'q>(
     alloc: Global,
-    matchers: &mut Matchers<'_>,
+    matchers: Matchers<'q>,
     condition: &FieldExpr,
     line: &str,
     so: &mut Vec<bool>,
-) -> Result<(), Fail> {
+) -> Result<Matchers<'q>, Fail> {
     let trace = rows_of(alloc, &[line])?;
     let mut context = EvalContext::of(alloc, matchers, trace.as_slice());
     for row in trace.as_slice() {
@@ -284,11 +284,11 @@ fn add_truths(
         };
         so.push(truth)?;
     }
-    Ok(())
+    Ok(context.leave())
 }
 
 #[test]
-fn matchers_are_lent_again(rt: HostRuntime) -> Result<(), Fail> {
+fn matchers_go_on(rt: HostRuntime) -> Result<(), Fail> {
     let alloc = rt.alloc();
     let checked = grouping(
         alloc,
@@ -297,13 +297,13 @@ fn matchers_are_lent_again(rt: HostRuntime) -> Result<(), Fail> {
     let [Stage::By(operand)] = checked.query.stages.as_slice() else {
         return Err(Fail::new("the query has another stage"));
     };
-    let Ok(mut matchers) = Matchers::of(alloc, &checked) else {
+    let Ok(matchers) = Matchers::of(alloc, &checked) else {
         return Err(Fail::new("no memory"));
     };
     let mut so = Vec::new(alloc);
-    add_truths(alloc, &mut matchers, &operand.expr, LINE, &mut so)?;
-    add_truths(alloc, &mut matchers, &operand.expr, LONG, &mut so)?;
-    add_truths(alloc, &mut matchers, &operand.expr, LINE, &mut so)?;
+    let matchers = add_truths(alloc, matchers, &operand.expr, LINE, &mut so)?;
+    let matchers = add_truths(alloc, matchers, &operand.expr, LONG, &mut so)?;
+    add_truths(alloc, matchers, &operand.expr, LINE, &mut so)?;
     let wanted = [
         false, false, false, false, true, true, false, false, false, false, true,
     ];
@@ -319,10 +319,10 @@ fn context_of_a_trace(rt: HostRuntime) -> Result<(), Fail> {
     let [Stage::By(operand)] = checked.query.stages.as_slice() else {
         return Err(Fail::new("the query has another stage"));
     };
-    let Ok(mut matchers) = Matchers::of(alloc, &checked) else {
+    let Ok(matchers) = Matchers::of(alloc, &checked) else {
         return Err(Fail::new("no memory"));
     };
-    let mut context = EvalContext::of(alloc, &mut matchers, trace.as_slice());
+    let mut context = EvalContext::of(alloc, matchers, trace.as_slice());
     assert_eq!(rt; context.start(), 50);
     assert_eq!(rt; context.nanos(), 350);
     let mut so = Vec::new(alloc);

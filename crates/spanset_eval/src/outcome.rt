@@ -3,7 +3,7 @@
 ghost use Rattle.std.specs.Prelude.{◌≡◌, ◌<◌, IfOk, None};
 ghost use Rattle.span_tree.specs.Nodes.{IsOneTrace};
 ghost use Rattle.traceql_syntax.specs.Trees.{query_tree, set_tree};
-ghost use Rattle.traceql_value.specs.EvalContexts.{context_loan, context_patterns, context_rows, matchers_patterns, IsSame};
+ghost use Rattle.traceql_value.specs.EvalContexts.{context_patterns, context_rows, matchers_patterns, IsSame};
 ghost use Rattle.spanset_eval.specs.Outcomes.{IsCutOutcome, IsListOf, IsOutcome};
 ghost use Rattle.spanset_eval.specs.Sets.{Selects};
 
@@ -62,29 +62,30 @@ pub fn evaluate(
     requires { IsOneTrace trace.now }
     ensures { IfOk result (IsOutcome checked.now.patterns trace.now (query_tree checked.now.query)) }
 {
-    let mut matchers = Matchers::of(alloc, checked)?;
-    let mut context = EvalContext::of(alloc, &mut matchers, trace.as_slice());
+    let matchers = Matchers::of(alloc, checked)?;
+    let mut context = EvalContext::of(alloc, matchers, trace.as_slice());
     outcome(&checked.query, &mut context, None)
 }
 
 /// The same of a slice of rows, with at most so many spans of each spanset: the first ones. How many a spanset has is told
-/// all the same. The matchers are those of the query's patterns; they are lent, and search for the same afterwards, also
-/// where memory runs out.
-pub fn evaluate_rows(
+/// all the same. The matchers are those of the query's patterns; they are given back for the next trace, also where memory
+/// runs out.
+pub fn evaluate_rows<'q>(
     alloc: Global,
     checked: &Checked,
-    matchers: &mut Matchers<'_>,
+    matchers: Matchers<'q>,
     rows: &[Row],
     most: usize,
-) -> Result<Option<TraceResult>, Memory>
+) -> (Result<Option<TraceResult>, Memory>, Matchers<'q>)
     requires one { IsOneTrace rows.now }
-    requires patterns { matchers_patterns matchers.old ≡ checked.now.patterns }
-    ensures outcome { IfOk result
+    requires patterns { matchers_patterns matchers.entry ≡ checked.now.patterns }
+    ensures outcome { IfOk result.0
         (IsCutOutcome (Some most) checked.now.patterns rows.now (query_tree checked.now.query)) }
-    ensures matchers { matchers_patterns matchers.new ≡ matchers_patterns matchers.old }
+    ensures matchers { matchers_patterns result.1 ≡ matchers_patterns matchers.entry }
 {
     let mut context = EvalContext::of(alloc, matchers, rows);
-    outcome(&checked.query, &mut context, Some(most))
+    let found = outcome(&checked.query, &mut context, Some(most));
+    (found, context.leave())
 }
 
 // What a query answers of the context's trace, with at most so many spans of each spanset.
@@ -96,8 +97,7 @@ fn outcome<'a>(
     requires { IsOneTrace (context_rows context.old) }
     ensures outcome { IfOk result (IsCutOutcome most (context_patterns context.old)
         (context_rows context.old) (query_tree query.now)) }
-    ensures lent { context_loan context.new ≡ context_loan context.old }
-    ensures patterns { context_patterns context.new ≡ context_patterns context.old }
+    ensures context { IsSame context.old context.new }
 {
     let members = select_positions(context, &query.spansets)?;
     let groups = stages::drop_empty(stages::single(context.alloc(), members)?);

@@ -1,5 +1,5 @@
 -- What clauses see of a query's matchers and of a context.
-use Rattle.std.specs.Prelude.{◌≡◌, ℕ, List}
+use Rattle.std.specs.Prelude.{◌≡◌, List}
 use Rattle.span_types.specs.declared.spans.Row.{Row}
 use Rattle.traceql_types.specs.declared.pattern.Pattern.{Pattern}
 use Rattle.traceql_value.specs.declared.context.EvalContext.{EvalContext}
@@ -11,18 +11,13 @@ matchers_patterns s = s.patterns.now
 
 -- the patterns that a context has ready to search
 abbrev pub context_patterns : EvalContext → List Pattern
-context_patterns s = matchers_patterns s.matchers.now
-
--- the loan by which a context has its matchers
-abbrev pub context_loan : EvalContext → ℕ
-context_loan s = s.matchers.ghost_name
+context_patterns s = matchers_patterns s.matchers
 
 -- the rows of the trace
 abbrev pub context_rows : EvalContext → List Row
 context_rows s = s.trace.rows.now
 
--- The context is still one of the same query and the same trace, by the same loan.
+-- The context is still one of the same query and the same trace.
 pub record IsSame (old new : EvalContext) : Type 0 where
-  pub lent : context_loan new ≡ context_loan old
   pub patterns : context_patterns new ≡ context_patterns old
   pub rows : context_rows new ≡ context_rows old

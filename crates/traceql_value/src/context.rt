@@ -3,7 +3,7 @@
 ghost use Rattle.std.specs.Prelude.{◌≡◌, ◌<◌, IfOk, IfSome, length, slice_get};
 ghost use Rattle.traceql_syntax.specs.Trees.{tree};
 ghost use Rattle.traceql_value.specs.Meaning.{value_of, is_so};
-ghost use Rattle.traceql_value.specs.EvalContexts.{matchers_patterns, context_loan, context_patterns, context_rows, IsSame};
+ghost use Rattle.traceql_value.specs.EvalContexts.{matchers_patterns, context_patterns, context_rows, IsSame};
 ghost use Rattle.traceql_value.specs.ValueRef.{ref_value};
 ghost use Rattle.traceql_value.specs.Spans.{field_of_span, root_name, root_service, start_of, trace_nanos};
 
@@ -18,39 +18,33 @@ use std::alloc::Global;
 use traceql_syntax::{Field, FieldExpr};
 use traceql_types::Checked;
 
-/// A trace, and a query's matchers lent to it: what is computed once and not for each span. The matchers are free again
-/// where the context ends, and search for the same patterns as before, whatever failed meanwhile.
+/// A trace, and a query's matchers: what is computed once and not for each span. `leave` gives the matchers back, for the
+/// next trace's context.
+#[derive(Drop)]
 pub struct EvalContext<'q, 'a> {
-    matchers: &'a mut Matchers<'q>,
     alloc: Global,
     trace: Trace<'a>,
-}
-
-impl Drop for EvalContext<'_, '_> {
-    // The matchers that were lent are left with the same patterns.
-    fn drop(self)
-        ensures { matchers_patterns self.exit.0.now ≡ context_patterns self.entry }
-    {
-        let Self {
-            matchers: _matchers,
-            alloc: _alloc,
-            trace: _trace,
-        } = self;
-    }
+    matchers: Matchers<'q>,
 }
 
 impl<'q, 'a> EvalContext<'q, 'a> {
     /// The context of a query's matchers and the rows of a trace. It takes no memory.
-    pub fn of(alloc: Global, matchers: &'a mut Matchers<'q>, rows: &'a [Row]) -> EvalContext<'q, 'a>
-        ensures lent { context_loan result ≡ matchers.entry.ghost_name }
-        ensures patterns { context_patterns result ≡ matchers_patterns matchers.old }
+    pub fn of(alloc: Global, matchers: Matchers<'q>, rows: &'a [Row]) -> EvalContext<'q, 'a>
+        ensures patterns { context_patterns result ≡ matchers_patterns matchers.entry }
         ensures rows { context_rows result ≡ rows.now }
     {
         EvalContext {
-            matchers,
             alloc,
             trace: Trace::of(rows),
+            matchers,
         }
+    }
+
+    /// The query's matchers again, for the next trace.
+    pub fn leave(self) -> Matchers<'q>
+        ensures { matchers_patterns result ≡ context_patterns self.entry }
+    {
+        self.matchers
     }
 
     /// Where memory comes from.
@@ -73,7 +67,7 @@ impl<'q, 'a> EvalContext<'q, 'a> {
         evaluate(
             self.alloc,
             &self.trace,
-            self.matchers,
+            &mut self.matchers,
             expr,
             span,
             RECURSION,
@@ -88,7 +82,7 @@ impl<'q, 'a> EvalContext<'q, 'a> {
         let found = evaluate(
             self.alloc,
             &self.trace,
-            self.matchers,
+            &mut self.matchers,
             expr,
             span,
             RECURSION,
@@ -104,7 +98,7 @@ impl<'q, 'a> EvalContext<'q, 'a> {
         let found = evaluate(
             self.alloc,
             &self.trace,
-            self.matchers,
+            &mut self.matchers,
             expr,
             span,
             RECURSION,

@@ -5,8 +5,8 @@ use Rattle.search_answer.specs.declared.traces.TraceInRange.{TraceInRange}
 use Rattle.search_answer.proofs.Shown.{enough_shown, next_one}
 use Rattle.search_answer.proofs.results.first_results.Goals as goal
 
-pub returns-then-len-bounds-clause-results : goal.returns-then-len-bounds-clause-results
-returns-then-len-bounds-clause-results c =
+pub returns-then-len-bounds : goal.returns-then-len-bounds
+returns-then-len-bounds c =
     let full : c.args.bounds.limit ≤ length c.loop-trace.found.items = omega (arith, c.if-len-bounds.true, c.len.ensures) in
     enough_shown c.args.checked.now.patterns (query_tree c.args.checked.now.query) c.args.bounds c.args.traces.now c.loop-trace.trace-index c.loop-trace.found.items c.requires.one full
     c.loop-trace.invariant.shown

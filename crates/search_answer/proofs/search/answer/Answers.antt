@@ -28,4 +28,4 @@ returns c =
     subst (IsAnswer ps q c.args.range bounds.limit bounds.spans_per_set rows) (sym c.of-2.ensures)
     (ranked_answer ps q c.args.range bounds rows ranked c.in_ok-results.results.items
     (reordered c.args.range rows c.in_ok-found.found.items ranked c.rank_traces-traces.ensures.same c.in_ok-found.ensures) c.rank_traces-traces.ensures.sorted
-    (subst (λ ts. AreFirstAnswers ps q bounds (rows_of_each ts) c.in_ok-results.results.items) c.as_slice.ensures.value c.in_ok-results.ensures.results))
+    (subst (λ ts. AreFirstAnswers ps q bounds (rows_of_each ts) c.in_ok-results.results.items) c.as_slice.ensures.value c.in_ok-results.ensures))

@@ -25,7 +25,6 @@ loop-position-preserved c =
           c.in_ok-add_number.ensures ∙ ap (λ xs. xs ++ option_to_list c.whole.result) c.loop-position.invariant.numbers
           ∙ ap (λ o. numbers_of ps rows e (take i c.args.members.now) ++ option_to_list o) (c.whole.ensures ∙ ap whole_of value_is) ∙ sym more;
       context = record {
-        lent = c.value_at.ensures.context.lent ∙ before.lent;
         patterns = c.value_at.ensures.context.patterns ∙ before.patterns;
         rows = c.value_at.ensures.context.rows ∙ before.rows;
       };

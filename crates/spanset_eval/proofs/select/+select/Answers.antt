@@ -36,7 +36,6 @@ up-preserved g t c =
           (selects_along ps (context_patterns c.up.context) rows (context_rows c.up.context) (set_tree p.right.now) right before.context.patterns before.context.rows c.in_ok-right.ensures.marks)
           (joined_along p.op rows c.rows-rows.result.now (IsMarked left) (IsMarked right) marks same_rows c.in_ok-marks-2.ensures.marks);
       context = record {
-        lent = within.lent ∙ before.context.lent;
         patterns = within.patterns ∙ before.context.patterns;
         rows = within.rows ∙ before.context.rows;
       };
