@@ -78,7 +78,7 @@ pub fn evaluate_rows<'q>(
     most: usize,
 ) -> (Result<Option<TraceResult>, Memory>, Matchers<'q>)
     requires one { IsOneTrace rows.now }
-    requires patterns { matchers_patterns matchers.entry ≡ checked.now.patterns }
+    requires patterns { matchers_patterns matchers ≡ checked.now.patterns }
     ensures outcome { IfOk result.0
         (IsCutOutcome (Some most) checked.now.patterns rows.now (query_tree checked.now.query)) }
     ensures matchers { matchers_patterns result.1 ≡ matchers_patterns matchers.entry }
