@@ -1,13 +1,10 @@
 //! Live rows, the head, and the rows of an open flush.
 
-ghost use Rattle.std.specs.Prelude.{◌≡◌, ◌≤◌, ◌<◌, ◌+◌, ◌-◌, ◌++◌, ◌^◌, ◌∷◌, [], List, nat_le, unwrap_or, if◌then◌else◌, Option, Some, None, length, take, drop, map, filter, not, true, IfOk, IfErr, OnOk, OnErr};
-ghost use Rattle.std.specs.Vec.{vec_capacity};
-ghost use Rattle.std.specs.List.Sorted.{IsPermutation, IsSortedBy};
-ghost use Rattle.std.specs.Ordering.{is_lt};
+ghost use Rattle.std.specs.Prelude.{◌≡◌, ◌+◌, ◌++◌, [], List, length, take, drop, filter, not, true, IfOk, IfErr, OnOk, OnErr};
 ghost use Rattle.span_types.specs.declared.spans.Row.{Row};
 ghost use Rattle.store_model.specs.History.{batch_rows};
 ghost use Rattle.store_model.specs.State.{live_rows};
-ghost use Rattle.store_model.specs.Cut.{cut_order, is_idle, AreMoved};
+ghost use Rattle.store_model.specs.Cut.{is_idle, AreMoved};
 ghost use Rattle.store_model.specs.After.{arrived};
 ghost use Rattle.rows_by_trace.specs.Traces.{rows_of_trace};
 ghost use Rattle.live_traces.specs.Rows.{chunk_rows, push_rows, run_rows};
