@@ -1,15 +1,15 @@
 -- What a step gives out is new.
-use Rattle.std.proofs.Common.{◌≡◌, ℕ, ◌+◌, ◌<◌, ◌≤◌, List, [], ◌∷◌, ◌++◌, Option, None, Some, Bool, true, false, refl, sym, ◌∙◌, ap, subst, arith}
+use Rattle.std.proofs.Common.{◌≡◌, ℕ, ◌+◌, ◌<◌, ◌≤◌, [], ◌∷◌, None, Some, Bool, true, false, refl, sym, ◌∙◌, ap, subst, arith}
 use Rattle.std.specs.List.{Contains}
 use Rattle.store_model.specs.State.{State, Flush, Compaction, is_among, flush_files, compaction_files, open_files, pin_numbers, flush_numbers, compaction_numbers, IsFreeNumber}
 use Rattle.store_model.specs.Event.{Event, Reply}
 use Rattle.store_model.specs.Event.Event.{Push, Cut, CutAll, Held, BeginFlush, BeginCompact, WritePiece, CommitFlush, CommitCompact, DropFlush, DropCompact, Look, ReadPage, Done, Reclaim}
-use Rattle.store_model.specs.Step.{Machine, Step, Happens, early}
+use Rattle.store_model.specs.Step.{Machine, Step, Happens}
 use Rattle.store_model.specs.Holds.{Hold, opened, own_files, OpenIn}
 use Rattle.store_model.specs.Holds.Hold.{OpenLook, OpenFlush, OpenCompact}
-use Rattle.store_model.specs.Sound.{times, jobs_with, HasOwnNumbers, StateIsSound}
+use Rattle.store_model.specs.Sound.{times, jobs_with, StateIsSound}
 use Rattle.store_model.specs.Fresh.{IsNewFile, GivesNewFiles, pin_of, job_of, AreApart}
-use Rattle.store_model.proofs.Numbers.{times-append, named, not_named, not_among, one_number, two_numbers}
+use Rattle.store_model.proofs.Numbers.{times-append, named, not_named, one_number, two_numbers}
 use Rattle.store_model.proofs.Outcomes.{kept_by}
 use Rattle.store_model.proofs.TellsHistory.IsPlain.{ARefusal, NoWork}
 use Rattle.store_model.proofs.TellsHistory.{IsPlain, split, not_in_nil, only_one, plain_opens}

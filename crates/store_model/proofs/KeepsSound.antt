@@ -1,5 +1,5 @@
 -- Each step keeps a state sound, and what is emptied is out of use.
-use Rattle.std.proofs.Common.{zero, suc, ◌≡◌, ℕ, ◌+◌, ◌<◌, ◌≤◌, [], ◌∷◌, Bool, true, false, not, refl, arith}
+use Rattle.std.proofs.Common.{zero, suc, ◌≡◌, ℕ, ◌+◌, ◌≤◌, [], ◌∷◌, Bool, true, false, not, refl, arith}
 use Rattle.store_model.specs.State.{State, is_among, segment_files, block_files, flush_files, compaction_files, open_files, pinned_files, free_files}
 use Rattle.store_model.specs.Event.{Event, Reply}
 use Rattle.store_model.specs.Event.Event.{BeginFlush, BeginCompact, Reclaim}

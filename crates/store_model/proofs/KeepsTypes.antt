@@ -1,5 +1,5 @@
 -- Each step keeps the numbers of files and jobs within their types.
-use Rattle.std.proofs.Common.{◌≡◌, ℕ, ◌+◌, ◌≤◌, None, length, refl, sym, subst, arith}
+use Rattle.std.proofs.Common.{◌≡◌, ℕ, None, length, refl, sym, subst, arith}
 use Rattle.store_model.specs.State.{State}
 use Rattle.store_model.specs.Choice.{choice}
 use Rattle.store_model.specs.Event.{Event, Reply}
