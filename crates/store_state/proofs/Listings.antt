@@ -1,5 +1,5 @@
 -- What a listing becomes.
-use Rattle.std.proofs.Common.{rules, ◌≡◌, ℕ, append_assoc, ◌+◌, ◌<◌, ◌≤◌, min, nat_le, zero, suc, List, [], ◌∷◌, ◌++◌, Bool, true, false, not, Option, None, Some, refl, sym, ◌∙◌, ap, subst, arith, ◌*◌, ◌-◌, length, length-append, map, filter, take, drop, if◌then◌else◌}
+use Rattle.std.proofs.Common.{rules, ◌≡◌, ℕ, append_assoc, ◌+◌, ◌<◌, ◌≤◌, min, nat_le, List, [], ◌∷◌, ◌++◌, Bool, true, false, not, Option, Some, refl, sym, ◌∙◌, ap, arith, ◌-◌, length, length-append, map, filter, take, if◌then◌else◌}
 use Rattle.std.proofs.Math.Seq.{take-append_seam}
 use Rattle.std.proofs.lemmas.List.{length-map}
 use Rattle.span_types.specs.declared.spans.Row.{Row}
@@ -9,7 +9,7 @@ use Rattle.store_model.specs.State.{State, Block, Segment, Flush, Compaction, bl
 use Rattle.store_model.specs.Choice.{in_files, outside_files}
 use Rattle.store_model.specs.After.{floor_after, least, released, staying, with_segment, job_files, after_commit_flush, after_commit_compact, after_drop_flush, after_drop_compact}
 use Rattle.live_traces.specs.Parts.{least_number, least_with}
-use Rattle.store_state.specs.Listed.{IsListingOf, HasRoomFor, TakesOneJob, floor_from, ref_of, segment_of}
+use Rattle.store_state.specs.Listed.{IsListingOf, TakesOneJob, floor_from, ref_of, segment_of}
 use Rattle.store_state.specs.Loose.{AreFilesOf}
 use Rattle.store_state.specs.declared.listing.Listing.{Listing}
 use Rattle.store_state.specs.declared.listing.FlushFiles.{FlushFiles}
