@@ -117,7 +117,7 @@ fn part_block(block: BlockRef, files: &[u32], blocks: &mut Vec<BlockRef>, loose:
     }
 }
 
-fn is_in(file: u32, files: &[u32]) -> bool
+pub(crate) fn is_in(file: u32, files: &[u32]) -> bool
     ensures { result ≡ is_among file files.now }
 {
     files.iter().any(|other| *other == file)
