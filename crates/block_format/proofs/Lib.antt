@@ -4,3 +4,7 @@ pub mod Promised
 pub mod ColumnsOfRows
 pub mod ContentLaws
 pub mod StripeLaws
+pub mod HeaderSteps
+pub mod HeaderFields
+pub mod HeaderLaws
+pub mod BlockLaws

@@ -54,7 +54,7 @@ zeros_replicate : (n : ℕ) → zeros (replicate n 0) ≡ n
 zeros_replicate zero = refl
 zeros_replicate (suc n) = position_step is_some_byte 0 (replicate n 0) ∙ ap suc (zeros_replicate n)
 
-fill_found : {A : Type 0} (end : ℕ) (rest : List ℕ) (x y : A) → unless_some (unfilled end rest) x ≡ Ok y → (rest ≡ replicate (fill_size end) 0) × (x ≡ y)
+pub fill_found : {A : Type 0} (end : ℕ) (rest : List ℕ) (x y : A) → unless_some (unfilled end rest) x ≡ Ok y → (rest ≡ replicate (fill_size end) 0) × (x ≡ y)
 fill_found {A} end rest x y e = by (eqb (zeros rest) (fill_size end) && eqb (length rest) (fill_size end)) refl e
   where
     by : (b : Bool) → (eqb (zeros rest) (fill_size end) && eqb (length rest) (fill_size end)) ≡ b → unless_some (cond b None (Some (end + min (zeros rest) (fill_size end)))) x ≡ Ok y → (rest ≡ replicate (fill_size end) 0) × (x ≡ y)
@@ -64,7 +64,7 @@ fill_found {A} end rest x y e = by (eqb (zeros rest) (fill_size end) && eqb (len
         (zeros_all rest (eqb-true (zeros rest) (fill_size end) parts.0 ∙ sym long) ∙ ap (λ (k : ℕ). replicate k 0) long, cc)
     by false is e = absurd (cc)
 
-fill_again : {A : Type 0} (end : ℕ) (x : A) → unless_some (unfilled end (replicate (fill_size end) 0)) x ≡ Ok x
+pub fill_again : {A : Type 0} (end : ℕ) (x : A) → unless_some (unfilled end (replicate (fill_size end) 0)) x ≡ Ok x
 fill_again end x =
     let fill : List ℕ = replicate (fill_size end) 0 in
     rw (eq-eqb (zeros fill) (fill_size end) (zeros_replicate (fill_size end)), eq-eqb (length fill) (fill_size end) (length-replicate (fill_size end) 0)) refl

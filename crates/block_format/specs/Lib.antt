@@ -6,3 +6,6 @@ pub mod StripeRows
 pub mod StripeEncodings
 pub mod StripeReadings
 pub mod Stripes
+pub mod Headers
+pub mod HeaderReadings
+pub mod Blocks

@@ -1,12 +1,22 @@
-//! The stripes of columnar blocks: what their bytes stand for, and the parts of spans whose texts are references into a table.
+//! Columnar blocks: their headers; what the bytes of stripes stand for, and the parts of spans whose texts are references
+//! into a table.
 #![tactic(auto)]
 
+mod block_laws;
 mod error;
+mod fill;
+mod header;
+mod header_laws;
+mod header_reading;
 mod laws;
 mod parts;
 mod puts;
 
+pub use block_laws::{a_block_has_rows, one_block, one_info};
 pub use error::FormatError;
+pub use header::{Header, write_header};
+pub use header_laws::{header_is_pages, held_header_is_read, one_header, read_header_is_held};
+pub use header_reading::read_header;
 pub use laws::{
     encoded_is_read, held_is_read, no_rows_have_no_bytes, one_meaning, read_is_encoded,
     read_is_held,
