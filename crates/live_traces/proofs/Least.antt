@@ -5,11 +5,11 @@ use Rattle.span_types.specs.declared.spans.Row.{Row}
 use Rattle.store_model.specs.History.{rows_at}
 use Rattle.store_model.specs.State.{LiveRow, live_rows}
 use Rattle.store_model.specs.After.{arrived}
-use Rattle.live_traces.specs.Rows.{ChunkParts, chunk_rows}
+use Rattle.live_traces.specs.Rows.{ChunkParts, chunk_rows, run_rows}
 use Rattle.live_traces.specs.Parts.{least_with, least_number, lower, live_of, arrivals_of}
 use Rattle.live_traces.specs.declared.live.Entry.{Entry}
 use Rattle.live_traces.specs.declared.live.Arrival.{Arrival}
-use Rattle.live_traces.proofs.LiveRows.{take_more_of, live_of-append, live_rows-append, arrivals-more, rows_arrived}
+use Rattle.live_traces.proofs.LiveRows.{take_more_of, live_of-more, live_rows-append, arrivals-more, rows_arrived, run_rows-more}
 
 pub least-append : (o : Option ℕ) (xs ys : List Row) → least_with o (xs ++ ys) ≡ least_with (least_with o xs) ys
 least-append o [] ys = refl
@@ -47,11 +47,18 @@ pub least_row : (o : Option ℕ) (rows : List Row) (i : ℕ) (row : Row) → i <
     lower (least_with o (take i rows)) row.place.number ≡ least_with o (take (i + 1) rows)
 least_row o rows i row l e = sym (least-append o (take i rows) (row ∷ [])) ∙ ap (least_with o) (sym (take_more_of rows i row l e))
 
+pub least_run : (o : Option ℕ) (xs : List (List Row)) (i : ℕ) (x : List Row) → i < length xs → slice_index_or xs i x ≡ x →
+    least_with (least_with o (run_rows (take i xs))) x ≡ least_with o (run_rows (take (i + 1) xs))
+least_run o xs i x l e =
+    sym (least-append o (run_rows (take i xs)) x)
+    ∙ ap (least_with o) (sym (ap run_rows (take_more_of xs i x l e) ∙ run_rows-more (take i xs) x))
+
 pub least_entry : (o : Option ℕ) (xs : List Entry) (i : ℕ) (x : Entry) → i < length xs → slice_index_or xs i x ≡ x →
-    lower (least_with o (live_rows (live_of (take i xs)))) x.row.place.number ≡ least_with o (live_rows (live_of (take (i + 1) xs)))
+    least_with (least_with o (live_rows (live_of (take i xs)))) x.run ≡ least_with o (live_rows (live_of (take (i + 1) xs)))
 least_entry o xs i x l e =
-    sym (least-append o (live_rows (live_of (take i xs))) (x.row ∷ []))
-    ∙ ap (least_with o) (sym (ap live_rows (live_of-append (take i xs) (x ∷ [])) ∙ live_rows-append (live_of (take i xs)) (live_of (x ∷ []))))
+    sym (least-append o (live_rows (live_of (take i xs))) x.run)
+    ∙ ap (λ ys. least_with o (live_rows (live_of (take i xs)) ++ ys)) (sym (rows_arrived x.moment x.run))
+    ∙ ap (least_with o) (sym (ap live_rows (live_of-more (take i xs) x) ∙ live_rows-append (live_of (take i xs)) (arrived x.moment x.run)))
     ∙ ap (λ ys. least_with o (live_rows (live_of ys))) (sym (take_more_of xs i x l e))
 
 pub least_arrival : (o : Option ℕ) (xs : List Arrival) (i : ℕ) (x : Arrival) → i < length xs → slice_index_or xs i x ≡ x →

@@ -3,3 +3,5 @@ pub mod CutOrder
 pub mod TraceRows
 pub mod LiveRows
 pub mod Least
+pub mod Ranges
+pub mod Kept

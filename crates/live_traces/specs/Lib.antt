@@ -1,4 +1,3 @@
-pub mod Traces
 pub mod Rows
 pub mod Parts
 pub mod Whole

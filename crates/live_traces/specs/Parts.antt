@@ -1,5 +1,5 @@
 -- The parts of what waits in memory.
-use Rattle.std.specs.Prelude.{ℕ, ◌+◌, ◌≤◌, List, [], ◌∷◌, min, map, nat_le, true, Bool, Option, None, Some}
+use Rattle.std.specs.Prelude.{ℕ, ◌+◌, ◌≤◌, List, [], ◌∷◌, min, nat_le, true, Bool, Option, None, Some}
 use Rattle.std.specs.List.{flat_map}
 use Rattle.span_types.specs.declared.spans.Row.{Row}
 use Rattle.store_model.specs.State.{LiveRow}
@@ -25,7 +25,7 @@ pub record HasRoom (parts : LiveParts) (rows : ℕ) : Type 0 where
 
 -- rows that remained live after a cut
 abbrev pub live_of : List Entry → List LiveRow
-live_of entries = map (λ e. record { row = e.row; moment = e.moment }) entries
+live_of entries = flat_map (λ e. arrived e.moment e.run) entries
 
 -- pushes since the last cut
 abbrev pub arrivals_of : List Arrival → List LiveRow

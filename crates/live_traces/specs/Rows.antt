@@ -1,5 +1,6 @@
 -- Rows of pushes, as chunks hold them.
 use Rattle.std.specs.Prelude.{ℕ, List, [], None, slice_index_or}
+use Rattle.std.specs.List.{flat_map}
 use Rattle.span_types.specs.declared.spans.Span.{Span}
 use Rattle.span_types.specs.declared.spans.Row.{Row}
 use Rattle.span_types.specs.declared.spans.SpanKind.TheVariants.{Unspecified}
@@ -13,6 +14,13 @@ pub record ChunkParts : Type 0 where
 
 abbrev pub chunk_rows : ChunkParts → List Row
 chunk_rows c = batch_rows c.number c.spans
+
+-- the rows of pushes, and of runs
+abbrev pub push_rows : List ChunkParts → List Row
+push_rows pushes = flat_map chunk_rows pushes
+
+abbrev pub run_rows : List (List Row) → List Row
+run_rows runs = flat_map (λ run. run) runs
 
 -- what stands where no span is
 abbrev pub no_span : Span

@@ -1,9 +1,9 @@
 //! Chunks: the spans of one push, which looks and flushes share, and single rows of them.
 
-ghost use Rattle.std.specs.Prelude.{◌≡◌, ◌<◌, ◌∷◌, [], IfOk, IfErr, length};
-ghost use Rattle.live_traces.specs.Rows.{row_of};
+ghost use Rattle.std.specs.Prelude.{◌≡◌, ◌<◌, ◌++◌, ◌∷◌, [], IfOk, IfErr, OnOk, length};
+ghost use Rattle.rows_by_trace.specs.Traces.{rows_of_trace};
+ghost use Rattle.live_traces.specs.Rows.{chunk_rows, row_of};
 
-use crate::run::Run;
 use span_types::{Batch, Memory, Place, Row, TraceId, TryCopy};
 use std::alloc::Global;
 use std::marker::Model;
@@ -76,6 +76,50 @@ impl Chunk {
         let place = self.place(at);
         Ok(Row { place, span })
     }
+
+    /// One of its rows, which shares the spans.
+    pub fn row(&self, at: u32) -> Result<SharedRow, Memory>
+        requires { at < length self.now.spans }
+        ensures { IfOk result (λ row. row ≡ row_of self.now at) }
+    {
+        let chunk = self.copy()?;
+        Ok(SharedRow { chunk, at })
+    }
+
+    /// Adds copies of its rows to a list.
+    pub fn copy_rows(&self, rows: &mut Vec<Row>) -> Result<(), Memory>
+        ensures { OnOk result (rows.new.items ≡ rows.old.items ++ chunk_rows self.now) }
+    {
+        let count = self.len();
+        for at in 0..count {
+            let row = self.copy_row(at)?;
+            rows.push(row)?;
+        }
+        Ok(())
+    }
+
+    /// Adds copies of its rows of a trace to a list.
+    pub fn copy_rows_of(&self, trace: TraceId, rows: &mut Vec<Row>) -> Result<(), Memory>
+        ensures { OnOk result (rows.new.items ≡ rows.old.items ++ rows_of_trace trace (chunk_rows self.now)) }
+    {
+        let count = self.len();
+        for at in 0..count {
+            copy_if_of(self, at, trace, rows)?;
+        }
+        Ok(())
+    }
+}
+
+// A copy of the row, if it is of the trace.
+fn copy_if_of(chunk: &Chunk, at: u32, trace: TraceId, rows: &mut Vec<Row>) -> Result<(), Memory>
+    requires { at < length chunk.now.spans }
+    ensures { OnOk result (rows.new.items ≡ rows.old.items ++ rows_of_trace trace (row_of chunk.now at ∷ [])) }
+{
+    if chunk.trace(at).cmp(&trace).is_eq() {
+        let row = chunk.copy_row(at)?;
+        rows.push(row)?;
+    }
+    Ok(())
 }
 
 impl TryCopy for Chunk {
@@ -109,14 +153,6 @@ impl Model for SharedRow {
 }
 
 impl SharedRow {
-    /// A row of a chunk.
-    pub fn of(chunk: Chunk, at: u32) -> SharedRow
-        requires { at < length chunk.spans }
-        ensures { result ≡ row_of chunk at }
-    {
-        SharedRow { chunk, at }
-    }
-
     /// Its trace.
     pub fn trace(&self) -> TraceId
         ensures { result ≡ self.now.span.trace }
@@ -129,14 +165,6 @@ impl SharedRow {
         ensures { result ≡ self.now.place }
     {
         self.chunk.place(self.at)
-    }
-
-    /// The run of it alone.
-    pub fn run(&self) -> Result<Run, Memory>
-        ensures { IfOk result (λ run. run ≡ self.now ∷ []) }
-    {
-        let chunk = self.chunk.copy()?;
-        Ok(Run::one(chunk, self.at))
     }
 
     /// A copy of its span, as a row.

@@ -4,9 +4,12 @@
 #![tactic(auto)]
 
 mod chunk;
+mod cut;
 mod live;
 mod run;
+mod runs;
 
 pub use chunk::{Chunk, SharedRow};
 pub use live::{Live, Ready};
-pub use run::{Run, Runs};
+pub use run::Run;
+pub use runs::Runs;

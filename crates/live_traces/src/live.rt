@@ -1,45 +1,36 @@
 //! Live rows, the head, and the rows of an open flush.
 
-ghost use Rattle.std.specs.Prelude.{◌≡◌, ◌≤◌, ◌<◌, ◌+◌, ◌-◌, ◌++◌, ◌^◌, ◌∷◌, [], List, nat_le, unwrap_or, if◌then◌else◌, Option, Some, None, length, take, drop, map, filter, not, true, IfOk, IfErr, OnOk, OnErr};
-ghost use Rattle.std.specs.Vec.{vec_capacity};
-ghost use Rattle.std.specs.List.Sorted.{IsPermutation, IsSortedBy};
-ghost use Rattle.std.specs.Ordering.{is_lt};
+ghost use Rattle.std.specs.Prelude.{◌≡◌, ◌+◌, ◌++◌, [], List, length, take, drop, filter, not, true, IfOk, IfErr, OnOk, OnErr};
 ghost use Rattle.span_types.specs.declared.spans.Row.{Row};
 ghost use Rattle.store_model.specs.History.{batch_rows};
 ghost use Rattle.store_model.specs.State.{live_rows};
-ghost use Rattle.store_model.specs.Cut.{cut_order, is_idle, AreMoved};
+ghost use Rattle.store_model.specs.Cut.{is_idle, AreMoved};
 ghost use Rattle.store_model.specs.After.{arrived};
-ghost use Rattle.std.specs.List.{flat_map};
-ghost use Rattle.std.specs.BTreeMap.{get};
-ghost use Rattle.span_types.specs.Orders.{trace_cmp};
-ghost use Rattle.span_types.specs.declared.ids.TraceId.{TraceId};
-ghost use Rattle.store_model.specs.Cut.{last_moment};
-ghost use Rattle.live_traces.specs.Rows.{chunk_rows};
-ghost use Rattle.live_traces.specs.Traces.{rows_of_trace};
-ghost use Rattle.live_traces.specs.Parts.{HasRoom, arrivals_of, goes, goes_by, least_number, least_with, live_of, lower};
-ghost use Rattle.live_traces.specs.Going.{goes_with};
+ghost use Rattle.rows_by_trace.specs.Traces.{rows_of_trace};
+ghost use Rattle.live_traces.specs.Rows.{chunk_rows, push_rows, run_rows};
+ghost use Rattle.live_traces.specs.Parts.{HasRoom, arrivals_of, goes, least_number, least_with, live_of, lower};
 
 use crate::chunk::{Chunk, SharedRow};
-use crate::run::{Run, Runs};
+use crate::cut::{add_run, in_order, parts};
+use crate::run::Run;
+use crate::runs::Runs;
 use span_types::{Batch, Memory, Rows, TraceId, TryCopy};
 use std::alloc::Global;
-use std::cmp::Ordering;
-use std::collections::BTreeMap;
 use std::marker::Model;
 use std::mem;
 
-// A row that remained live after a cut, with the moment of its push.
+// Rows of a push that remained live after a cut, with its moment.
 #[derive(Drop)]
-struct Entry {
-    row: SharedRow,
-    moment: u64,
+pub(crate) struct Entry {
+    pub(crate) run: Run,
+    pub(crate) moment: u64,
 }
 
 // A push since the last cut, with its moment.
 #[derive(Drop)]
-struct Arrival {
-    chunk: Chunk,
-    moment: u64,
+pub(crate) struct Arrival {
+    pub(crate) chunk: Chunk,
+    pub(crate) moment: u64,
 }
 
 /// A push for which room was made, which contracts see as its number and its spans.
@@ -62,24 +53,29 @@ impl Model for Ready {
 pub struct Live {
     entries: Vec<Entry>,
     arrivals: Vec<Arrival>,
-    // How many rows the arrivals have.
+    // How many rows are live.
     count: usize,
-    // The rows of the open flush, and behind them those of the head.
-    kept: Vec<SharedRow>,
+    // The runs of the open flush, and behind them those of the head.
+    kept: Vec<Run>,
+    // How many rows they have.
+    kept_rows: usize,
+    // How many of the runs are the flush's, and how many rows those have.
     flushing: usize,
+    flush_rows: usize,
 }
 
 impl Model for Live {
-    ghost use Rattle.std.specs.Prelude.{take, drop, length, ◌+◌, ◌-◌, ◌++◌};
+    ghost use Rattle.std.specs.Prelude.{take, drop, ◌+◌, ◌-◌, ◌++◌};
     ghost use Rattle.std.specs.Vec.{vec_len, vec_capacity};
+    ghost use Rattle.live_traces.specs.Rows.{run_rows};
     ghost use Rattle.live_traces.specs.Parts.{LiveParts, live_of, arrivals_of};
     ghost use Rattle.live_traces.specs.Whole.{AreWhole};
 
     ghost Value = { LiveParts };
 
-    ghost view = { λ l. record { live = live_of l.entries.items ++ arrivals_of l.arrivals.items; head = drop l.flushing l.kept.items; flushing = take l.flushing l.kept.items; spare = vec_capacity l.arrivals - vec_len l.arrivals; room = 18446744073709551615 - (length l.entries.items + l.count + length l.kept.items) } };
+    ghost view = { λ l. record { live = live_of l.entries.items ++ arrivals_of l.arrivals.items; head = run_rows (drop l.flushing l.kept.items); flushing = run_rows (take l.flushing l.kept.items); spare = vec_capacity l.arrivals - vec_len l.arrivals; room = 18446744073709551615 - (l.count + l.kept_rows) } };
 
-    ghost invariant = { λ l. AreWhole l.entries.items l.arrivals.items l.count l.kept.items l.flushing };
+    ghost invariant = { λ l. AreWhole l.entries.items l.arrivals.items l.count l.kept.items l.kept_rows l.flushing l.flush_rows };
 }
 
 impl Live {
@@ -92,7 +88,9 @@ impl Live {
             arrivals: Vec::new(alloc),
             count: 0,
             kept: Vec::new(alloc),
+            kept_rows: 0,
             flushing: 0,
+            flush_rows: 0,
         }
     }
 
@@ -105,7 +103,7 @@ impl Live {
             × (self.new.flushing ≡ self.old.flushing) }
     {
         let alloc = *self.kept.allocator();
-        let held = self.entries.len() + self.count + self.kept.len();
+        let held = self.count + self.kept_rows;
         if batch.spans.len() > usize::MAX - held {
             return Err((Memory, batch));
         }
@@ -124,25 +122,26 @@ impl Live {
         requires { HasRoom self.now (length ready.spans) }
         ensures added { self.new.live ≡ self.old.live ++ arrived moment (batch_rows ready.number ready.spans) }
         ensures same { (self.new.head ≡ self.old.head) × (self.new.flushing ≡ self.old.flushing) }
+        ensures spent { self.new.spare + 1 ≡ self.old.spare }
     {
         let chunk = ready.chunk;
         let more = chunk.len() as usize;
-        match self.arrivals.push(Arrival { chunk, moment }) {
-            Ok(()) => {}
-            Err(_) => prove!(false),
-        }
+        self.arrivals.push_reserved(Arrival { chunk, moment });
         self.count += more;
     }
 
     /// Drops the rows of the flush. It takes no memory.
+    #[tactic(auto, using(crate::proofs::LiveRows::both_lengths))]
     pub fn end_flush(&mut self)
         ensures gone { self.new.flushing ≡ [] }
         ensures same { (self.new.live ≡ self.old.live) × (self.new.head ≡ self.old.head) }
     {
         let flushed = mem::replace(&mut self.flushing, 0);
+        let rows = mem::replace(&mut self.flush_rows, 0);
         let rest = self.kept.len() - flushed;
         self.kept.rotate_left(flushed);
         self.kept.truncate(rest);
+        self.kept_rows -= rows;
     }
 
     /// Puts the rows of the flush back in front of the head. It takes no memory.
@@ -152,13 +151,15 @@ impl Live {
         ensures same { self.new.live ≡ self.old.live }
     {
         self.flushing = 0;
+        self.flush_rows = 0;
     }
 
     /// How many rows there are in all three parts, repeats among them.
+    #[tactic(auto, using(crate::proofs::LiveRows::both_lengths))]
     pub fn held(&self) -> u64
         ensures { result ≡ length self.now.flushing + length self.now.head + length self.now.live }
     {
-        (self.entries.len() + self.count + self.kept.len()) as u64
+        (self.count + self.kept_rows) as u64
     }
 
     /// Takes the first rows of the head for a flush.
@@ -169,10 +170,15 @@ impl Live {
         ensures refused { OnErr result ((self.new.flushing ≡ []) × (self.new.head ≡ self.old.head)) }
         ensures same { self.new.live ≡ self.old.live }
     {
-        let size = self.kept.len().min(most as usize);
-        let runs = runs_of(*self.kept.allocator(), &self.kept.as_slice()[..size])?;
+        let alloc = *self.kept.allocator();
+        let most = most as usize;
+        let (front, back) = split_runs(alloc, self.kept.as_slice(), most)?;
+        let runs = copies_of_runs(alloc, front.as_slice())?;
+        let size = front.len();
+        self.kept = joined(front, back)?;
         self.flushing = size;
-        Ok(runs)
+        self.flush_rows = self.kept_rows.min(most);
+        Ok(Runs::of(runs, Vec::new(alloc)))
     }
 
     /// Moves all live rows to the head, by trace and then place, and answers how many.
@@ -210,31 +216,27 @@ impl Live {
         ensures same { self.new.flushing ≡ self.old.flushing }
     {
         let alloc = *self.kept.allocator();
-        let (moved, stay) = parts(
-            alloc,
-            self.entries.as_slice(),
-            self.arrivals.as_slice(),
-            idle,
-        )?;
-        self.kept.reserve(moved.len())?;
+        let entries = self.entries.as_slice();
+        let (moved, stay) = parts(alloc, entries, self.arrivals.as_slice(), idle)?;
         let moved = in_order(moved);
-        let count = moved.len() as u64;
-        append_all(&mut self.kept, moved);
+        let count = moved.len();
+        add_run(alloc, &mut self.kept, moved)?;
         self.entries = stay;
         self.arrivals.truncate(0);
-        self.count = 0;
-        Ok(count)
+        self.count -= count;
+        self.kept_rows += count;
+        Ok(count as u64)
     }
 
     /// All rows: those of the flush, of the head, then the live ones. It costs the number of runs, and copies no span.
     pub fn runs(&self) -> Result<Runs, Memory>
         ensures { IfOk result (λ runs. runs ≡ self.now.flushing ++ self.now.head ++ live_rows self.now.live) }
     {
-        let mut runs = Vec::new(*self.kept.allocator());
-        add_rows(&mut runs, self.kept.as_slice())?;
+        let alloc = *self.kept.allocator();
+        let mut runs = copies_of_runs(alloc, self.kept.as_slice())?;
         add_entries(&mut runs, self.entries.as_slice())?;
-        add_arrivals(&mut runs, self.arrivals.as_slice())?;
-        Ok(Runs::of(runs))
+        let pushes = pushes_of(alloc, self.arrivals.as_slice())?;
+        Ok(Runs::of(runs, pushes))
     }
 
     /// Copies of all rows.
@@ -259,213 +261,83 @@ impl Live {
         ensures { result ≡ least_number (self.now.head ++ live_rows self.now.live) }
     {
         let (_, head) = self.kept.as_slice().split_at(self.flushing);
-        let least = least_of_rows(None, head);
+        let least = least_of_runs(None, head);
         let least = least_of_entries(least, self.entries.as_slice());
         least_of_arrivals(least, self.arrivals.as_slice())
     }
 }
 
-const IDLE: u64 = 10_000_000_000;
-
-// The rows that go, and the entries that stay.
-fn parts(
-    alloc: Global,
-    entries: &[Entry],
-    arrivals: &[Arrival],
-    idle: Option<u64>,
-) -> Result<(Vec<SharedRow>, Vec<Entry>), Memory>
-    ensures { IfOk result (λ parts. let live = live_of entries.now ++ arrivals_of arrivals.now in
-        (parts.0.items ≡ live_rows (filter (goes idle live) live))
-        × (live_of parts.1.items ≡ filter (λ entry. not (goes idle live entry)) live)) }
+// Two lists of runs: the first has so many rows, or all that there are, and the second has the others.
+fn split_runs(alloc: Global, runs: &[Run], most: usize) -> Result<(Vec<Run>, Vec<Run>), Memory>
+    ensures { IfOk result (λ parts. (run_rows parts.0.items ≡ take most (run_rows runs.now))
+        × (run_rows parts.1.items ≡ drop most (run_rows runs.now))) }
 {
-    let mut all = copies_of(alloc, entries)?;
-    explode(&mut all, arrivals)?;
-    let last = last_moments(alloc, all.as_slice())?;
-    let parts = parted(alloc, all, idle, &last)?;
-    Ok(parts)
+    let mut front = Vec::new(alloc);
+    let mut back = Vec::new(alloc);
+    let mut left = most;
+    for run in runs {
+        let size = run.len().min(left);
+        let (first, others) = run.split(size)?;
+        put_run(&mut front, first)?;
+        put_run(&mut back, others)?;
+        left -= size;
+    }
+    Ok((front, back))
 }
 
-// The same entries again.
-fn copies_of(alloc: Global, entries: &[Entry]) -> Result<Vec<Entry>, Memory>
-    ensures { IfOk result (λ all. live_of all.items ≡ live_of entries.now) }
+// Adds a run that has rows.
+fn put_run(runs: &mut Vec<Run>, run: Run) -> Result<(), Memory>
+    ensures { OnOk result (run_rows runs.new.items ≡ run_rows runs.old.items ++ run) }
+{
+    if run.len() == 0 {
+        return Ok(());
+    }
+    runs.push(run)?;
+    Ok(())
+}
+
+// All runs of two lists.
+fn joined(front: Vec<Run>, back: Vec<Run>) -> Result<Vec<Run>, Memory>
+    ensures { IfOk result (λ all. all.items ≡ front.items ++ back.items) }
+{
+    let mut front = front;
+    let mut back = back;
+    front.append(&mut back)?;
+    Ok(front)
+}
+
+// The same runs again.
+fn copies_of_runs(alloc: Global, runs: &[Run]) -> Result<Vec<Run>, Memory>
+    ensures { IfOk result (λ all. all.items ≡ runs.now) }
 {
     let mut all = Vec::new(alloc);
-    for entry in entries {
-        let row = entry.row.copy()?;
-        let moment = entry.moment;
-        all.push(Entry { row, moment })?;
+    for run in runs {
+        all.push(run.copy()?)?;
     }
     Ok(all)
 }
 
-// Adds the rows of arrivals as entries.
-fn explode(all: &mut Vec<Entry>, arrivals: &[Arrival]) -> Result<(), Memory>
-    ensures { OnOk result (live_of all.new.items ≡ live_of all.old.items ++ arrivals_of arrivals.now) }
-{
-    for arrival in arrivals {
-        explode_one(all, &arrival.chunk, arrival.moment)?;
-    }
-    Ok(())
-}
-
-// Adds the rows of a chunk as entries.
-fn explode_one(all: &mut Vec<Entry>, chunk: &Chunk, moment: u64) -> Result<(), Memory>
-    ensures { OnOk result (live_of all.new.items ≡ live_of all.old.items ++ arrived moment (chunk_rows chunk.now)) }
-{
-    let count = chunk.len();
-    for at in 0..count {
-        let holder = chunk.copy()?;
-        let row = SharedRow::of(holder, at);
-        all.push(Entry { row, moment })?;
-    }
-    Ok(())
-}
-
-// The moment of the last push of each trace.
-fn last_moments(alloc: Global, entries: &[Entry]) -> Result<BTreeMap<TraceId, u64>, Memory>
-    ensures { IfOk result (λ last. (t : TraceId) →
-        unwrap_or (get trace_cmp last t) 0 ≡ last_moment t 0 (live_of entries.now)) }
-{
-    let mut last = BTreeMap::new(alloc);
-    for entry in entries {
-        let trace = entry.row.trace();
-        let moment = entry.moment;
-        last.insert(trace, moment)?;
-    }
-    Ok(last)
-}
-
-// Whether the rows of a trace go.
-fn is_to_go(idle: Option<u64>, last: &BTreeMap<TraceId, u64>, trace: &TraceId) -> bool
-    ensures { result ≡ goes_by idle (unwrap_or (get trace_cmp last.now trace.now) 0) }
-{
-    match idle {
-        None => true,
-        Some(moment) => {
-            let last = match last.get(trace) {
-                Some(last) => *last,
-                None => 0,
-            };
-            is_past(last, moment)
-        }
-    }
-}
-
-// Whether ten seconds have passed.
-fn is_past(last: u64, moment: u64) -> bool
-    ensures { result ≡ nat_le (last + 10000000000) moment }
-{
-    moment >= IDLE && last <= moment - IDLE
-}
-
-// The rows of the entries that go, and the entries that stay.
-fn parted(
-    alloc: Global,
-    all: Vec<Entry>,
-    idle: Option<u64>,
-    last: &BTreeMap<TraceId, u64>,
-) -> Result<(Vec<SharedRow>, Vec<Entry>), Memory>
-    ensures { IfOk result (λ parts.
-        (parts.0.items ≡ live_rows (filter (goes_with idle last.now) (live_of all.items)))
-        × (live_of parts.1.items ≡ filter (λ e. not (goes_with idle last.now e)) (live_of all.items))) }
-{
-    let mut moved = Vec::new(alloc);
-    let mut stay = Vec::new(alloc);
-    for entry in all {
-        let trace = entry.row.trace();
-        let goes = is_to_go(idle, last, &trace);
-        put(&mut moved, &mut stay, entry, goes)?;
-    }
-    Ok((moved, stay))
-}
-
-// Puts the entry where it belongs.
-fn put(
-    moved: &mut Vec<SharedRow>,
-    stay: &mut Vec<Entry>,
-    entry: Entry,
-    goes: bool,
-) -> Result<(), Memory>
-    ensures moved { OnOk result (moved.new.items ≡ (if goes then moved.old.items ++ entry.row ∷ [] else moved.old.items)) }
-    ensures stay { OnOk result (stay.new.items ≡ (if goes then stay.old.items else stay.old.items ++ entry ∷ [])) }
-{
-    if goes {
-        moved.push(entry.row)?;
-        return Ok(());
-    }
-    stay.push(entry)?;
-    Ok(())
-}
-
-// Adds runs of the rows, one for each.
-fn add_rows(runs: &mut Vec<Run>, rows: &[SharedRow]) -> Result<(), Memory>
-    ensures { OnOk result (flat_map (λ run. run) runs.new.items ≡ flat_map (λ run. run) runs.old.items ++ rows.now) }
-{
-    for row in rows {
-        runs.push(row.run()?)?;
-    }
-    Ok(())
-}
-
-// Adds runs of the rows of entries, one for each.
+// Adds the runs of entries.
 fn add_entries(runs: &mut Vec<Run>, entries: &[Entry]) -> Result<(), Memory>
-    ensures { OnOk result (flat_map (λ run. run) runs.new.items
-        ≡ flat_map (λ run. run) runs.old.items ++ live_rows (live_of entries.now)) }
+    ensures { OnOk result (run_rows runs.new.items ≡ run_rows runs.old.items ++ live_rows (live_of entries.now)) }
 {
     for entry in entries {
-        runs.push(entry.row.run()?)?;
-    }
-    Ok(())
-}
-
-// Adds runs of the rows of pushes, one for each push.
-fn add_arrivals(runs: &mut Vec<Run>, arrivals: &[Arrival]) -> Result<(), Memory>
-    ensures { OnOk result (flat_map (λ run. run) runs.new.items
-        ≡ flat_map (λ run. run) runs.old.items ++ live_rows (arrivals_of arrivals.now)) }
-{
-    for arrival in arrivals {
-        let chunk = arrival.chunk.copy()?;
-        let run = Run::whole(chunk);
+        let run = entry.run.copy()?;
         runs.push(run)?;
     }
     Ok(())
 }
 
-// The rows as runs, each of one row.
-fn runs_of(alloc: Global, rows: &[SharedRow]) -> Result<Runs, Memory>
-    ensures { IfOk result (λ runs. runs ≡ rows.now) }
+// The pushes of arrivals.
+fn pushes_of(alloc: Global, arrivals: &[Arrival]) -> Result<Vec<Chunk>, Memory>
+    ensures { IfOk result (λ pushes. push_rows pushes.items ≡ live_rows (arrivals_of arrivals.now)) }
 {
-    let mut runs = Vec::new(alloc);
-    add_rows(&mut runs, rows)?;
-    Ok(Runs::of(runs))
-}
-
-fn in_cut_order(a: &SharedRow, b: &SharedRow) -> Ordering
-    ensures { result ≡ cut_order a.now b.now }
-{
-    let trace = a.trace().cmp(&b.trace());
-    trace.then(a.place().cmp(&b.place()))
-}
-
-fn in_order(rows: Vec<SharedRow>) -> Vec<SharedRow>
-    ensures same { IsPermutation rows.items result.items }
-    ensures order { IsSortedBy (λ a b. is_lt (cut_order a b)) result.items }
-    ensures length { length result.items ≡ length rows.items }
-{
-    let mut rows = rows;
-    rows.sort_unstable_by(in_cut_order);
-    rows
-}
-
-fn append_all(kept: &mut Vec<SharedRow>, rows: Vec<SharedRow>)
-    requires { length kept.now.items + length rows.items ≤ vec_capacity kept.now }
-    ensures { kept.new.items ≡ kept.old.items ++ rows.items }
-{
-    let mut rows = rows;
-    match kept.append(&mut rows) {
-        Ok(()) => {}
-        Err(_) => prove!(false),
+    let mut pushes = Vec::new(alloc);
+    for arrival in arrivals {
+        let chunk = arrival.chunk.copy()?;
+        pushes.push(chunk)?;
     }
+    Ok(pushes)
 }
 
 // The lesser of a number and one that was found before.
@@ -489,13 +361,24 @@ fn least_of_rows(found: Option<u64>, rows: &[SharedRow]) -> Option<u64>
     least
 }
 
+// The same among runs.
+fn least_of_runs(found: Option<u64>, runs: &[Run]) -> Option<u64>
+    ensures { result ≡ least_with found (run_rows runs.now) }
+{
+    let mut least = found;
+    for run in runs {
+        least = least_of_rows(least, run.as_slice());
+    }
+    least
+}
+
 // The same among entries.
 fn least_of_entries(found: Option<u64>, entries: &[Entry]) -> Option<u64>
     ensures { result ≡ least_with found (live_rows (live_of entries.now)) }
 {
     let mut least = found;
     for entry in entries {
-        least = lower_of(least, entry.row.place().number);
+        least = least_of_rows(least, entry.run.as_slice());
     }
     least
 }

@@ -9,3 +9,4 @@ mod NewCores
 mod PushEvents
 mod Past
 mod LookEvents
+mod PortEvents

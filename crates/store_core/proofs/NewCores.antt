@@ -1,5 +1,5 @@
 -- What the core of a new store stands for.
-use Rattle.std.proofs.Common.{◌≡◌, ◌⊎◌, inl, ℕ, ◌+◌, ◌<◌, ◌≤◌, ◌==◌, List, [], ◌∷◌, map, Some, None, Option, refl, sym, ◌∙◌, ap, subst, arith}
+use Rattle.std.proofs.Common.{◌≡◌, ◌⊎◌, inl, inr, ℕ, ◌+◌, ◌<◌, ◌≤◌, ◌==◌, List, [], ◌∷◌, map, Some, None, Option, refl, sym, ◌∙◌, ap, subst, arith}
 use Rattle.std.specs.List.{Contains}
 use Rattle.span_types.specs.declared.spans.Span.{Span}
 use Rattle.disk_model.specs.Images.{Image}
@@ -24,6 +24,8 @@ use Rattle.store_core.proofs.Founding.{rules_new}
 new_sound : (h : History) → StateIsSound (new_machine h).state
 new_sound h = record {
   files = record {
+    slots = λ file low. let none = times_not file 2 (inr low) in omega (arith, none);
+    first = omega arith;
     new = λ file above. let none = times_not file 2 (inl (omega (arith, above))) in omega (arith, none);
     once = λ file. let one = times_one file 2 in omega (arith, one);
     pinned = λ file some. absurd (omega (arith, some));
@@ -33,6 +35,7 @@ new_sound h = record {
     jobs = λ n. omega arith;
     new = λ n above. refl;
   };
+  fits = record { files = omega arith; jobs = omega arith };
   joining = λ job is. absurd (let bad : None ≡ Some job = is in cc);
 }
 

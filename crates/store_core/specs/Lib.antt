@@ -5,3 +5,4 @@ pub mod Past
 pub mod New
 pub mod NewCore
 pub mod Opening
+pub mod Port

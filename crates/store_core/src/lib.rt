@@ -9,11 +9,13 @@ mod events;
 mod laws;
 mod new_store;
 mod pins;
+mod port;
 mod state;
 mod store;
 
 pub use error::OpenError;
 pub use laws::images_since_opening;
 pub use new_store::{make_store, open_new};
+pub use port::an_event_is_a_call;
 pub use state::CoreState;
 pub use store::Core;

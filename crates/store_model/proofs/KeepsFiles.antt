@@ -52,6 +52,8 @@ pinned_fewer f n (p ∷ pins) = by_test (p.number == n) (pinned_fewer f n pins)
 fewer : (u u' : State) → u'.next_file ≡ u.next_file → ((f : ℕ) → uses f u' ≤ uses f u) →
     ((f : ℕ) → 1 ≤ times f (pinned_files u'.pins) → 1 ≤ times f (block_files u'.blocks) + times f u'.loose) → HasOwnFiles u → HasOwnFiles u'
 fewer u u' same less pinned is = record {
+  slots = λ f h. omega (arith, is.slots f h, less f);
+  first = omega (arith, is.first, same);
   new = λ f h. omega (arith, is.new f (omega (arith, h, same)), less f);
   once = λ f. omega (arith, is.once f, less f);
   pinned = pinned;
@@ -59,6 +61,8 @@ fewer u u' same less pinned is = record {
 
 begun_flush : (u : State) → u.flush ≡ None → HasOwnFiles u → HasOwnFiles (after_begin_flush u)
 begun_flush u none is = record {
+  slots = λ f h. omega (arith, is.slots f h, is.first, times_not f u.next_file (inr (omega (arith, h, is.first))), times_not f (u.next_file + 1) (inr (omega (arith, h, is.first))));
+  first = omega (arith, is.first);
   new = λ f h. omega (arith, is.new f (omega (arith, h)), times_not f u.next_file (inl (omega (arith, h))), times_not f (u.next_file + 1) (inl (omega (arith, h))));
   once = λ f. by_order f (below_or_not f u.next_file);
   pinned = is.pinned;
@@ -73,6 +77,8 @@ begun_flush u none is = record {
 
 begun_compact : (u : State) (pin : ℕ) → u.compaction ≡ None → HasOwnFiles u → HasOwnFiles (after_begin_compact pin u)
 begun_compact u pin none is = record {
+  slots = λ f h. omega (arith, is.slots f h, is.first, times_not f u.next_file (inr (omega (arith, h, is.first))));
+  first = omega (arith, is.first);
   new = λ f h. omega (arith, is.new f (omega (arith, h)), times_not f u.next_file (inl (omega (arith, h))));
   once = λ f. by_order f (below_or_not f u.next_file);
   pinned = λ f h. pinned_too (times f (pinned_files u.pins)) (times f (block_files u.blocks) + times f u.loose) (times f (block_files (choice u.blocks))) (is.pinned f)
@@ -151,6 +157,8 @@ dropped_compact u job here is =
 
 looked : (u : State) (pin : ℕ) → HasOwnFiles u → HasOwnFiles (record u { pins = u.pins ++ record { number = pin; blocks = u.blocks } ∷ [] })
 looked u pin is = record {
+  slots = is.slots;
+  first = is.first;
   new = is.new;
   once = is.once;
   pinned = λ f h. pinned_too (times f (pinned_files u.pins)) (times f (block_files u.blocks) + times f u.loose) (times f (block_files u.blocks)) (is.pinned f)
@@ -175,9 +183,9 @@ abbrev Files : Machine → Type 0
 Files m = HasOwnFiles m.state
 
 happens_keeps : (m m' : Machine) (e : Event) (r : Reply) → Files m → early m e ≡ None → Happens m e r m' → Files m'
-happens_keeps m m' (Push spans moment) r is _ d = subst Files (sym d.1) (record { new = is.new; once = is.once; pinned = is.pinned })
-happens_keeps m m' (Cut moment) r is _ d = subst Files (sym d.3) (record { new = is.new; once = is.once; pinned = is.pinned })
-happens_keeps m m' CutAll r is _ d = subst Files (sym d.3) (record { new = is.new; once = is.once; pinned = is.pinned })
+happens_keeps m m' (Push spans moment) r is _ d = subst Files (sym d.1) (record { slots = is.slots; first = is.first; new = is.new; once = is.once; pinned = is.pinned })
+happens_keeps m m' (Cut moment) r is _ d = subst Files (sym d.3) (record { slots = is.slots; first = is.first; new = is.new; once = is.once; pinned = is.pinned })
+happens_keeps m m' CutAll r is _ d = subst Files (sym d.3) (record { slots = is.slots; first = is.first; new = is.new; once = is.once; pinned = is.pinned })
 happens_keeps m m' Held r is _ d = subst Files (sym d.1) is
 happens_keeps m m' BeginFlush r is none d =
     subst Files (sym d.1) (begun_flush m.state (idle_flush m.read_only m.state.flush _ none) is)
@@ -193,7 +201,7 @@ happens_keeps m m' (DropCompact number) r is _ d = subst Files (sym d.4) (droppe
 happens_keeps m m' Look r is _ d = subst Files (sym d.5) (looked m.state d.0 is)
 happens_keeps m m' (ReadPage pin block page) r is _ d = subst Files (sym d.2) is
 happens_keeps m m' (Done pin) r is _ d =
-    subst Files (sym d.2) (record { new = is.new; once = is.once; pinned = λ f w. is.pinned f (omega (arith, w, pinned_fewer f pin m.state.pins)) })
+    subst Files (sym d.2) (record { slots = is.slots; first = is.first; new = is.new; once = is.once; pinned = λ f w. is.pinned f (omega (arith, w, pinned_fewer f pin m.state.pins)) })
 happens_keeps m m' Reclaim r is _ d =
     subst Files (sym d.1) (gone m.state (λ file. is_among file (pinned_files m.state.pins)) (λ f p. p) is)
 

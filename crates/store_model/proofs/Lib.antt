@@ -8,9 +8,11 @@ pub mod Pins
 pub mod KeepsFiles
 pub mod KeepsNumbers
 pub mod KeepsJoining
+pub mod KeepsTypes
 pub mod KeepsSound
 pub mod KeepsHolds
 pub mod TellsHistory
 pub mod KeepsSizes
 pub mod KeepsFloor
 pub mod FirstsExist
+pub mod GivesFresh

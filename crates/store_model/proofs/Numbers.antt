@@ -111,3 +111,16 @@ below_or_not n x = search (rules)
 pub pinned_too : (a b c : ℕ) → (1 ≤ a → 1 ≤ b) → c ≤ b → 1 ≤ a + c → 1 ≤ b
 pinned_too zero b c f l h = omega (arith, l, h)
 pinned_too (suc a) b c f l h = f (omega arith)
+
+-- the number that a list of one names, and those that a list of two neighbours names
+pub one_number : (n x : ℕ) → 1 ≤ times n (x ∷ []) → n ≡ x
+one_number n x h = elim (x == n) as (λ t. (x == n) ≡ t → 1 ≤ (if t then 1 else 0) + 0 → n ≡ x) [
+  | true ↦ λ e _. sym (same_number x n e)
+  | false ↦ λ e h. absurd (omega (arith, h))
+] refl h
+
+pub two_numbers : (n x : ℕ) → 1 ≤ times n (x ∷ (x + 1) ∷ []) → (x ≤ n) × (n < x + 2)
+two_numbers n x h = elim (x == n) as (λ t. (x == n) ≡ t → 1 ≤ (if t then 1 else 0) + times n ((x + 1) ∷ []) → (x ≤ n) × (n < x + 2)) [
+  | true ↦ λ e _. (let s = same_number x n e in (omega (arith, s), omega (arith, s)))
+  | false ↦ λ e h. (let s = one_number n (x + 1) (omega (arith, h)) in (omega (arith, s), omega (arith, s)))
+] refl h

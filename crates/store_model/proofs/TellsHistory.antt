@@ -25,7 +25,7 @@ use Rattle.store_model.proofs.Numbers.{same_number}
 use Rattle.store_model.proofs.Pins.{open-added, blocks-added}
 
 -- a reply that opens nothing and tells of no push
-data IsPlain : Reply → Type 0 where
+pub data IsPlain : Reply → Type 0 where
   ARefusal : (why : Refusal) → IsPlain (Refused why)
   NoWork : IsPlain Nothing
 
@@ -76,14 +76,14 @@ early_plain m (ReadPage pin block page) r h = none_is r h
 early_plain m (Done pin) r h = none_is r h
 
 -- Either the reply is plain and the history is the same, or it is what happens.
-split : (before faults : ℕ) (m m' : Machine) (e : Event) (r : Reply) (G : Type 0) → Step before faults m e r m' →
+pub split : (before faults : ℕ) (m m' : Machine) (e : Event) (r : Reply) (G : Type 0) → Step before faults m e r m' →
     (IsPlain r → m'.history ≡ m.history → G) → (Happens m e r m' → G) → G
 split before faults m m' e r G (Sure told same) plain ok = plain (early_plain m e r told) (ap (λ (n : Machine). n.history) same)
 split before faults m m' e r G (Succeeds none done) plain ok = ok done
 split before faults m m' e r G (Lacks none takes reply same) plain ok = plain (subst IsPlain (sym reply) (ARefusal Memory)) (ap (λ (n : Machine). n.history) same)
 split before faults m m' e r G (Unread reads reply rose same) plain ok = plain (subst IsPlain (sym reply) (ARefusal Fault)) (ap (λ (n : Machine). n.history) same)
 split before faults m m' e r G (Breaks none writes reply rose same) plain ok = plain (subst IsPlain (sym reply) (ARefusal Fault)) (ap (λ (n : Machine). n.history) same)
-split before faults m m' e r G (Halts none reclaims writes reply rose gone free same) plain ok = plain (subst IsPlain (sym reply) (ARefusal Fault)) (ap (λ (n : Machine). n.history) same)
+split before faults m m' e r G (Halts none reclaims writes reply rose emptied fewer same) plain ok = plain (subst IsPlain (sym reply) (ARefusal Fault)) (ap (λ (n : Machine). n.history) same)
 
 -- ---- the history
 
@@ -150,14 +150,14 @@ step_tells before faults m m' e r step =
 
 -- ---- what is opened
 
-not_in_nil : (x : Hold) (G : Type 0) → Contains [] x → G
+pub not_in_nil : (x : Hold) (G : Type 0) → Contains [] x → G
 not_in_nil x G h = absurd (omega (arith, h.1))
 
-only_one : (x y : Hold) → Contains (y ∷ []) x → y ≡ x
+pub only_one : (x y : Hold) → Contains (y ∷ []) x → y ≡ x
 only_one x y (zero, l, e) = e
 only_one x y (suc k, l, e) = absurd (omega (arith, l))
 
-plain_opens : (r : Reply) (hold : Hold) (G : Type 0) → IsPlain r → Contains (opened r) hold → G
+pub plain_opens : (r : Reply) (hold : Hold) (G : Type 0) → IsPlain r → Contains (opened r) hold → G
 plain_opens r hold G (ARefusal why) h = not_in_nil hold G h
 plain_opens r hold G NoWork h = not_in_nil hold G h
 

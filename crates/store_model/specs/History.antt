@@ -3,7 +3,7 @@ use Rattle.std.specs.Prelude.{ℕ, ◌+◌, ◌-◌, List, [], ◌∷◌, ◌++�
 use Rattle.span_types.specs.declared.spans.Span.{Span}
 use Rattle.span_types.specs.declared.spans.Row.{Row}
 
--- The base is rows of distinct keys, whose numbers are below `start`. The first entry, a pushed batch, has the number `start`.
+-- The base is the rows that were there at first, whatever they are. The first entry, a pushed batch, has the number `start`.
 pub record History : Type 0 where
   pub base : List Row
   pub start : ℕ

@@ -10,3 +10,4 @@ pub mod Holds
 pub mod Told
 pub mod Laws
 pub mod Sound
+pub mod Fresh

@@ -93,6 +93,10 @@ abbrev pub compaction_files : Option Compaction → List ℕ
 compaction_files None = []
 compaction_files (Some job) = job.file ∷ []
 
+-- the files that open jobs were given: a flush's new segment among them
+abbrev pub open_files : State → List ℕ
+open_files u = flush_files u.flush ++ compaction_files u.compaction
+
 -- the loose files that a list names when it is committed: those, and the files of the jobs that stay open
 abbrev pub listed_loose : State → List ℕ
 listed_loose u = u.loose ++ flush_files u.flush ++ compaction_files u.compaction

@@ -1,5 +1,5 @@
 -- The steps of a store: what each event answers, and what it leaves.
-use Rattle.std.specs.Prelude.{◌≡◌, ℕ, ◌+◌, ◌==◌, nat_le, nat_lt, Bool, true, false, if◌then◌else◌, not, List, ◌++◌, length, filter, take, Option, None, Some}
+use Rattle.std.specs.Prelude.{◌≡◌, ℕ, ◌+◌, ◌==◌, ◌<◌, nat_le, nat_lt, Bool, true, false, if◌then◌else◌, not, List, ◌++◌, length, filter, take, Option, None, Some}
 use Rattle.std.specs.List.Sorted.{IsPermutation}
 use Rattle.span_types.specs.Faults.{Rose}
 use Rattle.span_types.specs.First.{IsFirstOf}
@@ -96,10 +96,7 @@ abbrev pub reads : Event → Bool
 reads (ReadPage pin block page) = true
 reads _ = false
 
--- loose files that no pin names
-abbrev pub AreFree : List ℕ → State → Type 0
-AreFree files u = (file : ℕ) → is_among file files ≡ true → is_among file (free_files u) ≡ true
-
+-- these files are loose no more
 abbrev pub without_loose : List ℕ → State → State
 without_loose files u = record u { loose = filter (λ file. not (is_among file files)) u.loose }
 
@@ -197,10 +194,12 @@ pub data Step (before faults : ℕ) (m : Machine) (event : Event) (reply : Reply
   Lacks : early m event ≡ None → takes_memory event ≡ true → reply ≡ Refused Memory → m' ≡ m → Step before faults m event reply m'
   -- a read failed
   Unread : reads event ≡ true → reply ≡ Refused Fault → Rose before faults → m' ≡ m → Step before faults m event reply m'
-  -- a write failed
+  -- a write failed, and all else is as before: a reclaim's files may all stay loose
   Breaks : early m event ≡ None → writes m.state event ≡ true → reply ≡ Refused Fault → Rose before faults → m' ≡ broken faults m
       → Step before faults m event reply m'
-  -- a write of a reclaim failed, and some of the files, emptied by then, are loose no more
+  -- A write of a reclaim failed. It empties files in their order: so many, not all, were emptied by then and are loose no more,
+  -- and the others stay loose.
   Halts : early m event ≡ None → event ≡ Reclaim → writes m.state event ≡ true → reply ≡ Refused Fault → Rose before faults
-      → (gone : List ℕ) → AreFree gone m.state → m' ≡ broken faults (with_state (without_loose gone m.state) m)
+      → (emptied : ℕ) → emptied < length (free_files m.state)
+      → m' ≡ broken faults (with_state (without_loose (take emptied (free_files m.state)) m.state) m)
       → Step before faults m event reply m'

@@ -8,14 +8,15 @@ ghost use Rattle.span_types.specs.declared.spans.Span.{Span};
 ghost use Rattle.span_types.specs.First.{first_at, IsFirstOf};
 ghost use Rattle.store_model.specs.History.{History, history_rows, pushed, batch_rows, count_of};
 ghost use Rattle.store_model.specs.RowSets.{SameRows, OnePlace};
-ghost use Rattle.store_model.specs.State.{State, is_among, pinned_files, flush_rows, live_rows, block_rows};
+ghost use Rattle.store_model.specs.State.{State, is_among, flush_rows, live_rows, block_rows};
 ghost use Rattle.store_model.specs.Event.{Event, Reply};
 ghost use Rattle.store_model.specs.Step.{Machine, Step};
 ghost use Rattle.std.specs.List.{Contains};
 ghost use Rattle.store_model.specs.Holds.{Hold, OpenIn, ends, opened};
 ghost use Rattle.store_model.specs.Told.{history_after, TellsLength, AreCounted, SizeFits, IsAboveFloor};
 ghost use Rattle.store_model.specs.Laws.{Agrees};
-ghost use Rattle.store_model.specs.Sound.{StateIsSound, emptied};
+ghost use Rattle.store_model.specs.Sound.{StateIsSound, IsOutOfUse, emptied};
+ghost use Rattle.store_model.specs.Fresh.{GivesNewFiles, AreApart};
 
 /// A push adds its rows behind those of the history.
 pub fn history_grows()
@@ -41,16 +42,28 @@ pub fn look_is_the_history()
         (k : Key) → first_at k (rows ++ block_rows m.state.blocks) ≡ first_at k (history_rows m.history) }
 {}
 
-/// Each step keeps files, pins and jobs apart.
+/// Each step keeps files, pins and jobs apart, and their numbers within their types.
 pub fn step_keeps_sound()
     ensures { (before faults : ℕ) (m m' : Machine) (e : Event) (r : Reply) →
         StateIsSound m.state → Step before faults m e r m' → StateIsSound m'.state }
 {}
 
-/// No event empties a file that an open pin names.
-pub fn pinned_files_are_not_emptied()
-    ensures { (u : State) (e : Event) (file : ℕ) → StateIsSound u → is_among file (emptied e u) ≡ true →
-        is_among file (pinned_files u.pins) ≡ false }
+/// An event empties only files that are out of use: no pin names them, the list has them as no segment and no block, and no open
+/// job was given them.
+pub fn used_files_are_not_emptied()
+    ensures { (u : State) (e : Event) (file : ℕ) → StateIsSound u → is_among file (emptied e u) ≡ true → IsOutOfUse file u }
+{}
+
+/// A file number is given out once: the next one never falls, and what a step gives out lies between the old and the new one.
+pub fn files_are_given_out_once()
+    ensures { (before faults : ℕ) (m m' : Machine) (e : Event) (r : Reply) → Step before faults m e r m' →
+        GivesNewFiles m.state r m'.state }
+{}
+
+/// What a reply opens shares the number of its pin and that of its job with nothing that was open before.
+pub fn what_opens_is_new()
+    ensures { (before faults : ℕ) (m m' : Machine) (e : Event) (r : Reply) (new old : Hold) → StateIsSound m.state →
+        Step before faults m e r m' → Contains (opened r) new → OpenIn m old → AreApart new old }
 {}
 
 /// What is open stays open and what it was, but for what the event ends: a look keeps its blocks, and with its rows they have

@@ -1,9 +1,9 @@
 -- What is chosen by positions is the machine's choice.
-use Rattle.std.proofs.Common.{rules, add-one, append-nil, drop-cons, slice_index_or, ◌≡◌, ℕ, ◌+◌, ◌-◌, ◌<◌, ◌≤◌, ◌==◌, ◌&&◌, zero, suc, min, nat_le, List, [], ◌∷◌, ◌++◌, Bool, true, false, Option, None, Some, IfSome, refl, sym, ◌∙◌, ap, subst, arith, length, map, take, drop, if◌then◌else◌}
+use Rattle.std.proofs.Common.{rules, add-one, append-nil, drop-cons, length-drop, slice_index_or, ◌≡◌, ℕ, ◌+◌, ◌-◌, ◌<◌, ◌≤◌, ◌==◌, ◌&&◌, zero, suc, min, nat_le, List, [], ◌∷◌, ◌++◌, Bool, true, false, Option, None, Some, IfSome, IsSome, refl, sym, ◌∙◌, ap, subst, arith, length, map, take, drop, if◌then◌else◌}
 use Rattle.block_list.specs.declared.body.BlockRef.{BlockRef}
 use Rattle.store_model.specs.State.{Block}
 use Rattle.store_model.specs.Choice.{most_rows, fits, joined, begun_with, chosen_at, or_else, chosen_from, choice}
-use Rattle.store_state.specs.Listed.{ref_of, picked}
+use Rattle.store_state.specs.Listed.{ref_of, picked, Ascend}
 use Rattle.store_state.specs.Pairing.{smallest, has_partner, pair_at, joined_at, with_partners, from_pair}
 
 abbrev refs_of : List Block → List BlockRef
@@ -91,6 +91,7 @@ joined_picked level room (suc n) k all (x ∷ xs) e = by_test (fits level room x
 pub record IsAtLevel (level : ℕ) (positions : List ℕ) (all bs : List Block) : Type 0 where
   pub same : picked positions all ≡ chosen_at level bs
   pub ends : 1 ≤ length positions → (others : List Block) → or_else (chosen_at level bs) others ≡ chosen_at level bs
+  pub some : 1 ≤ length positions → 1 ≤ length (chosen_at level bs)
 
 -- the choice where the first block has a partner, and where it has none
 begun : (level : ℕ) (b : Block) (bs : List Block) → has_partner level (ref_of b) (refs_of bs) ≡ true →
@@ -120,7 +121,7 @@ not_begun level b bs h = by_test (b.level == level) (nat_le b.size most_rows) re
         (joined_none level (most_rows - b.size) 2 bs (omega (arith, room, le_of b.size most_rows e)))
 
 pub at_level : (level k : ℕ) (all bs : List Block) → drop k all ≡ bs → IsAtLevel level (from_pair level (pair_at level k (refs_of bs)) (refs_of all)) all bs
-at_level level k all [] e = record { same = refl; ends = λ h others. absurd (omega (arith, h)) }
+at_level level k all [] e = record { same = refl; ends = λ h others. absurd (omega (arith, h)); some = λ h. absurd (omega (arith, h)) }
 at_level level k all (b ∷ bs) e = by_test (has_partner level (ref_of b) (refs_of bs)) refl (at_level level (k + 1) all bs (next_dropped k all b bs e))
   where
     here : from_pair level (Some k) (refs_of all) ≡ k ∷ joined_at level (most_rows - b.size) 3 (k + 1) (refs_of bs)
@@ -135,10 +136,12 @@ at_level level k all (b ∷ bs) e = by_test (has_partner level (ref_of b) (refs_
           (joined_picked level (most_rows - b.size) 3 (k + 1) all bs (next_dropped k all b bs e))
           ∙ sym (begun level b bs h);
       ends = λ _ others. ap (λ xs. or_else xs others) (begun level b bs h) ∙ sym (begun level b bs h);
+      some = λ _. subst (λ xs. 1 ≤ length xs) (sym (begun level b bs h)) (omega arith);
     }
     by_test false h rest = record {
       same = rest.same ∙ sym (not_begun level b bs h);
       ends = λ l others. ap (λ xs. or_else xs others) (not_begun level b bs h) ∙ rest.ends l others ∙ sym (not_begun level b bs h);
+      some = λ l. subst (λ xs. 1 ≤ length xs) (sym (not_begun level b bs h)) (rest.some l);
     }
 
 -- ---- all levels
@@ -250,3 +253,58 @@ all_joined level start room blocks d chosen J r left at l e past h =
     sym (append-nil chosen) ∙ ap (λ xs. chosen ++ xs) (sym (ap (joined_at J r left at) (none_behind blocks at past) ∙ joined_end J r left at))
     ∙ h ∙ ap (λ n. start ∷ joined_at level n 3 (start + 1) (drop (start + 1) blocks)) e
     ∙ sym (ap (with_partners level start) (cons_at blocks start d l))
+
+-- ---- where memory is wanted
+
+-- a pair gives positions
+named : (level k at : ℕ) (rs : List BlockRef) → at < length rs → 1 ≤ length (with_partners level k (drop at rs))
+named level k at [] l = absurd (omega (arith, l))
+named level k zero (r ∷ rs) l = omega arith
+named level k (suc at) (r ∷ rs) l = named level k at rs (omega (arith, l))
+
+pair_named : (level : ℕ) (rs : List BlockRef) → IsSome (pair_at level 0 rs) → 1 ≤ length (from_pair level (pair_at level 0 rs) rs)
+pair_named level rs is = at (pair_at level 0 rs) is (pair_within level 0 rs)
+  where
+    at : (o : Option ℕ) → IsSome o → IfSome o (λ x. x < 0 + length rs) → 1 ≤ length (from_pair level o rs)
+    at None h within = cc
+    at (Some x) h within = named level x x rs (omega (arith, within))
+
+-- where a level has a pair there is something to join
+pub level_lacks : (level : ℕ) (refs : List BlockRef) (listed : List Block) → map ref_of listed ≡ refs → IsSome (pair_at level 0 refs) →
+    level < 63 → choice listed ≡ chosen_from level (63 - level) listed → 1 ≤ length (choice listed)
+level_lacks level refs listed e is l so_far =
+    let some : 1 ≤ length (from_pair level (pair_at level 0 refs) refs) = pair_named level refs is in
+    let here = found_at level refs (from_pair level (pair_at level 0 refs) refs) listed e refl in
+    subst (λ xs. 1 ≤ length xs) (sym (so_far ∙ next_level level 63 listed l ∙ here.ends some (chosen_from (level + 1) (63 - (level + 1)) listed))) (here.some some)
+
+-- ---- positions ascend
+
+joined_ascend : (level room n from at end : ℕ) (bs : List BlockRef) → from ≤ at → at + length bs ≤ end → Ascend from end (joined_at level room n at bs)
+joined_ascend level room zero from at end bs h l = tt
+joined_ascend level room (suc n) from at end [] h l = tt
+joined_ascend level room (suc n) from at end (b ∷ bs) h l = by_test ((b.level == level) && nat_le b.rows room)
+    (joined_ascend level (room - b.rows) n (at + 1) (at + 1) end bs (omega arith) (omega (arith, l)))
+    (joined_ascend level room (suc n) from (at + 1) end bs (omega (arith, h)) (omega (arith, l)))
+  where
+    by_test : (t : Bool) → Ascend (at + 1) end (joined_at level (room - b.rows) n (at + 1) bs) → Ascend from end (joined_at level room (suc n) (at + 1) bs) →
+        Ascend from end (if t then at ∷ joined_at level (room - b.rows) n (at + 1) bs else joined_at level room (suc n) (at + 1) bs)
+    by_test true taken passed = (h, omega (arith, l), taken)
+    by_test false taken passed = passed
+
+partners_ascend : (level at end : ℕ) (bs : List BlockRef) → at + length bs ≤ end → Ascend 0 end (with_partners level at bs)
+partners_ascend level at end [] l = tt
+partners_ascend level at end (b ∷ bs) l =
+    (omega arith, omega (arith, l), joined_ascend level (most_rows - b.rows) 3 (at + 1) (at + 1) end bs (omega arith) (omega (arith, l)))
+
+pair_ascends : (level : ℕ) (rs : List BlockRef) → Ascend 0 (length rs) (from_pair level (pair_at level 0 rs) rs)
+pair_ascends level rs = at (pair_at level 0 rs) (pair_within level 0 rs)
+  where
+    at : (o : Option ℕ) → IfSome o (λ x. x < 0 + length rs) → Ascend 0 (length rs) (from_pair level o rs)
+    at None within = tt
+    at (Some x) within = partners_ascend level x (length rs) (drop x rs) (omega (arith, within, length-drop x rs))
+
+pub level_ascends : (level : ℕ) (refs : List BlockRef) (chosen : List ℕ) → chosen ≡ from_pair level (pair_at level 0 refs) refs → Ascend 0 (length refs) chosen
+level_ascends level refs chosen h = subst (Ascend 0 (length refs)) (sym h) (pair_ascends level refs)
+
+pub none_ascend : (end : ℕ) (chosen : List ℕ) → chosen ≡ [] → Ascend 0 end chosen
+none_ascend end chosen h = subst (Ascend 0 end) (sym h) tt

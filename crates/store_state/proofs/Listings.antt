@@ -1,5 +1,7 @@
 -- What a listing becomes.
-use Rattle.std.proofs.Common.{rules, ◌≡◌, ℕ, append_assoc, ◌+◌, ◌<◌, ◌≤◌, min, nat_le, zero, suc, List, [], ◌∷◌, ◌++◌, Bool, true, false, not, Option, None, Some, refl, sym, ◌∙◌, ap, subst, arith, length, map, filter, take, drop, if◌then◌else◌}
+use Rattle.std.proofs.Common.{rules, ◌≡◌, ℕ, append_assoc, ◌+◌, ◌<◌, ◌≤◌, min, nat_le, List, [], ◌∷◌, ◌++◌, Bool, true, false, not, Option, Some, refl, sym, ◌∙◌, ap, arith, ◌-◌, length, length-append, map, filter, take, if◌then◌else◌}
+use Rattle.std.proofs.Math.Seq.{take-append_seam}
+use Rattle.std.proofs.lemmas.List.{length-map}
 use Rattle.span_types.specs.declared.spans.Row.{Row}
 use Rattle.block_list.specs.declared.body.BlockRef.{BlockRef}
 use Rattle.block_list.specs.declared.body.SegmentRef.{SegmentRef}
@@ -7,7 +9,7 @@ use Rattle.store_model.specs.State.{State, Block, Segment, Flush, Compaction, bl
 use Rattle.store_model.specs.Choice.{in_files, outside_files}
 use Rattle.store_model.specs.After.{floor_after, least, released, staying, with_segment, job_files, after_commit_flush, after_commit_compact, after_drop_flush, after_drop_compact}
 use Rattle.live_traces.specs.Parts.{least_number, least_with}
-use Rattle.store_state.specs.Listed.{IsListingOf, floor_from, ref_of, segment_of}
+use Rattle.store_state.specs.Listed.{IsListingOf, TakesOneJob, floor_from, ref_of, segment_of}
 use Rattle.store_state.specs.Loose.{AreFilesOf}
 use Rattle.store_state.specs.declared.listing.Listing.{Listing}
 use Rattle.store_state.specs.declared.listing.FlushFiles.{FlushFiles}
@@ -176,6 +178,116 @@ compact_listing block joined now next u job firsts is file level mine blocks seg
 
     same : ref_of (record { file = job.file; level = job.level; size = block.rows; rows = firsts }) ≡ block
     same = ap (λ f. record { file = f; level = job.level; rows = block.rows }) file ∙ ap (λ l. record { file = block.file; level = l; rows = block.rows }) level
+
+-- ---- room
+
+parted_length : (floor : ℕ) (segments : List Segment) → length (staying floor segments) + length (released floor segments) ≡ length segments
+parted_length floor [] = refl
+parted_length floor (a ∷ []) = refl
+parted_length floor (a ∷ b ∷ rest) = by_test (nat_le b.first floor) (parted_length floor (b ∷ rest))
+  where
+    by_test : (t : Bool) → length (staying floor (b ∷ rest)) + length (released floor (b ∷ rest)) ≡ length (b ∷ rest) →
+        length (if t then staying floor (b ∷ rest) else a ∷ staying floor (b ∷ rest)) + length (if t then a.file ∷ released floor (b ∷ rest) else released floor (b ∷ rest)) ≡ length (a ∷ b ∷ rest)
+    by_test true h = omega (arith, h)
+    by_test false h = omega (arith, h)
+
+sides_length : (files : List ℕ) (blocks : List BlockRef) → length (outside files blocks) + length (inside files blocks) ≡ length blocks
+sides_length files [] = refl
+sides_length files (b ∷ bs) = by_test (is_among b.file files) (sides_length files bs)
+  where
+    by_test : (t : Bool) → length (outside files bs) + length (inside files bs) ≡ length bs →
+        length (if not t then b ∷ outside files bs else outside files bs)
+        + length (map (λ (r : BlockRef). r.file) (if t then b ∷ filter (λ (r : BlockRef). is_among r.file files) bs else filter (λ (r : BlockRef). is_among r.file files) bs)) ≡ length (b ∷ bs)
+    by_test true h = omega (arith, h)
+    by_test false h = omega (arith, h)
+
+-- a list with more at its end
+more_length : {X : Type 0} (xs ys zs : List X) → zs ≡ xs ++ ys → length zs ≡ length xs + length ys
+more_length xs ys zs e = ap length e ∙ length-append xs ys
+
+-- In all as many are named, but for two more, of which one is a block's and one a segment's at most.
+one_job : (old new : Listing) → length new.blocks.items ≤ length old.blocks.items + 1 → length new.segments.items ≤ length old.segments.items + 1 →
+    length new.loose.items + length new.segments.items + length new.blocks.items ≤ length old.loose.items + length old.segments.items + length old.blocks.items + 2 →
+    TakesOneJob old new
+one_job old new blocks segments all = λ jobs next room. record {
+  blocks = omega (arith, blocks, room.blocks);
+  segments = omega (arith, segments, room.segments);
+  loose = omega (arith, all, room.loose);
+}
+
+pub flush_takes : (floor : ℕ) (block : BlockRef) (last : SegmentRef) (now next : Listing) →
+    next.blocks.items ≡ now.blocks.items ++ block ∷ [] →
+    map segment_of next.segments.items ≡ staying floor (map segment_of (now.segments.items ++ last ∷ [])) →
+    next.loose.items ≡ now.loose.items ++ released floor (map segment_of (now.segments.items ++ last ∷ [])) → TakesOneJob now next
+flush_takes floor block last now next blocks segments loose = one_job now next (omega (arith, more)) (omega (arith, stay, both, all)) (omega (arith, more, stay, both, all, go))
+  where
+    more : length next.blocks.items ≡ length now.blocks.items + 1
+    more = more_length now.blocks.items (block ∷ []) next.blocks.items blocks
+
+    stay : length next.segments.items ≡ length (staying floor (map segment_of (now.segments.items ++ last ∷ [])))
+    stay = sym (length-map next.segments.items segment_of) ∙ ap length segments
+
+    go : length next.loose.items ≡ length now.loose.items + length (released floor (map segment_of (now.segments.items ++ last ∷ [])))
+    go = more_length now.loose.items (released floor (map segment_of (now.segments.items ++ last ∷ []))) next.loose.items loose
+
+    both : length (staying floor (map segment_of (now.segments.items ++ last ∷ []))) + length (released floor (map segment_of (now.segments.items ++ last ∷ []))) ≡ length (map segment_of (now.segments.items ++ last ∷ []))
+    both = parted_length floor (map segment_of (now.segments.items ++ last ∷ []))
+
+    all : length (map segment_of (now.segments.items ++ last ∷ [])) ≡ length now.segments.items + 1
+    all = length-map (now.segments.items ++ last ∷ []) segment_of ∙ length-append now.segments.items (last ∷ [])
+
+pub compact_takes : (block : BlockRef) (joined : List ℕ) (now next : Listing) →
+    next.blocks.items ≡ outside joined now.blocks.items ++ block ∷ [] → next.segments.items ≡ now.segments.items →
+    next.loose.items ≡ now.loose.items ++ inside joined now.blocks.items → TakesOneJob now next
+compact_takes block joined now next blocks segments loose = one_job now next (omega (arith, more, both)) (omega (arith, same)) (omega (arith, more, both, same, go))
+  where
+    more : length next.blocks.items ≡ length (outside joined now.blocks.items) + 1
+    more = more_length (outside joined now.blocks.items) (block ∷ []) next.blocks.items blocks
+
+    both : length (outside joined now.blocks.items) + length (inside joined now.blocks.items) ≡ length now.blocks.items
+    both = sides_length joined now.blocks.items
+
+    same : length next.segments.items ≡ length now.segments.items
+    same = ap length segments
+
+    go : length next.loose.items ≡ length now.loose.items + length (inside joined now.blocks.items)
+    go = more_length now.loose.items (inside joined now.blocks.items) next.loose.items loose
+
+-- What a commit makes of a listing.
+pub record IsFlushMade (count rows : ℕ) (found : Option ℕ) (files : FlushFiles) (now next : Listing) : Type 0 where
+  pub listing : (u : State) (job : Flush) (firsts : List Row) → IsListingOf now u → AreFilesOf files job → found ≡ least_number (u.head ++ live_rows u.live) →
+      IsListingOf next (after_commit_flush count job rows firsts u)
+  pub others : TakesOneJob now next
+
+pub flush_made : (count rows : ℕ) (found : Option ℕ) (files : FlushFiles) (now next : Listing) →
+    next.blocks.items ≡ now.blocks.items ++ record { file = files.block; level = 0; rows = rows } ∷ [] →
+    map segment_of next.segments.items ≡ staying (floor_from count found) (map segment_of (now.segments.items ++ record { file = files.segment; first = count } ∷ [])) →
+    next.floor ≡ floor_from count found →
+    next.loose.items ≡ now.loose.items ++ released (floor_from count found) (map segment_of (now.segments.items ++ record { file = files.segment; first = count } ∷ [])) →
+    next.next_file ≡ now.next_file → IsFlushMade count rows found files now next
+flush_made count rows found files now next blocks segments floor loose next_file = record {
+  listing = λ u job firsts is own least. flush_listing count rows found files now next u job firsts is own least blocks segments floor loose next_file;
+  others = flush_takes (floor_from count found) _ _ now next blocks segments loose;
+}
+
+pub record IsCompactMade (block : BlockRef) (joined : List ℕ) (now next : Listing) : Type 0 where
+  pub listing : (u : State) (job : Compaction) (firsts : List Row) → IsListingOf now u → job.file ≡ block.file → job.level ≡ block.level → job_files job u ≡ joined →
+      IsListingOf next (after_commit_compact job block.rows firsts u)
+  pub others : TakesOneJob now next
+
+pub compact_made : (block : BlockRef) (joined : List ℕ) (now next : Listing) →
+    next.blocks.items ≡ outside joined now.blocks.items ++ block ∷ [] → next.segments.items ≡ now.segments.items → next.floor ≡ now.floor →
+    next.loose.items ≡ now.loose.items ++ inside joined now.blocks.items → next.next_file ≡ now.next_file → IsCompactMade block joined now next
+compact_made block joined now next blocks segments floor loose next_file = record {
+  listing = λ u job firsts is file level mine. compact_listing block joined now next u job firsts is file level mine blocks segments floor loose next_file;
+  others = compact_takes block joined now next blocks segments loose;
+}
+
+-- files of jobs that stay open are added, and go again
+pub taken_back : (loose own other : List ℕ) → take (length ((loose ++ own) ++ other) - (length own + length other)) ((loose ++ own) ++ other) ≡ loose
+taken_back loose own other =
+    ap (λ n. take n ((loose ++ own) ++ other)) (omega (arith, length-append (loose ++ own) other, length-append loose own))
+    ∙ ap (take (length loose)) (append_assoc loose own other) ∙ take-append_seam loose (own ++ other)
 
 pub drop_flush_listing : (files : FlushFiles) (old new : Listing) (u : State) (job : Flush) → IsListingOf old u → AreFilesOf files job → IsBeside new old →
     new.loose.items ≡ (old.loose.items ++ files.block ∷ []) ++ files.segment ∷ [] → IsListingOf new (after_drop_flush job u)

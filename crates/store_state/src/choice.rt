@@ -1,10 +1,10 @@
 //! Which blocks a compaction joins.
 
-ghost use Rattle.std.specs.Prelude.{◌==◌, ◌&&◌, min, nat_le, if◌then◌else◌, ◌≡◌, ◌<◌, ◌≤◌, ◌-◌, ◌+◌, ◌++◌, ◌∷◌, [], List, Some, None, IfOk, OnOk, IfSome, length, map, drop};
+ghost use Rattle.std.specs.Prelude.{◌==◌, ◌&&◌, min, nat_le, if◌then◌else◌, ◌≡◌, ◌<◌, ◌≤◌, ◌-◌, ◌+◌, ◌++◌, ◌∷◌, [], List, Some, None, IfOk, OnOk, OnErr, IfSome, IsSome, length, map, drop};
 ghost use Rattle.block_list.specs.declared.body.BlockRef.{BlockRef};
 ghost use Rattle.store_model.specs.State.{Block};
 ghost use Rattle.store_model.specs.Choice.{choice, most_rows};
-ghost use Rattle.store_state.specs.Listed.{ref_of, picked};
+ghost use Rattle.store_state.specs.Listed.{ref_of, picked, Ascend};
 ghost use Rattle.store_state.specs.Pairing.{IsPairing, from_pair, joined_at, pair_at};
 
 use block_list::BlockRef;
@@ -17,10 +17,13 @@ const MOST_ROWS: u32 = 1_048_576;
 const LEVELS: u8 = 63;
 
 /// The positions of the blocks that a compaction joins now, ascending: none, or two to four of one level that have at most
-/// 1,048,576 rows together. It goes over the list twice for each level.
+/// 1,048,576 rows together. It goes over the list twice for each level, and takes memory only where there is something to join.
 pub fn choose(alloc: Global, blocks: &[BlockRef]) -> Result<Vec<usize>, Memory>
-    ensures { IfOk result (λ chosen. (listed : List Block) → map ref_of listed ≡ blocks.now →
+    ensures chosen { IfOk result (λ chosen. (listed : List Block) → map ref_of listed ≡ blocks.now →
         picked chosen.items listed ≡ choice listed) }
+    ensures ascend { IfOk result (λ chosen. Ascend 0 (length blocks.now) chosen.items) }
+    ensures memory { OnErr result ((listed : List Block) → map ref_of listed ≡ blocks.now →
+        1 ≤ length (choice listed)) }
 {
     for level in 0..LEVELS {
         let chosen = choose_at(alloc, level, blocks)?;
@@ -33,8 +36,9 @@ pub fn choose(alloc: Global, blocks: &[BlockRef]) -> Result<Vec<usize>, Memory>
 
 // The choice at one level.
 fn choose_at(alloc: Global, level: u8, blocks: &[BlockRef]) -> Result<Vec<usize>, Memory>
-    ensures { IfOk result (λ chosen.
+    ensures chosen { IfOk result (λ chosen.
         chosen.items ≡ from_pair level (pair_at level 0 blocks.now) blocks.now) }
+    ensures memory { OnErr result (IsSome (pair_at level 0 blocks.now)) }
 {
     match first_pair(level, blocks) {
         None => Ok(Vec::new(alloc)),

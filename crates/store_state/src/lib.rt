@@ -1,4 +1,5 @@
-//! The calls of a store: the trait `Port`, whose contracts say of each call what it makes of all that a port shows.
+//! The calls of a store: the traits `LookPort` and `Port`, whose contracts say of each call what it makes of all that a port
+//! shows.
 //!
 //! The machine behind the calls stands in `store_model`; `specs/Meaning.antt` says what a port shows and what one call does to
 //! it.
@@ -6,6 +7,7 @@
 
 mod choice;
 mod errors;
+mod freeing;
 mod jobs;
 mod laws;
 mod listing;
@@ -15,7 +17,8 @@ mod room;
 
 pub use choice::choose;
 pub use errors::{BeginError, PushError, ReclaimError, WriteError};
+pub use freeing::reclaim;
 pub use jobs::{CompactJob, FlushJob, JobFile, Look, Pin};
 pub use laws::{a_step_tells_what_is_learnt, the_floor_is_the_least_that_waits};
-pub use listing::{FlushFiles, Listing, commit_compact, commit_flush, list_body};
-pub use port::Port;
+pub use listing::{FlushFiles, Listing, commit_compact, commit_flush, list_body, listing_of};
+pub use port::{LookPort, Port};

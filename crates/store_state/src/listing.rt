@@ -1,12 +1,13 @@
-//! What a store's list names, and what flushes and compactions make of it. Nothing here takes memory but `reserve`.
+//! What a store's list names, and what flushes and compactions make of it. Nothing here takes memory but `spare` and
+//! `reserve`, which a job that begins calls, so that commits and ends find room.
 
-ghost use Rattle.std.specs.Prelude.{◌≡◌, ℕ, ◌≤◌, ◌<◌, ◌+◌, ◌++◌, List, length, IfOk};
+ghost use Rattle.std.specs.Prelude.{◌≡◌, ℕ, ◌≤◌, ◌<◌, ◌+◌, ◌++◌, List, length, IfOk, OnOk};
 ghost use Rattle.std.specs.Vec.{vec_len, vec_capacity};
 ghost use Rattle.span_types.specs.declared.spans.Row.{Row};
 ghost use Rattle.store_model.specs.State.{State, Flush, Compaction, live_rows, flush_files, compaction_files, listed_loose};
 ghost use Rattle.store_model.specs.After.{after_begin_flush, after_begin_compact, after_commit_flush, after_drop_flush, after_commit_compact, after_drop_compact, job_files, taken};
 ghost use Rattle.live_traces.specs.Parts.{least_number};
-ghost use Rattle.store_state.specs.Listed.{HasRoomFor, IsListingOf, floor_from, listed_body};
+ghost use Rattle.store_state.specs.Listed.{HasRoomFor, IsListingOf, KeepsRoom, NamesTheSame, TakesOneJob, floor_from, listed_body};
 ghost use Rattle.store_state.specs.Loose.{AreFilesOf, compaction_part, flush_part};
 
 use crate::parts::{part_blocks, part_segments};
@@ -52,11 +53,13 @@ pub fn commit_flush(
     count: u64,
     least: Option<u64>,
 )
-    requires { HasRoomFor next.now now.now }
-    ensures { (u : State) (job : Flush) (firsts : List Row) →
+    requires { HasRoomFor 1 next.now now.now }
+    ensures listing { (u : State) (job : Flush) (firsts : List Row) →
         IsListingOf now.now u → AreFilesOf files job →
         least ≡ least_number (u.head ++ live_rows u.live) →
         IsListingOf next.new (after_commit_flush count job rows firsts u) }
+    ensures others { TakesOneJob now.now next.new }
+    ensures room { KeepsRoom next.old next.new }
 {
     fill(&mut next.blocks, now.blocks.as_slice());
     put(
@@ -97,10 +100,12 @@ fn floor_of(count: u64, least: Option<u64>) -> u64
 /// A compaction's commit: `next` becomes what `now` is without the blocks in the job's files, which are loose then, and with its
 /// own block, of so many rows, at the end.
 pub fn commit_compact(now: &Listing, next: &mut Listing, joined: &[u32], block: BlockRef)
-    requires { HasRoomFor next.now now.now }
-    ensures { (u : State) (job : Compaction) (firsts : List Row) → IsListingOf now.now u →
+    requires { HasRoomFor 1 next.now now.now }
+    ensures listing { (u : State) (job : Compaction) (firsts : List Row) → IsListingOf now.now u →
         job.file ≡ block.file → job.level ≡ block.level → job_files job u ≡ joined.now →
         IsListingOf next.new (after_commit_compact job block.rows firsts u) }
+    ensures others { TakesOneJob now.now next.new }
+    ensures room { KeepsRoom next.old next.new }
 {
     fill(&mut next.segments, now.segments.as_slice());
     fill(&mut next.loose, now.loose.as_slice());
@@ -115,14 +120,15 @@ pub fn commit_compact(now: &Listing, next: &mut Listing, joined: &[u32], block: 
     put(&mut next.blocks, block);
 }
 
-/// The list that is committed. As loose it names also the files of the jobs that stay open.
+/// The list that is committed. As loose it names also the files of the jobs that stay open. `listing_of` gives the listing back.
 pub fn list_body(
     listing: Listing,
     generation: u8,
     flush: Option<FlushFiles>,
     compaction: Option<u32>,
 ) -> ListBody
-    requires { vec_len listing.loose + 3 ≤ vec_capacity listing.loose }
+    requires { length listing.loose.items + length (flush_part flush) + length (compaction_part compaction)
+        ≤ vec_capacity listing.loose }
     ensures body { result ≡ listed_body generation listing flush compaction }
     ensures loose { (u : State) → IsListingOf listing u → flush_part flush ≡ flush_files u.flush →
         compaction_part compaction ≡ compaction_files u.compaction → result.loose ≡ listed_loose u }
@@ -149,9 +155,9 @@ pub fn list_body(
 
 // Adds the files of an open flush.
 fn put_flush(loose: &mut Vec<u32>, flush: Option<FlushFiles>)
-    requires { vec_len loose.now + 2 ≤ vec_capacity loose.now }
+    requires { vec_len loose.now + length (flush_part flush) ≤ vec_capacity loose.now }
     ensures items { loose.new.items ≡ loose.old.items ++ flush_part flush }
-    ensures len { vec_len loose.new ≤ vec_len loose.old + 2 }
+    ensures len { vec_len loose.new ≡ vec_len loose.old + length (flush_part flush) }
     ensures room { vec_capacity loose.old ≤ vec_capacity loose.new }
 {
     if let Some(files) = flush {
@@ -162,7 +168,7 @@ fn put_flush(loose: &mut Vec<u32>, flush: Option<FlushFiles>)
 
 // Adds the file of an open compaction.
 fn put_compaction(loose: &mut Vec<u32>, compaction: Option<u32>)
-    requires { vec_len loose.now + 1 ≤ vec_capacity loose.now }
+    requires { vec_len loose.now + length (compaction_part compaction) ≤ vec_capacity loose.now }
     ensures { loose.new.items ≡ loose.old.items ++ compaction_part compaction }
 {
     if let Some(file) = compaction {
@@ -170,19 +176,52 @@ fn put_compaction(loose: &mut Vec<u32>, compaction: Option<u32>)
     }
 }
 
+/// The listing of which `list_body` made the list, with the same jobs open. Its lists are moved and not copied.
+pub fn listing_of(body: ListBody, flush: Option<FlushFiles>, compaction: Option<u32>) -> Listing
+    ensures { (generation : ℕ) (listing : Listing) →
+        body ≡ listed_body generation listing flush compaction → NamesTheSame result listing }
+{
+    let ListBody {
+        generation: _,
+        next_file,
+        floor,
+        segments,
+        blocks,
+        loose,
+    } = body;
+    let mut loose = loose.into_vec();
+    loose.truncate(loose.len().saturating_sub(job_files(flush, compaction)));
+    Listing {
+        blocks: blocks.into_vec(),
+        segments: segments.into_vec(),
+        floor,
+        loose,
+        next_file,
+    }
+}
+
+// How many files open jobs have.
+fn job_files(flush: Option<FlushFiles>, compaction: Option<u32>) -> usize
+    ensures { result ≡ length (flush_part flush) + length (compaction_part compaction) }
+{
+    let flush = if flush.is_some() { 2 } else { 0 };
+    let compaction = if compaction.is_some() { 1 } else { 0 };
+    flush + compaction
+}
+
 impl Listing {
-    /// An empty one, which has room for whatever an event makes of this one.
+    /// An empty one, which has room for what a flush and a compaction make of this one, in any order.
     pub fn spare(&self, alloc: Global) -> Result<Listing, Memory>
-        ensures { IfOk result (λ spare. HasRoomFor spare self.now) }
+        ensures { IfOk result (λ spare. HasRoomFor 2 spare self.now) }
     {
         let (blocks, segments) = (self.blocks.len(), self.segments.len());
         let loose = self.loose.len();
         if loose > MOST_LISTED || segments > MOST_LISTED || blocks > MOST_LISTED {
             return Err(Memory);
         }
-        let loose = Vec::with_capacity(alloc, loose + segments + blocks + 3)?;
-        let blocks = Vec::with_capacity(alloc, blocks + 1)?;
-        let segments = Vec::with_capacity(alloc, segments + 1)?;
+        let loose = Vec::with_capacity(alloc, loose + segments + blocks + 4)?;
+        let blocks = Vec::with_capacity(alloc, blocks + 2)?;
+        let segments = Vec::with_capacity(alloc, segments + 2)?;
         Ok(Listing {
             blocks,
             segments,
@@ -192,11 +231,41 @@ impl Listing {
         })
     }
 
+    /// Takes room in itself for what a flush and a compaction make of it, in any order.
+    pub fn reserve(&mut self) -> Result<(), Memory>
+        ensures more { OnOk result (HasRoomFor 2 self.new self.new) }
+        ensures same { NamesTheSame self.new self.old }
+        ensures room { KeepsRoom self.old self.new }
+    {
+        let (blocks, segments) = (self.blocks.len(), self.segments.len());
+        if segments > MOST_LISTED || blocks > MOST_LISTED {
+            return Err(Memory);
+        }
+        self.loose.reserve(segments + blocks + 4)?;
+        self.blocks.reserve(2)?;
+        self.segments.reserve(2)?;
+        Ok(())
+    }
+
+    /// Names what another one names, in its own room.
+    pub fn copy_from(&mut self, other: &Listing)
+        requires { HasRoomFor 0 self.now other.now }
+        ensures same { NamesTheSame self.new other.now }
+        ensures room { KeepsRoom self.old self.new }
+    {
+        fill(&mut self.blocks, other.blocks.as_slice());
+        fill(&mut self.segments, other.segments.as_slice());
+        self.floor = other.floor;
+        fill(&mut self.loose, other.loose.as_slice());
+        self.next_file = other.next_file;
+    }
+
     /// The file numbers of a flush that begins: its block's first.
     pub fn begin_flush(&mut self) -> FlushFiles
         requires { self.now.next_file < 4294967294 }
-        ensures { (u : State) → IsListingOf self.old u →
+        ensures listing { (u : State) → IsListingOf self.old u →
             AreFilesOf result (taken u) × IsListingOf self.new (after_begin_flush u) }
+        ensures lists { self.new ≡ record self.old { next_file = self.old.next_file + 2 } }
     {
         let block = self.next_file;
         self.next_file += 2;
@@ -212,6 +281,7 @@ impl Listing {
         ensures file { result ≡ self.old.next_file }
         ensures listing { (u : State) (pin : ℕ) → IsListingOf self.old u →
             IsListingOf self.new (after_begin_compact pin u) }
+        ensures lists { self.new ≡ record self.old { next_file = self.old.next_file + 1 } }
     {
         let file = self.next_file;
         self.next_file += 1;
@@ -221,8 +291,10 @@ impl Listing {
     /// A flush that is given up leaves its files loose.
     pub fn drop_flush(&mut self, files: FlushFiles)
         requires { vec_len self.now.loose + 2 ≤ vec_capacity self.now.loose }
-        ensures { (u : State) (job : Flush) → IsListingOf self.old u → AreFilesOf files job →
+        ensures listing { (u : State) (job : Flush) → IsListingOf self.old u → AreFilesOf files job →
             IsListingOf self.new (after_drop_flush job u) }
+        ensures others { TakesOneJob self.old self.new }
+        ensures room { KeepsRoom self.old self.new }
     {
         put(&mut self.loose, files.block);
         put(&mut self.loose, files.segment);
@@ -231,8 +303,10 @@ impl Listing {
     /// A compaction that is given up leaves its file loose.
     pub fn drop_compact(&mut self, file: u32)
         requires { vec_len self.now.loose + 1 ≤ vec_capacity self.now.loose }
-        ensures { (u : State) (job : Compaction) → IsListingOf self.old u → job.file ≡ file →
+        ensures listing { (u : State) (job : Compaction) → IsListingOf self.old u → job.file ≡ file →
             IsListingOf self.new (after_drop_compact job u) }
+        ensures others { TakesOneJob self.old self.new }
+        ensures room { KeepsRoom self.old self.new }
     {
         put(&mut self.loose, file);
     }

@@ -26,6 +26,8 @@ pub(crate) fn part_segments(
         ≡ staying floor (map segment_of (now.now ++ last ∷ [])) }
     ensures go { loose.new.items
         ≡ loose.old.items ++ released floor (map segment_of (now.now ++ last ∷ [])) }
+    ensures segments_room { vec_capacity segments.old ≤ vec_capacity segments.new }
+    ensures loose_room { vec_capacity loose.old ≤ vec_capacity loose.new }
 {
     segments.clear();
     for at in 0..now.len() {
@@ -88,6 +90,8 @@ pub(crate) fn part_blocks(
     ensures stay { blocks.new.items ≡ outside files.now now.now }
     ensures go { loose.new.items ≡ loose.old.items ++ inside files.now now.now }
     ensures room { vec_len blocks.new + 1 ≤ vec_capacity blocks.new }
+    ensures blocks_room { vec_capacity blocks.old ≤ vec_capacity blocks.new }
+    ensures loose_room { vec_capacity loose.old ≤ vec_capacity loose.new }
 {
     blocks.clear();
     for block in now {
@@ -113,7 +117,7 @@ fn part_block(block: BlockRef, files: &[u32], blocks: &mut Vec<BlockRef>, loose:
     }
 }
 
-fn is_in(file: u32, files: &[u32]) -> bool
+pub(crate) fn is_in(file: u32, files: &[u32]) -> bool
     ensures { result ≡ is_among file files.now }
 {
     files.iter().any(|other| *other == file)

@@ -14,12 +14,11 @@ use crate::{
 use block_info::SharedInfo;
 use span_types::{Batch, Failed, Memory};
 
-/// The calls of a store, each of which is one event.
+/// What a store answers without a file of its own for each job: pushes, looks and their ends. Each call is one event.
 ///
-/// A call that takes a pin, a look, a job or a job's file asks that this port gave it and that it is open. After a write, a cut
-/// or a sync of the disk failed the store is read-only: then calls that write are refused, and cuts, looks, page reads and
-/// `done` go on. Refusals are tested in the order in which `store_model` states them.
-pub trait Port {
+/// After a write, a cut or a sync of the disk failed the store is read-only: then pushes are refused, and looks and `done` go
+/// on. Refusals are tested in the order in which `store_model` states them.
+pub trait LookPort {
     /// What the port shows.
     ghost meaning: { Meaning Self };
 
@@ -27,71 +26,83 @@ pub trait Port {
     fn push(&mut self, batch: Batch, moment: u64) -> Result<u64, PushError>
         ensures { Called meaning self.old (Push batch.spans moment) (push_reply result) self.new };
 
-    /// Moves the traces that are idle at the moment to the head, and answers how many rows it moved.
-    fn cut(&mut self, moment: u64) -> Result<u64, Memory>
-        ensures { Called meaning self.old (Cut moment) (count_reply result) self.new };
-
-    /// Moves all live traces to the head, and answers how many rows it moved.
-    fn cut_all(&mut self) -> Result<u64, Memory>
-        ensures { Called meaning self.old CutAll (count_reply result) self.new };
-
     /// How many rows are held outside of blocks, repeats among them.
     fn held(&mut self) -> u64
         ensures { Called meaning self.old Held (Count result) self.new };
 
+    /// Takes a look: all rows outside of blocks, and a pin on all blocks.
+    fn look(&mut self) -> Result<Look, Memory>
+        ensures { Called meaning self.old TakeLook (look_reply result) self.new };
+
+    /// Gives a look back, and ends its pin. Only one that this port gave and that is open is taken.
+    fn done(&mut self, look: Look)
+        requires { IsOpen meaning self.now (look_of look) }
+        ensures { Called meaning self.old (Done look.pin.number) Fine self.new };
+}
+
+/// All calls of a store, each of which is one event: pushes and looks, and with these cuts, flushes, compactions, page reads and
+/// the emptying of loose files.
+///
+/// A call that takes a pin, a job or a job's file asks that this port gave it and that it is open. In a store that is read-only
+/// calls that write are refused, and cuts and page reads go on.
+pub trait Port: LookPort {
+    /// Moves the traces that are idle at the moment to the head, and answers how many rows it moved.
+    fn cut(&mut self, moment: u64) -> Result<u64, Memory>
+        ensures { Called Self.meaning self.old (Cut moment) (count_reply result) self.new };
+
+    /// Moves all live traces to the head, and answers how many rows it moved.
+    fn cut_all(&mut self) -> Result<u64, Memory>
+        ensures { Called Self.meaning self.old CutAll (count_reply result) self.new };
+
     /// Begins a flush of the head's first 1,048,576 rows at most; none where the head is empty.
     fn begin_flush(&mut self) -> Result<Option<FlushJob>, BeginError>
-        ensures called { Called meaning self.old BeginFlush (begin_flush_reply result) self.new }
+        ensures called { Called Self.meaning self.old BeginFlush (begin_flush_reply result) self.new }
         ensures fresh { IfOk result (λ begun. IfSome begun (λ job.
             (job.out.written ≡ 0) × (1 ≤ length job.rows) × (length job.rows ≤ 1048576))) };
 
     /// Begins a compaction of the blocks that are to be joined next; none where no two of a level below 63 fit together.
     fn begin_compact(&mut self) -> Result<Option<CompactJob>, BeginError>
-        ensures called { Called meaning self.old BeginCompact (begin_compact_reply result) self.new }
+        ensures called { Called Self.meaning self.old BeginCompact (begin_compact_reply result) self.new }
         ensures fresh { IfOk result (λ begun. IfSome begun (λ job. job.out.written ≡ 0)) };
 
     /// Writes bytes behind those that were written to a job's file.
     fn write_piece(&mut self, out: &mut JobFile, bytes: &[u8]) -> Result<(), WriteError>
-        requires open { IsJobOf out.now (IsOpen meaning self.now) }
+        requires open { IsJobOf out.now (IsOpen Self.meaning self.now) }
         requires near { out.now.written + length bytes.now < 2 ^ 63 }
-        ensures called { Called meaning self.old (WritePiece out.old.number out.old.file bytes.now)
+        ensures called { Called Self.meaning self.old (WritePiece out.old.number out.old.file bytes.now)
             (write_reply result) self.new }
         ensures raised { OnOk result (out.new.written ≡ out.old.written + length bytes.now) }
         ensures same { (out.new.number ≡ out.old.number) × (out.new.file ≡ out.old.file) };
 
     /// Lists a flush's block, which its file holds. The job is spent, refused or not.
     fn commit_flush(&mut self, job: FlushJob, info: SharedInfo) -> Result<(), WriteError>
-        requires open { IsOpen meaning self.now (flush_of job) }
+        requires open { IsOpen Self.meaning self.now (flush_of job) }
         requires size { (1 ≤ info.rows) × (info.rows ≤ 1048576) }
-        requires block { IsTrue (meaning.tells self.now) →
-            IsBlockOf meaning.block_holds (meaning.shows self.now job.out.file)
+        requires block { IsTrue (Self.meaning.tells self.now) →
+            IsBlockOf Self.meaning.block_holds (Self.meaning.shows self.now job.out.file)
             job.out.file 0 info job.rows }
-        ensures { Called meaning self.old (CommitFlush job.out.number info.rows)
+        ensures { Called Self.meaning self.old (CommitFlush job.out.number info.rows)
             (write_reply result) self.new };
 
     /// Lists a compaction's block, which its file holds, in the place of those that it joins. The job is spent, refused or not.
     fn commit_compact(&mut self, job: CompactJob, info: SharedInfo) -> Result<(), WriteError>
-        requires open { IsOpen meaning self.now (compact_of job) }
+        requires open { IsOpen Self.meaning self.now (compact_of job) }
         requires size { (1 ≤ info.rows) × (info.rows ≤ 1048576) }
-        requires block { IsTrue (meaning.tells self.now) → IsJoinedBlock
-            meaning.block_holds (meaning.shows self.now)
+        requires block { IsTrue (Self.meaning.tells self.now) → IsJoinedBlock
+            Self.meaning.block_holds (Self.meaning.shows self.now)
             job.out.file job.level info job.pin.blocks }
-        ensures { Called meaning self.old (CommitCompact job.out.number info.rows)
+        ensures { Called Self.meaning self.old (CommitCompact job.out.number info.rows)
             (write_reply result) self.new };
 
     /// Gives a flush up: its rows go back to the head's front, and its files become loose.
     fn drop_flush(&mut self, job: FlushJob)
-        requires { IsOpen meaning self.now (flush_of job) }
-        ensures { Called meaning self.old (DropFlush job.out.number) Fine self.new };
+        requires { IsOpen Self.meaning self.now (flush_of job) }
+        ensures { Called Self.meaning self.old (DropFlush job.out.number) Fine self.new };
 
     /// Gives a compaction up: its file becomes loose.
     fn drop_compact(&mut self, job: CompactJob)
-        requires { IsOpen meaning self.now (compact_of job) }
-        ensures { Called meaning self.old (DropCompact job.out.number) Fine self.new };
-
-    /// Takes a look: all rows outside of blocks, and a pin on all blocks.
-    fn look(&mut self) -> Result<Look, Memory>
-        ensures { Called meaning self.old TakeLook (look_reply result) self.new };
+        requires { IsOpen Self.meaning self.now (compact_of job) }
+        ensures { Called Self.meaning self.old (DropCompact job.out.number) Fine self.new };
 
     /// Reads a page of a pinned block as it was when the pin was taken. Behind the file's end it has zeros.
     fn read_page(
@@ -101,18 +112,13 @@ pub trait Port {
         page: u64,
         buf: &mut [u8; 4096],
     ) -> Result<(), Failed>
-        requires open { IsPinOf pin.now block (IsOpen meaning self.now) }
-        ensures called { Called meaning self.old (ReadPage pin.now.number block page) (page_reply buf.new result)
+        requires open { IsPinOf pin.now block (IsOpen Self.meaning self.now) }
+        ensures called { Called Self.meaning self.old (ReadPage pin.now.number block page) (page_reply buf.new result)
             self.new }
-        ensures bytes { IsTrue (meaning.tells self.old) →
-            OnOk result (buf.new ≡ page_of (meaning.shows self.old block) page) };
-
-    /// Gives a look back, and ends its pin.
-    fn done(&mut self, look: Look)
-        requires { IsOpen meaning self.now (look_of look) }
-        ensures { Called meaning self.old (Done look.pin.number) Fine self.new };
+        ensures bytes { IsTrue (Self.meaning.tells self.old) →
+            OnOk result (buf.new ≡ page_of (Self.meaning.shows self.old block) page) };
 
     /// Empties the loose files that no pin names, and answers how many.
     fn reclaim(&mut self) -> Result<u64, ReclaimError>
-        ensures { Called meaning self.old Reclaim (reclaim_reply result) self.new };
+        ensures { Called Self.meaning self.old Reclaim (reclaim_reply result) self.new };
 }

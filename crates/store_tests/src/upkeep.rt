@@ -1,13 +1,16 @@
 //! What flushes and compactions make of a store's list, against lists that were worked out by hand.
 
 ghost use Rattle.std.specs.Prelude.{◌≡◌, [], IfOk, IfSome};
+ghost use Rattle.store_state.specs.Listed.{HasRoomFor};
 
 use crate::live::{SECOND, another, are_at, both, push};
 use block_list::{BlockRef, SegmentRef};
 use live_traces::Live;
 use span_types::Memory;
 use std::alloc::Global;
-use store_state::{FlushFiles, Listing, choose, commit_compact, commit_flush, list_body};
+use store_state::{
+    FlushFiles, Listing, choose, commit_compact, commit_flush, list_body, listing_of,
+};
 
 // The list of a new store.
 fn new_store(alloc: Global) -> Result<Listing, Memory> {
@@ -160,6 +163,56 @@ fn a_compaction_takes_the_place_of_its_blocks(rt: HostRuntime) -> Result<(), Mem
     let body = list_body(list, 1, Some(files), None);
     assert_eq!(rt; body.loose.as_slice(), [3, 7, 10, 11].as_slice());
     assert_eq!(rt; (body.generation, body.next_file, body.floor), (1, 12, 0));
+    // The listing comes back without the files of the flush.
+    let list = listing_of(body, Some(files), None);
+    assert!(rt;
+        is_list(
+            &list,
+            &[block(5, 1, 9), block(9, 1, 12)],
+            &[(2, 0)],
+            &[3, 7]
+        )
+    );
+    Ok(())
+}
+
+// A flush and a compaction that were open together are committed, one after the other, in the room that was taken before.
+fn both_commit(
+    now: &mut Listing,
+    next: &mut Listing,
+    files: FlushFiles,
+    joined: &[u32],
+    block: BlockRef,
+)
+    requires next { HasRoomFor 2 next.now now.now }
+    requires now { HasRoomFor 2 now.now now.now }
+{
+    commit_flush(now, next, files, 1, 3, None);
+    commit_compact(next, now, joined, block);
+}
+
+#[test]
+fn room_for_two_jobs_is_enough_for_both_commits(rt: HostRuntime) -> Result<(), Memory> {
+    let alloc = rt.alloc();
+    let mut now = new_store(alloc)?;
+    now.blocks.push(block(3, 0, 7))?;
+    now.blocks.push(block(5, 0, 9))?;
+    now.next_file = 11;
+    now.reserve()?;
+    let mut next = now.spare(alloc)?;
+    let files = FlushFiles {
+        block: 8,
+        segment: 9,
+    };
+    both_commit(&mut now, &mut next, files, &[3, 5], block(10, 1, 16));
+    assert!(rt;
+        is_list(
+            &now,
+            &[block(8, 0, 1), block(10, 1, 16)],
+            &[(9, 3)],
+            &[2, 3, 5]
+        )
+    );
     Ok(())
 }
 

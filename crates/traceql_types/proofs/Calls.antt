@@ -1,23 +1,24 @@
 -- The calls of a maker, one step after another.
-use Rattle.std.proofs.Common.{◌≡◌, ℕ, ◌<◌, ◌≤◌, ◌⊎◌, inl, inr, List, [], ◌∷◌, ◌++◌, map, Option, Some, None, Result, Ok, Err, refl, sym, ap, subst, ◌∙◌, rules, arith, append-nil, append_assoc}
+use Rattle.std.proofs.Common.{◌≡◌, ℕ, ◌+◌, ◌<◌, ◌≤◌, ◌⊎◌, inl, inr, List, [], ◌∷◌, ◌++◌, length, get_or, take, drop, map, Option, Some, None, Result, Ok, Err, refl, sym, ap, ap₂, subst, ◌∙◌, rules, arith, append-nil, append_assoc, take-append-drop}
 use Rattle.std.specs.Prelude.{Contains, IfSome, IsSomeAnd}
 use Rattle.std.specs.List.{AllByRecursion}
-use Rattle.std.proofs.lemmas.List.{map-append}
+use Rattle.std.proofs.lemmas.List.{map-append, map_more}
 use Rattle.std.proofs.lemmas.List.Elements.{Contains-append_left, Contains-append_right}
-use Rattle.span_types.specs.Faults.{Rose}
 use Rattle.traceql_syntax.specs.Trees.{QueryTree}
 use Rattle.traceql_types.specs.declared.errors.MakeError.{MakeError}
 use Rattle.traceql_types.specs.declared.errors.MakeError.TheVariants as make
 use Rattle.traceql_types.specs.declared.errors.TypeError.{TypeError}
 use Rattle.traceql_types.specs.declared.errors.TypeError.TheVariants.{KindClash, NotTruth, DivisionInAggregate, NotNumber, BadPattern, PatternTooBig, Memory}
 use Rattle.traceql_types.specs.declared.pattern.Pattern.{Pattern}
+use Rattle.traceql_types.specs.declared.asked.Asked.{Asked}
 use Rattle.traceql_types.specs.Asked.{PlacedText, asked_patterns}
+use Rattle.traceql_types.specs.Shown.{shown}
 use Rattle.traceql_types.specs.Checks.{AreMade, made_calls, Ascends, IsLastAsked, IsLastCall, LeadsTo, AskedUpTo}
-use Rattle.traceql_types.specs.Makers.{Call, Makes, CallsLead, WasRefused}
+use Rattle.traceql_types.specs.Makers.{Call, Makes, CallsLead, RefusesOnly, WasRefused, refused_in}
 use Rattle.traceql_types.specs.Order.{place, number, Precedes}
 use Rattle.traceql_types.specs.Patterns.{pattern_text}
 use Rattle.traceql_types.specs.Steps.{Called, GoesNoneBefore, Step, passed, done as made_one, bad, too_big}
-use Rattle.traceql_types.proofs.Made.{are_made-more, rose_up, rose_since}
+use Rattle.traceql_types.proofs.Made.{are_made-more}
 use Rattle.traceql_types.proofs.OfKinds.{IsOfKinds}
 
 -- calls and then more calls
@@ -25,20 +26,44 @@ pub leads-on : {M : Type 0} (makes : Makes M) (a b c : M) (xs ys : List Call) �
 leads-on makes a b c [] ys h k = subst (λ z. CallsLead makes z ys c) h k
 leads-on makes a b c (x ∷ xs) ys h k = (h.0, h.1, leads-on makes h.0 b c xs ys h.2 k)
 
-module _ {M : Type 0} (makes : Makes M) (refusals : M → ℕ) (a b c : M) (text : List ℕ) where
+-- the texts that were refused in calls and in more calls
+pub refused_in-append : (xs ys : List Call) → refused_in (xs ++ ys) ≡ refused_in xs ++ refused_in ys
+refused_in-append [] ys = refl
+refused_in-append ((t, Ok p) ∷ xs) ys = refused_in-append xs ys
+refused_in-append ((t, Err make.Syntax) ∷ xs) ys = refused_in-append xs ys
+refused_in-append ((t, Err make.Refused) ∷ xs) ys = ap (λ (zs : List (List ℕ)). t ∷ zs) (refused_in-append xs ys)
+refused_in-append ((t, Err make.Memory) ∷ xs) ys = refused_in-append xs ys
+
+-- calls that made patterns refused none
+pub refused_in_made : (made : List Pattern) → refused_in (made_calls made) ≡ []
+refused_in_made [] = refl
+refused_in_made (p ∷ ps) = refused_in_made ps
+
+module _ {M : Type 0} (makes : Makes M) (a b c : M) where
+  -- nothing is asked for
+  pub refuses-none : RefusesOnly makes a a []
+  refuses-none = record { calls = []; lead = refl; texts_are = refl }
+
+  -- one after another
+  pub refuses-on : (xs ys : List (List ℕ)) → RefusesOnly makes a b xs → RefusesOnly makes b c ys → RefusesOnly makes a c (xs ++ ys)
+  refuses-on xs ys h k = record {
+    calls = h.calls ++ k.calls;
+    lead = leads-on makes a b c h.calls k.calls h.lead k.lead;
+    texts_are = ap₂ (λ (us vs : List (List ℕ)). us ++ vs) h.texts_are k.texts_are ∙ sym (refused_in-append h.calls k.calls);
+  }
+
+module _ {M : Type 0} (makes : Makes M) (a b c : M) (text : List ℕ) where
   -- a refusal stays one when more is asked for
-  pub refused-before : (ys : List Call) → WasRefused makes refusals a b text → CallsLead makes b ys c → refusals b ≤ refusals c → WasRefused makes refusals a c text
-  refused-before ys was k up = record {
-    rose = rose_up (refusals a) (refusals b) (refusals c) up was.rose;
+  pub refused-before : (ys : List Call) → WasRefused makes a b text → CallsLead makes b ys c → WasRefused makes a c text
+  refused-before ys was k = record {
     calls = was.calls ++ ys;
     lead = leads-on makes a b c was.calls ys was.lead k;
     among = Contains-append_left was.calls ys (text, Err make.Refused) was.among;
   }
 
   -- the last call is refused
-  pub refused-last : (xs ys : List Call) → CallsLead makes a xs b → CallsLead makes b ys c → refusals a ≤ refusals b → Rose (refusals b) (refusals c) → ys ≡ (text, Err make.Refused) ∷ [] → WasRefused makes refusals a c text
-  refused-last xs ys h k up rose is = record {
-    rose = rose_since (refusals a) (refusals b) (refusals c) up rose;
+  pub refused-last : (xs ys : List Call) → CallsLead makes a xs b → CallsLead makes b ys c → ys ≡ (text, Err make.Refused) ∷ [] → WasRefused makes a c text
+  refused-last xs ys h k is = record {
     calls = xs ++ ys;
     lead = leads-on makes a b c xs ys h k;
     among = Contains-append_right xs ys (text, Err make.Refused) (subst (λ z. Contains z (text, Err make.Refused)) (sym is) (search rules));
@@ -196,13 +221,13 @@ led-refused ms m first made calls x answer here is are none called asc =
     }
 
 -- one step more
-pub called-step : (ms : List PlacedText) (own : Type 0) (m : PlacedText) (first now : Option TypeError) (made more : List Pattern) (before calls : List Call) →
-    (first ≡ None → AreMade ms made) → Step m own first made now more calls → Called ms first made before → Called (ms ++ m ∷ []) now more (before ++ calls)
-called-step ms own m first now made more before calls are (passed goes) called = called-passed ms m first made before goes called
-called-step ms own m first now made more before calls are (made_one p none shows) called = called-made ms m first made before p are none shows called
-called-step ms own m first now made more before calls are (bad none why) called =
+pub called-step : (ms : List PlacedText) (m : PlacedText) (first now : Option TypeError) (made more : List Pattern) (before calls : List Call) →
+    (first ≡ None → AreMade ms made) → Step m first made now more calls → Called ms first made before → Called (ms ++ m ∷ []) now more (before ++ calls)
+called-step ms m first now made more before calls are (passed goes) called = called-passed ms m first made before goes called
+called-step ms m first now made more before calls are (made_one p none shows) called = called-made ms m first made before p are none shows called
+called-step ms m first now made more before calls are (bad none why) called =
     led-refused ms m first made before (BadPattern m.0) (Err make.Syntax) refl (refl, refl) are none called
-called-step ms own m first now made more before calls are (too_big none why) called =
+called-step ms m first now made more before calls are (too_big none) called =
     led-refused ms m first made before (PatternTooBig m.0) (Err make.Refused) refl (refl, refl) are none called
 
 -- before the first pattern
@@ -237,10 +262,28 @@ called-at_end q (DivisionInAggregate at) calls h = h
 called-at_end q (NotNumber at) calls h = h
 called-at_end q (BadPattern at) calls h = h
 called-at_end q (PatternTooBig at) calls h = h
-called-at_end q Memory calls h = tt
+called-at_end q Memory calls h = λ asc. absurd (h asc).is_last
 
 pub called-found : (ms asked : List PlacedText) (first : Option TypeError) (e : TypeError) (made : List Pattern) (calls : List Call) → first ≡ Some e → ms ≡ asked → Called ms first made calls → Ascends asked → LeadsTo asked e calls
 called-found ms asked first e made calls is all called = rw (← all) (rw is at called)
 
 pub called-none : (ms : List PlacedText) (first : Option TypeError) (made : List Pattern) (calls : List Call) → first ≡ None → Called ms first made calls → calls ≡ made_calls made
 called-none ms first made calls is called = rw is at called
+
+-- memory ran out at the next pattern
+pub called-starved : (ms : List PlacedText) (m : PlacedText) (first : Option TypeError) (made : List Pattern) (before calls : List Call) →
+    (first ≡ None → AreMade ms made) → GoesNoneBefore first m.0 → refused_in calls ≡ [] → Called ms first made before → Ascends (ms ++ m ∷ []) → refused_in (before ++ calls) ≡ []
+called-starved ms m first made before calls are none nothing called asc =
+    let all = all_made ms m first made before are called none asc in
+    refused_in-append before calls ∙ ap₂ (λ (us vs : List (List ℕ)). us ++ vs) (ap refused_in all.calls_are ∙ refused_in_made all.made) nothing
+
+-- the patterns in front stand in order where all do
+pub ascends-first : (xs ys : List PlacedText) → Ascends (xs ++ ys) → Ascends xs
+ascends-first [] ys h = tt
+ascends-first (x ∷ xs) ys h = ((all-parted (λ (n : PlacedText). x.0 < n.0) xs ys h.0).0, ascends-first xs ys h.1)
+
+-- so do the next one and those in front of it
+pub ascends-taken : (xs : List Asked) (i : ℕ) (d : Asked) → i < length xs → Ascends (map shown xs) → Ascends (map shown (take i xs) ++ shown (get_or xs i d) ∷ [])
+ascends-taken xs i d within h =
+    rw (← map_more shown xs i d within) (ascends-first (map shown (take (i + 1) xs)) (map shown (drop (i + 1) xs))
+    (subst Ascends (ap (map shown) (sym (take-append-drop (i + 1) xs)) ∙ map-append shown (take (i + 1) xs) (drop (i + 1) xs)) h))

@@ -1,3 +1,4 @@
+pub mod Blamed
 pub mod Calls
 pub mod Crossing
 pub mod Firsts

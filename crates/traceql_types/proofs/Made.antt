@@ -1,9 +1,8 @@
 -- How the making of patterns goes on.
-use Rattle.std.proofs.Common.{◌≡◌, ℕ, ◌+◌, ◌-◌, ◌^◌, ◌<◌, ◌≤◌, min, ◌⊎◌, inl, inr, List, [], ◌∷◌, ◌++◌, length, take, map, Option, Some, None, Err, refl, sym, ap, ◌∙◌, rules, arith}
+use Rattle.std.proofs.Common.{◌≡◌, ℕ, ◌<◌, ◌≤◌, ◌⊎◌, inl, inr, List, [], ◌∷◌, ◌++◌, length, take, map, Option, Some, None, Err, refl, sym, ap, ◌∙◌, rules, arith}
 use Rattle.std.specs.Prelude.{All, Contains, IfSome, IsSomeAnd}
-use Rattle.std.proofs.lemmas.List.{map-append, length-append, take_all}
+use Rattle.std.proofs.lemmas.List.{map-append, take_all}
 use Rattle.std.proofs.lemmas.List.Elements.{All-weaker, All-cons, All-nil, All-push, All-contains, Contains-append_left, Contains-append_right}
-use Rattle.span_types.specs.Faults.{Rose}
 use Rattle.traceql_syntax.specs.Trees.{QueryTree}
 use Rattle.traceql_types.specs.declared.errors.TypeError.{TypeError}
 use Rattle.traceql_types.specs.declared.errors.TypeError.TheVariants.{KindClash, NotTruth, DivisionInAggregate, NotNumber, BadPattern, PatternTooBig, Memory}
@@ -145,14 +144,6 @@ stands-start (Some e) rose made is = record {
   after_made = All-nil (λ n. n.0 < place e → IsMade n.1);
 }
 
--- a count that rose has risen
-pub rose_up : (before a b : ℕ) → a ≤ b → Rose before a → Rose before b
-rose_up before a b up h = omega arith
-
--- a count that rose after it stood higher
-pub rose_since : (before a b : ℕ) → before ≤ a → Rose a b → Rose before b
-rose_since before a b up h = grind arith
-
 -- after the last pattern, with no refusal
 pub fits-at_end : (q : QueryTree) (kinds : Option TypeError) (done : List PlacedText) (rose : List ℕ → Type 0) (made : List Pattern) →
     IsFirstOf (kind_refusals q) kinds → Stands kinds done rose None made → kind_refusals q ≡ []
@@ -213,23 +204,13 @@ pub shown-taken : (xs : List Asked) (i : ℕ) → length xs ≤ i → map shown 
 shown-taken xs i h = ap (map shown) (take_all i xs h)
 
 -- one step more
-pub stands-step : (kinds : Option TypeError) (done : List PlacedText) (rose risen : List ℕ → Type 0) (own : Type 0) (m : PlacedText) (first now : Option TypeError) (made more : List Pattern) (calls : List Call) →
-    ((t : List ℕ) → rose t → risen t) → (own → calls ≡ (m.1, Err make.Refused) ∷ [] → risen m.1) → Step m own first made now more calls →
+pub stands-step : (kinds : Option TypeError) (done : List PlacedText) (rose risen : List ℕ → Type 0) (m : PlacedText) (first now : Option TypeError) (made more : List Pattern) (calls : List Call) →
+    ((t : List ℕ) → rose t → risen t) → (calls ≡ (m.1, Err make.Refused) ∷ [] → risen m.1) → Step m first made now more calls →
     Stands kinds done rose first made → Stands kinds (done ++ m ∷ []) risen now more
-stands-step kinds done rose risen own m first now made more calls up last (passed before) stands = stands-skip kinds done rose risen m first made up before stands
-stands-step kinds done rose risen own m first now made more calls up last (made_one p none shows) stands = stands-made kinds done rose risen m first made p up shows stands
-stands-step kinds done rose risen own m first now made more calls up last (bad none why) stands = stands-bad kinds done rose risen m first made none why stands
-stands-step kinds done rose risen own m first now made more calls up last (too_big none why) stands = stands-refused kinds done rose risen m first made none (last why refl) stands
-
--- the same cause, where less is said of a text that was refused
-pub cause-weaker : (q : QueryTree) (Refused Weaker : List ℕ → Type 0) (e : TypeError) → ((t : List ℕ) → Refused t → Weaker t) → HasCause q Refused e → HasCause q Weaker e
-cause-weaker q Refused Weaker (KindClash at) w h = h
-cause-weaker q Refused Weaker (NotTruth at) w h = h
-cause-weaker q Refused Weaker (DivisionInAggregate at) w h = h
-cause-weaker q Refused Weaker (NotNumber at) w h = h
-cause-weaker q Refused Weaker (BadPattern at) w h = h
-cause-weaker q Refused Weaker (PatternTooBig at) w h = (h.0, h.1, h.2, w h.0.1 h.3)
-cause-weaker q Refused Weaker Memory w h = tt
+stands-step kinds done rose risen m first now made more calls up last (passed before) stands = stands-skip kinds done rose risen m first made up before stands
+stands-step kinds done rose risen m first now made more calls up last (made_one p none shows) stands = stands-made kinds done rose risen m first made p up shows stands
+stands-step kinds done rose risen m first now made more calls up last (bad none why) stands = stands-bad kinds done rose risen m first made none why stands
+stands-step kinds done rose risen m first now made more calls up last (too_big none) stands = stands-refused kinds done rose risen m first made none (last refl) stands
 
 -- where no refusal was found, all so far were made
 pub made-if-none : (kinds first : Option TypeError) (done : List PlacedText) (rose : List ℕ → Type 0) (made : List Pattern) → Stands kinds done rose first made → first ≡ None → AreMade done made

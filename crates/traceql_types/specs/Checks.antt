@@ -8,7 +8,7 @@ use Rattle.traceql_types.specs.declared.errors.MakeError.TheVariants as make
 use Rattle.traceql_types.specs.declared.errors.TypeError.TheVariants.{BadPattern, PatternTooBig, Memory}
 use Rattle.traceql_types.specs.declared.pattern.Pattern.{Pattern}
 use Rattle.traceql_types.specs.Asked.{PlacedText, asked_patterns}
-use Rattle.traceql_types.specs.Makers.{Call}
+use Rattle.traceql_types.specs.Makers.{Call, refused_in}
 use Rattle.traceql_types.specs.Order.{place, Precedes}
 use Rattle.traceql_types.specs.Patterns.{pattern_text}
 use Rattle.traceql_types.specs.Refusals.{kind_refusals}
@@ -80,7 +80,13 @@ pub record LeadsTo (patterns : List PlacedText) (e : TypeError) (calls : List Ca
   pub calls_are : calls ≡ made_calls made ++ last
 
 -- What a maker was asked for where a query was refused: what leads to the refusal, if its patterns stand in the text's
--- order. Where memory ran out nothing is said.
+-- order. Where memory ran out the maker refused nothing.
 abbrev pub AskedUpTo : QueryTree → TypeError → List Call → Type 0
-AskedUpTo q Memory calls = Unit {0}
+AskedUpTo q Memory calls = Ascends (asked_patterns q) → refused_in calls ≡ []
 AskedUpTo q e calls = Ascends (asked_patterns q) → LeadsTo (asked_patterns q) e calls
+
+-- The maker refused these texts where a query was refused: that of the pattern which is blamed for its size, and none where
+-- none is blamed.
+abbrev pub Blames : QueryTree → List (List ℕ) → TypeError → Type 0
+Blames q refused (PatternTooBig at) = AskedAt q at (λ text. refused ≡ text ∷ [])
+Blames q refused e = refused ≡ []

@@ -5,7 +5,6 @@ use Rattle.regex.specs.declared.error.Error.TheVariants as cause
 use Rattle.traceql_types.specs.declared.errors.MakeError.{MakeError}
 use Rattle.traceql_types.specs.declared.errors.MakeError.TheVariants as error
 use Rattle.traceql_types.specs.declared.pattern.Pattern.{Pattern}
-use Rattle.span_types.specs.Faults.{Rose}
 use Rattle.traceql_types.specs.Patterns.{pattern_text}
 use Rattle.traceql_types.specs.Whole.{whole_text, IsReadable, IsNoPattern}
 
@@ -41,9 +40,19 @@ abbrev pub CallsLead : {M : Type 0} → Makes M → M → List Call → M → Ty
 CallsLead {M} makes old [] new = new ≡ old
 CallsLead {M} makes old (c ∷ cs) new = (between : M) × makes old c between × CallsLead makes between cs new
 
--- Between two states of a maker it was asked for a text and refused it, and its count of refusals rose.
-pub record WasRefused {M : Type 0} (makes : Makes M) (refusals : M → ℕ) (old new : M) (text : List ℕ) : Type 0 where
-  pub rose : Rose (refusals old) (refusals new)
+-- the texts that these calls were refused for, in order
+abbrev pub refused_in : List Call → List (List ℕ)
+refused_in [] = []
+refused_in (c ∷ cs) = if is_refusal c.1 then c.0 ∷ refused_in cs else refused_in cs
+
+-- Between two states of a maker it refused these texts, in order, and no other.
+pub record RefusesOnly {M : Type 0} (makes : Makes M) (old new : M) (texts : List (List ℕ)) : Type 0 where
+  pub calls : List Call
+  pub lead : CallsLead makes old calls new
+  pub texts_are : texts ≡ refused_in calls
+
+-- Between two states of a maker it was asked for a text and refused it.
+pub record WasRefused {M : Type 0} (makes : Makes M) (old new : M) (text : List ℕ) : Type 0 where
   pub calls : List Call
   pub lead : CallsLead makes old calls new
   pub among : Contains calls (text, Err error.Refused)

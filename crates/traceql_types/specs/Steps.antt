@@ -40,8 +40,8 @@ GoesNoneBefore first at = IsSomeAnd first (λ e. Precedes e (BadPattern at)) →
 
 -- What one step makes of the refusal found so far and of the patterns made, and its calls: a pattern is passed over where
 -- a refusal goes before it; else it is asked for, and made or refused.
-pub data Step (m : PlacedText) (rose : Type 0) (first : Option TypeError) (made : List Pattern) : Option TypeError → List Pattern → List Call → Type 0 where
-  passed : IsSomeAnd first (λ e. Precedes e (BadPattern m.0)) → Step m rose first made first made []
-  done : (p : Pattern) → GoesNoneBefore first m.0 → pattern_text p ≡ m.1 → Step m rose first made first (made ++ p ∷ []) ((m.1, Ok p) ∷ [])
-  bad : GoesNoneBefore first m.0 → IsNoPattern m.1 → Step m rose first made (Some (BadPattern m.0)) made ((m.1, Err make.Syntax) ∷ [])
-  too_big : GoesNoneBefore first m.0 → rose → Step m rose first made (Some (PatternTooBig m.0)) made ((m.1, Err make.Refused) ∷ [])
+pub data Step (m : PlacedText) (first : Option TypeError) (made : List Pattern) : Option TypeError → List Pattern → List Call → Type 0 where
+  passed : IsSomeAnd first (λ e. Precedes e (BadPattern m.0)) → Step m first made first made []
+  done : (p : Pattern) → GoesNoneBefore first m.0 → pattern_text p ≡ m.1 → Step m first made first (made ++ p ∷ []) ((m.1, Ok p) ∷ [])
+  bad : GoesNoneBefore first m.0 → IsNoPattern m.1 → Step m first made (Some (BadPattern m.0)) made ((m.1, Err make.Syntax) ∷ [])
+  too_big : GoesNoneBefore first m.0 → Step m first made (Some (PatternTooBig m.0)) made ((m.1, Err make.Refused) ∷ [])

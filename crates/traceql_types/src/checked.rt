@@ -1,15 +1,14 @@
 //! Kinds and patterns of a query at once.
 
-ghost use Rattle.std.specs.Prelude.{◌≡◌, ◌≤◌, List, [], None, IfOk, IfErr, MatchResult, IsTrue, ◌↔◌, IsSomeAnd};
-ghost use Rattle.span_types.specs.Faults.{Rose};
+ghost use Rattle.std.specs.Prelude.{◌≡◌, ℕ, List, [], IfOk, IfErr, MatchResult, IsTrue, ◌↔◌, IsSomeAnd};
 ghost use Rattle.traceql_syntax.specs.Trees.{query_tree};
 ghost use Rattle.traceql_types.specs.Asked.{asked_patterns};
-ghost use Rattle.traceql_types.specs.Checks.{HasCause, GoesFirst, ComesAfterMade, AreMade, AskedUpTo, made_calls};
-ghost use Rattle.traceql_types.specs.Makers.{Call, CallsLead, WasRefused};
+ghost use Rattle.traceql_types.specs.Checks.{Ascends, AreMade, AskedUpTo, Blames, ComesAfterMade, GoesFirst, HasCause, made_calls};
+ghost use Rattle.traceql_types.specs.Makers.{Call, CallsLead, RefusesOnly, WasRefused, refused_in};
 ghost use Rattle.traceql_types.specs.Order.{Precedes};
 ghost use Rattle.traceql_types.specs.Shown.{shown};
 ghost use Rattle.traceql_types.specs.Refusals.{kind_refusals};
-ghost use Rattle.traceql_types.specs.Steps.{Step};
+ghost use Rattle.traceql_types.specs.Steps.{GoesNoneBefore, Step};
 
 use crate::asked::{Asked, patterns_of};
 use crate::queries::query_refusal;
@@ -48,11 +47,8 @@ fn make_next<P: PatternMaker>(
     made: &mut Vec<Pattern>,
 ) -> Result<Option<TypeError>, Memory>
     ensures step { (calls : List Call) × CallsLead P.makes maker.old calls maker.new
-        × IfOk result (λ now. Step (shown asked.entry) (Rose (P.refusals maker.old) (P.refusals maker.new))
-        first made.old.items now made.new.items calls) }
-    ensures counted { P.refusals maker.old ≤ P.refusals maker.new }
-    ensures none_before { IfOk result (λ now. now ≡ None → first ≡ None) }
-    ensures unrefused { IfOk result (λ now. now ≡ None → P.refusals maker.new ≡ P.refusals maker.old) }
+        × MatchResult result (λ now. Step (shown asked.entry) first made.old.items now made.new.items calls)
+        (λ _. GoesNoneBefore first asked.entry.at × (refused_in calls ≡ [])) }
 {
     if goes_before(first, asked.at) {
         return Ok(first);
@@ -77,13 +73,9 @@ fn make_all<P: PatternMaker>(
     ensures fits { IfOk result (λ patterns. kind_refusals (query_tree query.now) ≡ []) }
     ensures made { IfOk result (AreMade (asked_patterns (query_tree query.now))) }
     ensures cause { IfErr result (HasCause (query_tree query.now)
-        (WasRefused P.makes P.refusals maker.old maker.new)) }
-    ensures risen { IfErr result (HasCause (query_tree query.now)
-        (λ text. Rose (P.refusals maker.old) (P.refusals maker.new))) }
+        (WasRefused P.makes maker.old maker.new)) }
     ensures first { IfErr result (GoesFirst (query_tree query.now)) }
     ensures after_made { IfErr result (ComesAfterMade (query_tree query.now)) }
-    ensures counted { P.refusals maker.old ≤ P.refusals maker.new }
-    ensures unrefused { IfOk result (λ patterns. P.refusals maker.new ≡ P.refusals maker.old) }
     ensures asked { (calls : List Call) × CallsLead P.makes maker.old calls maker.new
         × MatchResult result (λ patterns. calls ≡ made_calls patterns)
         (λ e. AskedUpTo (query_tree query.now) e calls) }
@@ -112,17 +104,16 @@ pub fn check<P: PatternMaker>(
     ensures fits { IfOk result (λ c. kind_refusals (query_tree query) ≡ []) }
     ensures made { IfOk result (λ c. AreMade (asked_patterns (query_tree query)) c.patterns) }
     ensures cause { IfErr result (HasCause (query_tree query)
-        (WasRefused P.makes P.refusals maker.old maker.new)) }
-    // A pattern is refused for its size only where the maker counted a refusal.
-    ensures risen { IfErr result (HasCause (query_tree query)
-        (λ text. Rose (P.refusals maker.old) (P.refusals maker.new))) }
+        (WasRefused P.makes maker.old maker.new)) }
     ensures first { IfErr result (GoesFirst (query_tree query)) }
     ensures after_made { IfErr result (ComesAfterMade (query_tree query)) }
-    ensures counted { P.refusals maker.old ≤ P.refusals maker.new }
-    ensures unrefused { IfOk result (λ c. P.refusals maker.new ≡ P.refusals maker.old) }
     // The maker was asked for just the patterns before the refusal, in the text's order, and for the refused one.
     ensures asked { (calls : List Call) × CallsLead P.makes maker.old calls maker.new
         × MatchResult result (λ c. calls ≡ made_calls c.patterns) (λ e. AskedUpTo (query_tree query) e calls) }
+    // And it refused just the pattern that is blamed for its size, if one is.
+    ensures blamed { (refused : List (List ℕ)) × RefusesOnly P.makes maker.old maker.new refused
+        × (Ascends (asked_patterns (query_tree query))
+        → MatchResult result (λ c. refused ≡ []) (Blames (query_tree query) refused)) }
 {
     let patterns = make_all(alloc, &query, maker)?;
     Ok(Checked { query, patterns })

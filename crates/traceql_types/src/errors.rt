@@ -65,7 +65,7 @@ pub enum MakeError {
     /// The text is no pattern, or one that nests too deep.
     #[error("no pattern")]
     Syntax,
-    /// The maker refused it, and counted that.
+    /// The maker refused it for its size.
     #[error("refused")]
     Refused,
     /// Memory ran out.

@@ -18,6 +18,6 @@ pub use asked::patterns_in_order;
 pub use checked::{Checked, check};
 pub use errors::{MakeError, TypeError};
 pub use kinds::Kind;
-pub use maker::{PatternMaker, RegexMaker, ScriptedMaker};
+pub use maker::{PatternMaker, RegexMaker, ScriptedMaker, refusals_are_counted};
 pub use pattern::{Pattern, Patterns};
 pub use shared::checked_crosses;

@@ -1,9 +1,8 @@
 //! What makes patterns: the trait, the maker over `regex`, and one for tests whose refusals are listed.
 
-ghost use Rattle.std.specs.Prelude.{◌≡◌, ◌≢◌, ℕ, ◌≤◌, IfOk, IfErr, IsErrOf, string_bytes};
-ghost use Rattle.span_types.specs.Faults.{Rose};
+ghost use Rattle.std.specs.Prelude.{◌≡◌, ◌≢◌, ℕ, ◌+◌, ◌-◌, ◌^◌, ◌<◌, List, length, min, IfOk, IfErr, IsErrOf, string_bytes};
 ghost use Rattle.traceql_types.specs.Patterns.{pattern_text};
-ghost use Rattle.traceql_types.specs.Makers.{Makes, RegexCall, ScriptedCall, counted_up, cause_of_error};
+ghost use Rattle.traceql_types.specs.Makers.{Makes, RefusesOnly, RegexCall, Script, ScriptedCall, counted_up, cause_of_error};
 ghost use Rattle.traceql_types.specs.Whole.{whole_text, IsReadable, IsUnreadable, IsNoPattern};
 
 use crate::{MakeError, Pattern};
@@ -15,9 +14,6 @@ use std::marker::Model;
 
 /// Makes patterns of texts. A pattern is what `regex` reads in the text put between `\A(?:` and `)\z`, as `Pattern` says.
 pub trait PatternMaker {
-    // How many patterns were refused so far for a cause that is neither their text nor want of memory.
-    ghost refusals: { Self → ℕ };
-
     // Which call, a text with its answer, leads from which state of the maker to which.
     ghost makes: { Makes Self };
 
@@ -26,9 +22,6 @@ pub trait PatternMaker {
     fn make(&mut self, text: &str) -> Result<Pattern, MakeError>
         ensures shows { IfOk result (λ p. pattern_text p ≡ text.now) }
         ensures syntax { IsErrOf result MakeError.Syntax → IsNoPattern text.now }
-        ensures refused { IsErrOf result MakeError.Refused → Rose (refusals self.old) (refusals self.new) }
-        ensures counted { refusals self.old ≤ refusals self.new }
-        ensures steady { IfOk result (λ p. refusals self.new ≡ refusals self.old) }
         ensures call { makes self.old (text.now, result) self.new };
 }
 
@@ -134,24 +127,18 @@ impl RegexMaker {
 
     // Counts a refusal.
     fn refuse(&mut self)
-        ensures count { self.new ≡ counted_up self.old }
-        ensures grows { self.old ≤ self.new }
+        ensures { self.new ≡ counted_up self.old }
     {
         self.refusals = self.refusals.saturating_add(1);
     }
 }
 
 impl PatternMaker for RegexMaker {
-    ghost refusals = { λ m. m };
-
     ghost makes = { RegexCall };
 
     fn make(&mut self, text: &str) -> Result<Pattern, MakeError>
         ensures shows { IfOk result (λ p. pattern_text p ≡ text.now) }
         ensures syntax { IsErrOf result MakeError.Syntax → IsNoPattern text.now }
-        ensures refused { IsErrOf result MakeError.Refused → Rose self.old self.new }
-        ensures counted { self.old ≤ self.new }
-        ensures steady { IfOk result (λ p. self.new ≡ self.old) }
         ensures call { RegexCall self.old (text.now, result) self.new }
     {
         let made = compiled(self.alloc, text);
@@ -200,16 +187,11 @@ impl ScriptedMaker {
 }
 
 impl PatternMaker for ScriptedMaker {
-    ghost refusals = { λ m. m.refusals };
-
     ghost makes = { ScriptedCall };
 
     fn make(&mut self, text: &str) -> Result<Pattern, MakeError>
         ensures shows { IfOk result (λ p. pattern_text p ≡ text.now) }
         ensures syntax { IsErrOf result MakeError.Syntax → IsNoPattern text.now }
-        ensures refused { IsErrOf result MakeError.Refused → Rose self.old.refusals self.new.refusals }
-        ensures counted { self.old.refusals ≤ self.new.refusals }
-        ensures steady { IfOk result (λ p. self.new.refusals ≡ self.old.refusals) }
         ensures call { ScriptedCall self.old (text.now, result) self.new }
     {
         self.calls = self.calls.saturating_add(1);
@@ -220,3 +202,11 @@ impl PatternMaker for ScriptedMaker {
         self.inner.make(text)
     }
 }
+
+/// The counts of both makers tell how many texts they refused: a law.
+pub fn refusals_are_counted()
+    ensures regex { (old new : ℕ) (texts : List (List ℕ)) → old < 2 ^ 64 → RefusesOnly RegexCall old new texts
+        → new ≡ min (old + length texts) (2 ^ 64 - 1) }
+    ensures scripted { (old new : Script) (texts : List (List ℕ)) → old.refusals < 2 ^ 64
+        → RefusesOnly ScriptedCall old new texts → new.refusals ≡ min (old.refusals + length texts) (2 ^ 64 - 1) }
+{}

@@ -9,3 +9,4 @@ pub mod Orders
 pub mod Undivided
 pub mod Answering
 pub mod Chaining
+pub mod WholeLaws

@@ -9,3 +9,4 @@ pub mod ValueRef
 pub mod Spans
 pub mod Summaries
 pub mod Values
+pub mod WholeTrace

@@ -1,6 +1,6 @@
-//! Laws about ratios, values and patterns.
+//! Laws about ratios, values, patterns and whole traces.
 
-ghost use Rattle.std.specs.Prelude.{◌≡◌, List, [], All, pos, ◌*ℤ◌};
+ghost use Rattle.std.specs.Prelude.{◌≡◌, ◌≢◌, ◌+◌, List, [], None, All, Contains, IfSome, pos, ◌*ℤ◌};
 ghost use Rattle.std.specs.Cmp.{IsTotalOrder, IsStrictWeakOrder};
 ghost use Rattle.std.specs.Ordering.{is_lt};
 ghost use Rattle.span_types.specs.declared.spans.Row.{Row};
@@ -13,7 +13,9 @@ ghost use Rattle.traceql_types.specs.Refusals.{divisions};
 ghost use Rattle.traceql_value.specs.Fractions.{Fraction, IsRatio, IsWhole};
 ghost use Rattle.traceql_value.specs.Meaning.{value_of};
 ghost use Rattle.traceql_value.specs.Readings.{IsAnswered};
+ghost use Rattle.traceql_value.specs.Spans.{latest, root_of, start_of, trace_nanos};
 ghost use Rattle.traceql_value.specs.Values.{IfNumber, value_cmp};
+ghost use Rattle.traceql_value.specs.WholeTrace.{IsEnd, IsRoot, IsStart};
 
 /// Ratios that are equal as fractions are one, so `==` and an `Equal` of `compare` say the same.
 pub fn one_ratio()
@@ -35,4 +37,20 @@ pub fn whole_without_division()
 /// `\A(?:` and `)\z`, and the string matches a text exactly where that reading finds a match.
 pub fn strings_are_answered()
     ensures { (c : Checked) → All (λ asked. IsAnswered c.patterns asked.1) (asked_patterns (query_tree c.query)) }
+{}
+
+/// The root is the span without a parent that comes first in trace order; there is none only where each span names a
+/// parent. Two that come first have one id, and so they are one span of a trace.
+pub fn root_is_first()
+    ensures root { (rows : List Row) → IfSome (root_of rows) (IsRoot rows) }
+    ensures none { (rows : List Row) → root_of rows ≡ None → (r : Row) → Contains rows r → r.span.parent ≢ None }
+    ensures one { (rows : List Row) (a b : Row) → IsRoot rows a → IsRoot rows b → a.span.id ≡ b.span.id }
+{}
+
+/// A trace starts at the least of its spans' starts, and ends at the greatest of their starts and ends; it lasts from the
+/// one to the other.
+pub fn trace_is_bounded()
+    ensures start { (rows : List Row) → rows ≢ [] → IsStart rows (start_of rows) }
+    ensures end { (rows : List Row) → rows ≢ [] → IsEnd rows (latest rows) }
+    ensures length { (rows : List Row) → rows ≢ [] → start_of rows + trace_nanos rows ≡ latest rows }
 {}

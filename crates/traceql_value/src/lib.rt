@@ -21,7 +21,10 @@ mod value_ref;
 mod whole;
 
 pub use context::{EvalContext, field_value};
-pub use laws::{one_ratio, strings_are_answered, values_in_order, whole_without_division};
+pub use laws::{
+    one_ratio, root_is_first, strings_are_answered, trace_is_bounded, values_in_order,
+    whole_without_division,
+};
 pub use matchers::Matchers;
 pub use operators::accepts;
 pub use ratio::Ratio;

@@ -1,5 +1,5 @@
 -- So far what the walk knows is right of the blocks behind the position.
-use Rattle.std.proofs.Common.{◌≡◌, ◌≤◌, ℕ, length, drop}
+use Rattle.std.proofs.Common.{◌≡◌, ◌≤◌, length, drop}
 use Rattle.store_state.specs.Pairing.{IsPairing}
 use Rattle.store_state.proofs.choice.first_pair.Given as goal
 

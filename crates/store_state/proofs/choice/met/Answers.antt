@@ -1,4 +1,4 @@
-use Rattle.std.proofs.Common.{◌≡◌, ◌∙◌, ◌+◌, ◌==◌, ◌&&◌, min, nat_le, if◌then◌else◌, Some, ap}
+use Rattle.std.proofs.Common.{◌∙◌, ◌+◌, ◌==◌, ◌&&◌, min, nat_le, if◌then◌else◌, Some, ap}
 use Rattle.store_model.specs.Choice.{most_rows}
 use Rattle.store_state.specs.Pairing.{has_partner}
 use Rattle.store_state.proofs.choice.met.Goals as goal

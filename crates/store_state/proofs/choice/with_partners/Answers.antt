@@ -1,4 +1,4 @@
-use Rattle.std.proofs.Common.{◌≡◌, ◌∙◌, ◌++◌, ◌∷◌, [], ◌+◌, ap, arith, drop}
+use Rattle.std.proofs.Common.{◌∙◌, ◌++◌, ◌∷◌, [], ◌+◌, ap, arith, drop}
 use Rattle.store_state.specs.Pairing.{joined_at}
 use Rattle.store_state.proofs.Choosing.{all_joined}
 use Rattle.store_state.proofs.choice.with_partners.Goals as goal

@@ -1,5 +1,5 @@
 -- With what is to be joined from here on it is what was to be joined from the first block on.
-use Rattle.std.proofs.Common.{◌≡◌, ◌-◌, ◌+◌, ◌++◌, drop}
+use Rattle.std.proofs.Common.{◌≡◌, ◌+◌, ◌++◌, drop}
 use Rattle.store_state.specs.Pairing.{joined_at}
 use Rattle.store_state.proofs.choice.with_partners.Given as goal
 

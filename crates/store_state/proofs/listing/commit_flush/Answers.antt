@@ -1,17 +1,17 @@
-use Rattle.std.proofs.Common.{◌∙◌, ◌++◌, ◌∷◌, [], List, ap, refl, map}
+use Rattle.std.proofs.Common.{◌∙◌, ◌++◌, ◌∷◌, [], List, ap, refl, map, arith}
 use Rattle.block_list.specs.declared.body.BlockRef.{BlockRef}
 use Rattle.block_list.specs.declared.body.SegmentRef.{SegmentRef}
 use Rattle.store_model.specs.After.{released, staying}
 use Rattle.store_state.specs.Listed.{floor_from, segment_of}
-use Rattle.store_state.proofs.Listings.{flush_listing}
+use Rattle.store_state.proofs.Listings.{flush_made}
 use Rattle.store_state.proofs.listing.commit_flush.Goals as goal
 
 pub returns : goal.returns
-returns c = λ u job firsts is own least.
+returns c =
     let block : BlockRef = record { file = c.args.files.block; level = 0; rows = c.args.rows } in
     let last : SegmentRef = record { file = c.args.files.segment; first = c.args.count } in
     let before : List SegmentRef = c.as_slice-3.result.now in
-    flush_listing c.args.count c.args.rows c.args.least c.args.files c.args.now.now _ u job firsts is own least
+    let made = flush_made c.args.count c.args.rows c.args.least c.args.files c.args.now.now _
     (c.put.ensures.items ∙ ap (λ xs. xs ++ block ∷ []) (c.fill.ensures.items ∙ c.as_slice.ensures.value))
     (c.part_segments.ensures.stay
     ∙ ap (λ f. staying f (map segment_of (before ++ last ∷ []))) c.floor_of-floor.ensures
@@ -21,4 +21,5 @@ returns c = λ u job firsts is own least.
     ∙ ap (λ xs. xs ++ released c.floor_of-floor.result (map segment_of (before ++ last ∷ []))) (c.fill-2.ensures.items ∙ c.as_slice-2.ensures.value)
     ∙ ap (λ f. c.args.now.now.loose.items ++ released f (map segment_of (before ++ last ∷ []))) c.floor_of-floor.ensures
     ∙ ap (λ xs. c.args.now.now.loose.items ++ released (floor_from c.args.count c.args.least) (map segment_of (xs ++ last ∷ []))) c.as_slice-3.ensures.value)
-    refl
+    refl in
+    record { listing = made.listing; others = made.others; room = record { blocks = omega arith; segments = omega arith; loose = omega arith } }

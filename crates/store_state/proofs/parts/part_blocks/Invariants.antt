@@ -10,6 +10,7 @@ invariant-loop-block l = record {
   go : l.loose.items ≡ l.initial.loose.items ++ inside l.files (take l.block-index l.now);
   blocks_len : vec_len l.blocks ≤ l.block-index;
   blocks_room : length l.now + 1 ≤ vec_capacity l.blocks;
+  blocks_kept : vec_capacity l.initial.blocks ≤ vec_capacity l.blocks;
   loose_len : vec_len l.loose ≤ vec_len l.initial.loose + l.block-index;
   loose_room : vec_capacity l.initial.loose ≤ vec_capacity l.loose;
 }

@@ -11,6 +11,7 @@ invariant-loop-at l = record {
   go : l.loose.items ++ released l.floor (map segment_of (drop l.at l.now ++ l.last ∷ [])) ≡ l.initial.loose.items ++ released l.floor (map segment_of (l.now ++ l.last ∷ []));
   segments_len : vec_len l.segments ≤ l.at;
   segments_room : length l.now + 1 ≤ vec_capacity l.segments;
+  segments_kept : vec_capacity l.initial.segments ≤ vec_capacity l.segments;
   loose_len : vec_len l.loose ≤ vec_len l.initial.loose + l.at;
   loose_room : vec_capacity l.initial.loose ≤ vec_capacity l.loose;
 }

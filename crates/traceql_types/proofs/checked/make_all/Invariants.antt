@@ -1,4 +1,4 @@
-use Rattle.std.proofs.Common.{◌≡◌, ◌≤◌, List, None, take, map}
+use Rattle.std.proofs.Common.{List, take, map}
 use Rattle.traceql_types.specs.Makers.{Call, CallsLead, WasRefused}
 use Rattle.traceql_types.specs.Shown.{shown}
 use Rattle.traceql_types.specs.Steps.{Stands, Called}
@@ -8,8 +8,6 @@ abbrev pub invariant-loop-pattern : goal.invariant-loop-pattern
 invariant-loop-pattern g l =
     let maker = g.P.PatternMaker in
     record {
-      stands : Stands l.initial.first (map shown (take l.pattern-index l.pattern-items)) (WasRefused maker.makes maker.refusals l.fn.maker l.maker) l.first l.made.items;
+      stands : Stands l.initial.first (map shown (take l.pattern-index l.pattern-items)) (WasRefused maker.makes l.fn.maker l.maker) l.first l.made.items;
       called : (calls : List Call) × CallsLead maker.makes l.fn.maker calls l.maker × Called (map shown (take l.pattern-index l.pattern-items)) l.first l.made.items calls;
-      counted : maker.refusals l.fn.maker ≤ maker.refusals l.maker;
-      unrefused : l.first ≡ None → maker.refusals l.maker ≡ maker.refusals l.fn.maker;
     }

@@ -1,33 +1,22 @@
-use Rattle.std.proofs.Common.{◌≡◌, length, take, drop, min, ℕ, zero, suc, List, [], ◌∷◌, refl, sym, ◌∙◌, ap, arith}
-use Rattle.span_types.specs.declared.spans.Row.{Row}
+use Rattle.std.proofs.Common.{◌≡◌, ◌++◌, ◌∙◌, ap, sym, arith, length, append-nil, take, drop}
+use Rattle.live_traces.specs.Rows.{push_rows, run_rows}
 use Rattle.live_traces.specs.Parts.{LiveParts}
+use Rattle.live_traces.proofs.Kept.{head_is, first_again, others_again}
 use Rattle.live_traces.proofs.live.Live.take_head.Goals as goal
-
-none_before : (n : ℕ) (xs : List Row) → take n xs ≡ [] → drop n xs ≡ xs
-none_before zero xs h = refl
-none_before (suc n) [] h = refl
-none_before (suc n) (x ∷ xs) h = cc
-
-take_least : (n m : ℕ) (xs : List Row) → n ≡ min m (length xs) → take n xs ≡ take m xs
-take_least zero zero xs h = refl
-take_least zero (suc m) [] h = refl
-take_least zero (suc m) (x ∷ xs) h = absurd (omega (arith, h))
-take_least (suc n) zero xs h = absurd (omega (arith, h))
-take_least (suc n) (suc m) [] h = absurd (omega (arith, h))
-take_least (suc n) (suc m) (x ∷ xs) h = ap (λ ys. x ∷ ys) (take_least n m xs (omega (arith, h)))
-
-drop_least : (n m : ℕ) (xs : List Row) → n ≡ min m (length xs) → drop n xs ≡ drop m xs
-drop_least zero zero xs h = refl
-drop_least zero (suc m) [] h = refl
-drop_least zero (suc m) (x ∷ xs) h = absurd (omega (arith, h))
-drop_least (suc n) zero xs h = absurd (omega (arith, h))
-drop_least (suc n) (suc m) [] h = refl
-drop_least (suc n) (suc m) (x ∷ xs) h = drop_least n m xs (omega (arith, h))
 
 pub returns-clause-taken : goal.returns-clause-taken
 returns-clause-taken c =
-    let kept : List Row = c.self.inside.kept.items in
-    let head : c.args.self.now.head ≡ kept = ap (λ (v : LiveParts). v.head) (sym c.self.view_is) ∙ none_before c.self.inside.flushing kept (ap (λ (v : LiveParts). v.flushing) c.self.view_is ∙ c.requires) in
-    let size : c.min-size.result ≡ min c.args.most (length kept) = omega (arith, c.min-size.ensures, c.len.ensures) in
-    let rows : c.in_ok-runs.runs ≡ take c.min-size.result kept = c.in_ok-runs.ensures ∙ ap (take c.min-size.result) c.as_slice.ensures.value in
-    (rows ∙ take_least c.min-size.result c.args.most kept size ∙ ap (take c.args.most) (sym head), sym rows, drop_least c.min-size.result c.args.most kept size ∙ ap (drop c.args.most) (sym head))
+    let rows : c.of.result ≡ run_rows c.in_ok-front.front.items =
+    c.of.ensures ∙ ap (λ pushes. run_rows c.in_ok-runs.runs.items ++ push_rows pushes) c.new.ensures.items ∙ append-nil (run_rows c.in_ok-runs.runs.items)
+    ∙ ap run_rows (c.in_ok-runs.ensures ∙ c.as_slice-2.ensures.value) in
+    let front : run_rows c.in_ok-front.front.items ≡ take c.args.most (run_rows c.self.inside.kept.items) =
+    c.in_ok-front.ensures.0 ∙ ap (λ runs. take c.args.most (run_rows runs)) c.as_slice.ensures.value in
+    let back : run_rows c.in_ok-front.back.items ≡ drop c.args.most (run_rows c.self.inside.kept.items) =
+    c.in_ok-front.ensures.1 ∙ ap (λ runs. drop c.args.most (run_rows runs)) c.as_slice.ensures.value in
+    let head : run_rows c.self.inside.kept.items ≡ c.args.self.now.head =
+    sym (head_is c.self.inside.flushing c.self.inside.kept.items (ap (λ (v : LiveParts). v.flushing) c.self.view_is ∙ c.requires)) ∙ ap (λ (v : LiveParts). v.head) c.self.view_is in
+    let size : c.len-size.result ≡ length c.in_ok-front.front.items = omega (arith, c.len-size.ensures) in (
+      rows ∙ front ∙ ap (take c.args.most) head,
+      first_again c.in_ok-front.front.items c.in_ok-front.back.items c.in_ok-self-inside.field-0.items c.len-size.result size c.in_ok-self-inside.ensures ∙ sym rows,
+      others_again c.in_ok-front.front.items c.in_ok-front.back.items c.in_ok-self-inside.field-0.items c.len-size.result size c.in_ok-self-inside.ensures ∙ back ∙ ap (drop c.args.most) head,
+    )

@@ -1,0 +1,20 @@
+use Rattle.std.proofs.Common.{◌∙◌, ◌++◌, ◌∷◌, [], ap, sym, arith, append_assoc, take}
+use Rattle.rows_by_trace.specs.Traces.{rows_of_trace}
+use Rattle.live_traces.specs.Rows.{chunk_rows, row_of}
+use Rattle.live_traces.proofs.ChunkRows.{one_more, length_chunk_rows, take_whole}
+use Rattle.live_traces.proofs.TraceRows.{of_trace-append}
+use Rattle.live_traces.proofs.chunk.Chunk.copy_rows_of.Goals as goal
+
+pub loop-at-preserved : goal.loop-at-preserved
+loop-at-preserved c =
+    c.in_ok-copy_if_of.ensures
+    ∙ ap (λ q. q ++ rows_of_trace c.args.trace (row_of c.args.self.now c.loop-at.at ∷ [])) c.loop-at.invariant
+    ∙ append_assoc c.args.rows.now.items (rows_of_trace c.args.trace (take c.loop-at.at (chunk_rows c.args.self.now))) (rows_of_trace c.args.trace (row_of c.args.self.now c.loop-at.at ∷ []))
+    ∙ ap (λ q. c.args.rows.now.items ++ q)
+    (sym (of_trace-append c.args.trace (take c.loop-at.at (chunk_rows c.args.self.now)) (row_of c.args.self.now c.loop-at.at ∷ []))
+    ∙ ap (rows_of_trace c.args.trace) (sym (one_more c.args.self.now c.loop-at.at (omega arith))))
+
+pub returns : goal.returns
+returns c =
+    c.loop-at.invariant
+    ∙ ap (λ rows. c.args.rows.now.items ++ rows_of_trace c.args.trace rows) (take_whole (chunk_rows c.args.self.now) c.loop-at.at (omega (arith, length_chunk_rows c.args.self.now)))

@@ -1,8 +1,0 @@
--- So far the trace's rows below the counter were added.
-use Rattle.std.proofs.Common.{◌≡◌, ◌-◌, ◌++◌, take, drop}
-use Rattle.live_traces.specs.Rows.{chunk_rows}
-use Rattle.live_traces.specs.Traces.{rows_of_trace}
-use Rattle.live_traces.proofs.run.copy_range_of.Given as goal
-
-abbrev pub invariant-loop-at : goal.invariant-loop-at
-invariant-loop-at l = l.rows.items ≡ l.fn.rows.items ++ rows_of_trace l.trace (take (l.at - l.from) (drop l.from (chunk_rows l.chunk)))

@@ -1,0 +1,41 @@
+//! A core as a port, for pushes and looks.
+
+ghost use Rattle.std.specs.Prelude.{◌≡◌, []};
+ghost use Rattle.store_model.specs.Event.{Event, Reply};
+ghost use Rattle.store_model.specs.Holds.{own_files};
+ghost use Rattle.store_state.specs.Meaning.{Called};
+ghost use Rattle.store_core.specs.Events.{Did};
+ghost use Rattle.store_core.specs.Port.{port_of};
+
+use crate::store::Core;
+use disk_model::Device;
+use span_types::{Batch, Memory};
+use store_state::{Look, LookPort, PushError};
+
+impl<D: Device> LookPort for Core<D> {
+    ghost meaning = { port_of D.Device.own };
+
+    fn push(&mut self, batch: Batch, moment: u64) -> Result<u64, PushError> {
+        self.push_batch(batch, moment)
+    }
+
+    fn held(&mut self) -> u64 {
+        self.held_rows()
+    }
+
+    fn look(&mut self) -> Result<Look, Memory> {
+        self.take_look()
+    }
+
+    fn done(&mut self, look: Look) {
+        self.end_look(look);
+    }
+}
+
+/// An event of a core that begins no job is a call of its port: what is known of the history and what is open go on as a port's
+/// calls say, by the step of the machine that the core stands for.
+pub fn an_event_is_a_call<D: Device>(old: &Core<D>, new: &Core<D>)
+    ensures { (event : Event) (reply : Reply) → own_files reply ≡ [] →
+        Did D.Device.own old.now event reply new.now →
+        Called (port_of D.Device.own) old.now event reply new.now }
+{}
