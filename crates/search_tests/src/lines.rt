@@ -7,14 +7,16 @@ ghost use Rattle.span_types.specs.declared.spans.Row.{Row};
 use otlp_spans::read_line;
 use span_types::{Memory, Place, Row, Rows, first_rows};
 use std::alloc::Global;
-use std::test::Fail;
 use traceql_parse::parse;
 use traceql_types::{Checked, RegexMaker, check};
 
+/// What failed. It may be handed from thread to thread, and becomes a test's failure by `?`.
+pub type Failure = &'static str;
+
 /// Adds the rows of a line, as those of the first push.
-fn add_rows(alloc: Global, line: &str, rows: &mut Vec<Row>) -> Result<(), Fail> {
+fn add_rows(alloc: Global, line: &str, rows: &mut Vec<Row>) -> Result<(), Failure> {
     let Ok(reading) = read_line(alloc, line.as_bytes()) else {
-        return Err(Fail::new("the line is not read"));
+        return Err("the line is not read");
     };
     let mut position = 0u32;
     for span in reading.batch.spans.into_vec() {
@@ -22,14 +24,16 @@ fn add_rows(alloc: Global, line: &str, rows: &mut Vec<Row>) -> Result<(), Fail> 
             number: 0,
             position,
         };
-        rows.push(Row { place, span })?;
+        if rows.push(Row { place, span }).is_err() {
+            return Err("no memory");
+        }
         position = position.saturating_add(1);
     }
     Ok(())
 }
 
 /// The rows of lines in the order in which they came.
-pub fn rows_of(alloc: Global, lines: &[&str]) -> Result<Rows, Fail> {
+pub fn rows_of(alloc: Global, lines: &[&str]) -> Result<Rows, Failure> {
     let mut rows = Vec::new(alloc);
     for line in lines {
         add_rows(alloc, line, &mut rows)?;
@@ -38,20 +42,20 @@ pub fn rows_of(alloc: Global, lines: &[&str]) -> Result<Rows, Fail> {
 }
 
 /// First occurrences, as a search takes them.
-pub fn firsts_of(alloc: Global, rows: Rows) -> Result<Rows, Fail>
+pub fn firsts_of(alloc: Global, rows: Rows) -> Result<Rows, Failure>
     ensures { IfOk result (λ firsts. (all : List Row) × IsFirstOf all firsts) }
 {
     match first_rows(alloc, rows) {
         Ok(firsts) => Ok(firsts),
-        Err(Memory) => Err(Fail::new("no memory")),
+        Err(Memory) => Err("no memory"),
     }
 }
 
 /// A text's query.
-pub fn query_of(alloc: Global, text: &str) -> Result<Checked, Fail> {
+pub fn query_of(alloc: Global, text: &str) -> Result<Checked, Failure> {
     let Ok(query) = parse(alloc, text) else {
-        return Err(Fail::new("the query is not read"));
+        return Err("the query is not read");
     };
     let mut maker = RegexMaker::new(alloc);
-    check(alloc, query, &mut maker).map_err(|_| Fail::new("the query is refused"))
+    check(alloc, query, &mut maker).map_err(|_| "the query is refused")
 }

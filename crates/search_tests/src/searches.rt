@@ -81,7 +81,7 @@ const STAGED: &str = r#"
 fn rows(alloc: Global, lines: &[&str]) -> Result<Rows, Fail>
     ensures { IfOk result (λ rows. (all : List Row) × IsFirstOf all rows) }
 {
-    firsts_of(alloc, rows_of(alloc, lines)?)
+    Ok(firsts_of(alloc, rows_of(alloc, lines)?)?)
 }
 
 // A value as a text.

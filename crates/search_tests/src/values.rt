@@ -180,7 +180,7 @@ rootName => ""
 /// The query that groups by an expression.
 fn grouping(alloc: Global, expr: &str) -> Result<Checked, Fail> {
     let text = format!(in alloc; "{{ }} | by({expr})")?;
-    query_of(alloc, text.as_str())
+    Ok(query_of(alloc, text.as_str())?)
 }
 
 /// A value as a text.

@@ -11,29 +11,29 @@ use Rattle.traceql_value.specs.declared.value.Value.{Value}
 use Rattle.traceql_value.specs.Values.{value_cmp}
 use Rattle.spanset_eval.specs.declared.groups.Group.{Group}
 use Rattle.spanset_eval.specs.Laws.{IsInJust, IsSplitOff, IsPartition}
-use Rattle.spanset_eval.specs.Stages.{occurring, put}
+use Rattle.spanset_eval.specs.Stages.{occurring, insert_value}
 use Rattle.spanset_eval.proofs.Membership.{In, in_of, of_in, map_in, in_map, in_filter, filter_in}
 use Rattle.spanset_eval.proofs.PartLaws.{three, flip_less, flip_greater, group_at, step_of, sp_step}
 
--- ---- `put`, by the order of the values
+-- ---- `insert_value`, by the order of the values
 
-put_less : (v w : Value) (ws : List Value) → value_cmp v w ≡ Less → put v (w ∷ ws) ≡ v ∷ w ∷ ws
+insert_less : (v w : Value) (ws : List Value) → value_cmp v w ≡ Less → insert_value v (w ∷ ws) ≡ v ∷ w ∷ ws
 unfolding step_of
-put_less v w ws e = sp_step v w ws Less e
+insert_less v w ws e = sp_step v w ws Less e
 
-put_equal : (v w : Value) (ws : List Value) → value_cmp v w ≡ Equal → put v (w ∷ ws) ≡ w ∷ ws
+insert_equal : (v w : Value) (ws : List Value) → value_cmp v w ≡ Equal → insert_value v (w ∷ ws) ≡ w ∷ ws
 unfolding step_of
-put_equal v w ws e = sp_step v w ws Equal e
+insert_equal v w ws e = sp_step v w ws Equal e
 
-put_greater : (v w : Value) (ws : List Value) → value_cmp v w ≡ Greater → put v (w ∷ ws) ≡ w ∷ put v ws
+insert_greater : (v w : Value) (ws : List Value) → value_cmp v w ≡ Greater → insert_value v (w ∷ ws) ≡ w ∷ insert_value v ws
 unfolding step_of
-put_greater v w ws e = sp_step v w ws Greater e
+insert_greater v w ws e = sp_step v w ws Greater e
 
 -- what holds of all three holds
-put_cases : (P : List Value → Type 0) (v w : Value) (ws : List Value) → (value_cmp v w ≡ Less → P (v ∷ w ∷ ws)) → (value_cmp v w ≡ Equal → P (w ∷ ws)) → (value_cmp v w ≡ Greater → P (w ∷ put v ws)) → P (put v (w ∷ ws))
-put_cases P v w ws l q g = elim (three (value_cmp v w)) as (λ _. P (put v (w ∷ ws))) [
-  | inl e ↦ subst P (sym (put_less v w ws e)) (l e)
-  | inr m ↦ elim m as (λ _. P (put v (w ∷ ws))) [ inl e ↦ subst P (sym (put_equal v w ws e)) (q e) | inr e ↦ subst P (sym (put_greater v w ws e)) (g e) ]
+insert_cases : (P : List Value → Type 0) (v w : Value) (ws : List Value) → (value_cmp v w ≡ Less → P (v ∷ w ∷ ws)) → (value_cmp v w ≡ Equal → P (w ∷ ws)) → (value_cmp v w ≡ Greater → P (w ∷ insert_value v ws)) → P (insert_value v (w ∷ ws))
+insert_cases P v w ws l q g = elim (three (value_cmp v w)) as (λ _. P (insert_value v (w ∷ ws))) [
+  | inl e ↦ subst P (sym (insert_less v w ws e)) (l e)
+  | inr m ↦ elim m as (λ _. P (insert_value v (w ∷ ws))) [ inl e ↦ subst P (sym (insert_equal v w ws e)) (q e) | inr e ↦ subst P (sym (insert_greater v w ws e)) (g e) ]
 ]
 
 -- ---- the values that occur ascend
@@ -50,18 +50,18 @@ less_all_less : IsTotalOrder value_cmp → (u v : Value) (ws : List Value) → v
 less_all_less o u v [] e a = tt
 less_all_less o u v (w ∷ ws) e a = (o.trans u v w e a.0, less_all_less o u v ws e a.1)
 
-less_all_put : (u v : Value) (ws : List Value) → value_cmp u v ≡ Less → LessAll u ws → LessAll u (put v ws)
-less_all_put u v [] e a = (e, tt)
-less_all_put u v (w ∷ ws) e a = put_cases (LessAll u) v w ws (λ l. (e, a)) (λ q. a) (λ g. (a.0, less_all_put u v ws e a.1))
+less_all_insert : (u v : Value) (ws : List Value) → value_cmp u v ≡ Less → LessAll u ws → LessAll u (insert_value v ws)
+less_all_insert u v [] e a = (e, tt)
+less_all_insert u v (w ∷ ws) e a = insert_cases (LessAll u) v w ws (λ l. (e, a)) (λ q. a) (λ g. (a.0, less_all_insert u v ws e a.1))
 
-put_rises : IsTotalOrder value_cmp → (v : Value) (ws : List Value) → Rising ws → Rising (put v ws)
-put_rises o v [] up = (tt, tt)
-put_rises o v (w ∷ ws) up =
-    put_cases Rising v w ws (λ l. ((l, less_all_less o v w ws l up.0), up)) (λ q. up) (λ g. (less_all_put w v ws (flip_greater o v w g) up.0, put_rises o v ws up.1))
+insert_rises : IsTotalOrder value_cmp → (v : Value) (ws : List Value) → Rising ws → Rising (insert_value v ws)
+insert_rises o v [] up = (tt, tt)
+insert_rises o v (w ∷ ws) up =
+    insert_cases Rising v w ws (λ l. ((l, less_all_less o v w ws l up.0), up)) (λ q. up) (λ g. (less_all_insert w v ws (flip_greater o v w g) up.0, insert_rises o v ws up.1))
 
 occurring_rises : IsTotalOrder value_cmp → (vs : List Value) → Rising (occurring vs)
 occurring_rises o [] = tt
-occurring_rises o (v ∷ vs) = put_rises o v (occurring vs) (occurring_rises o vs)
+occurring_rises o (v ∷ vs) = insert_rises o v (occurring vs) (occurring_rises o vs)
 
 less_all_in : (v w : Value) (ws : List Value) → LessAll v ws → In w ws → value_cmp v w ≡ Less
 less_all_in v w [] a h = absurd h
@@ -97,34 +97,34 @@ rising_less (v ∷ vs) (suc i) (suc j) u w up l a b = rising_less vs i j u w up.
 
 -- ---- which values occur
 
-put_has : IsTotalOrder value_cmp → (v : Value) (ws : List Value) → (w : Value) × In w (put v ws) × (value_cmp v w ≡ Equal)
-put_has o v [] = (v, inl refl, tied_itself o v)
-put_has o v (w ∷ ws) = put_cases (λ xs. (x : Value) × In x xs × (value_cmp v x ≡ Equal)) v w ws (λ l. (v, inl refl, tied_itself o v)) (λ q. (w, inl refl, q))
-    (λ g. let h = put_has o v ws in (h.0, inr h.1, h.2))
+insert_has : IsTotalOrder value_cmp → (v : Value) (ws : List Value) → (w : Value) × In w (insert_value v ws) × (value_cmp v w ≡ Equal)
+insert_has o v [] = (v, inl refl, tied_itself o v)
+insert_has o v (w ∷ ws) = insert_cases (λ xs. (x : Value) × In x xs × (value_cmp v x ≡ Equal)) v w ws (λ l. (v, inl refl, tied_itself o v)) (λ q. (w, inl refl, q))
+    (λ g. let h = insert_has o v ws in (h.0, inr h.1, h.2))
 
-put_more : (v x : Value) (ws : List Value) → In x ws → In x (put v ws)
-put_more v x [] h = absurd h
-put_more v x (w ∷ ws) h = put_cases (In x) v w ws (λ l. inr h) (λ q. h)
-    (λ g. elim h as (λ _. In x (w ∷ put v ws)) [ inl e ↦ inl e | inr m ↦ inr (put_more v x ws m) ])
+insert_more : (v x : Value) (ws : List Value) → In x ws → In x (insert_value v ws)
+insert_more v x [] h = absurd h
+insert_more v x (w ∷ ws) h = insert_cases (In x) v w ws (λ l. inr h) (λ q. h)
+    (λ g. elim h as (λ _. In x (w ∷ insert_value v ws)) [ inl e ↦ inl e | inr m ↦ inr (insert_more v x ws m) ])
 
-put_from : (v x : Value) (ws : List Value) → In x (put v ws) → (v ≡ x) ⊎ In x ws
-put_from v x [] h = h
-put_from v x (w ∷ ws) here = put_cases (λ xs. In x xs → (v ≡ x) ⊎ In x (w ∷ ws)) v w ws (λ l h. h) (λ q h. inr h)
+insert_from : (v x : Value) (ws : List Value) → In x (insert_value v ws) → (v ≡ x) ⊎ In x ws
+insert_from v x [] h = h
+insert_from v x (w ∷ ws) here = insert_cases (λ xs. In x xs → (v ≡ x) ⊎ In x (w ∷ ws)) v w ws (λ l h. h) (λ q h. inr h)
     (λ g h. elim h as (λ _. (v ≡ x) ⊎ In x (w ∷ ws)) [
       | inl e ↦ inr (inl e)
-      | inr m ↦ elim (put_from v x ws m) as (λ _. (v ≡ x) ⊎ In x (w ∷ ws)) [ inl e ↦ inl e | inr n ↦ inr (inr n) ]
+      | inr m ↦ elim (insert_from v x ws m) as (λ _. (v ≡ x) ⊎ In x (w ∷ ws)) [ inl e ↦ inl e | inr n ↦ inr (inr n) ]
     ]) here
 
 occurring_has : IsTotalOrder value_cmp → (vs : List Value) (v : Value) → In v vs → (w : Value) × In w (occurring vs) × (value_cmp v w ≡ Equal)
 occurring_has o [] v h = absurd h
 occurring_has o (u ∷ vs) v h = elim h as (λ _. (w : Value) × In w (occurring (u ∷ vs)) × (value_cmp v w ≡ Equal)) [
-  | inl e ↦ let p = put_has o u (occurring vs) in (p.0, p.1, subst (λ z. value_cmp z p.0 ≡ Equal) e p.2)
-  | inr m ↦ let p = occurring_has o vs v m in (p.0, put_more u p.0 (occurring vs) p.1, p.2)
+  | inl e ↦ let p = insert_has o u (occurring vs) in (p.0, p.1, subst (λ z. value_cmp z p.0 ≡ Equal) e p.2)
+  | inr m ↦ let p = occurring_has o vs v m in (p.0, insert_more u p.0 (occurring vs) p.1, p.2)
 ]
 
 occurring_from : (vs : List Value) (v : Value) → In v (occurring vs) → In v vs
 occurring_from [] v h = absurd h
-occurring_from (u ∷ vs) v h = elim (put_from u v (occurring vs) h) as (λ _. In v (u ∷ vs)) [ inl e ↦ inl e | inr m ↦ inr (occurring_from vs v m) ]
+occurring_from (u ∷ vs) v h = elim (insert_from u v (occurring vs) h) as (λ _. In v (u ∷ vs)) [ inl e ↦ inl e | inr m ↦ inr (occurring_from vs v m) ]
 
 -- ---- the spansets
 

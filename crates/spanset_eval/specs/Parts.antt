@@ -31,21 +31,21 @@ abbrev pub with_former : SplitPart → SplitPart → SplitPart
 with_former a b = record { value = b.value; members = a.members ++ b.members }
 
 -- a part among others in ascending order, joined with the one of its value
-abbrev pub put_part : SplitPart → List SplitPart → List SplitPart
-put_part p [] = p ∷ []
-put_part p (q ∷ qs) =
+abbrev pub insert_part : SplitPart → List SplitPart → List SplitPart
+insert_part p [] = p ∷ []
+insert_part p (q ∷ qs) =
     if is_lt (value_cmp p.value q.value) then p ∷ q ∷ qs
     else if is_eq (value_cmp p.value q.value) then with_former p q ∷ qs
-    else q ∷ put_part p qs
+    else q ∷ insert_part p qs
 
 -- all of some parts among others
-abbrev pub put_all : List SplitPart → List SplitPart → List SplitPart
-put_all [] qs = qs
-put_all (p ∷ ps) qs = put_part p (put_all ps qs)
+abbrev pub insert_parts : List SplitPart → List SplitPart → List SplitPart
+insert_parts [] qs = qs
+insert_parts (p ∷ ps) qs = insert_part p (insert_parts ps qs)
 
 -- parts in ascending order, each value once
 abbrev pub arranged : List SplitPart → List SplitPart
-arranged ps = put_all ps []
+arranged ps = insert_parts ps []
 
 -- All parts are of greater values.
 abbrev pub Above : Value → List SplitPart → Type 0
@@ -58,7 +58,7 @@ Ascend [] = Unit
 Ascend (p ∷ ps) = Above p.value ps × Ascend ps
 
 -- The part that comes first was taken off one of two lists in ascending order, or off both where they had its value.
-pub record Takes (left right : List SplitPart) (next : Option SplitPart) (left' right' : List SplitPart) : Type 0 where
+pub record TakesPart (left right : List SplitPart) (next : Option SplitPart) (left' right' : List SplitPart) : Type 0 where
   pub left_up : Ascend left'
   pub right_up : Ascend right'
-  pub all : put_all left right ≡ option_to_list next ++ put_all left' right'
+  pub all : insert_parts left right ≡ option_to_list next ++ insert_parts left' right'

@@ -34,14 +34,14 @@ filter_spanset ps rows condition g = record { by = g.by; members = filter (filte
 -- ---- `by`
 
 -- a value among others in ascending order, each of them once
-abbrev pub put : Value → List Value → List Value
-put v [] = v ∷ []
-put v (w ∷ ws) = if is_lt (value_cmp v w) then v ∷ w ∷ ws else if is_eq (value_cmp v w) then w ∷ ws else w ∷ put v ws
+abbrev pub insert_value : Value → List Value → List Value
+insert_value v [] = v ∷ []
+insert_value v (w ∷ ws) = if is_lt (value_cmp v w) then v ∷ w ∷ ws else if is_eq (value_cmp v w) then w ∷ ws else w ∷ insert_value v ws
 
 -- the values that occur, in ascending order, each of them once
 abbrev pub occurring : List Value → List Value
 occurring [] = []
-occurring (v ∷ vs) = put v (occurring vs)
+occurring (v ∷ vs) = insert_value v (occurring vs)
 
 -- the members for which the expression has this value
 abbrev pub members_at : List Pattern → List Row → Tree → List ℕ → Value → List ℕ

@@ -5,7 +5,7 @@ ghost use Rattle.traceql_value.specs.EvalContexts.{context_rows, IsSame};
 ghost use Rattle.traceql_value.specs.ValueRef.{ref_value};
 ghost use Rattle.spanset_eval.specs.InContext.{filters_row, filters_position, filters_span, value_in};
 
-use crate::groups::Members;
+use crate::groups::Positions;
 use span_types::{Marks, Memory, Span};
 use traceql_syntax::{FieldExpr, Operand};
 use traceql_value::{EvalContext, ValueRef};
@@ -62,7 +62,7 @@ pub fn filter_members(
     context: &mut EvalContext<'_, '_>,
     condition: &Option<Operand>,
     members: &[usize],
-) -> Result<Members, Memory>
+) -> Result<Positions, Memory>
     ensures kept { IfOk result (λ kept.
         kept ≡ filter (filters_position context.old condition.now) members.now) }
     ensures context { IsSame context.old context.new }
@@ -73,7 +73,7 @@ pub fn filter_members(
             kept.push(*position)?;
         }
     }
-    Ok(Members::of(kept))
+    Ok(Positions::of(kept))
 }
 
 /// What the expression is for the span at a position, looked at where it stands; nil where there is no span.

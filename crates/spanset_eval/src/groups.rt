@@ -4,7 +4,7 @@ use span_types::Seq;
 use traceql_value::Values;
 
 /// Positions of spans in a trace.
-pub type Members = Seq<usize>;
+pub type Positions = Seq<usize>;
 
 /// A spanset: its spans by their positions in the trace, and the values by which it was split off.
 #[derive(Drop)]
@@ -12,5 +12,5 @@ pub struct Group {
     /// The values.
     pub by: Values,
     /// The positions, in ascending order.
-    pub members: Members,
+    pub members: Positions,
 }

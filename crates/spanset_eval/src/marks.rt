@@ -6,7 +6,7 @@ ghost use Rattle.spanset_eval.specs.Marked.{mark_at, MarksBy};
 ghost use Rattle.spanset_eval.specs.Sets.{IsSome};
 ghost use Rattle.spanset_eval.specs.Stages.{positions_from};
 
-use crate::groups::Members;
+use crate::groups::Positions;
 use span_types::{Marks, Memory};
 use std::alloc::Global;
 
@@ -70,7 +70,7 @@ pub fn any(marks: &Marks) -> bool
 }
 
 /// The positions with a mark, in ascending order.
-pub fn marked(alloc: Global, marks: &Marks) -> Result<Members, Memory>
+pub fn marked(alloc: Global, marks: &Marks) -> Result<Positions, Memory>
     ensures { IfOk result (λ members. members ≡ filter (mark_at marks.now) (positions_from 0 (length marks.now))) }
 {
     let mut members = Vec::new(alloc);
@@ -79,5 +79,5 @@ pub fn marked(alloc: Global, marks: &Marks) -> Result<Members, Memory>
             members.push(position)?;
         }
     }
-    Ok(Members::of(members))
+    Ok(Positions::of(members))
 }

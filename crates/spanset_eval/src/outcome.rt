@@ -7,7 +7,7 @@ ghost use Rattle.traceql_value.specs.EvalContexts.{context_patterns, context_row
 ghost use Rattle.spanset_eval.specs.Outcomes.{IsCutOutcome, IsListOf, IsOutcome};
 ghost use Rattle.spanset_eval.specs.Sets.{Selects};
 
-use crate::groups::Members;
+use crate::groups::Positions;
 use crate::show::TraceView;
 use crate::{TraceResult, marks, select, stages};
 use span_tree::Steps;
@@ -23,7 +23,7 @@ use traceql_value::{EvalContext, Matchers};
 fn select_positions(
     context: &mut EvalContext<'_, '_>,
     expr: &SpansetExpr,
-) -> Result<Members, Memory>
+) -> Result<Positions, Memory>
     requires { IsOneTrace (context_rows context.old) }
     ensures positions { IfOk result (IsListOf
         (Selects (context_patterns context.old) (context_rows context.old) (set_tree expr.now))) }
@@ -37,7 +37,7 @@ fn select_stepping<L: Ledger>(
     context: &mut EvalContext<'_, '_>,
     expr: &SpansetExpr,
     blank: Blank,
-) -> Result<Members, Memory>
+) -> Result<Positions, Memory>
     requires one { IsOneTrace (context_rows context.old) }
     requires name { blank.name ≡ L.name }
     requires parts { blank.parts ≡ L.parts }

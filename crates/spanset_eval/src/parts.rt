@@ -2,9 +2,9 @@
 
 ghost use Rattle.std.specs.Prelude.{◌≡◌, ◌∷◌, [], ◌+◌, ◌<◌, ◌++◌, IfOk, IfSome, map, reverse, length, vec_len};
 ghost use Rattle.traceql_value.specs.Values.{value_cmp};
-ghost use Rattle.spanset_eval.specs.Parts.{arranged, put_all, part_of, part_group, with_former, Ascend, Takes};
+ghost use Rattle.spanset_eval.specs.Parts.{arranged, insert_parts, part_of, part_group, with_former, Ascend, TakesPart};
 
-use crate::groups::{Group, Members};
+use crate::groups::{Group, Positions};
 use span_types::Memory;
 use std::alloc::Global;
 use std::cmp::Ordering;
@@ -24,7 +24,7 @@ pub struct Valued<'s> {
 #[derive(Drop)]
 pub struct Part<'v> {
     value: &'v ValueRef<'v>,
-    members: Members,
+    members: Positions,
 }
 
 impl<'v> Model for Part<'v> {
@@ -45,7 +45,7 @@ impl<'v> Part<'v> {
         members.push(valued.position)?;
         Ok(Part {
             value: &valued.value,
-            members: Members::of(members),
+            members: Positions::of(members),
         })
     }
 
@@ -65,7 +65,7 @@ impl<'v> Part<'v> {
         members.append(&mut more)?;
         Ok(Part {
             value: latter.value,
-            members: Members::of(members),
+            members: Positions::of(members),
         })
     }
 
@@ -116,7 +116,7 @@ fn merge<'v>(
 ) -> Result<Vec<Part<'v>>, Memory>
     requires left_up { Ascend left.items }
     requires right_up { Ascend right.items }
-    ensures { IfOk result (λ parts. parts.items ≡ put_all left.entry.items right.entry.items) }
+    ensures { IfOk result (λ parts. parts.items ≡ insert_parts left.entry.items right.entry.items) }
 {
     let mut left = left;
     let mut right = right;
@@ -129,7 +129,7 @@ fn merge<'v>(
     Ok(merged)
 }
 
-// Takes the part that comes first off two lists, the last of each of which comes first in it.
+// TakesPart the part that comes first off two lists, the last of each of which comes first in it.
 fn take_next<'v>(
     left: &mut Vec<Part<'v>>,
     right: &mut Vec<Part<'v>>,
@@ -137,7 +137,7 @@ fn take_next<'v>(
     requires left_up { Ascend (reverse left.old.items) }
     requires right_up { Ascend (reverse right.old.items) }
     ensures takes { IfOk result (λ next.
-        Takes (reverse left.old.items) (reverse right.old.items) next (reverse left.new.items) (reverse right.new.items)) }
+        TakesPart (reverse left.old.items) (reverse right.old.items) next (reverse left.new.items) (reverse right.new.items)) }
     ensures fewer { IfOk result (λ next. IfSome next (λ p.
         vec_len left.new + vec_len right.new < vec_len left.old + vec_len right.old)) }
     ensures end { IfOk result (λ next. next ≡ None → vec_len left.new + vec_len right.new ≡ 0) }

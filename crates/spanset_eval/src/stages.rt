@@ -8,7 +8,7 @@ ghost use Rattle.spanset_eval.specs.Marked.{mark_at, MarksBy};
 ghost use Rattle.spanset_eval.specs.Parts.{part_at, part_group, part_of};
 ghost use Rattle.spanset_eval.specs.Stages.{coalesced, drop_empty, has_spans, is_in_some};
 
-use crate::groups::{Group, Members};
+use crate::groups::{Group, Positions};
 use crate::parts::{Part, Valued, arrange};
 use crate::{amounts, filter, marks};
 use span_types::{Marks, Memory, Row, TryCopy};
@@ -152,7 +152,7 @@ fn coalesce(alloc: Global, rows: &[Row], groups: &[Group]) -> Result<Vec<Group>,
 }
 
 /// One spanset that wasn't split, of these members.
-pub fn single(alloc: Global, members: Members) -> Result<Vec<Group>, Memory>
+pub fn single(alloc: Global, members: Positions) -> Result<Vec<Group>, Memory>
     ensures { IfOk result (λ one. one.items ≡ record { by = []; members = members } ∷ []) }
 {
     let mut one = Vec::with_capacity(alloc, 1)?;

@@ -12,7 +12,7 @@ use crate::room::{fill, put};
 /// The emptying of loose files: `next` becomes what `now` is with those loose files alone that a pin names, and `free` the
 /// others, which are emptied, in the list's order. `pinned` are the files that pins name.
 pub fn reclaim(now: &Listing, next: &mut Listing, pinned: &[u32], free: &mut Vec<u32>)
-    requires room { HasRoomFor next.now now.now }
+    requires room { HasRoomFor 0 next.now now.now }
     requires free { length now.now.loose.items ≤ vec_capacity free.now }
     ensures listing { (u : State) → IsListingOf now.now u → pinned.now ≡ pinned_files u.pins →
         IsListingOf next.new (record u { loose = kept_files u }) }

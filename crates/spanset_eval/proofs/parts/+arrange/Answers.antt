@@ -1,6 +1,6 @@
 use Rattle.std.proofs.Common.{◌≡◌, ℕ, List, ◌/◌, ◌++◌, ◌∙◌, ap, sym, subst, map, take, drop, length}
 use Rattle.std.proofs.lemmas.List.{map-append, take-append-drop}
-use Rattle.spanset_eval.specs.Parts.{Ascend, arranged, part_of, put_all}
+use Rattle.spanset_eval.specs.Parts.{Ascend, arranged, part_of, insert_parts}
 use Rattle.traceql_value.proofs.Orders.{value_cmp_total}
 use Rattle.spanset_eval.proofs.PartLaws.{ascend_arranged, arranged-append}
 use Rattle.spanset_eval.proofs.SelectLaws.{if_ok}
@@ -21,8 +21,8 @@ returns-in_ok-right-in_default t c =
     let bs = c.split_at.result.1.now in
     let whole : map part_of fs ++ map part_of bs ≡ map part_of c.args.valued.now =
     sym (map-append part_of fs bs) ∙ ap (map part_of) (halves c.args.valued.now fs bs (length c.args.valued.now / 2) c.split_at.ensures.front c.split_at.ensures.back) in
-    if_ok c.merge.result (λ parts. parts.items ≡ put_all c.in_ok-left-in_default.left.items c.in_ok-right-in_default.right.items) (λ parts. parts.items ≡ arranged (map part_of c.args.valued.now))
+    if_ok c.merge.result (λ parts. parts.items ≡ insert_parts c.in_ok-left-in_default.left.items c.in_ok-right-in_default.right.items) (λ parts. parts.items ≡ arranged (map part_of c.args.valued.now))
     (λ parts e.
-    e ∙ ap (λ xs. put_all xs c.in_ok-right-in_default.right.items) c.in_ok-left-in_default.ensures ∙ ap (put_all (arranged (map part_of fs))) c.in_ok-right-in_default.ensures
+    e ∙ ap (λ xs. insert_parts xs c.in_ok-right-in_default.right.items) c.in_ok-left-in_default.ensures ∙ ap (insert_parts (arranged (map part_of fs))) c.in_ok-right-in_default.ensures
     ∙ arranged-append value_cmp_total (map part_of fs) (map part_of bs) ∙ ap arranged whole)
     c.merge.ensures
