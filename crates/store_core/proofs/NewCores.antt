@@ -3,6 +3,7 @@ use Rattle.std.proofs.Common.{◌≡◌, ◌⊎◌, inl, inr, ℕ, ◌+◌, ◌<
 use Rattle.std.specs.List.{Contains}
 use Rattle.span_types.specs.declared.spans.Span.{Span}
 use Rattle.disk_model.specs.Images.{Image}
+use Rattle.block_list.specs.Body.{MeetsRules}
 use Rattle.block_list.specs.declared.body.ListBody.{ListBody}
 use Rattle.store_model.specs.History.{History}
 use Rattle.store_model.specs.State.{State, Compaction}
@@ -15,9 +16,10 @@ use Rattle.store_images.proofs.Storing.{settled_now}
 use Rattle.store_core.specs.declared.state.CoreState.{CoreState}
 use Rattle.store_state.specs.Given.{info_files}
 use Rattle.store_core.specs.Pins.{is_taken}
-use Rattle.store_core.specs.Cores.{HasState, StandsFor, segment_of, tail_of, unsure_of}
+use Rattle.store_core.specs.Cores.{HasState, StandsFor, listed_as, segment_of, tail_of, unsure_of}
 use Rattle.store_core.specs.New.{new_list, new_tail, IsEmptyHistory, IsNewStore}
 use Rattle.store_core.specs.NewCore.{new_machine, IsNewState}
+use Rattle.store_core.proofs.Founding.{rules_new}
 
 new_sound : (h : History) → StateIsSound (new_machine h).state
 new_sound h = record {
@@ -62,6 +64,8 @@ new_state_is core list live head flushing infos file first count gate pins write
     compaction = refl;
     blocks = ap (λ (l : ListBody). l.blocks) list;
     infos = ap info_files infos;
+    listed = ap (map listed_as) infos ∙ sym (ap (λ (l : ListBody). l.blocks) list);
+    rules = subst MeetsRules (sym list) rules_new;
     segments = sym (ap (λ (l : ListBody). map segment_of l.segments) list);
     floor = sym (ap (λ (l : ListBody). l.floor) list);
     loose = sym (ap (λ (l : ListBody). l.loose) list);

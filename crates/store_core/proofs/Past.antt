@@ -7,7 +7,8 @@ use Rattle.disk_model.specs.declared.disk.Device.{Ghosts}
 use Rattle.store_model.specs.History.{History, count_of, pushed, up_to}
 use Rattle.store_model.specs.Event.{Event, Reply}
 use Rattle.store_model.specs.Event.Event.{Push}
-use Rattle.store_model.specs.Event.Reply.{Count}
+use Rattle.store_model.specs.Event.Reply.{Count, Refused}
+use Rattle.store_model.specs.Event.Refusal.{Fault}
 use Rattle.store_model.specs.Step.{Machine}
 use Rattle.store_model.specs.Told.{history_after}
 use Rattle.store_model.proofs.KeepsHolds.{grown_up}
@@ -15,7 +16,7 @@ use Rattle.store_model.proofs.TellsHistory.{step_tells}
 use Rattle.store_images.specs.Stored.{MayStandFor, ImageStandsFor}
 use Rattle.store_images.proofs.Growing.{count_of-pushed}
 use Rattle.store_core.specs.Cores.{CoreStandsFor, unsure_of}
-use Rattle.store_core.specs.Events.{Stepped, Between}
+use Rattle.store_core.specs.Events.{Stepped, Between, unsure_after}
 use Rattle.store_core.specs.Past.{StoodFor, KeepsPast}
 use Rattle.store_core.specs.declared.store.Core.{Core}
 
@@ -27,8 +28,22 @@ past_in : (e : Event) (r : Reply) (h : History) (n : ℕ) → n ≤ count_of h �
 past_in (Push spans moment) (Count number) h n low = (grown_up h spans n low, (let grown = count_of-pushed h spans in omega (arith, grown, low)))
 past_in _ _ h n low = (refl, low)
 
+-- a batch that isn't sure stays so
+stays_some : (e : Event) (r : Reply) (spans : List Span) → unsure_after e r (Some spans) ≡ Some spans
+stays_some (Push _ _) (Refused Fault) spans = refl
+stays_some _ _ spans = refl
+
+stays_unsure : (e : Event) (r : Reply) (h h' : History) (unsure unsure' : Option (List Span)) → unsure' ≡ unsure_after e r unsure → (unsure ≡ None) ⊎ (h' ≡ h)
+    → (unsure ≡ None) ⊎ ((h' ≡ h) × (unsure' ≡ unsure))
+stays_unsure e r h h' None unsure' is ended = inl refl
+stays_unsure e r h h' (Some spans) unsure' is (inl none) = inl none
+stays_unsure e r h h' (Some spans) unsure' is (inr same) = inr (same, is ∙ stays_some e r spans)
+
 module _ (e : Event) (r : Reply) (h h' : History) (unsure unsure' : Option (List Span)) (least : ℕ) (after : h' ≡ history_after e r h) (low : least ≤ count_of h)
-    (sure : (unsure ≡ None) ⊎ ((h' ≡ h) × (unsure' ≡ unsure))) where
+    (unsure_is : unsure' ≡ unsure_after e r unsure) (ended : (unsure ≡ None) ⊎ (h' ≡ h)) where
+  sure : (unsure ≡ None) ⊎ ((h' ≡ h) × (unsure' ≡ unsure))
+  sure = stays_unsure e r h h' unsure unsure' unsure_is ended
+
   at_length : (n : ℕ) (image : Image) → least ≤ n → n ≤ count_of h → ImageStandsFor image (up_to n h) → StoodFor least h' unsure' image
   at_length n image first last stands =
       let past = past_in e r h n last in
@@ -54,6 +69,6 @@ pub keeps_past : {D : Type 0} (g : Ghosts D) (old new : Core D) (e : Event) (r :
 keeps_past g old new e r m did start least told earlier low past image left =
     let after = (step_tells (g.faults old.disk) (g.faults new.disk) m did.machine e r did.step).0 in
     elim ((did.images told).before start image earlier left) [
-      | inl was ↦ stood e r m.history did.machine.history (unsure_of old.state) (unsure_of new.state) least after low did.unsure image (past image was)
-      | inr here ↦ between e r m.history did.machine.history (unsure_of old.state) (unsure_of new.state) least after low did.unsure image here
+      | inl was ↦ stood e r m.history did.machine.history (unsure_of old.state) (unsure_of new.state) least after low did.unsure did.ended image (past image was)
+      | inr here ↦ between e r m.history did.machine.history (unsure_of old.state) (unsure_of new.state) least after low did.unsure did.ended image here
     ]

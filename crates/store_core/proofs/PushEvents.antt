@@ -3,6 +3,7 @@ use Rattle.std.proofs.Common.{◌≡◌, ◌≢◌, ◌⊎◌, inl, inr, ℕ, �
 use Rattle.span_types.specs.Faults.{Rose}
 use Rattle.span_types.specs.declared.spans.Span.{Span}
 use Rattle.disk_model.specs.Images.{Image, bytes_of, Besides}
+use Rattle.disk_model.specs.Counts.{RoseBy}
 use Rattle.disk_model.specs.Crash.{OnlyBytes, RunInFile, LeavesOnly}
 use Rattle.disk_model.specs.declared.disk.Device.{Ghosts}
 use Rattle.disk_model.proofs.Moments.{widened}
@@ -24,7 +25,7 @@ use Rattle.store_images.proofs.Storing.{only_tail, settled_after}
 use Rattle.store_core.specs.declared.state.CoreState.{CoreState}
 use Rattle.store_core.specs.declared.store.Core.{Core}
 use Rattle.store_core.specs.Cores.{HasState, StandsFor, CoreStandsFor, tail_of, unsure_of}
-use Rattle.store_core.specs.Events.{Did, Between}
+use Rattle.store_core.specs.Events.{Did, Between, MadeCalls, unsure_after}
 use Rattle.store_core.proofs.Quiet.{quiet}
 use Rattle.store_core.proofs.States.{SameParts, stands_lacking, after_pushed, step_pushed, has_pushed, stands_pushed, stands_broken}
 use Rattle.store_core.proofs.Pushing.{pushing, tidy_push, held_stays}
@@ -37,6 +38,10 @@ pub refused_is : (a b : Refusal) → Refused a ≡ Refused b → a ≡ b
 unfolding why_of
 refused_is a b is = ap why_of is
 
+refused_calls : (spans : List Span) (moment : ℕ) (why : Refusal) → why ≢ Fault → (n : ℕ) → MadeCalls (Push spans moment) (Refused why) n n
+refused_calls spans moment Fault no_fault n = absurd (no_fault refl)
+refused_calls spans moment _ no_fault n = refl
+
 -- the device keeps the law that since a moment there is no other
 abbrev pub OnlyNow : {D : Type 0} → Ghosts D → Type 0
 OnlyNow {D} g = (disk : D) (image : Image) → g.left_since disk (g.moment disk) image → g.may_leave disk image
@@ -47,14 +52,14 @@ pub did_refused : {D : Type 0} (g : Ghosts D) (only_now : OnlyNow g) (old : Core
     → ((m : Machine) → HasState old.state m → early m (Push spans moment) ≡ Some (Refused why)) → why ≢ Fault
     → Did g old (Push spans moment) (Refused why) (record old { state = old.state })
 did_refused g only_now old spans moment why is no_fault =
-    quiet g only_now old old.state (Push spans moment) (Refused why) (λ file bytes. refl) (λ e. no_fault (refused_is why Fault e)) refl
+    quiet g only_now old old.state (Push spans moment) (Refused why) (λ file bytes. refl) (λ e. no_fault (refused_is why Fault e)) (refused_calls spans moment why no_fault) refl
     (λ m stands. (m, stands, refl, Sure (is m stands.has) refl))
 
 pub did_lacking : {D : Type 0} (g : Ghosts D) (only_now : OnlyNow g) (old : Core D) (live : LiveParts) (spans : List Span) (moment : ℕ)
     → SameParts old.state.live live → ((m : Machine) → HasState old.state m → early m (Push spans moment) ≡ None)
     → Did g old (Push spans moment) (Refused Memory) (record old { state = record old.state { live = live } })
 did_lacking {D} g only_now old live spans moment same free =
-    quiet g only_now old (record old.state { live = live }) (Push spans moment) (Refused Memory) (λ file bytes. refl) (λ e. let bad = refused_is Memory Fault e in cc) refl
+    quiet g only_now old (record old.state { live = live }) (Push spans moment) (Refused Memory) (λ file bytes. refl) (λ e. let bad = refused_is Memory Fault e in cc) (λ n. refl) refl
     (λ m stands. (m, stands_lacking (IsTrue (g.tells old.disk)) (g.held old.disk) (g.may_leave old.disk) old.state live m same stands, refl, Lacks (free m stands.has) refl refl refl))
 
 -- ---- a record was added, or it may have been
@@ -120,9 +125,9 @@ module _ {D : Type 0} (g : Ghosts D) (old : Core D) (disk : D) (spans : List Spa
       → SegmentHolds old.state.segment.first batches old.state.segment.gate (bytes_of (g.held old.disk) old.state.segment.file) → length batches ≡ old.state.segment.count
       → SegmentHolds old.state.segment.first (batches ++ spans ∷ []) segment.gate (bytes_of (g.held disk) old.state.segment.file)
       × OnlyBytes old.state.segment.file (bytes_of (g.held disk) old.state.segment.file) (g.may_leave disk))
-      → g.faults old.disk ≤ g.faults disk → g.reads disk ≡ g.reads old.disk
+      → g.faults old.disk ≤ g.faults disk → RoseBy 4 (g.calls old.disk) (g.calls disk) → g.reads disk ≡ g.reads old.disk
       → Did g old (Push spans moment) (Count number) (record old { disk = disk; state = record old.state { live = live; segment = segment } })
-  did_pushed live segment number length_is below is added head flushing file first count stays acknowledged later reads = record {
+  did_pushed live segment number length_is below is added head flushing file first count stays acknowledged later calls reads = record {
     stepped = λ m stands.
         let taken = step_pushed (g.faults old.disk) (g.faults disk) m spans moment number (length_is m stands.has) (free m stands.has) in
         let has = has_pushed old.state live segment m spans moment number stands.has added head flushing is below first count in
@@ -138,20 +143,22 @@ module _ {D : Type 0} (g : Ghosts D) (old : Core D) (disk : D) (spans : List Spa
               settled_after (g.held old.disk) (g.may_leave old.disk) old.state.list m.state.blocks (tail_of old.state.segment) m.history s spans (g.held disk) (g.may_leave disk) segment.gate _ (appends told).besides run.now (stays told) done.0 done.1));
           step = taken;
           images = λ told. images_in told m stands (pushed m.history spans) (unsure_of old.state) (λ image either. pushed_between m.history (unsure_of old.state) image (stands.sure writes) either);
-          unsure = inl (stands.sure writes);
+          unsure = refl;
+          ended = inl (stands.sure writes);
         };
     tidy = tidy_in;
     files = λ told m stands hold is_open stays' f among. held_stays old.state m (IsTrue (g.tells old.disk)) (g.held old.disk) (g.held disk) (g.may_leave old.disk) told writes stands (appends told).besides hold is_open f among;
     telling = telling;
     later = later;
     cause = λ fault. absurd (let bad : Count number ≡ Refused Fault = fault in cc);
+    calls = calls;
     reads = reads;
   }
 
   broken_at : (live : LiveParts) (segment : Segment) (ready : ChunkParts) → SameParts old.state.live live → segment ≡ old.state.segment → ready.spans ≡ spans
-      → Rose (g.faults old.disk) (g.faults disk) → g.faults old.disk ≤ g.faults disk → g.reads disk ≡ g.reads old.disk
+      → Rose (g.faults old.disk) (g.faults disk) → g.faults old.disk ≤ g.faults disk → (g.calls old.disk ≤ g.calls disk) × (g.calls disk ≤ g.calls old.disk + 4) → g.reads disk ≡ g.reads old.disk
       → Did g old (Push spans moment) (Refused Fault) (record old { disk = disk; state = record old.state { live = live; segment = segment; read_only = Some (g.faults disk); unsure = Some ready } })
-  broken_at live segment ready same still its rose later reads = record {
+  broken_at live segment ready same still its rose later calls reads = record {
     stepped = λ m stands. record {
       machine = broken (g.faults disk) m;
       stands = stands_broken (IsTrue (g.tells old.disk)) (IsTrue (g.tells disk)) (g.held old.disk) (g.held disk) (g.may_leave old.disk) (g.may_leave disk) old.state live segment ready (g.faults disk) m same still stands
@@ -159,19 +166,21 @@ module _ {D : Type 0} (g : Ghosts D) (old : Core D) (disk : D) (spans : List Spa
           (λ told image left. subst (λ (s : List Span). MayStandFor m.history (Some s) image) (sym its) ((both_in told m stands).1 image left));
       step = Breaks (free m stands.has) refl refl rose refl;
       images = λ told. images_in told m stands m.history (Some ready.spans) (λ image either. inr (subst (λ (s : List Span). MayStandFor m.history (Some s) image) (sym its) either));
-      unsure = inl (stands.sure writes);
+      unsure = ap (λ (s : List Span). Some s) its ∙ ap (unsure_after (Push spans moment) (Refused Fault)) (sym (stands.sure writes));
+      ended = inl (stands.sure writes);
     };
     tidy = tidy_in;
     files = λ told m stands hold is_open stays f among. held_stays old.state m (IsTrue (g.tells old.disk)) (g.held old.disk) (g.held disk) (g.may_leave old.disk) told writes stands (appends told).besides hold is_open f among;
     telling = telling;
     later = later;
     cause = λ fault. rose;
+    calls = calls;
     reads = reads;
   }
 
   pub did_broken : (live : LiveParts) (segment : Segment) (ready : ChunkParts) (faults : ℕ) → faults ≡ g.faults disk → SameParts old.state.live live → segment ≡ old.state.segment → ready.spans ≡ spans
-      → Rose (g.faults old.disk) (g.faults disk) → g.faults old.disk ≤ g.faults disk → g.reads disk ≡ g.reads old.disk
+      → Rose (g.faults old.disk) (g.faults disk) → g.faults old.disk ≤ g.faults disk → (g.calls old.disk ≤ g.calls disk) × (g.calls disk ≤ g.calls old.disk + 4) → g.reads disk ≡ g.reads old.disk
       → Did g old (Push spans moment) (Refused Fault) (record old { disk = disk; state = record old.state { live = live; segment = segment; read_only = Some faults; unsure = Some ready } })
-  did_broken live segment ready faults counted same still its rose later reads =
+  did_broken live segment ready faults counted same still its rose later calls reads =
       subst (λ (n : ℕ). Did g old (Push spans moment) (Refused Fault) (record old { disk = disk; state = record old.state { live = live; segment = segment; read_only = Some n; unsure = Some ready } })) (sym counted)
-      (broken_at live segment ready same still its rose later reads)
+      (broken_at live segment ready same still its rose later calls reads)

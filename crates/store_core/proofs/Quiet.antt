@@ -1,9 +1,11 @@
 -- Events that make no device call.
-use Rattle.std.proofs.Common.{◌≡◌, ◌≢◌, inl, inr, ℕ, List, IsTrue, refl, arith}
+use Rattle.std.proofs.Common.{◌≡◌, ◌≢◌, inl, inr, ℕ, List, None, Option, IsTrue, refl, sym, ◌∙◌, arith}
+use Rattle.span_types.specs.declared.spans.Span.{Span}
 use Rattle.disk_model.specs.Images.{Image}
 use Rattle.disk_model.specs.declared.disk.Device.{Ghosts}
 use Rattle.disk_model.proofs.Moments.{started}
 use Rattle.store_model.specs.Event.{Event, Reply}
+use Rattle.store_model.specs.Event.Event.{Push}
 use Rattle.store_model.specs.Event.Reply.{Refused}
 use Rattle.store_model.specs.Event.Refusal.{Fault}
 use Rattle.store_model.specs.Step.{Machine, Step}
@@ -11,29 +13,35 @@ use Rattle.store_state.specs.Meaning.{Rewritten}
 use Rattle.store_core.specs.declared.state.CoreState.{CoreState}
 use Rattle.store_core.specs.declared.store.Core.{Core}
 use Rattle.store_core.specs.Cores.{StandsFor, CoreStandsFor, unsure_of}
-use Rattle.store_core.specs.Events.{Did, Between}
+use Rattle.store_core.specs.Events.{Did, Between, MadeCalls, unsure_after}
+
+no_new : (event : Event) (reply : Reply) (unsure : Option (List Span)) → reply ≢ Refused Fault → unsure_after event reply unsure ≡ unsure
+no_new (Push spans moment) (Refused Fault) None no_fault = absurd (no_fault refl)
+no_new _ _ unsure no_fault = refl
 
 -- An event that changes the memory alone, and answers no fault.
 pub quiet : {D : Type 0} (g : Ghosts D) (only_now : (disk : D) (image : Image) → g.left_since disk (g.moment disk) image → g.may_leave disk image)
     (old : Core D) (state : CoreState) (event : Event) (reply : Reply)
     → ((file : ℕ) (bytes : List ℕ) → Rewritten event reply file bytes bytes)
-    → reply ≢ Refused Fault → unsure_of state ≡ unsure_of old.state
+    → reply ≢ Refused Fault → ((n : ℕ) → MadeCalls event reply n n) → unsure_of state ≡ unsure_of old.state
     → ((m : Machine) → CoreStandsFor g old m → (m' : Machine) × StandsFor (IsTrue (g.tells old.disk)) (g.held old.disk) (g.may_leave old.disk) state m' × (m'.history ≡ m.history)
     × Step (g.faults old.disk) (g.faults old.disk) m event reply m')
     → Did g old event reply (record old { state = state })
-quiet {D} g only_now old state event reply still no_fault same step = record {
+quiet {D} g only_now old state event reply still no_fault no_call same step = record {
   stepped = λ m stands. let done = step m stands in record {
     machine = done.0;
     stands = done.1;
     step = done.3;
     images = λ told. started g.moment g.left_since old.disk (Between m.history (unsure_of old.state) done.0.history (unsure_of state))
         (λ image left. inl (stands.now told image (only_now old.disk image left)));
-    unsure = inr (done.2, same);
+    unsure = same ∙ sym (no_new event reply (unsure_of old.state) no_fault);
+    ended = inr done.2;
   };
   tidy = λ told m stands tidy. started g.moment g.left_since old.disk _ (λ image left. tidy image (only_now old.disk image left));
   files = λ told m stands hold is_open stays file among. still file _;
   telling = refl;
   later = omega arith;
   cause = λ is. absurd (no_fault is);
+  calls = no_call _;
   reads = refl;
 }

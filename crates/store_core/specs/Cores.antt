@@ -5,6 +5,9 @@ use Rattle.span_types.specs.declared.spans.Span.{Span}
 use Rattle.disk_model.specs.Images.{Image}
 use Rattle.disk_model.specs.declared.disk.Device.{Ghosts}
 use Rattle.head_log.specs.declared.segment.Segment.{Segment}
+use Rattle.block_info.specs.InfoParts.{InfoParts}
+use Rattle.block_list.specs.Body.{MeetsRules}
+use Rattle.block_list.specs.declared.body.BlockRef.{BlockRef}
 use Rattle.block_list.specs.declared.body.SegmentRef.{SegmentRef}
 use Rattle.store_model.specs.History.{History, count_of}
 use Rattle.store_model.specs.State.{State, Segment as ModelSegment, pin_numbers, block_files, is_among}
@@ -29,6 +32,10 @@ unsure_of core = option_map (λ ready. ready.spans) core.unsure
 abbrev pub segment_of : SegmentRef → ModelSegment
 segment_of ref = record { file = ref.file; first = ref.first }
 
+-- how a list names the block of which this is known
+abbrev pub listed_as : InfoParts → BlockRef
+listed_as info = record { file = info.file; level = info.level; rows = info.rows }
+
 -- What the core's memory shows of the machine. No job is open as long as there are no calls that begin one.
 pub record HasState (core : CoreState) (m : Machine) : Type 0 where
   pub count : count_of m.history ≡ core.segment.first + core.segment.count
@@ -40,6 +47,8 @@ pub record HasState (core : CoreState) (m : Machine) : Type 0 where
   pub compaction : m.state.compaction ≡ None
   pub blocks : core.list.blocks ≡ map ref_of m.state.blocks
   pub infos : info_files core.infos ≡ block_files m.state.blocks
+  pub listed : map listed_as core.infos ≡ core.list.blocks
+  pub rules : MeetsRules core.list
   pub segments : m.state.segments ≡ map segment_of core.list.segments
   pub floor : m.state.floor ≡ core.list.floor
   pub loose : m.state.loose ≡ core.list.loose

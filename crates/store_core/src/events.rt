@@ -1,5 +1,6 @@
 //! The events of a store.
 
+ghost use Rattle.std.specs.Prelude.{◌≡◌, IfOk};
 ghost use Rattle.store_model.specs.Event.Event.{Push, Held, Look as TakeLook, Done};
 ghost use Rattle.store_model.specs.Event.Reply.{Count, Fine};
 ghost use Rattle.store_model.specs.Step.{Machine, IsLookPin};
@@ -56,7 +57,8 @@ impl<D: Device> Core<D> {
 
     /// Takes a look: all rows outside of blocks, and a pin on all blocks. It makes no device call.
     pub fn take_look(&mut self) -> Result<Look, Memory>
-        ensures { Did D.Device.own self.old TakeLook (look_reply result) self.new }
+        ensures looked { Did D.Device.own self.old TakeLook (look_reply result) self.new }
+        ensures infos { IfOk result (λ look. look.pin.blocks ≡ self.old.state.infos) }
     {
         let as_of = self.state.length();
         let rows = self.state.live.runs()?;

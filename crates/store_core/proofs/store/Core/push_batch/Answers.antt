@@ -33,6 +33,7 @@ returns-in-Ok-append g c =
     let same = c.reserve.ensures.same in
     let ready = c.in-Ok-reserve.ensures.ready in
     let shown = c.in-Ok-append.ensures.shown in
+    let calls = c.in-Ok-append.ensures.calls in
     let known = bytes_of (d.held core.disk) seg.file in
     let body = subst (λ (n : ℕ). IsBatchBody n spans c.in-Ok-of.entry.body) (sym c.in-Ok-of.ensures.number) (c.in-Ok-of.ensures.body sure.1) in
     did_pushed d core c.append.new.disk spans c.args.moment (λ m has. c.in-Ok.ensures.free m c.args.moment has) sure.0 c.append.ensures.telling
@@ -48,7 +49,7 @@ returns-in-Ok-append g c =
     (c.add.ensures.same.0 ∙ same.1) (c.add.ensures.same.1 ∙ same.2)
     shown.0 shown.1 shown.2 (g.met.D.Device.held_may_stay core.disk)
     (λ told batches only holds counted. c.in-Ok-append.ensures.acknowledged batches spans known told only holds counted body)
-    c.append.ensures.cause.later c.append.ensures.no_read
+    c.append.ensures.cause.later (record { later = calls.later; at_most = calls.at_most; exact = λ few. calls.all refl few }) c.append.ensures.no_read
 
 pub returns : goal.returns
 returns g c =
@@ -68,4 +69,4 @@ returns g c =
     })
     c.reserve.new.self c.append.new.seg c.in-Ok-reserve.ready c.faults-faults.result c.faults-faults.ensures
     (record { live = same.0; head = same.1; flushing = same.2 })
-    c.in-Err-append.ensures.stays ready.1 (c.in-Err-append.ensures.cause.rose refl) c.append.ensures.cause.later c.append.ensures.no_read
+    c.in-Err-append.ensures.stays ready.1 (c.in-Err-append.ensures.cause.rose refl) c.append.ensures.cause.later (c.append.ensures.calls.later, c.append.ensures.calls.at_most) c.append.ensures.no_read
