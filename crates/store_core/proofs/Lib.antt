@@ -9,3 +9,10 @@ mod NewCores
 mod PushEvents
 mod Past
 mod LookEvents
+pub mod LogSteps
+mod LooseFiles
+mod Revived
+mod LogLaws
+mod OpenedStates
+mod OpeningSteps
+mod OpeningEnds

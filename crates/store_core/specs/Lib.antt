@@ -4,4 +4,6 @@ pub mod Events
 pub mod Past
 pub mod New
 pub mod NewCore
+pub mod LogReading
+pub mod Loose
 pub mod Opening
