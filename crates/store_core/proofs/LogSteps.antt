@@ -1,6 +1,7 @@
 -- A log that is read one segment further.
-use Rattle.std.proofs.Common.{◌≡◌, ◌≢◌, ◌⊎◌, inl, inr, ℕ, ◌+◌, ◌<◌, ◌≤◌, zero, suc, Bool, true, false, IsTrue, List, [], ◌∷◌, ◌++◌, length, take, drop, get_or, Result, Ok, Err, refl, sym, ◌∙◌, ap, subst, arith, append_assoc, length-append}
+use Rattle.std.proofs.Common.{◌≡◌, ◌≢◌, ◌⊎◌, inl, inr, ℕ, ◌+◌, ◌<◌, ◌≤◌, zero, suc, Bool, true, false, IsTrue, List, [], ◌∷◌, ◌++◌, length, map, take, drop, get_or, Result, Ok, Err, refl, sym, ◌∙◌, ap, subst, arith, append_assoc, length-append}
 use Rattle.std.specs.List.{Contains, All}
+use Rattle.std.proofs.lemmas.List.{take_more}
 use Rattle.std.proofs.lemmas.List.Elements.{Contains-append_cases, All-head, All-tail}
 use Rattle.span_types.specs.declared.spans.Span.{Span}
 use Rattle.disk_model.specs.Images.{Image, bytes_of, SameBytes}
@@ -13,31 +14,28 @@ use Rattle.head_log.specs.declared.segment.Segment.{Segment}
 use Rattle.head_log.specs.Outcomes.{IsAt}
 use Rattle.head_log.proofs.EntryLemmas.{length-entries, entries-append}
 use Rattle.block_list.specs.declared.body.SegmentRef.{SegmentRef}
+use Rattle.block_list.specs.declared.body.ListBody.{ListBody}
 use Rattle.store_images.specs.Log.LogHolds.{ended}
 use Rattle.store_images.specs.Log.{LogHolds}
+use Rattle.store_images.specs.Stored.{first_number}
 use Rattle.store_images.specs.Settled.{Tail}
 use Rattle.store_images.proofs.Logs.{log_with}
 use Rattle.store_images.proofs.Lists.{in_cons, not_in_nil}
 use Rattle.store_core.specs.Cores.{tail_of}
+use Rattle.store_core.specs.declared.error.OpenError.{OpenError}
 use Rattle.store_core.specs.declared.error.OpenError.TheVariants.{NotStore}
 use Rattle.store_core.specs.LogReading.{SegmentRead, LogRead, SegmentBreaks, LogBreaks}
 use Rattle.store_core.specs.LogReading.SegmentBreaks.{malformed, astray}
 
 -- ---- a list and its first items
 
-no_more : {X : Type 0} (xs : List X) → take 0 xs ≡ []
-no_more [] = refl
-no_more (x ∷ xs) = refl
-
-pub one_further : {X : Type 0} (xs : List X) (n : ℕ) (d : X) → n < length xs → take (n + 1) xs ≡ take n xs ++ get_or xs n d ∷ []
-one_further [] n d l = absurd (omega (arith, l))
-one_further (x ∷ xs) zero d l = ap (λ r. x ∷ r) (no_more xs)
-one_further (x ∷ xs) (suc n) d l = ap (λ r. x ∷ r) (one_further xs n d (omega (arith, l)))
+parted_at : {X : Type 0} (xs : List X) (n : ℕ) (d : X) → n < length xs → xs ≡ take n xs ++ get_or xs n d ∷ drop (suc n) xs
+parted_at [] n d l = absurd (omega (arith, l))
+parted_at (x ∷ xs) zero d l = refl
+parted_at (x ∷ xs) (suc n) d l = ap (λ r. x ∷ r) (parted_at xs n d (omega (arith, l)))
 
 pub parted : {X : Type 0} (xs : List X) (n : ℕ) (d : X) → n < length xs → xs ≡ take n xs ++ get_or xs n d ∷ drop (n + 1) xs
-parted [] n d l = absurd (omega (arith, l))
-parted (x ∷ xs) zero d l = refl
-parted (x ∷ xs) (suc n) d l = ap (λ r. x ∷ r) (parted xs n d (omega (arith, l)))
+parted xs n d l = let one : suc n ≡ n + 1 = omega arith in parted_at xs n d l ∙ ap (λ (m : ℕ). take n xs ++ get_or xs n d ∷ drop m xs) one
 
 -- ---- one segment more
 
@@ -50,6 +48,11 @@ found_batches true found first gate bytes some here = let h = here refl in (h.0,
 found_batches false found first gate bytes some here = (some.0, some.1, λ bad. absurd (let e : false ≡ true = bad in cc))
 
 module _ (told : Type 0) (image : Image) where
+  here_now : (x : SegmentRef) (mine : List (List Span)) (found : Segment) → SegmentRead told (bytes_of image x.file) x mine found → told → SegmentHolds found.first mine found.gate (bytes_of image found.file)
+  here_now x mine found read t =
+      subst (λ (n : ℕ). SegmentHolds n mine found.gate (bytes_of image found.file)) (sym read.first)
+      (subst (λ (f : ℕ). SegmentHolds x.first mine found.gate (bytes_of image f)) (sym read.file) (read.holds t))
+
   pub read_one : (x : SegmentRef) (mine : List (List Span)) (found : Segment) → SegmentRead told (bytes_of image x.file) x mine found
       → LogRead told image (x ∷ []) x.first mine (tail_of found)
   read_one x mine found read = record {
@@ -57,16 +60,12 @@ module _ (told : Type 0) (image : Image) where
     before = [];
     mine = mine;
     all = refl;
-    last = same_ref x found read.file read.first;
+    last = ap (λ (f : ℕ). record { file = f; first = x.first } ∷ []) (sym read.file) ∙ ap (λ (n : ℕ). record { file = found.file; first = n } ∷ []) (sym read.first);
     counted = sym read.count;
-    follows = omega (arith, read.first);
+    follows = (let is = read.first in omega (arith, is));
     earlier = λ t. ended;
-    current = λ t. subst (λ (n : ℕ). SegmentHolds n mine found.gate (bytes_of image found.file)) (sym read.first)
-        (subst (λ (f : ℕ). SegmentHolds x.first mine found.gate (bytes_of image f)) (sym read.file) (read.holds t));
+    current = here_now x mine found read;
   }
-    where
-      same_ref : (x : SegmentRef) (found : Segment) → found.file ≡ x.file → found.first ≡ x.first → x ∷ [] ≡ record { file = found.file; first = found.first } ∷ []
-      same_ref x found file first = ap (λ (f : ℕ). record { file = f; first = x.first } ∷ []) (sym file) ∙ ap (λ (n : ℕ). record { file = found.file; first = n } ∷ []) (sym first)
 
   pub read_whole : (segments : List SegmentRef) (first : ℕ) (batches : List (List Span)) (tail : Tail) → LogRead told image segments first batches tail → told → LogHolds image segments first batches
   read_whole segments first batches tail read t =
@@ -85,8 +84,8 @@ module _ (told : Type 0) (image : Image) where
   pub read_on : (segments : List SegmentRef) (first : ℕ) (batches mine : List (List Span)) (tail : Tail) (x : SegmentRef) (found : Segment) → LogRead told image segments first batches tail
       → x.first ≡ tail.first + tail.count → SegmentRead told (bytes_of image x.file) x mine found → LogRead told image (segments ++ x ∷ []) first (batches ++ mine) (tail_of found)
   read_on segments first batches mine tail x found read leads more =
-      let one = read_one x mine found more in
       let size = read_size segments first batches tail read in
+      let is = more.first in
       record {
         front = segments;
         before = batches;
@@ -94,22 +93,22 @@ module _ (told : Type 0) (image : Image) where
         all = refl;
         last = ap (λ (f : ℕ). segments ++ record { file = f; first = x.first } ∷ []) (sym more.file) ∙ ap (λ (n : ℕ). segments ++ record { file = found.file; first = n } ∷ []) (sym more.first);
         counted = sym more.count;
-        follows = omega (arith, more.first, leads, size);
+        follows = omega (arith, is, leads, size);
         earlier = λ t. read_whole segments first batches tail read t;
-        current = one.current;
+        current = here_now x mine found more;
       }
 
   -- the batches that were read, one segment further
   abbrev pub Reads : List SegmentRef → ℕ → List NumberedBatch → Tail → Type 0
   Reads segments first found tail = (batches : List (List Span)) × (found ≡ entries first batches) × LogRead told image segments first batches tail
 
-  pub reads_one : (segments : List SegmentRef) (d : SegmentRef) (found : List NumberedBatch) (last : Segment) → 0 < length segments
-      → ((mine : List (List Span)) × (found ≡ [] ++ entries (get_or segments 0 d).first mine) × SegmentRead told (bytes_of image (get_or segments 0 d).file) (get_or segments 0 d) mine last)
-      → Reads (take 1 segments) (get_or segments 0 d).first found (tail_of last)
-  reads_one segments d found last some read =
-      (read.0, read.1,
-       subst (λ (l : List SegmentRef). LogRead told image l (get_or segments 0 d).first read.0 (tail_of last)) (sym (one_further segments 0 d some ∙ ap (λ (l : List SegmentRef). l ++ get_or segments 0 d ∷ []) (no_more segments)))
-       (read_one (get_or segments 0 d) read.0 last read.2))
+  pub reads_one : (segments : List SegmentRef) (d : SegmentRef) (first : ℕ) (old found : List NumberedBatch) (last : Segment) → 0 < length segments → old ≡ [] → (get_or segments 0 d).first ≡ first
+      → ((mine : List (List Span)) × (found ≡ old ++ entries (get_or segments 0 d).first mine) × SegmentRead told (bytes_of image (get_or segments 0 d).file) (get_or segments 0 d) mine last)
+      → Reads (take 1 segments) first found (tail_of last)
+  reads_one segments d first old found last some none is read =
+      (read.0, read.1 ∙ ap (λ (l : List NumberedBatch). l ++ entries (get_or segments 0 d).first read.0) none ∙ ap (λ (n : ℕ). entries n read.0) is,
+       subst (λ (n : ℕ). LogRead told image (take 1 segments) n read.0 (tail_of last)) is
+       (subst (λ (l : List SegmentRef). LogRead told image l (get_or segments 0 d).first read.0 (tail_of last)) (sym (take_more segments 0 d some)) (read_one (get_or segments 0 d) read.0 last read.2)))
 
   pub reads_on : (segments : List SegmentRef) (n : ℕ) (d : SegmentRef) (first : ℕ) (old found : List NumberedBatch) (tail : Tail) (last : Segment) → n < length segments
       → Reads (take n segments) first old tail → (get_or segments n d).first ≡ tail.first + tail.count
@@ -120,7 +119,7 @@ module _ (told : Type 0) (image : Image) where
       let size = read_size (take n segments) first reads.0 tail reads.2 in
       (reads.0 ++ read.0,
        read.1 ∙ ap (λ (l : List NumberedBatch). l ++ entries x.first read.0) reads.1 ∙ sym (entries-append first reads.0 read.0 ∙ ap (λ (k : ℕ). entries first reads.0 ++ entries k read.0) (sym (leads ∙ size))),
-       subst (λ (l : List SegmentRef). LogRead told image l first (reads.0 ++ read.0) (tail_of last)) (sym (one_further segments n d inside))
+       subst (λ (l : List SegmentRef). LogRead told image l first (reads.0 ++ read.0) (tail_of last)) (sym (take_more segments n d inside))
        (read_on (take n segments) first reads.0 read.0 tail x last reads.2 leads read.2))
 
   -- ---- where a segment breaks
@@ -132,7 +131,7 @@ module _ (told : Type 0) (image : Image) where
     here = get_or segments 0 d;
     behind = drop 1 segments;
     before = [];
-    split = parted segments 0 d some ∙ ap (λ (l : List SegmentRef). l ++ get_or segments 0 d ∷ drop 1 segments) (no_more segments);
+    split = parted segments 0 d some;
     whole = ended;
     leads = omega arith;
     its_file = its;
@@ -180,7 +179,7 @@ pub lie_on : (held : Image) (before after : Image → Type 0) (segments : List S
     → OnlyBytes (get_or segments n d).file (bytes_of held (get_or segments n d).file) after
     → (x : SegmentRef) → Contains (take (n + 1) segments) x → OnlyBytes x.file (bytes_of held x.file) after
 lie_on held before after segments n d inside within lie one x c =
-    elim (Contains-append_cases (take n segments) (get_or segments n d ∷ []) x (subst (λ (l : List SegmentRef). Contains l x) (one_further segments n d inside) c)) [
+    elim (Contains-append_cases (take n segments) (get_or segments n d ∷ []) x (subst (λ (l : List SegmentRef). Contains l x) (take_more segments n d inside) c)) [
       | inl early ↦ λ image left. lie x early image (within image left)
       | inr here ↦ elim (in_cons x (get_or segments n d) [] here) [
         | inl is ↦ subst (λ (s : SegmentRef). OnlyBytes s.file (bytes_of held s.file) after) is one
@@ -214,9 +213,44 @@ read_of t bytes later ref found old items new low same some here is below added 
       holds = λ told. subst (λ (b : List ℕ). SegmentHolds ref.first f.0 found.gate b) (same told) (f.2 told);
     })
 
-pub malformed_as : {X : Type 0} (f a file at : ℕ) (ref : SegmentRef) (bytes later : List ℕ) → later ≡ bytes → Err {X} (NotStore f a) ≡ Err (NotStore file at)
+pub malformed_as : {X : Type 0} (r : Result X OpenError) (f a file at : ℕ) (ref : SegmentRef) (bytes later : List ℕ) → later ≡ bytes → r ≡ Err (NotStore f a) → r ≡ Err (NotStore file at)
     → (f ≡ ref.file) × (segment_at ref.first later ≡ Err a) → (file ≡ ref.file) × (segment_at ref.first bytes ≡ Err at)
-malformed_as f a file at ref bytes later same is (its, breaks) =
+malformed_as r f a file at ref bytes later same is other (its, breaks) =
     let one : f ≡ file = cc in
     let two : a ≡ at = cc in
     (sym one ∙ its, ap (segment_at ref.first) (sym same) ∙ breaks ∙ ap (λ (n : ℕ). Err n) two)
+
+-- what the bytes of a later disk tell of an earlier one
+pub read_before : (told later : Type 0) (bytes bytes' : List ℕ) (ref : SegmentRef) (mine : List (List Span)) (found : Segment) → (told → later) → (told → bytes' ≡ bytes)
+    → SegmentRead later bytes' ref mine found → SegmentRead told bytes ref mine found
+read_before told later bytes bytes' ref mine found known same read = record {
+  file = read.file;
+  first = read.first;
+  count = read.count;
+  few = read.few;
+  holds = λ t. subst (λ (b : List ℕ). SegmentHolds ref.first mine found.gate b) (same t) (read.holds (known t));
+}
+
+-- ---- errors that are handed on
+
+pub passed_on : {X Y : Type 0} (r : Result X OpenError) (own given error : OpenError) → r ≡ Err own → own ≡ given → r ≡ Err error → ◌≡◌ {A = Result Y OpenError} (Err given) (Err error)
+passed_on r own given error is same other = let e : given ≡ error = cc in ap (λ (x : OpenError). Err x) e
+
+pub handed_on : {X Y : Type 0} (r : Result X OpenError) (given error : OpenError) → r ≡ Err given → r ≡ Err error → ◌≡◌ {A = Result Y OpenError} (Err given) (Err error)
+handed_on r given error is other = let e : given ≡ error = cc in ap (λ (x : OpenError). Err x) e
+
+pub breaks_as : {X : Type 0} (r : Result X OpenError) (image : Image) (segments : List SegmentRef) (first f g file at : ℕ) → r ≡ Err (NotStore f g) → r ≡ Err (NotStore file at)
+    → LogBreaks image segments first f g → LogBreaks image segments first file at
+breaks_as r image segments first f g file at is other broken =
+    let one : f ≡ file = cc in
+    let two : g ≡ at = cc in
+    subst (λ (n : ℕ). LogBreaks image segments first n at) one (subst (λ (n : ℕ). LogBreaks image segments first f n) two broken)
+
+-- ---- the first number of a list
+
+pub first_is : (list : ListBody) (segments : List SegmentRef) (d : SegmentRef) → segments ≡ list.segments → 0 < length segments → (get_or segments 0 d).first ≡ first_number list
+first_is list segments d is some = by_segments segments some ∙ ap (λ (l : List SegmentRef). get_or (map (λ (x : SegmentRef). x.first) l) 0 0) is
+  where
+    by_segments : (l : List SegmentRef) → 0 < length l → (get_or l 0 d).first ≡ get_or (map (λ (x : SegmentRef). x.first) l) 0 0
+    by_segments [] some = absurd (omega (arith, some))
+    by_segments (x ∷ xs) some = refl

@@ -66,15 +66,15 @@ one_in_batch n spans x y hx hy e =
 
 pub entry_one : (n : ℕ) (batches : List (List Span)) → OnePlace (entry_rows n batches)
 entry_one n [] = λ x y hx hy e. absurd (not_in_nil x hx)
-entry_one n (b ∷ bs) = λ x y hx hy e. by_case x y e (Contains-append_cases (batch_rows n b) (entry_rows (n + 1) bs) x hx) (Contains-append_cases (batch_rows n b) (entry_rows (n + 1) bs) y hy)
+entry_one n (b ∷ bs) = λ x y hx hy e. by_case (entry_one (n + 1) bs) x y e (Contains-append_cases (batch_rows n b) (entry_rows (n + 1) bs) x hx) (Contains-append_cases (batch_rows n b) (entry_rows (n + 1) bs) y hy)
   where
     apart : (x y : Row) → x.place ≡ y.place → Contains (batch_rows n b) x → Contains (entry_rows (n + 1) bs) y → ⊥
     apart x y e hx hy = let first = number_in n b x hx in let later = (entry_numbers (n + 1) bs y hy).0 in let same = ap (λ p. p.number) e in omega (arith, first, later, same)
-    by_case : (x y : Row) → x.place ≡ y.place → Contains (batch_rows n b) x ⊎ Contains (entry_rows (n + 1) bs) x → Contains (batch_rows n b) y ⊎ Contains (entry_rows (n + 1) bs) y → x ≡ y
-    by_case x y e (inl hx) (inl hy) = one_in_batch n b x y hx hy e
-    by_case x y e (inl hx) (inr hy) = absurd (apart x y e hx hy)
-    by_case x y e (inr hx) (inl hy) = absurd (apart y x (sym e) hy hx)
-    by_case x y e (inr hx) (inr hy) = entry_one (n + 1) bs x y hx hy e
+    by_case : OnePlace (entry_rows (n + 1) bs) → (x y : Row) → x.place ≡ y.place → Contains (batch_rows n b) x ⊎ Contains (entry_rows (n + 1) bs) x → Contains (batch_rows n b) y ⊎ Contains (entry_rows (n + 1) bs) y → x ≡ y
+    by_case later x y e (inl hx) (inl hy) = one_in_batch n b x y hx hy e
+    by_case later x y e (inl hx) (inr hy) = absurd (apart x y e hx hy)
+    by_case later x y e (inr hx) (inl hy) = absurd (apart y x (sym e) hy hx)
+    by_case later x y e (inr hx) (inr hy) = later x y hx hy e
 
 -- the rows of later entries are among those of all
 later_in : (n k : ℕ) (batches : List (List Span)) (x : Row) → Contains (entry_rows (n + k) (drop k batches)) x → Contains (entry_rows n batches) x

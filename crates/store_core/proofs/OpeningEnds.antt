@@ -1,5 +1,5 @@
 -- How an opening ends.
-use Rattle.std.proofs.Common.{◌≡◌, ◌≢◌, ℕ, ◌+◌, ◌≤◌, Bool, true, false, IsTrue, List, [], Some, None, Option, Ok, refl, sym, ◌∙◌, ap, subst, arith}
+use Rattle.std.proofs.Common.{◌≡◌, ◌≢◌, ℕ, ◌+◌, ◌≤◌, Bool, true, false, IsTrue, List, [], Some, None, Option, Result, Ok, Err, IfOk, IfErr, refl, sym, ◌∙◌, ap, subst, arith}
 use Rattle.std.specs.List.{Contains}
 use Rattle.span_types.specs.declared.spans.Span.{Span}
 use Rattle.span_types.specs.declared.spans.Row.{Row}
@@ -58,7 +58,7 @@ empty_history image h none s = by_stores s.rows (count_of h) s.stores s.agrees r
     by_stores rows count (vacant holds no_rows no_count) agrees is = record { no_rows = subst (λ (r : List Row). AgreesOn r h) no_rows agrees; no_entries = is ∙ no_count }
     by_stores rows count (filled body blocks batches st rows_are counts) agrees is = absurd (let bad : None ≡ Some body = one_list image None (Some body) none st.listed in cc)
 
-no_history : History
+abbrev no_history : History
 no_history = record { base = []; start = 0; entries = [] }
 
 no_history_is_empty : IsEmptyHistory no_history
@@ -155,3 +155,13 @@ module _ {D : Type 0} (g : Ghosts D) where
         by_telling : (t : Bool) → g.tells disk ≡ t → (IsTrue (g.tells disk) → IsSoundImage (g.held disk)) → (m : Machine) × CoreStandsFor g core m
         by_telling true e sound = let told : IsTrue (g.tells disk) = e in let s = sound told in (opened_machine list batches moment s.0, stands_for told s.0 s.1)
         by_telling false e sound = (opened_machine list batches moment (from_floor list batches), by_memory (IsTrue (g.tells core.disk)) (λ t. let bad : true ≡ false = sym t ∙ telling_core ∙ e in absurd cc))
+
+-- ---- answers that are handed on
+
+pub if_ok_more : {X E : Type 0} (r : Result X E) (P Q : X → Type 0) → ((x : X) → P x → Q x) → IfOk r P → IfOk r Q
+if_ok_more (Ok x) P Q more p = more x p
+if_ok_more (Err e) P Q more p = tt
+
+pub if_err_more : {X E : Type 0} (r : Result X E) (P Q : E → Type 0) → ((e : E) → P e → Q e) → IfErr r P → IfErr r Q
+if_err_more (Ok x) P Q more p = tt
+if_err_more (Err e) P Q more p = more e p

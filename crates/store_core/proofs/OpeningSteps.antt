@@ -1,5 +1,5 @@
 -- What an opening keeps of its disk, and that it ends settled.
-use Rattle.std.proofs.Common.{◌≡◌, ◌≢◌, ◌⊎◌, inl, inr, ℕ, ◌+◌, ◌-◌, ◌<◌, ◌≤◌, List, [], ◌∷◌, ◌++◌, map, length, drop, get_or, Some, None, Option, Ok, Err, refl, sym, ◌∙◌, ap, subst, arith, length-append}
+use Rattle.std.proofs.Common.{◌≡◌, ◌≢◌, ◌⊎◌, inl, inr, ℕ, ◌+◌, ◌-◌, ◌<◌, ◌≤◌, List, [], ◌∷◌, ◌++◌, map, length, drop, get_or, Some, None, Option, Result, Ok, Err, refl, sym, ◌∙◌, ap, subst, arith, length-append}
 use Rattle.std.specs.List.{Contains}
 use Rattle.std.proofs.lemmas.List.Elements.{Contains-append_left, Contains-append_right}
 use Rattle.span_types.specs.declared.spans.Span.{Span}
@@ -29,6 +29,7 @@ use Rattle.store_images.proofs.Logs.{log_same}
 use Rattle.store_images.proofs.Keeping.{one_list, given_out, segment_named}
 use Rattle.store_core.specs.Loose.{without_loose, OthersStay}
 use Rattle.store_core.specs.LogReading.{LogRead, SegmentBreaks, LogBreaks}
+use Rattle.store_core.specs.declared.error.OpenError.{OpenError}
 use Rattle.store_core.specs.declared.error.OpenError.TheVariants.{NotStore}
 use Rattle.store_core.specs.Opening.{ListBreaks, StoreBreaks}
 use Rattle.store_core.specs.Opening.ListBreaks.{block, log}
@@ -180,13 +181,13 @@ sound_unbroken image h file at s broken = by_stores s.rows (count_of h) s.stores
 
 -- ---- the blocks of a list
 
-pub none_listed : (blocks : List BlockRef) → (0 < length blocks → ⊥) → blocks ≡ []
-none_listed [] none = refl
-none_listed (b ∷ bs) none = absurd (none (omega arith))
+pub block_breaks : {X : Type 0} (r : Result X OpenError) (image : Image) (list : ListBody) (blocks : List BlockRef) (d : BlockRef) (file at : ℕ) → blocks ≡ list.blocks → 0 < length blocks
+    → r ≡ Err (NotStore (get_or blocks 0 d).file 0) → r ≡ Err (NotStore file at) → ListBreaks image list file at
+block_breaks r image list [] d file at its some is other = absurd (omega (arith, some))
+block_breaks r image list (b ∷ bs) d file at its some is other = block b bs (sym its) (let one : b.file ≡ file = cc in sym one) (let two : 0 ≡ at = cc in sym two)
 
-pub block_breaks : {X : Type 0} (image : Image) (list : ListBody) (d : BlockRef) (file at : ℕ) → 0 < length list.blocks → Err {X} (NotStore (get_or list.blocks 0 d).file 0) ≡ Err (NotStore file at) → ListBreaks image list file at
-block_breaks {X} image list d file at some is = by_blocks list.blocks refl some is
-  where
-    by_blocks : (blocks : List BlockRef) → list.blocks ≡ blocks → 0 < length blocks → Err {X} (NotStore (get_or blocks 0 d).file 0) ≡ Err (NotStore file at) → ListBreaks image list file at
-    by_blocks [] e some is = absurd (omega (arith, some))
-    by_blocks (b ∷ bs) e some is = block b bs e (let one : b.file ≡ file = cc in sym one) (let two : 0 ≡ at = cc in sym two)
+pub slot_breaks : (image : Image) (s a file at : ℕ) → slots_at (bytes_of image 0) (bytes_of image 1) ≡ Err (s, a) → NotStore s a ≡ NotStore file at → StoreBreaks image file at
+slot_breaks image s a file at read is =
+    let one : s ≡ file = cc in
+    let two : a ≡ at = cc in
+    slot (read ∙ ap (λ (n : ℕ). Err (n, a)) one ∙ ap (λ (n : ℕ). Err (file, n)) two)

@@ -26,7 +26,7 @@ at_or_above : (a b : ℕ) → a ≤ b → nat_le a b ≡ true
 at_or_above a b le = le-leb a b le
 
 below_it : (a b : ℕ) → b < a → nat_le a b ≡ false
-below_it a b lt = elim (leb_tells a b) [ inl yes ↦ absurd (omega (arith, yes.1, lt)) | inr no' ↦ no'.0 ]
+below_it a b lt = elim (leb_tells a b) [ inl within ↦ absurd (let le = within.1 in omega (arith, le, lt)) | inr over ↦ over.0 ]
 
 -- all batches are above the floor
 all_above : (floor first : ℕ) (all : List (List Span)) → floor ≤ first → rows_above floor (entries first all) ≡ entry_rows first all
@@ -35,26 +35,23 @@ all_above floor first (spans ∷ all) le =
     ap (λ (t : Bool). (if t then batch_rows first spans else []) ++ rows_above floor (entries (first + 1) all)) (at_or_above floor first le)
     ∙ ap (λ (r : List Row). batch_rows first spans ++ r) (all_above floor (first + 1) all (omega (arith, le)))
 
-no_drop : {X : Type 0} (xs : List X) → drop 0 xs ≡ xs
-no_drop [] = refl
-no_drop (x ∷ xs) = refl
-
 pub above_floor : (floor first : ℕ) (all : List (List Span)) → first ≤ floor → rows_above floor (entries first all) ≡ entry_rows floor (drop (floor - first) all)
 above_floor floor first [] le = nothing (floor - first)
   where
     nothing : (n : ℕ) → [] ≡ entry_rows floor (drop n [])
     nothing zero = refl
     nothing (suc n) = refl
-above_floor floor first (spans ∷ all) le = by_gap (floor - first) refl
+above_floor floor first (spans ∷ all) le = by_gap (floor - first) refl (λ low. above_floor floor (first + 1) all low)
   where
-    by_gap : (n : ℕ) → floor - first ≡ n → rows_above floor (entries first (spans ∷ all)) ≡ entry_rows floor (drop n (spans ∷ all))
-    by_gap zero e =
+    by_gap : (n : ℕ) → floor - first ≡ n → (first + 1 ≤ floor → rows_above floor (entries (first + 1) all) ≡ entry_rows floor (drop (floor - (first + 1)) all))
+        → rows_above floor (entries first (spans ∷ all)) ≡ entry_rows floor (drop n (spans ∷ all))
+    by_gap zero e later =
         let is : first ≡ floor = omega (arith, e, le) in
         all_above floor first (spans ∷ all) (omega (arith, is)) ∙ ap (λ (k : ℕ). entry_rows k (spans ∷ all)) is
-    by_gap (suc n) e =
+    by_gap (suc n) e later =
         let rest : floor - (first + 1) ≡ n = omega (arith, e, le) in
         ap (λ (t : Bool). (if t then batch_rows first spans else []) ++ rows_above floor (entries (first + 1) all)) (below_it floor first (omega (arith, e, le)))
-        ∙ above_floor floor (first + 1) all (omega (arith, e, le)) ∙ ap (λ (k : ℕ). entry_rows floor (drop k all)) rest
+        ∙ later (omega (arith, e, le)) ∙ ap (λ (k : ℕ). entry_rows floor (drop k all)) rest
 
 -- ---- as live rows
 

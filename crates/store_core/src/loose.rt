@@ -1,6 +1,6 @@
 //! The files that a list names as loose are emptied, and the list is committed without them.
 
-ghost use Rattle.std.specs.Prelude.{◌≡◌, ◌<◌, ◌≤◌, ℕ, List, [], Some, Err, IsTrue, IfOk, OnOk, length};
+ghost use Rattle.std.specs.Prelude.{◌≡◌, ◌≢◌, ◌≤◌, ℕ, [], Some, Err, IsTrue, IfOk, OnOk};
 ghost use Rattle.std.specs.List.{Contains};
 ghost use Rattle.span_types.specs.Faults.{Rose};
 ghost use Rattle.disk_model.specs.Crash.{OnlyBytes, Run, HasCause};
@@ -10,7 +10,7 @@ ghost use Rattle.block_list.specs.declared.body.ListBody.{ListBody};
 ghost use Rattle.store_images.specs.Stored.{KeepsStored};
 ghost use Rattle.store_core.specs.Loose.{next_without, without_loose, OthersStay};
 ghost use Rattle.store_core.specs.Opening.{KeepsDisk};
-ghost use Rattle.store_core.specs.declared.error.OpenError.TheVariants.{Fault};
+ghost use Rattle.store_core.specs.declared.error.OpenError.TheVariants.{Fault, NotStore};
 
 use crate::error::OpenError;
 use block_list::{FileList, ListBody, commit, prepare};
@@ -38,6 +38,7 @@ pub fn empty_loose<D: Device>(
     ensures telling { D.tells disk.new ≡ D.tells disk.old }
     ensures later { D.faults disk.old ≤ D.faults disk.new }
     ensures fault { result ≡ Err Fault → Rose (D.faults disk.old) (D.faults disk.new) }
+    ensures a_store { (file at : ℕ) → result ≢ Err (NotStore file at) }
 {
     if list.loose.len() == 0 {
         return Ok(list);

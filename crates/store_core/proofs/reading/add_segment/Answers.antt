@@ -1,7 +1,8 @@
-use Rattle.std.proofs.Common.{◌≡◌, ◌≤◌, ℕ, List, IsTrue, refl, sym, ◌∙◌, subst, arith}
+use Rattle.std.proofs.Common.{◌≡◌, ◌++◌, List, IsTrue, sym, ◌∙◌, ap, subst}
 use Rattle.disk_model.specs.Images.{bytes_of}
 use Rattle.disk_model.proofs.Runs.{untouched_call, untouched_then}
-use Rattle.store_core.proofs.LogSteps.{read_of, malformed_as}
+use Rattle.head_log.specs.declared.numbered.NumberedBatch.{NumberedBatch}
+use Rattle.store_core.proofs.LogSteps.{read_of}
 use Rattle.store_core.proofs.reading.add_segment.Goals as goal
 
 pub returns-in-Ok-append-clause-read : goal.returns-in-Ok-append-clause-read
@@ -12,7 +13,8 @@ returns-in-Ok-append-clause-read g c =
     let ref = c.args.segment.now in
     let told_mid : IsTrue (d.tells disk) → IsTrue (d.tells mid) = λ told. subst IsTrue (sym c.sync.ensures.telling) told in
     read_of (d.tells disk) (bytes_of (d.held disk) ref.file) (bytes_of (d.held mid) ref.file) ref c.in-Ok-scan.found _ _ _ c.requires (λ told. c.sync.ensures.same_bytes told ref.file)
-    c.in-Ok-scan.ensures.numbered (λ told. c.in-Ok-scan.ensures.stands (told_mid told)) c.in-Ok-scan.ensures.named c.in-Ok-scan.ensures.below ?
+    c.in-Ok-scan.ensures.numbered (λ told. c.in-Ok-scan.ensures.stands (told_mid told)) c.in-Ok-scan.ensures.named c.in-Ok-scan.ensures.below
+    (c.in-Ok-append.ensures.items ∙ ap (λ (l : List NumberedBatch). c.args.batches.now.items ++ l) c.into_vec-entries.ensures)
 
 pub returns-in-Ok-append-clause-lies : goal.returns-in-Ok-append-clause-lies
 returns-in-Ok-append-clause-lies g c = λ told image left.
