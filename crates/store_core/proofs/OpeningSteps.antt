@@ -16,6 +16,8 @@ use Rattle.block_list.proofs.AgainSlots.{slots_again}
 use Rattle.block_list.specs.declared.body.BlockRef.{BlockRef}
 use Rattle.block_list.specs.declared.body.SegmentRef.{SegmentRef}
 use Rattle.block_list.specs.declared.body.ListBody.{ListBody}
+use Rattle.block_list.specs.declared.error.ListError.{ListError}
+use Rattle.block_list.specs.declared.error.ListError.TheVariants as list_errors
 use Rattle.store_model.specs.History.{History, count_of}
 use Rattle.store_model.specs.State.{Block}
 use Rattle.store_model.specs.Laws.{AgreesOn}
@@ -30,8 +32,8 @@ use Rattle.store_images.proofs.Keeping.{one_list, given_out, segment_named}
 use Rattle.store_core.specs.Loose.{without_loose, OthersStay}
 use Rattle.store_core.specs.LogReading.{LogRead, SegmentBreaks, LogBreaks}
 use Rattle.store_core.specs.declared.error.OpenError.{OpenError}
-use Rattle.store_core.specs.declared.error.OpenError.TheVariants.{NotStore}
-use Rattle.store_core.specs.Opening.{ListBreaks, StoreBreaks}
+use Rattle.store_core.specs.declared.error.OpenError.TheVariants.{NotStore, Fault}
+use Rattle.store_core.specs.Opening.{ListBreaks, StoreBreaks, refusal_of}
 use Rattle.store_core.specs.Opening.ListBreaks.{block, log}
 use Rattle.store_core.specs.Opening.StoreBreaks.{slot, listed}
 use Rattle.store_core.proofs.LogLaws.{one_log, unbroken}
@@ -186,8 +188,12 @@ pub block_breaks : {X : Type 0} (r : Result X OpenError) (image : Image) (list :
 block_breaks r image list [] d file at its some is other = absurd (omega (arith, some))
 block_breaks r image list (b ∷ bs) d file at its some is other = block b bs (sym its) (let one : b.file ≡ file = cc in sym one) (let two : 0 ≡ at = cc in sym two)
 
-pub slot_breaks : (image : Image) (s a file at : ℕ) → slots_at (bytes_of image 0) (bytes_of image 1) ≡ Err (s, a) → NotStore s a ≡ NotStore file at → StoreBreaks image file at
-slot_breaks image s a file at read is =
-    let one : s ≡ file = cc in
-    let two : a ≡ at = cc in
-    slot (read ∙ ap (λ (n : ℕ). Err (n, a)) one ∙ ap (λ (n : ℕ). Err (file, n)) two)
+pub refused_slot : (error : ListError) (file at : ℕ) → refusal_of error ≡ NotStore file at → error ≡ list_errors.NotList file at
+refused_slot list_errors.Fault file at is = absurd cc
+refused_slot (list_errors.NotList s a) file at is = let one : s ≡ file = cc in let two : a ≡ at = cc in ap (λ (n : ℕ). list_errors.NotList n a) one ∙ ap (λ (n : ℕ). list_errors.NotList file n) two
+refused_slot list_errors.Memory file at is = absurd cc
+
+pub refused_fault : (error : ListError) → refusal_of error ≡ Fault → error ≡ list_errors.Fault
+refused_fault list_errors.Fault is = refl
+refused_fault (list_errors.NotList s a) is = absurd cc
+refused_fault list_errors.Memory is = absurd cc

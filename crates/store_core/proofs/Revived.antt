@@ -10,17 +10,13 @@ use Rattle.head_log.specs.declared.numbered.NumberedBatch.{NumberedBatch}
 use Rattle.store_model.specs.History.{batch_rows, entry_rows}
 use Rattle.store_model.specs.State.{LiveRow, live_rows}
 use Rattle.store_model.specs.After.{arrived}
+use Rattle.store_core.specs.Opening.{rows_from}
 
--- the rows of the batches from the floor on
-abbrev pub rows_above : ℕ → List NumberedBatch → List Row
-rows_above floor [] = []
-rows_above floor (e ∷ es) = (if nat_le floor e.number then batch_rows e.number e.batch.spans else []) ++ rows_above floor es
-
-rows_above-append : (floor : ℕ) (xs ys : List NumberedBatch) → rows_above floor (xs ++ ys) ≡ rows_above floor xs ++ rows_above floor ys
-rows_above-append floor [] ys = refl
-rows_above-append floor (e ∷ es) ys =
+rows_from-append : (floor : ℕ) (xs ys : List NumberedBatch) → rows_from floor (xs ++ ys) ≡ rows_from floor xs ++ rows_from floor ys
+rows_from-append floor [] ys = refl
+rows_from-append floor (e ∷ es) ys =
     let own : List Row = if nat_le floor e.number then batch_rows e.number e.batch.spans else [] in
-    ap (λ (r : List Row). own ++ r) (rows_above-append floor es ys) ∙ sym (append_assoc own (rows_above floor es) (rows_above floor ys))
+    ap (λ (r : List Row). own ++ r) (rows_from-append floor es ys) ∙ sym (append_assoc own (rows_from floor es) (rows_from floor ys))
 
 at_or_above : (a b : ℕ) → a ≤ b → nat_le a b ≡ true
 at_or_above a b le = le-leb a b le
@@ -29,13 +25,13 @@ below_it : (a b : ℕ) → b < a → nat_le a b ≡ false
 below_it a b lt = elim (leb_tells a b) [ inl within ↦ absurd (let le = within.1 in omega (arith, le, lt)) | inr over ↦ over.0 ]
 
 -- all batches are above the floor
-all_above : (floor first : ℕ) (all : List (List Span)) → floor ≤ first → rows_above floor (entries first all) ≡ entry_rows first all
+all_above : (floor first : ℕ) (all : List (List Span)) → floor ≤ first → rows_from floor (entries first all) ≡ entry_rows first all
 all_above floor first [] le = refl
 all_above floor first (spans ∷ all) le =
-    ap (λ (t : Bool). (if t then batch_rows first spans else []) ++ rows_above floor (entries (first + 1) all)) (at_or_above floor first le)
+    ap (λ (t : Bool). (if t then batch_rows first spans else []) ++ rows_from floor (entries (first + 1) all)) (at_or_above floor first le)
     ∙ ap (λ (r : List Row). batch_rows first spans ++ r) (all_above floor (first + 1) all (omega (arith, le)))
 
-pub above_floor : (floor first : ℕ) (all : List (List Span)) → first ≤ floor → rows_above floor (entries first all) ≡ entry_rows floor (drop (floor - first) all)
+pub above_floor : (floor first : ℕ) (all : List (List Span)) → first ≤ floor → rows_from floor (entries first all) ≡ entry_rows floor (drop (floor - first) all)
 above_floor floor first [] le = nothing (floor - first)
   where
     nothing : (n : ℕ) → [] ≡ entry_rows floor (drop n [])
@@ -43,14 +39,14 @@ above_floor floor first [] le = nothing (floor - first)
     nothing (suc n) = refl
 above_floor floor first (spans ∷ all) le = by_gap (floor - first) refl (λ low. above_floor floor (first + 1) all low)
   where
-    by_gap : (n : ℕ) → floor - first ≡ n → (first + 1 ≤ floor → rows_above floor (entries (first + 1) all) ≡ entry_rows floor (drop (floor - (first + 1)) all))
-        → rows_above floor (entries first (spans ∷ all)) ≡ entry_rows floor (drop n (spans ∷ all))
+    by_gap : (n : ℕ) → floor - first ≡ n → (first + 1 ≤ floor → rows_from floor (entries (first + 1) all) ≡ entry_rows floor (drop (floor - (first + 1)) all))
+        → rows_from floor (entries first (spans ∷ all)) ≡ entry_rows floor (drop n (spans ∷ all))
     by_gap zero e later =
         let is : first ≡ floor = omega (arith, e, le) in
         all_above floor first (spans ∷ all) (omega (arith, is)) ∙ ap (λ (k : ℕ). entry_rows k (spans ∷ all)) is
     by_gap (suc n) e later =
         let rest : floor - (first + 1) ≡ n = omega (arith, e, le) in
-        ap (λ (t : Bool). (if t then batch_rows first spans else []) ++ rows_above floor (entries (first + 1) all)) (below_it floor first (omega (arith, e, le)))
+        ap (λ (t : Bool). (if t then batch_rows first spans else []) ++ rows_from floor (entries (first + 1) all)) (below_it floor first (omega (arith, e, le)))
         ∙ later (omega (arith, e, le)) ∙ ap (λ (k : ℕ). entry_rows floor (drop k all)) rest
 
 -- ---- as live rows
@@ -64,7 +60,7 @@ live_of_arrived moment (row ∷ rows) = ap (λ (r : List Row). row ∷ r) (live_
 
 -- the live rows once so many batches were put in place
 abbrev pub revived : List LiveRow → ℕ → ℕ → List NumberedBatch → List LiveRow
-revived live moment floor batches = live ++ arrived moment (rows_above floor batches)
+revived live moment floor batches = live ++ arrived moment (rows_from floor batches)
 
 pub none_revived : (live : List LiveRow) (moment floor : ℕ) → live ≡ revived live moment floor []
 none_revived live moment floor = sym (append-nil live)
@@ -73,9 +69,9 @@ step_revived : (live : List LiveRow) (moment floor : ℕ) (batches : List Number
     → (if nat_le floor e.number then batch_rows e.number e.batch.spans else []) ≡ own
     → revived live moment floor batches ++ arrived moment own ≡ revived live moment floor (batches ++ e ∷ [])
 step_revived live moment floor batches e own is =
-    append_assoc live (arrived moment (rows_above floor batches)) (arrived moment own)
-    ∙ ap (λ (l : List LiveRow). live ++ l) (sym (arrived-append moment (rows_above floor batches) own)
-    ∙ ap (arrived moment) (ap (λ (r : List Row). rows_above floor batches ++ r) (sym is ∙ sym (append-nil (if nat_le floor e.number then batch_rows e.number e.batch.spans else []))) ∙ sym (rows_above-append floor batches (e ∷ []))))
+    append_assoc live (arrived moment (rows_from floor batches)) (arrived moment own)
+    ∙ ap (λ (l : List LiveRow). live ++ l) (sym (arrived-append moment (rows_from floor batches) own)
+    ∙ ap (arrived moment) (ap (λ (r : List Row). rows_from floor batches ++ r) (sym is ∙ sym (append-nil (if nat_le floor e.number then batch_rows e.number e.batch.spans else []))) ∙ sym (rows_from-append floor batches (e ∷ []))))
 
 pub revived_more : (live now after : List LiveRow) (moment floor : ℕ) (batches : List NumberedBatch) (e : NumberedBatch) → floor ≤ e.number → now ≡ revived live moment floor batches
     → after ≡ now ++ arrived moment (batch_rows e.number e.batch.spans) → after ≡ revived live moment floor (batches ++ e ∷ [])
@@ -87,9 +83,3 @@ pub revived_past : (live now : List LiveRow) (moment floor : ℕ) (batches : Lis
     → now ≡ revived live moment floor (batches ++ e ∷ [])
 revived_past live now moment floor batches e lt is =
     is ∙ sym (append-nil (revived live moment floor batches)) ∙ step_revived live moment floor batches e [] (ap (λ (t : Bool). if t then batch_rows e.number e.batch.spans else []) (below_it floor e.number lt))
-
--- where all batches were put in place
-pub all_revived : (live now : List LiveRow) (moment floor first : ℕ) (batches : List NumberedBatch) (all : List (List Span)) → batches ≡ entries first all → first ≤ floor → now ≡ revived live moment floor batches
-    → now ≡ live ++ arrived moment (entry_rows floor (drop (floor - first) all))
-all_revived live now moment floor first batches all are low is =
-    is ∙ ap (λ (b : List NumberedBatch). revived live moment floor b) are ∙ ap (λ (r : List Row). live ++ arrived moment r) (above_floor floor first all low)

@@ -1,14 +1,18 @@
 -- What opening a store makes of its disk, what the core then stands for, and where bytes aren't a store's.
-use Rattle.std.specs.Prelude.{◌≡◌, ℕ, ◌+◌, ◌-◌, ◌≤◌, List, [], ◌∷◌, map, drop, Some, None, Ok, Err, IsTrue}
+use Rattle.std.specs.Prelude.{◌≡◌, ℕ, ◌+◌, ◌-◌, ◌≤◌, List, [], ◌∷◌, ◌++◌, map, drop, nat_le, if◌then◌else◌, Some, None, Ok, Err, IsTrue}
 use Rattle.span_types.specs.declared.spans.Span.{Span}
+use Rattle.span_types.specs.declared.spans.Row.{Row}
 use Rattle.disk_model.specs.Images.{Image, bytes_of}
 use Rattle.disk_model.specs.Crash.{Run}
 use Rattle.disk_model.specs.declared.disk.Device.{Ghosts}
+use Rattle.head_log.specs.declared.numbered.NumberedBatch.{NumberedBatch}
 use Rattle.block_list.specs.Reading.{slots_at}
 use Rattle.block_list.specs.Slots.{ImageHoldsList}
 use Rattle.block_list.specs.declared.body.BlockRef.{BlockRef}
 use Rattle.block_list.specs.declared.body.ListBody.{ListBody}
-use Rattle.store_model.specs.History.{History, entry_rows}
+use Rattle.block_list.specs.declared.error.ListError.{ListError}
+use Rattle.block_list.specs.declared.error.ListError.TheVariants as list_errors
+use Rattle.store_model.specs.History.{History, batch_rows, entry_rows}
 use Rattle.store_model.specs.State.{State}
 use Rattle.store_model.specs.After.{arrived}
 use Rattle.store_model.specs.Step.{Machine}
@@ -18,6 +22,8 @@ use Rattle.store_core.specs.Cores.{StandsFor, CoreStandsFor, segment_of, unsure_
 use Rattle.store_core.specs.LogReading.{LogBreaks}
 use Rattle.store_core.specs.Loose.{without_loose}
 use Rattle.store_core.specs.NewCore.{new_machine}
+use Rattle.store_core.specs.declared.error.OpenError.{OpenError}
+use Rattle.store_core.specs.declared.error.OpenError.TheVariants as errors
 use Rattle.store_core.specs.declared.state.CoreState.{CoreState}
 use Rattle.store_core.specs.declared.store.Core.{Core}
 
@@ -26,6 +32,11 @@ abbrev pub KeepsDisk : {D : Type 0} (g : Ghosts D) → D → D → Type 0
 KeepsDisk g disk later = IsTrue (g.tells disk) → Run KeepsStored g.moment g.left_since g.may_leave disk later
 
 -- ---- what the core stands for
+
+-- the rows of the batches whose numbers are at least the floor
+abbrev pub rows_from : ℕ → List NumberedBatch → List Row
+rows_from floor [] = []
+rows_from floor (e ∷ es) = (if nat_le floor e.number then batch_rows e.number e.batch.spans else []) ++ rows_from floor es
 
 -- The store's state after a list without blocks and the batches of its log were read: the rows from the floor on wait, with the
 -- moment of the opening. No file is loose, and no job or pin is open.
@@ -74,6 +85,12 @@ pub record IsOpenedState (list : ListBody) (batches : List (List Span)) (moment 
   pub sure : unsure_of state ≡ None
 
 -- ---- where bytes aren't a store's
+
+-- what is said of slots that were refused
+abbrev pub refusal_of : ListError → OpenError
+refusal_of list_errors.Fault = errors.Fault
+refusal_of (list_errors.NotList slot at) = errors.NotStore slot at
+refusal_of list_errors.Memory = errors.Memory
 
 -- What the list names breaks first at this place of this file: at the first of its blocks, or else in its log. (No block is read
 -- yet, so that each breaks at its first byte.)

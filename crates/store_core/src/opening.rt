@@ -15,7 +15,7 @@ ghost use Rattle.store_images.specs.Stored.{ImageStandsFor, IsSoundImage, first_
 ghost use Rattle.store_images.specs.Settled.{IsSettled};
 ghost use Rattle.store_core.specs.Cores.{tail_of};
 ghost use Rattle.store_core.specs.LogReading.{LogRead};
-ghost use Rattle.store_core.specs.Opening.{KeepsDisk, Opened, opened_state, IsOpenedState, ListBreaks, StoreBreaks};
+ghost use Rattle.store_core.specs.Opening.{KeepsDisk, Opened, opened_state, IsOpenedState, ListBreaks, StoreBreaks, refusal_of};
 ghost use Rattle.store_core.specs.declared.error.OpenError.TheVariants.{Fault, NotStore};
 
 use crate::error::OpenError;
@@ -54,16 +54,28 @@ impl<D: Device> Core<D> {
         ensures fault { IfErr result (λ e. e.0 ≡ Fault → Rose (D.faults disk) (D.faults e.1)) }
     {
         let mut disk = disk;
-        match load(alloc, &mut disk) {
-            Ok(None) => open_new(alloc, disk),
-            Ok(Some(list)) => match read_store(alloc, &mut disk, list, moment) {
+        let found = match load(alloc, &mut disk) {
+            Ok(found) => found,
+            Err(error) => return Err((refusal(error), disk)),
+        };
+        match found {
+            None => open_new(alloc, disk),
+            Some(list) => match read_store(alloc, &mut disk, list, moment) {
                 Ok(state) => Ok(Core { alloc, disk, state }),
                 Err(error) => Err((error, disk)),
             },
-            Err(ListError::Fault) => Err((OpenError::Fault, disk)),
-            Err(ListError::NotList { slot, at }) => Err((OpenError::NotStore { file: slot, at }, disk)),
-            Err(ListError::Memory) => Err((OpenError::Memory, disk)),
         }
+    }
+}
+
+// Why a store isn't opened whose list wasn't loaded.
+fn refusal(error: ListError) -> OpenError
+    ensures { result ≡ refusal_of error }
+{
+    match error {
+        ListError::Fault => OpenError::Fault,
+        ListError::NotList { slot, at } => OpenError::NotStore { file: slot, at },
+        ListError::Memory => OpenError::Memory,
     }
 }
 

@@ -1,10 +1,8 @@
 //! Batches of the log are put in place again.
 
-ghost use Rattle.std.specs.Prelude.{◌≡◌, ◌≤◌, ◌-◌, ◌++◌, ℕ, List, drop, OnOk};
-ghost use Rattle.span_types.specs.declared.spans.Span.{Span};
-ghost use Rattle.head_log.specs.Entries.{entries};
-ghost use Rattle.store_model.specs.History.{entry_rows};
+ghost use Rattle.std.specs.Prelude.{◌≡◌, ◌++◌, OnOk};
 ghost use Rattle.store_model.specs.After.{arrived};
+ghost use Rattle.store_core.specs.Opening.{rows_from};
 
 use head_log::NumberedBatch;
 use live_traces::Live;
@@ -17,8 +15,7 @@ pub(crate) fn revive(
     floor: u64,
     moment: u64,
 ) -> Result<(), Memory>
-    ensures added { (first : ℕ) (all : List (List Span)) → batches.items ≡ entries first all → first ≤ floor
-        → OnOk result (live.new.live ≡ live.old.live ++ arrived moment (entry_rows floor (drop (floor - first) all))) }
+    ensures added { OnOk result (live.new.live ≡ live.old.live ++ arrived moment (rows_from floor batches.items)) }
     ensures same { (live.new.head ≡ live.old.head) × (live.new.flushing ≡ live.old.flushing) }
 {
     for entry in batches {

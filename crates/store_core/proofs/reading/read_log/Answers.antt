@@ -1,4 +1,4 @@
-use Rattle.std.proofs.Common.{◌≡◌, ◌<◌, ◌≤◌, ◌+◌, ℕ, IsTrue, List, length, take, take_all, refl, sym, ◌∙◌, ap, subst, arith}
+use Rattle.std.proofs.Common.{◌≡◌, ◌<◌, ◌≤◌, ◌+◌, ℕ, IsTrue, List, length, take, take_all, get_or, refl, sym, ◌∙◌, ap, subst, arith}
 use Rattle.std.specs.List.{Contains}
 use Rattle.std.proofs.lemmas.Result.{err_from_is_err_and}
 use Rattle.disk_model.specs.Images.{bytes_of}
@@ -95,7 +95,7 @@ returns-in_err-last-2-clause-not_store g c = λ told file at is.
     let m = c.in_err-last-2.ensures.malformed told_mid file at (passed_on c.from_residual-in_err-last-2.result p.0 c.in_err-last-2.field-0.0 (NotStore file at) p.1 p.2 is) in
     subst (λ (l : List SegmentRef). LogBreaks held l (first_number c.args.list.now) file at) c.as_slice-segments.ensures
     (later_breaks (IsTrue (d.tells c.args.disk.now)) held segments n (record { file = 0; first = 0 }) (first_number c.args.list.now) read.0 (tail_of c.loop-at.last) file at inside told read.2
-    (omega (arith, c.if-segment-last.false)) m.0 (ap (λ (b : List ℕ). segment_at _ b) (sym (untouched.same_bytes told _)) ∙ m.1))
+    (omega (arith, c.if-segment-last.false)) m.0 (ap (λ (b : List ℕ). segment_at (get_or segments n (record { file = 0; first = 0 })).first b) (sym (untouched.same_bytes told (get_or segments n (record { file = 0; first = 0 })).file)) ∙ m.1))
 
 pub returns-clause-lies : goal.returns-clause-lies
 returns-clause-lies g c = λ told x inside.

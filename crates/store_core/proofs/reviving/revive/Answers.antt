@@ -1,9 +1,9 @@
-use Rattle.std.proofs.Common.{◌≡◌, ◌≤◌, ◌<◌, ◌++◌, ℕ, List, refl, sym, ◌∙◌, ap, arith}
+use Rattle.std.proofs.Common.{◌++◌, ℕ, List, refl, ◌∙◌, ap, arith}
 use Rattle.span_types.specs.declared.spans.Span.{Span}
 use Rattle.store_model.specs.History.{batch_rows}
 use Rattle.store_model.specs.State.{LiveRow}
 use Rattle.store_model.specs.After.{arrived}
-use Rattle.store_core.proofs.Revived.{none_revived, revived_more, revived_past, all_revived}
+use Rattle.store_core.proofs.Revived.{none_revived, revived_more, revived_past}
 use Rattle.store_core.proofs.reviving.revive.Goals as goal
 
 pub loop-entry-init : goal.loop-entry-init
@@ -35,9 +35,6 @@ loop-entry-preserved c = record {
 
 pub returns-in_default-clause-same : goal.returns-in_default-clause-same
 returns-in_default-clause-same c = (c.reserve.ensures.same.1 ∙ c.loop-entry.invariant.head, c.reserve.ensures.same.2 ∙ c.loop-entry.invariant.flushing)
-
-pub returns-clause-added : goal.returns-clause-added
-returns-clause-added c = ?
 
 pub returns-clause-same : goal.returns-clause-same
 returns-clause-same c = (c.loop-entry.invariant.head, c.loop-entry.invariant.flushing)
