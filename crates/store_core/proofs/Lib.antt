@@ -10,3 +10,10 @@ mod PushEvents
 mod Past
 mod LookEvents
 mod PortEvents
+pub mod LogSteps
+mod LooseFiles
+mod Revived
+mod LogLaws
+mod OpenedStates
+mod OpeningSteps
+mod OpeningEnds

@@ -4,5 +4,7 @@ pub mod Events
 pub mod Past
 pub mod New
 pub mod NewCore
+pub mod LogReading
+pub mod Loose
 pub mod Opening
 pub mod Port

@@ -1,20 +1,104 @@
--- What opening a store makes of its disk, and what the core then stands for.
-use Rattle.std.specs.Prelude.{◌≡◌, IsTrue}
+-- What opening a store makes of its disk, what the core then stands for, and where bytes aren't a store's.
+use Rattle.std.specs.Prelude.{◌≡◌, ℕ, ◌+◌, ◌-◌, ◌≤◌, List, [], ◌∷◌, ◌++◌, map, drop, nat_le, if◌then◌else◌, Some, None, Ok, Err, IsTrue}
+use Rattle.span_types.specs.declared.spans.Span.{Span}
+use Rattle.span_types.specs.declared.spans.Row.{Row}
+use Rattle.disk_model.specs.Images.{Image, bytes_of}
 use Rattle.disk_model.specs.Crash.{Run}
 use Rattle.disk_model.specs.declared.disk.Device.{Ghosts}
-use Rattle.store_model.specs.History.{History}
+use Rattle.head_log.specs.declared.numbered.NumberedBatch.{NumberedBatch}
+use Rattle.block_list.specs.Reading.{slots_at}
+use Rattle.block_list.specs.Slots.{ImageHoldsList}
+use Rattle.block_list.specs.declared.body.BlockRef.{BlockRef}
+use Rattle.block_list.specs.declared.body.ListBody.{ListBody}
+use Rattle.block_list.specs.declared.error.ListError.{ListError}
+use Rattle.block_list.specs.declared.error.ListError.TheVariants as list_errors
+use Rattle.store_model.specs.History.{History, batch_rows, entry_rows}
+use Rattle.store_model.specs.State.{State}
+use Rattle.store_model.specs.After.{arrived}
 use Rattle.store_model.specs.Step.{Machine}
-use Rattle.store_images.specs.Stored.{ImageStandsFor, KeepsStored}
-use Rattle.store_core.specs.Cores.{CoreStandsFor}
+use Rattle.store_images.specs.Log.{LogHolds}
+use Rattle.store_images.specs.Stored.{ImageStandsFor, IsSoundImage, KeepsStored, first_number}
+use Rattle.store_core.specs.Cores.{StandsFor, CoreStandsFor, segment_of, unsure_of}
+use Rattle.store_core.specs.LogReading.{LogBreaks}
+use Rattle.store_core.specs.Loose.{without_loose}
+use Rattle.store_core.specs.NewCore.{new_machine}
+use Rattle.store_core.specs.declared.error.OpenError.{OpenError}
+use Rattle.store_core.specs.declared.error.OpenError.TheVariants as errors
+use Rattle.store_core.specs.declared.state.CoreState.{CoreState}
 use Rattle.store_core.specs.declared.store.Core.{Core}
 
 -- An opening, refused or not: whenever a crash comes, the image stands for what some image stood for before.
 abbrev pub KeepsDisk : {D : Type 0} (g : Ghosts D) → D → D → Type 0
 KeepsDisk g disk later = IsTrue (g.tells disk) → Run KeepsStored g.moment g.left_since g.may_leave disk later
 
--- The core stands for each history that the bytes stood for which the disk held, and for some machine in any case.
-pub record Opened {D : Type 0} (g : Ghosts D) (disk : D) (core : Core D) : Type 0 where
+-- ---- what the core stands for
+
+-- the rows of the batches whose numbers are at least the floor
+abbrev pub rows_from : ℕ → List NumberedBatch → List Row
+rows_from floor [] = []
+rows_from floor (e ∷ es) = (if nat_le floor e.number then batch_rows e.number e.batch.spans else []) ++ rows_from floor es
+
+-- The store's state after a list without blocks and the batches of its log were read: the rows from the floor on wait, with the
+-- moment of the opening. No file is loose, and no job or pin is open.
+abbrev pub opened_state : ListBody → List (List Span) → ℕ → State
+opened_state list batches moment = record {
+  live = arrived moment (entry_rows list.floor (drop (list.floor - first_number list) batches));
+  head = [];
+  flush = None;
+  compaction = None;
+  blocks = [];
+  segments = map segment_of list.segments;
+  floor = list.floor;
+  loose = [];
+  pins = [];
+  next_file = list.next_file;
+  begun = 0;
+}
+
+-- That is the state in which a store begins that was opened on these bytes, or that of a new store.
+pub record BeginsAs (image : Image) (moment : ℕ) (m : Machine) : Type 0 where
+  pub new : ImageHoldsList image None → m.state ≡ (new_machine m.history).state
+  pub found : (list : ListBody) (batches : List (List Span)) → ImageHoldsList image (Some list)
+      → LogHolds image list.segments (first_number list) batches → m.state ≡ opened_state list batches moment
+  pub writes : m.read_only ≡ None
+
+-- A core that was opened on a disk.
+pub record Opened {D : Type 0} (g : Ghosts D) (disk : D) (moment : ℕ) (core : Core D) : Type 0 where
+  -- it stands for each history that the bytes stood for which the disk held
   pub stands : IsTrue (g.tells disk) → (h : History) → ImageStandsFor (g.held disk) h
-      → (m : Machine) × CoreStandsFor g core m × (m.history ≡ h)
-  pub some : (m : Machine) × CoreStandsFor g core m
-  pub kept : KeepsDisk g disk core.disk
+      → (m : Machine) × CoreStandsFor g core m × (m.history ≡ h) × BeginsAs (g.held disk) moment m
+  -- and for some machine, where those bytes are sound or the disk doesn't tell them
+  pub some : (IsTrue (g.tells disk) → IsSoundImage (g.held disk)) → (m : Machine) × CoreStandsFor g core m
+  -- its memory in any case shows some machine
+  pub shows : (m : Machine) × StandsFor ⊥ (g.held core.disk) (g.may_leave core.disk) core.state m
+
+-- What its memory has then.
+pub record IsOpenedState (list : ListBody) (batches : List (List Span)) (moment : ℕ) (state : CoreState) : Type 0 where
+  pub listing : state.list ≡ without_loose list
+  pub live : state.live.live ≡ (opened_state list batches moment).live
+  pub head : state.live.head ≡ []
+  pub flushing : state.live.flushing ≡ []
+  pub infos : state.infos ≡ []
+  pub pins : state.pins.items ≡ []
+  pub few : state.segment.first + state.segment.count ≤ 4294967295
+  pub writes : state.read_only ≡ None
+  pub sure : unsure_of state ≡ None
+
+-- ---- where bytes aren't a store's
+
+-- what is said of slots that were refused
+abbrev pub refusal_of : ListError → OpenError
+refusal_of list_errors.Fault = errors.Fault
+refusal_of (list_errors.NotList slot at) = errors.NotStore slot at
+refusal_of list_errors.Memory = errors.Memory
+
+-- What the list names breaks first at this place of this file: at the first of its blocks, or else in its log. (No block is read
+-- yet, so that each breaks at its first byte.)
+pub data ListBreaks (image : Image) (list : ListBody) (file at : ℕ) : Type 0 where
+  block : (first : BlockRef) (blocks : List BlockRef) → list.blocks ≡ first ∷ blocks → file ≡ first.file → at ≡ 0 → ListBreaks image list file at
+  log : list.blocks ≡ [] → LogBreaks image list.segments (first_number list) file at → ListBreaks image list file at
+
+-- The bytes break first at this place of this file: in a slot, or else in what the list names.
+pub data StoreBreaks (image : Image) (file at : ℕ) : Type 0 where
+  slot : slots_at (bytes_of image 0) (bytes_of image 1) ≡ Err (file, at) → StoreBreaks image file at
+  listed : (list : ListBody) → slots_at (bytes_of image 0) (bytes_of image 1) ≡ Ok (Some list) → ListBreaks image list file at → StoreBreaks image file at

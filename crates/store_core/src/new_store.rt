@@ -1,6 +1,6 @@
 //! A new store is made on a disk that has none.
 
-ghost use Rattle.std.specs.Prelude.{◌≡◌, ◌⊎◌, ◌≤◌, None, Err, IsTrue, IfOk, IfErr, OnOk};
+ghost use Rattle.std.specs.Prelude.{◌≡◌, ◌≢◌, ◌≤◌, ℕ, None, Err, IsTrue, IfOk, IfErr, OnOk};
 ghost use Rattle.span_types.specs.Faults.{Rose};
 ghost use Rattle.disk_model.specs.Crash.{LeavesOnly};
 ghost use Rattle.block_list.specs.Loading.{IsReady};
@@ -8,8 +8,7 @@ ghost use Rattle.store_model.specs.History.{History};
 ghost use Rattle.store_core.specs.New.{new_list, IsEmptyHistory, StoresNothing, IsNewStore};
 ghost use Rattle.store_core.specs.NewCore.{new_machine, IsNewState};
 ghost use Rattle.store_core.specs.Cores.{CoreStandsFor};
-ghost use Rattle.store_core.specs.declared.error.OpenError.TheVariants.{Fault};
-ghost use Rattle.store_core.specs.declared.error.OpenError.TheVariants as why;
+ghost use Rattle.store_core.specs.declared.error.OpenError.TheVariants.{Fault, NotStore};
 
 use crate::error::OpenError;
 use crate::state::CoreState;
@@ -38,7 +37,7 @@ pub fn open_new<D: Device>(alloc: Global, disk: D) -> Result<Core<D>, (OpenError
     ensures later { IfOk result (λ core. D.faults disk ≤ D.faults core.disk) }
     ensures later_refused { IfErr result (λ e. D.faults disk ≤ D.faults e.1) }
     ensures fault { IfErr result (λ e. e.0 ≡ Fault → Rose (D.faults disk) (D.faults e.1)) }
-    ensures no_other { IfErr result (λ e. (e.0 ≡ Fault) ⊎ (e.0 ≡ why.Memory)) }
+    ensures a_store { IfErr result (λ e. (file at : ℕ) → e.0 ≢ NotStore file at) }
 {
     let mut disk = disk;
     match make_store(alloc, &mut disk) {
@@ -78,7 +77,7 @@ pub fn make_store<D: Device>(alloc: Global, disk: &mut D) -> Result<ListBody, Op
     ensures telling { D.tells disk.new ≡ D.tells disk.old }
     ensures later { D.faults disk.old ≤ D.faults disk.new }
     ensures fault { result ≡ Err Fault → Rose (D.faults disk.old) (D.faults disk.new) }
-    ensures no_other { IfErr result (λ e. (e ≡ Fault) ⊎ (e ≡ why.Memory)) }
+    ensures a_store { (file at : ℕ) → result ≢ Err (NotStore file at) }
     ensures no_read { D.reads disk.new ≡ D.reads disk.old }
 {
     let Ok(list) = first_list(alloc) else {

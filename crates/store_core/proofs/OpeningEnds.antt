@@ -1,0 +1,167 @@
+-- How an opening ends.
+use Rattle.std.proofs.Common.{◌≡◌, ◌≢◌, ℕ, ◌+◌, ◌≤◌, Bool, true, false, IsTrue, List, [], Some, None, Option, Result, Ok, Err, IfOk, IfErr, refl, sym, ◌∙◌, ap, subst, arith}
+use Rattle.std.specs.List.{Contains}
+use Rattle.span_types.specs.declared.spans.Span.{Span}
+use Rattle.span_types.specs.declared.spans.Row.{Row}
+use Rattle.disk_model.specs.Images.{Image, bytes_of}
+use Rattle.disk_model.specs.Crash.{OnlyBytes, Within, LeavesOnly, Reached, Run}
+use Rattle.disk_model.specs.declared.disk.Device.{Ghosts}
+use Rattle.disk_model.proofs.Runs.{run_more, run_on}
+use Rattle.disk_model.proofs.Moments.{widened}
+use Rattle.block_list.specs.Body.{MeetsRules}
+use Rattle.block_list.specs.Slots.{ImageHoldsList}
+use Rattle.block_list.specs.Loading.{KeepsList, IsReady}
+use Rattle.block_list.proofs.SlotLemmas.{same_some}
+use Rattle.block_list.specs.declared.body.SegmentRef.{SegmentRef}
+use Rattle.block_list.specs.declared.body.ListBody.{ListBody}
+use Rattle.store_model.specs.History.{History, count_of}
+use Rattle.store_model.specs.State.{State}
+use Rattle.store_model.specs.Laws.{AgreesOn}
+use Rattle.store_model.specs.Step.{Machine}
+use Rattle.store_images.specs.Log.{LogHolds}
+use Rattle.store_images.specs.Stored.{ImageStores, ImageStandsFor, IsSoundImage, KeepsStored, first_number}
+use Rattle.store_images.specs.Stored.ImageStores.{vacant, filled}
+use Rattle.store_images.specs.Settled.{Tail, IsSettled}
+use Rattle.store_images.proofs.Lists.{not_in_nil}
+use Rattle.store_images.proofs.Logs.{log_same}
+use Rattle.store_images.proofs.Keeping.{one_list, loaded, keeps_then}
+use Rattle.store_core.specs.declared.state.CoreState.{CoreState}
+use Rattle.store_core.specs.declared.store.Core.{Core}
+use Rattle.store_core.specs.Cores.{StandsFor, CoreStandsFor, tail_of}
+use Rattle.store_core.specs.LogReading.{LogRead}
+use Rattle.store_core.specs.New.{IsEmptyHistory, StoresNothing}
+use Rattle.store_core.specs.NewCore.{new_machine}
+use Rattle.store_core.specs.Opening.{KeepsDisk, opened_state, BeginsAs, Opened, IsOpenedState}
+use Rattle.store_core.proofs.Founding.{nothing_keeps}
+use Rattle.store_core.proofs.LogLaws.{one_log}
+use Rattle.store_core.proofs.LogSteps.{read_whole}
+use Rattle.store_core.proofs.LooseFiles.{stands_moved, used_low}
+use Rattle.store_core.proofs.OpenedStates.{opened_machine, opened_stands, from_floor, from_floor_counts, agrees_from_floor, agrees_waiting}
+use Rattle.store_core.proofs.OpeningSteps.{IsFound, found, segment_low}
+
+-- the same, where the disk may tell less
+pub tells_less : (told told' : Type 0) (held : Image) (may_leave : Image → Type 0) (core : CoreState) (m : Machine) → (told' → told) → StandsFor told held may_leave core m → StandsFor told' held may_leave core m
+tells_less told told' held may_leave core m known s = record {
+  has = s.has;
+  agrees = s.agrees;
+  sound = s.sound;
+  above = s.above;
+  now = λ t image left. s.now (known t) image left;
+  settled = λ t writes. s.settled (known t) writes;
+  sure = s.sure;
+}
+
+empty_history : (image : Image) (h : History) → ImageHoldsList image None → ImageStandsFor image h → IsEmptyHistory h
+empty_history image h none s = by_stores s.rows (count_of h) s.stores s.agrees refl
+  where
+    by_stores : (rows : List Row) (count : ℕ) → ImageStores image rows count → AgreesOn rows h → count_of h ≡ count → IsEmptyHistory h
+    by_stores rows count (vacant holds no_rows no_count) agrees is = record { no_rows = subst (λ (r : List Row). AgreesOn r h) no_rows agrees; no_entries = is ∙ no_count }
+    by_stores rows count (filled body blocks batches st rows_are counts) agrees is = absurd (let bad : None ≡ Some body = one_list image None (Some body) none st.listed in cc)
+
+abbrev no_history : History
+no_history = record { base = []; start = 0; entries = [] }
+
+no_history_is_empty : IsEmptyHistory no_history
+no_history_is_empty = record {
+  no_rows = record {
+    firsts = λ k. refl;
+    one = λ x y hx hy e. absurd (not_in_nil x hx);
+    below = λ x c. absurd (not_in_nil x c);
+  };
+  no_entries = refl;
+}
+
+module _ {D : Type 0} (g : Ghosts D) where
+  -- the list was loaded
+  pub kept_loaded : (old mid : D) → (IsTrue (g.tells old) → Run KeepsList g.moment g.left_since g.may_leave old mid) → KeepsDisk g old mid
+  kept_loaded old mid run = λ told. run_more g.moment g.left_since g.may_leave KeepsList KeepsStored old mid (run told) (λ origin image possible keeps. loaded origin image keeps)
+
+  pub kept_then : (old mid new : D) → g.tells mid ≡ g.tells old → KeepsDisk g old mid → KeepsDisk g mid new → KeepsDisk g old new
+  kept_then old mid new telling first second = λ told.
+      run_on g.moment g.left_since g.may_leave KeepsStored old mid new keeps_then (first told) (second (subst IsTrue (sym telling) told))
+
+  -- a new store was made
+  module _ (counts_now : (disk : D) (start : ℕ) (image : Image) → start ≤ g.moment disk → g.may_leave disk image → g.left_since disk start image)
+      (held_may_stay : (disk : D) → IsTrue (g.tells disk) → g.may_leave disk (g.held disk)) where
+    pub kept_new : (mid new : D) → (IsTrue (g.tells mid) → IsReady (g.held mid) (g.may_leave mid) None) → (IsTrue (g.tells mid) → LeavesOnly g.moment g.left_since mid new StoresNothing) → KeepsDisk g mid new
+    kept_new mid new ready run = λ told.
+        let back : (image : Image) → StoresNothing image → Reached KeepsStored (g.may_leave mid) image =
+        λ image nothing. (g.held mid, held_may_stay mid told, nothing_keeps (g.held mid) image (ready told).stands nothing) in
+        let all = run told in
+        record {
+          since = widened g.moment g.left_since mid new StoresNothing (Reached KeepsStored (g.may_leave mid)) all back;
+          now = λ image left. back image (all.each image (counts_now new (g.moment mid) image all.later left));
+        }
+
+  pub opened_new : (disk : D) (moment : ℕ) (core : Core D) → (IsTrue (g.tells disk) → ImageHoldsList (g.held disk) None) → ((h : History) → IsEmptyHistory h → CoreStandsFor g core (new_machine h))
+      → Opened g disk moment core
+  opened_new disk moment core none stands = record {
+    stands = λ told h s. (new_machine h, stands h (empty_history (g.held disk) h (none told) s), refl, record {
+      new = λ vacant. refl;
+      found = λ list batches there logged. absurd (let bad : None ≡ Some list = one_list (g.held disk) None (Some list) (none told) there in cc);
+      writes = refl;
+    });
+    some = λ sound. (new_machine no_history, stands no_history no_history_is_empty);
+    shows = (new_machine no_history, tells_less _ ⊥ (g.held core.disk) (g.may_leave core.disk) core.state (new_machine no_history) (λ bad. absurd bad) (stands no_history no_history_is_empty));
+  }
+
+  -- a store was read: `mid` is the disk once its list was loaded
+  module _ (disk mid : D) (moment : ℕ) (core : Core D) (list : ListBody) (rules : MeetsRules list) (none : list.blocks ≡ []) (batches : List (List Span))
+      (telling : g.tells mid ≡ g.tells disk) (telling_core : g.tells core.disk ≡ g.tells disk)
+      (there : IsTrue (g.tells disk) → ImageHoldsList (g.held disk) (Some list)) (there_mid : IsTrue (g.tells disk) → ImageHoldsList (g.held mid) (Some list))
+      (same : IsTrue (g.tells disk) → (file : ℕ) → 2 ≤ file → bytes_of (g.held mid) file ≡ bytes_of (g.held disk) file)
+      (state : IsOpenedState list batches moment core.state)
+      (read : LogRead (IsTrue (g.tells mid)) (g.held mid) list.segments (first_number list) batches (tail_of core.state.segment))
+      (settled : IsTrue (g.tells mid) → (h : History) → ImageStandsFor (g.held mid) h → IsSettled (g.held core.disk) (g.may_leave core.disk) core.state.list [] (tail_of core.state.segment) h) where
+    told_mid : IsTrue (g.tells disk) → IsTrue (g.tells mid)
+    told_mid told = subst IsTrue (sym telling) told
+
+    -- what the log stands for in the bytes that were handed in
+    pub logged_before : IsTrue (g.tells disk) → LogHolds (g.held disk) list.segments (first_number list) batches
+    logged_before told = log_same (g.held mid) (g.held disk) list.segments (first_number list) batches (λ x c. sym (same told x.file (segment_low list rules x c)))
+        (read_whole (IsTrue (g.tells mid)) (g.held mid) list.segments (first_number list) batches (tail_of core.state.segment) read (told_mid told))
+
+    stands_mid : IsTrue (g.tells disk) → (h : History) → ImageStandsFor (g.held disk) h → ImageStandsFor (g.held mid) h
+    stands_mid told h s = stands_moved (g.held disk) (g.held mid) list list.generation list.loose (λ file used. same told file (used_low list rules file used)) (there_mid told) (there told) h s
+
+    begins : IsTrue (g.tells disk) → (h : History) → BeginsAs (g.held disk) moment (opened_machine list batches moment h)
+    begins told h = record {
+      new = λ vacant. absurd (let bad : None ≡ Some list = one_list (g.held disk) None (Some list) vacant (there told) in cc);
+      found = λ other all others logged.
+          let e : list ≡ other = same_some list other (one_list (g.held disk) (Some list) (Some other) (there told) others) in
+          let mine : LogHolds (g.held disk) other.segments (first_number other) batches = subst (λ (o : ListBody). LogHolds (g.held disk) o.segments (first_number o) batches) e (logged_before told) in
+          ap (λ (o : ListBody). opened_state o batches moment) e ∙ ap (λ (b : List (List Span)). opened_state other b moment) (one_log (g.held disk) other.segments (first_number other) batches all mine logged);
+      writes = refl;
+    }
+
+    stands_for : IsTrue (g.tells disk) → (h : History) → ImageStandsFor (g.held disk) h → CoreStandsFor g core (opened_machine list batches moment h)
+    stands_for told h s =
+        let f : IsFound (g.held disk) list batches h = found (g.held disk) list batches h none (there told) (logged_before told) s in
+        opened_stands (IsTrue (g.tells mid)) (g.held mid) list rules none batches core.state read moment state h (agrees_waiting list rules batches h f.agrees f.store.floored) f.counts
+        (IsTrue (g.tells core.disk)) (g.held core.disk) (g.may_leave core.disk) (λ t. settled (told_mid told) h (stands_mid told h s))
+
+    -- where nothing is told, the history begins at the floor
+    by_memory : (told : Type 0) → (told → ⊥) → StandsFor told (g.held core.disk) (g.may_leave core.disk) core.state (opened_machine list batches moment (from_floor list batches))
+    by_memory told never = opened_stands (IsTrue (g.tells mid)) (g.held mid) list rules none batches core.state read moment state (from_floor list batches) (agrees_from_floor list batches)
+        (from_floor_counts (IsTrue (g.tells mid)) (g.held mid) list rules none batches core.state read) told (g.held core.disk) (g.may_leave core.disk) (λ t. absurd (never t))
+
+    pub opened_existing : Opened g disk moment core
+    opened_existing = record {
+      stands = λ told h s. (opened_machine list batches moment h, stands_for told h s, refl, begins told h);
+      some = λ sound. by_telling (g.tells disk) refl sound;
+      shows = (opened_machine list batches moment (from_floor list batches), by_memory ⊥ (λ bad. bad));
+    }
+      where
+        by_telling : (t : Bool) → g.tells disk ≡ t → (IsTrue (g.tells disk) → IsSoundImage (g.held disk)) → (m : Machine) × CoreStandsFor g core m
+        by_telling true e sound = let told : IsTrue (g.tells disk) = e in let s = sound told in (opened_machine list batches moment s.0, stands_for told s.0 s.1)
+        by_telling false e sound = (opened_machine list batches moment (from_floor list batches), by_memory (IsTrue (g.tells core.disk)) (λ t. let bad : true ≡ false = sym t ∙ telling_core ∙ e in absurd cc))
+
+-- ---- answers that are handed on
+
+pub if_ok_more : {X E : Type 0} (r : Result X E) (P Q : X → Type 0) → ((x : X) → P x → Q x) → IfOk r P → IfOk r Q
+if_ok_more (Ok x) P Q more p = more x p
+if_ok_more (Err e) P Q more p = tt
+
+pub if_err_more : {X E : Type 0} (r : Result X E) (P Q : E → Type 0) → ((e : E) → P e → Q e) → IfErr r P → IfErr r Q
+if_err_more (Ok x) P Q more p = tt
+if_err_more (Err e) P Q more p = more e p

@@ -1,0 +1,70 @@
+use Rattle.std.proofs.Common.{◌≡◌, ◌≤◌, ℕ, IsTrue, List, [], Some, Err, refl, sym, ◌∙◌, ap, subst, arith}
+use Rattle.std.specs.List.{Contains}
+use Rattle.disk_model.specs.Images.{bytes_of}
+use Rattle.disk_model.specs.Crash.{OnlyBytes}
+use Rattle.disk_model.proofs.Runs.{run_on, run_untouched}
+use Rattle.block_list.specs.Loading.{IsReady}
+use Rattle.block_list.specs.declared.body.SegmentRef.{SegmentRef}
+use Rattle.block_list.specs.declared.body.ListBody.{ListBody}
+use Rattle.block_list.proofs.ReadyLemmas.{ready_quiet}
+use Rattle.store_images.specs.Stored.{KeepsStored}
+use Rattle.store_images.specs.Settled.{IsSettled}
+use Rattle.store_images.proofs.Keeping.{keeps_same, keeps_then}
+use Rattle.store_core.specs.Cores.{tail_of}
+use Rattle.store_core.specs.declared.error.OpenError.TheVariants.{NotStore}
+use Rattle.store_core.proofs.LogSteps.{handed_on}
+use Rattle.store_core.proofs.OpeningSteps.{settled_again, segment_low, segment_stays}
+use Rattle.store_core.proofs.opening.read_store.Goals as goal
+
+pub returns-in-Err-clause-not_store : goal.returns-in-Err-clause-not_store
+returns-in-Err-clause-not_store g c = λ told file at is. c.in-Err.ensures.not_store told file at (handed_on _ c.in-Err.error (NotStore file at) refl is)
+
+pub empty_loose-requires-clause-ready : goal.empty_loose-requires-clause-ready
+empty_loose-requires-clause-ready g c = λ told_mid.
+    let d = g.D.Device in
+    let disk = c.args.disk.now in
+    let mid = c.read_rows.new.disk in
+    let untouched = c.read_rows.ensures.untouched in
+    let told : IsTrue (d.tells disk) = subst IsTrue untouched.telling told_mid in
+    ready_quiet (d.held disk) (d.held mid) (d.may_leave disk) (d.may_leave mid) (Some c.args.list) (untouched.same_bytes told) untouched.crash (c.requires.ready told)
+
+pub returns-in-Ok-empty_loose-clause-kept : goal.returns-in-Ok-empty_loose-clause-kept
+returns-in-Ok-empty_loose-clause-kept g c = λ told.
+    let d = g.D.Device in
+    let disk = c.args.disk.now in
+    let mid = c.read_rows.new.disk in
+    let untouched = c.read_rows.ensures.untouched in
+    run_on d.moment d.left_since d.may_leave KeepsStored disk mid c.empty_loose.new.disk keeps_then
+    (run_untouched d.tells d.held d.may_leave d.moment d.left_since KeepsStored disk mid keeps_same untouched) (c.empty_loose.ensures.kept (subst IsTrue (sym untouched.telling) told))
+
+pub returns-in-Err-empty_loose-clause-kept : goal.returns-in-Err-empty_loose-clause-kept
+returns-in-Err-empty_loose-clause-kept g c = λ told.
+    let d = g.D.Device in
+    let disk = c.args.disk.now in
+    let mid = c.read_rows.new.disk in
+    let untouched = c.read_rows.ensures.untouched in
+    run_on d.moment d.left_since d.may_leave KeepsStored disk mid c.empty_loose.new.disk keeps_then
+    (run_untouched d.tells d.held d.may_leave d.moment d.left_since KeepsStored disk mid keeps_same untouched) (c.empty_loose.ensures.kept (subst IsTrue (sym untouched.telling) told))
+
+pub returns-in-Err-empty_loose-clause-not_store : goal.returns-in-Err-empty_loose-clause-not_store
+returns-in-Err-empty_loose-clause-not_store g c = λ told file at is.
+    absurd (c.in-Err-empty_loose.ensures.a_store file at (handed_on _ c.in-Err-empty_loose.error (NotStore file at) refl is))
+
+pub returns-in-Ok-empty_loose-clause-settled : goal.returns-in-Ok-empty_loose-clause-settled
+returns-in-Ok-empty_loose-clause-settled g c = λ told h stands.
+    let d = g.D.Device in
+    let disk = c.args.disk.now in
+    let mid = c.read_rows.new.disk in
+    let new = c.empty_loose.new.disk in
+    let list : ListBody = c.args.list in
+    let rules = c.requires.rules in
+    let read = c.in-Ok.ensures.read in
+    let untouched = c.read_rows.ensures.untouched in
+    let told_mid : IsTrue (d.tells mid) = subst IsTrue (sym untouched.telling) told in
+    let others = c.in-Ok-empty_loose.ensures.others told_mid in
+    let tail = tail_of c.in-Ok.read.0 in
+    subst (λ (l : ListBody). IsSettled (d.held new) (d.may_leave new) l [] tail h) (sym c.in-Ok-empty_loose.ensures.list)
+    (settled_again (IsTrue (d.tells disk)) told (d.held disk) (d.held new) (d.may_leave new) list c.in-Ok.ensures.no_blocks read.0 tail (c.requires.ready told).stands read.2
+    (λ x inside. others.still x.file (segment_low list rules x inside) (segment_stays list rules x inside) ∙ untouched.same_bytes told x.file)
+    (λ x inside. others.images x.file (bytes_of (d.held disk) x.file) (segment_low list rules x inside) (segment_stays list rules x inside) (c.in-Ok.ensures.lies told x inside))
+    h (subst (λ (l : ListBody). IsReady (d.held new) (d.may_leave new) (Some l)) c.in-Ok-empty_loose.ensures.list (c.in-Ok-empty_loose.ensures.ready told_mid)) stands)

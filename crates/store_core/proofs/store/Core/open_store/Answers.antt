@@ -1,0 +1,121 @@
+use Rattle.std.proofs.Common.{◌≡◌, ◌≤◌, ℕ, IsTrue, List, Option, None, Some, Ok, Err, refl, sym, ◌∙◌, ap, subst}
+use Rattle.block_list.specs.Slots.{ImageHoldsList}
+use Rattle.block_list.specs.Reading.{slots_at}
+use Rattle.block_list.specs.Loading.{IsReady}
+use Rattle.block_list.specs.declared.body.ListBody.{ListBody}
+use Rattle.disk_model.specs.Images.{bytes_of}
+use Rattle.store_core.specs.Opening.StoreBreaks.{slot, listed}
+use Rattle.store_core.proofs.OpeningSteps.{list_breaks_same, segment_low, store_unbroken, sound_unbroken, refused_slot, refused_fault}
+use Rattle.store_core.proofs.OpeningEnds.{opened_existing, opened_new, logged_before, kept_loaded, kept_then, kept_new, if_ok_more, if_err_more}
+use Rattle.store_core.proofs.store.Core.open_store.Goals as goal
+
+-- ---- the list wasn't loaded
+
+pub returns-in-Err-clause-kept_refused : goal.returns-in-Err-clause-kept_refused
+returns-in-Err-clause-kept_refused g c = kept_loaded g.D.Device c.args.disk c.load.new.disk c.load.ensures.kept
+
+pub returns-in-Err-clause-not_store : goal.returns-in-Err-clause-not_store
+returns-in-Err-clause-not_store g c = λ told file at is.
+    slot (c.in-Err.ensures.not_list told file at (ap Err (refused_slot c.in-Err.error file at (sym c.refusal.ensures ∙ is))))
+
+pub returns-in-Err-clause-sound : goal.returns-in-Err-clause-sound
+returns-in-Err-clause-sound g c = λ told sound file at is.
+    sound_unbroken (g.D.Device.held c.args.disk) sound.0 file at sound.1
+    (slot (c.in-Err.ensures.not_list told file at (ap Err (refused_slot c.in-Err.error file at (sym c.refusal.ensures ∙ is)))))
+
+pub returns-in-Err-clause-fault : goal.returns-in-Err-clause-fault
+returns-in-Err-clause-fault g c = λ is. c.in-Err.ensures.fault (ap Err (refused_fault c.in-Err.error (sym c.refusal.ensures ∙ is)))
+
+-- ---- a new store was made
+
+pub returns-in-None-clause-opened : goal.returns-in-None-clause-opened
+returns-in-None-clause-opened g c =
+    let d = g.D.Device in
+    if_ok_more c.open_new.result _ _
+    (λ core stands. opened_new d c.args.disk c.args.moment core (λ told. subst (λ (l : Option ListBody). ImageHoldsList (d.held c.args.disk) l) c.in-None.is (c.in-Ok.ensures.list told)) stands)
+    c.open_new.ensures.stands
+
+pub returns-in-None-clause-kept : goal.returns-in-None-clause-kept
+returns-in-None-clause-kept g c =
+    let d = g.D.Device in
+    let mid = c.load.new.disk in
+    if_ok_more c.open_new.result _ _ (λ core run. kept_then d c.args.disk mid core.disk c.load.ensures.telling (kept_loaded d c.args.disk mid c.load.ensures.kept)
+    (kept_new d g.met.D.Device.counts_now g.met.D.Device.held_may_stay mid core.disk
+    (λ told. subst (λ (l : Option ListBody). IsReady (d.held mid) (d.may_leave mid) l) c.in-None.is (c.in-Ok.ensures.ready (subst IsTrue c.load.ensures.telling told))) run)) c.open_new.ensures.any_moment
+
+pub returns-in-None-clause-kept_refused : goal.returns-in-None-clause-kept_refused
+returns-in-None-clause-kept_refused g c =
+    let d = g.D.Device in
+    let mid = c.load.new.disk in
+    if_err_more c.open_new.result _ _ (λ e run. kept_then d c.args.disk mid e.1 c.load.ensures.telling (kept_loaded d c.args.disk mid c.load.ensures.kept)
+    (kept_new d g.met.D.Device.counts_now g.met.D.Device.held_may_stay mid e.1
+    (λ told. subst (λ (l : Option ListBody). IsReady (d.held mid) (d.may_leave mid) l) c.in-None.is (c.in-Ok.ensures.ready (subst IsTrue c.load.ensures.telling told))) run)) c.open_new.ensures.any_moment_refused
+
+pub returns-in-None-clause-not_store : goal.returns-in-None-clause-not_store
+returns-in-None-clause-not_store g c = if_err_more c.open_new.result _ _ (λ e never told file at is. absurd (never file at is)) c.open_new.ensures.a_store
+
+pub returns-in-None-clause-sound : goal.returns-in-None-clause-sound
+returns-in-None-clause-sound g c = if_err_more c.open_new.result _ _ (λ e never told sound file at is. never file at is) c.open_new.ensures.a_store
+
+-- ---- a store was read
+
+pub returns-in-Ok-read_store-clause-opened : goal.returns-in-Ok-read_store-clause-opened
+returns-in-Ok-read_store-clause-opened g c =
+    let d = g.D.Device in
+    let disk = c.args.disk in
+    let mid = c.load.new.disk in
+    let list = c.in-Some.list in
+    let state = c.in-Ok-read_store.ensures.state in
+    opened_existing d disk mid c.args.moment _ list (c.in-Ok.ensures.rules list (ap Ok c.in-Some.is)) c.in-Ok-read_store.ensures.no_blocks state.0
+    c.load.ensures.telling (c.read_store.ensures.telling ∙ c.load.ensures.telling)
+    (λ told. subst (λ (l : Option ListBody). ImageHoldsList (d.held disk) l) c.in-Some.is (c.in-Ok.ensures.list told))
+    (λ told. (subst (λ (l : Option ListBody). IsReady (d.held mid) (d.may_leave mid) l) c.in-Some.is (c.in-Ok.ensures.ready told)).stands) c.load.ensures.others
+    state.1 state.2 c.in-Ok-read_store.ensures.settled
+
+pub returns-in-Ok-read_store-clause-kept : goal.returns-in-Ok-read_store-clause-kept
+returns-in-Ok-read_store-clause-kept g c =
+    let d = g.D.Device in
+    kept_then d c.args.disk c.load.new.disk c.read_store.new.disk c.load.ensures.telling (kept_loaded d c.args.disk c.load.new.disk c.load.ensures.kept) c.read_store.ensures.kept
+
+pub returns-in-Ok-read_store-clause-unbroken : goal.returns-in-Ok-read_store-clause-unbroken
+returns-in-Ok-read_store-clause-unbroken g c = λ told file at broken.
+    let d = g.D.Device in
+    let disk = c.args.disk in
+    let mid = c.load.new.disk in
+    let list = c.in-Some.list in
+    let state = c.in-Ok-read_store.ensures.state in
+    store_unbroken (d.held disk) list state.0 file at
+    (subst (λ (l : Option ListBody). slots_at (bytes_of (d.held disk) 0) (bytes_of (d.held disk) 1) ≡ Ok l) c.in-Some.is (c.in-Ok.ensures.found told)) c.in-Ok-read_store.ensures.no_blocks
+    (logged_before d disk mid c.args.moment (record { alloc = c.args.alloc; disk = c.read_store.new.disk; state = c.in-Ok-read_store.state }) list (c.in-Ok.ensures.rules list (ap Ok c.in-Some.is)) c.in-Ok-read_store.ensures.no_blocks state.0
+    c.load.ensures.telling (c.read_store.ensures.telling ∙ c.load.ensures.telling)
+    (λ told. subst (λ (l : Option ListBody). ImageHoldsList (d.held disk) l) c.in-Some.is (c.in-Ok.ensures.list told))
+    (λ told. (subst (λ (l : Option ListBody). IsReady (d.held mid) (d.may_leave mid) l) c.in-Some.is (c.in-Ok.ensures.ready told)).stands) c.load.ensures.others
+    state.1 state.2 c.in-Ok-read_store.ensures.settled told) broken
+
+pub returns-in-Err-read_store-clause-kept_refused : goal.returns-in-Err-read_store-clause-kept_refused
+returns-in-Err-read_store-clause-kept_refused g c =
+    let d = g.D.Device in
+    kept_then d c.args.disk c.load.new.disk c.read_store.new.disk c.load.ensures.telling (kept_loaded d c.args.disk c.load.new.disk c.load.ensures.kept) c.read_store.ensures.kept
+
+pub returns-in-Err-read_store-clause-not_store : goal.returns-in-Err-read_store-clause-not_store
+returns-in-Err-read_store-clause-not_store g c = λ told file at is.
+    let d = g.D.Device in
+    let disk = c.args.disk in
+    let mid = c.load.new.disk in
+    let list = c.in-Some.list in
+    let told_mid : IsTrue (d.tells mid) = subst IsTrue (sym c.load.ensures.telling) told in
+    listed list (subst (λ (l : Option ListBody). slots_at (bytes_of (d.held disk) 0) (bytes_of (d.held disk) 1) ≡ Ok l) c.in-Some.is (c.in-Ok.ensures.found told))
+    (list_breaks_same (d.held disk) (d.held mid) list file at
+    (λ x inside. c.load.ensures.others told x.file (segment_low list (c.in-Ok.ensures.rules list (ap Ok c.in-Some.is)) x inside)) (c.in-Err-read_store.ensures.not_store told_mid file at (ap Err is)))
+
+pub returns-in-Err-read_store-clause-sound : goal.returns-in-Err-read_store-clause-sound
+returns-in-Err-read_store-clause-sound g c = λ told sound file at is.
+    let d = g.D.Device in
+    let disk = c.args.disk in
+    let mid = c.load.new.disk in
+    let list = c.in-Some.list in
+    let told_mid : IsTrue (d.tells mid) = subst IsTrue (sym c.load.ensures.telling) told in
+    sound_unbroken (d.held disk) sound.0 file at sound.1
+    (listed list (subst (λ (l : Option ListBody). slots_at (bytes_of (d.held disk) 0) (bytes_of (d.held disk) 1) ≡ Ok l) c.in-Some.is (c.in-Ok.ensures.found told))
+    (list_breaks_same (d.held disk) (d.held mid) list file at
+    (λ x inside. c.load.ensures.others told x.file (segment_low list (c.in-Ok.ensures.rules list (ap Ok c.in-Some.is)) x inside)) (c.in-Err-read_store.ensures.not_store told_mid file at (ap Err is))))

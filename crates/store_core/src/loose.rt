@@ -1,0 +1,100 @@
+//! The files that a list names as loose are emptied, and the list is committed without them.
+
+ghost use Rattle.std.specs.Prelude.{◌≡◌, ◌≢◌, ◌≤◌, ℕ, [], Some, Err, IsTrue, IfOk, OnOk};
+ghost use Rattle.std.specs.List.{Contains};
+ghost use Rattle.span_types.specs.Faults.{Rose};
+ghost use Rattle.disk_model.specs.Crash.{OnlyBytes, Run, HasCause};
+ghost use Rattle.block_list.specs.Body.{MeetsRules};
+ghost use Rattle.block_list.specs.Loading.{IsReady};
+ghost use Rattle.block_list.specs.declared.body.ListBody.{ListBody};
+ghost use Rattle.store_images.specs.Stored.{KeepsStored};
+ghost use Rattle.store_core.specs.Loose.{next_without, without_loose, OthersStay};
+ghost use Rattle.store_core.specs.Opening.{KeepsDisk};
+ghost use Rattle.store_core.specs.declared.error.OpenError.TheVariants.{Fault, NotStore};
+
+use crate::error::OpenError;
+use block_list::{FileList, ListBody, commit, prepare};
+use disk_model::{Device, cut_through};
+use span_types::Failed;
+use std::alloc::Global;
+
+/// Empties the loose files of the list that counts, and commits the next list without them, which is answered. A list that names
+/// none stays, and no device call is made.
+///
+/// All memory is taken before the disk is changed. The files are made to last as empty ones before the list is committed.
+pub fn empty_loose<D: Device>(
+    alloc: Global,
+    disk: &mut D,
+    list: ListBody,
+) -> Result<ListBody, OpenError>
+    requires rules { MeetsRules list }
+    requires ready { IsTrue (D.tells disk.old) → IsReady (D.held disk.old) (D.may_leave disk.old) (Some list) }
+    ensures list { IfOk result (λ next. next ≡ without_loose list) }
+    // Whenever a crash comes, what is stored is kept, and what is left stays tidy.
+    ensures kept { KeepsDisk D.Device.own disk.old disk.new }
+    ensures ready { IsTrue (D.tells disk.old) → IfOk result (λ next. IsReady (D.held disk.new) (D.may_leave disk.new) (Some next)) }
+    ensures others { IsTrue (D.tells disk.old) → OnOk result
+        (OthersStay list.loose (D.held disk.old) (D.held disk.new) (D.may_leave disk.old) (D.may_leave disk.new)) }
+    ensures telling { D.tells disk.new ≡ D.tells disk.old }
+    ensures later { D.faults disk.old ≤ D.faults disk.new }
+    ensures fault { result ≡ Err Fault → Rose (D.faults disk.old) (D.faults disk.new) }
+    ensures a_store { (file at : ℕ) → result ≢ Err (NotStore file at) }
+{
+    if list.loose.len() == 0 {
+        return Ok(list);
+    }
+    let (next, loose) = take_loose(alloc, list);
+    let Ok(prepared) = prepare(alloc, &next) else {
+        return Err(OpenError::Memory);
+    };
+    let Ok(()) = empty_files(disk, loose.as_slice()) else {
+        return Err(OpenError::Fault);
+    };
+    let Ok(()) = commit(disk, &prepared) else {
+        return Err(OpenError::Fault);
+    };
+    Ok(next)
+}
+
+// The next list without loose files, and these files.
+fn take_loose(alloc: Global, list: ListBody) -> (ListBody, FileList)
+    ensures list { result.0 ≡ next_without list }
+    ensures loose { result.1 ≡ list.loose }
+{
+    let ListBody {
+        generation,
+        next_file,
+        floor,
+        segments,
+        blocks,
+        loose,
+    } = list;
+    let next = ListBody {
+        generation: generation.wrapping_add(1),
+        next_file,
+        floor,
+        segments,
+        blocks,
+        loose: FileList::none(alloc),
+    };
+    (next, loose)
+}
+
+// Empties files that the list which counts names as loose, one after another, and makes that last.
+fn empty_files<D: Device>(disk: &mut D, files: &[u32]) -> Result<(), Failed>
+    ensures kept { IsTrue (D.tells disk.old) → (body : ListBody) → IsReady (D.held disk.old) (D.may_leave disk.old) (Some body)
+        → files.now ≡ body.loose → Run KeepsStored D.moment D.left_since D.may_leave disk.old disk.new }
+    ensures ready { IsTrue (D.tells disk.old) → (body : ListBody) → IsReady (D.held disk.old) (D.may_leave disk.old) (Some body)
+        → files.now ≡ body.loose → IsReady (D.held disk.new) (D.may_leave disk.new) (Some body) }
+    ensures emptied { IsTrue (D.tells disk.old) → OnOk result ((file : ℕ) → Contains files.now file
+        → OnlyBytes file [] (D.may_leave disk.new)) }
+    ensures others { IsTrue (D.tells disk.old) →
+        OthersStay files.now (D.held disk.old) (D.held disk.new) (D.may_leave disk.old) (D.may_leave disk.new) }
+    ensures telling { D.tells disk.new ≡ D.tells disk.old }
+    ensures cause { HasCause (D.faults disk.old) (D.faults disk.new) result }
+{
+    for file in files {
+        cut_through(disk, *file, 0)?;
+    }
+    Ok(())
+}

@@ -1,0 +1,157 @@
+//! A store is opened.
+
+ghost use Rattle.std.specs.Prelude.{◌≡◌, ◌≢◌, ◌≤◌, ◌+◌, ℕ, List, [], Some, Err, IsTrue, IfOk, IfErr, OnOk};
+ghost use Rattle.std.specs.List.{Contains};
+ghost use Rattle.span_types.specs.Faults.{Rose};
+ghost use Rattle.span_types.specs.declared.spans.Span.{Span};
+ghost use Rattle.disk_model.specs.Images.{bytes_of};
+ghost use Rattle.disk_model.specs.Crash.{OnlyBytes, Untouched};
+ghost use Rattle.block_list.specs.Body.{MeetsRules};
+ghost use Rattle.block_list.specs.Loading.{IsReady};
+ghost use Rattle.block_list.specs.Slots.{ImageHoldsList};
+ghost use Rattle.block_list.specs.declared.body.SegmentRef.{SegmentRef};
+ghost use Rattle.store_model.specs.History.{History};
+ghost use Rattle.store_images.specs.Stored.{ImageStandsFor, IsSoundImage, first_number};
+ghost use Rattle.store_images.specs.Settled.{IsSettled};
+ghost use Rattle.store_core.specs.Cores.{tail_of};
+ghost use Rattle.store_core.specs.LogReading.{LogRead};
+ghost use Rattle.store_core.specs.Opening.{KeepsDisk, Opened, opened_state, IsOpenedState, ListBreaks, StoreBreaks, refusal_of};
+ghost use Rattle.store_core.specs.declared.error.OpenError.TheVariants.{Fault, NotStore};
+
+use crate::error::OpenError;
+use crate::loose::empty_loose;
+use crate::new_store::open_new;
+use crate::reading::read_log;
+use crate::reviving::revive;
+use crate::state::CoreState;
+use crate::store::Core;
+use block_info::Infos;
+use block_list::{ListBody, ListError, load};
+use disk_model::Device;
+use head_log::Segment;
+use live_traces::Live;
+use std::alloc::Global;
+
+impl<D: Device> Core<D> {
+    /// Opens the store that a disk holds, or a new one where both slots of its list are vacant. The moment, in nanoseconds, is that
+    /// of the rows which then wait in memory.
+    ///
+    /// The slots and each listed segment are made to last and read, the loose files are emptied, and where there were any the list is
+    /// committed without them. Refused, it hands the disk back as far as it came: what is stored there is kept.
+    pub fn open_store(alloc: Global, disk: D, moment: u64) -> Result<Core<D>, (OpenError, D)>
+        ensures opened { IfOk result (λ core. Opened D.Device.own disk moment core) }
+        // Whenever a crash comes, what is stored is kept, and what is left stays tidy.
+        ensures kept { IfOk result (λ core. KeepsDisk D.Device.own disk core.disk) }
+        ensures kept_refused { IfErr result (λ e. KeepsDisk D.Device.own disk e.1) }
+        // Bytes are refused where they break, and only there.
+        ensures not_store { IfErr result (λ e. IsTrue (D.tells disk) → (file at : ℕ) → e.0 ≡ NotStore file at → StoreBreaks (D.held disk) file at) }
+        ensures unbroken { IfOk result (λ core. IsTrue (D.tells disk) → (file at : ℕ) → StoreBreaks (D.held disk) file at → ⊥) }
+        ensures sound { IfErr result (λ e. IsTrue (D.tells disk) → IsSoundImage (D.held disk) → (file at : ℕ) → e.0 ≢ NotStore file at) }
+        ensures telling { IfOk result (λ core. D.tells core.disk ≡ D.tells disk) }
+        ensures telling_refused { IfErr result (λ e. D.tells e.1 ≡ D.tells disk) }
+        ensures later { IfOk result (λ core. D.faults disk ≤ D.faults core.disk) }
+        ensures later_refused { IfErr result (λ e. D.faults disk ≤ D.faults e.1) }
+        ensures fault { IfErr result (λ e. e.0 ≡ Fault → Rose (D.faults disk) (D.faults e.1)) }
+    {
+        let mut disk = disk;
+        let found = match load(alloc, &mut disk) {
+            Ok(found) => found,
+            Err(error) => return Err((refusal(error), disk)),
+        };
+        match found {
+            None => open_new(alloc, disk),
+            Some(list) => match read_store(alloc, &mut disk, list, moment) {
+                Ok(state) => Ok(Core { alloc, disk, state }),
+                Err(error) => Err((error, disk)),
+            },
+        }
+    }
+}
+
+// Why a store isn't opened whose list wasn't loaded.
+fn refusal(error: ListError) -> OpenError
+    ensures { result ≡ refusal_of error }
+{
+    match error {
+        ListError::Fault => OpenError::Fault,
+        ListError::NotList { slot, at } => OpenError::NotStore { file: slot, at },
+        ListError::Memory => OpenError::Memory,
+    }
+}
+
+// What the core keeps in memory of a store whose list was loaded. The loose files are emptied.
+fn read_store<D: Device>(
+    alloc: Global,
+    disk: &mut D,
+    list: ListBody,
+    moment: u64,
+) -> Result<CoreState, OpenError>
+    requires rules { MeetsRules list }
+    requires ready { IsTrue (D.tells disk.old) → IsReady (D.held disk.old) (D.may_leave disk.old) (Some list) }
+    ensures no_blocks { OnOk result (list.blocks ≡ []) }
+    ensures state { IfOk result (λ state. (batches : List (List Span)) × IsOpenedState list batches moment state
+        × LogRead (IsTrue (D.tells disk.old)) (D.held disk.old) list.segments (first_number list) batches (tail_of state.segment)) }
+    ensures settled { IsTrue (D.tells disk.old) → IfOk result (λ state. (h : History) → ImageStandsFor (D.held disk.old) h
+        → IsSettled (D.held disk.new) (D.may_leave disk.new) state.list [] (tail_of state.segment) h) }
+    ensures kept { KeepsDisk D.Device.own disk.old disk.new }
+    ensures not_store { IsTrue (D.tells disk.old) → (file at : ℕ) → result ≡ Err (NotStore file at) → ListBreaks (D.held disk.old) list file at }
+    ensures telling { D.tells disk.new ≡ D.tells disk.old }
+    ensures later { D.faults disk.old ≤ D.faults disk.new }
+    ensures fault { result ≡ Err Fault → Rose (D.faults disk.old) (D.faults disk.new) }
+{
+    let (segment, live) = match read_rows(alloc, disk, &list, moment) {
+        Ok(read) => read,
+        Err(error) => return Err(error),
+    };
+    match empty_loose(alloc, disk, list) {
+        Ok(list) => Ok(CoreState {
+            live,
+            list,
+            infos: Infos::none(alloc),
+            segment,
+            pins: Vec::new(alloc),
+            read_only: None,
+            unsure: None,
+        }),
+        Err(error) => Err(error),
+    }
+}
+
+// The last segment of a list's log, and the rows from the floor on as live ones. A list that names a block is refused.
+fn read_rows<D: Device>(
+    alloc: Global,
+    disk: &mut D,
+    list: &ListBody,
+    moment: u64,
+) -> Result<(Segment, Live), OpenError>
+    requires { MeetsRules list.now }
+    ensures no_blocks { OnOk result (list.now.blocks ≡ []) }
+    ensures read { IfOk result (λ read. (batches : List (List Span)) × (read.1.live ≡ (opened_state list.now batches moment).live)
+        × LogRead (IsTrue (D.tells disk.old)) (D.held disk.old) list.now.segments (first_number list.now) batches (tail_of read.0)) }
+    ensures others { IfOk result (λ read. (read.1.head ≡ []) × (read.1.flushing ≡ [])) }
+    ensures few { IfOk result (λ read. read.0.first + read.0.count ≤ 4294967295) }
+    ensures lies { IsTrue (D.tells disk.old) → OnOk result ((x : SegmentRef) → Contains list.now.segments x
+        → OnlyBytes x.file (bytes_of (D.held disk.old) x.file) (D.may_leave disk.new)) }
+    ensures not_store { IsTrue (D.tells disk.old) → (file at : ℕ) → result ≡ Err (NotStore file at) → ListBreaks (D.held disk.old) list.now file at }
+    ensures untouched { Untouched D.tells D.held D.may_leave D.moment D.left_since disk.old disk.new }
+    ensures later { D.faults disk.old ≤ D.faults disk.new }
+    ensures fault { result ≡ Err Fault → Rose (D.faults disk.old) (D.faults disk.new) }
+{
+    let blocks = list.blocks.as_slice();
+    if blocks.len() > 0 {
+        return Err(OpenError::NotStore {
+            file: blocks[0].file,
+            at: 0,
+        });
+    }
+    match read_log(alloc, disk, list) {
+        Ok((segment, batches)) => {
+            let mut live = Live::new(alloc);
+            match revive(&mut live, batches, list.floor, moment) {
+                Ok(()) => Ok((segment, live)),
+                Err(_) => Err(OpenError::Memory),
+            }
+        }
+        Err(error) => Err(error),
+    }
+}
