@@ -105,10 +105,12 @@ module _ (told : Type 0) (image : Image) where
   pub reads_one : (segments : List SegmentRef) (d : SegmentRef) (first : ℕ) (old found : List NumberedBatch) (last : Segment) → 0 < length segments → old ≡ [] → (get_or segments 0 d).first ≡ first
       → ((mine : List (List Span)) × (found ≡ old ++ entries (get_or segments 0 d).first mine) × SegmentRead told (bytes_of image (get_or segments 0 d).file) (get_or segments 0 d) mine last)
       → Reads (take 1 segments) first found (tail_of last)
-  reads_one segments d first old found last some none is read =
-      (read.0, read.1 ∙ ap (λ (l : List NumberedBatch). l ++ entries (get_or segments 0 d).first read.0) none ∙ ap (λ (n : ℕ). entries n read.0) is,
-       subst (λ (n : ℕ). LogRead told image (take 1 segments) n read.0 (tail_of last)) is
-       (subst (λ (l : List SegmentRef). LogRead told image l (get_or segments 0 d).first read.0 (tail_of last)) (sym (take_more segments 0 d some)) (read_one (get_or segments 0 d) read.0 last read.2)))
+  reads_one segments d first old found last some none is read = (
+    read.0,
+    read.1 ∙ ap (λ (l : List NumberedBatch). l ++ entries (get_or segments 0 d).first read.0) none ∙ ap (λ (n : ℕ). entries n read.0) is,
+    subst (λ (n : ℕ). LogRead told image (take 1 segments) n read.0 (tail_of last)) is
+        (subst (λ (l : List SegmentRef). LogRead told image l (get_or segments 0 d).first read.0 (tail_of last)) (sym (take_more segments 0 d some)) (read_one (get_or segments 0 d) read.0 last read.2)),
+  )
 
   pub reads_on : (segments : List SegmentRef) (n : ℕ) (d : SegmentRef) (first : ℕ) (old found : List NumberedBatch) (tail : Tail) (last : Segment) → n < length segments
       → Reads (take n segments) first old tail → (get_or segments n d).first ≡ tail.first + tail.count
@@ -116,11 +118,12 @@ module _ (told : Type 0) (image : Image) where
       → Reads (take (n + 1) segments) first found (tail_of last)
   reads_on segments n d first old found tail last inside reads leads read =
       let x = get_or segments n d in
-      let size = read_size (take n segments) first reads.0 tail reads.2 in
-      (reads.0 ++ read.0,
-       read.1 ∙ ap (λ (l : List NumberedBatch). l ++ entries x.first read.0) reads.1 ∙ sym (entries-append first reads.0 read.0 ∙ ap (λ (k : ℕ). entries first reads.0 ++ entries k read.0) (sym (leads ∙ size))),
-       subst (λ (l : List SegmentRef). LogRead told image l first (reads.0 ++ read.0) (tail_of last)) (sym (take_more segments n d inside))
-       (read_on (take n segments) first reads.0 read.0 tail x last reads.2 leads read.2))
+      let size = read_size (take n segments) first reads.0 tail reads.2 in (
+        reads.0 ++ read.0,
+        read.1 ∙ ap (λ (l : List NumberedBatch). l ++ entries x.first read.0) reads.1 ∙ sym (entries-append first reads.0 read.0 ∙ ap (λ (k : ℕ). entries first reads.0 ++ entries k read.0) (sym (leads ∙ size))),
+        subst (λ (l : List SegmentRef). LogRead told image l first (reads.0 ++ read.0) (tail_of last)) (sym (take_more segments n d inside))
+            (read_on (take n segments) first reads.0 read.0 tail x last reads.2 leads read.2),
+      )
 
   -- ---- where a segment breaks
 
@@ -204,14 +207,17 @@ pub read_of : (t : Bool) (bytes later : List ℕ) (ref : SegmentRef) (found : Se
 read_of t bytes later ref found old items new low same some here is below added =
     let f = found_batches t items ref.first found.gate later some here in
     let size : length items ≡ length f.0 = ap length f.1 ∙ length-entries ref.first f.0 in
-    let most = few_of ref.first f.0 low (subst (λ (l : List NumberedBatch). All (λ (entry : NumberedBatch). entry.number < 4294967295) l) f.1 below) in
-    (f.0, added ∙ ap (λ (l : List NumberedBatch). old ++ l) f.1, record {
-      file = is.file_is;
-      first = is.first_is;
-      count = is.count_is ∙ size;
-      few = (let a = is.first_is in let b = is.count_is in omega (arith, a, b, size, most));
-      holds = λ told. subst (λ (b : List ℕ). SegmentHolds ref.first f.0 found.gate b) (same told) (f.2 told);
-    })
+    let most = few_of ref.first f.0 low (subst (λ (l : List NumberedBatch). All (λ (entry : NumberedBatch). entry.number < 4294967295) l) f.1 below) in (
+      f.0,
+      added ∙ ap (λ (l : List NumberedBatch). old ++ l) f.1,
+      record {
+        file = is.file_is;
+        first = is.first_is;
+        count = is.count_is ∙ size;
+        few = (let a = is.first_is in let b = is.count_is in omega (arith, a, b, size, most));
+        holds = λ told. subst (λ (b : List ℕ). SegmentHolds ref.first f.0 found.gate b) (same told) (f.2 told);
+      },
+    )
 
 pub malformed_as : {X : Type 0} (r : Result X OpenError) (f a file at : ℕ) (ref : SegmentRef) (bytes later : List ℕ) → later ≡ bytes → r ≡ Err (NotStore f a) → r ≡ Err (NotStore file at)
     → (f ≡ ref.file) × (segment_at ref.first later ≡ Err a) → (file ≡ ref.file) × (segment_at ref.first bytes ≡ Err at)

@@ -215,10 +215,11 @@ module _ {D : Type 0} (moment : D → ℕ) (left_since : D → ℕ → Image →
       → IsReady held (may_leave mid) (Some body) → Contains body.loose file
       → LeavesOnly moment left_since mid new (Reached (OnFile file step) (may_leave mid)) → Within (Reached (OnFile file step) (may_leave mid)) (may_leave new) → Besides file held later
       → Run KeepsStored moment left_since may_leave old new × IsReady later (may_leave new) (Some body)
-  emptied_then old mid new held later body file step first ready c since now besides =
-      (run_on moment left_since may_leave KeepsStored old mid new keeps_then first
-       (run_more moment left_since may_leave (OnFile file step) KeepsStored mid new (record { since = since; now = now }) (λ origin image possible on. emptied_keeps held (may_leave mid) body ready file step origin image c possible on)),
-       ready_besides file held later (may_leave mid) (may_leave new) (Some body) (loose_low held (may_leave mid) body ready file c) besides (λ image left. let r = now image left in (r.0, r.1, r.2.besides)) ready)
+  emptied_then old mid new held later body file step first ready c since now besides = (
+    run_on moment left_since may_leave KeepsStored old mid new keeps_then first
+        (run_more moment left_since may_leave (OnFile file step) KeepsStored mid new (record { since = since; now = now }) (λ origin image possible on. emptied_keeps held (may_leave mid) body ready file step origin image c possible on)),
+    ready_besides file held later (may_leave mid) (may_leave new) (Some body) (loose_low held (may_leave mid) body ready file c) besides (λ image left. let r = now image left in (r.0, r.1, r.2.besides)) ready,
+  )
 
   -- and the list is committed without them
   pub committed_then : (old mid new : D) (held : Image) (body : ListBody) (slot : ℕ) → Run KeepsStored moment left_since may_leave old mid → IsReady held (may_leave mid) (Some body)

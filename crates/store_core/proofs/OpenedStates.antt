@@ -74,6 +74,7 @@ entry_one n (b ∷ bs) = λ x y hx hy e. by_case (entry_one (n + 1) bs) x y e (C
   where
     apart : (x y : Row) → x.place ≡ y.place → Contains (batch_rows n b) x → Contains (entry_rows (n + 1) bs) y → ⊥
     apart x y e hx hy = let first = number_in n b x hx in let later = (entry_numbers (n + 1) bs y hy).0 in let same = ap (λ p. p.number) e in omega (arith, first, later, same)
+
     by_case : OnePlace (entry_rows (n + 1) bs) → (x y : Row) → x.place ≡ y.place → Contains (batch_rows n b) x ⊎ Contains (entry_rows (n + 1) bs) x → Contains (batch_rows n b) y ⊎ Contains (entry_rows (n + 1) bs) y → x ≡ y
     by_case later x y e (inl hx) (inl hy) = one_in_batch n b x y hx hy e
     by_case later x y e (inl hx) (inr hy) = absurd (apart x y e hx hy)

@@ -96,11 +96,16 @@ module _ {D : Type 0} (g : Ghosts D) where
   pub opened_new : (disk : D) (moment : ℕ) (core : Core D) → (IsTrue (g.tells disk) → ImageHoldsList (g.held disk) None) → ((h : History) → IsEmptyHistory h → CoreStandsFor g core (new_machine h))
       → Opened g disk moment core
   opened_new disk moment core none stands = record {
-    stands = λ told h s. (new_machine h, stands h (empty_history (g.held disk) h (none told) s), refl, record {
-      new = λ vacant. refl;
-      found = λ list batches there logged. absurd (let bad : None ≡ Some list = one_list (g.held disk) None (Some list) (none told) there in cc);
-      writes = refl;
-    });
+    stands = λ told h s. (
+      new_machine h,
+      stands h (empty_history (g.held disk) h (none told) s),
+      refl,
+      record {
+        new = λ vacant. refl;
+        found = λ list batches there logged. absurd (let bad : None ≡ Some list = one_list (g.held disk) None (Some list) (none told) there in cc);
+        writes = refl;
+      },
+    );
     some = λ sound. (new_machine no_history, stands no_history no_history_is_empty);
     shows = (new_machine no_history, tells_less _ ⊥ (g.held core.disk) (g.may_leave core.disk) core.state (new_machine no_history) (λ bad. absurd bad) (stands no_history no_history_is_empty));
   }

@@ -12,12 +12,13 @@ use Rattle.store_core.proofs.opening.read_rows.Goals as goal
 pub returns-in-Ok-revive-clause-read : goal.returns-in-Ok-revive-clause-read
 returns-in-Ok-revive-clause-read g c =
     let list = c.args.list.now in
-    let r = c.in-Ok.ensures.read in
-    (r.0,
-     c.in-Ok-revive.ensures.added
-     ∙ ap (λ (l : List Row). c.new-live.result.live ++ arrived c.args.moment l) (ap (rows_from list.floor) r.1 ∙ above_floor list.floor (first_number list) r.0 c.requires.from_floor)
-     ∙ ap (λ (l : List LiveRow). l ++ arrived c.args.moment (entry_rows list.floor (drop (list.floor - first_number list) r.0))) c.new-live.ensures.0,
-     r.2)
+    let r = c.in-Ok.ensures.read in (
+      r.0,
+      c.in-Ok-revive.ensures.added
+          ∙ ap (λ (l : List Row). c.new-live.result.live ++ arrived c.args.moment l) (ap (rows_from list.floor) r.1 ∙ above_floor list.floor (first_number list) r.0 c.requires.from_floor)
+          ∙ ap (λ (l : List LiveRow). l ++ arrived c.args.moment (entry_rows list.floor (drop (list.floor - first_number list) r.0))) c.new-live.ensures.0,
+      r.2,
+    )
 
 pub returns-then-blocks-gt0-clause-not_store : goal.returns-then-blocks-gt0-clause-not_store
 returns-then-blocks-gt0-clause-not_store g c = λ told file at is.
