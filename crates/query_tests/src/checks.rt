@@ -7,7 +7,7 @@ use std::test::Fail;
 use traceql_parse::parse;
 use traceql_types::{
     PatternMaker, Patterns, RegexMaker, ScriptedMaker, TypeError, check, checked_crosses,
-    patterns_in_order,
+    patterns_in_order, refusals_are_counted,
 };
 
 fn refusal(out: &mut String, error: TypeError) -> Result<(), AllocError> {
@@ -214,6 +214,7 @@ fn queries_are_checked_as_worked_out(rt: HostRuntime) -> Result<(), Fail> {
     check_rows(&rt, SEVERAL)?;
     checked_crosses();
     patterns_in_order();
+    refusals_are_counted();
     Ok(())
 }
 

@@ -60,11 +60,11 @@ or_none false b e = (refl, e)
 
 reply_plain : (item : Item) (before : History) (reply : Reply) (after : History) → IsAnsweredOrStarved item before reply after → is_refused item ≡ false
     → is_refusal reply ≡ false
-reply_plain item before reply after (inr starved) none = ap is_refusal starved.0
+reply_plain (Ok asked) before reply after (inr starved) none = ap is_refusal starved.0
 reply_plain (Ok (request.Push reading)) before reply after (inl a) none = ap is_refusal a.0
 reply_plain (Ok (request.Trace id)) before reply after (inl a) none = ap is_refusal a.2
 reply_plain (Ok (request.Search s)) before reply after (inl a) none = ap is_refusal a.2
-reply_plain (Err why) before reply after (inl a) none = ap is_refusal a.0 ∙ none
+reply_plain (Err why) before reply after a none = ap is_refusal a.0 ∙ none
 
 replies_plain : (first last : History) (items : List Item) (replies : List Reply) → Session first items replies last → list_any is_refused items ≡ false
     → list_any is_refusal replies ≡ false

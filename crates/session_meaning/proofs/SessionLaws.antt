@@ -11,19 +11,20 @@ use Rattle.session_meaning.specs.Progress.{IsLineAnswered, Progress}
 use Rattle.session_meaning.specs.Session.{IsAnsweredOrStarved, Session, reply_texts}
 
 -- A line without bytes asks nothing.
-pub AreAsked-empty : (lines : List (List ℕ)) (items : List Item) → AreAsked lines items → AreAsked (lines ++ [] ∷ []) items
-AreAsked-empty [] items h = h
-AreAsked-empty ([] ∷ lines) items h = AreAsked-empty lines items h
-AreAsked-empty ((b ∷ bs) ∷ lines) [] h = h
-AreAsked-empty ((b ∷ bs) ∷ lines) (item ∷ items) h = (h.0, AreAsked-empty lines items h.1)
+pub AreAsked-empty : (lines : List (List ℕ)) (items : List Item) (refused : List (List ℕ)) → AreAsked lines items refused → AreAsked (lines ++ [] ∷ []) items refused
+AreAsked-empty [] items refused h = h
+AreAsked-empty ([] ∷ lines) items refused h = AreAsked-empty lines items refused h
+AreAsked-empty ((b ∷ bs) ∷ lines) [] refused h = h
+AreAsked-empty ((b ∷ bs) ∷ lines) (item ∷ items) refused h = (h.0, h.1, h.2, h.3, AreAsked-empty lines items h.1 h.4)
 
 -- Any other line asks something more.
-pub AreAsked-line : (lines : List (List ℕ)) (items : List Item) (b : ℕ) (bs : List ℕ) (item : Item) → AreAsked lines items
-    → Asks (b ∷ bs) (Unit {0}) item → AreAsked (lines ++ (b ∷ bs) ∷ []) (items ++ item ∷ [])
-AreAsked-line [] items b bs item h a = rw h (a, refl)
-AreAsked-line ([] ∷ lines) items b bs item h a = AreAsked-line lines items b bs item h a
-AreAsked-line ((c ∷ cs) ∷ lines) [] b bs item h a = absurd h
-AreAsked-line ((c ∷ cs) ∷ lines) (i ∷ is) b bs item h a = (h.0, AreAsked-line lines is b bs item h.1 a)
+pub AreAsked-line : (lines : List (List ℕ)) (items : List Item) (refused : List (List ℕ)) (b : ℕ) (bs : List ℕ) (item : Item) (more : List (List ℕ)) → AreAsked lines items refused
+    → Asks (b ∷ bs) more item → AreAsked (lines ++ (b ∷ bs) ∷ []) (items ++ item ∷ []) (refused ++ more)
+AreAsked-line [] items refused b bs item more h a = rw (h.0, h.1) (more, [], sym (append-nil more), a, (refl, refl))
+AreAsked-line ([] ∷ lines) items refused b bs item more h a = AreAsked-line lines items refused b bs item more h a
+AreAsked-line ((c ∷ cs) ∷ lines) [] refused b bs item more h a = absurd h
+AreAsked-line ((c ∷ cs) ∷ lines) (i ∷ is) refused b bs item more h a =
+    (h.0, h.1 ++ more, ap (λ (ts : List (List ℕ)). ts ++ more) h.2 ∙ append_assoc h.0 h.1 more, h.3, AreAsked-line lines is h.1 b bs item more h.4 a)
 
 -- What is asked more adds its reply.
 pub Session-push : (before mid after : History) (items : List Item) (replies : List Reply) (item : Item) (reply : Reply) →
@@ -35,8 +36,8 @@ Session-push before mid after (i ∷ is) [] item reply h a = absurd h
 Session-push before mid after (i ∷ is) (r ∷ rs) item reply h a =
     (h.0, h.1, Session-push h.0 mid after is rs item reply h.2 a)
 
-pub progress_begins : (text : List ℕ) → Progress text text [] no_push
-progress_begins text = record { front = []; answered = []; items = []; text_is = refl; lines_are = refl; asked = refl; session = (refl, refl) }
+pub progress_begins : (text : List ℕ) → Progress text text [] [] no_push
+progress_begins text = record { front = []; answered = []; items = []; text_is = refl; lines_are = refl; asked = (refl, refl); session = (refl, refl) }
 
 one_more : (text answered_lines rest later : List (List ℕ)) (line : List ℕ) → text ≡ answered_lines ++ rest → rest ≡ line ∷ later →
     text ≡ (answered_lines ++ line ∷ []) ++ later
@@ -45,28 +46,28 @@ one_more text answered rest later line split next = split ∙ ap (λ ls. answere
 further : (text front rest past later : List ℕ) → text ≡ front ++ rest → rest ≡ past ++ later → text ≡ (front ++ past) ++ later
 further text front rest past later is parts = is ∙ ap (λ xs. front ++ xs) parts ∙ sym (append_assoc front past later)
 
-pub progress_empty : (text rest past later : List ℕ) (replies : List Reply) (history : History) → Progress text rest replies history →
-    rest ≡ past ++ later → lines rest ≡ [] ∷ lines later → Progress text later replies history
-progress_empty text rest past later replies history p parts next = record {
+pub progress_empty : (text rest past later : List ℕ) (refused : List (List ℕ)) (replies : List Reply) (history : History) → Progress text rest refused replies history →
+    rest ≡ past ++ later → lines rest ≡ [] ∷ lines later → Progress text later refused replies history
+progress_empty text rest past later refused replies history p parts next = record {
   front = p.front ++ past;
   text_is = further text p.front rest past later p.text_is parts;
   answered = p.answered ++ [] ∷ [];
   lines_are = one_more (lines text) p.answered (lines rest) (lines later) [] p.lines_are next;
   items = p.items;
-  asked = AreAsked-empty p.answered p.items p.asked;
+  asked = AreAsked-empty p.answered p.items refused p.asked;
   session = p.session;
 }
 
-pub progress_line : (text rest past later : List ℕ) (replies : List Reply) (history after : History) (b : ℕ) (bs : List ℕ) (reply : Reply) →
-    Progress text rest replies history → rest ≡ past ++ later → lines rest ≡ (b ∷ bs) ∷ lines later → IsLineAnswered (b ∷ bs) history reply after →
-    Progress text later (replies ++ reply ∷ []) after
-progress_line text rest past later replies history after b bs reply p parts next a = record {
+pub progress_line : (text rest past later : List ℕ) (refused more : List (List ℕ)) (replies : List Reply) (history after : History) (b : ℕ) (bs : List ℕ) (reply : Reply) →
+    Progress text rest refused replies history → rest ≡ past ++ later → lines rest ≡ (b ∷ bs) ∷ lines later → IsLineAnswered (b ∷ bs) more history reply after →
+    Progress text later (refused ++ more) (replies ++ reply ∷ []) after
+progress_line text rest past later refused more replies history after b bs reply p parts next a = record {
   front = p.front ++ past;
   text_is = further text p.front rest past later p.text_is parts;
   answered = p.answered ++ (b ∷ bs) ∷ [];
   lines_are = one_more (lines text) p.answered (lines rest) (lines later) (b ∷ bs) p.lines_are next;
   items = p.items ++ a.0 ∷ [];
-  asked = AreAsked-line p.answered p.items b bs a.0 p.asked a.1;
+  asked = AreAsked-line p.answered p.items refused b bs a.0 more p.asked a.1;
   session = Session-push no_push history after p.items replies a.0 reply p.session a.2;
 }
 

@@ -1,5 +1,5 @@
 -- What a run of the program does.
-use Rattle.std.specs.Prelude.{◌≡◌, ◌≢◌, ◌⊎◌, ⊤, ℕ, ◌<◌, List, [], ◌∷◌, ◌++◌, Option, Some, IfSome, count_by, length}
+use Rattle.std.specs.Prelude.{◌≡◌, ◌≢◌, ◌⊎◌, ⊤, ℕ, ◌<◌, List, [], ◌∷◌, ◌++◌, Option, Some, IfSome, length}
 use Rattle.clap.specs.Words.{Kinds, fault_of}
 use Rattle.command_words.specs.Commands.{Alone, Command, Session as session, Spells}
 use Rattle.command_words.specs.Table.{words_app}
@@ -12,55 +12,57 @@ use Rattle.session_text.specs.Requests.{Asks}
 use Rattle.session_meaning.specs.declared.ending.Ending.{Ending}
 use Rattle.session_meaning.specs.declared.ending.Ending.TheVariants.{Answered, BadWords, ReadFault, Refused, Spent, Starved, WriteFault}
 use Rattle.session_meaning.specs.History.{History, no_push}
-use Rattle.session_meaning.specs.Session.{Ends, EndsAlone, RoseBy, Session, is_too_big}
+use Rattle.session_meaning.specs.Session.{Ends, EndsAlone, Session}
 
--- What the source, the sink and the maker of patterns tell at a moment: the bytes that the source has left and those that
--- the sink has taken, where they tell them, and their counts of faults and of refusals.
+-- What the source and the sink tell at a moment: the bytes that the source has left and those that the sink has taken,
+-- where they tell them, and their counts of faults.
 pub record Edges : Type 0 where
   pub left : Option (List ℕ)
   pub taken : Option (List ℕ)
   pub source_faults : ℕ
   pub sink_faults : ℕ
-  pub refusals : ℕ
 
 -- They tell it by these functions.
-abbrev pub edges : {S K P : Type 0} → (S → Option (List ℕ)) → (S → ℕ) → (K → Option (List ℕ)) → (K → ℕ) → (P → ℕ) → S → K → P → Edges
-edges left source_faults taken sink_faults refusals source sink patterns = record {
+abbrev pub edges : {S K : Type 0} → (S → Option (List ℕ)) → (S → ℕ) → (K → Option (List ℕ)) → (K → ℕ) → S → K → Edges
+edges left source_faults taken sink_faults source sink = record {
   left = left source;
   taken = taken sink;
   source_faults = source_faults source;
   sink_faults = sink_faults sink;
-  refusals = refusals patterns;
 }
 
--- What happened in a run: how it ended, and what was asked and answered from which history to which.
+-- What happened in a run: how it ended, what was asked and answered from which history to which, and which texts the
+-- maker of patterns refused, in order.
 pub record Outcome : Type 0 where
   pub ending : Ending
   pub first : History
   pub items : List Item
+  pub refused : List (List ℕ)
   pub replies : List Reply
   pub last : History
 
 -- ---- what each command does
 
 -- A session that read `text`: the lines of a prefix were answered in order from no push on, and their replies, and
--- nothing else, stand written as the ending says.
+-- nothing else, stand written as the ending says. What the maker refused is, in order, the text of the pattern that each
+-- line refused for a pattern's size is refused for, and no other.
 pub record HasRun (text before : List ℕ) (o : Outcome) (new : Edges) : Type 0 where
   pub answered : List (List ℕ)
   pub later : List (List ℕ)
   pub lines_are : lines text ≡ answered ++ later
-  pub asked : AreAsked answered o.items
+  pub asked : AreAsked answered o.items o.refused
   pub begins : o.first ≡ no_push
   pub session : Session o.first o.items o.replies o.last
   pub ends : Ends o.ending text later new.left before o.replies new.taken
 
--- One line was answered alone, from no push on, and its reply stands written as the ending says.
+-- One line was answered alone, from no push on, and its reply stands written as the ending says. The maker refused just
+-- the pattern that it is refused for, if it is for a pattern's size.
 pub record HasAnswered (line before : List ℕ) (o : Outcome) (new : Edges) : Type 0 where
   pub item : Item
   pub reply : Reply
   pub items_are : o.items ≡ item ∷ []
   pub replies_are : o.replies ≡ reply ∷ []
-  pub asked : Asks line (Unit {0}) item
+  pub asked : Asks line o.refused item
   pub begins : o.first ≡ no_push
   pub session : Session o.first o.items o.replies o.last
   pub ends : EndsAlone o.ending before reply new.taken
@@ -93,13 +95,12 @@ FitsWords (fault ∷ faults) ending = (ending ≡ BadWords) ⊎ (ending ≡ Star
 
 -- ---- a run
 
--- A run on these words between the edges as they were and as they are: what the words ask was done, the ending has its
--- cause, and each refusal of a pattern for its size was counted by the maker of patterns.
+-- A run on these words between the edges as they were and as they are: what the words ask was done, and the ending has
+-- its cause.
 pub record IsRunOf (words : List (List ℕ)) (o : Outcome) (old new : Edges) : Type 0 where
   pub words_fit : FitsWords (fault_of words_app words) o.ending
   pub does : (c : Command) → Spells words c → Does c o old new
   pub cause : HasCause o.ending old new
-  pub counted : RoseBy (count_by is_too_big o.replies) old.refusals new.refusals
 
 -- ---- runs that come to their own end
 

@@ -1,5 +1,5 @@
 -- What is asked in a session is answered in order, each at the history that what came before it left.
-use Rattle.std.specs.Prelude.{◌≡◌, ◌⊎◌, ℕ, ◌+◌, ◌-◌, ◌^◌, ◌<◌, ◌≤◌, min, Bool, true, false, List, [], ◌∷◌, ◌++◌, length, take, count_by, Option, Some, Result, Ok, Err, if◌then◌else◌}
+use Rattle.std.specs.Prelude.{◌≡◌, ◌⊎◌, ℕ, ◌+◌, ◌<◌, ◌≤◌, Bool, true, false, List, [], ◌∷◌, ◌++◌, length, take, Option, Some, Result, Ok, Err, if◌then◌else◌}
 use Rattle.io_edges.specs.Lines.{lines, taken_limit}
 use Rattle.io_edges.specs.Reader.{HasNoFeed}
 use Rattle.std.specs.List.{list_any}
@@ -11,7 +11,7 @@ use Rattle.session_text.specs.declared.request.Request.TheVariants as request
 use Rattle.session_text.specs.declared.request.Search.{Search}
 use Rattle.session_text.specs.declared.reply.Reply.{Reply}
 use Rattle.session_text.specs.declared.refusal.Refusal.{Refusal}
-use Rattle.session_text.specs.declared.refusal.Refusal.TheVariants.{PatternTooBig, Memory}
+use Rattle.session_text.specs.declared.refusal.Refusal.TheVariants.{Memory}
 use Rattle.session_text.specs.declared.reply.Reply.TheVariants.{Pushed, Traced, Searched, Refused}
 use Rattle.session_meaning.specs.declared.ending.Ending.{Ending}
 use Rattle.session_meaning.specs.declared.ending.Ending.TheVariants.{Answered, BadWords, ReadFault, Spent, Starved, WriteFault}
@@ -48,15 +48,6 @@ abbrev pub is_for_memory : Reply → Bool
 is_for_memory (Refused why) = is_memory why
 is_for_memory _ = false
 
--- A refusal of a pattern for its size.
-abbrev pub is_size : Refusal → Bool
-is_size (PatternTooBig at) = true
-is_size _ = false
-
-abbrev pub is_too_big : Reply → Bool
-is_too_big (Refused why) = is_size why
-is_too_big _ = false
-
 -- The texts of replies, in order.
 abbrev pub reply_texts : List Reply → List ℕ
 reply_texts [] = []
@@ -83,10 +74,12 @@ IsAnswered (Ok (request.Search s)) before reply after =
     (results : List TraceResult) × IsFound s before results × (reply ≡ Searched (length_of before) (printed_fields (query_tree s.checked.query)) results) × (after ≡ before)
 IsAnswered (Err why) before reply after = (reply ≡ Refused why) × (after ≡ before)
 
--- The same, or memory was wanted: it is refused for that, and nothing is appended.
+-- The same, or memory was wanted for what is asked: it is refused for that, and nothing is appended. What was refused in
+-- reading is refused for that cause.
 abbrev pub IsAnsweredOrStarved : Item → History → Reply → History → Type 0
-IsAnsweredOrStarved asked before reply after =
-    IsAnswered asked before reply after ⊎ ((reply ≡ Refused Memory) × (after ≡ before))
+IsAnsweredOrStarved (Ok asked) before reply after =
+    IsAnswered (Ok asked) before reply after ⊎ ((reply ≡ Refused Memory) × (after ≡ before))
+IsAnsweredOrStarved (Err why) before reply after = IsAnswered (Err why) before reply after
 
 -- What is asked is answered in order, from a history to a history.
 abbrev pub Session : History → List Item → List Reply → History → Type 0
@@ -138,11 +131,6 @@ Ends WriteFault text later left before replies taken = (count : ℕ) × IsCutOff
 Ends ReadFault text later left before replies taken = IsWritten before replies taken × IsAllEnded text later left
 Ends Spent text later left before replies taken = IsWritten before replies taken × IsAllEnded text later left × (taken_limit ≤ length text)
 Ends BadWords text later left before replies taken = ⊥
-
--- The maker's count of refusals, from `before` to `now`, rose by at least so many. A count of 64 bits stands still at its
--- end.
-abbrev pub RoseBy : ℕ → ℕ → ℕ → Type 0
-RoseBy n before now = min (before + n) (2 ^ 64 - 1) ≤ now
 
 -- How a run ends that answers one line alone, and what stands written: the reply; nothing or a first part of it, where
 -- memory was wanted or the sink failed.

@@ -1,5 +1,5 @@
 -- Lines that are UTF-8, and lines that aren't.
-use Rattle.std.proofs.Common.{◌≡◌, ◌≤◌, ◌∙◌, ℕ, Bool, true, false, List, Err, codes, length, refl, sym, ap}
+use Rattle.std.proofs.Common.{◌≡◌, ◌≤◌, ℕ, Bool, true, false, List, Err, codes, length, refl, sym, ap}
 use Rattle.std.specs.Prelude.{nat_le}
 use Rattle.std.specs.Str.{bytes_eq, is_utf8, IsUtf8}
 use Rattle.std.proofs.lemmas.Bool.{le-leb}
@@ -7,7 +7,7 @@ use Rattle.std.proofs.lemmas.Str.{IsUtf8-from_is_utf8, is_utf8-from_IsUtf8}
 use Rattle.io_edges.specs.Lines.{line_limit}
 use Rattle.session_text.specs.declared.refusal.Refusal.TheVariants.{BadRequest}
 use Rattle.session_text.specs.Lines.{first_part, other_parts}
-use Rattle.session_text.specs.Requests.{Line, line_of, other_line, plain}
+use Rattle.session_text.specs.Requests.{line_of, other_line, plain}
 
 no_text : (bytes : List ℕ) → (IsUtf8 bytes → ⊥) → is_utf8 bytes ≡ false
 no_text bytes h = go (is_utf8 bytes) refl

@@ -1,5 +1,5 @@
 -- The texts of replies. Each ends with a line feed.
-use Rattle.std.specs.Prelude.{◌≡◌, ℕ, List, [], ◌∷◌, ◌++◌, Bool, true, false, length, codes, decimal}
+use Rattle.std.specs.Prelude.{ℕ, List, [], ◌∷◌, ◌++◌, length, codes, decimal}
 use Rattle.otlp_spans.specs.Writing.{spans_in, trace_text}
 use Rattle.search_text.specs.Results.{results_text}
 use Rattle.session_text.specs.declared.refusal.KindFault.{KindFault}

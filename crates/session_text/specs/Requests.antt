@@ -1,5 +1,5 @@
 -- What a line asks, or why it asks nothing.
-use Rattle.std.specs.Prelude.{◌≡◌, ◌⊎◌, ⊤, ℕ, ◌+◌, ◌≤◌, List, [], ◌∷◌, length, codes, nat_le, if◌then◌else◌, Option, Some, None, Result, Ok, Err}
+use Rattle.std.specs.Prelude.{◌≡◌, ◌⊎◌, ⊤, ℕ, ◌+◌, ◌≤◌, List, [], length, codes, nat_le, if◌then◌else◌, Option, Some, None, Result, Ok, Err}
 use Rattle.std.specs.Str.{bytes_eq, is_utf8}
 use Rattle.span_types.specs.declared.ids.TraceId.{TraceId}
 use Rattle.span_types.specs.declared.limits.TheConstants.{MOST_SPANS}
@@ -77,19 +77,20 @@ unfoldable pub line_of : List ℕ → Line
 line_of line = if nat_le (length line) line_limit then request_of line else plain (Err (TooLong (length line)))
 
 -- a search as an answer to a line
-abbrev pub AsksSearch : SearchLine → Type 0 → Result Request Refusal → Type 0
-AsksSearch line rose (Ok (Search s)) = ReadsSearch line rose (Ok s)
-AsksSearch line rose (Ok other) = ⊥
-AsksSearch line rose (Err e) = ReadsSearch line rose (Err e)
+abbrev pub AsksSearch : SearchLine → List (List ℕ) → Result Request Refusal → Type 0
+AsksSearch line refused (Ok (Search s)) = ReadsSearch line refused (Ok s)
+AsksSearch line refused (Ok other) = ⊥
+AsksSearch line refused (Err e) = ReadsSearch line refused (Err e)
 
 -- what may be answered to a line of which this is known; want of memory may take the place of any answer
-abbrev pub Answers : Line → Type 0 → Result Request Refusal → Type 0
-Answers (searched line) rose result = AsksSearch line rose result
-Answers (plain answer) rose result = (result ≡ answer) ⊎ (result ≡ Err Memory)
+abbrev pub Answers : Line → List (List ℕ) → Result Request Refusal → Type 0
+Answers (searched line) refused result = AsksSearch line refused result
+Answers (plain answer) refused result = ((result ≡ answer) ⊎ (result ≡ Err Memory)) × (refused ≡ [])
 
--- What a line asks, or why it asks nothing. `rose` says that the maker of patterns refused one.
-abbrev pub Asks : List ℕ → Type 0 → Result Request Refusal → Type 0
-Asks line rose result = Answers (line_of line) rose result
+-- What a line asks, or why it asks nothing, where the maker of patterns refused these texts: none, unless the line is
+-- refused for a pattern's size, and then the text of the pattern at the refusal's place in the line's query.
+abbrev pub Asks : List ℕ → List (List ℕ) → Result Request Refusal → Type 0
+Asks line refused result = Answers (line_of line) refused result
 
 -- A push has at most as many spans as a line may have.
 abbrev pub HasFewSpans : Request → Type 0

@@ -1,5 +1,5 @@
 -- What a search's line may be answered.
-use Rattle.std.specs.Prelude.{◌≡◌, ◌≤◌, ◌⊎◌, ℕ, List, length, Result, Ok, Err}
+use Rattle.std.specs.Prelude.{◌≡◌, ◌≤◌, ◌⊎◌, ℕ, List, [], ◌∷◌, length, Result, Ok, Err}
 use Rattle.traceql_syntax.specs.declared.errors.ParseError.{ParseError}
 use Rattle.traceql_syntax.specs.declared.errors.ParseError.TheVariants as parse
 use Rattle.span_types.specs.declared.limits.TheConstants.{MOST_QUERY_BYTES}
@@ -7,13 +7,11 @@ use Rattle.traceql_syntax.specs.Refusals.{DEPTH, IsRefusal, Reads}
 use Rattle.traceql_syntax.specs.Trees.{QueryTree, query_tree}
 use Rattle.traceql_types.specs.declared.errors.TypeError.{TypeError}
 use Rattle.traceql_types.specs.declared.errors.TypeError.TheVariants as type
-use Rattle.traceql_types.specs.Checks.{ComesAfterMade, GoesFirst, HasCause}
+use Rattle.traceql_types.specs.Checks.{Blames, ComesAfterMade, GoesFirst, HasCause}
 use Rattle.session_text.specs.declared.refusal.KindFault.TheVariants as kind
 use Rattle.session_text.specs.declared.refusal.QueryFault.TheVariants as query
 use Rattle.session_text.specs.declared.refusal.Refusal.{Refusal}
 use Rattle.session_text.specs.declared.refusal.Refusal.TheVariants.{BadQuery, BadType, BadPattern, PatternTooBig, Memory}
-use Rattle.session_text.specs.declared.request.Request.{Request}
-use Rattle.session_text.specs.declared.request.Request.TheVariants as request
 use Rattle.session_text.specs.declared.request.Search.{Search}
 use Rattle.session_text.specs.Options.{SearchLine}
 
@@ -57,17 +55,18 @@ pub record IsNoQuery (text : List ℕ) (e : Refusal) : Type 0 where
   pub right : IsRefusal text why
 
 -- The text is a query whose kinds don't fit or whose patterns weren't all made, and this is the first refusal of it.
--- `rose` says that the maker of patterns refused one.
-pub record DoesNotFit (text : List ℕ) (rose : Type 0) (e : Refusal) : Type 0 where
+-- `refused` are the texts that the maker of patterns refused: that of the pattern which is blamed for its size, if one is.
+pub record DoesNotFit (text : List ℕ) (refused : List (List ℕ)) (e : Refusal) : Type 0 where
   pub tree : QueryTree
   pub query : IsQuery text tree
   pub why : TypeError
   pub is : e ≡ of_check why
-  pub cause : HasCause tree (λ text. rose) why
+  pub cause : HasCause tree (λ text. refused ≡ text ∷ []) why
   pub first : GoesFirst tree why
   pub after_made : ComesAfterMade tree why
+  pub blamed : Blames tree refused why
 
--- what a search's line may be answered
-abbrev pub ReadsSearch : SearchLine → Type 0 → Result Search Refusal → Type 0
-ReadsSearch line rose (Ok s) = IsSearch line s
-ReadsSearch line rose (Err e) = IsNoQuery line.query e ⊎ DoesNotFit line.query rose e
+-- what a search's line may be answered, where the maker of patterns refused these texts
+abbrev pub ReadsSearch : SearchLine → List (List ℕ) → Result Search Refusal → Type 0
+ReadsSearch line refused (Ok s) = IsSearch line s × (refused ≡ [])
+ReadsSearch line refused (Err e) = (IsNoQuery line.query e × (refused ≡ [])) ⊎ DoesNotFit line.query refused e

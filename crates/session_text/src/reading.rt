@@ -1,7 +1,7 @@
 //! What a line asks.
 
-ghost use Rattle.std.specs.Prelude.{◌≡◌, ◌⊎◌, ◌≤◌, IfOk, Err, Ok, Some, None, option_map, length};
-ghost use Rattle.span_types.specs.Faults.{Rose};
+ghost use Rattle.std.specs.Prelude.{◌≡◌, ◌⊎◌, ℕ, List, IfOk, Err, Ok, Some, None, option_map, length};
+ghost use Rattle.traceql_types.specs.Makers.{RefusesOnly};
 ghost use Rattle.session_text.specs.declared.refusal.Refusal.TheVariants.{Memory};
 ghost use Rattle.session_text.specs.Lines.{first_part, other_parts};
 ghost use Rattle.session_text.specs.Options.{search_parts};
@@ -37,10 +37,10 @@ pub fn read_request<P: PatternMaker>(
     line: &[u8],
     maker: &mut P,
 ) -> Result<Request, Refusal>
-    ensures asked { Asks line.now (Rose (P.refusals maker.old) (P.refusals maker.new)) result }
+    // The maker refused just the pattern that the line is refused for, if it is for a pattern's size.
+    ensures asked { (refused : List (List ℕ)) × RefusesOnly P.makes maker.old maker.new refused
+        × Asks line.now refused result }
     ensures few { IfOk result (λ request. HasFewSpans request) }
-    ensures counted { P.refusals maker.old ≤ P.refusals maker.new }
-    ensures unrefused { IfOk result (λ request. P.refusals maker.new ≡ P.refusals maker.old) }
 {
     if line.len() > LINE_LIMIT {
         return Err(Refusal::TooLong {
@@ -72,10 +72,9 @@ fn split(line: &[u8]) -> (&[u8], Option<&[u8]>)
 
 /// What a line of UTF-8 asks that is no push and not too long.
 fn asked_by<P: PatternMaker>(alloc: Global, line: &str, maker: &mut P) -> Result<Request, Refusal>
-    ensures asked { Answers (other_line (first_part line.now) line.now (other_parts line.now)) (Rose (P.refusals maker.old) (P.refusals maker.new)) result }
+    ensures asked { (refused : List (List ℕ)) × RefusesOnly P.makes maker.old maker.new refused
+        × Answers (other_line (first_part line.now) line.now (other_parts line.now)) refused result }
     ensures few { IfOk result (λ request. HasFewSpans request) }
-    ensures counted { P.refusals maker.old ≤ P.refusals maker.new }
-    ensures unrefused { IfOk result (λ request. P.refusals maker.new ≡ P.refusals maker.old) }
 {
     let (word, rest) = split_text(line);
     match word {
@@ -129,10 +128,9 @@ fn search_with<P: PatternMaker>(
     rest: Option<&str>,
     maker: &mut P,
 ) -> Result<Request, Refusal>
-    ensures asked { Answers (search_with (search_parts length (left_parsed rest.entry))) (Rose (P.refusals maker.old) (P.refusals maker.new)) result }
+    ensures asked { (refused : List (List ℕ)) × RefusesOnly P.makes maker.old maker.new refused
+        × Answers (search_with (search_parts length (left_parsed rest.entry))) refused result }
     ensures few { IfOk result (λ request. HasFewSpans request) }
-    ensures counted { P.refusals maker.old ≤ P.refusals maker.new }
-    ensures unrefused { IfOk result (λ request. P.refusals maker.new ≡ P.refusals maker.old) }
 {
     let line = match search_parts(length, rest) {
         Ok(line) => line,

@@ -1,8 +1,8 @@
 //! What a search's line asks, from its parts.
 
-ghost use Rattle.std.specs.Prelude.{◌≡◌, ◌≤◌, IfOk, IfErr};
-ghost use Rattle.span_types.specs.Faults.{Rose};
+ghost use Rattle.std.specs.Prelude.{◌≡◌, ℕ, List, IfOk, IfErr};
 ghost use Rattle.traceql_syntax.specs.Trees.{query_tree};
+ghost use Rattle.traceql_types.specs.Makers.{RefusesOnly};
 ghost use Rattle.session_text.specs.Searches.{DoesNotFit, IsNoQuery, IsQuery, ReadsSearch, of_check, of_parse};
 ghost use Rattle.session_text.specs.Parsed.{parts_parsed};
 
@@ -65,9 +65,8 @@ pub(crate) fn search<P: PatternMaker>(
     line: SearchLine<'_>,
     maker: &mut P,
 ) -> Result<Search, Refusal>
-    ensures search { ReadsSearch (parts_parsed line.entry) (Rose (P.refusals maker.old) (P.refusals maker.new)) result }
-    ensures counted { P.refusals maker.old ≤ P.refusals maker.new }
-    ensures unrefused { IfOk result (λ s. P.refusals maker.new ≡ P.refusals maker.old) }
+    ensures { (refused : List (List ℕ)) × RefusesOnly P.makes maker.old maker.new refused
+        × ReadsSearch (parts_parsed line.entry) refused result }
 {
     let query = query_of(alloc, line.query)?;
     match check(alloc, query, maker) {

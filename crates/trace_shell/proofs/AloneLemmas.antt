@@ -57,11 +57,11 @@ written_alone before old new tally r is given =
     subst (λ s. EndsAlone (ending_of s) before r new) (sym given.1) (by_refusal before r new (is_refusal r) (is_for_memory r) refl refl written)
 
 -- want of memory may be the answer to any line
-memory_answers : (l : Line) → Answers l (Unit {0}) (Err refusal.Memory)
-memory_answers (searched line) = inl (record { why = parse.Memory; is = refl; right = tt })
-memory_answers (plain answer) = inr refl
+memory_answers : (l : Line) → Answers l [] (Err refusal.Memory)
+memory_answers (searched line) = inl (record { why = parse.Memory; is = refl; right = tt }, refl)
+memory_answers (plain answer) = (inr refl, refl)
 
 -- nothing was written, since memory was wanted
-pub starved_alone : (line before : List ℕ) (taken : Option (List ℕ)) (count : ℕ) → taken ≡ Some before → CameAlone line before taken Starved count count
-starved_alone line before taken count is =
-    (reply.Refused refusal.Memory, no_push, (Err refusal.Memory, memory_answers (line_of line), inr (refl, refl)), inr is, omega arith)
+pub starved_alone : (line before : List ℕ) (taken : Option (List ℕ)) → taken ≡ Some before → CameAlone line before taken Starved []
+starved_alone line before taken is =
+    (reply.Refused refusal.Memory, no_push, (Err refusal.Memory, memory_answers (line_of line), refl, refl), inr is)

@@ -3,5 +3,4 @@ pub mod SessionLemmas
 pub mod TurnLemmas
 pub mod AloneLemmas
 pub mod RunLemmas
-pub mod SizeLemmas
 pub mod ArgumentLemmas

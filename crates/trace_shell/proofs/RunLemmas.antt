@@ -1,5 +1,5 @@
 -- What was done by a run, from what its command came to.
-use Rattle.std.proofs.Common.{◌≡◌, ◌≢◌, ◌⊎◌, inl, inr, ℕ, ◌≤◌, List, [], ◌∷◌, Option, Some, None, append-nil, ap, arith, refl, subst, sym, ◌∙◌}
+use Rattle.std.proofs.Common.{◌≡◌, ◌≢◌, ◌⊎◌, inl, inr, ℕ, List, [], ◌∷◌, Option, Some, None, append-nil, ap, refl, subst, sym, ◌∙◌}
 use Rattle.std.specs.Prelude.{All, IfSome}
 use Rattle.std.specs.Str.{IsUtf8}
 use Rattle.clap.specs.Words.{Kinds, fault_of}
@@ -13,6 +13,8 @@ use Rattle.session_meaning.specs.declared.ending.Ending.{Ending}
 use Rattle.session_meaning.specs.declared.ending.Ending.TheVariants.{Answered, BadWords, ReadFault, Refused, Spent, Starved, WriteFault}
 use Rattle.session_meaning.specs.History.{no_push}
 use Rattle.session_meaning.specs.Runs.{Does, Edges, FitsWords, HasAnswered, HasCause, HasRun, IsRunOf, NeedsNoSource, Outcome}
+use Rattle.traceql_types.specs.Makers.{Makes, RefusesOnly}
+use Rattle.traceql_types.proofs.Calls.{refuses-none}
 use Rattle.trace_shell.specs.Turn.{Came, CameAlone}
 use Rattle.trace_shell.proofs.AloneLemmas.{starved_alone}
 
@@ -35,37 +37,41 @@ fits_asked words c e s not = subst (λ (k : Kinds). FitsWords k e) (sym (spelled
 by_one : (words : List (List ℕ)) (c : Command) (o : Outcome) (old new : Edges) → Spells words c → Does c o old new → (d : Command) → Spells words d → Does d o old new
 by_one words c o old new s does d t = subst (λ (k : Command). Does k o old new) (spelled_one words c d s t) does
 
--- An outcome of nothing.
-abbrev nothing : Ending → Outcome
-nothing e = record { ending = e; first = no_push; items = []; replies = []; last = no_push }
+-- An outcome of nothing but what the maker refused.
+abbrev nothing : Ending → List (List ℕ) → Outcome
+nothing e blamed = record { ending = e; first = no_push; items = []; refused = blamed; replies = []; last = no_push }
+
+-- What a run of a maker between these states came to.
+abbrev Ran : {M : Type 0} → Makes M → M → M → List (List ℕ) → Ending → Edges → Edges → Type 0
+Ran makes a b words e old new = (o : Outcome) × (o.ending ≡ e) × RefusesOnly makes a b o.refused × IsRunOf words o old new
 
 -- ---- a session
 
-pub session_runs : (words : List (List ℕ)) (e : Ending) (old new : Edges) → Spells words session
-    → ((text before : List ℕ) → old.left ≡ Some text → old.taken ≡ Some before → Came text before new.left new.taken e old.refusals new.refusals)
-    → HasCause e old new → e ≢ BadWords → old.refusals ≤ new.refusals → (o : Outcome) × (o.ending ≡ e) × IsRunOf words o old new
-session_runs words e old new s came cause not counted = go old.left old.taken refl refl
+pub session_runs : {M : Type 0} (makes : Makes M) (a b : M) (blamed : List (List ℕ)) → RefusesOnly makes a b blamed → (words : List (List ℕ)) (e : Ending) (old new : Edges) → Spells words session
+    → ((text before : List ℕ) → old.left ≡ Some text → old.taken ≡ Some before → Came text before new.left new.taken e blamed)
+    → HasCause e old new → e ≢ BadWords → Ran makes a b words e old new
+session_runs makes a b blamed only words e old new s came cause not = go old.left old.taken refl refl
   where
-    untold : Does session (nothing e) old new → (o : Outcome) × (o.ending ≡ e) × IsRunOf words o old new
+    untold : Does session (nothing e blamed) old new → Ran makes a b words e old new
     untold does = (
-      nothing e,
+      nothing e blamed,
       refl,
+      only,
       record {
         words_fit = fits_asked words session e s not;
-        does = by_one words session (nothing e) old new s does;
+        does = by_one words session (nothing e blamed) old new s does;
         cause = cause;
-        counted = omega (arith, counted);
       },
     )
 
-    go : (l t : Option (List ℕ)) → old.left ≡ l → old.taken ≡ t → (o : Outcome) × (o.ending ≡ e) × IsRunOf words o old new
-    go None t el et = untold (subst (λ l. IfSome l (λ text. IfSome old.taken (λ before. HasRun text before (nothing e) new))) (sym el) tt)
+    go : (l t : Option (List ℕ)) → old.left ≡ l → old.taken ≡ t → Ran makes a b words e old new
+    go None t el et = untold (subst (λ l. IfSome l (λ text. IfSome old.taken (λ before. HasRun text before (nothing e blamed) new))) (sym el) tt)
     go (Some text) None el et =
-        untold (subst (λ l. IfSome l (λ x. IfSome old.taken (λ before. HasRun x before (nothing e) new))) (sym el)
-        (subst (λ t. IfSome t (λ before. HasRun text before (nothing e) new)) (sym et) tt))
+        untold (subst (λ l. IfSome l (λ x. IfSome old.taken (λ before. HasRun x before (nothing e blamed) new))) (sym el)
+        (subst (λ t. IfSome t (λ before. HasRun text before (nothing e blamed) new)) (sym et) tt))
     go (Some text) (Some before) el et =
         let w = came text before el et in
-        let o : Outcome = record { ending = e; first = no_push; items = w.items; replies = w.replies; last = w.last } in
+        let o : Outcome = record { ending = e; first = no_push; items = w.items; refused = blamed; replies = w.replies; last = w.last } in
         let has : HasRun text before o new = record {
           answered = w.answered;
           later = w.later;
@@ -79,36 +85,36 @@ session_runs words e old new s came cause not counted = go old.left old.taken re
         subst (λ l. IfSome l (λ x. IfSome old.taken (λ b. HasRun x b o new))) (sym el) (subst (λ t. IfSome t (λ b. HasRun text b o new)) (sym et) has) in (
           o,
           refl,
+          only,
           record {
             words_fit = fits_asked words session e s not;
             does = by_one words session o old new s does;
             cause = cause;
-            counted = w.counted;
           },
         )
 
 -- ---- a line alone
 
-pub alone_runs : (words : List (List ℕ)) (l : List ℕ) (e : Ending) (old new : Edges) → Spells words (Alone l)
-    → ((before : List ℕ) → old.taken ≡ Some before → CameAlone l before new.taken e old.refusals new.refusals)
-    → HasCause e old new → e ≢ BadWords → NeedsNoSource e → old.refusals ≤ new.refusals → (o : Outcome) × (o.ending ≡ e) × IsRunOf words o old new
-alone_runs words l e old new s came cause not own counted = go old.taken refl
+pub alone_runs : {M : Type 0} (makes : Makes M) (a b : M) (blamed : List (List ℕ)) → RefusesOnly makes a b blamed → (words : List (List ℕ)) (l : List ℕ) (e : Ending) (old new : Edges) → Spells words (Alone l)
+    → ((before : List ℕ) → old.taken ≡ Some before → CameAlone l before new.taken e blamed)
+    → HasCause e old new → e ≢ BadWords → NeedsNoSource e → Ran makes a b words e old new
+alone_runs makes a b blamed only words l e old new s came cause not own = go old.taken refl
   where
-    go : (t : Option (List ℕ)) → old.taken ≡ t → (o : Outcome) × (o.ending ≡ e) × IsRunOf words o old new
+    go : (t : Option (List ℕ)) → old.taken ≡ t → Ran makes a b words e old new
     go None et =
-        let does : Does (Alone l) (nothing e) old new = (own, subst (λ t. IfSome t (λ b. HasAnswered l b (nothing e) new)) (sym et) tt) in (
-          nothing e,
+        let does : Does (Alone l) (nothing e blamed) old new = (own, subst (λ t. IfSome t (λ b. HasAnswered l b (nothing e blamed) new)) (sym et) tt) in (
+          nothing e blamed,
           refl,
+          only,
           record {
             words_fit = fits_asked words (Alone l) e s not;
-            does = by_one words (Alone l) (nothing e) old new s does;
+            does = by_one words (Alone l) (nothing e blamed) old new s does;
             cause = cause;
-            counted = omega (arith, counted);
           },
         )
     go (Some before) et =
         let w = came before et in
-        let o : Outcome = record { ending = e; first = no_push; items = w.2.0 ∷ []; replies = w.0 ∷ []; last = w.1 } in
+        let o : Outcome = record { ending = e; first = no_push; items = w.2.0 ∷ []; refused = blamed; replies = w.0 ∷ []; last = w.1 } in
         let has : HasAnswered l before o new = record {
           item = w.2.0;
           reply = w.0;
@@ -122,64 +128,66 @@ alone_runs words l e old new s came cause not own counted = go old.taken refl
         let does : Does (Alone l) o old new = (own, subst (λ t. IfSome t (λ b. HasAnswered l b o new)) (sym et) has) in (
           o,
           refl,
+          only,
           record {
             words_fit = fits_asked words (Alone l) e s not;
             does = by_one words (Alone l) o old new s does;
             cause = cause;
-            counted = w.4;
           },
         )
 
 -- ---- where nothing was done
 
 -- Memory was wanted for the words.
-starved_session : (text before : List ℕ) (left taken : Option (List ℕ)) (count : ℕ) → taken ≡ Some before → Came text before left taken Starved count count
-starved_session text before left taken count is = record {
+starved_session : (text before : List ℕ) (left taken : Option (List ℕ)) → taken ≡ Some before → Came text before left taken Starved []
+starved_session text before left taken is = record {
   answered = [];
   later = lines text;
   items = [];
   replies = [];
   last = no_push;
   lines_are = refl;
-  asked = refl;
+  asked = (refl, refl);
   session = (refl, refl);
   ends = inr (inl (is ∙ ap Some (sym (append-nil before))));
-  counted = omega arith;
 }
 
 starved_is_no_fault : Starved ≢ BadWords
 starved_is_no_fault e = cc
 
-pub starved_runs : (words : List (List ℕ)) (old : Edges) → All IsUtf8 words → (o : Outcome) × (o.ending ≡ Starved) × IsRunOf words o old old
-starved_runs words old text = go (fault_of words_app words) refl
+pub starved_runs : {M : Type 0} (makes : Makes M) (a : M) (words : List (List ℕ)) (old : Edges) → All IsUtf8 words → Ran makes a a words Starved old old
+starved_runs makes a words old text = go (fault_of words_app words) refl
   where
-    asked : (c : Command) → Spells words c → (o : Outcome) × (o.ending ≡ Starved) × IsRunOf words o old old
-    asked session s = session_runs words Starved old old s (λ text before el et. starved_session text before old.left old.taken old.refusals et) tt starved_is_no_fault (omega arith)
-    asked (Alone line) s = alone_runs words line Starved old old s (λ before et. starved_alone line before old.taken old.refusals et) tt starved_is_no_fault tt (omega arith)
+    none : RefusesOnly makes a a []
+    none = refuses-none makes a a a
 
-    go : (k : Kinds) → fault_of words_app words ≡ k → (o : Outcome) × (o.ending ≡ Starved) × IsRunOf words o old old
+    asked : (c : Command) → Spells words c → Ran makes a a words Starved old old
+    asked session s = session_runs makes a a [] none words Starved old old s (λ text before el et. starved_session text before old.left old.taken et) tt starved_is_no_fault
+    asked (Alone line) s = alone_runs makes a a [] none words line Starved old old s (λ before et. starved_alone line before old.taken et) tt starved_is_no_fault tt
+
+    go : (k : Kinds) → fault_of words_app words ≡ k → Ran makes a a words Starved old old
     go [] clean = let some = spelled_some words text clean in asked some.0 some.1
     go (k ∷ ks) is = (
-      nothing Starved,
+      nothing Starved [],
       refl,
+      none,
       record {
         words_fit = subst (λ (f : Kinds). FitsWords f Starved) (sym is) (inr refl);
         does = λ c s. let clean = spelled_clean words c s in let bad : ⊥ = cc in absurd bad;
         cause = tt;
-        counted = omega arith;
       },
     )
 
 -- The words were refused.
-pub refused_runs : (words : List (List ℕ)) (old : Edges) → fault_of words_app words ≢ [] → (o : Outcome) × (o.ending ≡ BadWords) × IsRunOf words o old old
-refused_runs words old faulty = (
-  nothing BadWords,
+pub refused_runs : {M : Type 0} (makes : Makes M) (a : M) (words : List (List ℕ)) (old : Edges) → fault_of words_app words ≢ [] → Ran makes a a words BadWords old old
+refused_runs makes a words old faulty = (
+  nothing BadWords [],
   refl,
+  refuses-none makes a a a,
   record {
     words_fit = fits (fault_of words_app words) faulty;
     does = λ c s. absurd (faulty (spelled_clean words c s));
     cause = tt;
-    counted = omega arith;
   },
 )
   where

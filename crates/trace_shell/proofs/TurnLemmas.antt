@@ -1,7 +1,6 @@
 -- What a turn leaves, from what its steps did.
-use Rattle.std.proofs.Common.{◌≡◌, inl, inr, ℕ, ◌+◌, count_by, cond, ◌<◌, ◌≤◌, List, [], ◌∷◌, ◌++◌, Option, Some, None, Err, Bool, true, false, ◌||◌, nat_le, length, take, refl, sym, ◌∙◌, ap, subst, arith, length-append, append_assoc, append-nil, if◌then◌else◌}
+use Rattle.std.proofs.Common.{◌≡◌, inl, inr, ℕ, ◌+◌, ◌<◌, ◌≤◌, List, [], ◌∷◌, ◌++◌, Option, Some, None, Err, Bool, true, false, ◌||◌, nat_le, length, take, refl, sym, ◌∙◌, ap, subst, arith, length-append, append_assoc, append-nil, if◌then◌else◌}
 use Rattle.std.specs.List.{list_any}
-use Rattle.std.proofs.lemmas.List.Sums.{sum_by-append}
 use Rattle.std.specs.Io.KnownBytes.{Appends, Consumes}
 use Rattle.io_edges.specs.Lines.{lines, line_limit, taken_limit}
 use Rattle.io_edges.specs.declared.begun.Begun.{Begun}
@@ -15,10 +14,12 @@ use Rattle.session_text.specs.declared.reply.Reply.TheVariants as reply
 use Rattle.session_meaning.specs.History.{History, no_push}
 use Rattle.session_text.specs.Requests.{Asks, line_of, plain}
 use Rattle.session_text.specs.Replies.{reply_text}
-use Rattle.session_meaning.specs.Session.{Ends, IsAllEnded, IsAllRead, IsCutOff, RoseBy, end_of, is_for_memory, is_refusal, is_too_big, reply_texts}
+use Rattle.session_meaning.specs.Session.{Ends, IsAllEnded, IsAllRead, IsCutOff, end_of, is_for_memory, is_refusal, reply_texts}
 use Rattle.session_meaning.specs.Progress.{IsLineAnswered, Progress}
 use Rattle.session_meaning.proofs.EndLaws.{taken_within}
 use Rattle.session_meaning.proofs.SessionLaws.{progress_begins, progress_empty, progress_line, reply_texts-push}
+use Rattle.traceql_types.specs.Makers.{Makes, RefusesOnly}
+use Rattle.traceql_types.proofs.Calls.{refuses-none}
 use Rattle.trace_shell.specs.declared.session.Tally.{Tally}
 use Rattle.trace_shell.specs.Holding.{Holding, Holds}
 use Rattle.trace_shell.specs.Turn.{Came, HasGiven, IsAt, Turned, ending_of, tally_with}
@@ -84,33 +85,20 @@ seen_of : (p : Reply → Bool) (now : Bool) (replies : List Reply) (reply : Repl
     next ≡ list_any p (replies ++ reply ∷ [])
 seen_of p now replies reply next h step = step ∙ ap (λ b. b || p reply) h ∙ sym (list_any-push p replies reply)
 
--- The maker's count rose by the refusals of one reply more.
-counted_on : (replies : List Reply) (reply : Reply) (start old now : ℕ) → RoseBy (count_by is_too_big replies) start old →
-    RoseBy (count_by is_too_big (reply ∷ [])) old now → RoseBy (count_by is_too_big (replies ++ reply ∷ [])) start now
-counted_on replies reply start old now before one =
-    let both = sum_by-append (λ x. cond (is_too_big x) 1 0) replies (reply ∷ []) in
-    added start old now (count_by is_too_big replies) (count_by is_too_big (reply ∷ [])) (count_by is_too_big (replies ++ reply ∷ [])) both before one
-  where
-    added : (start old now a b c : ℕ) → c ≡ a + b → RoseBy a start old → RoseBy b old now → RoseBy c start now
-    added start old now a b c is before one = omega (arith, is, before, one)
-
 -- A line was answered at a history, and its reply given.
 pub answered_at : (text before : List ℕ) (left_old left taken_old taken : Option (List ℕ)) (reader_old reader : Reader) (held_old held : Holding) (tally_old tally : Tally)
-    (line : List ℕ) (reply : Reply) (after : History) (outcome : Option Ending) (start old now : ℕ) (at : IsAt text before left_old taken_old reader_old held_old tally_old start old) →
-    IsNextLine at.rest line (IsToRead reader left) → 0 < length line → IsLineAnswered line at.history reply after → Holds held after →
-    TakesBytes left_old left reader_old.taken reader.taken → HasGiven taken_old taken tally_old tally reply outcome → RoseBy (count_by is_too_big (reply ∷ [])) old now →
-    Turned text before left taken reader held tally start now outcome
-answered_at text before left_old left taken_old taken reader_old reader held_old held tally_old tally [] reply after outcome start old now at next some a h took given counted = absurd (omega arith)
-answered_at text before left_old left taken_old taken reader_old reader held_old held tally_old tally (b ∷ bs) reply after outcome start old now at next some a h took given counted =
+    (line : List ℕ) (reply : Reply) (after : History) (outcome : Option Ending) (blamed more : List (List ℕ)) (at : IsAt text before left_old taken_old reader_old held_old tally_old blamed) →
+    IsNextLine at.rest line (IsToRead reader left) → 0 < length line → IsLineAnswered line more at.history reply after → Holds held after →
+    TakesBytes left_old left reader_old.taken reader.taken → HasGiven taken_old taken tally_old tally reply outcome →
+    Turned text before left taken reader held tally (blamed ++ more) outcome
+answered_at text before left_old left taken_old taken reader_old reader held_old held tally_old tally [] reply after outcome blamed more at next some a h took given = absurd (omega arith)
+answered_at text before left_old left taken_old taken reader_old reader held_old held tally_old tally (b ∷ bs) reply after outcome blamed more at next some a h took given =
     turned outcome given
   where
-    progress : Progress text next.rest (at.replies ++ reply ∷ []) after
-    progress = progress_line text at.rest next.past next.rest at.replies at.history after b bs reply at.progress next.parts next.first a
+    progress : Progress text next.rest (blamed ++ more) (at.replies ++ reply ∷ []) after
+    progress = progress_line text at.rest next.past next.rest blamed more at.replies at.history after b bs reply at.progress next.parts next.first a
 
-    sum : RoseBy (count_by is_too_big (at.replies ++ reply ∷ [])) start now
-    sum = counted_on at.replies reply start old now at.counted counted
-
-    turned : (o : Option Ending) → HasGiven taken_old taken tally_old tally reply o → Turned text before left taken reader held tally start now o
+    turned : (o : Option Ending) → HasGiven taken_old taken tally_old tally reply o → Turned text before left taken reader held tally (blamed ++ more) o
     turned None g = record {
       rest = next.rest;
       replies = at.replies ++ reply ∷ [];
@@ -122,7 +110,6 @@ answered_at text before left_old left taken_old taken reader_old reader held_old
       refused = ap (λ s. s.refused) g.1 ∙ seen_of is_refusal tally_old.refused at.replies reply (tally_with tally_old reply).refused at.refused refl;
       starved = ap (λ s. s.starved) g.1 ∙ seen_of is_for_memory tally_old.starved at.replies reply (tally_with tally_old reply).starved at.starved refl;
       took = took_more text left_old left 0 reader_old.taken reader.taken at.took took;
-      counted = sum;
     }
     turned (Some Starved) g = record {
       answered = progress.answered;
@@ -139,7 +126,6 @@ answered_at text before left_old left taken_old taken reader_old reader held_old
         replies_are = refl;
         taken_is = g ∙ at.written ∙ ap Some (sym (append-nil (before ++ reply_texts at.replies)));
       }));
-      counted = sum;
     }
     turned (Some WriteFault) g = record {
       answered = progress.answered;
@@ -151,7 +137,6 @@ answered_at text before left_old left taken_old taken reader_old reader held_old
       asked = progress.asked;
       session = progress.session;
       ends = (g.0, cut_off before at.replies reply taken_old taken g.0 at.written g.1);
-      counted = sum;
     }
     turned (Some Answered) g = absurd g
     turned (Some BadWords) g = absurd g
@@ -161,38 +146,53 @@ answered_at text before left_old left taken_old taken reader_old reader held_old
 
 -- A line without bytes was passed over.
 pub passed_at : (text before : List ℕ) (left_old left taken_old taken : Option (List ℕ)) (reader_old reader : Reader) (held_old held : Holding) (tally_old tally : Tally)
-    (start old now : ℕ) (at : IsAt text before left_old taken_old reader_old held_old tally_old start old) →
+    (blamed : List (List ℕ)) (at : IsAt text before left_old taken_old reader_old held_old tally_old blamed) →
     IsNextLine at.rest [] (IsToRead reader left) → held ≡ held_old → tally ≡ tally_old → taken ≡ taken_old →
-    TakesBytes left_old left reader_old.taken reader.taken → now ≡ old → IsAt text before left taken reader held tally start now
-passed_at text before left_old left taken_old taken reader_old reader held_old held tally_old tally start old now at next same_held same_seen same_taken took same_count = record {
+    TakesBytes left_old left reader_old.taken reader.taken → IsAt text before left taken reader held tally blamed
+passed_at text before left_old left taken_old taken reader_old reader held_old held tally_old tally blamed at next same_held same_seen same_taken took = record {
   rest = next.rest;
   replies = at.replies;
   history = at.history;
   to_read = next.after;
-  progress = progress_empty text at.rest next.past next.rest at.replies at.history at.progress next.parts next.first;
+  progress = progress_empty text at.rest next.past next.rest blamed at.replies at.history at.progress next.parts next.first;
   holds = subst (λ h. Holds h at.history) (sym same_held) at.holds;
   written = same_taken ∙ at.written;
   refused = ap (λ s. s.refused) same_seen ∙ at.refused;
   starved = ap (λ s. s.starved) same_seen ∙ at.starved;
   took = took_more text left_old left 0 reader_old.taken reader.taken at.took took;
-  counted = subst (λ n. RoseBy (count_by is_too_big at.replies) start n) (sym same_count) at.counted;
 }
 
+-- Where nothing is asked for, no text more is refused.
+pub unasked : (text before : List ℕ) (left taken : Option (List ℕ)) (reader : Reader) (held : Holding) (tally : Tally) (outcome : Option Ending) (blamed : List (List ℕ)) →
+    Turned text before left taken reader held tally blamed outcome → Turned text before left taken reader held tally (blamed ++ []) outcome
+unasked text before left taken reader held tally outcome blamed t =
+    subst (λ (ts : List (List ℕ)). Turned text before left taken reader held tally ts outcome) (sym (append-nil blamed)) t
+
 -- A whole line was read, and answered where it has bytes.
-pub whole_at : (text before : List ℕ) (left_old left taken_old taken : Option (List ℕ)) (reader_old reader : Reader) (held_old held : Holding) (tally_old tally : Tally)
-    (line : List ℕ) (outcome : Option Ending) (start old now : ℕ) (at : IsAt text before left_old taken_old reader_old held_old tally_old start old) →
-    IsNextLine at.rest line (IsToRead reader left) → TakesBytes left_old left reader_old.taken reader.taken →
-    (line ≡ [] → (outcome ≡ None) × (held ≡ held_old) × (tally ≡ tally_old) × (taken ≡ taken_old) × (now ≡ old)) →
-    (0 < length line → (history : History) → Holds held_old history → (reply : Reply) × (after : History)
-    × IsLineAnswered line history reply after × Holds held after × HasGiven taken_old taken tally_old tally reply outcome × RoseBy (count_by is_too_big (reply ∷ [])) old now) →
-    Turned text before left taken reader held tally start now outcome
-whole_at text before left_old left taken_old taken reader_old reader held_old held tally_old tally [] outcome start old now at next took none some =
-    let same = none refl in
-    rw same.0 (passed_at text before left_old left taken_old taken reader_old reader held_old held tally_old tally start old now at next same.1 same.2 same.3 took same.4)
-whole_at text before left_old left taken_old taken reader_old reader held_old held tally_old tally (b ∷ bs) outcome start old now at next took none some =
-    let given = some (omega arith) at.history at.holds in
-    answered_at text before left_old left taken_old taken reader_old reader held_old held tally_old tally (b ∷ bs) given.0 given.1 outcome start old now at next (omega arith)
-    given.2 given.3 took given.4 given.5
+pub whole_at : {M : Type 0} (makes : Makes M) (a b : M) (left_old left taken_old taken : Option (List ℕ)) (reader_old reader : Reader) (held_old held : Holding) (tally_old tally : Tally)
+    (line : List ℕ) (outcome : Option Ending) → ((rest : List ℕ) → IsToRead reader_old left_old rest → IsNextLine rest line (IsToRead reader left)) →
+    TakesBytes left_old left reader_old.taken reader.taken →
+    (line ≡ [] → (outcome ≡ None) × (held ≡ held_old) × (tally ≡ tally_old) × (taken ≡ taken_old) × (b ≡ a)) →
+    (0 < length line → (more : List (List ℕ)) × RefusesOnly makes a b more × ((history : History) → Holds held_old history → (reply : Reply) × (after : History)
+    × IsLineAnswered line more history reply after × Holds held after × HasGiven taken_old taken tally_old tally reply outcome)) →
+    (more : List (List ℕ)) × RefusesOnly makes a b more × ((text before : List ℕ) (blamed : List (List ℕ)) → IsAt text before left_old taken_old reader_old held_old tally_old blamed →
+    Turned text before left taken reader held tally (blamed ++ more) outcome)
+whole_at {M} makes a b left_old left taken_old taken reader_old reader held_old held tally_old tally [] outcome next took none some =
+    let same = none refl in (
+      [],
+      subst (λ (m : M). RefusesOnly makes a m []) (sym same.4) (refuses-none makes a a a),
+      λ text before blamed at. unasked text before left taken reader held tally outcome blamed
+      (rw same.0 (passed_at text before left_old left taken_old taken reader_old reader held_old held tally_old tally blamed at (next at.rest at.to_read) same.1 same.2 same.3 took)),
+    )
+whole_at {M} makes a b left_old left taken_old taken reader_old reader held_old held tally_old tally (c ∷ cs) outcome next took none some =
+    let given = some (omega arith) in (
+      given.0,
+      given.1,
+      λ text before blamed at.
+      let told = given.2 at.history at.holds in
+      answered_at text before left_old left taken_old taken reader_old reader held_old held tally_old tally (c ∷ cs) told.0 told.1 outcome blamed given.0 at (next at.rest at.to_read) (omega arith)
+      told.2 told.3 took told.4,
+    )
 
 -- A line of too many bytes asks nothing.
 too_long_line : (line : List ℕ) → line_limit < length line → line_of line ≡ plain (Err (refusal.TooLong (length line)))
@@ -202,25 +202,25 @@ too_long_line line long = rw (not_within (length line) long) refl
     not_within : (n : ℕ) → line_limit < n → nat_le n line_limit ≡ false
     not_within n h = grind arith
 
-too_long_asks : (line : List ℕ) → line_limit < length line → Asks line (Unit {0}) (Err (refusal.TooLong (length line)))
-too_long_asks line long = rw (too_long_line line long) (inl refl)
+too_long_asks : (line : List ℕ) → line_limit < length line → Asks line [] (Err (refusal.TooLong (length line)))
+too_long_asks line long = rw (too_long_line line long) (inl refl, refl)
 
 -- A line of too many bytes was read, and refused.
 pub too_long_at : (text before : List ℕ) (left_old left taken_old taken : Option (List ℕ)) (reader_old reader : Reader) (held : Holding) (tally_old tally : Tally)
-    (size : ℕ) (outcome : Option Ending) (start old now : ℕ) (at : IsAt text before left_old taken_old reader_old held tally_old start old) →
+    (size : ℕ) (outcome : Option Ending) (blamed : List (List ℕ)) (at : IsAt text before left_old taken_old reader_old held tally_old blamed) →
     (line : List ℕ) × IsNextLine at.rest line (IsToRead reader left) × (size ≡ length line) → line_limit < size →
-    TakesBytes left_old left reader_old.taken reader.taken → HasGiven taken_old taken tally_old tally (reply.Refused (refusal.TooLong size)) outcome → now ≡ old →
-    Turned text before left taken reader held tally start now outcome
-too_long_at text before left_old left taken_old taken reader_old reader held tally_old tally size outcome start old now at (line, next, is) long took given same =
+    TakesBytes left_old left reader_old.taken reader.taken → HasGiven taken_old taken tally_old tally (reply.Refused (refusal.TooLong size)) outcome →
+    Turned text before left taken reader held tally (blamed ++ []) outcome
+too_long_at text before left_old left taken_old taken reader_old reader held tally_old tally size outcome blamed at (line, next, is) long took given =
     let over : line_limit < length line = omega (arith, is, long) in
-    answered_at text before left_old left taken_old taken reader_old reader held held tally_old tally line (reply.Refused (refusal.TooLong size)) at.history outcome start old now at next (omega (arith, over))
-    (Err (refusal.TooLong (length line)), too_long_asks line over, inl (ap (λ n. reply.Refused (refusal.TooLong n)) is, refl)) at.holds took given (omega (arith, same))
+    answered_at text before left_old left taken_old taken reader_old reader held held tally_old tally line (reply.Refused (refusal.TooLong size)) at.history outcome blamed [] at next (omega (arith, over))
+    (Err (refusal.TooLong (length line)), too_long_asks line over, ap (λ n. reply.Refused (refusal.TooLong n)) is, refl) at.holds took given
 
 -- The lines that weren't answered are those of what is to be read.
 stops : (text before : List ℕ) (left taken : Option (List ℕ)) (reader : Reader) (held : Holding) (tally : Tally) (ending : Ending)
-    (new : Option (List ℕ)) (start now : ℕ) (at : IsAt text before left taken reader held tally start now) → Ends ending text (lines at.rest) new before at.replies taken →
-    Came text before new taken ending start now
-stops text before left taken reader held tally ending new start now at ends = record {
+    (new : Option (List ℕ)) (blamed : List (List ℕ)) (at : IsAt text before left taken reader held tally blamed) → Ends ending text (lines at.rest) new before at.replies taken →
+    Came text before new taken ending blamed
+stops text before left taken reader held tally ending new blamed at ends = record {
   answered = at.progress.answered;
   later = lines at.rest;
   items = at.progress.items;
@@ -230,7 +230,6 @@ stops text before left taken reader held tally ending new start now at ends = re
   asked = at.progress.asked;
   session = at.progress.session;
   ends = ends;
-  counted = at.counted;
 }
 
 ends_all_read : (text : List ℕ) (later : List (List ℕ)) (left : Option (List ℕ)) (before : List ℕ) (replies : List Reply) (taken : Option (List ℕ)) →
@@ -246,14 +245,14 @@ ends_all_read text later left before replies taken all =
 
 -- All was read.
 pub ended_at : (text before : List ℕ) (left_old left taken : Option (List ℕ)) (reader_old reader : Reader) (held : Holding) (tally : Tally)
-    (start now : ℕ) (at : IsAt text before left_old taken reader_old held tally start now) → (at.rest ≡ []) × IsToRead reader left [] → reader.taken < taken_limit →
-    TakesBytes left_old left reader_old.taken reader.taken → Came text before left taken (ending_of tally) start now
-ended_at text before left_old left taken reader_old reader held tally start now at (none, to_read) fewer took =
+    (blamed : List (List ℕ)) (at : IsAt text before left_old taken reader_old held tally blamed) → (at.rest ≡ []) × IsToRead reader left [] → reader.taken < taken_limit →
+    TakesBytes left_old left reader_old.taken reader.taken → Came text before left taken (ending_of tally) blamed
+ended_at text before left_old left taken reader_old reader held tally blamed at (none, to_read) fewer took =
     let read = took_more text left_old left 0 reader_old.taken reader.taken at.took took in
     let no_more : left ≡ Some [] = nothing_left reader left to_read in
     let size : length text ≡ reader.taken = taken_all text left reader.taken read no_more in
     let all : IsAllRead text (lines at.rest) before at.replies taken = (ap lines none, subst (λ n. n < taken_limit) (sym size) fewer, at.written) in
-    stops text before left_old taken reader_old held tally (ending_of tally) left start now at
+    stops text before left_old taken reader_old held tally (ending_of tally) left blamed at
     (subst (λ e. Ends e text (lines at.rest) left before at.replies taken) (sym (same_ending tally at.replies at.refused at.starved))
     (ends_all_read text (lines at.rest) left before at.replies taken all))
   where
@@ -283,10 +282,10 @@ all_ended text front reader left rest is to_read waiting = record {
 
 -- As many bytes were taken as are ever taken.
 pub spent_at : (text before : List ℕ) (left_old left taken : Option (List ℕ)) (reader_old reader : Reader) (held : Holding) (tally : Tally)
-    (start now : ℕ) (at : IsAt text before left_old taken reader_old held tally start now) → reader.taken ≡ taken_limit →
-    TakesBytes left_old left reader_old.taken reader.taken → IsToRead reader left at.rest → HoldsNoFeed reader → Came text before left taken Spent start now
-spent_at text before left_old left taken reader_old reader held tally start now at all took to_read waiting =
-    stops text before left_old taken reader_old held tally Spent left start now at (
+    (blamed : List (List ℕ)) (at : IsAt text before left_old taken reader_old held tally blamed) → reader.taken ≡ taken_limit →
+    TakesBytes left_old left reader_old.taken reader.taken → IsToRead reader left at.rest → HoldsNoFeed reader → Came text before left taken Spent blamed
+spent_at text before left_old left taken reader_old reader held tally blamed at all took to_read waiting =
+    stops text before left_old taken reader_old held tally Spent left blamed at (
       at.written,
       all_ended text at.progress.front reader left at.rest at.progress.text_is to_read waiting,
       subst (λ n. n ≤ length text) all (taken_within text left reader.taken (took_more text left_old left 0 reader_old.taken reader.taken at.took took)),
@@ -294,14 +293,14 @@ spent_at text before left_old left taken reader_old reader held tally start now 
 
 -- The source failed.
 pub failed_at : (text before : List ℕ) (left_old left taken : Option (List ℕ)) (reader_old reader : Reader) (held : Holding) (tally : Tally)
-    (start now : ℕ) (at : IsAt text before left_old taken reader_old held tally start now) → IsToRead reader left at.rest → HoldsNoFeed reader → Came text before left taken ReadFault start now
-failed_at text before left_old left taken reader_old reader held tally start now at to_read waiting =
-    stops text before left_old taken reader_old held tally ReadFault left start now at (at.written, all_ended text at.progress.front reader left at.rest at.progress.text_is to_read waiting)
+    (blamed : List (List ℕ)) (at : IsAt text before left_old taken reader_old held tally blamed) → IsToRead reader left at.rest → HoldsNoFeed reader → Came text before left taken ReadFault blamed
+failed_at text before left_old left taken reader_old reader held tally blamed at to_read waiting =
+    stops text before left_old taken reader_old held tally ReadFault left blamed at (at.written, all_ended text at.progress.front reader left at.rest at.progress.text_is to_read waiting)
 
 -- Memory was wanted for a line.
-pub starved_at : (text before : List ℕ) (left_old left taken : Option (List ℕ)) (reader : Reader) (held : Holding) (tally : Tally) (start now : ℕ) →
-    IsAt text before left_old taken reader held tally start now → Came text before left taken Starved start now
-starved_at text before left_old left taken reader held tally start now at = stops text before left_old taken reader held tally Starved left start now at (inr (inl at.written))
+pub starved_at : (text before : List ℕ) (left_old left taken : Option (List ℕ)) (reader : Reader) (held : Holding) (tally : Tally) (blamed : List (List ℕ)) →
+    IsAt text before left_old taken reader held tally blamed → Came text before left taken Starved blamed
+starved_at text before left_old left taken reader held tally blamed at = stops text before left_old taken reader held tally Starved left blamed at (inr (inl at.written))
 
 -- Bytes taken in two steps, wherever they came from.
 pub took_on : (start left new : Option (List ℕ)) (a b c : ℕ) → TakesBytes start left a b → TakesBytes left new b c → TakesBytes start new a c
@@ -331,10 +330,10 @@ nothing_to_come reader h = omega (arith, held_none reader.begun h.holds.piece re
     held_none (Dropped size r) (x ∷ xs) pending b e = cc
 
 -- A session begins.
-pub begins_at : (text before : List ℕ) (left taken : Option (List ℕ)) (reader : Reader) (held : Holding) (tally : Tally) (start : ℕ) →
+pub begins_at : (text before : List ℕ) (left taken : Option (List ℕ)) (reader : Reader) (held : Holding) (tally : Tally) →
     left ≡ Some text → taken ≡ Some before → IsToRead reader (Some text) text → reader.taken ≡ 0 → held ≡ record { rows = []; pushes = 0 } →
-    tally.refused ≡ false → tally.starved ≡ false → IsAt text before left taken reader held tally start start
-begins_at text before left taken reader held tally start told gave to_read none_taken nothing no_refusal no_hunger = record {
+    tally.refused ≡ false → tally.starved ≡ false → IsAt text before left taken reader held tally []
+begins_at text before left taken reader held tally told gave to_read none_taken nothing no_refusal no_hunger = record {
   rest = text;
   replies = [];
   history = no_push;
@@ -345,7 +344,6 @@ begins_at text before left taken reader held tally start told gave to_read none_
   refused = no_refusal;
   starved = no_hunger;
   took = ([], subst (λ l. Consumes (Some text) l []) (sym told) refl, none_taken ∙ refl);
-  counted = omega arith;
 }
 
 -- Nothing was taken.

@@ -1,6 +1,6 @@
 -- Private mechanism of a session: what a turn does, in which one line is read and answered, and its reply written; and
 -- what a session, and a line alone, come to. A run is specified in session_meaning.
-use Rattle.std.specs.Prelude.{◌≡◌, ℕ, List, [], ◌∷◌, ◌++◌, ◌||◌, count_by, Option, Some, None, if◌then◌else◌}
+use Rattle.std.specs.Prelude.{◌≡◌, ℕ, List, [], ◌∷◌, ◌++◌, ◌||◌, Option, Some, None, if◌then◌else◌}
 use Rattle.std.specs.List.{list_any}
 use Rattle.std.specs.Io.KnownBytes.{Appends}
 use Rattle.io_edges.specs.Devices.{AppendsPrefix}
@@ -13,7 +13,7 @@ use Rattle.session_meaning.specs.History.{History, no_push}
 use Rattle.session_text.specs.Items.{AreAsked, Item}
 use Rattle.session_text.specs.Replies.{reply_text}
 use Rattle.session_meaning.specs.Progress.{IsLineAnswered, Progress}
-use Rattle.session_meaning.specs.Session.{Ends, EndsAlone, RoseBy, Session, is_for_memory, is_refusal, is_too_big, reply_texts}
+use Rattle.session_meaning.specs.Session.{Ends, EndsAlone, Session, is_for_memory, is_refusal, reply_texts}
 use Rattle.trace_shell.specs.declared.session.Tally.{Tally}
 use Rattle.trace_shell.specs.Holding.{Holding, Holds}
 
@@ -34,40 +34,37 @@ HasGiven old new tally_old tally_new reply (Some WriteFault) = AppendsPrefix old
 HasGiven old new tally_old tally_new reply (Some _) = ⊥
 
 -- Where a session is between two lines: what is to be read, how far it came in `text`, what is held, what stands written
--- after `before`, and how far the maker's count of refusals came.
-pub record IsAt (text before : List ℕ) (left taken : Option (List ℕ)) (reader : Reader) (held : Holding) (tally : Tally) (start now : ℕ) : Type 0 where
+-- after `before`, and which texts the maker refused so far.
+pub record IsAt (text before : List ℕ) (left taken : Option (List ℕ)) (reader : Reader) (held : Holding) (tally : Tally) (blamed : List (List ℕ)) : Type 0 where
   pub rest : List ℕ
   pub replies : List Reply
   pub history : History
   pub to_read : IsToRead reader left rest
-  pub progress : Progress text rest replies history
+  pub progress : Progress text rest blamed replies history
   pub holds : Holds held history
   pub written : taken ≡ Some (before ++ reply_texts replies)
   pub refused : tally.refused ≡ list_any is_refusal replies
   pub starved : tally.starved ≡ list_any is_for_memory replies
   pub took : TakesBytes (Some text) left 0 reader.taken
-  pub counted : RoseBy (count_by is_too_big replies) start now
 
--- What a session came to that read `text` and ended so, and how far the maker's count of refusals came.
-pub record Came (text before : List ℕ) (left taken : Option (List ℕ)) (ending : Ending) (start now : ℕ) : Type 0 where
+-- What a session came to that read `text` and ended so, where the maker refused these texts.
+pub record Came (text before : List ℕ) (left taken : Option (List ℕ)) (ending : Ending) (blamed : List (List ℕ)) : Type 0 where
   pub answered : List (List ℕ)
   pub later : List (List ℕ)
   pub items : List Item
   pub replies : List Reply
   pub last : History
   pub lines_are : lines text ≡ answered ++ later
-  pub asked : AreAsked answered items
+  pub asked : AreAsked answered items blamed
   pub session : Session no_push items replies last
   pub ends : Ends ending text later left before replies taken
-  pub counted : RoseBy (count_by is_too_big replies) start now
 
--- What a line came to that was answered alone.
-abbrev pub CameAlone : List ℕ → List ℕ → Option (List ℕ) → Ending → ℕ → ℕ → Type 0
-CameAlone line before taken ending start now =
-    (reply : Reply) × (after : History) × IsLineAnswered line no_push reply after × EndsAlone ending before reply taken
-    × RoseBy (count_by is_too_big (reply ∷ [])) start now
+-- What a line came to that was answered alone, where the maker refused these texts.
+abbrev pub CameAlone : List ℕ → List ℕ → Option (List ℕ) → Ending → List (List ℕ) → Type 0
+CameAlone line before taken ending blamed =
+    (reply : Reply) × (after : History) × IsLineAnswered line blamed no_push reply after × EndsAlone ending before reply taken
 
 -- What a turn leaves: the session is at its next line, or it ended.
-abbrev pub Turned : List ℕ → List ℕ → Option (List ℕ) → Option (List ℕ) → Reader → Holding → Tally → ℕ → ℕ → Option Ending → Type 0
-Turned text before left taken reader held tally start now None = IsAt text before left taken reader held tally start now
-Turned text before left taken reader held tally start now (Some ending) = Came text before left taken ending start now
+abbrev pub Turned : List ℕ → List ℕ → Option (List ℕ) → Option (List ℕ) → Reader → Holding → Tally → List (List ℕ) → Option Ending → Type 0
+Turned text before left taken reader held tally blamed None = IsAt text before left taken reader held tally blamed
+Turned text before left taken reader held tally blamed (Some ending) = Came text before left taken ending blamed

@@ -5,6 +5,7 @@ ghost use Rattle.clap.specs.Words.{fault_of};
 ghost use Rattle.command_words.specs.Commands.{Alone, Spells};
 ghost use Rattle.command_words.specs.Table.{words_app};
 ghost use Rattle.session_meaning.specs.Runs.{IsRunOf, Outcome, edges};
+ghost use Rattle.traceql_types.specs.Makers.{RefusesOnly};
 
 use crate::session::{one_line, session};
 use command_words::{Asked, WordsError, read_words};
@@ -21,11 +22,11 @@ pub(crate) fn dispatch<S: Source, K: Sink, P: PatternMaker>(
     sink: &mut K,
     patterns: &mut P,
 ) -> Ending
-    ensures ran { (o : Outcome) × (o.ending ≡ result) × IsRunOf (map string_bytes words.now) o
-        (edges S.left S.faults K.taken K.faults P.refusals source.old sink.old patterns.old)
-        (edges S.left S.faults K.taken K.faults P.refusals source.new sink.new patterns.new) }
+    ensures ran { (o : Outcome) × (o.ending ≡ result) × RefusesOnly P.makes patterns.old patterns.new o.refused
+        × IsRunOf (map string_bytes words.now) o (edges S.left S.faults K.taken K.faults source.old sink.old)
+        (edges S.left S.faults K.taken K.faults source.new sink.new) }
     ensures nothing_done { fault_of words_app (map string_bytes words.now) ≢ []
-        → (source.new ≡ source.old) × (sink.new ≡ sink.old) }
+        → (source.new ≡ source.old) × (sink.new ≡ sink.old) × (patterns.new ≡ patterns.old) }
     ensures alone { (line : List ℕ) → Spells (map string_bytes words.now) (Alone line)
         → source.new ≡ source.old }
 {

@@ -10,4 +10,4 @@ mod top;
 
 pub use program::{Unread, all_arguments, run_program};
 pub use real::{StdinSource, StdoutSink};
-pub use top::{Ended, run, run_alone};
+pub use top::{Ended, exit_code, run, run_alone};

@@ -6,6 +6,7 @@ ghost use Rattle.command_words.specs.Commands.{Alone, Spells};
 ghost use Rattle.command_words.specs.Table.{words_app};
 ghost use Rattle.session_meaning.specs.Runs.{IsRunOf, Outcome, edges};
 ghost use Rattle.session_meaning.specs.Statuses.{status_of};
+ghost use Rattle.traceql_types.specs.Makers.{RefusesOnly};
 ghost use Rattle.trace_shell.specs.Arguments.{status_without_words, words_given};
 
 use crate::top::{Ended, run};
@@ -58,17 +59,17 @@ pub fn run_program<
     gate: &G,
 ) -> Ended<D>
     // With words it is a run on these words, as `run` has it.
-    ensures ran { IfSome (words_given arguments) (λ words. (o : Outcome) × IsRunOf words o
-        (edges S.left S.faults K.taken K.faults P.refusals source.old sink.old patterns.old)
-        (edges S.left S.faults K.taken K.faults P.refusals source.new sink.new patterns.new)
-        × (result.status ≡ status_of o.ending)) }
+    ensures ran { IfSome (words_given arguments) (λ words. (o : Outcome)
+        × RefusesOnly P.makes patterns.old patterns.new o.refused
+        × IsRunOf words o (edges S.left S.faults K.taken K.faults source.old sink.old)
+        (edges S.left S.faults K.taken K.faults source.new sink.new) × (result.status ≡ status_of o.ending)) }
     ensures nothing_done { IfSome (words_given arguments) (λ words. fault_of words_app words ≢ []
-        → (source.new ≡ source.old) × (sink.new ≡ sink.old)) }
+        → (source.new ≡ source.old) × (sink.new ≡ sink.old) × (patterns.new ≡ patterns.old)) }
     ensures alone { IfSome (words_given arguments) (λ words. (line : List ℕ) → Spells words (Alone line)
         → source.new ≡ source.old) }
     // Without words the status tells why, and nothing is done.
     ensures no_words { words_given arguments ≡ None → (result.status ≡ status_without_words arguments)
-        × (source.new ≡ source.old) × (sink.new ≡ sink.old) }
+        × (source.new ≡ source.old) × (sink.new ≡ sink.old) × (patterns.new ≡ patterns.old) }
     ensures untouched { (result.disk ≡ disk) × (clock.new ≡ clock.old) }
 {
     let arguments = match arguments {

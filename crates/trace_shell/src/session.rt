@@ -1,6 +1,6 @@
 //! A session: the lines of a source are answered in order, each reply written before the next line is read.
 
-ghost use Rattle.std.specs.Prelude.{◌≡◌, ◌⊎◌, ◌+◌, ◌^◌, ◌<◌, ◌≤◌, ℕ, List, [], ◌∷◌, Ok, Some, None, false, IfOk, IfSome, IfNone, count_by, length};
+ghost use Rattle.std.specs.Prelude.{◌≡◌, ◌⊎◌, ◌+◌, ◌^◌, ◌<◌, ◌≤◌, ℕ, List, [], ◌++◌, Ok, Some, None, IfOk, IfSome, IfNone, length};
 ghost use Rattle.span_types.specs.Faults.{Rose};
 ghost use Rattle.span_types.specs.declared.limits.TheConstants.{MOST_SPANS};
 ghost use Rattle.io_edges.specs.Lines.{taken_limit};
@@ -11,7 +11,8 @@ ghost use Rattle.session_text.specs.declared.request.Request.TheVariants.{Push, 
 ghost use Rattle.session_text.specs.declared.request.Request.TheVariants as request;
 ghost use Rattle.session_meaning.specs.History.{History};
 ghost use Rattle.session_meaning.specs.Progress.{IsLineAnswered};
-ghost use Rattle.session_meaning.specs.Session.{IsAnsweredOrStarved, RoseBy, is_for_memory, is_refusal, is_too_big};
+ghost use Rattle.session_meaning.specs.Session.{IsAnsweredOrStarved, is_for_memory, is_refusal};
+ghost use Rattle.traceql_types.specs.Makers.{RefusesOnly};
 ghost use Rattle.trace_shell.specs.Holding.{Holds};
 ghost use Rattle.trace_shell.specs.Turn.{Came, CameAlone, HasGiven, IsAt, Turned, ending_of, tally_with};
 
@@ -86,9 +87,9 @@ pub(crate) fn session<S: Source, K: Sink, P: PatternMaker>(
     sink: &mut K,
     patterns: &mut P,
 ) -> Ending
-    ensures ran { (text before : List ℕ) → S.left source.old ≡ Some text → K.taken sink.old ≡ Some before
-        → Came text before (S.left source.new) (K.taken sink.new) result (P.refusals patterns.old) (P.refusals patterns.new) }
-    ensures maker_counted { P.refusals patterns.old ≤ P.refusals patterns.new }
+    ensures ran { (blamed : List (List ℕ)) × RefusesOnly P.makes patterns.old patterns.new blamed
+        × ((text before : List ℕ) → S.left source.old ≡ Some text → K.taken sink.old ≡ Some before
+        → Came text before (S.left source.new) (K.taken sink.new) result blamed) }
     ensures write_fault { result ≡ WriteFault → Rose (K.faults sink.old) (K.faults sink.new) }
     ensures read_fault { result ≡ ReadFault → Rose (S.faults source.old) (S.faults source.new) }
     ensures spent { result ≡ Spent → TakesBytes (S.left source.old) (S.left source.new) 0 taken_limit }
@@ -122,8 +123,9 @@ pub(crate) fn one_line<K: Sink, P: PatternMaker>(
     patterns: &mut P,
     line: &[u8],
 ) -> Ending
-    ensures told { (before : List ℕ) → K.taken sink.old ≡ Some before → CameAlone line.now before (K.taken sink.new) result (P.refusals patterns.old) (P.refusals patterns.new) }
-    ensures maker_counted { P.refusals patterns.old ≤ P.refusals patterns.new }
+    ensures told { (blamed : List (List ℕ)) × RefusesOnly P.makes patterns.old patterns.new blamed
+        × ((before : List ℕ) → K.taken sink.old ≡ Some before
+        → CameAlone line.now before (K.taken sink.new) result blamed) }
     ensures write_fault { result ≡ WriteFault → Rose (K.faults sink.old) (K.faults sink.new) }
     ensures endings { (result ≡ WriteFault) ⊎ ((result ≡ Answered) ⊎ ((result ≡ Refused) ⊎ (result ≡ Starved))) }
 {
@@ -150,14 +152,15 @@ fn next_line<S: Source, K: Sink, P: PatternMaker>(
     patterns: &mut P,
 ) -> Option<Ending>
     requires room { held.old.pushes + to_come reader.old ≤ taken_limit }
-    ensures turned { (text before : List ℕ) (start : ℕ)
-        → IsAt text before (S.left source.old) (K.taken sink.old) reader.old held.old tally.old start (P.refusals patterns.old)
-        → Turned text before (S.left source.new) (K.taken sink.new) reader.new held.new tally.new start (P.refusals patterns.new) result }
+    ensures turned { (more : List (List ℕ)) × RefusesOnly P.makes patterns.old patterns.new more
+        × ((text before : List ℕ) (blamed : List (List ℕ))
+        → IsAt text before (S.left source.old) (K.taken sink.old) reader.old held.old tally.old blamed
+        → Turned text before (S.left source.new) (K.taken sink.new) reader.new held.new tally.new (blamed ++ more)
+        result) }
     ensures room { IfNone result (held.new.pushes + to_come reader.new ≤ taken_limit) }
     ensures nearer { IfNone result (to_come reader.new < to_come reader.old) }
     ensures source_counted { S.faults source.old ≤ S.faults source.new }
     ensures sink_counted { K.faults sink.old ≤ K.faults sink.new }
-    ensures maker_counted { P.refusals patterns.old ≤ P.refusals patterns.new }
     ensures write_fault { IfSome result (λ ending. ending ≡ WriteFault → Rose (K.faults sink.old) (K.faults sink.new)) }
     ensures read_fault { IfSome result (λ ending. ending ≡ ReadFault → Rose (S.faults source.old) (S.faults source.new)) }
     ensures took { TakesBytes (S.left source.old) (S.left source.new) reader.old.taken reader.new.taken }
@@ -192,14 +195,14 @@ fn answer_line<K: Sink, P: PatternMaker>(
     line: &[u8],
 ) -> Option<Ending>
     requires { held.old.pushes + 1 < 2 ^ 64 }
-    ensures empty { line.now ≡ [] → (result ≡ None) × (held.new ≡ held.old) × (tally.new ≡ tally.old) × (K.taken sink.new ≡ K.taken sink.old) × (P.refusals patterns.new ≡ P.refusals patterns.old) }
-    ensures answered { 0 < length line.now → (history : History) → Holds held.old history
-        → (reply : Reply) × (after : History) × IsLineAnswered line.now history reply after
-        × Holds held.new after × HasGiven (K.taken sink.old) (K.taken sink.new) tally.old tally.new reply result
-        × RoseBy (count_by is_too_big (reply ∷ [])) (P.refusals patterns.old) (P.refusals patterns.new) }
+    ensures empty { line.now ≡ [] → (result ≡ None) × (held.new ≡ held.old) × (tally.new ≡ tally.old)
+        × (K.taken sink.new ≡ K.taken sink.old) × (patterns.new ≡ patterns.old) }
+    ensures answered { 0 < length line.now → (more : List (List ℕ)) × RefusesOnly P.makes patterns.old patterns.new more
+        × ((history : History) → Holds held.old history
+        → (reply : Reply) × (after : History) × IsLineAnswered line.now more history reply after
+        × Holds held.new after × HasGiven (K.taken sink.old) (K.taken sink.new) tally.old tally.new reply result) }
     ensures count { held.new.pushes ≤ held.old.pushes + 1 }
     ensures sink_counted { K.faults sink.old ≤ K.faults sink.new }
-    ensures maker_counted { P.refusals patterns.old ≤ P.refusals patterns.new }
     ensures write_fault { IfSome result (λ ending. ending ≡ WriteFault → Rose (K.faults sink.old) (K.faults sink.new)) }
     ensures endings { IfSome result (λ ending. (ending ≡ WriteFault) ⊎ (ending ≡ Starved)) }
 {
@@ -213,11 +216,11 @@ fn answer_line<K: Sink, P: PatternMaker>(
 // Answers a line.
 fn answer<P: PatternMaker>(alloc: Global, held: &mut Held, patterns: &mut P, line: &[u8]) -> Reply
     requires { held.old.pushes + 1 < 2 ^ 64 }
-    ensures answered { (history : History) → Holds held.old history
-        → (after : History) × IsLineAnswered line.now history result after × Holds held.new after }
+    // The maker refused just the pattern that the reply blames for its size, if it blames one.
+    ensures answered { (more : List (List ℕ)) × RefusesOnly P.makes patterns.old patterns.new more
+        × ((history : History) → Holds held.old history
+        → (after : History) × IsLineAnswered line.now more history result after × Holds held.new after) }
     ensures count { held.new.pushes ≤ held.old.pushes + 1 }
-    ensures maker_counted { P.refusals patterns.old ≤ P.refusals patterns.new }
-    ensures too_big { RoseBy (count_by is_too_big (result ∷ [])) (P.refusals patterns.old) (P.refusals patterns.new) }
 {
     match read_request(alloc, line, patterns) {
         Ok(Request::Push(reading)) => push(held, reading),
@@ -241,7 +244,6 @@ fn push(held: &mut Held, reading: Reading) -> Reply
     ensures answered { (history : History) → Holds held.old history
         → (after : History) × IsAnsweredOrStarved (Ok (Push reading)) history result after × Holds held.new after }
     ensures count { held.new.pushes ≤ held.old.pushes + 1 }
-    ensures small { is_too_big result ≡ false }
 {
     let accepted = count_of(&reading.batch);
     match held.push(reading.batch) {
@@ -259,7 +261,6 @@ fn push(held: &mut Held, reading: Reading) -> Reply
 fn trace(held: &Held, id: TraceId) -> Reply
     ensures answered { (history : History) → Holds held.now history
         → IsAnsweredOrStarved (Ok (Trace id)) history result history }
-    ensures small { is_too_big result ≡ false }
 {
     match held.trace(id) {
         Ok(rows) => Reply::Traced {
@@ -274,7 +275,6 @@ fn trace(held: &Held, id: TraceId) -> Reply
 fn search_reply(alloc: Global, held: &Held, search: &Search) -> Reply
     ensures answered { (history : History) → Holds held.now history
         → IsAnsweredOrStarved (Ok (request.Search search.now)) history result history }
-    ensures small { is_too_big result ≡ false }
 {
     match results_of(alloc, held, search) {
         Ok(reply) => reply,
@@ -286,7 +286,6 @@ fn search_reply(alloc: Global, held: &Held, search: &Search) -> Reply
 fn results_of(alloc: Global, held: &Held, search: &Search) -> Result<Reply, Memory>
     ensures answered { IfOk result (λ reply. (history : History) → Holds held.now history
         → IsAnsweredOrStarved (Ok (request.Search search.now)) history reply history) }
-    ensures small { IfOk result (λ reply. is_too_big reply ≡ false) }
 {
     let rows = held.firsts()?;
     let bounds = Bounds {

@@ -4,11 +4,11 @@
 use io_edges::{FixedClock, OpenGate};
 use span_types::Moments;
 use std::process::ExitCode;
-use trace_shell::{Ended, StdinSource, StdoutSink, all_arguments, run_program};
+use trace_shell::{StdinSource, StdoutSink, all_arguments, exit_code, run_program};
 use traceql_types::RegexMaker;
 
 fn main(rt: HostRuntime) -> ExitCode {
-    let Ended { status, disk: () } = run_program(
+    exit_code(run_program(
         &rt,
         rt.alloc(),
         all_arguments(&rt),
@@ -18,6 +18,5 @@ fn main(rt: HostRuntime) -> ExitCode {
         &mut FixedClock::new(Moments::of(Vec::new(rt.alloc()))),
         &mut RegexMaker::new(rt.alloc()),
         &OpenGate,
-    );
-    ExitCode::from(status)
+    ))
 }

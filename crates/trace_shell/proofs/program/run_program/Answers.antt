@@ -9,7 +9,7 @@ use Rattle.trace_shell.proofs.program.run_program.Goals as goal
 pub returns-clause-nothing_done : goal.returns-clause-nothing_done
 returns-clause-nothing_done g c =
     let some : 2 ≤ length c.in-Ok.arguments.items = omega arith in
-    subst (λ o. IfSome o (λ words. fault_of words_app words ≢ [] → (c.run.new.source ≡ c.args.source.now) × (c.run.new.sink ≡ c.args.sink.now)))
+    subst (λ o. IfSome o (λ words. fault_of words_app words ≢ [] → (c.run.new.source ≡ c.args.source.now) × (c.run.new.sink ≡ c.args.sink.now) × (c.run.new.patterns ≡ c.args.patterns.now)))
     (sym (words_there c.args.arguments c.in-Ok.arguments c.as_slice.result.now c.in-Ok.is c.as_slice.ensures.value some)) c.run.ensures.nothing_done
 
 pub returns-clause-alone : goal.returns-clause-alone

@@ -3,17 +3,18 @@
 use Rattle.std.proofs.Common.{◌≡◌, ℕ, List, Some, ◌+◌, ◌≤◌}
 use Rattle.io_edges.specs.Lines.{taken_limit}
 use Rattle.io_edges.specs.Reader.{TakesBytes, to_come}
+use Rattle.traceql_types.specs.Makers.{RefusesOnly}
 use Rattle.trace_shell.specs.Turn.{IsAt}
 use Rattle.trace_shell.proofs.session.session.Given as goal
 
 abbrev pub invariant-lines : goal.invariant-lines
 invariant-lines g l = record {
-  at : (text before : List ℕ) → g.S.Source.left l.fn.source ≡ Some text → g.K.Sink.taken l.fn.sink ≡ Some before →
-      IsAt text before (g.S.Source.left l.source) (g.K.Sink.taken l.sink) l.reader l.held l.tally (g.P.PatternMaker.refusals l.fn.patterns) (g.P.PatternMaker.refusals l.patterns);
+  at : (blamed : List (List ℕ)) × RefusesOnly g.P.PatternMaker.makes l.fn.patterns l.patterns blamed
+      × ((text before : List ℕ) → g.S.Source.left l.fn.source ≡ Some text → g.K.Sink.taken l.fn.sink ≡ Some before →
+      IsAt text before (g.S.Source.left l.source) (g.K.Sink.taken l.sink) l.reader l.held l.tally blamed);
   room : l.held.pushes + to_come l.reader ≤ taken_limit;
   source_counted : g.S.Source.faults l.fn.source ≤ g.S.Source.faults l.source;
   sink_counted : g.K.Sink.faults l.fn.sink ≤ g.K.Sink.faults l.sink;
-  maker_counted : g.P.PatternMaker.refusals l.fn.patterns ≤ g.P.PatternMaker.refusals l.patterns;
   took : TakesBytes (g.S.Source.left l.fn.source) (g.S.Source.left l.source) 0 l.reader.taken;
 }
 
