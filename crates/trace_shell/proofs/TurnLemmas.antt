@@ -182,16 +182,16 @@ whole_at {M} makes a b left_old left taken_old taken reader_old reader held_old 
       [],
       subst (λ (m : M). RefusesOnly makes a m []) (sym same.4) (refuses-none makes a a a),
       λ text before blamed at. unasked text before left taken reader held tally outcome blamed
-      (rw same.0 (passed_at text before left_old left taken_old taken reader_old reader held_old held tally_old tally blamed at (next at.rest at.to_read) same.1 same.2 same.3 took)),
+          (rw same.0 (passed_at text before left_old left taken_old taken reader_old reader held_old held tally_old tally blamed at (next at.rest at.to_read) same.1 same.2 same.3 took)),
     )
 whole_at {M} makes a b left_old left taken_old taken reader_old reader held_old held tally_old tally (c ∷ cs) outcome next took none some =
     let given = some (omega arith) in (
       given.0,
       given.1,
       λ text before blamed at.
-      let told = given.2 at.history at.holds in
-      answered_at text before left_old left taken_old taken reader_old reader held_old held tally_old tally (c ∷ cs) told.0 told.1 outcome blamed given.0 at (next at.rest at.to_read) (omega arith)
-      told.2 told.3 took told.4,
+          let told = given.2 at.history at.holds in
+          answered_at text before left_old left taken_old taken reader_old reader held_old held tally_old tally (c ∷ cs) told.0 told.1 outcome blamed given.0 at (next at.rest at.to_read) (omega arith)
+          told.2 told.3 took told.4,
     )
 
 -- A line of too many bytes asks nothing.

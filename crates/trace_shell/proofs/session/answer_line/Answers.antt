@@ -6,6 +6,6 @@ returns-clause-answered g c = λ some.
       answered.0,
       answered.1,
       λ history h.
-      let told = answered.2 history h in
-      (c.answer-reply.result, told.0, told.1, told.2, c.write.ensures.given),
+          let told = answered.2 history h in
+          (c.answer-reply.result, told.0, told.1, told.2, c.write.ensures.given),
     )

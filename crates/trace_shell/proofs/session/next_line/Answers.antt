@@ -16,34 +16,54 @@ returns-in-Whole-clause-turned g c =
     c.next.ensures.took c.answer_line.ensures.empty c.answer_line.ensures.answered
 
 pub returns-in-TooLong-clause-turned : goal.returns-in-TooLong-clause-turned
-returns-in-TooLong-clause-turned g c = ([], refuses-none g.P.PatternMaker.makes _ c.args.patterns.now c.args.patterns.now, λ text before blamed at.
-    let answers = subst (λ l. Answers l at.rest (IsToRead c.next.new.self (g.S.Source.left c.next.new.source))) c.in-TooLong.is
-    (c.in-Ok.ensures.line at.rest at.to_read) in
-    let long = subst (λ l. IsWithinLimits l c.next.new.self.taken) c.in-TooLong.is c.in-Ok.ensures.limits in
-    too_long_at text before _ _ _ _ _ _ _ _ _ c.in-TooLong.length c.write.result _ at answers long c.next.ensures.took c.write.ensures.given)
+returns-in-TooLong-clause-turned g c = (
+  [],
+  refuses-none g.P.PatternMaker.makes _ c.args.patterns.now c.args.patterns.now,
+  λ text before blamed at.
+      let answers = subst (λ l. Answers l at.rest (IsToRead c.next.new.self (g.S.Source.left c.next.new.source))) c.in-TooLong.is
+      (c.in-Ok.ensures.line at.rest at.to_read) in
+      let long = subst (λ l. IsWithinLimits l c.next.new.self.taken) c.in-TooLong.is c.in-Ok.ensures.limits in
+      too_long_at text before _ _ _ _ _ _ _ _ _ c.in-TooLong.length c.write.result _ at answers long c.next.ensures.took c.write.ensures.given,
+)
 
 pub returns-in-End-clause-turned : goal.returns-in-End-clause-turned
-returns-in-End-clause-turned g c = ([], refuses-none g.P.PatternMaker.makes _ c.args.patterns.now c.args.patterns.now, λ text before blamed at.
-    let answers = subst (λ l. Answers l at.rest (IsToRead c.next.new.self (g.S.Source.left c.next.new.source))) c.in-End.is
-    (c.in-Ok.ensures.line at.rest at.to_read) in
-    let fewer = subst (λ l. IsWithinLimits l c.next.new.self.taken) c.in-End.is c.in-Ok.ensures.limits in
-    unasked text before _ _ _ _ _ (Some c.ending.result) blamed
-    (subst (λ e. Came text before (g.S.Source.left c.next.new.source) (g.K.Sink.taken c.args.sink.now) e blamed) (sym c.ending.ensures)
-    (ended_at text before _ _ _ _ _ _ _ _ at answers fewer c.next.ensures.took)))
+returns-in-End-clause-turned g c = (
+  [],
+  refuses-none g.P.PatternMaker.makes _ c.args.patterns.now c.args.patterns.now,
+  λ text before blamed at.
+      let answers = subst (λ l. Answers l at.rest (IsToRead c.next.new.self (g.S.Source.left c.next.new.source))) c.in-End.is
+      (c.in-Ok.ensures.line at.rest at.to_read) in
+      let fewer = subst (λ l. IsWithinLimits l c.next.new.self.taken) c.in-End.is c.in-Ok.ensures.limits in
+      unasked text before _ _ _ _ _ (Some c.ending.result) blamed
+      (subst (λ e. Came text before (g.S.Source.left c.next.new.source) (g.K.Sink.taken c.args.sink.now) e blamed) (sym c.ending.ensures)
+      (ended_at text before _ _ _ _ _ _ _ _ at answers fewer c.next.ensures.took)),
+)
 
 pub returns-in-Err-Fault-clause-turned : goal.returns-in-Err-Fault-clause-turned
-returns-in-Err-Fault-clause-turned g c = ([], refuses-none g.P.PatternMaker.makes _ c.args.patterns.now c.args.patterns.now, λ text before blamed at.
-    unasked text before _ _ _ _ _ (Some ReadFault) blamed
-    (failed_at text before _ _ _ _ _ _ _ _ at (c.in-Err-Fault.ensures.stands at.rest at.to_read) (c.in-Err-Fault.ensures.waiting (ap Err c.in-Err-Fault.field-0-is))))
+returns-in-Err-Fault-clause-turned g c = (
+  [],
+  refuses-none g.P.PatternMaker.makes _ c.args.patterns.now c.args.patterns.now,
+  λ text before blamed at.
+      unasked text before _ _ _ _ _ (Some ReadFault) blamed
+      (failed_at text before _ _ _ _ _ _ _ _ at (c.in-Err-Fault.ensures.stands at.rest at.to_read) (c.in-Err-Fault.ensures.waiting (ap Err c.in-Err-Fault.field-0-is))),
+)
 
 pub returns-in-Err-Memory-clause-turned : goal.returns-in-Err-Memory-clause-turned
-returns-in-Err-Memory-clause-turned g c = ([], refuses-none g.P.PatternMaker.makes _ c.args.patterns.now c.args.patterns.now, λ text before blamed at.
-    unasked text before _ _ _ _ _ (Some Starved) blamed (starved_at text before _ _ _ _ _ _ blamed at))
+returns-in-Err-Memory-clause-turned g c = (
+  [],
+  refuses-none g.P.PatternMaker.makes _ c.args.patterns.now c.args.patterns.now,
+  λ text before blamed at.
+      unasked text before _ _ _ _ _ (Some Starved) blamed (starved_at text before _ _ _ _ _ _ blamed at),
+)
 
 pub returns-in-Spent-clause-turned : goal.returns-in-Spent-clause-turned
-returns-in-Spent-clause-turned g c = ([], refuses-none g.P.PatternMaker.makes _ c.args.patterns.now c.args.patterns.now, λ text before blamed at.
-    let answers = subst (λ l. Answers l at.rest (IsToRead c.next.new.self (g.S.Source.left c.next.new.source))) c.in-Spent.is
-    (c.in-Ok.ensures.line at.rest at.to_read) in
-    let all = subst (λ l. IsWithinLimits l c.next.new.self.taken) c.in-Spent.is c.in-Ok.ensures.limits in
-    let waiting = subst (λ l. WouldAsk l c.next.new.self) c.in-Spent.is c.in-Ok.ensures.spent in
-    unasked text before _ _ _ _ _ (Some Spent) blamed (spent_at text before _ _ _ _ _ _ _ _ at all.1 c.next.ensures.took answers waiting))
+returns-in-Spent-clause-turned g c = (
+  [],
+  refuses-none g.P.PatternMaker.makes _ c.args.patterns.now c.args.patterns.now,
+  λ text before blamed at.
+      let answers = subst (λ l. Answers l at.rest (IsToRead c.next.new.self (g.S.Source.left c.next.new.source))) c.in-Spent.is
+      (c.in-Ok.ensures.line at.rest at.to_read) in
+      let all = subst (λ l. IsWithinLimits l c.next.new.self.taken) c.in-Spent.is c.in-Ok.ensures.limits in
+      let waiting = subst (λ l. WouldAsk l c.next.new.self) c.in-Spent.is c.in-Ok.ensures.spent in
+      unasked text before _ _ _ _ _ (Some Spent) blamed (spent_at text before _ _ _ _ _ _ _ _ at all.1 c.next.ensures.took answers waiting),
+)

@@ -25,19 +25,19 @@ pub lines-preserved : goal.lines-preserved
 lines-preserved g c =
     let at = c.lines.invariant.at in
     let turned = c.next_line.ensures.turned in record {
-  at = (
-    at.0 ++ turned.0,
-    refuses-on g.P.PatternMaker.makes _ _ _ at.0 turned.0 at.1 turned.1,
-    λ text before told gave.
-      subst (λ o. Turned text before (g.S.Source.left c.next_line.new.source) (g.K.Sink.taken c.next_line.new.sink) c.next_line.new.reader c.next_line.new.held c.next_line.new.tally
-      (at.0 ++ turned.0) o)
-      c.in_default.is (turned.2 text before at.0 (at.2 text before told gave)),
-  );
-  room = c.in_default.ensures.room;
-  source_counted = omega (arith, c.lines.invariant.source_counted, c.next_line.ensures.source_counted);
-  sink_counted = omega (arith, c.lines.invariant.sink_counted, c.next_line.ensures.sink_counted);
-  took = took_on _ _ _ 0 c.lines.reader.taken c.next_line.new.reader.taken c.lines.invariant.took c.next_line.ensures.took;
-}
+      at = (
+        at.0 ++ turned.0,
+        refuses-on g.P.PatternMaker.makes _ _ _ at.0 turned.0 at.1 turned.1,
+        λ text before told gave.
+            subst (λ o. Turned text before (g.S.Source.left c.next_line.new.source) (g.K.Sink.taken c.next_line.new.sink) c.next_line.new.reader c.next_line.new.held c.next_line.new.tally
+            (at.0 ++ turned.0) o)
+            c.in_default.is (turned.2 text before at.0 (at.2 text before told gave)),
+      );
+      room = c.in_default.ensures.room;
+      source_counted = omega (arith, c.lines.invariant.source_counted, c.next_line.ensures.source_counted);
+      sink_counted = omega (arith, c.lines.invariant.sink_counted, c.next_line.ensures.sink_counted);
+      took = took_on _ _ _ 0 c.lines.reader.taken c.next_line.new.reader.taken c.lines.invariant.took c.next_line.ensures.took;
+    }
 
 pub returns-in-Some-clause-spent : goal.returns-in-Some-clause-spent
 returns-in-Some-clause-spent g c = λ is.
@@ -51,7 +51,7 @@ returns-in-Some-clause-ran g c =
       at.0 ++ turned.0,
       refuses-on g.P.PatternMaker.makes _ _ _ at.0 turned.0 at.1 turned.1,
       λ text before told gave.
-      subst (λ o. Turned text before (g.S.Source.left c.next_line.new.source) (g.K.Sink.taken c.next_line.new.sink) c.next_line.new.reader c.next_line.new.held c.next_line.new.tally
-      (at.0 ++ turned.0) o)
-      c.in-Some.is (turned.2 text before at.0 (at.2 text before told gave)),
+          subst (λ o. Turned text before (g.S.Source.left c.next_line.new.source) (g.K.Sink.taken c.next_line.new.sink) c.next_line.new.reader c.next_line.new.held c.next_line.new.tally
+          (at.0 ++ turned.0) o)
+          c.in-Some.is (turned.2 text before at.0 (at.2 text before told gave)),
     )
