@@ -168,6 +168,11 @@ pub unasked : (text before : List ℕ) (left taken : Option (List ℕ)) (reader 
 unasked text before left taken reader held tally outcome blamed t =
     subst (λ (ts : List (List ℕ)). Turned text before left taken reader held tally ts outcome) (sym (append-nil blamed)) t
 
+pub unasked_end : (text before : List ℕ) (left taken : Option (List ℕ)) (ending : Ending) (blamed : List (List ℕ)) →
+    Came text before left taken ending blamed → Came text before left taken ending (blamed ++ [])
+unasked_end text before left taken ending blamed t =
+    subst (λ (ts : List (List ℕ)). Came text before left taken ending ts) (sym (append-nil blamed)) t
+
 -- A whole line was read, and answered where it has bytes.
 pub whole_at : {M : Type 0} (makes : Makes M) (a b : M) (left_old left taken_old taken : Option (List ℕ)) (reader_old reader : Reader) (held_old held : Holding) (tally_old tally : Tally)
     (line : List ℕ) (outcome : Option Ending) → ((rest : List ℕ) → IsToRead reader_old left_old rest → IsNextLine rest line (IsToRead reader left)) →
@@ -214,7 +219,7 @@ pub too_long_at : (text before : List ℕ) (left_old left taken_old taken : Opti
 too_long_at text before left_old left taken_old taken reader_old reader held tally_old tally size outcome blamed at (line, next, is) long took given =
     let over : line_limit < length line = omega (arith, is, long) in
     answered_at text before left_old left taken_old taken reader_old reader held held tally_old tally line (reply.Refused (refusal.TooLong size)) at.history outcome blamed [] at next (omega (arith, over))
-    (Err (refusal.TooLong (length line)), too_long_asks line over, ap (λ n. reply.Refused (refusal.TooLong n)) is, refl) at.holds took given
+    (Err (refusal.TooLong (length line)), too_long_asks line over, (ap (λ n. reply.Refused (refusal.TooLong n)) is, refl)) at.holds took given
 
 -- The lines that weren't answered are those of what is to be read.
 stops : (text before : List ℕ) (left taken : Option (List ℕ)) (reader : Reader) (held : Holding) (tally : Tally) (ending : Ending)

@@ -24,4 +24,4 @@ returns-in-Ok-Search-clause-answered g c =
 
 pub returns-in-Err-clause-answered : goal.returns-in-Err-clause-answered
 returns-in-Err-clause-answered g c =
-    let asked = c.in-Err.ensures.asked in (asked.0, asked.1, λ history h. (history, (Err c.in-Err.why, asked.2, refl, refl), h))
+    let asked = c.in-Err.ensures.asked in (asked.0, asked.1, λ history h. (history, (Err c.in-Err.why, asked.2, (refl, refl)), h))

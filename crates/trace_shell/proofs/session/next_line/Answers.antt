@@ -1,9 +1,9 @@
-use Rattle.std.proofs.Common.{[], Err, Some, ap, refl, sym, subst}
+use Rattle.std.proofs.Common.{[], Err, ap, refl, sym, subst}
 use Rattle.io_edges.specs.Reader.{Answers, IsNextLine, IsToRead, IsWithinLimits, WouldAsk}
 use Rattle.traceql_types.proofs.Calls.{refuses-none}
 use Rattle.session_meaning.specs.declared.ending.Ending.TheVariants.{ReadFault, Spent, Starved}
 use Rattle.trace_shell.specs.Turn.{Came}
-use Rattle.trace_shell.proofs.TurnLemmas.{ended_at, failed_at, spent_at, starved_at, too_long_at, unasked, whole_at}
+use Rattle.trace_shell.proofs.TurnLemmas.{ended_at, failed_at, spent_at, starved_at, too_long_at, unasked_end, whole_at}
 use Rattle.trace_shell.proofs.session.next_line.Goals as goal
 
 pub returns-in-Whole-clause-turned : goal.returns-in-Whole-clause-turned
@@ -34,7 +34,7 @@ returns-in-End-clause-turned g c = (
       let answers = subst (λ l. Answers l at.rest (IsToRead c.next.new.self (g.S.Source.left c.next.new.source))) c.in-End.is
       (c.in-Ok.ensures.line at.rest at.to_read) in
       let fewer = subst (λ l. IsWithinLimits l c.next.new.self.taken) c.in-End.is c.in-Ok.ensures.limits in
-      unasked text before _ _ _ _ _ (Some c.ending.result) blamed
+      unasked_end text before _ _ c.ending.result blamed
       (subst (λ e. Came text before (g.S.Source.left c.next.new.source) (g.K.Sink.taken c.args.sink.now) e blamed) (sym c.ending.ensures)
       (ended_at text before _ _ _ _ _ _ _ _ at answers fewer c.next.ensures.took)),
 )
@@ -44,7 +44,7 @@ returns-in-Err-Fault-clause-turned g c = (
   [],
   refuses-none g.P.PatternMaker.makes _ c.args.patterns.now c.args.patterns.now,
   λ text before blamed at.
-      unasked text before _ _ _ _ _ (Some ReadFault) blamed
+      unasked_end text before _ _ ReadFault blamed
       (failed_at text before _ _ _ _ _ _ _ _ at (c.in-Err-Fault.ensures.stands at.rest at.to_read) (c.in-Err-Fault.ensures.waiting (ap Err c.in-Err-Fault.field-0-is))),
 )
 
@@ -53,7 +53,7 @@ returns-in-Err-Memory-clause-turned g c = (
   [],
   refuses-none g.P.PatternMaker.makes _ c.args.patterns.now c.args.patterns.now,
   λ text before blamed at.
-      unasked text before _ _ _ _ _ (Some Starved) blamed (starved_at text before _ _ _ _ _ _ blamed at),
+      unasked_end text before _ _ Starved blamed (starved_at text before _ _ _ _ _ _ blamed at),
 )
 
 pub returns-in-Spent-clause-turned : goal.returns-in-Spent-clause-turned
@@ -65,5 +65,5 @@ returns-in-Spent-clause-turned g c = (
       (c.in-Ok.ensures.line at.rest at.to_read) in
       let all = subst (λ l. IsWithinLimits l c.next.new.self.taken) c.in-Spent.is c.in-Ok.ensures.limits in
       let waiting = subst (λ l. WouldAsk l c.next.new.self) c.in-Spent.is c.in-Ok.ensures.spent in
-      unasked text before _ _ _ _ _ (Some Spent) blamed (spent_at text before _ _ _ _ _ _ _ _ at all.1 c.next.ensures.took answers waiting),
+      unasked_end text before _ _ Spent blamed (spent_at text before _ _ _ _ _ _ _ _ at all.1 c.next.ensures.took answers waiting),
 )
