@@ -1,9 +1,10 @@
 -- What the calls that read a stripe come to.
-use Rattle.std.proofs.Common.{◌≡◌, ℕ, zero, suc, ◌+◌, ◌-◌, ◌<◌, ◌≤◌, Bool, true, false, not, ◌&&◌, cond, eqb, ltb, get_or, List, [], ◌∷◌, ◌++◌, length, take, drop, Result, Ok, Err, refl, sym, ap, subst, ◌∙◌, arith}
+use Rattle.std.proofs.Common.{◌≡◌, ℕ, zero, suc, ◌+◌, ◌-◌, ◌<◌, ◌≤◌, Bool, true, false, not, ◌&&◌, cond, eqb, ltb, get_or, append_assoc, List, [], ◌∷◌, ◌++◌, length, take, drop, Result, Ok, Err, refl, sym, ap, subst, ◌∙◌, arith}
 use Rattle.std.specs.Int.{w64, from_le_bytes}
+use Rattle.std.specs.List.{AllByRecursion}
 use Rattle.std.specs.Ordering.{is_lt}
 use Rattle.std.proofs.lemmas.Bool.{eq-eqb, ltb-false, ne_eqb}
-use Rattle.std.proofs.lemmas.List.{drop_all, drop_more}
+use Rattle.std.proofs.lemmas.List.{append-nil, drop_all, drop_more}
 use Rattle.span_types.specs.declared.spans.Row.{Row}
 use Rattle.span_types.specs.Orders.{block_order}
 use Rattle.byte_fields.specs.declared.error.FieldError.{FieldError}
@@ -12,7 +13,9 @@ use Rattle.byte_fields.specs.Reading.{Stand, ◌>>=◌, ahead, fixed64_at, left,
 use Rattle.span_fields.specs.Breaks.{in_part, or_place}
 use Rattle.span_fields.proofs.Meant.{Bound, bound}
 use Rattle.block_columns.proofs.Numbering.{position_step}
-use Rattle.block_format.specs.StripeReadings.{ascend_after, zeros}
+use Rattle.block_format.specs.StripeReadings.{ascend_after, rows_of, zeros}
+use Rattle.block_format.specs.StripeRows.{Cells, row_of}
+use Rattle.block_format.specs.Stripes.{IsNamed}
 
 enough : {A E : Type 0} (b : Bool) (e : E) (r : Result A E) (y : A) → cond b (Err e) r ≡ Ok y → b ≡ false
 enough true e r y is = absurd (cc)
@@ -58,11 +61,16 @@ ascend_more before row rest i total lt is test so_far =
     let cells : drop i rest ≡ row ∷ later = drop_more rest i row lt ∙ ap (λ (r : Row). r ∷ later) (sym is) in
     sym (ap (λ (c : Bool). c && ascend_after row later) test) ∙ sym (ap (ascend_after before) cells) ∙ so_far
 
-pub ascend_stop : (before row : Row) (rest : List Row) (i : ℕ) (total : Bool) → i < length rest → row ≡ get_or rest i row → is_lt (block_order before row) ≡ false → ascend_after before (drop i rest) ≡ total → false ≡ total
-ascend_stop before row rest i total lt is test so_far =
-    let later = drop (i + 1) rest in
-    let cells : drop i rest ≡ row ∷ later = drop_more rest i row lt ∙ ap (λ (r : Row). r ∷ later) (sym is) in
-    sym (ap (λ (c : Bool). c && ascend_after row later) test) ∙ sym (ap (ascend_after before) cells) ∙ so_far
+-- ---- rows of cells, as a loop makes them
 
-pub ascend_end : (before : Row) (rest : List Row) (i : ℕ) (total : Bool) → length rest ≤ i → ascend_after before (drop i rest) ≡ total → true ≡ total
-ascend_end before rest i total le so_far = sym (ap (ascend_after before) (drop_all i rest le)) ∙ so_far
+pub rows_go : (rows new : List Row) (before after : List Cells) (cells : Cells) (row : Row) (all : List Row) → before ≡ cells ∷ after → row ≡ row_of cells → new ≡ rows ++ row ∷ [] → rows ++ rows_of before ≡ all → new ++ rows_of after ≡ all
+rows_go rows new before after cells row all next is more so_far =
+    ap (λ (l : List Row). l ++ rows_of after) more ∙ append_assoc rows (row ∷ []) (rows_of after) ∙ ap (λ (r : Row). rows ++ (r ∷ rows_of after)) is
+    ∙ ap (λ (l : List Cells). rows ++ rows_of l) (sym next) ∙ so_far
+
+pub rows_end : (rows : List Row) (rest : List Cells) (all : List Row) → length rest ≡ 0 → rows ++ rows_of rest ≡ all → rows ≡ all
+rows_end rows [] all none so_far = sym (append-nil rows) ∙ so_far
+rows_end rows (cells ∷ rest) all none so_far = absurd (omega (arith, none))
+
+pub named_next : (before after : List Cells) (cells : Cells) → before ≡ cells ∷ after → AllByRecursion IsNamed before → IsNamed cells × AllByRecursion IsNamed after
+named_next before after cells next all = subst (AllByRecursion IsNamed) next all
