@@ -10,7 +10,7 @@ use crate::kinds::{
     AttrLists, EventLists, LinkLists, Moments, Numbers, Parents, Positions, Resources, Scopes,
     SpanIds, SpanKinds, Statuses, TraceIds,
 };
-use block_columns::{Both, Columns, Fields, Kind, Owners, Referred, Single, column, further};
+use block_columns::{Both, Columns, Fields, Kind, Owners, Referred, Single, column};
 use span_fields::Break;
 use span_types::{
     Attrs, Events, Links, SharedResource, SharedScope, SpanId, SpanKind, StatusCode, Text, TraceId,
@@ -84,44 +84,50 @@ pub fn cells(
     alloc: Global,
     fields: &mut Fields,
     tables: &Tables,
-    resources: &Listed<SharedResource>,
-    scopes: &Listed<SharedScope>,
+    resources: Listed<SharedResource>,
+    scopes: Listed<SharedScope>,
     count: u64,
 ) -> Result<Vec<Cells>, Break>
     ensures { Finds (λ x. x.items) result fields.new (cells_at tables.now.strict tables.now.extended tables.now.texts.now
-        (record { list = resources.now.list; values = resources.now.values.now }) (record { list = scopes.now.list; values = scopes.now.values.now }) count fields.old) }
+        (record { list = resources.entry.list; values = resources.entry.values.now }) (record { list = scopes.entry.list; values = scopes.entry.values.now }) count fields.old) }
 {
     let texts = tables.texts;
+    let extended = tables.extended;
+    let strict = tables.strict;
     let resource_column = OwnersBy {
-        strict: tables.strict,
+        strict,
         owners: Owners {
             table: resources.values,
-            list: resources.list.fork(),
+            list: resources.list,
             kind: Resources { alloc, texts },
         },
     };
     let scope_column = OwnersBy {
-        strict: tables.strict,
+        strict,
         owners: Owners {
             table: scopes.values,
-            list: scopes.list.fork(),
+            list: scopes.list,
             kind: Scopes { alloc, texts },
         },
     };
-    let extended = tables.extended;
     let events = EventLists {
         alloc,
         texts,
         extended,
     };
-    let links = Single {
-        kind: LinkLists {
-            alloc,
-            texts,
-            extended,
+    let links = LinkLists {
+        alloc,
+        texts,
+        extended,
+    };
+    let attrs = AttrLists { alloc, texts };
+    let lists = Both {
+        left: Single { kind: attrs },
+        right: Both {
+            left: Single { kind: events },
+            right: Single { kind: links },
         },
     };
-    let lists = further(AttrLists { alloc, texts }, further(events, links));
     let owners = Both {
         left: resource_column,
         right: Both {
@@ -129,10 +135,43 @@ pub fn cells(
             right: lists,
         },
     };
-    let messages = further(Statuses, further(Referred { table: texts }, owners));
-    let times = further(Moments, further(Moments, messages));
-    let names = further(Referred { table: texts }, further(SpanKinds, times));
-    let places = further(Numbers, further(Positions, names));
-    let columns = further(TraceIds, further(SpanIds, further(Parents, places)));
+    let messages = Referred { table: texts };
+    let times = Both {
+        left: Single { kind: Moments },
+        right: Both {
+            left: Single { kind: Moments },
+            right: Both {
+                left: Single { kind: Statuses },
+                right: Both {
+                    left: Single { kind: messages },
+                    right: owners,
+                },
+            },
+        },
+    };
+    let names = Referred { table: texts };
+    let places = Both {
+        left: Single { kind: Numbers },
+        right: Both {
+            left: Single { kind: Positions },
+            right: Both {
+                left: Single { kind: names },
+                right: Both {
+                    left: Single { kind: SpanKinds },
+                    right: times,
+                },
+            },
+        },
+    };
+    let columns = Both {
+        left: Single { kind: TraceIds },
+        right: Both {
+            left: Single { kind: SpanIds },
+            right: Both {
+                left: Single { kind: Parents },
+                right: places,
+            },
+        },
+    };
     columns.read_all(alloc, fields, count)
 }

@@ -201,19 +201,19 @@ fn owned_rows(alloc: Global, fields: &mut Fields, tables: &Tables) -> Result<Vec
         list,
         values: values.as_slice(),
     };
-    scoped_rows(alloc, fields, tables, &resources)
+    scoped_rows(alloc, fields, tables, resources)
 }
 
 /// The scopes, and the rows.
-#[tactic(auto, unfolding(crate::specs::StripeReadings::scoped_rows_at))]
+#[tactic(auto, unfolding(crate::specs::StripeReadings::scoped_rows_at, crate::specs::StripeReadings::counted_rows_at, block_columns::specs::ColumnReadings::made_at))]
 fn scoped_rows(
     alloc: Global,
     fields: &mut Fields,
     tables: &Tables,
-    resources: &Listed<SharedResource>,
+    resources: Listed<SharedResource>,
 ) -> Result<Vec<Row>, Break>
     ensures { Finds (λ x. x.items) result fields.new (scoped_rows_at tables.now.strict tables.now.extended tables.now.texts.now
-        (record { list = resources.now.list; values = resources.now.values.now }) fields.old) }
+        (record { list = resources.entry.list; values = resources.entry.values.now }) fields.old) }
 {
     let list = fields.fork();
     let texts = tables.texts;
@@ -224,7 +224,7 @@ fn scoped_rows(
         values: values.as_slice(),
     };
     let count = size(fields)?;
-    let cells = cells(alloc, fields, tables, resources, &scopes, count)?;
+    let cells = cells(alloc, fields, tables, resources, scopes, count)?;
     let rows = rows(alloc, cells)?;
     Ok(rows)
 }
