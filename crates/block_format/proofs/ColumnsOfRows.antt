@@ -196,7 +196,7 @@ module _ (texts : List (List ℕ)) (are : AreTexts texts) where
   links_laws extended = of_only_if extended (of_fits (sound_counted IsKeptLink) (counted_sound IsKeptLink) (of_counted (λ before. link_laws texts are)))
 
   pub cells_laws : (extended : Bool) (resources : Listed Resource) (scopes : Listed Scope) → IsOwnerTable same_resource IsKeptResource resources.values → IsOwnerTable same_scope IsKeptScope scopes.values
-      → ColumnLaws bytes_eq IsWord texts (cells_at extended texts resources scopes) (cells_by extended) (AreCells extended resources.values scopes.values)
+      → ColumnLaws bytes_eq IsWord texts (cells_at true extended texts resources scopes) (cells_by extended) (AreCells extended resources.values scopes.values)
   unfolding cells_at
   cells_laws extended resources scopes rs ss =
       of_both (of_values (of_field meant_trace again_trace)) (of_both (of_values (of_field meant_span_id again_span_id)) (of_both (of_values (of_field meant_parent again_parent))

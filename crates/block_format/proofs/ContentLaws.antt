@@ -33,7 +33,7 @@ use Rattle.block_format.specs.PartEncodings.{resource_by, scope_by}
 use Rattle.block_format.specs.PartReadings.{resource_with, scope_with}
 use Rattle.block_format.specs.PartsKept.{AreTexts, IsKeptResource, IsKeptScope}
 use Rattle.block_format.specs.StripeEncodings.{content_bytes, counted_rows, owned_rows, resources_of, row_columns, scoped_rows, scopes_of, texts_bytes, with_texts}
-use Rattle.block_format.specs.StripeReadings.{Listed, cells_at, content_at, counted_rows_at, is_no_size, owned_rows_at, rows_of, scoped_rows_at, size_at, whole_text_at}
+use Rattle.block_format.specs.StripeReadings.{Listed, cells_at, content_at, counted_rows_at, is_no_size, owned_rows_at, rows_of, scoped_rows_at, size_at, texts_first, whole_text_at}
 use Rattle.block_format.specs.StripeRows.{Cells, cells_of, row_of}
 use Rattle.block_format.specs.Stripes.{IsKeptRow}
 use Rattle.block_format.proofs.ColumnsOfRows.{AreCells, AreRowsOver, cells_are, cells_by, cells_laws, cells_seam, rows_are}
@@ -83,9 +83,9 @@ module _ (texts : List (List ℕ)) (are : AreTexts texts) (extended : Bool) wher
 
   module _ (resources : Listed Resource) (scopes : Listed Scope) (rs : IsOwnerTable same_resource IsKeptResource resources.values) (ss : IsOwnerTable same_scope IsKeptScope scopes.values) where
     abbrev columns_at : ℕ → Read (List Cells)
-    columns_at = cells_at extended texts resources scopes
+    columns_at = cells_at true extended texts resources scopes
 
-    meant_counted : ReadsEncoded texts (counted_rows_at extended texts resources scopes) (counted_rows extended) (Over resources.values scopes.values)
+    meant_counted : ReadsEncoded texts (counted_rows_at true extended texts resources scopes) (counted_rows extended) (Over resources.values scopes.values)
     unfolding counted_rows_at counted_rows made_at
     meant_counted s is rows t e =
         let a = bound (size_at s) (λ n. columns_at n.0 n.1 >>= λ x. Ok (rows_of x.0, x.1)) (rows, t) e in
@@ -129,7 +129,7 @@ module _ (texts : List (List ℕ)) (are : AreTexts texts) (extended : Bool) wher
         let over : AreRowsOver extended resources.values scopes.values rows = record { each = fits.0.0.each; resources = fits.0.1; scopes = fits.1 } in
         subst (λ (q : Encoded (List ℕ)). Adds bytes_eq IsWord t q.1) ((cells_seam extended).is rows t) ((laws.one (length rows)).adds (map cells_of rows) t (cells_are extended resources.values scopes.values rows over))
 
-    again_counted : EncodedReads texts (counted_rows_at extended texts resources scopes) (counted_rows extended) (Over resources.values scopes.values)
+    again_counted : EncodedReads texts (counted_rows_at true extended texts resources scopes) (counted_rows extended) (Over resources.values scopes.values)
     unfolding counted_rows_at counted_rows
     again_counted s is rows rest fits stands =
         seq texts size_at (plain var_bytes) IsSize (λ n. made_at rows_of (columns_at n.0) n.1) (columns (row_columns extended) rows) (again_size texts) s is (length rows) rest rows (size_below rows fits.0.0.size, fits.0.0.size)
@@ -142,23 +142,23 @@ module _ (texts : List (List ℕ)) (are : AreTexts texts) (extended : Bool) wher
         size_below : (rows : List Row) → is_no_size (length rows) ≡ false → length rows < 2 ^ 64
         size_below rows e = (let few = ltb-false 256 (length rows) (parts (eqb (length rows) 0) (ltb 256 (length rows)) e) in omega (arith, few))
 
-    counted_laws : Laws bytes_eq IsWord texts (counted_rows_at extended texts resources scopes) (counted_rows extended) (Over resources.values scopes.values)
+    counted_laws : Laws bytes_eq IsWord texts (counted_rows_at true extended texts resources scopes) (counted_rows extended) (Over resources.values scopes.values)
     counted_laws = record { meant = meant_counted; again = again_counted; adds = adds_columns }
 
   abbrev WithScopes : List Row → Type 0
   WithScopes rows = AreSized extended rows × IsOwnerTable same_scope IsKeptScope (first_uses same_scope (scopes_of rows))
 
   scoped_laws : (list : Spot) (rs : List Resource) → IsOwnerTable same_resource IsKeptResource rs
-      → Laws bytes_eq IsWord texts (scoped_rows_at extended texts (record { list = list; values = rs })) (scoped_rows extended) (IsOver same_resource (λ (r : Row). r.span.resource) WithScopes rs)
+      → Laws bytes_eq IsWord texts (scoped_rows_at true extended texts (record { list = list; values = rs })) (scoped_rows extended) (IsOver same_resource (λ (r : Row). r.span.resource) WithScopes rs)
   unfolding scoped_rows_at scoped_rows
   scoped_laws list rs table =
       of_fits (λ rows is. ((is.0.0, is.1), is.0.1)) (λ rows is. ((is.0.0, is.1), is.0.1))
-      (of_table same_scope (scope_laws texts are) (λ (r : Row). r.span.scope) (λ place ss. counted_rows_at extended texts (record { list = list; values = rs }) (record { list = place; values = ss })) (counted_rows extended)
+      (of_table same_scope (scope_laws texts are) (λ (r : Row). r.span.scope) (λ place ss. counted_rows_at true extended texts (record { list = list; values = rs }) (record { list = place; values = ss })) (counted_rows extended)
       (λ rows. AreSized extended rows × (uses_of rows ≡ rs)) (λ place ss is. counted_laws (record { list = list; values = rs }) (record { list = place; values = ss }) table is))
 
-  pub owned_laws : Laws bytes_eq IsWord texts (owned_rows_at extended texts) (owned_rows extended) (IsWith same_resource IsKeptResource (λ (r : Row). r.span.resource) WithScopes)
+  pub owned_laws : Laws bytes_eq IsWord texts (owned_rows_at true extended texts) (owned_rows extended) (IsWith same_resource IsKeptResource (λ (r : Row). r.span.resource) WithScopes)
   unfolding owned_rows_at owned_rows
-  owned_laws = of_table same_resource (resource_laws texts are) (λ (r : Row). r.span.resource) (λ list rs. scoped_rows_at extended texts (record { list = list; values = rs })) (scoped_rows extended) WithScopes scoped_laws
+  owned_laws = of_table same_resource (resource_laws texts are) (λ (r : Row). r.span.resource) (λ list rs. scoped_rows_at true extended texts (record { list = list; values = rs })) (scoped_rows extended) WithScopes scoped_laws
 
 -- rows with what they refer to
 abbrev pub AreOwnedRows : Bool → List Row → Type 0
@@ -178,6 +178,15 @@ are_texts texts is =
     let parts = parted bytes_eq IsWord [] texts is.0 in
     record { distinct = parts.distinct; words = get_each IsWord texts parts.each; short = is.1 }
 
+never : {A B : Type 0} (r : Result A ℕ) (at : ℕ) (y : B) → (r >>= λ _. Err at) ≡ Ok y → ⊥
+never (Ok x) at y e = cc
+never (Err place) at y e = cc
+
+first_found : (list : Spot) (texts : List (List ℕ)) (r lenient : Result (List Row × Spot) ℕ) (y : List Row × Spot) → texts_first list texts r lenient ≡ Ok y → Bound r (λ rows. all_used whole_text_at list texts rows.1.used rows) y
+first_found list texts (Ok x) lenient y e = record { value = x; first = refl; last = e }
+first_found list texts (Err at) (Ok x) y e = absurd (never (all_used whole_text_at list texts x.1.used x) at y e)
+first_found list texts (Err at) (Err later) y e = absurd (cc)
+
 pub record ContentMeans (extended : Bool) (s : Spot) (rows : List Row) (t : Spot) : Type 0 where
   pub bytes : Took (content_bytes extended rows) s.stand t.stand
   pub owned : AreOwnedRows extended rows
@@ -185,13 +194,13 @@ pub record ContentMeans (extended : Bool) (s : Spot) (rows : List Row) (t : Spot
 pub meant_content : (extended : Bool) (s : Spot) → IsWithin s.stand.whole s.stand.at → s.used ≡ 0 → (rows : List Row) (t : Spot) → content_at extended s ≡ read_to rows t → ContentMeans extended s rows t
 unfolding content_at with_texts
 meant_content extended s is fresh rows t e =
-    let a = bound (table_at bytes_eq whole_text_at s) (λ texts. owned_rows_at extended texts.0 texts.1 >>= λ rows. all_used whole_text_at s texts.0 rows.1.used rows) (rows, t) e in
+    let a = bound (table_at bytes_eq whole_text_at s) (λ texts. texts_first s texts.0 (owned_rows_at true extended texts.0 texts.1) (owned_rows_at false extended texts.0 texts.1)) (rows, t) e in
     let texts = a.value.0 in
     let u = a.value.1 in
     let front = texts_laws.meant s (record { within = is; few = omega (arith, fresh) }) texts u a.first in
     let none : u.used ≡ 0 = (let few = front.wrote.few in omega (arith, few)) in
     let are = are_texts texts front.fits in
-    let b = bound (owned_rows_at extended texts u) (λ rows. all_used whole_text_at s texts rows.1.used rows) (rows, t) a.last in
+    let b = first_found s texts (owned_rows_at true extended texts u) (owned_rows_at false extended texts u) (rows, t) a.last in
     let found = b.value.0 in
     let v = b.value.1 in
     let body = (owned_laws texts are extended).meant u (record { within = front.wrote.bytes.within; few = omega (arith, none) }) found v b.first in

@@ -8,3 +8,7 @@ pub mod HeaderSteps
 pub mod HeaderFields
 pub mod HeaderLaws
 pub mod BlockLaws
+pub mod StripeSteps
+pub mod NamedCells
+pub mod KeptRows
+pub mod ReadSteps

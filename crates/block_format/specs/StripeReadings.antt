@@ -28,27 +28,37 @@ position_at = unless_at is_no_position number_at
 abbrev pub moment_at : Read ℕ
 moment_at = field (λ within. in_part within fixed64_at)
 
+-- A column of values that stand in a table of their own: each of them is used, or those that nothing refers to are let be.
+unfoldable pub unasked_at : {T : Type 0} → List T → ℕ → Read (List T)
+unasked_at table n s = do
+  xs ← column_at (reference_at table) n (record { within = s.within; stand = s.stand; used = 0 })
+  Ok (xs.0, record { within = xs.1.within; stand = xs.1.stand; used = s.used })
+
+abbrev pub owners_by : {T B : Type 0} → Bool → Read B → Spot → List T → ℕ → Read (List T)
+owners_by true read list table = owners_at read list table
+owners_by false read list table = unasked_at table
+
 -- a table, and where it stands
 pub record Listed (T : Type 0) : Type 0 where
   pub list : Spot
   pub values : List T
 
 -- resources, scopes, attributes, and in form 2 events and links
-abbrev pub owners_with : Bool → List (List ℕ) → Listed Resource → Listed Scope → ℕ → Read (List OwnerCells)
-owners_with extended texts resources scopes =
-    both_at (owners_at (resource_with texts) resources.list resources.values)
-    (both_at (owners_at (scope_with texts) scopes.list scopes.values)
+abbrev pub owners_with : Bool → Bool → List (List ℕ) → Listed Resource → Listed Scope → ℕ → Read (List OwnerCells)
+owners_with strict extended texts resources scopes =
+    both_at (owners_by strict (resource_with texts) resources.list resources.values)
+    (both_at (owners_by strict (scope_with texts) scopes.list scopes.values)
     (both_at (column_at (attrs_with texts))
     (both_at (column_at (only_if_at extended (counted_at (λ _. event_with texts))))
     (column_at (only_if_at extended (counted_at (λ _. link_with texts)))))))
 
--- all columns of so many rows
-unfoldable pub cells_at : Bool → List (List ℕ) → Listed Resource → Listed Scope → ℕ → Read (List Cells)
-cells_at extended texts resources scopes =
+-- All columns of so many rows. Where it is strict, each resource and each scope is used.
+unfoldable pub cells_at : Bool → Bool → List (List ℕ) → Listed Resource → Listed Scope → ℕ → Read (List Cells)
+cells_at strict extended texts resources scopes =
     both_at (column_at (field trace_id_at)) (both_at (column_at (field span_id_at)) (both_at (column_at (field parent_at))
     (both_at (column_at number_at) (both_at (column_at position_at) (both_at (column_at (reference_at texts)) (both_at (column_at (field kind_at))
     (both_at (column_at moment_at) (both_at (column_at moment_at) (both_at (column_at (field status_at)) (both_at (column_at (reference_at texts))
-    (owners_with extended texts resources scopes)))))))))))
+    (owners_with strict extended texts resources scopes)))))))))))
 
 -- ---- content
 
@@ -65,32 +75,38 @@ abbrev pub rows_of : List Cells → List Row
 rows_of cells = map row_of cells
 
 -- the number of rows, and their columns
-unfoldable pub counted_rows_at : Bool → List (List ℕ) → Listed Resource → Listed Scope → Read (List Row)
-counted_rows_at extended texts resources scopes s = do
+unfoldable pub counted_rows_at : Bool → Bool → List (List ℕ) → Listed Resource → Listed Scope → Read (List Row)
+counted_rows_at strict extended texts resources scopes s = do
   count ← size_at s
-  made_at rows_of (cells_at extended texts resources scopes count.0) count.1
+  made_at rows_of (cells_at strict extended texts resources scopes count.0) count.1
 
 -- the scopes, and the rows
-unfoldable pub scoped_rows_at : Bool → List (List ℕ) → Listed Resource → Read (List Row)
-scoped_rows_at extended texts resources s = do
+unfoldable pub scoped_rows_at : Bool → Bool → List (List ℕ) → Listed Resource → Read (List Row)
+scoped_rows_at strict extended texts resources s = do
   scopes ← table_at same_scope (scope_with texts) s
-  counted_rows_at extended texts resources (record { list = s; values = scopes.0 }) scopes.1
+  counted_rows_at strict extended texts resources (record { list = s; values = scopes.0 }) scopes.1
 
 -- the resources, the scopes, and the rows
-unfoldable pub owned_rows_at : Bool → List (List ℕ) → Read (List Row)
-owned_rows_at extended texts s = do
+unfoldable pub owned_rows_at : Bool → Bool → List (List ℕ) → Read (List Row)
+owned_rows_at strict extended texts s = do
   resources ← table_at same_resource (resource_with texts) s
-  scoped_rows_at extended texts (record { list = s; values = resources.0 }) resources.1
+  scoped_rows_at strict extended texts (record { list = s; values = resources.0 }) resources.1
 
 abbrev pub whole_text_at : Read (List ℕ)
 whole_text_at = field (λ within. in_part within text_at)
+
+-- What was found, where each text is used. Where it is malformed, but not once the resources and scopes that nothing refers to are
+-- let be, a text that nothing refers to comes first, since the texts stand before them.
+abbrev pub texts_first : Spot → List (List ℕ) → Result (List Row × Spot) ℕ → Result (List Row × Spot) ℕ → Result (List Row × Spot) ℕ
+texts_first list texts (Ok rows) lenient = all_used whole_text_at list texts rows.1.used rows
+texts_first list texts (Err at) (Ok rows) = all_used whole_text_at list texts rows.1.used rows >>= λ _. Err at
+texts_first list texts (Err at) (Err later) = Err at
 
 -- the texts, and the rows, which use each text
 unfoldable pub content_at : Bool → Read (List Row)
 content_at extended s = do
   texts ← table_at bytes_eq whole_text_at s
-  rows ← owned_rows_at extended texts.0 texts.1
-  all_used whole_text_at s texts.0 rows.1.used rows
+  texts_first s texts.0 (owned_rows_at true extended texts.0 texts.1) (owned_rows_at false extended texts.0 texts.1)
 
 -- ---- whole pages
 

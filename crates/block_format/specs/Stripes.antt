@@ -1,6 +1,6 @@
 -- Which rows a stripe has, and which bytes stand for them.
-use Rattle.std.specs.Prelude.{◌≡◌, ℕ, ◌+◌, min, ◌<◌, ◌≤◌, ◌^◌, ◌==◌, All, Bool, true, false, List, [], length, IfSome, Result, Ok, Err}
-use Rattle.std.specs.List.{AllByRecursion}
+use Rattle.std.specs.Prelude.{◌≡◌, ℕ, ◌+◌, min, ◌<◌, ◌≤◌, ◌^◌, ◌==◌, ◌&&◌, ◌||◌, not, All, Bool, true, false, List, [], length, IfSome, Result, Ok, Err}
+use Rattle.std.specs.List.{AllByRecursion, list_all}
 use Rattle.span_types.specs.declared.spans.Row.{Row}
 use Rattle.span_types.specs.Equal.{same_resource, same_scope}
 use Rattle.span_types.specs.Promises.{all_zero}
@@ -12,7 +12,7 @@ use Rattle.block_format.specs.declared.error.FormatError.{FormatError}
 use Rattle.block_format.specs.declared.error.FormatError.TheVariants.{NotBlock, Memory}
 use Rattle.block_format.specs.PartsKept.{AreKeptAttrs, IsKeptEvent, IsKeptLink, IsKeptResource, IsKeptScope}
 use Rattle.block_format.specs.StripeEncodings.{content_bytes, resources_of, scopes_of, stripe_bytes}
-use Rattle.block_format.specs.StripeReadings.{ascend}
+use Rattle.block_format.specs.StripeReadings.{ascend, is_no_size}
 use Rattle.block_format.specs.StripeRows.{Cells}
 
 -- form 2 has events and links
@@ -50,17 +50,14 @@ pub record StripeHolds (form : ℕ) (bytes : List ℕ) (rows : List Row) : Type 
   pub bytes_fit : AreBytes bytes
   pub bytes_are : bytes ≡ stripe_bytes (is_extended form) rows
 
--- a row that form 1 has no bytes for has neither events nor links
-abbrev pub HasForm : Bool → Row → Type 0
-HasForm true row = Unit {0}
-HasForm false row = (row.span.events ≡ []) × (row.span.links ≡ [])
+-- a row for which the form has bytes: form 1 has none for events and links
+abbrev pub has_form : Bool → Row → Bool
+has_form extended row = extended || ((length row.span.events == 0) && (length row.span.links == 0))
 
--- Rows that can be written as one stripe: what the types of rows don't promise.
-pub record CanBeStripe (extended : Bool) (rows : List Row) : Type 0 where
-  pub some : 1 ≤ length rows
-  pub few : length rows ≤ 256
-  pub order : ascend rows ≡ true
-  pub form : AllByRecursion (HasForm extended) rows
+-- Rows that can be written as one stripe, as far as their types don't promise it: 1 to 256 rows in block order, for each of which
+-- the form has bytes.
+abbrev pub can_be_stripe : Bool → List Row → Bool
+can_be_stripe extended rows = not (is_no_size (length rows)) && (ascend rows && list_all (has_form extended) rows)
 
 -- ---- for private clauses
 

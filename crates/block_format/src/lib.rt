@@ -3,14 +3,20 @@
 #![tactic(auto)]
 
 mod block_laws;
+mod cells;
 mod error;
 mod fill;
 mod header;
 mod header_laws;
 mod header_reading;
+mod kinds;
 mod laws;
 mod parts;
 mod puts;
+mod row_puts;
+mod rows;
+mod stripe_reading;
+mod stripe_writing;
 
 pub use block_laws::{a_block_has_rows, one_block, one_info};
 pub use error::FormatError;
@@ -26,3 +32,5 @@ pub use puts::{
     PutAttr, PutEvent, PutLink, PutResource, PutScope, PutText, put_attrs, put_id, put_moment,
     put_text, put_trace,
 };
+pub use stripe_reading::read_stripe;
+pub use stripe_writing::{can_be_stripe, write_stripe};
