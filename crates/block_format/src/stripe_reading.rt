@@ -23,12 +23,7 @@ use std::hash::Hash;
 ///
 /// Bytes that stand for no rows are [`FormatError::NotBlock`] at the first offset where they are malformed, counted from the
 /// file's first byte. No number that they hold says how much memory is taken before as many bytes are there.
-pub fn read_stripe(
-    alloc: Global,
-    bytes: &[u8],
-    base: u64,
-    form: u8,
-) -> Result<Rows, FormatError>
+pub fn read_stripe(alloc: Global, bytes: &[u8], base: u64, form: u8) -> Result<Rows, FormatError>
     requires { base + length bytes.now < 2 ^ 64 }
     ensures { ReadsFrom base bytes.now result (stripe_at (is_extended form) bytes.now) }
 {
@@ -73,12 +68,7 @@ fn front(bytes: &[u8], size: u64) -> &[u8]
 
 /// The rows of a content of so many bytes, which begins at offset 8.
 #[tactic(auto, unfolding(crate::specs::StripeReadings::content_of))]
-fn content_of(
-    alloc: Global,
-    bytes: &[u8],
-    size: u64,
-    extended: bool,
-) -> Result<Vec<Row>, Break>
+fn content_of(alloc: Global, bytes: &[u8], size: u64, extended: bool) -> Result<Vec<Row>, Break>
     requires { 8 ≤ length bytes.now }
     ensures answers { Answers (λ x. x.items) result (content_of extended bytes.now size) }
     ensures whole { OnOk result (8 + size ≤ length bytes.now) }

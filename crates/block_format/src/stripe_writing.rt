@@ -10,11 +10,11 @@ ghost use Rattle.block_format.specs.StripeEncodings.{after_length, owned_rows, o
 ghost use Rattle.block_format.specs.StripeReadings.{is_no_size};
 ghost use Rattle.block_format.specs.Stripes.{AreOwned, AreWhole, AreWritten, StripeHolds, can_be_stripe, has_form, is_extended};
 
-use crate::rows::ascend;
 use crate::puts::{PutResource, PutScope, PutText};
 use crate::row_puts::{
     AttrColumn, EventColumn, LinkColumn, ResourceColumn, ScopeColumn, put_ids, put_names, put_times,
 };
+use crate::rows::ascend;
 use block_columns::{Page, Put, put_column, put_table};
 use indexmap::IndexSet;
 use span_types::{Bytes, Memory, Resource, Row, Rows, Scope, Text};
