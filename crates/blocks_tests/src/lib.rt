@@ -1,0 +1,5 @@
+//! Tests of the crates that keep rows in blocks, by their public calls alone.
+#![tactic(auto)]
+
+#[cfg(test)]
+mod stripes;
