@@ -1,5 +1,0 @@
-//! Tests of the crates that keep rows in blocks, by their public calls alone.
-#![tactic(auto)]
-
-#[cfg(test)]
-mod stripes;
