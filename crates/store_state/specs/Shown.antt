@@ -32,7 +32,7 @@ told_block info = record { file = info.file; level = info.level; size = info.row
 pub record IsChoiceOf (listed : List InfoParts) (level : ℕ) (pinned : List InfoParts) : Type 0 where
   pub chosen : map told_block pinned ≡ choice (map told_block listed)
   pub theirs : (info : InfoParts) → Contains pinned info → Contains listed info
-  pub level : level ≡ level_of (map told_block pinned) + 1
+  pub its_level : level ≡ level_of (map told_block pinned) + 1
 
 -- The same, with at least one block, among those that are listed, or among some where a port doesn't tell them.
 abbrev pub JoinsChoice : (List InfoParts → Type 0) → ℕ → List InfoParts → Type 0
