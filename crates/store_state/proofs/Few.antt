@@ -15,10 +15,10 @@ le_of : (a b : ℕ) → nat_le a b ≡ true → a ≤ b
 le_of a b h = search rules
 
 -- so many at most, of the level, and with so many rows at most
-record Fit (level room most : ℕ) (bs : List Block) : Type 0 where
-  few : length bs ≤ most
-  levels : AllByRecursion (λ (b : Block). b.level ≡ level) bs
-  rows : sizes bs ≤ room
+pub record Fit (level room most : ℕ) (bs : List Block) : Type 0 where
+  pub few : length bs ≤ most
+  pub levels : AllByRecursion (λ (b : Block). b.level ≡ level) bs
+  pub rows : sizes bs ≤ room
 
 -- of the level, with room for its rows
 fit_test : (level room : ℕ) (b : Block) → fits level room b ≡ true → (b.level ≡ level) × (b.size ≤ room)
@@ -32,28 +32,28 @@ fit_test level room b e = by_test (b.level == level) (nat_le b.size room) refl r
 joined_fit : (level room n : ℕ) (bs : List Block) → Fit level room n (joined level room n bs)
 joined_fit level room zero bs = record { few = omega arith; levels = tt; rows = omega arith }
 joined_fit level room (suc n) [] = record { few = omega arith; levels = tt; rows = omega arith }
-joined_fit level room (suc n) (b ∷ bs) = by_test (fits level room b) refl
+joined_fit level room (suc n) (b ∷ bs) = by_test (fits level room b) refl (joined_fit level (room - b.size) n bs) (joined_fit level room (suc n) bs)
   where
-    by_test : (t : Bool) → fits level room b ≡ t → Fit level room (suc n) (if t then b ∷ joined level (room - b.size) n bs else joined level room (suc n) bs)
-    by_test true e =
+    by_test : (t : Bool) → fits level room b ≡ t → Fit level (room - b.size) n (joined level (room - b.size) n bs) → Fit level room (suc n) (joined level room (suc n) bs)
+        → Fit level room (suc n) (if t then b ∷ joined level (room - b.size) n bs else joined level room (suc n) bs)
+    by_test true e rest without =
         let test = fit_test level room b e in
-        let rest = joined_fit level (room - b.size) n bs in
         record {
           few = (let few = rest.few in omega (arith, few));
           levels = (test.0, rest.levels);
           rows = (let own = test.1 in let others = rest.rows in omega (arith, own, others));
         }
-    by_test false e = joined_fit level room (suc n) bs
+    by_test false e rest without = without
 
 -- two to four of the level, with few enough rows
-record Few (level : ℕ) (bs : List Block) : Type 0 where
-  two : 2 ≤ length bs
-  fit : Fit level most_rows 4 bs
+pub record Few (level : ℕ) (bs : List Block) : Type 0 where
+  pub two : 2 ≤ length bs
+  pub fit : Fit level most_rows 4 bs
 
 begun_few : (level : ℕ) (b : Block) (xs others : List Block) → b.level ≡ level → b.size ≤ most_rows → Fit level (most_rows - b.size) 3 xs
     → (1 ≤ length others → Few level others) → 1 ≤ length (begun_with b xs others) → Few level (begun_with b xs others)
-begun_few level b [] others its room fit else some = else some
-begun_few level b (x ∷ xs) others its room fit else some =
+begun_few level b [] others its room fit rest some = rest some
+begun_few level b (x ∷ xs) others its room fit rest some =
     let few = fit.few in
     let rows = fit.rows in
     record {
@@ -63,35 +63,35 @@ begun_few level b (x ∷ xs) others its room fit else some =
 
 chosen_few : (level : ℕ) (bs : List Block) → 1 ≤ length (chosen_at level bs) → Few level (chosen_at level bs)
 chosen_few level [] some = absurd (omega (arith, some))
-chosen_few level (b ∷ bs) some = by_test (fits level most_rows b) refl some
+chosen_few level (b ∷ bs) some = by_test (fits level most_rows b) refl (chosen_few level bs) some
   where
-    by_test : (t : Bool) → fits level most_rows b ≡ t
+    by_test : (t : Bool) → fits level most_rows b ≡ t → (1 ≤ length (chosen_at level bs) → Few level (chosen_at level bs))
         → 1 ≤ length (if t then begun_with b (joined level (most_rows - b.size) 3 bs) (chosen_at level bs) else chosen_at level bs)
         → Few level (if t then begun_with b (joined level (most_rows - b.size) 3 bs) (chosen_at level bs) else chosen_at level bs)
-    by_test true e some =
+    by_test true e rest some =
         let test = fit_test level most_rows b e in
-        begun_few level b (joined level (most_rows - b.size) 3 bs) (chosen_at level bs) test.0 test.1 (joined_fit level (most_rows - b.size) 3 bs) (chosen_few level bs) some
-    by_test false e some = chosen_few level bs some
+        begun_few level b (joined level (most_rows - b.size) 3 bs) (chosen_at level bs) test.0 test.1 (joined_fit level (most_rows - b.size) 3 bs) rest some
+    by_test false e rest some = rest some
 
 -- at some level from this one on, of so many
-record FewFrom (from n : ℕ) (bs : List Block) : Type 0 where
-  level : ℕ
-  low : from ≤ level
-  high : level < from + n
-  few : Few level bs
+pub record FewFrom (from n : ℕ) (bs : List Block) : Type 0 where
+  pub level : ℕ
+  pub low : from ≤ level
+  pub high : level < from + n
+  pub few : Few level bs
 
-else_few : (from n : ℕ) (xs others : List Block) → (1 ≤ length xs → Few from xs) → (1 ≤ length others → FewFrom (from + 1) n others)
+or_few : (from n : ℕ) (xs others : List Block) → (1 ≤ length xs → Few from xs) → (1 ≤ length others → FewFrom (from + 1) n others)
     → 1 ≤ length (or_else xs others) → FewFrom from (suc n) (or_else xs others)
-else_few from n [] others here there some =
+or_few from n [] others here there some =
     let it = there some in
     let low = it.low in
     let high = it.high in
     record { level = it.level; low = omega (arith, low); high = omega (arith, high); few = it.few }
-else_few from n (x ∷ xs) others here there some = record { level = from; low = omega arith; high = omega arith; few = here some }
+or_few from n (x ∷ xs) others here there some = record { level = from; low = omega arith; high = omega arith; few = here some }
 
 from_few : (from n : ℕ) (bs : List Block) → 1 ≤ length (chosen_from from n bs) → FewFrom from n (chosen_from from n bs)
 from_few from zero bs some = absurd (omega (arith, some))
-from_few from (suc n) bs some = else_few from n (chosen_at from bs) (chosen_from (from + 1) n bs) (chosen_few from bs) (from_few (from + 1) n bs) some
+from_few from (suc n) bs some = or_few from n (chosen_at from bs) (chosen_from (from + 1) n bs) (chosen_few from bs) (from_few (from + 1) n bs) some
 
 -- ---- by their information
 
