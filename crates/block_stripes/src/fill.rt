@@ -10,7 +10,7 @@ use span_types::Memory;
 const PAGE_BYTES: usize = 4096;
 
 /// How many bytes are wanting to whole pages.
-fn fill_size(size: usize) -> usize
+pub fn fill_size(size: usize) -> usize
     ensures size { result ≡ fill_size size }
     ensures few { result ≤ 4096 }
 {

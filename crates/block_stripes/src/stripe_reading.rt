@@ -1,14 +1,14 @@
 //! Reading a stripe.
 
-ghost use Rattle.std.specs.Prelude.{◌≡◌, ◌+◌, ◌<◌, ◌≤◌, ◌^◌, IfOk, OnOk, Err, drop, false, length, take, true};
+ghost use Rattle.std.specs.Prelude.{◌≡◌, ◌+◌, ◌<◌, ◌≤◌, ◌^◌, IfOk, OnOk, Err, false, length, take, true};
 ghost use Rattle.span_fields.specs.Breaks.{Answers, Fails};
 ghost use Rattle.block_columns.specs.Outcomes.{Finds};
-ghost use Rattle.block_stripes.specs.StripeEncodings.{fill_size};
-ghost use Rattle.block_stripes.specs.StripeReadings.{content_at, content_of, counted_rows_at, owned_rows_at, scoped_rows_at, size_at, stripe_at, texts_first, unfilled, zeros};
+ghost use Rattle.block_stripes.specs.StripeReadings.{content_at, content_of, counted_rows_at, owned_rows_at, scoped_rows_at, size_at, stripe_at, texts_first};
 ghost use Rattle.block_stripes.specs.Stripes.{ReadsFrom, is_extended};
 
 use crate::FormatError;
 use crate::cells::{Listed, Tables, cells};
+use crate::fill::unfilled;
 use crate::kinds::{Resources, Scopes, WholeTexts};
 use crate::rows::{ascend, rows};
 use block_columns::{Fields, table, unused};
@@ -44,7 +44,8 @@ fn stripe(alloc: Global, bytes: &[u8], extended: bool) -> Result<Vec<Row>, Break
     let mut reader = Reader::new(alloc, bytes);
     let size = fixed64(&mut reader, false)?;
     let rows = content_of(alloc, bytes, size, extended)?;
-    if let Some(at) = unfilled(bytes, 8 + size as usize) {
+    let end = 8 + size as usize;
+    if let Some(at) = unfilled(end, &bytes[end..]) {
         return Err(Break::At(at));
     }
     if !ascend(rows.as_slice()) {
@@ -82,33 +83,6 @@ fn content_of(alloc: Global, bytes: &[u8], size: u64, extended: bool) -> Result<
         return Ok(rows);
     }
     Err(Break::At(at))
-}
-
-/// The first offset after the content's end that isn't as it must be.
-fn unfilled(bytes: &[u8], end: usize) -> Option<u64>
-    requires { end ≤ length bytes.now }
-    ensures { result ≡ unfilled end (drop end bytes.now) }
-{
-    let rest = &bytes[end..];
-    let fill = (4096 - end % 4096) % 4096;
-    let zeros = zeros(rest);
-    if zeros == fill && rest.len() == fill {
-        return None;
-    }
-    Some((end + zeros.min(fill)) as u64)
-}
-
-/// How many zeros the bytes begin with.
-fn zeros(bytes: &[u8]) -> usize
-    ensures count { result ≡ zeros bytes.now }
-    ensures within { result ≤ length bytes.now }
-{
-    for (index, byte) in bytes.iter().enumerate() {
-        if *byte != 0 {
-            return index;
-        }
-    }
-    bytes.len()
 }
 
 /// The texts, and the rows, which use each of them.

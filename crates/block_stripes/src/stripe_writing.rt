@@ -10,6 +10,7 @@ ghost use Rattle.block_stripes.specs.StripeEncodings.{after_length, owned_rows, 
 ghost use Rattle.block_stripes.specs.StripeReadings.{is_no_size};
 ghost use Rattle.block_stripes.specs.Stripes.{AreOwned, AreWhole, AreWritten, StripeHolds, can_be_stripe, has_form, is_extended};
 
+use crate::fill::fill_size;
 use crate::row_puts::{
     AttrColumn, EventColumn, LinkColumn, ResourceColumn, ScopeColumn, put_ids, put_names, put_times,
 };
@@ -203,7 +204,6 @@ fn fill(bytes: &mut Vec<u8>) -> Result<(), Memory>
     ensures { OnOk result (bytes.new.items ≡ padded bytes.old.items) }
 {
     let size = bytes.len();
-    let zeros = (4096 - size % 4096) % 4096;
-    bytes.resize(size + zeros, 0)?;
+    bytes.resize(size + fill_size(size), 0)?;
     Ok(())
 }
