@@ -1,5 +1,5 @@
 -- The parts of a span whose texts are references into a table: their laws both ways.
-use Rattle.std.proofs.Common.{◌≡◌, ℕ, suc, ◌<◌, ◌^◌, Bool, true, false, cond, eqb, List, [], ◌∷◌, ◌++◌, drop, length, Some, Result, Ok, Err, append_assoc, refl, sym, ap, subst, ◌∙◌, arith, inl, inr}
+use Rattle.std.proofs.Common.{◌≡◌, ℕ, false, cond, eqb, List, [], ◌∷◌, ◌++◌, drop, Ok, refl, sym, ap, subst, ◌∙◌, inl, inr}
 use Rattle.std.specs.Str.{bytes_eq}
 use Rattle.std.proofs.lemmas.Bool.{eqb-true}
 use Rattle.std.proofs.lemmas.List.{take-append-drop}
@@ -9,21 +9,21 @@ use Rattle.span_types.specs.declared.attrs.AttrValue.{AttrValue}
 use Rattle.span_types.specs.declared.attrs.AttrValue.TheVariants.{Text, Whole, Truth}
 use Rattle.span_types.specs.Promises.{has_key}
 use Rattle.byte_fields.specs.Spelling.{text_bytes, zigzag_bytes}
-use Rattle.byte_fields.specs.Reading.{◌>>=◌, byte_at, fixed64_at, left}
+use Rattle.byte_fields.specs.Reading.{◌>>=◌, byte_at, left}
 use Rattle.span_fields.specs.Breaks.{in_part}
 use Rattle.span_fields.specs.Decodings.{value_at}
 use Rattle.span_fields.specs.Encodings.{value_bytes}
 use Rattle.span_fields.specs.Sound.{IsAny, IsSoundValue, IsWord}
 use Rattle.span_fields.proofs.Again.{again_byte, again_fixed64, again_span_id, again_trace, again_value, one_byte}
-use Rattle.span_fields.proofs.Meant.{Bound, bound, chosen, meant_byte, meant_fixed64, meant_span_id, meant_trace, meant_value}
-use Rattle.block_columns.specs.ColumnReadings.{Spot, Read, field, made_at, reference_at, counted_at}
+use Rattle.span_fields.proofs.Meant.{bound, chosen, meant_byte, meant_fixed64, meant_span_id, meant_trace, meant_value}
+use Rattle.block_columns.specs.ColumnReadings.{Spot, Read, field, made_at, reference_at}
 use Rattle.block_columns.specs.ColumnEncodings.{plain}
-use Rattle.block_columns.specs.ColumnLaws.{AddsNew, EncodedReads, Found, IsAt, Laws, ReadsEncoded, Stands, Wrote, after, known, read_to}
+use Rattle.block_columns.specs.ColumnLaws.{AddsNew, EncodedReads, Found, IsAt, Laws, ReadsEncoded, Wrote, known, read_to}
 use Rattle.block_columns.proofs.Added.{adds_begins, adds_none, adds_reference}
-use Rattle.block_columns.proofs.AgainParts.{again_field, last, seq}
-use Rattle.block_columns.proofs.Basics.{same_read, begins_self}
+use Rattle.block_columns.proofs.AgainParts.{last, seq}
+use Rattle.block_columns.proofs.Basics.{same_read}
 use Rattle.block_columns.proofs.Bundles.{of_counted, of_field, of_made, of_pair, of_reference, of_unless}
-use Rattle.block_columns.proofs.MeantParts.{found_as, meant_field, wrote_at, wrote_then}
+use Rattle.block_columns.proofs.MeantParts.{found_as, wrote_at, wrote_then}
 use Rattle.block_columns.proofs.Numbering.{new_is_table}
 use Rattle.block_parts.specs.PartEncodings.{attr_by, attr_parts, attrs_by, event_by, event_parts, link_by, link_parts, resource_by, scope_by, scope_parts, text_by, value_by}
 use Rattle.block_parts.specs.PartReadings.{as_attr, as_event, as_link, as_resource, as_scope, attr_with, attrs_with, event_with, link_with, resource_with, scope_with, value_with}

@@ -1,14 +1,14 @@
 -- What the calls of the reader of parts come to.
-use Rattle.std.proofs.Common.{◌≡◌, ℕ, Bool, false, cond, List, [], ◌∷◌, ◌++◌, Result, Ok, Err, refl, sym, ap, subst, ◌∙◌}
+use Rattle.std.proofs.Common.{◌≡◌, ℕ, false, cond, List, [], ◌∷◌, ◌++◌, Ok, Err, sym, ap, subst, ◌∙◌}
 use Rattle.span_types.specs.declared.attrs.Attr.{Attr}
 use Rattle.span_types.specs.Promises.{AreDistinct, AreDistinctAfter, has_key}
 use Rattle.byte_fields.specs.Reading.{◌>>=◌}
-use Rattle.span_fields.proofs.Meant.{Bound, bound, kept_else}
+use Rattle.span_fields.proofs.Meant.{bound, kept_else}
 use Rattle.block_columns.specs.Tables.{AllAfter}
 use Rattle.block_columns.specs.ColumnReadings.{Spot, items_at, made_at, pair_at, reference_at, unless_at}
 use Rattle.block_columns.specs.ColumnLaws.{read_to}
 use Rattle.block_columns.proofs.Basics.{same_read}
-use Rattle.block_columns.proofs.ReadingSteps.{GoodItems, items_good}
+use Rattle.block_columns.proofs.ReadingSteps.{items_good}
 use Rattle.block_parts.specs.PartReadings.{as_attr, attr_with, value_with}
 
 abbrev HasNewKey : List Attr → Attr → Type 0

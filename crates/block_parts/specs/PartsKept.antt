@@ -1,5 +1,5 @@
 -- Which parts can be kept, and tables of texts that they can refer to. The types of spans promise all of it.
-use Rattle.std.specs.Prelude.{◌≡◌, ℕ, ◌<◌, ◌^◌, false, List, [], length, Option, Some, slice_get}
+use Rattle.std.specs.Prelude.{◌≡◌, ℕ, ◌<◌, ◌^◌, false, List, [], length, Some, slice_get}
 use Rattle.std.specs.Str.{bytes_eq}
 use Rattle.span_types.specs.declared.attrs.Attr.{Attr}
 use Rattle.span_types.specs.declared.attrs.Resource.{Resource}
