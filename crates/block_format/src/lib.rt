@@ -7,7 +7,7 @@ mod header_laws;
 mod header_reading;
 
 pub use block_laws::{a_block_has_rows, one_block, one_info};
-pub use block_stripes::FormatError;
+pub use block_stripes::{FormatError, can_be_stripe, read_stripe, write_stripe};
 pub use header::{Header, write_header};
 pub use header_laws::{header_is_pages, held_header_is_read, one_header, read_header_is_held};
 pub use header_reading::read_header;
