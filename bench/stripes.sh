@@ -1,0 +1,39 @@
+#!/usr/bin/env bash
+# Stripes beside JSON: rows and bytes a second of processor time for reading and writing a stripe of 256 spans with five attributes
+# each, and for parsing the same spans as one line of OTLP/JSON by `serde_json`, all three in one program of this folder
+# (stripes/program.txt) that is built first, with the crates that it stands on. Each time is the least of five runs of COUNT calls
+# less that of a run without calls.
+set -e
+here=$(cd "$(dirname "$0")" && pwd)
+work=${TMPDIR:-/tmp}/vurnda-bench
+count=${1:-4000}
+mkdir -p "$work/tree/crates/stripe_bench/src"
+ln -sfn "$here"/../crates/*/ "$work/tree/crates/"
+{ cat "$here/../crates.txt"; sed -n 's/^block_stripes: /stripe_bench: block_stripes serde_json /p' "$here/../crates.txt"; } > "$work/tree/crates.txt"
+cmp -s "$here/stripes/program.txt" "$work/tree/crates/stripe_bench/src/main.rt" || cp "$here/stripes/program.txt" "$work/tree/crates/stripe_bench/src/main.rt"
+input() { # LETTER COUNT FILE: what the program reads
+    printf '%s' "$1"
+    printf "$(printf '\\x%02x\\x%02x\\x%02x\\x%02x' $(($2 & 255)) $(($2 >> 8 & 255)) $(($2 >> 16 & 255)) $(($2 >> 24)))"
+    cat "$3"
+}
+python3 "$here/stripes/rows.py" stripe > "$work/stripe"
+python3 "$here/stripes/rows.py" json > "$work/json"
+input r 1 "$work/stripe" > "$work/input"
+(cd "$work/tree/crates/stripe_bench" && rt run < "$work/input" > /dev/null 2> "$work/build.log") || { tail -n 5 "$work/build.log"; exit 1; }
+seconds() { # the least processor time of five runs on an input
+    for _ in 1 2 3 4 5; do
+        { TIMEFORMAT='%U %S'; time "$work/tree/crates/stripe_bench/out/stripe_bench" < "$1"; } 2>&1 | awk '{print $1 + $2}'
+    done | sort -n | head -n 1
+}
+for kind in "r stripe reading" "w stripe writing" "j json parsing"; do
+    set -- $kind
+    input "$1" 0 "$work/$2" > "$work/none"
+    input "$1" "$count" "$work/$2" > "$work/input"
+    none=$(seconds "$work/none")
+    all=$(seconds "$work/input")
+    bytes=$(stat -c %s "$work/$2")
+    awk -v k="$3" -v f="$2" -v n="$count" -v b="$bytes" -v t="$all" -v o="$none" 'BEGIN {
+        s = t - o
+        printf "%s %s of %d bytes: %.2f s for %d of 256 rows, %.0f rows/s, %.1f MB/s\n", k, f, b, s, n, 256 * n / s, b * n / s / 1e6
+    }'
+done
