@@ -25,15 +25,19 @@ seconds() { # the least processor time of five runs on an input
         { TIMEFORMAT='%U %S'; time "$work/tree/crates/stripe_bench/out/stripe_bench" < "$1"; } 2>&1 | awk '{print $1 + $2}'
     done | sort -n | head -n 1
 }
-for kind in "r stripe reading" "w stripe writing" "j json parsing"; do
-    set -- $kind
-    input "$1" 0 "$work/$2" > "$work/none"
-    input "$1" "$count" "$work/$2" > "$work/input"
-    none=$(seconds "$work/none")
-    all=$(seconds "$work/input")
-    bytes=$(stat -c %s "$work/$2")
-    awk -v k="$3" -v f="$2" -v n="$count" -v b="$bytes" -v t="$all" -v o="$none" 'BEGIN {
-        s = t - o
-        printf "%s %s of %d bytes: %.2f s for %d of 256 rows, %.0f rows/s, %.1f MB/s\n", k, f, b, s, n, 256 * n / s, b * n / s / 1e6
+calls() { # LETTER FILE: the processor time of COUNT calls
+    input "$1" 0 "$2" > "$work/none"
+    input "$1" "$count" "$2" > "$work/input"
+    awk -v a="$(seconds "$work/input")" -v n="$(seconds "$work/none")" 'BEGIN { print a - n }'
+}
+reading=$(calls r "$work/stripe")
+writing=$(calls w "$work/stripe")
+parsing=$(calls j "$work/json")
+row() { # NAME SECONDS FILE
+    awk -v k="$1" -v s="$2" -v p="$parsing" -v c="$count" -v b="$(stat -c %s "$3")" 'BEGIN {
+        printf "%s: %.2f s, %.0f rows/s, %.1f MB/s of %d bytes a call, ratio to parsing %.2f\n", k, s, 256 * c / s, b * c / s / 1e6, b, s / p
     }'
-done
+}
+row "reading a stripe" "$reading" "$work/stripe"
+row "writing a stripe" "$writing" "$work/stripe"
+row "parsing JSON" "$parsing" "$work/json"
