@@ -56,7 +56,8 @@ const PLAIN: &str = "
     owners: 00 01 00 01
     attributes: 01 09 01 01 02 01 00 06 00 01 06";
 
-/// What is told of `STRIPE` where the lowest bit of one byte is another one, byte by byte.
+/// What is told of `STRIPE` where the lowest bit of one byte is another one, byte by byte. These tables are from a decoder in
+/// another language, written from the page of the format.
 const LOWEST: &str = "
     210 210 210 210 210 210 210 210
     39
