@@ -177,16 +177,22 @@ pub(crate) fn told(alloc: Global, bytes: &[u8], form: u8) -> Result<u64, Memory>
     }
 }
 
+/// Turns this bit of the byte at that place, if there is one.
+fn flip(bytes: &mut [u8], place: usize, bit: u8) {
+    if let Some(byte) = bytes.get_mut(place) {
+        *byte ^= bit;
+    }
+}
+
 /// What is told where one bit of one byte of the fields is another one, byte by byte.
 fn changes(alloc: Global, words: &str, form: u8, bit: u8) -> Result<Vec<u64>, Memory> {
     let count = bytes_of(alloc, words)?.len();
+    let mut bytes = page(alloc, words)?;
     let mut found = Vec::new(alloc);
     for place in 0..count {
-        let mut bytes = page(alloc, words)?;
-        if let Some(byte) = bytes.get_mut(place) {
-            *byte ^= bit;
-        }
+        flip(bytes.as_mut_slice(), place, bit);
         found.push(told(alloc, bytes.as_slice(), form)?)?;
+        flip(bytes.as_mut_slice(), place, bit);
     }
     Ok(found)
 }
@@ -204,14 +210,13 @@ fn first_untold_cut(alloc: Global, bytes: &[u8], form: u8) -> Result<usize, Memo
 /// The first place of the fill at which another byte than zero isn't told, or the page's end.
 fn first_untold_fill(alloc: Global, words: &str, form: u8) -> Result<usize, Memory> {
     let count = bytes_of(alloc, words)?.len();
+    let mut bytes = page(alloc, words)?;
     for place in count..4096 {
-        let mut bytes = page(alloc, words)?;
-        if let Some(byte) = bytes.get_mut(place) {
-            *byte = 1;
-        }
+        flip(bytes.as_mut_slice(), place, 1);
         if told(alloc, bytes.as_slice(), form)? != place as u64 {
             return Ok(place);
         }
+        flip(bytes.as_mut_slice(), place, 1);
     }
     Ok(4096)
 }
