@@ -197,28 +197,19 @@ fn changes(alloc: Global, words: &str, form: u8, bit: u8) -> Result<Vec<u64>, Me
     Ok(found)
 }
 
-/// The first length at which a cut isn't told where the bytes end, or the whole length.
-fn first_untold_cut(alloc: Global, bytes: &[u8], form: u8) -> Result<usize, Memory> {
-    for len in 0..bytes.len() {
-        if told(alloc, &bytes[..len], form)? != len as u64 {
+/// The first length below `end` at which a cut isn't told where the bytes end, or `end`.
+fn first_untold_cut(alloc: Global, bytes: &[u8], end: usize, form: u8) -> Result<usize, Memory> {
+    for len in 0..end {
+        if told(alloc, cut(bytes, len), form)? != len as u64 {
             return Ok(len);
         }
     }
-    Ok(bytes.len())
+    Ok(end)
 }
 
-/// The first place of the fill at which another byte than zero isn't told, or the page's end.
-fn first_untold_fill(alloc: Global, words: &str, form: u8) -> Result<usize, Memory> {
-    let count = bytes_of(alloc, words)?.len();
-    let mut bytes = page(alloc, words)?;
-    for place in count..4096 {
-        flip(bytes.as_mut_slice(), place, 1);
-        if told(alloc, bytes.as_slice(), form)? != place as u64 {
-            return Ok(place);
-        }
-        flip(bytes.as_mut_slice(), place, 1);
-    }
-    Ok(4096)
+/// So many of the bytes, or all.
+fn cut(bytes: &[u8], len: usize) -> &[u8] {
+    bytes.get(..len).unwrap_or(bytes)
 }
 
 #[test]
@@ -236,11 +227,22 @@ fn one_byte_is_another_one(rt: HostRuntime) -> Result<(), Fail> {
 #[test]
 fn cut_or_with_another_fill(rt: HostRuntime) -> Result<(), Fail> {
     let alloc = rt.alloc();
-    for (words, form) in [(STRIPE, 2), (PLAIN, 1)] {
+    for (words, form, count) in [(STRIPE, 2, 210), (PLAIN, 1, 164)] {
         let mut bytes = page(alloc, words)?;
         assert_eq!(rt; told(alloc, bytes.as_slice(), form)?, SOUND);
-        assert_eq!(rt; first_untold_cut(alloc, bytes.as_slice(), form)?, 4096);
-        assert_eq!(rt; first_untold_fill(alloc, words, form)?, 4096);
+        assert_eq!(rt;
+            first_untold_cut(alloc, bytes.as_slice(), count, form)?,
+            count
+        );
+        for place in [count, 1000, 4095] {
+            assert_eq!(rt;
+                told(alloc, cut(bytes.as_slice(), place), form)?,
+                place as u64
+            );
+            flip(bytes.as_mut_slice(), place, 1);
+            assert_eq!(rt; told(alloc, bytes.as_slice(), form)?, place as u64);
+            flip(bytes.as_mut_slice(), place, 1);
+        }
         bytes.push(0)?;
         assert_eq!(rt; told(alloc, bytes.as_slice(), form)?, 4096);
     }
