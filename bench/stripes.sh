@@ -8,8 +8,13 @@ here=$(cd "$(dirname "$0")" && pwd)
 work=${TMPDIR:-/tmp}/vurnda-bench
 count=${1:-4000}
 mkdir -p "$work/tree/crates/stripe_bench/src"
-ln -sfn "$here"/../crates/*/ "$work/tree/crates/"
-{ cat "$here/../crates.txt"; sed -n 's/^block_stripes: /stripe_bench: block_stripes serde_json /p' "$here/../crates.txt"; } > "$work/tree/crates.txt"
+for name in block_stripes $(sed -n 's/^block_stripes: //p' "$here/../crates.txt"); do # copies of what it stands on, with what is built
+    [ -d "$here/../crates/$name" ] || continue
+    rm -rf "$work/tree/crates/$name"
+    cp -a "$here/../crates/$name" "$work/tree/crates/"
+done
+for name in "$work/tree/crates"/*/; do grep "^$(basename "$name"):" "$here/../crates.txt" || true; done > "$work/tree/crates.txt"
+sed -n 's/^block_stripes: /stripe_bench: block_stripes serde_json /p' "$here/../crates.txt" >> "$work/tree/crates.txt"
 cmp -s "$here/stripes/program.txt" "$work/tree/crates/stripe_bench/src/main.rt" || cp "$here/stripes/program.txt" "$work/tree/crates/stripe_bench/src/main.rt"
 input() { # LETTER COUNT FILE: what the program reads
     printf '%s' "$1"
