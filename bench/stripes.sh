@@ -11,7 +11,7 @@ mkdir -p "$work/tree/crates/stripe_bench/src"
 for name in block_stripes $(sed -n 's/^block_stripes: //p' "$here/../crates.txt"); do # copies of what it stands on, with what is built
     [ -d "$here/../crates/$name" ] || continue
     rm -rf "$work/tree/crates/$name"
-    cp -a "$here/../crates/$name" "$work/tree/crates/"
+    tar -C "$here/../crates" --exclude=incremental -cf - "$name" | tar -C "$work/tree/crates" -xf -
 done
 for name in "$work/tree/crates"/*/; do grep "^$(basename "$name"):" "$here/../crates.txt" || true; done > "$work/tree/crates.txt"
 sed -n 's/^block_stripes: /stripe_bench: block_stripes serde_json /p' "$here/../crates.txt" >> "$work/tree/crates.txt"
