@@ -31,7 +31,7 @@ use Rattle.store_core.specs.Cores.{StandsFor, CoreStandsFor, tail_of}
 use Rattle.store_core.specs.LogReading.{LogRead}
 use Rattle.store_core.specs.New.{IsEmptyHistory, StoresNothing}
 use Rattle.store_core.specs.NewCore.{new_machine}
-use Rattle.store_core.specs.Opening.{KeepsDisk, opened_state, BeginsAs, Opened, IsOpenedState}
+use Rattle.store_core.specs.Opening.{KeepsDisk, opened_state, BeginsAs, BeginsEmpty, Opened, IsOpenedState}
 use Rattle.store_core.proofs.Founding.{nothing_keeps}
 use Rattle.store_core.proofs.LogLaws.{one_log}
 use Rattle.store_core.proofs.LogSteps.{read_whole}
@@ -71,6 +71,12 @@ no_history_is_empty = record {
   no_entries = refl;
 }
 
+new_is_empty : (h : History) → BeginsEmpty (new_machine h)
+new_is_empty h = record { writes = refl; head = refl; loose = refl; pins = refl }
+
+opened_is_empty : (list : ListBody) (batches : List (List Span)) (moment : ℕ) (h : History) → BeginsEmpty (opened_machine list batches moment h)
+opened_is_empty list batches moment h = record { writes = refl; head = refl; loose = refl; pins = refl }
+
 module _ {D : Type 0} (g : Ghosts D) where
   -- the list was loaded
   pub kept_loaded : (old mid : D) → (IsTrue (g.tells old) → Run KeepsList g.moment g.left_since g.may_leave old mid) → KeepsDisk g old mid
@@ -106,8 +112,8 @@ module _ {D : Type 0} (g : Ghosts D) where
         writes = refl;
       },
     );
-    some = λ sound. (new_machine no_history, stands no_history no_history_is_empty);
-    shows = (new_machine no_history, tells_less _ ⊥ (g.held core.disk) (g.may_leave core.disk) core.state (new_machine no_history) (λ bad. absurd bad) (stands no_history no_history_is_empty));
+    some = λ sound. (new_machine no_history, stands no_history no_history_is_empty, new_is_empty no_history);
+    shows = (new_machine no_history, tells_less _ ⊥ (g.held core.disk) (g.may_leave core.disk) core.state (new_machine no_history) (λ bad. absurd bad) (stands no_history no_history_is_empty), new_is_empty no_history);
   }
 
   -- a store was read: `mid` is the disk once its list was loaded
@@ -154,12 +160,12 @@ module _ {D : Type 0} (g : Ghosts D) where
     opened_existing = record {
       stands = λ told h s. (opened_machine list batches moment h, stands_for told h s, refl, begins told h);
       some = λ sound. by_telling (g.tells disk) refl sound;
-      shows = (opened_machine list batches moment (from_floor list batches), by_memory ⊥ (λ bad. bad));
+      shows = (opened_machine list batches moment (from_floor list batches), by_memory ⊥ (λ bad. bad), opened_is_empty list batches moment (from_floor list batches));
     }
       where
-        by_telling : (t : Bool) → g.tells disk ≡ t → (IsTrue (g.tells disk) → IsSoundImage (g.held disk)) → (m : Machine) × CoreStandsFor g core m
-        by_telling true e sound = let told : IsTrue (g.tells disk) = e in let s = sound told in (opened_machine list batches moment s.0, stands_for told s.0 s.1)
-        by_telling false e sound = (opened_machine list batches moment (from_floor list batches), by_memory (IsTrue (g.tells core.disk)) (λ t. let bad : true ≡ false = sym t ∙ telling_core ∙ e in absurd cc))
+        by_telling : (t : Bool) → g.tells disk ≡ t → (IsTrue (g.tells disk) → IsSoundImage (g.held disk)) → (m : Machine) × CoreStandsFor g core m × BeginsEmpty m
+        by_telling true e sound = let told : IsTrue (g.tells disk) = e in let s = sound told in (opened_machine list batches moment s.0, stands_for told s.0 s.1, opened_is_empty list batches moment s.0)
+        by_telling false e sound = (opened_machine list batches moment (from_floor list batches), by_memory (IsTrue (g.tells core.disk)) (λ t. let bad : true ≡ false = sym t ∙ telling_core ∙ e in absurd cc), opened_is_empty list batches moment (from_floor list batches))
 
 -- ---- answers that are handed on
 

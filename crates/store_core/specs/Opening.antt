@@ -62,15 +62,22 @@ pub record BeginsAs (image : Image) (moment : ℕ) (m : Machine) : Type 0 where
       → LogHolds image list.segments (first_number list) batches → m.state ≡ opened_state list batches moment
   pub writes : m.read_only ≡ None
 
+-- A machine in which a store begins, over whatever bytes: it writes, its head is empty, no file is loose and no pin is open.
+pub record BeginsEmpty (m : Machine) : Type 0 where
+  pub writes : m.read_only ≡ None
+  pub head : m.state.head ≡ []
+  pub loose : m.state.loose ≡ []
+  pub pins : m.state.pins ≡ []
+
 -- A core that was opened on a disk.
 pub record Opened {D : Type 0} (g : Ghosts D) (disk : D) (moment : ℕ) (core : Core D) : Type 0 where
   -- it stands for each history that the bytes stood for which the disk held
   pub stands : IsTrue (g.tells disk) → (h : History) → ImageStandsFor (g.held disk) h
       → (m : Machine) × CoreStandsFor g core m × (m.history ≡ h) × BeginsAs (g.held disk) moment m
   -- and for some machine, where those bytes are sound or the disk doesn't tell them
-  pub some : (IsTrue (g.tells disk) → IsSoundImage (g.held disk)) → (m : Machine) × CoreStandsFor g core m
+  pub some : (IsTrue (g.tells disk) → IsSoundImage (g.held disk)) → (m : Machine) × CoreStandsFor g core m × BeginsEmpty m
   -- its memory in any case shows some machine
-  pub shows : (m : Machine) × StandsFor ⊥ (g.held core.disk) (g.may_leave core.disk) core.state m
+  pub shows : (m : Machine) × StandsFor ⊥ (g.held core.disk) (g.may_leave core.disk) core.state m × BeginsEmpty m
 
 -- What its memory has then.
 pub record IsOpenedState (list : ListBody) (batches : List (List Span)) (moment : ℕ) (state : CoreState) : Type 0 where
