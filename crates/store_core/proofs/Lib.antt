@@ -17,3 +17,4 @@ mod LogLaws
 mod OpenedStates
 mod OpeningSteps
 mod OpeningEnds
+mod LeftAlone

@@ -22,7 +22,6 @@ use Rattle.store_images.specs.Log.{LogHolds}
 use Rattle.store_images.specs.Stored.{ImageStores, ImageStandsFor, IsSoundImage, KeepsStored, first_number}
 use Rattle.store_images.specs.Stored.ImageStores.{vacant, filled}
 use Rattle.store_images.specs.Settled.{Tail, IsSettled}
-use Rattle.store_images.proofs.Lists.{not_in_nil}
 use Rattle.store_images.proofs.Logs.{log_same}
 use Rattle.store_images.proofs.Keeping.{one_list, loaded, keeps_then}
 use Rattle.store_core.specs.declared.state.CoreState.{CoreState}
@@ -33,6 +32,7 @@ use Rattle.store_core.specs.New.{IsEmptyHistory, StoresNothing}
 use Rattle.store_core.specs.NewCore.{new_machine}
 use Rattle.store_core.specs.Opening.{KeepsDisk, opened_state, BeginsAs, BeginsEmpty, Opened, IsOpenedState}
 use Rattle.store_core.proofs.Founding.{nothing_keeps}
+use Rattle.store_core.proofs.NewCores.{no_history, no_history_is_empty}
 use Rattle.store_core.proofs.LogLaws.{one_log}
 use Rattle.store_core.proofs.LogSteps.{read_whole}
 use Rattle.store_core.proofs.LooseFiles.{stands_moved, used_low}
@@ -57,19 +57,6 @@ empty_history image h none s = by_stores s.rows (count_of h) s.stores s.agrees r
     by_stores : (rows : List Row) (count : ℕ) → ImageStores image rows count → AgreesOn rows h → count_of h ≡ count → IsEmptyHistory h
     by_stores rows count (vacant holds no_rows no_count) agrees is = record { no_rows = subst (λ (r : List Row). AgreesOn r h) no_rows agrees; no_entries = is ∙ no_count }
     by_stores rows count (filled body blocks batches st rows_are counts) agrees is = absurd (let bad : None ≡ Some body = one_list image None (Some body) none st.listed in cc)
-
-abbrev no_history : History
-no_history = record { base = []; start = 0; entries = [] }
-
-no_history_is_empty : IsEmptyHistory no_history
-no_history_is_empty = record {
-  no_rows = record {
-    firsts = λ k. refl;
-    one = λ x y hx hy e. absurd (not_in_nil x hx);
-    below = λ x c. absurd (not_in_nil x c);
-  };
-  no_entries = refl;
-}
 
 new_is_empty : (h : History) → BeginsEmpty (new_machine h)
 new_is_empty h = record { writes = refl; head = refl; loose = refl; pins = refl }
