@@ -1,0 +1,11 @@
+//! What a client's requests are answered by a store's port, and lists of events that are run on one.
+//!
+//! `specs/Calls.antt` says which calls are made on a port, `specs/EventRuns.antt` what a list of events is answered.
+#![tactic(auto)]
+
+mod event;
+mod events;
+mod taken;
+
+pub use event::{Event, EventReply, Events, Replies, Seen};
+pub use events::run_events;
