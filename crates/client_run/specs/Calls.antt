@@ -1,5 +1,5 @@
 -- Calls of a port, one after another, and which of its looks they leave open.
-use Rattle.std.specs.Prelude.{◌≡◌, ℕ, List, [], ◌∷◌, ◌++◌, map, Option, Some, None, if◌then◌else◌, zero, suc}
+use Rattle.std.specs.Prelude.{◌≡◌, ℕ, List, [], ◌∷◌, ◌++◌, map, Option, Some, None, if◌then◌else◌, get_or}
 use Rattle.store_model.specs.Event.{Event, Reply}
 use Rattle.store_model.specs.Event.Reply.{Looked}
 use Rattle.store_model.specs.Holds.{Hold, ends}
@@ -27,9 +27,7 @@ Looks = List (Option Hold)
 
 -- the look with this number, counted from 0, where it is open
 abbrev pub look_at : ℕ → Looks → Option Hold
-look_at number [] = None
-look_at zero (look ∷ looks) = look
-look_at (suc number) (look ∷ looks) = look_at number looks
+look_at number looks = get_or looks number None
 
 -- a look after a call
 abbrev pub unless_ended : Call → Option Hold → Option Hold

@@ -1,3 +1,4 @@
 pub mod Calls
 pub mod EventRuns
 pub mod Taken
+pub mod Walked

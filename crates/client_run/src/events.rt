@@ -3,6 +3,7 @@
 ghost use Rattle.std.specs.Prelude.{◌≡◌, IfOk, OnErr};
 ghost use Rattle.store_state.specs.Meaning.{View};
 ghost use Rattle.client_run.specs.declared.event.Event.TheVariants.{Push, Look as TakeLook, Done};
+ghost use Rattle.client_run.specs.Calls.{Looks};
 ghost use Rattle.client_run.specs.EventRuns.{HasRun, HasRunFirst};
 ghost use Rattle.client_run.specs.Taken.{HasAnswered, IsReady, MayHaveAnswered, looks_of};
 
@@ -27,7 +28,8 @@ pub fn run_events<P: LookPort>(
 {
     let mut looks = Vec::new(alloc);
     let mut replies = Vec::new(alloc);
-    for event in events.as_slice() {
+    let all = events.as_slice();
+    for event in all {
         let reply = run_event(port, &mut looks, event)?;
         replies.push(reply)?;
     }

@@ -1,6 +1,6 @@
 //! The looks of a run of events.
 
-ghost use Rattle.std.specs.Prelude.{◌≡◌, ◌++◌, ◌∷◌, [], Some, None, map, option_map, length, IfSome, IfNone, OnOk, OnErr};
+ghost use Rattle.std.specs.Prelude.{◌≡◌, ◌++◌, ◌∷◌, [], Some, None, map, option_map, if◌then◌else◌, IfSome, IfNone};
 ghost use Rattle.store_model.specs.Event.Event.{Done};
 ghost use Rattle.store_model.specs.Event.Reply.{Fine};
 ghost use Rattle.store_state.specs.Given.{look_of};
@@ -33,13 +33,19 @@ fn end_pin(looks: &mut Vec<Option<Look>>, pin: u64)
     ensures { looks_of looks.new.items ≡ map (unless_ended (call (Done pin) Fine)) (looks_of looks.old.items) }
 {
     for at in 0..looks.len() {
-        if is_under(&looks[at], pin) {
-            looks[at] = None;
-        }
+        end_one(&mut looks[at], pin);
     }
 }
 
-// Whether it is a look under this pin.
+// The look is open no more, if it is under this pin.
+fn end_one(look: &mut Option<Look>, pin: u64)
+    ensures { option_map look_of look.new ≡ unless_ended (call (Done pin) Fine) (option_map look_of look.old) }
+{
+    if is_under(look, pin) {
+        *look = None;
+    }
+}
+
 fn is_under(look: &Option<Look>, pin: u64) -> bool
     ensures { unless_ended (call (Done pin) Fine) (option_map look_of look.now)
         ≡ (if result then None else option_map look_of look.now) }

@@ -1,0 +1,146 @@
+-- Looks that are taken and ended.
+use Rattle.std.proofs.Common.{◌≡◌, ℕ, ◌+◌, ◌<◌, ◌==◌, zero, suc, Bool, true, false, List, [], ◌∷◌, ◌++◌, Option, Some, None, option_map, map, length, get_or, refl, sym, ◌∙◌, ap, subst, arith, append-nil, append_assoc, if◌then◌else◌}
+use Rattle.std.specs.Prelude.{set}
+use Rattle.std.proofs.lemmas.List.{map-append, map-set, set_at, get_or_at, length_push}
+use Rattle.store_model.specs.Event.{Event, Reply}
+use Rattle.store_model.specs.Event.Event.{Done}
+use Rattle.store_model.specs.Event.Reply.{Count, Fine, Nothing, Flushing, Compacting, Looked, Page, Refused}
+use Rattle.store_model.specs.Holds.{Hold, ends}
+use Rattle.store_model.specs.Holds.Hold.{OpenLook}
+use Rattle.store_model.proofs.Numbers.{equal_itself}
+use Rattle.store_state.specs.Given.{look_of}
+use Rattle.store_state.specs.Meaning.{Meaning, View, Called, IsOpen}
+use Rattle.store_state.proofs.HoldLaws.{stays_open, opens_new}
+use Rattle.store_state.specs.declared.jobs.Look.{Look}
+use Rattle.client_run.specs.Calls.{Call, Looks, AreMade, after_call, after_calls, call, look_at, taken, unless_ended}
+use Rattle.client_run.specs.Taken.{AreOpen, IsReady, looks_of}
+use Rattle.client_run.specs.Walked.{Walked}
+
+-- ---- what is open stays open
+
+some_same : (a b : Hold) → Some a ≡ Some b → a ≡ b
+some_same a b e = cc
+
+-- a look that is open is one of the port's
+pub open_at : {P : Type 0} (meaning : Meaning P) (port : P) (number : ℕ) (looks : Looks) (look : Hold) → look_at number looks ≡ Some look
+    → AreOpen meaning port looks → IsOpen meaning port look
+open_at meaning port number [] look e h = let bad : ⊥ = cc in absurd bad
+open_at meaning port zero (None ∷ looks) look e h = let bad : ⊥ = cc in absurd bad
+open_at meaning port zero (Some x ∷ looks) look e h = subst (IsOpen meaning port) (some_same x look e) h.0
+open_at meaning port (suc n) (None ∷ looks) look e h = open_at meaning port n looks look e h
+open_at meaning port (suc n) (Some x ∷ looks) look e h = open_at meaning port n looks look e h.1
+
+open-append : {P : Type 0} (meaning : Meaning P) (port : P) (front back : Looks) → AreOpen meaning port front → AreOpen meaning port back
+    → AreOpen meaning port (front ++ back)
+open-append meaning port [] back h k = k
+open-append meaning port (None ∷ looks) back h k = open-append meaning port looks back h k
+open-append meaning port (Some x ∷ looks) back h k = (h.0, open-append meaning port looks back h.1 k)
+
+kept : {P : Type 0} (meaning : Meaning P) (old new : P) (event : Event) (reply : Reply) (looks : Looks) → Called meaning old event reply new
+    → AreOpen meaning old looks → AreOpen meaning new (map (unless_ended (call event reply)) looks)
+kept meaning old new event reply [] called h = h
+kept meaning old new event reply (None ∷ looks) called h = kept meaning old new event reply looks called h
+kept meaning old new event reply (Some x ∷ looks) called h =
+    by_test (ends event reply x) refl (kept meaning old new event reply looks called h.1)
+  where
+    by_test : (t : Bool) → ends event reply x ≡ t → AreOpen meaning new (map (unless_ended (call event reply)) looks)
+        → AreOpen meaning new ((if t then None else Some x) ∷ map (unless_ended (call event reply)) looks)
+    by_test true e ih = ih
+    by_test false e ih = (stays_open meaning old new event reply x called h.0 e, ih)
+
+taken_open : {P : Type 0} (meaning : Meaning P) (old new : P) (event : Event) (reply : Reply) → Called meaning old event reply new
+    → ((v : View) × meaning.knows old v) → AreOpen meaning new (taken reply)
+taken_open meaning old new event (Looked pin files as_of rows) called known =
+    (opens_new meaning old new event (Looked pin files as_of rows) (OpenLook pin files as_of rows) called known (0, omega arith, refl), tt)
+taken_open meaning old new event (Count n) called known = tt
+taken_open meaning old new event Fine called known = tt
+taken_open meaning old new event Nothing called known = tt
+taken_open meaning old new event (Flushing number file rows) called known = tt
+taken_open meaning old new event (Compacting number file level pin files) called known = tt
+taken_open meaning old new event (Page bytes) called known = tt
+taken_open meaning old new event (Refused why) called known = tt
+
+ready_after_call : {P : Type 0} (meaning : Meaning P) (old new : P) (c : Call) (looks : Looks) → Called meaning old c.event c.reply new
+    → IsReady meaning old looks → IsReady meaning new (after_call c looks)
+ready_after_call meaning old new c looks called ready =
+    let after = called.learns ready.known.0 ready.known.1 in record {
+      known = (after.0, after.1);
+      open_looks = open-append meaning new (map (unless_ended c) looks) (taken c.reply)
+          (kept meaning old new c.event c.reply looks called ready.open_looks)
+          (taken_open meaning old new c.event c.reply called ready.known);
+    }
+
+pub ready_after : {P : Type 0} (meaning : Meaning P) (old new : P) (calls : List Call) (looks : Looks) → AreMade meaning old calls new
+    → IsReady meaning old looks → IsReady meaning new (after_calls calls looks)
+ready_after {P} meaning old new [] looks h ready = subst (λ (x : P). IsReady meaning x looks) (sym h) ready
+ready_after meaning old new (c ∷ cs) looks h ready =
+    ready_after meaning h.0 new cs (after_call c looks) h.2 (ready_after_call meaning old h.0 c looks h.1 ready)
+
+-- ---- a call that ends nothing
+
+pub none_ended : (event : Event) (reply : Reply) (looks : Looks) → ((hold : Hold) → ends event reply hold ≡ false)
+    → map (unless_ended (call event reply)) looks ≡ looks
+none_ended event reply [] none = refl
+none_ended event reply (None ∷ looks) none = ap (λ (ls : Looks). None ∷ ls) (none_ended event reply looks none)
+none_ended event reply (Some x ∷ looks) none = rw (none x) (ap (λ (ls : Looks). Some x ∷ ls) (none_ended event reply looks none))
+
+-- ---- the looks under a pin
+
+same_ended : (c : Call) (looks : Looks) (n : ℕ) → unless_ended c (get_or looks n None) ≡ None
+    → map (unless_ended c) (set looks n None) ≡ map (unless_ended c) looks
+same_ended c [] n e = refl
+same_ended c (x ∷ xs) zero e = ap (λ (y : Option Hold). y ∷ map (unless_ended c) xs) (sym e)
+same_ended c (x ∷ xs) (suc n) e = ap (λ (ys : Looks). unless_ended c x ∷ ys) (same_ended c xs n e)
+
+-- a look is under its own pin
+own_pin : (look : Look) → unless_ended (call (Done look.pin.number) Fine) (Some (look_of look)) ≡ None
+own_pin look = rw (equal_itself look.pin.number) refl
+
+-- A look is taken out, and then all looks under its pin are ended.
+pub ended_with : (items later : List (Option Look)) (n : ℕ) (look : Look) → get_or (looks_of items) n None ≡ Some (look_of look)
+    → looks_of later ≡ map (unless_ended (call (Done look.pin.number) Fine)) (looks_of (set items n None))
+    → looks_of later ≡ map (unless_ended (call (Done look.pin.number) Fine)) (looks_of items)
+ended_with items later n look at h =
+    h ∙ (ap (map (unless_ended (call (Done look.pin.number) Fine))) (map-set (option_map look_of) items n None)
+    ∙ same_ended (call (Done look.pin.number) Fine) (looks_of items) n (ap (unless_ended (call (Done look.pin.number) Fine)) at ∙ own_pin look))
+
+pub walk_begins : (change : Option Hold → Option Hold) (looks : Looks) → Walked change 0 looks looks
+walk_begins change looks = ([], looks, refl, refl, refl)
+
+pub walk_goes_on : (change : Option Hold → Option Hold) (at : ℕ) (first now later : Looks) → Walked change at first now → at < length first
+    → later ≡ set now at (change (get_or now at None)) → Walked change (at + 1) first later
+walk_goes_on change at first now later (front, [], are, len, is) less e = absurd (too_far (ap length are) len less)
+  where
+    too_far : length first ≡ length (front ++ []) → length front ≡ at → at < length first → ⊥
+    too_far a b c = let shorter : length (front ++ []) ≡ length front = ap length (append-nil front) in omega (arith, a, b, c, shorter)
+walk_goes_on change at first now later (front, x ∷ back, are, len, is) less e =
+    let mapped : length (map change front) ≡ at = length_of change front ∙ len in
+    let here : get_or now at None ≡ x = ap (λ (ls : Looks). get_or ls at None) is ∙ get_or_at (map change front) x back None at mapped in (
+      front ++ x ∷ [],
+      back,
+      are ∙ sym (append_assoc front (x ∷ []) back),
+      longer len,
+      e ∙ (ap (λ (y : Option Hold). set now at (change y)) here ∙ (ap (λ (ls : Looks). set ls at (change x)) is
+          ∙ (set_at (map change front) x back (change x) at mapped
+          ∙ (sym (append_assoc (map change front) (change x ∷ []) back) ∙ ap (λ (ls : Looks). ls ++ back) (sym (map-append change front (x ∷ []))))))),
+    )
+  where
+    length_of : (f : Option Hold → Option Hold) (ls : Looks) → length (map f ls) ≡ length ls
+    length_of f [] = refl
+    length_of f (y ∷ ys) = ap suc (length_of f ys)
+
+    longer : length front ≡ at → length (front ++ x ∷ []) ≡ at + 1
+    longer l = length_push front x ∙ ap (λ (k : ℕ). k + 1) l
+
+pub walk_ends : (change : Option Hold → Option Hold) (at : ℕ) (first now : Looks) → Walked change at first now → length first ≡ at
+    → now ≡ map change first
+walk_ends change at first now (front, [], are, len, is) all =
+    is ∙ (append-nil (map change front) ∙ ap (map change) (sym (are ∙ append-nil front)))
+walk_ends change at first now (front, x ∷ back, are, len, is) all = absurd (too_far (ap length are) (length_of front) len all)
+  where
+    length_of : (ls : Looks) → length (ls ++ x ∷ back) ≡ length ls + suc (length back)
+    length_of [] = refl
+    length_of (y ∷ ys) = ap suc (length_of ys)
+
+    too_far : length first ≡ length (front ++ x ∷ back) → length (front ++ x ∷ back) ≡ length front + suc (length back) → length front ≡ at → length first ≡ at → ⊥
+    too_far a b c d = omega (arith, a, b, c, d)
