@@ -1,3 +1,4 @@
 pub mod CallLemmas
 pub mod LookLemmas
 pub mod RunLemmas
+pub mod CoreLemmas

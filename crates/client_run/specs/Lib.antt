@@ -2,3 +2,4 @@ pub mod Calls
 pub mod EventRuns
 pub mod Taken
 pub mod Walked
+pub mod CoreRuns

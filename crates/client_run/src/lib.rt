@@ -5,7 +5,9 @@
 
 mod event;
 mod events;
+mod laws;
 mod taken;
 
 pub use event::{Event, EventReply, Events, Replies, Seen};
 pub use events::run_events;
+pub use laws::calls_are_steps;
