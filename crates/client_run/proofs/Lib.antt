@@ -1,4 +1,5 @@
 pub mod CallLemmas
 pub mod LookLemmas
+pub mod EventLemmas
 pub mod RunLemmas
 pub mod CoreLemmas

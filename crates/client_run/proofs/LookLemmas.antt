@@ -1,7 +1,7 @@
 -- Looks that are taken and ended.
-use Rattle.std.proofs.Common.{◌≡◌, ℕ, ◌+◌, ◌<◌, ◌==◌, zero, suc, Bool, true, false, List, [], ◌∷◌, ◌++◌, Option, Some, None, option_map, map, length, get_or, refl, sym, ◌∙◌, ap, subst, arith, append-nil, append_assoc, if◌then◌else◌}
+use Rattle.std.proofs.Common.{◌≡◌, ℕ, ◌+◌, ◌<◌, ◌≤◌, ◌==◌, zero, suc, Bool, true, false, List, [], ◌∷◌, ◌++◌, Option, Some, None, option_map, map, length, get_or, refl, sym, ◌∙◌, ap, subst, arith, append-nil, append_assoc, if◌then◌else◌}
 use Rattle.std.specs.Prelude.{set}
-use Rattle.std.proofs.lemmas.List.{map-append, map-set, set_at, get_or_at, length_push}
+use Rattle.std.proofs.lemmas.List.{map-append, map-set, set_at, set-get_or, get_or_at, get_or-map, get_or_past, get_or_read, length_push, length-append, length-map}
 use Rattle.store_model.specs.Event.{Event, Reply}
 use Rattle.store_model.specs.Event.Event.{Done}
 use Rattle.store_model.specs.Event.Reply.{Count, Fine, Nothing, Flushing, Compacting, Looked, Page, Refused}
@@ -107,30 +107,32 @@ ended_with items later n look at h =
 pub walk_begins : (change : Option Hold → Option Hold) (looks : Looks) → Walked change 0 looks looks
 walk_begins change looks = ([], looks, refl, refl, refl)
 
-pub walk_goes_on : (change : Option Hold → Option Hold) (at : ℕ) (first now later : Looks) → Walked change at first now → at < length first
+pub walk_goes_on : (change : Option Hold → Option Hold) (at : ℕ) (first now later : Looks) → Walked change at first now → at < length now
     → later ≡ set now at (change (get_or now at None)) → Walked change (at + 1) first later
-walk_goes_on change at first now later (front, [], are, len, is) less e = absurd (too_far (ap length are) len less)
+walk_goes_on change at first now later (front, [], are, len, is) less e = absurd (too_far (ap length is) (length_of front) len less)
   where
-    too_far : length first ≡ length (front ++ []) → length front ≡ at → at < length first → ⊥
-    too_far a b c = let shorter : length (front ++ []) ≡ length front = ap length (append-nil front) in omega (arith, a, b, c, shorter)
+    length_of : (ls : Looks) → length (map change ls ++ []) ≡ length ls
+    length_of [] = refl
+    length_of (y ∷ ys) = ap suc (length_of ys)
+
+    too_far : length now ≡ length (map change front ++ []) → length (map change front ++ []) ≡ length front → length front ≡ at → at < length now → ⊥
+    too_far a b c d = omega (arith, a, b, c, d)
 walk_goes_on change at first now later (front, x ∷ back, are, len, is) less e =
-    let mapped : length (map change front) ≡ at = length_of change front ∙ len in
+    let mapped : length (map change front) ≡ at = length-map front change ∙ len in
     let here : get_or now at None ≡ x = ap (λ (ls : Looks). get_or ls at None) is ∙ get_or_at (map change front) x back None at mapped in (
       front ++ x ∷ [],
       back,
       are ∙ sym (append_assoc front (x ∷ []) back),
-      longer len,
+      length_push front x ∙ ap (λ (k : ℕ). k + 1) len,
       e ∙ (ap (λ (y : Option Hold). set now at (change y)) here ∙ (ap (λ (ls : Looks). set ls at (change x)) is
           ∙ (set_at (map change front) x back (change x) at mapped
           ∙ (sym (append_assoc (map change front) (change x ∷ []) back) ∙ ap (λ (ls : Looks). ls ++ back) (sym (map-append change front (x ∷ []))))))),
     )
-  where
-    length_of : (f : Option Hold → Option Hold) (ls : Looks) → length (map f ls) ≡ length ls
-    length_of f [] = refl
-    length_of f (y ∷ ys) = ap suc (length_of f ys)
 
-    longer : length front ≡ at → length (front ++ x ∷ []) ≡ at + 1
-    longer l = length_push front x ∙ ap (λ (k : ℕ). k + 1) l
+-- a walk keeps the number of looks
+pub walk_length : (change : Option Hold → Option Hold) (at : ℕ) (first now : Looks) → Walked change at first now → length now ≡ length first
+walk_length change at first now (front, back, are, len, is) =
+    ap length is ∙ (length-append (map change front) back ∙ (ap (λ (k : ℕ). k + length back) (length-map front change) ∙ (sym (length-append front back) ∙ sym (ap length are))))
 
 pub walk_ends : (change : Option Hold → Option Hold) (at : ℕ) (first now : Looks) → Walked change at first now → length first ≡ at
     → now ≡ map change first
@@ -144,3 +146,32 @@ walk_ends change at first now (front, x ∷ back, are, len, is) all = absurd (to
 
     too_far : length first ≡ length (front ++ x ∷ back) → length (front ++ x ∷ back) ≡ length front + suc (length back) → length front ≡ at → length first ≡ at → ⊥
     too_far a b c d = omega (arith, a, b, c, d)
+
+-- one look of a vector is changed
+pub one_changed : (change : Option Hold → Option Hold) (items : List (Option Look)) (at : ℕ) (old new : Option Look) → at < length items → old ≡ get_or items at old
+    → option_map look_of new ≡ change (option_map look_of old)
+    → looks_of (set items at new) ≡ set (looks_of items) at (change (get_or (looks_of items) at None))
+one_changed change items at old new less is e =
+    let here : option_map look_of old ≡ get_or (looks_of items) at None =
+    ap (option_map look_of) (get_or_read items at old less is None) ∙ sym (get_or-map (option_map look_of) items at None None less) in
+    map-set (option_map look_of) items at new ∙ ap (λ (y : Option Hold). set (looks_of items) at y) (e ∙ ap change here)
+
+-- ---- what stands at a number
+
+pub past_all : (items : List (Option Look)) (n : ℕ) → length items ≤ n → look_at n (looks_of items) ≡ None
+past_all items n far = let same : length (looks_of items) ≡ length items = length-map items (option_map look_of) in
+    get_or_past (looks_of items) n None (omega (arith, same, far))
+
+stands_at : (items : List (Option Look)) (n : ℕ) (x : Option Look) → n < length items → x ≡ get_or items n x → look_at n (looks_of items) ≡ option_map look_of x
+stands_at items n x less is = get_or-map (option_map look_of) items n None None less ∙ ap (option_map look_of) (sym (get_or_read items n x less is None))
+
+pub none_at : (items : List (Option Look)) (n : ℕ) (x : Option Look) → n < length items → x ≡ get_or items n x → x ≡ None
+    → (look_at n (looks_of items) ≡ None) × (looks_of (set items n None) ≡ looks_of items)
+none_at items n x less is none = (
+  stands_at items n x less is ∙ ap (option_map look_of) none,
+  ap looks_of (ap (λ (y : Option Look). set items n y) (sym none ∙ get_or_read items n x less is None) ∙ set-get_or items n None),
+)
+
+pub some_at : (items : List (Option Look)) (n : ℕ) (x : Option Look) (look : Look) → n < length items → x ≡ get_or items n x → x ≡ Some look
+    → look_at n (looks_of items) ≡ Some (look_of look)
+some_at items n x look less is some = stands_at items n x less is ∙ ap (option_map look_of) some
