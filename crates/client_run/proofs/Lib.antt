@@ -3,3 +3,4 @@ pub mod LookLemmas
 pub mod EventLemmas
 pub mod RunLemmas
 pub mod CoreLemmas
+pub mod PinLemmas

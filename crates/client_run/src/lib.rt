@@ -10,4 +10,4 @@ mod taken;
 
 pub use event::{Event, EventReply, Events, Replies, Seen};
 pub use events::run_events;
-pub use laws::calls_are_steps;
+pub use laws::{calls_are_steps, looks_have_their_own_pins};
