@@ -49,13 +49,14 @@ pub has_looked : {P : Type 0} (meaning : Meaning P) (old new : P) (look : Given)
     → Called meaning old event.Look (reply.Looked look.pin.number (info_files look.pin.blocks) look.as_of look.rows) new → rows ≡ look.rows
     → later ≡ looks ++ Some (look_of look) ∷ []
     → HasAnswered meaning old looks Look (Looked (Ok (record { as_of = look.as_of; rows = rows }))) new later
-has_looked meaning old new look rows looks later called same left = rw same (record {
-  calls = call event.Look (reply.Looked look.pin.number (info_files look.pin.blocks) look.as_of look.rows) ∷ [];
-  made = (new, called, refl);
-  answered = (Ok (record { as_of = look.as_of; rows = look.rows }), refl, (look.pin.number, info_files look.pin.blocks, refl));
-  left = left ∙ ap (λ (ls : Looks). ls ++ Some (look_of look) ∷ [])
-      (sym (none_ended event.Look (reply.Looked look.pin.number (info_files look.pin.blocks) look.as_of look.rows) looks (λ hold. refl)));
-})
+has_looked meaning old new look rows looks later called same left =
+    subst (λ (rs : List Row). HasAnswered meaning old looks Look (Looked (Ok (record { as_of = look.as_of; rows = rs }))) new later) (sym same) (record {
+      calls = call event.Look (reply.Looked look.pin.number (info_files look.pin.blocks) look.as_of look.rows) ∷ [];
+      made = (new, called, refl);
+      answered = (Ok (record { as_of = look.as_of; rows = look.rows }), refl, look.pin.number, info_files look.pin.blocks, refl);
+      left = left ∙ ap (λ (ls : Looks). ls ++ Some (look_of look) ∷ [])
+          (sym (none_ended event.Look (reply.Looked look.pin.number (info_files look.pin.blocks) look.as_of look.rows) looks (λ hold. refl)));
+    })
 
 pub is_idle : {P : Type 0} (meaning : Meaning P) (port : P) (number : ℕ) (looks later : Looks) → look_at number looks ≡ None → later ≡ looks
     → HasAnswered meaning port looks (Done number) Idle port later

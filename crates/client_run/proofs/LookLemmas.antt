@@ -82,7 +82,9 @@ pub none_ended : (event : Event) (reply : Reply) (looks : Looks) → ((hold : Ho
     → map (unless_ended (call event reply)) looks ≡ looks
 none_ended event reply [] none = refl
 none_ended event reply (None ∷ looks) none = ap (λ (ls : Looks). None ∷ ls) (none_ended event reply looks none)
-none_ended event reply (Some x ∷ looks) none = rw (none x) (ap (λ (ls : Looks). Some x ∷ ls) (none_ended event reply looks none))
+none_ended event reply (Some x ∷ looks) none =
+    ap (λ (o : Option Hold). o ∷ map (unless_ended (call event reply)) looks) (ap (λ (t : Bool). if t then None else Some x) (none x))
+    ∙ ap (λ (ls : Looks). Some x ∷ ls) (none_ended event reply looks none)
 
 -- ---- the looks under a pin
 
@@ -94,7 +96,7 @@ same_ended c (x ∷ xs) (suc n) e = ap (λ (ys : Looks). unless_ended c x ∷ ys
 
 -- a look is under its own pin
 own_pin : (look : Look) → unless_ended (call (Done look.pin.number) Fine) (Some (look_of look)) ≡ None
-own_pin look = rw (equal_itself look.pin.number) refl
+own_pin look = ap (λ (t : Bool). if t then None else Some (look_of look)) (equal_itself look.pin.number)
 
 -- A look is taken out, and then all looks under its pin are ended.
 pub ended_with : (items later : List (Option Look)) (n : ℕ) (look : Look) → get_or (looks_of items) n None ≡ Some (look_of look)
@@ -107,17 +109,14 @@ ended_with items later n look at h =
 pub walk_begins : (change : Option Hold → Option Hold) (looks : Looks) → Walked change 0 looks looks
 walk_begins change looks = ([], looks, refl, refl, refl)
 
-pub walk_goes_on : (change : Option Hold → Option Hold) (at : ℕ) (first now later : Looks) → Walked change at first now → at < length now
-    → later ≡ set now at (change (get_or now at None)) → Walked change (at + 1) first later
-walk_goes_on change at first now later (front, [], are, len, is) less e = absurd (too_far (ap length is) (length_of front) len less)
+goes_on : (change : Option Hold → Option Hold) (at : ℕ) (first now later front back : Looks) → first ≡ front ++ back → length front ≡ at → now ≡ map change front ++ back
+    → at < length now → later ≡ set now at (change (get_or now at None)) → Walked change (at + 1) first later
+goes_on change at first now later front [] are len is less e = absurd (too_far (ap length is) (length-append (map change front) []) (length-map front change) len less)
   where
-    length_of : (ls : Looks) → length (map change ls ++ []) ≡ length ls
-    length_of [] = refl
-    length_of (y ∷ ys) = ap suc (length_of ys)
-
-    too_far : length now ≡ length (map change front ++ []) → length (map change front ++ []) ≡ length front → length front ≡ at → at < length now → ⊥
-    too_far a b c d = omega (arith, a, b, c, d)
-walk_goes_on change at first now later (front, x ∷ back, are, len, is) less e =
+    too_far : length now ≡ length (map change front ++ []) → length (map change front ++ []) ≡ length (map change front) + 0 → length (map change front) ≡ length front
+        → length front ≡ at → at < length now → ⊥
+    too_far a b c d f = omega (arith, a, b, c, d, f)
+goes_on change at first now later front (x ∷ back) are len is less e =
     let mapped : length (map change front) ≡ at = length-map front change ∙ len in
     let here : get_or now at None ≡ x = ap (λ (ls : Looks). get_or ls at None) is ∙ get_or_at (map change front) x back None at mapped in (
       front ++ x ∷ [],
@@ -129,23 +128,26 @@ walk_goes_on change at first now later (front, x ∷ back, are, len, is) less e 
           ∙ (sym (append_assoc (map change front) (change x ∷ []) back) ∙ ap (λ (ls : Looks). ls ++ back) (sym (map-append change front (x ∷ []))))))),
     )
 
+pub walk_goes_on : (change : Option Hold → Option Hold) (at : ℕ) (first now later : Looks) → Walked change at first now → at < length now
+    → later ≡ set now at (change (get_or now at None)) → Walked change (at + 1) first later
+walk_goes_on change at first now later w less e = goes_on change at first now later w.0 w.1 w.2 w.3 w.4 less e
+
 -- a walk keeps the number of looks
 pub walk_length : (change : Option Hold → Option Hold) (at : ℕ) (first now : Looks) → Walked change at first now → length now ≡ length first
-walk_length change at first now (front, back, are, len, is) =
-    ap length is ∙ (length-append (map change front) back ∙ (ap (λ (k : ℕ). k + length back) (length-map front change) ∙ (sym (length-append front back) ∙ sym (ap length are))))
+walk_length change at first now w =
+    ap length w.4 ∙ (length-append (map change w.0) w.1 ∙ (ap (λ (k : ℕ). k + length w.1) (length-map w.0 change) ∙ (sym (length-append w.0 w.1) ∙ sym (ap length w.2))))
+
+ends_all : (change : Option Hold → Option Hold) (at : ℕ) (first now front back : Looks) → first ≡ front ++ back → length front ≡ at → now ≡ map change front ++ back
+    → length first ≡ at → now ≡ map change first
+ends_all change at first now front [] are len is all = is ∙ (append-nil (map change front) ∙ ap (map change) (sym (are ∙ append-nil front)))
+ends_all change at first now front (x ∷ back) are len is all = absurd (too_far (ap length are) (length-append front (x ∷ back)) len all)
+  where
+    too_far : length first ≡ length (front ++ x ∷ back) → length (front ++ x ∷ back) ≡ length front + suc (length back) → length front ≡ at → length first ≡ at → ⊥
+    too_far a b c d = omega (arith, a, b, c, d)
 
 pub walk_ends : (change : Option Hold → Option Hold) (at : ℕ) (first now : Looks) → Walked change at first now → length first ≡ at
     → now ≡ map change first
-walk_ends change at first now (front, [], are, len, is) all =
-    is ∙ (append-nil (map change front) ∙ ap (map change) (sym (are ∙ append-nil front)))
-walk_ends change at first now (front, x ∷ back, are, len, is) all = absurd (too_far (ap length are) (length_of front) len all)
-  where
-    length_of : (ls : Looks) → length (ls ++ x ∷ back) ≡ length ls + suc (length back)
-    length_of [] = refl
-    length_of (y ∷ ys) = ap suc (length_of ys)
-
-    too_far : length first ≡ length (front ++ x ∷ back) → length (front ++ x ∷ back) ≡ length front + suc (length back) → length front ≡ at → length first ≡ at → ⊥
-    too_far a b c d = omega (arith, a, b, c, d)
+walk_ends change at first now w all = ends_all change at first now w.0 w.1 w.2 w.3 w.4 all
 
 -- one look of a vector is changed
 pub one_changed : (change : Option Hold → Option Hold) (items : List (Option Look)) (at : ℕ) (old new : Option Look) → at < length items → old ≡ get_or items at old

@@ -30,7 +30,7 @@ ApartFrom one (Some other ∷ looks) = AreApart other one × ApartFrom one looks
 abbrev AreLooks : Machine → Looks → Type 0
 AreLooks m [] = ⊤
 AreLooks m (None ∷ looks) = AreLooks m looks
-AreLooks m (Some one ∷ looks) = OpenIn m one × (ApartFrom one looks × AreLooks m looks)
+AreLooks m (Some one ∷ looks) = OpenIn m one × ApartFrom one looks × AreLooks m looks
 
 apart_kept : (one : Hold) (c : Call) (looks : Looks) → ApartFrom one looks → ApartFrom one (map (unless_ended c) looks)
 apart_kept one c [] h = h
@@ -60,7 +60,7 @@ module _ (before faults : ℕ) (m m' : Machine) (event : Event) (agrees : Agrees
 
   new_looks : (reply : Reply) → Step before faults m event reply m' → AreLooks m' (taken reply)
   new_looks (Looked pin files as_of rows) step =
-      (step_opens before faults m m' event (Looked pin files as_of rows) (OpenLook pin files as_of rows) agrees sound step (0, omega arith, refl), (tt, tt))
+      (step_opens before faults m m' event (Looked pin files as_of rows) (OpenLook pin files as_of rows) agrees sound step (0, omega arith, refl), tt, tt)
   new_looks (Count n) step = tt
   new_looks Fine step = tt
   new_looks Nothing step = tt
@@ -72,14 +72,15 @@ module _ (before faults : ℕ) (m m' : Machine) (event : Event) (agrees : Agrees
   looks_after : (reply : Reply) (looks : Looks) → Step before faults m event reply m' → AreLooks m looks → AreLooks m' (map (unless_ended (call event reply)) looks ++ taken reply)
   looks_after reply [] step h = new_looks reply step
   looks_after reply (None ∷ looks) step h = looks_after reply looks step h
-  looks_after reply (Some x ∷ looks) step h = by_test (ends event reply x) refl (looks_after reply looks step h.1.1)
+  looks_after reply (Some x ∷ looks) step h = by_test (ends event reply x) refl (looks_after reply looks step h.2)
     where
       by_test : (t : Bool) → ends event reply x ≡ t → AreLooks m' (map (unless_ended (call event reply)) looks ++ taken reply)
           → AreLooks m' ((if t then None else Some x) ∷ (map (unless_ended (call event reply)) looks ++ taken reply))
       by_test true e ih = ih
       by_test false e ih = (
         holds.step_keeps before faults m m' event reply x h.0 e step,
-        (apart_append x (map (unless_ended (call event reply)) looks) (taken reply) (apart_kept x (call event reply) looks h.1.0) (new_apart reply x step h.0), ih),
+        apart_append x (map (unless_ended (call event reply)) looks) (taken reply) (apart_kept x (call event reply) looks h.1) (new_apart reply x step h.0),
+        ih,
       )
 
 looks_kept : {D : Type 0} (g : Ghosts D) (old new : Core D) (calls : List Call) (looks : Looks) → AreMade (port_of g) old calls new → (m : Machine) → CoreStandsFor g old m
@@ -105,9 +106,9 @@ pins_apart m [] h first later one other less e f = let bad : ⊥ = cc in absurd 
 pins_apart m (x ∷ looks) h first zero one other less e f = absurd (omega (arith, less))
 pins_apart m (None ∷ looks) h zero (suc later) one other less e f = let bad : ⊥ = cc in absurd bad
 pins_apart m (Some x ∷ looks) h zero (suc later) one other less e f =
-    subst (λ (y : Hold). AreApart other y) (some_same x one e) (apart_at looks later x other h.1.0 f)
+    subst (λ (y : Hold). AreApart other y) (some_same x one e) (apart_at looks later x other h.1 f)
 pins_apart m (None ∷ looks) h (suc first) (suc later) one other less e f = pins_apart m looks h first later one other (omega (arith, less)) e f
-pins_apart m (Some x ∷ looks) h (suc first) (suc later) one other less e f = pins_apart m looks h.1.1 first later one other (omega (arith, less)) e f
+pins_apart m (Some x ∷ looks) h (suc first) (suc later) one other less e f = pins_apart m looks h.2 first later one other (omega (arith, less)) e f
 
 pub own_pins : {D : Type 0} (g : Ghosts D) (old new : Core D) (calls : List Call) → AreMade (port_of g) old calls new → (m : Machine) → CoreStandsFor g old m
     → HaveOwnPins (after_calls calls [])

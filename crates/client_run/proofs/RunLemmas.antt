@@ -41,9 +41,9 @@ pub stopped_at : {P : Type 0} (meaning : Meaning P) (old mid new : P) (events : 
     → HasRunFirst meaning old events new
 stopped_at {P} meaning old mid new events n replies looks e come more (inl same) =
     (n, replies, subst (λ (x : P). HasRun meaning old (take n events) replies x) (sym same) (has_run meaning old mid (take n events) replies looks come))
-stopped_at meaning old mid new events n replies looks e come more (inr (r, later, one)) = (
+stopped_at meaning old mid new events n replies looks e come more (inr one) = (
   n + 1,
-  replies ++ r ∷ [],
-  subst (λ (es : List Event). HasRun meaning old es (replies ++ r ∷ []) new) (sym more)
-      (has_run meaning old new (take n events ++ e ∷ []) (replies ++ r ∷ []) later (run_goes_on meaning old mid new (take n events) replies looks later e r come one)),
+  replies ++ one.0 ∷ [],
+  subst (λ (es : List Event). HasRun meaning old es (replies ++ one.0 ∷ []) new) (sym more)
+      (has_run meaning old new (take n events ++ e ∷ []) (replies ++ one.0 ∷ []) one.1 (run_goes_on meaning old mid new (take n events) replies looks one.1 e one.0 come one.2)),
 )
