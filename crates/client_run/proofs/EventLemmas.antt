@@ -4,9 +4,7 @@ use Rattle.span_types.specs.BatchParts.{BatchParts}
 use Rattle.span_types.specs.declared.errors.Memory.{Memory}
 use Rattle.span_types.specs.declared.spans.Row.{Row}
 use Rattle.span_types.specs.declared.spans.Span.{Span}
-use Rattle.store_model.specs.Event.Event as event
-use Rattle.store_model.specs.Event.Reply as reply
-use Rattle.store_model.specs.Event.Refusal as refusal
+use Rattle.store_model.specs.Event.{Event as event, Reply as reply, Refusal as refusal}
 use Rattle.store_model.specs.Holds.{Hold}
 use Rattle.store_state.specs.Given.{info_files, look_of}
 use Rattle.store_state.specs.Meaning.{Meaning, Called}

@@ -1,9 +1,7 @@
 -- What a list of events is answered, and which calls of a port it makes.
 use Rattle.std.specs.Prelude.{◌≡◌, ℕ, List, [], ◌∷◌, ◌++◌, take, Option, Some, None, Result, Ok, Err}
 use Rattle.span_types.specs.declared.errors.Memory.{Memory}
-use Rattle.store_model.specs.Event.Event as event
-use Rattle.store_model.specs.Event.Reply as reply
-use Rattle.store_model.specs.Event.Refusal as refusal
+use Rattle.store_model.specs.Event.{Event as event, Reply as reply, Refusal as refusal}
 use Rattle.store_model.specs.Holds.{Hold}
 use Rattle.store_model.specs.Holds.Hold.{OpenLook, OpenFlush, OpenCompact}
 use Rattle.store_state.specs.Meaning.{Meaning}
