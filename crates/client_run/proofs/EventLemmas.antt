@@ -15,7 +15,7 @@ use Rattle.client_run.specs.declared.event.Event.TheVariants.{Push, Look, Done}
 use Rattle.client_run.specs.declared.event.EventReply.TheVariants.{Idle, Pushed, Looked, Ended}
 use Rattle.client_run.specs.Calls.{Looks, after_call, call, look_at, unless_ended}
 use Rattle.client_run.specs.EventRuns.{IsEndAnswered}
-use Rattle.client_run.specs.Taken.{HasAnswered}
+use Rattle.client_run.specs.Taken.{HasAnswered, MayHaveAnswered}
 use Rattle.client_run.proofs.LookLemmas.{none_ended}
 
 after_push : (spans : List Span) (moment : ℕ) (answer : Result ℕ PushError) (looks : Looks) → after_call (call (event.Push spans moment) (push_reply answer)) looks ≡ looks
@@ -51,10 +51,20 @@ has_looked meaning old new look rows looks later called same left =
     subst (λ (rs : List Row). HasAnswered meaning old looks Look (Looked (Ok (record { as_of = look.as_of; rows = rs }))) new later) (sym same) (record {
       calls = call event.Look (reply.Looked look.pin.number (info_files look.pin.blocks) look.as_of look.rows) ∷ [];
       made = (new, called, refl);
-      answered = (Ok (record { as_of = look.as_of; rows = look.rows }), refl, look.pin.number, info_files look.pin.blocks, refl);
+      answered = (Ok (record { as_of = look.as_of; rows = look.rows }), refl, (look.pin.number, info_files look.pin.blocks, refl));
       left = left ∙ ap (λ (ls : Looks). ls ++ Some (look_of look) ∷ [])
           (sym (none_ended event.Look (reply.Looked look.pin.number (info_files look.pin.blocks) look.as_of look.rows) looks (λ hold. refl)));
     })
+
+-- a look that was taken, and of which the reply wasn't told
+pub looked_untold : {P : Type 0} (meaning : Meaning P) (old new : P) (look : Given) (looks : Looks)
+    → Called meaning old event.Look (reply.Looked look.pin.number (info_files look.pin.blocks) look.as_of look.rows) new
+    → MayHaveAnswered meaning old looks Look new
+looked_untold meaning old new look looks called = inr (
+  Looked (Ok (record { as_of = look.as_of; rows = look.rows })),
+  looks ++ Some (look_of look) ∷ [],
+  has_looked meaning old new look look.rows looks (looks ++ Some (look_of look) ∷ []) called refl refl,
+)
 
 pub is_idle : {P : Type 0} (meaning : Meaning P) (port : P) (number : ℕ) (looks later : Looks) → look_at number looks ≡ None → later ≡ looks
     → HasAnswered meaning port looks (Done number) Idle port later

@@ -177,3 +177,25 @@ none_at items n x less is none = (
 pub some_at : (items : List (Option Look)) (n : ℕ) (x : Option Look) (look : Look) → n < length items → x ≡ get_or items n x → x ≡ Some look
     → look_at n (looks_of items) ≡ Some (look_of look)
 some_at items n x look less is some = stands_at items n x less is ∙ ap (option_map look_of) some
+
+-- a walk over vectors of looks
+pub pin_step : (change : Option Hold → Option Hold) (first items : List (Option Look)) (at : ℕ) (old new : Option Look) → Walked change at (looks_of first) (looks_of items)
+    → at < length first → old ≡ get_or items at old → option_map look_of new ≡ change (option_map look_of old)
+    → Walked change (at + 1) (looks_of first) (looks_of (set items at new))
+pin_step change first items at old new w less is e =
+    let here : length (looks_of items) ≡ length items = length-map items (option_map look_of) in
+    let there : length (looks_of first) ≡ length first = length-map first (option_map look_of) in
+    let same : length (looks_of items) ≡ length (looks_of first) = walk_length change at (looks_of first) (looks_of items) w in
+    walk_goes_on change at (looks_of first) (looks_of items) (looks_of (set items at new)) w (omega (arith, less, here, there, same))
+    (one_changed change items at old new (omega (arith, less, here, there, same)) is e)
+
+-- a look is taken out of a vector, and then all looks under its pin are ended
+pub taken_out : (items later : List (Option Look)) (n : ℕ) (x gone : Option Look) (look : Look) → n < length items → x ≡ get_or items n x → x ≡ Some look → gone ≡ None
+    → looks_of later ≡ map (unless_ended (call (Done look.pin.number) Fine)) (looks_of (set items n gone))
+    → looks_of later ≡ map (unless_ended (call (Done look.pin.number) Fine)) (looks_of items)
+taken_out items later n x gone look less is some none h =
+    ended_with items later n look (some_at items n x look less is some)
+    (h ∙ ap (λ (y : Option Look). map (unless_ended (call (Done look.pin.number) Fine)) (looks_of (set items n y))) none)
+
+pub looks_push : (items later : List (Option Look)) (look : Look) → later ≡ items ++ Some look ∷ [] → looks_of later ≡ looks_of items ++ Some (look_of look) ∷ []
+looks_push items later look e = ap looks_of e ∙ map-append (option_map look_of) items (Some look ∷ [])

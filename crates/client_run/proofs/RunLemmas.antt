@@ -1,5 +1,5 @@
 -- How a run of events goes on.
-use Rattle.std.proofs.Common.{◌≡◌, ◌⊎◌, inl, inr, ℕ, ◌+◌, ◌<◌, List, [], ◌∷◌, ◌++◌, take, get_or, refl, sym, ◌∙◌, ap, subst}
+use Rattle.std.proofs.Common.{◌≡◌, ◌⊎◌, inl, inr, ℕ, ◌+◌, ◌<◌, List, [], ◌∷◌, ◌++◌, take, get_or, length, refl, sym, ◌∙◌, ap, subst}
 use Rattle.std.proofs.lemmas.List.{take_more}
 use Rattle.store_state.specs.Meaning.{Meaning, View}
 use Rattle.client_run.specs.declared.event.Event.{Event}
@@ -47,3 +47,20 @@ stopped_at meaning old mid new events n replies looks e come more (inr one) = (
   subst (λ (es : List Event). HasRun meaning old es (replies ++ one.0 ∷ []) new) (sym more)
       (has_run meaning old new (take n events ++ e ∷ []) (replies ++ one.0 ∷ []) one.1 (run_goes_on meaning old mid new (take n events) replies looks one.1 e one.0 come one.2)),
 )
+
+one_more : (all : List Event) (n : ℕ) (e : Event) → n < length all → e ≡ get_or all n e → take (n + 1) all ≡ take n all ++ e ∷ []
+one_more all n e less is = take_more all n e less ∙ ap (λ (x : Event). take n all ++ x ∷ []) (sym is)
+
+pub run_step : {P : Type 0} (meaning : Meaning P) (old mid new : P) (all : List Event) (n : ℕ) (e : Event) (replies more : List EventReply) (r : EventReply) (looks later : Looks)
+    → HasCome meaning old (take n all) replies mid looks → HasAnswered meaning mid looks e r new later → n < length all → e ≡ get_or all n e → more ≡ replies ++ r ∷ []
+    → HasCome meaning old (take (n + 1) all) more new later
+run_step meaning old mid new all n e replies more r looks later come one less is grown =
+    subst (λ (es : List Event). HasCome meaning old es more new later) (sym (one_more all n e less is))
+    (subst (λ (rs : List EventReply). HasCome meaning old (take n all ++ e ∷ []) rs new later) (sym grown)
+    (run_goes_on meaning old mid new (take n all) replies looks later e r come one))
+
+pub run_stops : {P : Type 0} (meaning : Meaning P) (old mid new : P) (all given : List Event) (n : ℕ) (e : Event) (replies : List EventReply) (looks : Looks)
+    → HasCome meaning old (take n all) replies mid looks → MayHaveAnswered meaning mid looks e new → n < length all → e ≡ get_or all n e → all ≡ given
+    → HasRunFirst meaning old given new
+run_stops meaning old mid new all given n e replies looks come may less is same =
+    subst (λ (es : List Event). HasRunFirst meaning old es new) same (stopped_at meaning old mid new all n replies looks e come (one_more all n e less is) may)
