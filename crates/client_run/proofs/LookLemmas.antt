@@ -190,10 +190,10 @@ pin_step change first items at old new w less is e =
     (one_changed change items at old new (omega (arith, less, here, there, same)) is e)
 
 -- a look is taken out of a vector, and then all looks under its pin are ended
-pub taken_out : (items later : List (Option Look)) (n : ℕ) (x gone : Option Look) (look : Look) → n < length items → x ≡ get_or items n x → x ≡ Some look → gone ≡ None
-    → looks_of later ≡ map (unless_ended (call (Done look.pin.number) Fine)) (looks_of (set items n gone))
+pub taken_out : (items later : List (Option Look)) (n : ℕ) (x emptied : Option Look) (look : Look) → n < length items → x ≡ get_or items n x → x ≡ Some look → emptied ≡ None
+    → looks_of later ≡ map (unless_ended (call (Done look.pin.number) Fine)) (looks_of (set items n emptied))
     → looks_of later ≡ map (unless_ended (call (Done look.pin.number) Fine)) (looks_of items)
-taken_out items later n x gone look less is some none h =
+taken_out items later n x emptied look less is some none h =
     ended_with items later n look (some_at items n x look less is some)
     (h ∙ ap (λ (y : Option Look). map (unless_ended (call (Done look.pin.number) Fine)) (looks_of (set items n y))) none)
 
