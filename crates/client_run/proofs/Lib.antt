@@ -4,3 +4,4 @@ pub mod EventLemmas
 pub mod RunLemmas
 pub mod CoreLemmas
 pub mod PinLemmas
+pub mod AnswerLemmas

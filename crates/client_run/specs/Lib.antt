@@ -3,3 +3,4 @@ pub mod EventRuns
 pub mod Taken
 pub mod Walked
 pub mod CoreRuns
+pub mod Answers
