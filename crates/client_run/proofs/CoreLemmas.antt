@@ -1,5 +1,5 @@
 -- Calls of a core, one after another.
-use Rattle.std.proofs.Common.{◌≡◌, List, [], ◌∷◌, refl, sym, ap, subst}
+use Rattle.std.proofs.Common.{List, [], ◌∷◌, refl, sym, ap, subst}
 use Rattle.disk_model.specs.declared.disk.Device.{Ghosts}
 use Rattle.store_model.specs.Step.{Machine}
 use Rattle.store_core.specs.Cores.{CoreStandsFor}

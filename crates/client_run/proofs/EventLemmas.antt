@@ -1,5 +1,5 @@
 -- What each event makes of a port and of the looks.
-use Rattle.std.proofs.Common.{◌≡◌, ◌⊎◌, inl, inr, ℕ, false, List, [], ◌∷◌, ◌++◌, map, Option, Some, None, Result, Ok, Err, refl, sym, ◌∙◌, ap, subst, append-nil}
+use Rattle.std.proofs.Common.{◌≡◌, inr, ℕ, List, [], ◌∷◌, ◌++◌, map, Option, Some, None, Result, Ok, Err, refl, sym, ◌∙◌, ap, subst, append-nil}
 use Rattle.span_types.specs.BatchParts.{BatchParts}
 use Rattle.span_types.specs.declared.errors.Memory.{Memory}
 use Rattle.span_types.specs.declared.spans.Row.{Row}

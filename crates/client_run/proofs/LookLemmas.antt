@@ -1,5 +1,5 @@
 -- Looks that are taken and ended.
-use Rattle.std.proofs.Common.{◌≡◌, ℕ, ◌+◌, ◌<◌, ◌≤◌, ◌==◌, zero, suc, Bool, true, false, List, [], ◌∷◌, ◌++◌, Option, Some, None, option_map, map, length, get_or, refl, sym, ◌∙◌, ap, subst, arith, append-nil, append_assoc, if◌then◌else◌}
+use Rattle.std.proofs.Common.{◌≡◌, ℕ, ◌+◌, ◌<◌, ◌≤◌, zero, suc, Bool, true, false, List, [], ◌∷◌, ◌++◌, Option, Some, None, option_map, map, length, get_or, refl, sym, ◌∙◌, ap, subst, arith, append-nil, append_assoc, if◌then◌else◌}
 use Rattle.std.specs.Prelude.{set}
 use Rattle.std.proofs.lemmas.List.{map-append, map-set, set_at, set-get_or, get_or_at, get_or-map, get_or_past, get_or_read, length_push, length-append, length-map}
 use Rattle.store_model.specs.Event.{Event, Reply}

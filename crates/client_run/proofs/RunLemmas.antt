@@ -1,10 +1,10 @@
 -- How a run of events goes on.
-use Rattle.std.proofs.Common.{◌≡◌, ◌⊎◌, inl, inr, ℕ, ◌+◌, ◌<◌, List, [], ◌∷◌, ◌++◌, take, get_or, length, refl, sym, ◌∙◌, ap, subst}
+use Rattle.std.proofs.Common.{◌≡◌, inl, inr, ℕ, ◌+◌, ◌<◌, List, [], ◌∷◌, ◌++◌, take, get_or, length, refl, sym, ◌∙◌, ap, subst}
 use Rattle.std.proofs.lemmas.List.{take_more}
 use Rattle.store_state.specs.Meaning.{Meaning, View}
 use Rattle.client_run.specs.declared.event.Event.{Event}
 use Rattle.client_run.specs.declared.event.EventReply.{EventReply}
-use Rattle.client_run.specs.Calls.{Call, Looks, AreMade, after_calls}
+use Rattle.client_run.specs.Calls.{Looks, after_calls}
 use Rattle.client_run.specs.EventRuns.{HasRun, HasRunFirst, IsEventAnswered}
 use Rattle.client_run.specs.Taken.{HasAnswered, HasCome, IsReady, MayHaveAnswered}
 use Rattle.client_run.proofs.CallLemmas.{after-append, answered-push, made-append}

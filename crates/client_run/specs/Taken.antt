@@ -1,6 +1,5 @@
 -- Private mechanism of a run of events: the looks that it holds, and what one event makes of them. No public clause cites it.
-use Rattle.std.specs.Prelude.{◌≡◌, ◌⊎◌, ⊤, ℕ, List, [], ◌∷◌, map, Option, Some, None, option_map}
-use Rattle.store_model.specs.Holds.{Hold}
+use Rattle.std.specs.Prelude.{◌≡◌, ◌⊎◌, ⊤, List, [], ◌∷◌, map, Option, Some, None, option_map}
 use Rattle.store_state.specs.Meaning.{Meaning, View, IsOpen}
 use Rattle.store_state.specs.Given.{look_of}
 use Rattle.store_state.specs.declared.jobs.Look.{Look}
