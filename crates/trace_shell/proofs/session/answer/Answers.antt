@@ -8,8 +8,8 @@ returns-in-Ok-Push-clause-answered g c =
       asked.0,
       asked.1,
       λ history h.
-          let told = c.push.ensures.answered c.in-Ok-Push.moment history h in
-          (told.0, (Ok (Push c.in-Ok-Push.reading c.in-Ok-Push.moment), (0, asked.2), told.1), told.2),
+          let told = c.push.ensures.answered c.in-Ok-Push.field-0-1 history h in
+          (told.0, (Ok (Push c.in-Ok-Push.reading c.in-Ok-Push.field-0-1), (0, asked.2), told.1), told.2),
     )
 
 pub returns-in-Ok-Trace-clause-answered : goal.returns-in-Ok-Trace-clause-answered
