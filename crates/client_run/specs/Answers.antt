@@ -77,7 +77,7 @@ pub record HasReplied {P : Type 0} (meaning : Meaning P) (old : P) (asked : Requ
   pub made : AreMade meaning old calls new
   pub answered : IsRequestAnswered asked r calls
 
--- A query was answered over a port.
+-- Private mechanism: a query was answered over a port. No public clause cites it.
 pub record HasTold {P : Type 0} (meaning : Meaning P) (old : P) (tells : ℕ → List Row → Reply → Type 0) (r : Reply) (new : P) : Type 0 where
   pub calls : List Call
   pub made : AreMade meaning old calls new

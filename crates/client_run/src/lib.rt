@@ -1,6 +1,8 @@
 //! What a client's requests are answered by a store's port, and lists of events that are run on one.
 //!
-//! `specs/Calls.antt` says which calls are made on a port, `specs/EventRuns.antt` what a list of events is answered.
+//! The entry points are `answer_request`, whose promise is `HasReplied` of `specs/Answers.antt`, and `run_events`, whose promise is
+//! `HasRun` of `specs/EventRuns.antt`. Both speak of the calls that were made on the port (`specs/Calls.antt`); `specs/CoreRuns.antt`
+//! says what calls make of a store over a disk.
 #![tactic(auto)]
 
 mod answer;
