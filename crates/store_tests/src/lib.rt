@@ -4,4 +4,8 @@
 #[cfg(test)]
 mod live;
 #[cfg(test)]
+mod removal;
+#[cfg(test)]
+mod store;
+#[cfg(test)]
 mod upkeep;

@@ -30,7 +30,7 @@ fn begin_flush(listing: &mut Listing) -> Result<FlushFiles, Memory> {
     Ok(listing.begin_flush())
 }
 
-fn begin_compact(listing: &mut Listing) -> Result<u32, Memory> {
+pub(crate) fn begin_compact(listing: &mut Listing) -> Result<u32, Memory> {
     if listing.next_file >= 4_294_967_294 {
         return Err(Memory);
     }
@@ -50,7 +50,7 @@ fn flushed(
     Ok(next)
 }
 
-fn compacted(
+pub(crate) fn compacted(
     alloc: Global,
     now: &Listing,
     joined: &[u32],
@@ -68,11 +68,16 @@ fn dropped(now: Listing, files: FlushFiles) -> Result<Listing, Memory> {
     Ok(next)
 }
 
-fn block(file: u32, level: u8, rows: u32) -> BlockRef {
+pub(crate) fn block(file: u32, level: u8, rows: u32) -> BlockRef {
     BlockRef { file, level, rows }
 }
 
-fn is_list(listing: &Listing, blocks: &[BlockRef], segments: &[(u32, u64)], loose: &[u32]) -> bool {
+pub(crate) fn is_list(
+    listing: &Listing,
+    blocks: &[BlockRef],
+    segments: &[(u32, u64)],
+    loose: &[u32],
+) -> bool {
     let mut same = listing.segments.len() == segments.len();
     for (found, wanted) in listing.segments.as_slice().iter().zip(segments) {
         same &= found.file == wanted.0 && found.first == wanted.1;
