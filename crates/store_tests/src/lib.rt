@@ -2,7 +2,11 @@
 #![tactic(auto)]
 
 #[cfg(test)]
+mod limits;
+#[cfg(test)]
 mod live;
+#[cfg(test)]
+mod opening;
 #[cfg(test)]
 mod removal;
 #[cfg(test)]
