@@ -2,13 +2,13 @@
 #![tactic(auto)]
 
 #[cfg(test)]
+mod events;
+#[cfg(test)]
 mod limits;
 #[cfg(test)]
 mod live;
 #[cfg(test)]
 mod opening;
-#[cfg(test)]
-mod removal;
 #[cfg(test)]
 mod store;
 #[cfg(test)]
