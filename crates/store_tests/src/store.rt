@@ -238,12 +238,12 @@ fn new_store(alloc: Global) -> Result<Option<Core<MemDisk>>, Fail>
         (v : View) × ⟦<Core<MemDisk> as LookPort>⟧.meaning.knows core v)) }
 {
     let mut disk = MemDisk::empty(alloc);
-    if load(alloc, &mut disk)?.is_some() {
-        return Ok(None);
-    }
-    match open_new(alloc, disk) {
-        Ok(core) => Ok(Some(core)),
-        Err(_) => Ok(None),
+    match load(alloc, &mut disk)? {
+        Some(_) => Ok(None),
+        None => match open_new(alloc, disk) {
+            Ok(core) => Ok(Some(core)),
+            Err(_) => Ok(None),
+        },
     }
 }
 
