@@ -75,64 +75,50 @@ fn acknowledged_pushes_are_found_again(rt: HostRuntime) -> Result<(), Fail> {
     Ok(())
 }
 
-// Two pushes come behind a first one, the device's call of that number failing, counted from 1 at the second push. The store, if they
-// are answered so and a batch is kept where a call fails.
-fn failed_at(
-    alloc: Global,
-    failing: u64,
-    second: Answer,
-    third: Answer,
-) -> Result<Option<Core<MemDisk>>, Fail> {
-    let Some(mut core) = one_push(alloc)? else {
-        return Ok(None);
-    };
-    core.disk.fail_at(Calls::of(vec![in alloc; failing]?));
-    if core.push(another(alloc)?, 6) != second || core.push(another(alloc)?, 7) != third {
-        return Ok(None);
+// What two pushes answer that come behind a first one, the device's call of that number failing, counted from 1 at the second
+// push: a push makes four calls. No call has the number 0.
+fn answers_at(failing: u64) -> [Answer; 2] {
+    let fault = Err(PushError::Fault);
+    match failing {
+        1..=4 => [fault, Err(PushError::ReadOnly { faults: 1 })],
+        5..=8 => [Ok(1), fault],
+        _ => [Ok(1), Ok(2)],
     }
-    let kept = core.state.unsure.is_some();
-    Ok(if kept == (failing > 0) {
-        Some(core)
-    } else {
-        None
-    })
 }
 
-// Whether so many rows are held, a look is of so many pushes, and so many are found on the disk.
-fn counts_are(alloc: Global, core: Core<MemDisk>, counts: [u64; 3]) -> Result<bool, Fail> {
-    let mut core = core;
-    if core.held() != counts[0] || pushes_of(&mut core)? != counts[1] {
+// How many rows are held then, how many pushes a look is of, and how many are found on the disk: the last call of a push only makes
+// last what was written.
+fn counts_at(failing: u64) -> (u64, u64, u64) {
+    match failing {
+        1..=3 => (2, 1, 1),
+        4 => (2, 1, 2),
+        5..=7 => (3, 2, 2),
+        8 => (3, 2, 3),
+        _ => (4, 3, 3),
+    }
+}
+
+// Whether the answers and counts are those, where that call fails, and a batch is kept where its push was refused.
+fn fails_at(alloc: Global, failing: u64) -> Result<bool, Fail> {
+    let Some(mut core) = one_push(alloc)? else {
         return Ok(false);
-    }
-    match again(alloc, core) {
-        Some(mut core) => Ok(pushes_of(&mut core)? == counts[2]),
-        None => Ok(false),
-    }
+    };
+    let calls = Calls::of(vec![in alloc; failing]?);
+    core.disk.fail_at(calls);
+    let answers = [core.push(another(alloc)?, 6), core.push(another(alloc)?, 7)];
+    let kept = core.state.unsure.is_some();
+    let (held, pushes) = (core.held(), pushes_of(&mut core)?);
+    let Some(mut core) = again(alloc, core) else {
+        return Ok(false);
+    };
+    let counts = (held, pushes, pushes_of(&mut core)?);
+    Ok(answers == answers_at(failing) && counts == counts_at(failing) && kept == (failing > 0))
 }
 
 #[test]
 fn a_push_makes_four_calls_and_a_failed_one_is_the_last(rt: HostRuntime) -> Result<(), Fail> {
-    let alloc = rt.alloc();
-    let fault = Err(PushError::Fault);
-    let refused = Err(PushError::ReadOnly { faults: 1 });
-    // The call that fails, where 0 is none, what the second and the third push answer, and how many rows are held, how many pushes a
-    // look is of, and how many are found on the disk: the last call of a push only makes last what was written.
-    let rows: [(u64, Answer, Answer, [u64; 3]); 9] = [
-        (0, Ok(1), Ok(2), [4, 3, 3]),
-        (1, fault, refused, [2, 1, 1]),
-        (2, fault, refused, [2, 1, 1]),
-        (3, fault, refused, [2, 1, 1]),
-        (4, fault, refused, [2, 1, 2]),
-        (5, Ok(1), fault, [3, 2, 2]),
-        (6, Ok(1), fault, [3, 2, 2]),
-        (7, Ok(1), fault, [3, 2, 2]),
-        (8, Ok(1), fault, [3, 2, 3]),
-    ];
-    for (failing, second, third, counts) in rows {
-        let Some(core) = failed_at(alloc, failing, second, third)? else {
-            panic!(rt; "call {failing}");
-        };
-        assert!(rt; counts_are(alloc, core, counts)?, "call {failing}");
+    for failing in 0..9 {
+        assert!(rt; fails_at(rt.alloc(), failing)?, "call {failing}");
     }
     Ok(())
 }
