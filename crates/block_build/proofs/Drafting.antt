@@ -8,9 +8,9 @@ use Rattle.span_types.specs.declared.spans.Row.{Row}
 use Rattle.block_info.specs.declared.info.StripeInfo.{StripeInfo}
 use Rattle.block_format.specs.Blocks.{IsEarliest, IsLatest, StripeHasEntry, StripesHaveEntries, form_of_rows}
 use Rattle.block_format.specs.Headers.{AreFromPage, HasMoments, HasRows, IsAtPage, header_pages}
-use Rattle.block_format.specs.StripeEncodings.{after_length, content_bytes, fill_size, padded, stripe_bytes}
-use Rattle.block_format.specs.StripeReadings.{ascend}
-use Rattle.block_format.specs.Stripes.{StripeHolds, can_be_stripe, has_form, is_extended}
+use Rattle.block_stripes.specs.StripeEncodings.{after_length, content_bytes, fill_size, padded, stripe_bytes}
+use Rattle.block_stripes.specs.StripeReadings.{ascend}
+use Rattle.block_stripes.specs.Stripes.{StripeHolds, can_be_stripe, has_form, is_extended}
 use Rattle.block_build.specs.Drafts.{AddsStripe, AreStripes, DraftSoFar, IsDraft}
 use Rattle.block_build.proofs.Parts.{all_rest, ascend_rest, first_stripe, have_form}
 

@@ -16,7 +16,7 @@ use Rattle.span_types.specs.First.{IsFirstOf, first_at, lesser, row_at}
 use Rattle.span_types.specs.Keys.{row_key}
 use Rattle.span_types.specs.Orders.{block_order, key_cmp, place_cmp}
 use Rattle.span_types.proofs.FirstLaws.{block_order_total, has_first}
-use Rattle.block_format.specs.StripeReadings.{ascend, ascend_after}
+use Rattle.block_stripes.specs.StripeReadings.{ascend, ascend_after}
 
 -- ---- no more than the rows
 

@@ -7,8 +7,8 @@ use Rattle.std.proofs.lemmas.List.{append-nil, drop_all, drop_at, length-take, t
 use Rattle.span_types.specs.declared.spans.Row.{Row}
 use Rattle.span_types.specs.Orders.{block_order}
 use Rattle.block_format.specs.Blocks.{form_of_rows, is_rich}
-use Rattle.block_format.specs.StripeReadings.{ascend, ascend_after, is_no_size}
-use Rattle.block_format.specs.Stripes.{can_be_stripe, has_form, is_extended}
+use Rattle.block_stripes.specs.StripeReadings.{ascend, ascend_after, is_no_size}
+use Rattle.block_stripes.specs.Stripes.{can_be_stripe, has_form, is_extended}
 
 -- ---- order
 

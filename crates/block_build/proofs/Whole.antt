@@ -13,7 +13,7 @@ use Rattle.block_rows.specs.Tails.{IsTailOf}
 use Rattle.block_format.specs.declared.header.Header.{Header}
 use Rattle.block_format.specs.Blocks.{BlockHasHeader, BlockHasInfo, form_of_rows, ids_of, info_of, is_rich}
 use Rattle.block_format.specs.Headers.{CanBeHeader, HeaderHolds, header_pages}
-use Rattle.block_format.specs.StripeReadings.{ascend}
+use Rattle.block_stripes.specs.StripeReadings.{ascend}
 use Rattle.span_types.specs.First.{IsFirstOf}
 use Rattle.block_build.specs.declared.building.BuiltBlock.{BuiltBlock}
 use Rattle.block_build.specs.Built.{IsBlockOf}

@@ -8,8 +8,8 @@ use Rattle.block_rows.specs.declared.tail.Tail.{Tail}
 use Rattle.block_format.specs.declared.header.Header.{Header}
 use Rattle.block_format.specs.Blocks.{StripeHasEntry, StripesHaveEntries}
 use Rattle.block_format.specs.Headers.{AreFromPage, HasMoments, header_pages}
-use Rattle.block_format.specs.StripeReadings.{ascend}
-use Rattle.block_format.specs.Stripes.{has_form, is_extended}
+use Rattle.block_stripes.specs.StripeReadings.{ascend}
+use Rattle.block_stripes.specs.Stripes.{has_form, is_extended}
 
 -- the header of a block with these stripes, and with this index and these Bloom filters
 abbrev pub header_with : ℕ → List StripeInfo → Tail → Header

@@ -4,7 +4,7 @@ ghost use Rattle.std.specs.Prelude.{◌≡◌, ◌++◌, ◌≤◌, IfOk, drop, 
 ghost use Rattle.block_build.specs.Built.{IsBlockOf};
 ghost use Rattle.block_build.specs.Drafts.{header_with};
 ghost use Rattle.block_format.specs.Blocks.{BlockHasInfo};
-ghost use Rattle.block_format.specs.StripeReadings.{ascend};
+ghost use Rattle.block_stripes.specs.StripeReadings.{ascend};
 
 use crate::draft::{Draft, draft_of, header_pages};
 use block_format::{Header, header_is_pages, write_header};

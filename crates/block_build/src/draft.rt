@@ -5,8 +5,8 @@ ghost use Rattle.std.specs.Int.{div_ceil};
 ghost use Rattle.block_build.specs.Drafts.{AddsStripe, IsDraft};
 ghost use Rattle.block_format.specs.Blocks.{form_of_rows};
 ghost use Rattle.block_format.specs.Headers.{header_pages};
-ghost use Rattle.block_format.specs.StripeReadings.{ascend};
-ghost use Rattle.block_format.specs.Stripes.{can_be_stripe, is_extended};
+ghost use Rattle.block_stripes.specs.StripeReadings.{ascend};
+ghost use Rattle.block_stripes.specs.Stripes.{can_be_stripe, is_extended};
 
 use crate::rows::{STRIPE_ROWS, earliest, latest, next_rows, one_by_one};
 use block_format::write_stripe;
