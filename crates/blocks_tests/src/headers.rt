@@ -106,7 +106,8 @@ fn cut_or_longer(rt: HostRuntime) -> Result<(), Fail> {
     let alloc = rt.alloc();
     let mut bytes = page(alloc, ONE)?;
     assert_eq!(rt; told(alloc, bytes.as_slice())?, SOUND);
-    for len in 0..4096usize {
+    assert_eq!(rt; bytes.len(), 4096);
+    for len in 0..bytes.len() {
         assert_eq!(rt; told(alloc, &bytes.as_slice()[..len])?, len as u64);
     }
     bytes.push(0)?;
