@@ -1,24 +1,37 @@
 #!/usr/bin/env bash
-# A search over 20,000 traces beside pushing them: the processor time of a session that pushes them and of one that also
-# searches them ten times. It needs a built program (`./vurnda` builds it). Each time is the least of three runs.
+# Searches over 20,000 traces beside pushing them: the user time of a session that pushes them and of those that also
+# search them ten times. `search.sh PROGRAM ..` takes built programs (`./vurnda` builds one) or checkouts, whose programs it
+# builds without proof (`times.py`), so that an old and a new one are compared in one run. Each time is the least of three
+# runs, and each ratio that of the first program's time to this one's. `TRACES=N` pushes another count of traces.
 set -e
 here=$(cd "$(dirname "$0")" && pwd)
-work=${TMPDIR:-/tmp}/vurnda-bench
-program=${1:-$here/../crates/vurnda/out/vurnda}
+work=${TMPDIR:-/tmp}/vurnda-bench/search
+[ $# -gt 0 ] || set -- "$here/../crates/vurnda/out/vurnda"
+rm -rf "$work"
 mkdir -p "$work"
-python3 "$here/lines.py" 5 20000 > "$work/push.txt"
-seconds() { # the least processor time of three sessions over an input
-    for _ in 1 2 3; do
-        { TIMEFORMAT='%U %S'; time "$program" "$work/store" session < "$1" > /dev/null; } 2>&1 | awk '{print $1 + $2}'
-    done | sort -n | head -n 1
-}
-pushing=$(seconds "$work/push.txt")
-while IFS= read -r query; do
-    { cat "$work/push.txt"; for _ in 1 2 3 4 5 6 7 8 9 10; do echo "search $query"; done; } > "$work/search.txt"
-    both=$(seconds "$work/search.txt")
-    awk -v q="$query" -v p="$pushing" -v b="$both" 'BEGIN { printf "%s: %.2f s a search, pushing %.2f s, ratio %.2f\n", q, (b - p) / 10, p, (b - p) / 10 / p }'
-done <<'Q'
-{ status = error }
-{ name =~ ".*1.*" } | count() > 1
-{ } >> { kind = client } | by(name) | avg(duration) > 1ms
-Q
+queries=(
+    '{ status = error }'
+    '{ name =~ ".*1.*" } | count() > 1'
+    '{ } >> { kind = client } | by(name) | avg(duration) > 1ms'
+)
+python3 "$here/lines.py" 5 "${TRACES:-20000}" > "$work/push"
+for i in "${!queries[@]}"; do
+    { cat "$work/push"; for _ in 1 2 3 4 5 6 7 8 9 10; do echo "search ${queries[i]}"; done; } > "$work/$i"
+done
+python3 "$here/times.py" 3 "$work" "$@" | awk -F '\t' -v queries="$(printf '%s\n' "${queries[@]}")" '
+    BEGIN { asked = split(queries, query, "\n") }
+    { time[$1, $2] = $3 }
+    !seen[$1]++ { program[++count] = $1 }
+    END {
+        for (i = 1; i <= count; i++) {
+            push = time[program[i], "push"]
+            printf "%s: pushing %.2f s\n", program[i], push
+            for (j = 1; j <= asked; j++) {
+                own = (time[program[i], j - 1] - push) / 10
+                if (i == 1) first[j] = own
+                printf "%s: %s: %.3f s a search, %.2f of the pushes", program[i], query[j], own, own / push
+                if (own > 0) printf " (ratio %.2f)", first[j] / own
+                print ""
+            }
+        }
+    }'
