@@ -2,7 +2,8 @@
 # 400 `by` stages over one trace of 10,000 spans: the user time of a search that splits it into a few spansets and of
 # one that splits it into thousands. `by.sh PROGRAM ..` takes built programs (`./vurnda` builds one) or checkouts, whose
 # programs it builds without proof (`times.py`), so that an old and a new one are compared in one run. Each time is the
-# least of three runs less that of the push, and each ratio that of the first program's time to this one's.
+# least of three runs less that of the push, and each ratio that of the first program's time to this one's. `SPANS=N` and
+# `STAGES=N` ask for a smaller trace and fewer stages, for programs with checks.
 set -e
 here=$(cd "$(dirname "$0")" && pwd)
 work=${TMPDIR:-/tmp}/vurnda-bench/by
@@ -12,9 +13,9 @@ mkdir -p "$work"
 stages() { # so many stages of one kind
     for _ in $(seq "$1"); do printf ' | %s' "$2"; done
 }
-few="{ }$(stages 400 'by(name)') | coalesce()"
-many="{ } | by(.url.path)$(stages 399 'by(name)') | coalesce()"
-python3 "$here/lines.py" 10000 1 > "$work/push"
+few="{ }$(stages "${STAGES:-400}" 'by(name)') | coalesce()"
+many="{ } | by(.url.path)$(stages "$((${STAGES:-400} - 1))" 'by(name)') | coalesce()"
+python3 "$here/lines.py" "${SPANS:-10000}" 1 > "$work/push"
 { cat "$work/push"; echo "search $few"; } > "$work/few"
 { cat "$work/push"; echo "search $many"; } > "$work/many"
 python3 "$here/times.py" 3 "$work" "$@" | awk -F '\t' '
