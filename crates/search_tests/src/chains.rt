@@ -16,7 +16,7 @@ const LINE: &str =
     r#"{"resourceSpans":[{"scopeSpans":[{"spans":[{"traceId":"000000000000000000000000000000d1","spanId":"0000000000000001","parentSpanId":"","name":"a","startTimeUnixNano":"1","endTimeUnixNano":"2","attributes":[{"key":"v","value":{"intValue":"1"}}]}]}]}]}"#;
 
 /// Queries that find the span: how each begins, what comes again and again, how many times, and how it ends.
-static CHAINS: [(&str, &str, usize, &str); 6] = [
+const CHAINS: [(&str, &str, usize, &str); 6] = [
     ("{.v ", "+1", 4_000, "=4001}"),
     ("{} | by(.v ", "-1", 4_000, ")"),
     ("{.v=1", "&&true", 1_300, "}"),
@@ -64,7 +64,7 @@ fn search(alloc: Global, text: &str) -> Result<usize, Failure> {
 
 // Whether a query finds one trace.
 fn finds_one(alloc: Global, text: &str) -> bool {
-    search(alloc, text) == Ok(1)
+    matches!(search(alloc, text), Ok(1))
 }
 
 #[test]
