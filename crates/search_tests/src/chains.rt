@@ -74,7 +74,7 @@ fn chains_need_little_stack(rt: HostRuntime) -> Result<(), Fail> {
         let text = repeated(alloc, first, more, times, end)?;
         let small = Builder::new().stack_size(STACK);
         let thread = small.spawn(&rt, move || finds_one(alloc, text.as_str()))?;
-        let found = thread.join(&rt)?;
+        let found = thread.join(&rt);
         assert!(rt; found, "the chain of {more}");
     }
     Ok(())
