@@ -4,6 +4,8 @@
 #![tactic(auto)]
 
 #[cfg(test)]
+mod chains;
+#[cfg(test)]
 mod lines;
 #[cfg(test)]
 mod one_span;

@@ -62,21 +62,30 @@ static CASES: [Case; 13] = [
 /// The operators that give children, descendants, parents, ancestors and siblings.
 const SIGNS: [&str; 5] = [">", ">>", "<", "<<", "~"];
 
-/// The line of a trace. The marked spans are named `m` and the others `n`.
+/// Adds a span to others, which stand between commas. It is named `m` where it is marked, and `n` else.
+fn add_span(spans: &mut String, id: u64, parent: u64, mark: u8) -> Result<(), AllocError> {
+    let name = if mark == b'1' { "m" } else { "n" };
+    spans.push_str(if id == 1 { "" } else { "," })?;
+    write!(
+        spans,
+        r#"{{"traceId":"000000000000000000000000000000a1","spanId":"{id:016}","parentSpanId":""#
+    )?;
+    if parent > 0 {
+        write!(spans, "{parent:016}")?;
+    }
+    write!(
+        spans,
+        r#"","name":"{name}","startTimeUnixNano":"1","endTimeUnixNano":"2"}}"#
+    )?;
+    Ok(())
+}
+
+/// The line of a trace.
 fn line_of(alloc: Global, parents: &[u64], marked: &str) -> Result<String, AllocError> {
     let mut spans = String::new(alloc);
     let mut id = 1u64;
     for (parent, mark) in parents.iter().zip(marked.as_bytes()) {
-        let name = if *mark == b'1' { "m" } else { "n" };
-        let parent = match *parent {
-            0 => String::new(alloc),
-            parent => format!(in alloc; "{parent:016}")?,
-        };
-        spans.push_str(if id == 1 { "" } else { "," })?;
-        write!(
-            spans,
-            r#"{{"traceId":"000000000000000000000000000000a1","spanId":"{id:016}","parentSpanId":"{parent}","name":"{name}","startTimeUnixNano":"1","endTimeUnixNano":"2"}}"#
-        )?;
+        add_span(&mut spans, id, *parent, *mark)?;
         id = id.saturating_add(1);
     }
     format!(in alloc; r#"{{"resourceSpans":[{{"scopeSpans":[{{"spans":[{spans}]}}]}}]}}"#)

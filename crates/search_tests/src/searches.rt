@@ -153,6 +153,9 @@ fn told(
     Ok(told)
 }
 
+/// A search's text, its range and its bounds, and what it shows.
+type Case = (&'static str, Range, Bounds, &'static str);
+
 /// All moments.
 const ALWAYS: Range = Range {
     from: 0,
@@ -165,31 +168,115 @@ const ALL: Bounds = Bounds {
     spans_per_set: 20,
 };
 
+/// Two traces.
+const TWO: Bounds = Bounds {
+    limit: 2,
+    spans_per_set: 20,
+};
+
+/// One trace.
+const ONE: Bounds = Bounds {
+    limit: 1,
+    spans_per_set: 20,
+};
+
+/// No trace.
+const NOTHING: Bounds = Bounds {
+    limit: 0,
+    spans_per_set: 20,
+};
+
 /// One span of each spanset.
 const ONE_SPAN: Bounds = Bounds {
     limit: 20,
     spans_per_set: 1,
 };
 
-// At most so many traces.
-fn at_most(limit: u32) -> Bounds {
-    Bounds {
-        limit,
-        spans_per_set: 20,
-    }
+/// Searches over three traces, the last of which starts last.
+static RANKED: [Case; 4] = [
+    ("{ name =~ \"a|e|z\" }", ALWAYS, ALL, "z ; a ; e"),
+    ("{ name =~ \"a|e|z\" }", ALWAYS, TWO, "z ; a"),
+    // A trace of which nothing is left counts for nothing.
+    ("{ name = \"e\" }", ALWAYS, ONE, "e"),
+    ("{ }", ALWAYS, NOTHING, "none"),
+];
+
+/// Searches over two traces.
+static BOUNDED: [Case; 6] = [
+    ("{ name =~ \"a|e|g\" }", ALWAYS, ALL, "a ; e g"),
+    ("{ name =~ \"a|e|g\" }", ALWAYS, ONE, "a"),
+    ("{ name =~ \"a|e|g\" }", ALWAYS, ONE_SPAN, "a ; e .."),
+    (
+        "{ } | by(.w)",
+        Range {
+            from: 9,
+            until: Some(10),
+        },
+        ONE_SPAN,
+        "\"x\": e .. | \"y\": g ..",
+    ),
+    (
+        "{ name = \"h\" }",
+        Range {
+            from: 2,
+            until: Some(9),
+        },
+        ALL,
+        "none",
+    ),
+    (
+        "{ }",
+        Range {
+            from: 2,
+            until: Some(3),
+        },
+        ALL,
+        "none",
+    ),
+];
+
+/// Compares what a search shows with what is expected of it.
+fn check_case(rt: &(impl Abort + AllocGlobal), rows: &Rows, case: &Case) -> Result<(), Fail>
+    requires { (all : List Row) × IsFirstOf all rows.now }
+{
+    let (text, range, bounds, wanted) = case;
+    let got = told(rt.alloc(), text, *range, *bounds, rows)?;
+    assert!(rt; got.as_str() == *wanted, "{text} gives {got}");
+    Ok(())
 }
 
+/// Compares what each search over the traces of lines shows with what is expected of it.
+fn check_cases(
+    rt: &(impl Abort + AllocGlobal),
+    lines: &[&str],
+    cases: &[Case],
+) -> Result<(), Fail> {
+    let rows = rows(rt.alloc(), lines)?;
+    for case in cases {
+        check_case(rt, &rows, case)?;
+    }
+    Ok(())
+}
+
+/// Compares what a row's search over all spans shows with what the row says.
+fn check_row(rt: &(impl Abort + AllocGlobal), rows: &Rows, row: &str) -> Result<(), Fail>
+    requires { (all : List Row) × IsFirstOf all rows.now }
+{
+    let Some((text, wanted)) = row.split_once(" => ") else {
+        return Err(Fail::new("a row does not split"));
+    };
+    let got = told(rt.alloc(), text, ALWAYS, ALL, rows)?;
+    assert!(rt; got.as_str() == wanted, "{text} gives {got}");
+    Ok(())
+}
+
+/// Compares each row of a table for the trace of a line.
 fn check_rows(rt: &(impl Abort + AllocGlobal), line: &str, table: &str) -> Result<(), Fail> {
     let rows = rows(rt.alloc(), &[line])?;
     for row in table.lines() {
-        if row.is_empty() {
-            continue;
+        if !row.is_empty() {
+            check_row(rt, &rows, row)?;
         }
-        let Some((text, wanted)) = row.split_once(" => ") else {
-            return Err(Fail::new("a row does not split"));
-        };
-        let got = told(rt.alloc(), text, ALWAYS, ALL, &rows)?;
-        assert!(rt; got.as_str() == wanted, "{text} gives {got}");
     }
     Ok(())
 }
@@ -210,43 +297,10 @@ const LATE: &str =
 
 #[test]
 fn traces_are_ranked_before_they_are_cut(rt: HostRuntime) -> Result<(), Fail> {
-    let alloc = rt.alloc();
-    let rows = rows(alloc, &[SHOP, KIN, LATE])?;
-    let all = told(alloc, "{ name =~ \"a|e|z\" }", ALWAYS, ALL, &rows)?;
-    assert!(rt; all.as_str() == "z ; a ; e");
-    let two = told(alloc, "{ name =~ \"a|e|z\" }", ALWAYS, at_most(2), &rows)?;
-    assert!(rt; two.as_str() == "z ; a");
-    // A trace of which nothing is left counts for nothing.
-    let one = told(alloc, "{ name = \"e\" }", ALWAYS, at_most(1), &rows)?;
-    assert!(rt; one.as_str() == "e");
-    let none = told(alloc, "{ }", ALWAYS, at_most(0), &rows)?;
-    assert!(rt; none.as_str() == "none");
-    Ok(())
-}
-
-// A range of moments below an end.
-fn between(from: u64, until: u64) -> Range {
-    Range {
-        from,
-        until: Some(until),
-    }
+    check_cases(&rt, &[SHOP, KIN, LATE], &RANKED)
 }
 
 #[test]
 fn ranges_and_limits(rt: HostRuntime) -> Result<(), Fail> {
-    let alloc = rt.alloc();
-    let rows = rows(alloc, &[SHOP, KIN])?;
-    let all = told(alloc, "{ name =~ \"a|e|g\" }", ALWAYS, ALL, &rows)?;
-    assert!(rt; all.as_str() == "a ; e g");
-    let first = told(alloc, "{ name =~ \"a|e|g\" }", ALWAYS, at_most(1), &rows)?;
-    assert!(rt; first.as_str() == "a");
-    let shown = told(alloc, "{ name =~ \"a|e|g\" }", ALWAYS, ONE_SPAN, &rows)?;
-    assert!(rt; shown.as_str() == "a ; e ..");
-    let later = told(alloc, "{ } | by(.w)", between(9, 10), ONE_SPAN, &rows)?;
-    assert!(rt; later.as_str() == "\"x\": e .. | \"y\": g ..");
-    let before = told(alloc, "{ name = \"h\" }", between(2, 9), ALL, &rows)?;
-    assert!(rt; before.as_str() == "none");
-    let ends = told(alloc, "{ }", between(2, 3), ALL, &rows)?;
-    assert!(rt; ends.as_str() == "none");
-    Ok(())
+    check_cases(&rt, &[SHOP, KIN], &BOUNDED)
 }

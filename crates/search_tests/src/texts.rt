@@ -14,51 +14,69 @@ fn text(alloc: Global, text: &str) -> Result<Text, AllocError> {
 
 /// A value of each kind.
 fn all_values(alloc: Global, half: Ratio) -> Result<Values, AllocError> {
-    let mut list = Vec::new(alloc);
-    list.push(Value::Nil)?;
-    list.push(Value::Truth(true))?;
-    list.push(Value::Number(Ratio::whole(-7)))?;
-    list.push(Value::Number(half))?;
-    list.push(Value::Text(text(alloc, "a\"b")?))?;
-    list.push(Value::Status(StatusCode::Unset))?;
-    list.push(Value::Status(StatusCode::Fine))?;
-    list.push(Value::Status(StatusCode::Error))?;
-    list.push(Value::Kind(SpanKind::Unspecified))?;
-    list.push(Value::Kind(SpanKind::Internal))?;
-    list.push(Value::Kind(SpanKind::Server))?;
-    list.push(Value::Kind(SpanKind::Client))?;
-    list.push(Value::Kind(SpanKind::Producer))?;
-    list.push(Value::Kind(SpanKind::Consumer))?;
-    Ok(Values::of(list))
+    let text = text(alloc, "a\"b")?;
+    let values = vec![in alloc;
+        Value::Nil,
+        Value::Truth(true),
+        Value::Number(Ratio::whole(-7)),
+        Value::Number(half),
+        Value::Text(text),
+        Value::Status(StatusCode::Unset),
+        Value::Status(StatusCode::Fine),
+        Value::Status(StatusCode::Error),
+        Value::Kind(SpanKind::Unspecified),
+        Value::Kind(SpanKind::Internal),
+        Value::Kind(SpanKind::Server),
+        Value::Kind(SpanKind::Client),
+        Value::Kind(SpanKind::Producer),
+        Value::Kind(SpanKind::Consumer),
+    ]?;
+    Ok(Values::of(values))
 }
 
-/// Two fields and a spanset of three spans, of which one is shown.
-fn one_trace(alloc: Global, by: Values) -> Result<TraceResult, AllocError> {
-    let mut fields = Vec::new(alloc);
-    fields.push(Value::Truth(false))?;
-    fields.push(Value::Number(Ratio::whole(0)))?;
-    let mut hits = Vec::new(alloc);
-    hits.push(Hit {
+/// A span with two fields.
+fn one_hit(alloc: Global) -> Result<Hit, AllocError> {
+    let name = text(alloc, "get")?;
+    let fields = vec![in alloc; Value::Truth(false), Value::Number(Ratio::whole(0))]?;
+    Ok(Hit {
         id: SpanId([0, 0, 0, 0, 0, 0, 0, 0xb1]),
-        name: text(alloc, "get")?,
+        name,
         start: 18_446_744_073_709_551_615,
         duration: 0,
         fields: Values::of(fields),
-    })?;
-    let mut sets = Vec::new(alloc);
-    sets.push(SetResult {
+    })
+}
+
+/// A spanset of three spans, of which one is shown.
+fn one_set(alloc: Global, half: Ratio) -> Result<SetResult, AllocError> {
+    let by = all_values(alloc, half)?;
+    let spans = vec![in alloc; one_hit(alloc)?]?;
+    Ok(SetResult {
         by,
         matched: 3,
-        spans: Hits::of(hits),
-    })?;
+        spans: Hits::of(spans),
+    })
+}
+
+/// A trace with this spanset.
+fn one_trace(alloc: Global, half: Ratio) -> Result<TraceResult, AllocError> {
+    let root = text(alloc, "root")?;
+    let sets = vec![in alloc; one_set(alloc, half)?]?;
     Ok(TraceResult {
         trace: TraceId([0, 0, 0, 0, 0, 0, 0, 0, 0, 0, 0, 0, 0, 0, 0, 0xa1]),
-        root_name: Value::Text(text(alloc, "root")?),
+        root_name: Value::Text(root),
         root_service: Value::Nil,
         start: 1,
         duration: 2,
         sets: Sets::of(sets),
     })
+}
+
+/// The two fields of its spans.
+fn two_fields(alloc: Global) -> Result<Texts, AllocError> {
+    let first = text(alloc, ".x")?;
+    let second = text(alloc, "duration")?;
+    Ok(Texts::of(vec![in alloc; first, second]?))
 }
 
 const WRITTEN: &str =
@@ -70,19 +88,19 @@ fn results_are_written(rt: HostRuntime) -> Result<(), Fail> {
     let half = Ratio::whole(-1)
         .div(Ratio::whole(2))
         .expect(&rt, "minus a half");
-    let mut traces = Vec::new(alloc);
-    traces.push(one_trace(alloc, all_values(alloc, half)?)?)?;
-    let mut fields = Vec::new(alloc);
-    fields.push(text(alloc, ".x")?)?;
-    fields.push(text(alloc, "duration")?)?;
-    let written = write_results(alloc, &Texts::of(fields), &Results::of(traces))?;
+    let traces = vec![in alloc; one_trace(alloc, half)?]?;
+    let fields = two_fields(alloc)?;
+    let written = write_results(alloc, &fields, &Results::of(traces))?;
     assert_eq!(rt; written.as_str(), WRITTEN);
-    let none = write_results(
-        alloc,
-        &Texts::of(Vec::new(alloc)),
-        &Results::of(Vec::new(alloc)),
-    )?;
-    assert_eq!(rt; none.as_str(), "{\"traces\":[]}");
+    Ok(())
+}
+
+#[test]
+fn no_result_is_written(rt: HostRuntime) -> Result<(), Fail> {
+    let alloc = rt.alloc();
+    let fields = Texts::of(Vec::new(alloc));
+    let written = write_results(alloc, &fields, &Results::of(Vec::new(alloc)))?;
+    assert_eq!(rt; written.as_str(), "{\"traces\":[]}");
     Ok(())
 }
 

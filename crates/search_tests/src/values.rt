@@ -1,7 +1,7 @@
 //! Expressions over a small trace, worked out by hand.
 
 use crate::lines::{query_of, rows_of};
-use span_types::{Rows, SpanKind, StatusCode, Text, TryCopy};
+use span_types::{Memory, Rows, SpanKind, StatusCode, Text, TryCopy};
 use std::alloc::{AllocError, Global};
 use std::process::Abort;
 use std::test::Fail;
@@ -297,17 +297,43 @@ fn matchers_go_on(rt: HostRuntime) -> Result<(), Fail> {
     let [Stage::By(operand)] = checked.query.stages.as_slice() else {
         return Err(Fail::new("the query has another stage"));
     };
-    let Ok(matchers) = Matchers::of(alloc, &checked) else {
+    let Ok(mut matchers) = Matchers::of(alloc, &checked) else {
         return Err(Fail::new("no memory"));
     };
     let mut so = Vec::new(alloc);
-    let matchers = add_truths(alloc, matchers, &operand.expr, LINE, &mut so)?;
-    let matchers = add_truths(alloc, matchers, &operand.expr, LONG, &mut so)?;
-    add_truths(alloc, matchers, &operand.expr, LINE, &mut so)?;
+    for line in [LINE, LONG, LINE] {
+        matchers = add_truths(alloc, matchers, &operand.expr, line, &mut so)?;
+    }
     let wanted = [
         false, false, false, false, true, true, false, false, false, false, true,
     ];
     assert!(rt; so.as_slice() == wanted.as_slice());
+    Ok(())
+}
+
+/// Adds a value to a text.
+fn add_value(alloc: Global, value: Result<Value, Memory>, told: &mut String) -> Result<(), Fail> {
+    let Ok(value) = value else {
+        return Err(Fail::new("no memory"));
+    };
+    told.push_str(shown(alloc, &value)?.as_str())?;
+    Ok(())
+}
+
+/// Adds what an expression is for each span of a context's trace, and `!` where it is true as a condition.
+fn add_values(
+    alloc: Global,
+    context: &mut EvalContext<'_, '_>,
+    expr: &FieldExpr,
+    told: &mut String,
+) -> Result<(), Fail> {
+    for row in context.rows() {
+        add_value(alloc, context.value(expr, &row.span), told)?;
+        let Ok(truth) = context.is_so(expr, &row.span) else {
+            return Err(Fail::new("no memory"));
+        };
+        told.push_str(if truth { "!" } else { " " })?;
+    }
     Ok(())
 }
 
@@ -323,60 +349,63 @@ fn context_of_a_trace(rt: HostRuntime) -> Result<(), Fail> {
         return Err(Fail::new("no memory"));
     };
     let mut context = EvalContext::of(alloc, matchers, trace.as_slice());
-    assert_eq!(rt; context.start(), 50);
-    assert_eq!(rt; context.nanos(), 350);
-    let mut so = Vec::new(alloc);
-    let mut names = String::new(alloc);
-    for row in trace.as_slice() {
-        let Ok(truth) = context.is_so(&operand.expr, &row.span) else {
-            return Err(Fail::new("no memory"));
-        };
-        so.push(truth)?;
-        let Ok(value) = context.value(&operand.expr, &row.span) else {
-            return Err(Fail::new("no memory"));
-        };
-        names.push_str(shown(alloc, &value)?.as_str())?;
-    }
-    assert!(rt; so.as_slice() == [false, false, false, false, true].as_slice());
-    assert!(rt; names.as_str() == "nilnilnilniltrue");
+    let mut told = String::new(alloc);
+    add_values(alloc, &mut context, &operand.expr, &mut told)?;
+    assert!(rt; told.as_str() == "nil nil nil nil true!");
+    assert!(rt; context.start() == 50 && context.nanos() == 350);
+    Ok(())
+}
+
+/// What the root of a context's trace is called, and its service, and the name of each span.
+fn names(alloc: Global, context: &EvalContext<'_, '_>) -> Result<String, Fail> {
+    let mut told = String::new(alloc);
+    add_value(alloc, context.root_name(), &mut told)?;
+    add_value(alloc, context.root_service(), &mut told)?;
     let name = Field::Intrinsic(Intrinsic::Name);
-    for value in [
-        context.root_name(),
-        context.root_service(),
-        context.field(&name, &trace.as_slice()[0].span),
-    ] {
-        let Ok(value) = value else {
-            return Err(Fail::new("no memory"));
-        };
-        names.push_str(shown(alloc, &value)?.as_str())?;
+    for row in context.rows() {
+        add_value(alloc, context.field(&name, &row.span), &mut told)?;
     }
-    assert!(rt; names.as_str() == "nilnilnilniltrue\"second\"\"shop\"\"later\"");
+    Ok(told)
+}
+
+#[test]
+fn names_in_a_context(rt: HostRuntime) -> Result<(), Fail> {
+    let alloc = rt.alloc();
+    let trace = rows_of(alloc, &[LINE])?;
+    let checked = query_of(alloc, "{ }")?;
+    let Ok(matchers) = Matchers::of(alloc, &checked) else {
+        return Err(Fail::new("no memory"));
+    };
+    let context = EvalContext::of(alloc, matchers, trace.as_slice());
+    let told = names(alloc, &context)?;
+    assert!(rt; told.as_str() == "\"second\"\"shop\"\"later\"\"first\"\"second\"\"orphan\"\"pay\"");
     Ok(())
 }
 
 /// A value of each kind and more, in order.
-fn in_order(alloc: Global) -> Result<Values, Fail> {
-    let mut values = Vec::new(alloc);
-    values.push(Value::Nil)?;
-    values.push(Value::Truth(false))?;
-    values.push(Value::Truth(true))?;
-    values.push(Value::Number(Ratio::whole(-1)))?;
-    if let Some(half) = Ratio::whole(1).div(Ratio::whole(2)) {
-        values.push(Value::Number(half))?;
-    }
-    values.push(Value::Number(Ratio::whole(1)))?;
-    values.push(Value::Text(Text::of(String::new(alloc))))?;
-    values.push(Value::Text(Text::of(String::from_str(alloc, "a")?)))?;
-    values.push(Value::Status(StatusCode::Unset))?;
-    values.push(Value::Status(StatusCode::Error))?;
-    values.push(Value::Kind(SpanKind::Unspecified))?;
-    values.push(Value::Kind(SpanKind::Consumer))?;
+fn in_order(alloc: Global, half: Ratio) -> Result<Values, AllocError> {
+    let a = Text::of(String::from_str(alloc, "a")?);
+    let values = vec![in alloc;
+        Value::Nil,
+        Value::Truth(false),
+        Value::Truth(true),
+        Value::Number(Ratio::whole(-1)),
+        Value::Number(half),
+        Value::Number(Ratio::whole(1)),
+        Value::Text(Text::of(String::new(alloc))),
+        Value::Text(a),
+        Value::Status(StatusCode::Unset),
+        Value::Status(StatusCode::Error),
+        Value::Kind(SpanKind::Unspecified),
+        Value::Kind(SpanKind::Consumer),
+    ]?;
     Ok(Values::of(values))
 }
 
 #[test]
 fn values_stand_in_order(rt: HostRuntime) -> Result<(), Fail> {
-    let values = in_order(rt.alloc())?;
+    let half = Ratio::whole(1).div(Ratio::whole(2)).expect(&rt, "a half");
+    let values = in_order(rt.alloc(), half)?;
     let Ok(copies) = values.copy() else {
         return Err(Fail::new("no memory"));
     };
