@@ -2,3 +2,4 @@ pub mod Rows
 pub mod Parts
 pub mod Whole
 pub mod Going
+pub mod Index

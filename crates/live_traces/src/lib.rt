@@ -5,6 +5,7 @@
 
 mod chunk;
 mod cut;
+mod index;
 mod live;
 mod run;
 mod runs;
