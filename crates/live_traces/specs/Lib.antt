@@ -1,5 +1,5 @@
 pub mod Rows
 pub mod Parts
+pub mod Index
 pub mod Whole
 pub mod Going
-pub mod Index

@@ -108,7 +108,12 @@ fn renew(last: &mut HashMap<TraceId, usize>, trace: TraceId, upto: usize) -> usi
 }
 
 // The spots of a trace, the last one first.
-fn spots_back(alloc: Global, links: &[Link], trace: TraceId, last: usize) -> Result<Vec<Spot>, Memory>
+fn spots_back(
+    alloc: Global,
+    links: &[Link],
+    trace: TraceId,
+    last: usize,
+) -> Result<Vec<Spot>, Memory>
     requires chained { AreChained links.now }
     requires last { IsLastOf links.now trace (length links.now) last }
     ensures { IfOk result (λ spots. reverse spots.items ≡ spots_of trace (linked links.now)) }

@@ -7,6 +7,7 @@ mod chunk;
 mod cut;
 mod index;
 mod live;
+mod lookup;
 mod run;
 mod runs;
 
