@@ -1,5 +1,5 @@
 -- Links by trace: each names the one before it of its trace.
-use Rattle.std.proofs.Common.{◌≡◌, ◌⊎◌, inl, inr, ℕ, ◌+◌, ◌<◌, ◌≤◌, Bool, true, false, List, [], ◌∷◌, ◌++◌, refl, sym, ◌∙◌, ap, subst, arith, append_assoc, length, map, filter, take, reverse, if◌then◌else◌, slice_index_or, length-append}
+use Rattle.std.proofs.Common.{◌≡◌, ◌⊎◌, inl, inr, ℕ, zero, suc, ◌+◌, ◌-◌, ◌<◌, ◌≤◌, Bool, true, false, List, [], ◌∷◌, ◌++◌, refl, sym, ◌∙◌, ap, subst, arith, append_assoc, length, map, filter, take, reverse, if◌then◌else◌, slice_index_or, length-append}
 use Rattle.std.proofs.lemmas.Bool.{cases_lt}
 use Rattle.std.proofs.lemmas.Bool.Decides.{Decides-eqb}
 use Rattle.std.proofs.lemmas.Cmp.{nat_list_cmp_total}
@@ -140,11 +140,11 @@ is_index_none last none = record {
 }
 
 -- one link further back
-pub link_before : (links : List Link) (trace : TraceId) (at : ℕ) (l : Link) → AreChained links → at < length links → slice_index_or links at l ≡ l → l.spot.trace ≡ trace →
+link_before : (links : List Link) (trace : TraceId) (at : ℕ) (l : Link) → AreChained links → at < length links → slice_index_or links at l ≡ l → l.spot.trace ≡ trace →
     IsLastOf links trace at l.before
 link_before links trace at l chained b is e = subst (λ t. IsLastOf links t at l.before) e (chained at l b is)
 
-pub step_back : (links : List Link) (trace : TraceId) (upto at : ℕ) (l : Link) (spots all : List Spot) → upto ≡ at + 1 → at < length links → slice_index_or links at l ≡ l →
+step_back : (links : List Link) (trace : TraceId) (upto at : ℕ) (l : Link) (spots all : List Spot) → upto ≡ at + 1 → at < length links → slice_index_or links at l ≡ l →
     l.spot.trace ≡ trace → IsLastOf links trace at l.before → spots_of trace (linked (take upto links)) ++ reverse spots ≡ all →
     spots_of trace (linked (take l.before links)) ++ reverse (spots ++ l.spot ∷ []) ≡ all
 step_back links trace upto at l spots all u b is e last told =
@@ -154,3 +154,75 @@ step_back links trace upto at l spots all u b is e last told =
     ∙ ap (λ q. q ++ reverse spots) (sym (with_own trace (take at links) l e))
     ∙ ap (λ ls. spots_of trace (linked ls) ++ reverse spots) (sym (take_more_of links at l b is))
     ∙ ap (λ n. spots_of trace (linked (take n links)) ++ reverse spots) (sym u) ∙ told
+
+-- the link at a place, whatever stands where there is none
+abbrev pub link_at : List Link → ℕ → Link
+link_at links at = slice_index_or links at (record { spot = record { trace = record { 0 = [] }; part = 0; at = 0 }; before = 0 })
+
+pub same_item : {X : Type 0} (xs : List X) (i : ℕ) (d e : X) → i < length xs → slice_index_or xs i d ≡ slice_index_or xs i e
+same_item [] i d e l = absurd (omega (arith, l))
+same_item (x ∷ xs) zero d e l = refl
+same_item (x ∷ xs) (suc i) d e l = same_item xs i d e (omega (arith, l))
+
+-- so far back, the spots of a trace from the number on, the last one first
+pub record IsBack (links : List Link) (trace : TraceId) (upto : ℕ) (spots : List Spot) : Type 0 where
+  pub within : upto ≤ length links
+  pub it : (at : ℕ) (l : Link) → upto ≡ at + 1 → at < length links → slice_index_or links at l ≡ l → l.spot.trace ≡ trace
+  pub told : spots_of trace (linked (take upto links)) ++ reverse spots ≡ spots_of trace (linked links)
+
+pub back_begins : (links : List Link) (trace : TraceId) (last : ℕ) (spots : List Spot) → spots ≡ [] → IsLastOf links trace (length links) last → IsBack links trace last spots
+back_begins links trace last spots none h = record {
+  within = h.within;
+  it = h.it;
+  told = ap (λ q. spots_of trace (linked (take last links)) ++ reverse q) none ∙ append-nil (spots_of trace (linked (take last links)))
+      ∙ sym h.others ∙ ap (λ ls. spots_of trace (linked ls)) (take_whole links (length links) refl);
+}
+
+before_at : (links : List Link) (trace : TraceId) (upto : ℕ) (spots : List Spot) → AreChained links → 0 < upto → IsBack links trace upto spots →
+    IsLastOf links trace (upto - 1) (link_at links (upto - 1)).before
+before_at links trace upto spots chained p h =
+    let w : upto ≤ length links = h.within in
+    let b : upto - 1 < length links = omega (arith, p, w) in
+    let is : slice_index_or links (upto - 1) (link_at links (upto - 1)) ≡ link_at links (upto - 1) = same_item links (upto - 1) (link_at links (upto - 1)) _ b in
+    link_before links trace (upto - 1) (link_at links (upto - 1)) chained b is (h.it (upto - 1) (link_at links (upto - 1)) (omega (arith, p)) b is)
+
+pub goes_back : (links : List Link) (trace : TraceId) (upto : ℕ) (spots : List Spot) → AreChained links → 0 < upto → IsBack links trace upto spots → (link_at links (upto - 1)).before < upto
+goes_back links trace upto spots chained p h =
+    let w : (link_at links (upto - 1)).before ≤ upto - 1 = (before_at links trace upto spots chained p h).within in
+    omega (arith, p, w)
+
+pub back_more : (links : List Link) (trace : TraceId) (upto : ℕ) (spots more : List Spot) → AreChained links → 0 < upto → IsBack links trace upto spots →
+    more ≡ spots ++ (link_at links (upto - 1)).spot ∷ [] → IsBack links trace (link_at links (upto - 1)).before more
+back_more links trace upto spots more chained p h e =
+    let link : Link = link_at links (upto - 1) in
+    let before : IsLastOf links trace (upto - 1) link.before = before_at links trace upto spots chained p h in
+    let w : upto ≤ length links = h.within in
+    let v : link.before ≤ upto - 1 = before.within in
+    let b : upto - 1 < length links = omega (arith, p, w) in
+    let is : slice_index_or links (upto - 1) link ≡ link = same_item links (upto - 1) link _ b in
+    let number : upto ≡ upto - 1 + 1 = omega (arith, p) in
+    record {
+      within = omega (arith, w, v);
+      it = before.it;
+      told = ap (λ q. spots_of trace (linked (take link.before links)) ++ reverse q) e
+          ∙ step_back links trace upto (upto - 1) link spots (spots_of trace (linked links)) number b is (h.it (upto - 1) link number b is) before h.told;
+    }
+
+pub back_ends : (links : List Link) (trace : TraceId) (upto : ℕ) (spots : List Spot) → upto ≤ 0 → IsBack links trace upto spots → reverse spots ≡ spots_of trace (linked links)
+back_ends links trace zero spots l h = h.told
+back_ends links trace (suc n) spots l h = absurd (omega (arith, l))
+
+-- the same said of other names
+pub is_index_same : (xs ys : List Link) (last next : TraceId → ℕ) → ys ≡ xs → ((q : TraceId) → next q ≡ last q) → IsIndex xs last → IsIndex ys next
+is_index_same xs ys last next e renewed h =
+    subst (λ ls. IsIndex ls next) (sym e)
+    (record { chained = h.chained; known = λ q. subst (IsLastOf xs q (length xs)) (sym (renewed q)) (h.known q) })
+
+pub is_index_pushed : (xs ys : List Link) (x : Link) (upto : ℕ) (last next : TraceId → ℕ) → IsIndex xs last → ys ≡ xs ++ x ∷ [] → upto ≡ length xs + 1 → x.before ≡ last x.spot.trace →
+    ((q : TraceId) → next q ≡ (if trace_eq x.spot.trace q then upto else last q)) → IsIndex ys next
+is_index_pushed xs ys x upto last next h e u before renewed =
+    subst (λ ls. IsIndex ls next) (sym e)
+    (is_index_more xs x last next h before (λ q. renewed q ∙ ap (λ n. if trace_eq x.spot.trace q then n else last q) u))
+
+pub is_last_at : (xs ys : List Link) (trace : TraceId) (m n : ℕ) → ys ≡ xs → n ≡ m → IsLastOf xs trace (length xs) m → IsLastOf ys trace (length ys) n
+is_last_at xs ys trace m n e u h = subst (λ ls. IsLastOf ls trace (length ls) n) (sym e) (subst (IsLastOf xs trace (length xs)) (sym u) h)

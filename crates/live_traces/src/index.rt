@@ -82,13 +82,20 @@ impl TraceIndex {
     pub(crate) fn spots_of(&self, alloc: Global, trace: TraceId) -> Result<Vec<Spot>, Memory>
         ensures { IfOk result (λ spots. spots.items ≡ spots_of trace self.now.spots) }
     {
-        let last = match self.last.get(&trace) {
-            Some(last) => *last,
-            None => 0,
-        };
+        let last = last_of(&self.last, &trace);
         let mut spots = spots_back(alloc, self.links.as_slice(), trace, last)?;
         spots.reverse();
         Ok(spots)
+    }
+}
+
+// The number of the last spot of a trace, counted from 1: 0 where there is none.
+fn last_of(last: &HashMap<TraceId, usize>, trace: &TraceId) -> usize
+    ensures { result ≡ unwrap_or (get trace_eq last.now trace.now) 0 }
+{
+    match last.get(trace) {
+        Some(last) => *last,
+        None => 0,
     }
 }
 
@@ -121,7 +128,8 @@ fn spots_back(
     let mut spots = Vec::new(alloc);
     let mut upto = last;
     while upto > 0 {
-        let link = links[upto - 1];
+        let at = upto - 1;
+        let link = links[at];
         spots.push(link.spot)?;
         upto = link.before;
     }

@@ -1,6 +1,6 @@
 //! Live rows by trace: an index of where they stand among entries and arrivals.
 
-ghost use Rattle.std.specs.Prelude.{◌≡◌, ◌≤◌, ◌++◌, ◌∷◌, [], List, Some, IsSome, length, IfOk, OnOk};
+ghost use Rattle.std.specs.Prelude.{◌≡◌, ◌<◌, ◌≤◌, ◌++◌, ◌∷◌, [], List, Some, IsSome, length, slice_get, IfOk, OnOk};
 ghost use Rattle.span_types.specs.declared.spans.Row.{Row};
 ghost use Rattle.rows_by_trace.specs.Traces.{rows_of_trace};
 ghost use Rattle.live_traces.specs.Rows.{chunk_rows, run_rows};
@@ -37,7 +37,8 @@ fn note_run(index: &mut TraceIndex, rows: &[SharedRow], part: usize) -> Result<(
 {
     index.reserve(rows.len())?;
     for at in 0..rows.len() {
-        let trace = rows[at].trace();
+        let row = &rows[at];
+        let trace = row.trace();
         index.push(Spot { trace, part, at });
     }
     Ok(())
@@ -49,7 +50,8 @@ pub(crate) fn index_of(alloc: Global, entries: &[Entry]) -> Result<TraceIndex, M
 {
     let mut index = TraceIndex::new(alloc);
     for part in 0..entries.len() {
-        note_run(&mut index, entries[part].run.as_slice(), part)?;
+        let entry = &entries[part];
+        note_run(&mut index, entry.run.as_slice(), part)?;
     }
     Ok(index)
 }
@@ -80,9 +82,29 @@ fn copy_at(entries: &[Entry], arrivals: &[Arrival], spot: Spot) -> Result<Row, M
     ensures { IfOk result (λ row. row_at (parts_of entries.now arrivals.now) spot.part spot.at ≡ Some row) }
 {
     if spot.part < entries.len() {
-        let rows = entries[spot.part].run.as_slice();
-        return Ok(rows[spot.at].copy_row()?);
+        let entry = &entries[spot.part];
+        return copy_of(entry.run.as_slice(), spot.at);
     }
-    let chunk = &arrivals[spot.part - entries.len()].chunk;
-    Ok(chunk.copy_row(spot.at as u32)?)
+    let arrival = &arrivals[spot.part - entries.len()];
+    copy_pushed(&arrival.chunk, spot.at)
+}
+
+// A copy of the row at a position of a run.
+fn copy_of(rows: &[SharedRow], at: usize) -> Result<Row, Memory>
+    requires { at < length rows.now }
+    ensures { IfOk result (λ row. slice_get rows.now at ≡ Some row) }
+{
+    let row = &rows[at];
+    let copy = row.copy_row()?;
+    Ok(copy)
+}
+
+// A copy of the row at a position of a push.
+fn copy_pushed(chunk: &Chunk, at: usize) -> Result<Row, Memory>
+    requires { at < length chunk.now.spans }
+    ensures { IfOk result (λ row. slice_get (chunk_rows chunk.now) at ≡ Some row) }
+{
+    prove!(at < chunk.len() as usize);
+    let copy = chunk.copy_row(at as u32)?;
+    Ok(copy)
 }
