@@ -81,12 +81,16 @@ fn copy_at(entries: &[Entry], arrivals: &[Arrival], spot: Spot) -> Result<Row, M
     requires { IsSome (row_at (parts_of entries.now arrivals.now) spot.part spot.at) }
     ensures { IfOk result (λ row. row_at (parts_of entries.now arrivals.now) spot.part spot.at ≡ Some row) }
 {
-    if spot.part < entries.len() {
-        let entry = &entries[spot.part];
-        return copy_of(entry.run.as_slice(), spot.at);
+    let part = spot.part;
+    if part < entries.len() {
+        let entry = &entries[part];
+        let copy = copy_of(entry.run.as_slice(), spot.at)?;
+        return Ok(copy);
     }
-    let arrival = &arrivals[spot.part - entries.len()];
-    copy_pushed(&arrival.chunk, spot.at)
+    let later = part - entries.len();
+    let arrival = &arrivals[later];
+    let copy = copy_pushed(&arrival.chunk, spot.at)?;
+    Ok(copy)
 }
 
 // A copy of the row at a position of a run.
