@@ -156,8 +156,14 @@ step_back links trace upto at l spots all u b is e last told =
     ∙ ap (λ n. spots_of trace (linked (take n links)) ++ reverse spots) (sym u) ∙ told
 
 -- the link at a place, whatever stands where there is none
+abbrev pub no_spot : Spot
+no_spot = record { trace = record { 0 = [] }; part = 0; at = 0 }
+
+abbrev pub no_link : Link
+no_link = record { spot = no_spot; before = 0 }
+
 abbrev pub link_at : List Link → ℕ → Link
-link_at links at = slice_index_or links at (record { spot = record { trace = record { 0 = [] }; part = 0; at = 0 }; before = 0 })
+link_at links at = slice_index_or links at no_link
 
 pub same_item : {X : Type 0} (xs : List X) (i : ℕ) (d e : X) → i < length xs → slice_index_or xs i d ≡ slice_index_or xs i e
 same_item [] i d e l = absurd (omega (arith, l))
@@ -183,7 +189,7 @@ before_at : (links : List Link) (trace : TraceId) (upto : ℕ) (spots : List Spo
 before_at links trace upto spots chained p h =
     let w : upto ≤ length links = h.within in
     let b : upto - 1 < length links = omega (arith, p, w) in
-    let is : slice_index_or links (upto - 1) (link_at links (upto - 1)) ≡ link_at links (upto - 1) = same_item links (upto - 1) (link_at links (upto - 1)) _ b in
+    let is : slice_index_or links (upto - 1) (link_at links (upto - 1)) ≡ link_at links (upto - 1) = same_item links (upto - 1) (link_at links (upto - 1)) no_link b in
     link_before links trace (upto - 1) (link_at links (upto - 1)) chained b is (h.it (upto - 1) (link_at links (upto - 1)) (omega (arith, p)) b is)
 
 pub goes_back : (links : List Link) (trace : TraceId) (upto : ℕ) (spots : List Spot) → AreChained links → 0 < upto → IsBack links trace upto spots → (link_at links (upto - 1)).before < upto
@@ -199,7 +205,7 @@ back_more links trace upto spots more chained p h e =
     let w : upto ≤ length links = h.within in
     let v : link.before ≤ upto - 1 = before.within in
     let b : upto - 1 < length links = omega (arith, p, w) in
-    let is : slice_index_or links (upto - 1) link ≡ link = same_item links (upto - 1) link _ b in
+    let is : slice_index_or links (upto - 1) link ≡ link = same_item links (upto - 1) link no_link b in
     let number : upto ≡ upto - 1 + 1 = omega (arith, p) in
     record {
       within = omega (arith, w, v);

@@ -1,5 +1,5 @@
 -- Where the rows of parts stand.
-use Rattle.std.proofs.Common.{◌≡◌, ℕ, ◌+◌, ◌<◌, ◌≤◌, zero, suc, Bool, true, false, List, [], ◌∷◌, ◌++◌, Option, None, Some, refl, sym, ◌∙◌, ap, subst, arith, append_assoc, length, map, filter, take, drop, length-take, IsSome, if◌then◌else◌, slice_get, slice_index_or}
+use Rattle.std.proofs.Common.{add-one, ◌≡◌, ℕ, ◌+◌, ◌<◌, ◌≤◌, zero, suc, Bool, true, false, List, [], ◌∷◌, ◌++◌, Option, None, Some, refl, sym, ◌∙◌, ap, subst, arith, append_assoc, length, map, filter, take, drop, length-take, IsSome, if◌then◌else◌, slice_get, slice_index_or}
 use Rattle.std.proofs.lemmas.List.{append-nil, map-append}
 use Rattle.std.specs.Ordering.{is_eq}
 use Rattle.span_types.specs.declared.ids.TraceId.{TraceId}
@@ -17,7 +17,7 @@ use Rattle.live_traces.specs.declared.live.Entry.{Entry}
 use Rattle.live_traces.specs.declared.live.Arrival.{Arrival}
 use Rattle.live_traces.proofs.LiveRows.{both_runs, live_rows-append, rows_arrived, run_rows-more, take_more_of}
 use Rattle.live_traces.proofs.ChunkRows.{length_chunk_rows, take_whole}
-use Rattle.live_traces.proofs.Chains.{same_item}
+use Rattle.live_traces.proofs.Chains.{no_spot, same_item}
 use Rattle.live_traces.proofs.TraceRows.{of_trace-append}
 
 -- a part more
@@ -83,11 +83,11 @@ spots_of_rows parts trace (spot ∷ spots) (row ∷ rows) h =
 
 -- the spot at a place, whatever stands where there is none
 abbrev pub spot_at : List Spot → ℕ → Spot
-spot_at spots at = slice_index_or spots at (record { trace = record { 0 = [] }; part = 0; at = 0 })
+spot_at spots at = slice_index_or spots at no_spot
 
 -- the row of a spot, among the rows of all of them
 row_of_spot : (parts : List (List Row)) (spots : List Spot) (rows : List Row) (at : ℕ) (spot : Spot) (row : Row) → AreSpotsOf parts spots rows → at < length spots → slice_index_or spots at spot ≡ spot →
-    row_at parts spot.part spot.at ≡ Some row → take (at + 1) rows ≡ take at rows ++ row ∷ []
+    row_at parts spot.part spot.at ≡ Some row → take (suc at) rows ≡ take at rows ++ row ∷ []
 row_of_spot parts [] rows at spot row h l is here = absurd (omega (arith, l))
 row_of_spot parts (s ∷ ss) [] at spot row h l is here = absurd h
 row_of_spot parts (s ∷ ss) (r ∷ rs) zero spot row h l is here =
@@ -114,7 +114,7 @@ pub spot_has_row : (parts : List (List Row)) (trace : TraceId) (all spots : List
 spot_has_row parts trace all spots at h e l =
     let wanted : List Row = rows_of_trace trace (run_rows parts) in
     let are : AreSpotsOf parts spots wanted = subst (λ q. AreSpotsOf parts q wanted) (sym e) (spots_of_rows parts trace all (run_rows parts) h) in
-    let found : (row : Row) × (row_at parts (spot_at spots at).part (spot_at spots at).at ≡ Some row) = has_row parts spots wanted at (spot_at spots at) are l (same_item spots at (spot_at spots at) _ l) in
+    let found : (row : Row) × (row_at parts (spot_at spots at).part (spot_at spots at).at ≡ Some row) = has_row parts spots wanted at (spot_at spots at) are l (same_item spots at (spot_at spots at) no_spot l) in
     subst (λ (o : Option Row). IsSome o) (sym found.1) tt
 
 pub copied_more : (parts : List (List Row)) (trace : TraceId) (all spots : List Spot) (at : ℕ) (base old new : List Row) (row : Row) → IndexesTraces all parts → spots ≡ spots_of trace all → at < length spots →
@@ -124,7 +124,8 @@ copied_more parts trace all spots at base old new row h e l here n o =
     let wanted : List Row = rows_of_trace trace (run_rows parts) in
     let are : AreSpotsOf parts spots wanted = subst (λ q. AreSpotsOf parts q wanted) (sym e) (spots_of_rows parts trace all (run_rows parts) h) in
     n ∙ ap (λ q. q ++ row ∷ []) o ∙ append_assoc base (take at wanted) (row ∷ [])
-    ∙ ap (λ q. base ++ q) (sym (row_of_spot parts spots wanted at (spot_at spots at) row are l (same_item spots at (spot_at spots at) _ l) here))
+    ∙ ap (λ q. base ++ q) (sym (row_of_spot parts spots wanted at (spot_at spots at) row are l (same_item spots at (spot_at spots at) no_spot l) here))
+    ∙ ap (λ n. base ++ take n wanted) (sym (add-one at))
 
 pub copied_all : (parts : List (List Row)) (trace : TraceId) (all spots : List Spot) (at : ℕ) (base new : List Row) → IndexesTraces all parts → spots ≡ spots_of trace all → at ≡ length spots →
     new ≡ base ++ take at (rows_of_trace trace (run_rows parts)) → new ≡ base ++ rows_of_trace trace (run_rows parts)
@@ -209,7 +210,9 @@ of_first (x ∷ xs) (suc part) at a l is = of_first xs part at a (omega (arith, 
 
 pub of_arrival : (es : List Entry) (xs : List Arrival) (part at k : ℕ) (a : Arrival) → part ≡ length es + k → k < length xs → slice_index_or xs k a ≡ a →
     row_at (parts_of es xs) part at ≡ slice_get (chunk_rows a.chunk) at
-of_arrival [] xs part at k a e l is = ap (λ n. row_at (parts_of [] xs) n at) (omega (arith, e)) ∙ of_first xs k at a l is
+of_arrival [] xs part at k a e l is =
+    let same : part ≡ k = omega (arith, e) in
+    ap (λ n. row_at (parts_of [] xs) n at) same ∙ of_first xs k at a l is
 of_arrival (y ∷ es) xs zero at k a e l is = absurd (omega (arith, e))
 of_arrival (y ∷ es) xs (suc part) at k a e l is = of_arrival es xs part at k a (omega (arith, e)) l is
 
