@@ -82,12 +82,13 @@ fn copy_at(entries: &[Entry], arrivals: &[Arrival], spot: Spot) -> Result<Row, M
     ensures { IfOk result (λ row. row_at (parts_of entries.now arrivals.now) spot.part spot.at ≡ Some row) }
 {
     let part = spot.part;
-    if part < entries.len() {
+    let count = entries.len();
+    if part < count {
         let entry = &entries[part];
         let copy = copy_of(entry.run.as_slice(), spot.at)?;
         return Ok(copy);
     }
-    let later = part - entries.len();
+    let later = part - count;
     let arrival = &arrivals[later];
     let copy = copy_pushed(&arrival.chunk, spot.at)?;
     Ok(copy)
