@@ -11,7 +11,7 @@ use Rattle.store_model.specs.After.{arrived}
 use Rattle.live_traces.specs.Rows.{chunk_rows, run_rows}
 use Rattle.live_traces.specs.Parts.{live_of, arrivals_of}
 use Rattle.live_traces.specs.Index.{AreSpotsOf, IndexesTraces, IsSpotOf, row_at, spots_of}
-use Rattle.live_traces.specs.Whole.{parts_of}
+use Rattle.live_traces.specs.Whole.{AreWhole, parts_of}
 use Rattle.live_traces.specs.declared.index.Spot.{Spot}
 use Rattle.live_traces.specs.declared.live.Entry.{Entry}
 use Rattle.live_traces.specs.declared.live.Arrival.{Arrival}
@@ -243,3 +243,12 @@ in_arrival es xs part at k a some e l is =
     let within : at < length (chunk_rows a.chunk) = some_within (chunk_rows a.chunk) at (subst (λ (o : Option Row). IsSome o) (of_arrival es xs part at k a e l is) some) in
     let size : length (chunk_rows a.chunk) ≡ length a.chunk.spans = length_chunk_rows a.chunk in
     omega (arith, within, size)
+
+-- where there is nothing yet
+pub whole_none : (es : List Entry) (xs : List Arrival) (kept : List (List Row)) (spots : List Spot) → es ≡ [] → xs ≡ [] → kept ≡ [] → spots ≡ [] → AreWhole es xs 0 kept 0 0 0 spots
+whole_none es xs kept spots e x k s =
+    subst (λ q. AreWhole q xs 0 kept 0 0 0 spots) (sym e)
+    (subst (λ q. AreWhole [] q 0 kept 0 0 0 spots) (sym x)
+    (subst (λ q. AreWhole [] [] 0 q 0 0 0 spots) (sym k)
+    (subst (λ q. AreWhole [] [] 0 [] 0 0 0 q) (sym s)
+    (record { within = omega arith; counted = refl; every = refl; taken = refl; fits = omega arith; indexed = tt }))))

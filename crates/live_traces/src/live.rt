@@ -87,12 +87,16 @@ impl Live {
     pub fn new(alloc: Global) -> Live
         ensures { (result.live ≡ []) × (result.head ≡ []) × (result.flushing ≡ []) }
     {
+        let entries = Vec::new(alloc);
+        let arrivals = Vec::new(alloc);
+        let index = TraceIndex::new(alloc);
+        let kept = Vec::new(alloc);
         Live {
-            entries: Vec::new(alloc),
-            arrivals: Vec::new(alloc),
+            entries,
+            arrivals,
             count: 0,
-            index: TraceIndex::new(alloc),
-            kept: Vec::new(alloc),
+            index,
+            kept,
             kept_rows: 0,
             flushing: 0,
             flush_rows: 0,
