@@ -233,11 +233,11 @@ impl Live {
         let alloc = *self.kept.allocator();
         let entries = self.entries.as_slice();
         let (moved, stay) = parts(alloc, entries, self.arrivals.as_slice(), idle)?;
-        let index = index_of(alloc, stay.as_slice())?;
+        let anew = index_of(alloc, stay.as_slice())?;
         let moved = in_order(moved);
         let count = moved.len();
         add_run(alloc, &mut self.kept, moved)?;
-        self.index = index;
+        self.index = anew;
         self.entries = stay;
         self.arrivals.truncate(0);
         self.count -= count;

@@ -1,6 +1,6 @@
 //! Live rows by trace: an index of where they stand among entries and arrivals.
 
-ghost use Rattle.std.specs.Prelude.{◌≡◌, ◌<◌, ◌≤◌, ◌++◌, ◌∷◌, [], List, Some, IsSome, length, slice_get, IfOk, OnOk};
+ghost use Rattle.std.specs.Prelude.{◌≡◌, ◌<◌, ◌≤◌, ◌++◌, ◌∷◌, [], List, IsSome, length, slice_get, IfOk, OnOk};
 ghost use Rattle.span_types.specs.declared.spans.Row.{Row};
 ghost use Rattle.rows_by_trace.specs.Traces.{rows_of_trace};
 ghost use Rattle.live_traces.specs.Rows.{chunk_rows, run_rows};
@@ -70,8 +70,8 @@ pub(crate) fn add_rows_of(
 {
     let spots = index.spots_of(*rows.allocator(), trace)?;
     for spot in &spots {
-        let row = copy_at(entries, arrivals, *spot)?;
-        rows.push(row)?;
+        let found = copy_at(entries, arrivals, *spot)?;
+        rows.push(found)?;
     }
     Ok(())
 }

@@ -13,7 +13,7 @@ copy_at-requires c =
 pub loop-spot-preserved : goal.loop-spot-preserved
 loop-spot-preserved c =
     copied_more (parts_of c.args.entries.now c.args.arrivals.now) c.args.trace c.args.index.now.spots c.in_ok-spots.spots.items c.loop-spot.spot-index c.args.rows.now.items c.loop-spot.rows.items
-    c.push.new.self.items c.in_ok-row.row c.requires c.in_ok-spots.ensures (omega arith) c.in_ok-row.ensures c.in_ok-push.ensures.items c.loop-spot.invariant
+    c.push.new.self.items c.in_ok-found.found c.requires c.in_ok-spots.ensures (omega arith) c.in_ok-found.ensures c.in_ok-push.ensures.items c.loop-spot.invariant
 
 pub returns : goal.returns
 returns c =

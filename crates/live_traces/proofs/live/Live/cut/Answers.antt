@@ -42,5 +42,5 @@ invariant_of-self-2 c =
       every = omega (arith, rows, length-append (run_rows c.self.inside.kept.items) c.in_order-moved.result.items, c.self.invariant.every, c.len-count.ensures);
       taken = c.self.invariant.taken ∙ ap length (sym (c.in_ok-add_run.ensures.first c.self.inside.flushing c.self.invariant.within));
       fits = omega (arith, counts, c.self.invariant.fits);
-      indexed = indexed_at c.in_ok-index.index.spots c.as_slice-2.result.now c.in_ok-moved.stay.items [] c.truncate.new.self.items (sym c.as_slice-2.ensures.value) c.truncate.ensures.items c.in_ok-index.ensures;
+      indexed = indexed_at c.in_ok-anew.anew.spots c.as_slice-2.result.now c.in_ok-moved.stay.items [] c.truncate.new.self.items (sym c.as_slice-2.ensures.value) c.truncate.ensures.items c.in_ok-anew.ensures;
     }
