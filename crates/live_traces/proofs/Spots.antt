@@ -115,7 +115,7 @@ spot_has_row parts trace all spots at h e l =
     let wanted : List Row = rows_of_trace trace (run_rows parts) in
     let are : AreSpotsOf parts spots wanted = subst (λ q. AreSpotsOf parts q wanted) (sym e) (spots_of_rows parts trace all (run_rows parts) h) in
     let found : (row : Row) × (row_at parts (spot_at spots at).part (spot_at spots at).at ≡ Some row) = has_row parts spots wanted at (spot_at spots at) are l (same_item spots at (spot_at spots at) no_spot l) in
-    subst (λ (o : Option Row). IsSome o) (sym found.1) tt
+    subst (λ (o : Option Row). IsSome o) (sym found.1) refl
 
 pub copied_more : (parts : List (List Row)) (trace : TraceId) (all spots : List Spot) (at : ℕ) (base old new : List Row) (row : Row) → IndexesTraces all parts → spots ≡ spots_of trace all → at < length spots →
     row_at parts (spot_at spots at).part (spot_at spots at).at ≡ Some row → new ≡ old ++ row ∷ [] → old ≡ base ++ take at (rows_of_trace trace (run_rows parts)) →
@@ -218,7 +218,7 @@ of_arrival (y ∷ es) xs (suc part) at k a e l is = of_arrival es xs part at k a
 
 -- what stands at a spot whose part is an entry's, or an arrival's
 pub some_within : (rows : List Row) (at : ℕ) → IsSome (slice_get rows at) → at < length rows
-some_within [] at h = absurd h
+some_within [] at h = cc
 some_within (r ∷ rows) zero h = omega arith
 some_within (r ∷ rows) (suc at) h = let more = some_within rows at h in omega (arith, more)
 
@@ -233,7 +233,7 @@ item_got (r ∷ rows) zero row l is = ap (λ (q : Row). Some q) is
 item_got (r ∷ rows) (suc at) row l is = item_got rows at row (omega (arith, l)) is
 
 pub some_part : (parts : List (List Row)) (part at : ℕ) → IsSome (row_at parts part at) → part < length parts
-some_part [] part at h = absurd h
+some_part [] part at h = cc
 some_part (x ∷ parts) zero at h = omega arith
 some_part (x ∷ parts) (suc part) at h = let more = some_part parts part at h in omega (arith, more)
 

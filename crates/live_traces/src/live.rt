@@ -139,8 +139,9 @@ impl Live {
     {
         let chunk = ready.chunk;
         let more = chunk.len() as usize;
-        let part = self.entries.len() + self.arrivals.len();
-        note_push(&mut self.index, &chunk, part);
+        let entries = self.entries.len();
+        let arrivals = self.arrivals.len();
+        note_push(&mut self.index, &chunk, entries + arrivals);
         self.arrivals.push_reserved(Arrival { chunk, moment });
         self.count += more;
     }

@@ -19,8 +19,8 @@ invariant_of-self c =
     ap (λ xs. length (live_of c.self.inside.entries.items ++ arrivals_of xs)) items ∙ counted_all c.self.inside.entries.items c.self.inside.arrivals.items (record { chunk = c.ready.inside.chunk; moment = c.args.moment }) in
     let spans : length c.args.ready.spans ≡ length c.ready.inside.chunk.spans = ap (λ r. length r.spans) (sym c.ready.view_is) in
     let room : c.args.self.now.room ≡ 18446744073709551615 - (c.self.inside.count + c.self.inside.kept_rows) = ap (λ v. v.room) (sym c.self.view_is) in
-    let number : c.len-part.result + c.len-part-2.result ≡ length (parts_of c.self.inside.entries.items c.self.inside.arrivals.items) =
-    omega (arith, length_parts c.self.inside.entries.items c.self.inside.arrivals.items, c.len-part.ensures, c.len-part-2.ensures) in
+    let number : c.len-entries.result + c.len-arrivals.result ≡ length (parts_of c.self.inside.entries.items c.self.inside.arrivals.items) =
+    omega (arith, length_parts c.self.inside.entries.items c.self.inside.arrivals.items, c.len-entries.ensures, c.len-arrivals.ensures) in
     record {
       within = c.self.invariant.within;
       counted = omega (arith, more, c.self.invariant.counted, c.len-more.ensures);
