@@ -252,3 +252,9 @@ whole_none es xs kept spots e x k s =
     (subst (λ q. AreWhole [] [] 0 q 0 0 0 spots) (sym k)
     (subst (λ q. AreWhole [] [] 0 [] 0 0 0 q) (sym s)
     (record { within = omega arith; counted = refl; every = refl; taken = refl; fits = omega arith; indexed = tt }))))
+
+-- the same said of other names
+pub whole_same : (es : List Entry) (xs ys : List Arrival) (count : ℕ) (kept : List (List Row)) (kept_rows flushing flush_rows : ℕ) (spots more : List Spot) → ys ≡ xs → more ≡ spots →
+    AreWhole es xs count kept kept_rows flushing flush_rows spots → AreWhole es ys count kept kept_rows flushing flush_rows more
+whole_same es xs ys count kept kept_rows flushing flush_rows spots more x s h =
+    subst (λ q. AreWhole es q count kept kept_rows flushing flush_rows more) (sym x) (subst (AreWhole es xs count kept kept_rows flushing flush_rows) (sym s) h)
