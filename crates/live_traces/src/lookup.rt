@@ -89,6 +89,7 @@ fn copy_at(entries: &[Entry], arrivals: &[Arrival], spot: Spot) -> Result<Row, M
         return Ok(copy);
     }
     let later = part - count;
+    prove!(later < arrivals.len());
     let arrival = &arrivals[later];
     let copy = copy_pushed(&arrival.chunk, spot.at)?;
     Ok(copy)

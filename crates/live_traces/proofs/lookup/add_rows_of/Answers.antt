@@ -1,4 +1,4 @@
-use Rattle.std.proofs.Common.{append-nil, arith, sym}
+use Rattle.std.proofs.Common.{append-nil, ◌∙◌, arith, sym}
 use Rattle.live_traces.specs.Whole.{parts_of}
 use Rattle.live_traces.proofs.Spots.{copied_all, copied_more, spot_has_row}
 use Rattle.live_traces.proofs.lookup.add_rows_of.Goals as goal
@@ -8,12 +8,12 @@ loop-spot-init c = sym (append-nil c.args.rows.now.items)
 
 pub copy_at-requires : goal.copy_at-requires
 copy_at-requires c =
-    spot_has_row (parts_of c.args.entries.now c.args.arrivals.now) c.args.trace c.args.index.now.spots c.in_ok-spots.spots.items c.loop-spot.spot-index c.requires c.in_ok-spots.ensures (omega arith)
+    spot_has_row (parts_of c.args.entries.now c.args.arrivals.now) c.args.trace c.args.index.now.spots c.deref-spot-items.result.now c.loop-spot.spot-index c.requires (c.deref-spot-items.ensures.value ∙ c.in_ok-spots.ensures) (omega arith)
 
 pub loop-spot-preserved : goal.loop-spot-preserved
 loop-spot-preserved c =
-    copied_more (parts_of c.args.entries.now c.args.arrivals.now) c.args.trace c.args.index.now.spots c.in_ok-spots.spots.items c.loop-spot.spot-index c.args.rows.now.items c.loop-spot.rows.items
-    c.push.new.self.items c.in_ok-found.found c.requires c.in_ok-spots.ensures (omega arith) c.in_ok-found.ensures c.in_ok-push.ensures.items c.loop-spot.invariant
+    copied_more (parts_of c.args.entries.now c.args.arrivals.now) c.args.trace c.args.index.now.spots c.deref-spot-items.result.now c.loop-spot.spot-index c.args.rows.now.items c.loop-spot.rows.items
+    c.push.new.self.items c.in_ok-found.found c.requires (c.deref-spot-items.ensures.value ∙ c.in_ok-spots.ensures) (omega arith) c.in_ok-found.ensures c.in_ok-push.ensures.items c.loop-spot.invariant
 
 pub returns : goal.returns
 returns c =

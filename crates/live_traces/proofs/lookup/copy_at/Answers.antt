@@ -8,8 +8,8 @@ copy_of-requires c =
     in_entry c.args.entries.now c.args.arrivals.now c.args.spot.part c.args.spot.at c.index-entries-part.result c.as_slice.result.now c.requires (omega arith) (sym c.index-entries-part.is)
     c.as_slice.ensures
 
-pub bounds-arrivals-later : goal.bounds-arrivals-later
-bounds-arrivals-later c =
+pub prove-unreachable-requires : goal.prove-unreachable-requires
+prove-unreachable-requires c =
     let part : c.args.spot.part < length (parts_of c.args.entries.now c.args.arrivals.now) = some_part (parts_of c.args.entries.now c.args.arrivals.now) c.args.spot.part c.args.spot.at c.requires in
     omega (arith, part, length_parts c.args.entries.now c.args.arrivals.now)
 

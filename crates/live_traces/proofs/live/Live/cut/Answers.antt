@@ -1,7 +1,7 @@
 use Rattle.std.proofs.Common.{◌≡◌, [], ◌++◌, ◌∙◌, ap, sym, arith, length, length-append, append-nil, drop}
 use Rattle.live_traces.specs.Rows.{run_rows}
 use Rattle.live_traces.specs.Parts.{LiveParts, arrivals_of, goes, live_of}
-use Rattle.live_traces.proofs.Kept.{cut_counts, on_err}
+use Rattle.live_traces.proofs.Kept.{cut_counts, cut_moves, cut_stays, on_err}
 use Rattle.live_traces.proofs.Spots.{indexed_at}
 use Rattle.live_traces.proofs.live.Live.cut.Goals as goal
 
@@ -44,3 +44,15 @@ invariant_of-self-2 c =
       fits = omega (arith, counts, c.self.invariant.fits);
       indexed = indexed_at c.in_ok-anew.anew.spots c.as_slice-2.result.now c.in_ok-moved.stay.items [] c.truncate.new.self.items (sym c.as_slice-2.ensures.value) c.truncate.ensures.items c.in_ok-anew.ensures;
     }
+
+pub returns-clause-moved : goal.returns-clause-moved
+returns-clause-moved c =
+    let live : live_of c.self.inside.entries.items ++ arrivals_of c.self.inside.arrivals.items ≡ c.args.self.now.live = ap (λ (v : LiveParts). v.live) c.self.view_is in (
+      c.in_order-moved.result.items,
+      cut_moves c.args.idle c.args.self.now.live c.self.inside.entries.items c.as_slice-entries.result.now c.self.inside.arrivals.items c.as_slice.result.now c.in_ok-moved.moved.items
+          c.in_order-moved.result.items c.as_slice-entries.ensures.value c.as_slice.ensures.value live c.in_ok-moved.ensures.0 c.in_order-moved.ensures.same c.in_order-moved.ensures.order,
+      c.len-count.ensures,
+      c.in_ok-add_run.ensures.others c.self.inside.flushing c.self.invariant.within ∙ ap (λ (v : LiveParts). v.head ++ c.in_order-moved.result.items) c.self.view_is,
+      cut_stays c.args.idle c.args.self.now.live (live_of c.in_ok-moved.stay.items) c.self.inside.entries.items c.as_slice-entries.result.now c.self.inside.arrivals.items c.as_slice.result.now
+          c.truncate.new.self.items c.as_slice-entries.ensures.value c.as_slice.ensures.value live c.in_ok-moved.ensures.1 c.truncate.ensures.items,
+    )
