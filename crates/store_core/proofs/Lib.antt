@@ -18,3 +18,4 @@ mod LogLaws
 mod OpenedStates
 mod OpeningSteps
 mod OpeningEnds
+mod LeftAlone

@@ -21,6 +21,20 @@ use Rattle.store_core.specs.New.{new_list, new_tail, IsEmptyHistory, IsNewStore}
 use Rattle.store_core.specs.NewCore.{new_machine, IsNewState}
 use Rattle.store_core.proofs.Founding.{rules_new}
 
+-- a history of nothing
+abbrev pub no_history : History
+no_history = record { base = []; start = 0; entries = [] }
+
+pub no_history_is_empty : IsEmptyHistory no_history
+no_history_is_empty = record {
+  no_rows = record {
+    firsts = λ k. refl;
+    one = λ x y hx hy e. absurd (not_in_nil x hx);
+    below = λ x c. absurd (not_in_nil x c);
+  };
+  no_entries = refl;
+}
+
 new_sound : (h : History) → StateIsSound (new_machine h).state
 new_sound h = record {
   files = record {
