@@ -1,4 +1,4 @@
-use Rattle.std.proofs.Common.{◌≡◌, ◌∙◌, ◌+◌, ◌-◌, ◌<◌, ap, arith, length, slice_get, sym}
+use Rattle.std.proofs.Common.{◌∙◌, ◌-◌, ◌<◌, ap, arith, length, slice_get, sym}
 use Rattle.live_traces.specs.Whole.{parts_of}
 use Rattle.live_traces.proofs.Spots.{in_arrival, in_entry, length_parts, of_arrival, of_entry, some_part}
 use Rattle.live_traces.proofs.lookup.copy_at.Goals as goal

@@ -51,7 +51,7 @@ returns-clause-moved c =
       c.in_order-moved.result.items,
       cut_moves c.args.idle c.args.self.now.live c.self.inside.entries.items c.as_slice-entries.result.now c.self.inside.arrivals.items c.as_slice.result.now c.in_ok-moved.moved.items
           c.in_order-moved.result.items c.as_slice-entries.ensures.value c.as_slice.ensures.value live c.in_ok-moved.ensures.0 c.in_order-moved.ensures.same c.in_order-moved.ensures.order,
-      c.len-count.ensures,
+      omega (arith, c.len-count.ensures),
       c.in_ok-add_run.ensures.others c.self.inside.flushing c.self.invariant.within ∙ ap (λ (v : LiveParts). v.head ++ c.in_order-moved.result.items) c.self.view_is,
       cut_stays c.args.idle c.args.self.now.live (live_of c.in_ok-moved.stay.items) c.self.inside.entries.items c.as_slice-entries.result.now c.self.inside.arrivals.items c.as_slice.result.now
           c.truncate.new.self.items c.as_slice-entries.ensures.value c.as_slice.ensures.value live c.in_ok-moved.ensures.1 c.truncate.ensures.items,
