@@ -1,9 +1,12 @@
 -- Runs that are kept, and what moves between the parts.
-use Rattle.std.proofs.Common.{◌≡◌, ℕ, ◌+◌, ◌-◌, min, List, [], ◌++◌, Bool, filter, not, OnErr, Result, Ok, Err, sym, ◌∙◌, ap, arith, length, take, drop, length-take, length-drop, take-append-drop}
+use Rattle.std.proofs.Common.{◌≡◌, ℕ, ◌+◌, ◌-◌, min, List, [], ◌++◌, append-nil, Bool, filter, not, Option, OnErr, Result, Ok, Err, subst, sym, ◌∙◌, ap, arith, length, take, drop, length-take, length-drop, take-append-drop}
+use Rattle.std.specs.List.Sorted.{IsPermutation, IsSortedBy}
+use Rattle.std.specs.Ordering.{is_lt}
 use Rattle.span_types.specs.declared.spans.Row.{Row}
 use Rattle.store_model.specs.State.{LiveRow, live_rows}
+use Rattle.store_model.specs.Cut.{cut_order, AreMoved}
 use Rattle.live_traces.specs.Rows.{run_rows}
-use Rattle.live_traces.specs.Parts.{live_of, arrivals_of}
+use Rattle.live_traces.specs.Parts.{live_of, arrivals_of, goes}
 use Rattle.live_traces.specs.declared.live.Entry.{Entry}
 use Rattle.live_traces.specs.declared.live.Arrival.{Arrival}
 use Rattle.live_traces.proofs.LiveRows.{both_runs, length_live_rows, run_rows-append}
@@ -54,6 +57,23 @@ cut_counts p es es' xs xs' stay moved count size e x m s c n =
     let same : length (live_of es' ++ arrivals_of xs') ≡ length (live_of es ++ arrivals_of xs) =
     ap (λ ys. length (live_of ys ++ arrivals_of xs')) e ∙ ap (λ ys. length (live_of es ++ arrivals_of ys)) x in
     omega (arith, all, same, c, n)
+
+-- what a cut moves and what it leaves, said of the live rows as a caller sees them
+live_again : (es es' : List Entry) (xs xs' : List Arrival) (live : List LiveRow) → es' ≡ es → xs' ≡ xs → live_of es ++ arrivals_of xs ≡ live → live_of es' ++ arrivals_of xs' ≡ live
+live_again es es' xs xs' live e x l = ap (λ ys. live_of ys ++ arrivals_of xs') e ∙ ap (λ ys. live_of es ++ arrivals_of ys) x ∙ l
+
+pub cut_moves : (idle : Option ℕ) (live : List LiveRow) (es es' : List Entry) (xs xs' : List Arrival) (rows moved : List Row) → es' ≡ es → xs' ≡ xs → live_of es ++ arrivals_of xs ≡ live →
+    rows ≡ live_rows (filter (goes idle (live_of es' ++ arrivals_of xs')) (live_of es' ++ arrivals_of xs')) → IsPermutation rows moved → IsSortedBy (λ a b. is_lt (cut_order a b)) moved →
+    AreMoved (goes idle live) live moved
+cut_moves idle live es es' xs xs' rows moved e x l r p o = record {
+  rows = subst (λ (q : List Row). IsPermutation q moved) (r ∙ ap (λ q. live_rows (filter (goes idle q) q)) (live_again es es' xs xs' live e x l)) p;
+  order = o;
+}
+
+pub cut_stays : (idle : Option ℕ) (live stay : List LiveRow) (es es' : List Entry) (xs xs' ys : List Arrival) → es' ≡ es → xs' ≡ xs → live_of es ++ arrivals_of xs ≡ live →
+    stay ≡ filter (λ e. not (goes idle (live_of es' ++ arrivals_of xs') e)) (live_of es' ++ arrivals_of xs') → ys ≡ [] → stay ++ arrivals_of ys ≡ filter (λ e. not (goes idle live e)) live
+cut_stays idle live stay es es' xs xs' ys e x l s n =
+    ap (λ q. stay ++ arrivals_of q) n ∙ append-nil stay ∙ s ∙ ap (λ q. filter (λ e. not (goes idle q e)) q) (live_again es es' xs xs' live e x l)
 
 pub on_err : {T E : Type 0} (r : Result T E) (P : Type 0) → P → OnErr r P
 on_err (Ok x) P p = tt

@@ -5,3 +5,5 @@ pub mod LiveRows
 pub mod Least
 pub mod Ranges
 pub mod Kept
+pub mod Chains
+pub mod Spots

@@ -5,7 +5,9 @@
 
 mod chunk;
 mod cut;
+mod index;
 mod live;
+mod lookup;
 mod run;
 mod runs;
 

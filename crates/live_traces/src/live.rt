@@ -12,8 +12,10 @@ ghost use Rattle.live_traces.specs.Parts.{HasRoom, arrivals_of, goes, least_numb
 
 use crate::chunk::{Chunk, SharedRow};
 use crate::cut::{add_run, in_order, parts};
+use crate::index::TraceIndex;
+use crate::lookup::{add_rows_of, index_of, note_push};
 use crate::run::Run;
-use crate::runs::Runs;
+use crate::runs::{Runs, add_rows_of_runs};
 use span_types::{Batch, Memory, Rows, TraceId, TryCopy};
 use std::alloc::Global;
 use std::marker::Model;
@@ -55,6 +57,8 @@ pub struct Live {
     arrivals: Vec<Arrival>,
     // How many rows are live.
     count: usize,
+    // Where the live rows stand.
+    index: TraceIndex,
     // The runs of the open flush, and behind them those of the head.
     kept: Vec<Run>,
     // How many rows they have.
@@ -73,9 +77,9 @@ impl Model for Live {
 
     ghost Value = { LiveParts };
 
-    ghost view = { λ l. record { live = live_of l.entries.items ++ arrivals_of l.arrivals.items; head = run_rows (drop l.flushing l.kept.items); flushing = run_rows (take l.flushing l.kept.items); spare = vec_capacity l.arrivals - vec_len l.arrivals; room = 18446744073709551615 - (l.count + l.kept_rows) } };
+    ghost view = { λ l. record { live = live_of l.entries.items ++ arrivals_of l.arrivals.items; head = run_rows (drop l.flushing l.kept.items); flushing = run_rows (take l.flushing l.kept.items); spare = vec_capacity l.arrivals - vec_len l.arrivals; room = 18446744073709551615 - (l.count + l.kept_rows); places = l.index.places } };
 
-    ghost invariant = { λ l. AreWhole l.entries.items l.arrivals.items l.count l.kept.items l.kept_rows l.flushing l.flush_rows };
+    ghost invariant = { λ l. AreWhole l.entries.items l.arrivals.items l.count l.kept.items l.kept_rows l.flushing l.flush_rows l.index.spots };
 }
 
 impl Live {
@@ -83,11 +87,16 @@ impl Live {
     pub fn new(alloc: Global) -> Live
         ensures { (result.live ≡ []) × (result.head ≡ []) × (result.flushing ≡ []) }
     {
+        let entries = Vec::new(alloc);
+        let arrivals = Vec::new(alloc);
+        let index = TraceIndex::new(alloc);
+        let kept = Vec::new(alloc);
         Live {
-            entries: Vec::new(alloc),
-            arrivals: Vec::new(alloc),
+            entries,
+            arrivals,
             count: 0,
-            kept: Vec::new(alloc),
+            index,
+            kept,
             kept_rows: 0,
             flushing: 0,
             flush_rows: 0,
@@ -111,6 +120,10 @@ impl Live {
             Ok(()) => {}
             Err(_) => return Err((Memory, batch)),
         }
+        match self.index.reserve(batch.spans.len()) {
+            Ok(()) => {}
+            Err(_) => return Err((Memory, batch)),
+        }
         match Chunk::of(alloc, number, batch) {
             Ok(chunk) => Ok(Ready { chunk }),
             Err(batch) => Err((Memory, batch)),
@@ -126,6 +139,9 @@ impl Live {
     {
         let chunk = ready.chunk;
         let more = chunk.len() as usize;
+        let entries = self.entries.len();
+        let arrivals = self.arrivals.len();
+        note_push(&mut self.index, &chunk, entries + arrivals);
         self.arrivals.push_reserved(Arrival { chunk, moment });
         self.count += more;
     }
@@ -218,9 +234,11 @@ impl Live {
         let alloc = *self.kept.allocator();
         let entries = self.entries.as_slice();
         let (moved, stay) = parts(alloc, entries, self.arrivals.as_slice(), idle)?;
+        let anew = index_of(alloc, stay.as_slice())?;
         let moved = in_order(moved);
         let count = moved.len();
         add_run(alloc, &mut self.kept, moved)?;
+        self.index = anew;
         self.entries = stay;
         self.arrivals.truncate(0);
         self.count -= count;
@@ -247,13 +265,22 @@ impl Live {
         Ok(rows)
     }
 
-    /// Copies of the rows of a trace.
+    /// Copies of the rows of a trace. It costs the live rows of the trace, and all rows of the head and the flush.
     pub fn rows_of(&self, trace: TraceId) -> Result<Rows, Memory>
         ensures { IfOk result (λ rows. rows
             ≡ rows_of_trace trace (self.now.flushing ++ self.now.head ++ live_rows self.now.live)) }
     {
-        let rows = self.runs()?.rows_of(trace)?;
-        Ok(rows)
+        let mut rows = Vec::new(*self.kept.allocator());
+        add_rows_of_runs(self.kept.as_slice(), trace, &mut rows)?;
+        let entries = self.entries.as_slice();
+        add_rows_of(
+            &self.index,
+            entries,
+            self.arrivals.as_slice(),
+            trace,
+            &mut rows,
+        )?;
+        Ok(Rows::of(rows))
     }
 
     /// The least number of a push among the rows of the head and the live ones; none where there are none.

@@ -56,7 +56,11 @@ impl Runs {
 }
 
 // Adds copies of the rows of a trace in runs.
-fn add_rows_of_runs(runs: &[Run], trace: TraceId, rows: &mut Vec<Row>) -> Result<(), Memory>
+pub(crate) fn add_rows_of_runs(
+    runs: &[Run],
+    trace: TraceId,
+    rows: &mut Vec<Row>,
+) -> Result<(), Memory>
     ensures { OnOk result (rows.new.items ≡ rows.old.items ++ rows_of_trace trace (run_rows runs.now)) }
 {
     for run in runs {

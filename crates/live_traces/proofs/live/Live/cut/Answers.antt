@@ -1,7 +1,8 @@
-use Rattle.std.proofs.Common.{◌≡◌, ◌++◌, ◌∙◌, ap, sym, arith, length, length-append, append-nil, drop}
+use Rattle.std.proofs.Common.{◌≡◌, [], ◌++◌, ◌∙◌, ap, sym, arith, length, length-append, append-nil, drop}
 use Rattle.live_traces.specs.Rows.{run_rows}
 use Rattle.live_traces.specs.Parts.{LiveParts, arrivals_of, goes, live_of}
-use Rattle.live_traces.proofs.Kept.{cut_counts, on_err}
+use Rattle.live_traces.proofs.Kept.{cut_counts, cut_moves, cut_stays, on_err}
+use Rattle.live_traces.proofs.Spots.{indexed_at}
 use Rattle.live_traces.proofs.live.Live.cut.Goals as goal
 
 pub returns-in_err-add_run-clause-refused : goal.returns-in_err-add_run-clause-refused
@@ -41,4 +42,17 @@ invariant_of-self-2 c =
       every = omega (arith, rows, length-append (run_rows c.self.inside.kept.items) c.in_order-moved.result.items, c.self.invariant.every, c.len-count.ensures);
       taken = c.self.invariant.taken ∙ ap length (sym (c.in_ok-add_run.ensures.first c.self.inside.flushing c.self.invariant.within));
       fits = omega (arith, counts, c.self.invariant.fits);
+      indexed = indexed_at c.in_ok-anew.anew.spots c.as_slice-2.result.now c.in_ok-moved.stay.items [] c.truncate.new.self.items (sym c.as_slice-2.ensures.value) c.truncate.ensures.items c.in_ok-anew.ensures;
     }
+
+pub returns-clause-moved : goal.returns-clause-moved
+returns-clause-moved c =
+    let live : live_of c.self.inside.entries.items ++ arrivals_of c.self.inside.arrivals.items ≡ c.args.self.now.live = ap (λ (v : LiveParts). v.live) c.self.view_is in (
+      c.in_order-moved.result.items,
+      cut_moves c.args.idle c.args.self.now.live c.self.inside.entries.items c.as_slice-entries.result.now c.self.inside.arrivals.items c.as_slice.result.now c.in_ok-moved.moved.items
+          c.in_order-moved.result.items c.as_slice-entries.ensures.value c.as_slice.ensures.value live c.in_ok-moved.ensures.0 c.in_order-moved.ensures.same c.in_order-moved.ensures.order,
+      omega (arith, c.len-count.ensures),
+      c.in_ok-add_run.ensures.others c.self.inside.flushing c.self.invariant.within ∙ ap (λ (v : LiveParts). v.head ++ c.in_order-moved.result.items) c.self.view_is,
+      cut_stays c.args.idle c.args.self.now.live (live_of c.in_ok-moved.stay.items) c.self.inside.entries.items c.as_slice-entries.result.now c.self.inside.arrivals.items c.as_slice.result.now
+          c.truncate.new.self.items c.as_slice-entries.ensures.value c.as_slice.ensures.value live c.in_ok-moved.ensures.1 c.truncate.ensures.items,
+    )
