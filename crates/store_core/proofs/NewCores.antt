@@ -60,6 +60,7 @@ new_stands told held may_leave core h new made empty = record {
   agrees = empty.no_rows;
   sound = new_sound h;
   above = record { waiting = λ row c. absurd (not_in_nil row c); next = omega arith };
+  built = λ t block inside. absurd (not_in_nil block inside);
   now = λ t image left. subst (λ (u : Option (List Span)). MayStandFor h u image) (sym new.sure) (settled_now held may_leave new_list [] new_tail h (made t h empty) image left);
   settled = λ t free. subst (λ (l : ListBody). IsSettled held may_leave l [] (tail_of core.segment) h) (sym new.list) (subst (λ (x : Tail). IsSettled held may_leave new_list [] x h) (sym new.tail) (made t h empty));
   sure = λ free. new.sure;

@@ -46,6 +46,7 @@ tells_less told told' held may_leave core m known s = record {
   agrees = s.agrees;
   sound = s.sound;
   above = s.above;
+  built = λ t. s.built (known t);
   now = λ t image left. s.now (known t) image left;
   settled = λ t writes. s.settled (known t) writes;
   sure = s.sure;
