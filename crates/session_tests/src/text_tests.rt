@@ -31,11 +31,11 @@ fn told(alloc: Global, search: &Search) -> Result<Text, Memory> {
 fn asked(alloc: Global, line: &[u8]) -> Result<Text, Memory> {
     let refused = vec![in alloc; 2]?;
     let mut maker = ScriptedMaker::new(alloc, Calls::of(refused));
-    match read_request(alloc, line, &mut maker) {
-        Ok(Request::Push(reading)) => {
+    match read_request(alloc, line, 7, &mut maker) {
+        Ok(Request::Push { reading, moment }) => {
             let spans = reading.batch.spans.len();
             let text = format!(in alloc;
-                "push {spans} {} {}\n",
+                "push {spans} {} {} at {moment}\n",
                 reading.rejected, reading.skipped
             )?;
             Ok(Text::of(text))
@@ -54,13 +54,13 @@ const LINES: &str = r#"
 push => refused bad-request at=4
 push_ => refused bad-json
 push_7 => refused bad-otlp path=$
-push_{} => push 0 0 0
-push__{}_ => push 0 0 0
+push_{} => push 0 0 0 at 7
+push__{}_ => push 0 0 0 at 7
 push_{}{} => refused bad-json
 push_{"resourceSpans": => refused bad-json
 push_{"resourceSpans":[{"scopeSpans":7}]} => refused bad-otlp path=$.resourceSpans[0].scopeSpans
-push_{"resourceSpans":[{"scopeSpans":[{"spans":[{}]}]}]} => push 0 1 0
-push_{"resourceSpans":[{"resource":{"attributes":[{}]}}]} => push 0 0 1
+push_{"resourceSpans":[{"scopeSpans":[{"spans":[{}]}]}]} => push 0 1 0 at 7
+push_{"resourceSpans":[{"resource":{"attributes":[{}]}}]} => push 0 0 1 at 7
 push_push_{} => refused bad-json
 Push_{} => refused bad-request at=0
 PUSH_{} => refused bad-request at=0
@@ -198,7 +198,7 @@ fn lines_may_have_16777216_bytes(rt: HostRuntime) -> Result<(), Fail> {
     for _ in 0..16_777_209 {
         line.push_str(" ")?;
     }
-    check_line(&rt, line.as_bytes(), "push 0 0 0")?;
+    check_line(&rt, line.as_bytes(), "push 0 0 0 at 7")?;
     line.push_str(" ")?;
     check_line(&rt, line.as_bytes(), "refused too-long length=16777217")?;
     Ok(())

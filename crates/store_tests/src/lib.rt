@@ -2,6 +2,12 @@
 #![tactic(auto)]
 
 #[cfg(test)]
+mod events;
+#[cfg(test)]
 mod live;
+#[cfg(test)]
+mod opening;
+#[cfg(test)]
+mod store;
 #[cfg(test)]
 mod upkeep;

@@ -1,19 +1,16 @@
-//! What flushes and compactions make of a store's list, against lists that were worked out by hand.
+//! What flushes, compactions and the emptying of loose files make of a store's list, against lists that were worked out by hand.
 
-ghost use Rattle.std.specs.Prelude.{◌≡◌, [], IfOk, IfSome};
 ghost use Rattle.store_state.specs.Listed.{HasRoomFor};
 
-use crate::live::{SECOND, another, are_at, both, push};
 use block_list::{BlockRef, SegmentRef};
-use live_traces::Live;
 use span_types::Memory;
 use std::alloc::Global;
 use store_state::{
-    FlushFiles, Listing, choose, commit_compact, commit_flush, list_body, listing_of,
+    FlushFiles, Listing, choose, commit_compact, commit_flush, list_body, listing_of, reclaim,
 };
 
 // The list of a new store.
-fn new_store(alloc: Global) -> Result<Listing, Memory> {
+pub(crate) fn new_store(alloc: Global) -> Result<Listing, Memory> {
     Ok(Listing {
         blocks: Vec::new(alloc),
         segments: Vec::from_array(alloc, [SegmentRef { file: 2, first: 0 }])?,
@@ -23,21 +20,21 @@ fn new_store(alloc: Global) -> Result<Listing, Memory> {
     })
 }
 
-fn begin_flush(listing: &mut Listing) -> Result<FlushFiles, Memory> {
+pub(crate) fn begin_flush(listing: &mut Listing) -> Result<FlushFiles, Memory> {
     if listing.next_file >= 4_294_967_294 {
         return Err(Memory);
     }
     Ok(listing.begin_flush())
 }
 
-fn begin_compact(listing: &mut Listing) -> Result<u32, Memory> {
+pub(crate) fn begin_compact(listing: &mut Listing) -> Result<u32, Memory> {
     if listing.next_file >= 4_294_967_294 {
         return Err(Memory);
     }
     Ok(listing.begin_compact())
 }
 
-fn flushed(
+pub(crate) fn flushed(
     alloc: Global,
     now: &Listing,
     files: FlushFiles,
@@ -50,7 +47,7 @@ fn flushed(
     Ok(next)
 }
 
-fn compacted(
+pub(crate) fn compacted(
     alloc: Global,
     now: &Listing,
     joined: &[u32],
@@ -68,11 +65,16 @@ fn dropped(now: Listing, files: FlushFiles) -> Result<Listing, Memory> {
     Ok(next)
 }
 
-fn block(file: u32, level: u8, rows: u32) -> BlockRef {
+pub(crate) fn block(file: u32, level: u8, rows: u32) -> BlockRef {
     BlockRef { file, level, rows }
 }
 
-fn is_list(listing: &Listing, blocks: &[BlockRef], segments: &[(u32, u64)], loose: &[u32]) -> bool {
+pub(crate) fn is_list(
+    listing: &Listing,
+    blocks: &[BlockRef],
+    segments: &[(u32, u64)],
+    loose: &[u32],
+) -> bool {
     let mut same = listing.segments.len() == segments.len();
     for (found, wanted) in listing.segments.as_slice().iter().zip(segments) {
         same &= found.file == wanted.0 && found.first == wanted.1;
@@ -256,100 +258,39 @@ fn blocks_are_chosen_by_level_and_room(rt: HostRuntime) -> Result<(), Memory> {
     Ok(())
 }
 
-// What waits in memory, and the list.
-#[derive(Drop)]
-struct Upkeep {
-    live: Live,
-    list: Listing,
-}
-
-// A flush of so many rows at most begins, and takes rows at these places.
-fn begun(u: &mut Upkeep, most: u32, places: &[(u64, u32)]) -> Result<Option<FlushFiles>, Memory>
-    requires { u.now.live.flushing ≡ [] }
-{
-    let rows = u.live.take_head(most)?.copy_rows()?;
-    if !are_at(&rows, places) {
-        return Ok(None);
-    }
-    Ok(Some(begin_flush(&mut u.list)?))
-}
-
-fn committed(
-    alloc: Global,
-    u: &mut Upkeep,
-    files: FlushFiles,
-    rows: u32,
-    count: u64,
-) -> Result<(), Memory>
-    ensures { u.new.live.flushing ≡ [] }
-{
-    let least = u.live.least_number();
-    let next = flushed(alloc, &u.list, files, rows, count, least);
-    u.live.end_flush();
-    u.list = next?;
-    Ok(())
-}
-
-fn given_up(u: &mut Upkeep, files: FlushFiles) -> Result<(), Memory>
-    ensures { u.new.live.flushing ≡ [] }
-{
-    u.live.undo_flush();
-    u.list.loose.reserve(2)?;
-    u.list.drop_flush(files);
-    Ok(())
-}
-
-// After three pushes and two cuts the first row is flushed, while the others wait.
-fn first_flush(alloc: Global) -> Result<Option<Upkeep>, Memory>
-    ensures { IfOk result (λ u. IfSome u (λ u. u.live.flushing ≡ [])) }
-{
-    let mut u = Upkeep {
-        live: Live::new(alloc),
-        list: new_store(alloc)?,
-    };
-    push(&mut u.live, 0, both(alloc)?, 10 * SECOND)?;
-    push(&mut u.live, 1, another(alloc)?, 15 * SECOND)?;
-    let moved = u.live.cut_idle(20 * SECOND)?;
-    let Some(files) = begun(&mut u, 1_048_576, &[(0, 0)])? else {
-        return Ok(None);
-    };
-    push(&mut u.live, 2, both(alloc)?, 16 * SECOND)?;
-    let others = u.live.cut_all()?;
-    committed(alloc, &mut u, files, 1, 3)?;
-    if (moved, others) != (1, 4) {
-        return Ok(None);
-    }
-    Ok(Some(u))
+// Empties the loose files that aren't pinned, and answers them with the list that is left.
+fn reclaimed(alloc: Global, now: &Listing, pinned: &[u32]) -> Result<(Listing, Vec<u32>), Memory> {
+    let mut next = now.spare(alloc)?;
+    let mut free = Vec::with_capacity(alloc, now.loose.len())?;
+    reclaim(now, &mut next, pinned, &mut free);
+    Ok((next, free))
 }
 
 #[test]
-fn events_of_upkeep_one_after_another(rt: HostRuntime) -> Result<(), Memory> {
+fn loose_files_go_but_for_pinned_ones(rt: HostRuntime) -> Result<(), Memory> {
     let alloc = rt.alloc();
-    let Some(mut u) = first_flush(alloc)? else {
-        panic!(rt; "a flush of the first row");
+    let list = Listing {
+        blocks: Vec::from_array(alloc, [block(3, 0, 1), block(5, 0, 1)])?,
+        segments: Vec::from_array(alloc, [SegmentRef { file: 6, first: 2 }])?,
+        floor: 2,
+        loose: Vec::from_array(alloc, [2, 4, 8, 3, 9])?,
+        next_file: 10,
     };
-    assert!(rt; are_at(&u.live.rows()?, &[(0, 1), (1, 0), (2, 1), (2, 0)]));
-    assert!(rt; is_list(&u.list, &[block(3, 0, 1)], &[(2, 0), (4, 3)], &[]));
-    let Some(files) = begun(&mut u, 2, &[(0, 1), (1, 0)])? else {
-        panic!(rt; "a flush of two rows");
-    };
-    given_up(&mut u, files)?;
-    assert!(rt; are_at(&u.live.rows()?, &[(0, 1), (1, 0), (2, 1), (2, 0)]));
-    assert!(rt; is_list(&u.list, &[block(3, 0, 1)], &[(2, 0), (4, 3)], &[5, 6]));
-    let Some(files) = begun(&mut u, 3, &[(0, 1), (1, 0), (2, 1)])? else {
-        panic!(rt; "a flush of three rows");
-    };
-    committed(alloc, &mut u, files, 3, 3)?;
-    assert!(rt; are_at(&u.live.rows()?, &[(2, 0)]));
-    let blocks = [block(3, 0, 1), block(7, 0, 3)];
-    assert!(rt; is_list(&u.list, &blocks, &[(2, 0), (4, 3), (8, 3)], &[5, 6]));
-    assert_eq!(rt; u.list.floor, 2);
-    let Some(files) = begun(&mut u, 1, &[(2, 0)])? else {
-        panic!(rt; "a flush of the last row");
-    };
-    committed(alloc, &mut u, files, 1, 3)?;
-    let blocks = [block(3, 0, 1), block(7, 0, 3), block(9, 0, 1)];
-    assert!(rt; is_list(&u.list, &blocks, &[(10, 3)], &[5, 6, 2, 4, 8]));
-    assert_eq!(rt; (u.list.floor, u.list.next_file, u.live.held()), (3, 11, 0));
+    // Files that pins name, those that are emptied, and those that stay.
+    let rows: [(&[u32], &[u32], &[u32]); 6] = [
+        (&[], &[2, 4, 8, 3, 9], &[]),
+        (&[3, 5], &[2, 4, 8, 9], &[3]),
+        (&[3, 3, 9], &[2, 4, 8], &[3, 9]),
+        (&[9, 2], &[4, 8, 3], &[2, 9]),
+        (&[7], &[2, 4, 8, 3, 9], &[]),
+        (&[9, 3, 8, 4, 2], &[], &[2, 4, 8, 3, 9]),
+    ];
+    let blocks = [block(3, 0, 1), block(5, 0, 1)];
+    for (pinned, emptied, stay) in rows {
+        let (left, free) = reclaimed(alloc, &list, pinned)?;
+        assert!(rt; free.as_slice() == emptied);
+        assert!(rt; is_list(&left, &blocks, &[(6, 2)], stay));
+        assert_eq!(rt; (left.floor, left.next_file), (2, 10));
+    }
     Ok(())
 }

@@ -1,0 +1,2 @@
+mod IndexSizes
+mod Pages

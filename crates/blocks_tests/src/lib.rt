@@ -1,0 +1,11 @@
+//! Tests of the crates that keep rows in blocks, by their public calls alone.
+#![tactic(auto)]
+
+#[cfg(test)]
+mod given;
+#[cfg(test)]
+mod headers;
+#[cfg(test)]
+mod malformed;
+#[cfg(test)]
+mod stripes;
