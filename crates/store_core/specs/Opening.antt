@@ -29,7 +29,7 @@ use Rattle.store_core.specs.declared.error.OpenError.TheVariants as errors
 use Rattle.store_core.specs.declared.state.CoreState.{CoreState}
 use Rattle.store_core.specs.declared.store.Core.{Core}
 
--- An opening, refused or not: whenever a crash comes, the image stands for what some image stood for before.
+-- An opening, refused or not: whenever a crash comes, the image stands for what some image stood for before and for nothing else.
 abbrev pub KeepsDisk : {D : Type 0} (g : Ghosts D) → D → D → Type 0
 KeepsDisk g disk later = IsTrue (g.tells disk) → Run KeepsStored g.moment g.left_since g.may_leave disk later
 
