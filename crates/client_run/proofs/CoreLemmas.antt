@@ -11,7 +11,7 @@ use Rattle.client_run.specs.Calls.{AreMade, Call}
 use Rattle.client_run.specs.CoreRuns.{HasStepped}
 
 -- each event keeps that a core is so with a machine, by a step
-abbrev KeepsSteps : {D : Type 0} (g : Ghosts D) (is_with : Core D → Machine → Type 0) → Type 0
+abbrev KeepsSteps : {D : Type 0} → Ghosts D → (Core D → Machine → Type 0) → Type 0
 KeepsSteps {D} g is_with =
     (old new : Core D) (event : Event) (reply : Reply) → Did g old event reply new → (m : Machine) → is_with old m
     → (m' : Machine) × is_with new m' × Step (g.faults old.disk) (g.faults new.disk) m event reply m'
