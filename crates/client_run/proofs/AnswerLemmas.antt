@@ -9,6 +9,7 @@ use Rattle.session_text.specs.declared.reply.Reply.TheVariants.{Refused}
 use Rattle.session_text.specs.declared.request.Request.TheVariants as request
 use Rattle.session_text.specs.declared.request.Search.{Search}
 use Rattle.store_model.specs.Event.{Event as event, Reply as reply, Refusal as cause}
+use Rattle.store_model.specs.Holds.{Hold}
 use Rattle.store_state.proofs.HoldLaws.{opens_new}
 use Rattle.store_state.specs.Given.{info_files, look_of}
 use Rattle.store_state.specs.Meaning.{Meaning, Called, IsOpen}
@@ -25,7 +26,7 @@ given look = reply.Looked look.pin.number (info_files look.pin.blocks) look.as_o
 -- a look that was just given is open
 pub is_open : {P : Type 0} (meaning : Meaning P) (old new : P) (look : Look) → Called meaning old event.Look (given look) new → ((held : List Hold) × meaning.holds old held)
     → IsOpen meaning new (look_of look)
-is_open meaning old new look called holds = opens_new meaning old new event.Look (given look) (look_of look) called known (0, omega arith, refl)
+is_open meaning old new look called holds = opens_new meaning old new event.Look (given look) (look_of look) called holds (0, omega arith, refl)
 
 pub push_replied : {P : Type 0} (meaning : Meaning P) (old new : P) (reading : Reading) (moment : ℕ) (answer : Result ℕ PushError) (r : Reply)
     → Called meaning old (event.Push reading.batch.spans moment) (push_reply answer) new → r ≡ pushed_reply reading answer
