@@ -9,9 +9,10 @@ use Rattle.session_text.specs.declared.reply.Reply.TheVariants.{Refused}
 use Rattle.session_text.specs.declared.request.Request.TheVariants as request
 use Rattle.session_text.specs.declared.request.Search.{Search}
 use Rattle.store_model.specs.Event.{Event as event, Reply as reply, Refusal as cause}
+use Rattle.store_model.specs.Holds.{Hold}
 use Rattle.store_state.proofs.HoldLaws.{opens_new}
 use Rattle.store_state.specs.Given.{info_files, look_of}
-use Rattle.store_state.specs.Meaning.{Meaning, View, Called, IsOpen}
+use Rattle.store_state.specs.Meaning.{Meaning, Called, IsOpen}
 use Rattle.store_state.specs.Replies.{push_reply}
 use Rattle.store_state.specs.declared.errors.PushError.{PushError}
 use Rattle.store_state.specs.declared.jobs.Look.{Look}
@@ -23,9 +24,9 @@ abbrev pub given : Look → reply
 given look = reply.Looked look.pin.number (info_files look.pin.blocks) look.as_of look.rows
 
 -- a look that was just given is open
-pub is_open : {P : Type 0} (meaning : Meaning P) (old new : P) (look : Look) → Called meaning old event.Look (given look) new → ((v : View) × meaning.knows old v)
+pub is_open : {P : Type 0} (meaning : Meaning P) (old new : P) (look : Look) → Called meaning old event.Look (given look) new → ((held : List Hold) × meaning.holds old held)
     → IsOpen meaning new (look_of look)
-is_open meaning old new look called known = opens_new meaning old new event.Look (given look) (look_of look) called known (0, omega arith, refl)
+is_open meaning old new look called holds = opens_new meaning old new event.Look (given look) (look_of look) called holds (0, omega arith, refl)
 
 pub push_replied : {P : Type 0} (meaning : Meaning P) (old new : P) (reading : Reading) (moment : ℕ) (answer : Result ℕ PushError) (r : Reply)
     → Called meaning old (event.Push reading.batch.spans moment) (push_reply answer) new → r ≡ pushed_reply reading answer

@@ -1,24 +1,40 @@
 -- Calls of a core, one after another.
 use Rattle.std.proofs.Common.{List, [], ◌∷◌, refl, sym, ap, subst}
 use Rattle.disk_model.specs.declared.disk.Device.{Ghosts}
-use Rattle.store_model.specs.Step.{Machine}
-use Rattle.store_core.specs.Cores.{CoreStandsFor}
+use Rattle.store_model.specs.Event.{Event, Reply}
+use Rattle.store_model.specs.Step.{Machine, Step}
+use Rattle.store_core.specs.Cores.{CoreStandsFor, CoreShows}
+use Rattle.store_core.specs.Events.{Did}
 use Rattle.store_core.specs.Port.{port_of}
 use Rattle.store_core.specs.declared.store.Core.{Core}
 use Rattle.client_run.specs.Calls.{AreMade, Call}
 use Rattle.client_run.specs.CoreRuns.{HasStepped}
 
-pub stepped : {D : Type 0} (g : Ghosts D) (old new : Core D) (calls : List Call) → AreMade (port_of g) old calls new → (m : Machine) → CoreStandsFor g old m
-    → HasStepped g old calls new m
-stepped {D} g old new [] made m stands = record {
+-- each event keeps that a core is so with a machine, by a step
+abbrev KeepsSteps : {D : Type 0} → Ghosts D → (Core D → Machine → Type 0) → Type 0
+KeepsSteps {D} g is_with =
+    (old new : Core D) (event : Event) (reply : Reply) → Did g old event reply new → (m : Machine) → is_with old m
+    → (m' : Machine) × is_with new m' × Step (g.faults old.disk) (g.faults new.disk) m event reply m'
+
+stepped : {D : Type 0} (g : Ghosts D) (is_with : Core D → Machine → Type 0) → KeepsSteps g is_with → (old new : Core D) (calls : List Call) → AreMade (port_of g) old calls new
+    → (m : Machine) → is_with old m → HasStepped g is_with old calls new m
+stepped {D} g is_with keeps old new [] made m stands = record {
   machine = m;
-  stands = subst (λ (core : Core D). CoreStandsFor g core m) (sym made) stands;
+  stands = subst (λ (core : Core D). is_with core m) (sym made) stands;
   steps = (ap (λ (core : Core D). g.faults core.disk) made, refl);
 }
-stepped g old new (c ∷ cs) made m stands =
-    let one = made.1.did.stepped m stands in
-    let rest = stepped g made.0 new cs made.2 one.machine one.stands in record {
+stepped g is_with keeps old new (c ∷ cs) made m stands =
+    let one = keeps old made.0 c.event c.reply made.1.did m stands in
+    let rest = stepped g is_with keeps made.0 new cs made.2 one.0 one.1 in record {
       machine = rest.machine;
       stands = rest.stands;
-      steps = (g.faults made.0.disk, one.machine, made.1.did.later, one.step, rest.steps);
+      steps = (g.faults made.0.disk, one.0, made.1.did.later, one.2, rest.steps);
     }
+
+pub stands_stepped : {D : Type 0} (g : Ghosts D) (old new : Core D) (calls : List Call) → AreMade (port_of g) old calls new → (m : Machine) → CoreStandsFor g old m
+    → HasStepped g (CoreStandsFor g) old calls new m
+stands_stepped g = stepped g (CoreStandsFor g) (λ old new event reply did m stands. let s = did.stepped m stands in (s.machine, s.stands, s.step))
+
+pub shows_stepped : {D : Type 0} (g : Ghosts D) (old new : Core D) (calls : List Call) → AreMade (port_of g) old calls new → (m : Machine) → CoreShows g old m
+    → HasStepped g (CoreShows g) old calls new m
+shows_stepped g = stepped g (CoreShows g) (λ old new event reply did m shows. did.shown m shows)

@@ -5,11 +5,11 @@ use Rattle.std.proofs.lemmas.List.{map-append, map-set, set_at, set-get_or, get_
 use Rattle.store_model.specs.Event.{Event, Reply}
 use Rattle.store_model.specs.Event.Event.{Done}
 use Rattle.store_model.specs.Event.Reply.{Count, Fine, Nothing, Flushing, Compacting, Looked, Page, Refused}
-use Rattle.store_model.specs.Holds.{Hold, ends}
+use Rattle.store_model.specs.Holds.{Hold, ends, holds_after}
 use Rattle.store_model.specs.Holds.Hold.{OpenLook}
 use Rattle.store_model.proofs.Numbers.{equal_itself}
 use Rattle.store_state.specs.Given.{look_of}
-use Rattle.store_state.specs.Meaning.{Meaning, View, Called, IsOpen}
+use Rattle.store_state.specs.Meaning.{Meaning, Called, IsOpen}
 use Rattle.store_state.proofs.HoldLaws.{stays_open, opens_new}
 use Rattle.store_state.specs.declared.jobs.Look.{Look}
 use Rattle.client_run.specs.Calls.{Call, Looks, AreMade, after_call, after_calls, call, look_at, taken, unless_ended}
@@ -49,25 +49,25 @@ kept meaning old new event reply (Some x ∷ looks) called h =
     by_test false e ih = (stays_open meaning old new event reply x called h.0 e, ih)
 
 taken_open : {P : Type 0} (meaning : Meaning P) (old new : P) (event : Event) (reply : Reply) → Called meaning old event reply new
-    → ((v : View) × meaning.knows old v) → AreOpen meaning new (taken reply)
-taken_open meaning old new event (Looked pin files as_of rows) called known =
-    (opens_new meaning old new event (Looked pin files as_of rows) (OpenLook pin files as_of rows) called known (0, omega arith, refl), tt)
-taken_open meaning old new event (Count n) called known = tt
-taken_open meaning old new event Fine called known = tt
-taken_open meaning old new event Nothing called known = tt
-taken_open meaning old new event (Flushing number file rows) called known = tt
-taken_open meaning old new event (Compacting number file level pin files) called known = tt
-taken_open meaning old new event (Page bytes) called known = tt
-taken_open meaning old new event (Refused why) called known = tt
+    → ((held : List Hold) × meaning.holds old held) → AreOpen meaning new (taken reply)
+taken_open meaning old new event (Looked pin files as_of rows) called holds =
+    (opens_new meaning old new event (Looked pin files as_of rows) (OpenLook pin files as_of rows) called holds (0, omega arith, refl), tt)
+taken_open meaning old new event (Count n) called holds = tt
+taken_open meaning old new event Fine called holds = tt
+taken_open meaning old new event Nothing called holds = tt
+taken_open meaning old new event (Flushing number file rows) called holds = tt
+taken_open meaning old new event (Compacting number file level pin files) called holds = tt
+taken_open meaning old new event (Page bytes) called holds = tt
+taken_open meaning old new event (Refused why) called holds = tt
 
 ready_after_call : {P : Type 0} (meaning : Meaning P) (old new : P) (c : Call) (looks : Looks) → Called meaning old c.event c.reply new
     → IsReady meaning old looks → IsReady meaning new (after_call c looks)
 ready_after_call meaning old new c looks called ready =
-    let after = called.learns ready.known.0 ready.known.1 in record {
-      known = (after.0, after.1);
+    record {
+      holds = (holds_after c.event c.reply ready.holds.0, called.holds ready.holds.0 ready.holds.1);
       open_looks = open-append meaning new (map (unless_ended c) looks) (taken c.reply)
           (kept meaning old new c.event c.reply looks called ready.open_looks)
-          (taken_open meaning old new c.event c.reply called ready.known);
+          (taken_open meaning old new c.event c.reply called ready.holds);
     }
 
 pub ready_after : {P : Type 0} (meaning : Meaning P) (old new : P) (calls : List Call) (looks : Looks) → AreMade meaning old calls new

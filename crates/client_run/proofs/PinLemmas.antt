@@ -13,7 +13,7 @@ use Rattle.store_model.specs.Step.{Machine, Step}
 use Rattle.store_model.proofs.GivesFresh.{opens_apart}
 use Rattle.store_model.proofs.KeepsHolds as holds
 use Rattle.store_model.proofs.TellsHistory.{step_opens}
-use Rattle.store_core.specs.Cores.{CoreStandsFor}
+use Rattle.store_core.specs.Cores.{CoreShows}
 use Rattle.store_core.specs.Port.{port_of}
 use Rattle.store_core.specs.declared.store.Core.{Core}
 use Rattle.client_run.specs.Calls.{AreMade, Call, Looks, after_call, after_calls, call, look_at, taken, unless_ended}
@@ -82,13 +82,13 @@ module _ (before faults : ℕ) (m m' : Machine) (event : Event) (agrees : Agrees
         ih,
       )
 
-looks_kept : {D : Type 0} (g : Ghosts D) (old new : Core D) (calls : List Call) (looks : Looks) → AreMade (port_of g) old calls new → (m : Machine) → CoreStandsFor g old m
+looks_kept : {D : Type 0} (g : Ghosts D) (old new : Core D) (calls : List Call) (looks : Looks) → AreMade (port_of g) old calls new → (m : Machine) → CoreShows g old m
     → AreLooks m looks → (m' : Machine) × AreLooks m' (after_calls calls looks)
 looks_kept g old new [] looks made m stands h = (m, h)
 looks_kept g old new (c ∷ cs) looks made m stands h =
-    let one = made.1.did.stepped m stands in
-    looks_kept g made.0 new cs (after_call c looks) made.2 one.machine one.stands
-    (looks_after (g.faults old.disk) (g.faults made.0.disk) m one.machine c.event stands.agrees stands.sound c.reply looks one.step h)
+    let one = made.1.did.shown m stands in
+    looks_kept g made.0 new cs (after_call c looks) made.2 one.0 one.1
+    (looks_after (g.faults old.disk) (g.faults made.0.disk) m one.0 c.event stands.agrees stands.sound c.reply looks one.2 h)
 
 some_same : (a b : Hold) → Some a ≡ Some b → a ≡ b
 some_same a b e = cc
@@ -109,6 +109,6 @@ pins_apart m (Some x ∷ looks) h zero (suc later) one other less e f =
 pins_apart m (None ∷ looks) h (suc first) (suc later) one other less e f = pins_apart m looks h first later one other (omega (arith, less)) e f
 pins_apart m (Some x ∷ looks) h (suc first) (suc later) one other less e f = pins_apart m looks h.2 first later one other (omega (arith, less)) e f
 
-pub own_pins : {D : Type 0} (g : Ghosts D) (old new : Core D) (calls : List Call) → AreMade (port_of g) old calls new → (m : Machine) → CoreStandsFor g old m
+pub own_pins : {D : Type 0} (g : Ghosts D) (old new : Core D) (calls : List Call) → AreMade (port_of g) old calls new → (m : Machine) → CoreShows g old m
     → HaveOwnPins (after_calls calls [])
 own_pins g old new calls made m stands = let last = looks_kept g old new calls [] made m stands tt in pins_apart last.0 (after_calls calls []) last.1

@@ -1,7 +1,8 @@
 -- How a run of events goes on.
 use Rattle.std.proofs.Common.{◌≡◌, inl, inr, ℕ, ◌+◌, ◌<◌, List, [], ◌∷◌, ◌++◌, take, get_or, length, refl, sym, ◌∙◌, ap, subst}
 use Rattle.std.proofs.lemmas.List.{take_more}
-use Rattle.store_state.specs.Meaning.{Meaning, View}
+use Rattle.store_model.specs.Holds.{Hold}
+use Rattle.store_state.specs.Meaning.{Meaning}
 use Rattle.client_run.specs.declared.event.Event.{Event}
 use Rattle.client_run.specs.declared.event.EventReply.{EventReply}
 use Rattle.client_run.specs.Calls.{Looks, after_calls}
@@ -10,13 +11,13 @@ use Rattle.client_run.specs.Taken.{HasAnswered, HasCome, IsReady, MayHaveAnswere
 use Rattle.client_run.proofs.CallLemmas.{after-append, answered-push, made-append}
 use Rattle.client_run.proofs.LookLemmas.{ready_after}
 
-pub run_begins : {P : Type 0} (meaning : Meaning P) (port : P) → ((v : View) × meaning.knows port v) → HasCome meaning port [] [] port []
-run_begins meaning port known = record {
+pub run_begins : {P : Type 0} (meaning : Meaning P) (port : P) → ((held : List Hold) × meaning.holds port held) → HasCome meaning port [] [] port []
+run_begins meaning port holds = record {
   calls = [];
   made = refl;
   answered = (refl, refl);
   left = refl;
-  ready = record { known = known; open_looks = tt };
+  ready = record { holds = holds; open_looks = tt };
 }
 
 pub run_goes_on : {P : Type 0} (meaning : Meaning P) (old mid new : P) (events : List Event) (replies : List EventReply) (looks later : Looks) (e : Event) (r : EventReply)

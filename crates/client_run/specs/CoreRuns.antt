@@ -4,7 +4,6 @@ use Rattle.disk_model.specs.declared.disk.Device.{Ghosts}
 use Rattle.store_model.specs.Fresh.{AreApart}
 use Rattle.store_model.specs.Holds.{Hold}
 use Rattle.store_model.specs.Step.{Machine, Step}
-use Rattle.store_core.specs.Cores.{CoreStandsFor}
 use Rattle.store_core.specs.declared.store.Core.{Core}
 use Rattle.client_run.specs.Calls.{Call, Looks, look_at}
 
@@ -16,10 +15,10 @@ AreSteps before m (c ∷ calls) after m' =
     (now : ℕ) × (between : Machine) × (before ≤ now) × Step before now m c.event c.reply between
     × AreSteps now between calls after m'
 
--- A core that stood for this machine stands for what the calls leave.
-pub record HasStepped {D : Type 0} (g : Ghosts D) (old : Core D) (calls : List Call) (new : Core D) (m : Machine) : Type 0 where
+-- A core that was so with this machine is so with what the calls leave.
+pub record HasStepped {D : Type 0} (g : Ghosts D) (is_with : Core D → Machine → Type 0) (old : Core D) (calls : List Call) (new : Core D) (m : Machine) : Type 0 where
   pub machine : Machine
-  pub stands : CoreStandsFor g new machine
+  pub stands : is_with new machine
   pub steps : AreSteps (g.faults old.disk) m calls (g.faults new.disk) machine
 
 -- No look that is open shares its pin with one that was taken before it and is open too: so whoever ends a look ends no other.

@@ -1,6 +1,7 @@
 -- Private mechanism of a run of events: the looks that it holds, and what one event makes of them. No public clause cites it.
 use Rattle.std.specs.Prelude.{◌≡◌, ◌⊎◌, ⊤, List, [], ◌∷◌, map, Option, Some, None, option_map}
-use Rattle.store_state.specs.Meaning.{Meaning, View, IsOpen}
+use Rattle.store_model.specs.Holds.{Hold}
+use Rattle.store_state.specs.Meaning.{Meaning, IsOpen}
 use Rattle.store_state.specs.Given.{look_of}
 use Rattle.store_state.specs.declared.jobs.Look.{Look}
 use Rattle.client_run.specs.declared.event.Event.{Event}
@@ -17,9 +18,9 @@ AreOpen meaning port [] = ⊤
 AreOpen meaning port (None ∷ looks) = AreOpen meaning port looks
 AreOpen meaning port (Some look ∷ looks) = IsOpen meaning port look × AreOpen meaning port looks
 
--- the port knows some history, and has these looks open
+-- the port says what is open in it, and has these looks open
 pub record IsReady {P : Type 0} (meaning : Meaning P) (port : P) (looks : Looks) : Type 0 where
-  pub known : (v : View) × meaning.knows port v
+  pub holds : (held : List Hold) × meaning.holds port held
   pub open_looks : AreOpen meaning port looks
 
 -- One event was answered so, and left these looks.

@@ -1,7 +1,7 @@
 //! What a request is answered over a port.
 
-ghost use Rattle.std.specs.Prelude.{◌≡◌, ◌⊎◌, ◌^◌, ◌<◌, length, IfOk};
-ghost use Rattle.store_state.specs.Meaning.{View};
+ghost use Rattle.std.specs.Prelude.{◌≡◌, ◌⊎◌, ◌^◌, ◌<◌, List, length, IfOk};
+ghost use Rattle.store_model.specs.Holds.{Hold};
 ghost use Rattle.span_types.specs.First.{IsFirstOf};
 ghost use Rattle.rows_by_trace.specs.Traces.{rows_of_trace};
 ghost use Rattle.session_text.specs.declared.reply.Reply.TheVariants.{Refused};
@@ -31,7 +31,7 @@ pub fn answer_request<P: LookPort, G: Gate>(
     client: u32,
     gate: &G,
 ) -> Reply
-    requires known { (v : View) × P.meaning.knows port.old v }
+    requires holds { (held : List Hold) × P.meaning.holds port.old held }
     requires client { client < 2 ^ 31 }
     ensures { HasReplied P.meaning port.old request result port.new }
 {
@@ -93,7 +93,7 @@ fn push<P: LookPort, G: Gate>(
 
 // Tells a trace.
 fn trace<P: LookPort>(alloc: Global, port: &mut P, id: TraceId) -> Reply
-    requires { (v : View) × P.meaning.knows port.old v }
+    requires { (held : List Hold) × P.meaning.holds port.old held }
     ensures { HasTold P.meaning port.old (IsTraceOf id) result port.new }
 {
     let look = match port.look() {
@@ -129,7 +129,7 @@ fn trace_rows(alloc: Global, look: &Look, id: TraceId) -> Result<Rows, Memory>
 
 // Tells what a search finds.
 fn search_reply<P: LookPort>(alloc: Global, port: &mut P, search: &Search) -> Reply
-    requires { (v : View) × P.meaning.knows port.old v }
+    requires { (held : List Hold) × P.meaning.holds port.old held }
     ensures { HasTold P.meaning port.old (IsSearchOf search.now) result port.new }
 {
     let look = match port.look() {

@@ -1,7 +1,7 @@
 //! Lists of events.
 
-ghost use Rattle.std.specs.Prelude.{◌≡◌, IfOk, OnErr};
-ghost use Rattle.store_state.specs.Meaning.{View};
+ghost use Rattle.std.specs.Prelude.{◌≡◌, List, IfOk, OnErr};
+ghost use Rattle.store_model.specs.Holds.{Hold};
 ghost use Rattle.client_run.specs.declared.event.Event.TheVariants.{Push, Look as TakeLook, Done};
 ghost use Rattle.client_run.specs.Calls.{Looks};
 ghost use Rattle.client_run.specs.EventRuns.{HasRun, HasRunFirst};
@@ -22,7 +22,7 @@ pub fn run_events<P: LookPort>(
     port: &mut P,
     events: &Events,
 ) -> Result<Replies, Memory>
-    requires { (v : View) × P.meaning.knows port.old v }
+    requires { (held : List Hold) × P.meaning.holds port.old held }
     ensures ran { IfOk result (λ replies. HasRun P.meaning port.old events.now replies port.new) }
     ensures stopped { OnErr result (HasRunFirst P.meaning port.old events.now port.new) }
 {

@@ -24,6 +24,7 @@ use Rattle.store_images.specs.Stored.ImageStores.{vacant, filled}
 use Rattle.store_images.specs.Settled.{Tail, IsTail, ListLies, IsSettled}
 use Rattle.store_images.proofs.Lists.{not_in_nil, in_cons, at_front}
 use Rattle.store_images.proofs.Keeping.{slots_same, one_list}
+use Rattle.store_core.proofs.OpeningSteps.{found}
 use Rattle.store_core.specs.New.{new_list, new_tail, IsEmptyHistory, StoresNothing, IsNewStore}
 
 at_zero : (i d : ℕ) → i < 1 → get_or (0 ∷ []) i d ≡ 0
@@ -46,10 +47,18 @@ rules_new = record {
   rows = All-nil _;
 }
 
+pub empty_history : (image : Image) (h : History) → ImageHoldsList image None → ImageStandsFor image h → IsEmptyHistory h
+empty_history image h none s = by_stores s.rows (count_of h) s.stores s.agrees refl
+  where
+    by_stores : (rows : List Row) (count : ℕ) → ImageStores image rows count → AgreesOn rows h → count_of h ≡ count → IsEmptyHistory h
+    by_stores rows count (vacant holds no_rows no_count) agrees is = record { no_rows = subst (λ (r : List Row). AgreesOn r h) no_rows agrees; no_entries = is ∙ no_count }
+    by_stores rows count (filled body blocks batches st rows_are counts) agrees is = absurd (let bad : None ≡ Some body = one_list image None (Some body) none st.listed in cc)
+
 -- no list stands in the slots
 pub nothing_there : (image : Image) → ImageHoldsList image None → StoresNothing image
 nothing_there image none = record {
   stands = λ h empty. record { rows = []; stores = vacant none refl empty.no_entries; agrees = empty.no_rows };
+  only = λ h s. empty_history image h none s;
   tidy = record { list = None; counts = none; files = λ file low given. absurd (omega (arith, low, given)) };
 }
 
@@ -66,6 +75,7 @@ new_holds image listed empty = record {
 pub new_there : (image : Image) → ImageHoldsList image (Some new_list) → SegmentHolds 0 [] 1 (bytes_of image 2) → StoresNothing image
 new_there image listed empty = record {
   stands = λ h none. record { rows = []; stores = filled new_list [] [] (new_holds image listed empty) refl none.no_entries; agrees = none.no_rows };
+  only = λ h s. let f = found image new_list [] h refl listed (new_holds image listed empty).logged s in record { no_rows = f.agrees; no_entries = f.counts };
   tidy = record {
     list = Some new_list;
     counts = listed;
@@ -75,11 +85,11 @@ new_there image listed empty = record {
 
 -- where no list stood, an image that stores nothing stands for what was stood for
 pub nothing_keeps : (origin image : Image) → ImageHoldsList origin None → StoresNothing image → KeepsStored origin image
-nothing_keeps origin image none there = record { stands = λ h was. there.stands h (empty h was.rows was.stores was.agrees); tidy = λ t. there.tidy }
-  where
-    empty : (h : History) (rows : List Row) → ImageStores origin rows (count_of h) → AgreesOn rows h → IsEmptyHistory h
-    empty h rows (vacant holds no_rows no_entries) agrees = record { no_rows = subst (λ (r : List Row). AgreesOn r h) no_rows agrees; no_entries = no_entries }
-    empty h rows (filled body blocks batches s is counts) agrees = absurd (let bad : None ≡ Some body = one_list origin None (Some body) none s.listed in cc)
+nothing_keeps origin image none there = record {
+  stands = λ h was. there.stands h (empty_history origin h none was);
+  only = λ h is. let empty = there.only h is in record { rows = []; stores = vacant none refl empty.no_entries; agrees = empty.no_rows };
+  tidy = λ t. there.tidy;
+}
 
 -- while the segment is made
 pub vacant_still : (held : Image) (may_leave : Image → Type 0) (P : List ℕ → Type 0) (image : Image) → IsReady held may_leave None → ButFor 2 P may_leave image → StoresNothing image

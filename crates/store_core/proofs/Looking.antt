@@ -42,6 +42,7 @@ has_pins core pins m m' has history read_only state taken = record {
   listed = has.listed;
   rules = has.rules;
   segments = ap (λ (u : State). u.segments) state ∙ has.segments;
+  last = has.last;
   floor = ap (λ (u : State). u.floor) state ∙ has.floor;
   loose = ap (λ (u : State). u.loose) state ∙ has.loose;
   next_file = ap (λ (u : State). u.next_file) state ∙ has.next_file;

@@ -121,6 +121,7 @@ module _ (held : Image) (may_leave : Image → Type 0) (body : ListBody) (ready 
       let here : ImageHoldsList image (Some body) = slots_same origin image (Some body) (λ slot below. on.besides slot (λ is. omega (arith, low, is, below))) there in
       record {
         stands = stands_moved origin image body body.generation body.loose (λ other used. on.besides other (loose_apart body ready_rules file other c used)) here there;
+        only = stands_moved image origin body body.generation body.loose (λ other used. sym (on.besides other (loose_apart body ready_rules file other c used))) there here;
         tidy = λ t.
             let its : t.list ≡ Some body = one_list origin t.list (Some body) t.counts there in
             record {
@@ -147,6 +148,10 @@ module _ (held : Image) (may_leave : Image → Type 0) (body : ListBody) (ready 
           stands = λ h s. elim writes.list [
             | inl old ↦ stands_moved origin image body body.generation body.loose used old there h s
             | inr new ↦ stands_moved origin image body (successor body.generation) [] used new there h s
+          ];
+          only = λ h s. elim writes.list [
+            | inl old ↦ stands_moved image origin body body.generation body.loose (λ file c. sym (used file c)) there old h s
+            | inr new ↦ stands_moved image origin (next_without body) body.generation body.loose (λ file c. sym (used file c)) there new h s
           ];
           tidy = λ t.
               let its : t.list ≡ Some body = one_list origin t.list (Some body) t.counts there in

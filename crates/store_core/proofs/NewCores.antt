@@ -19,6 +19,7 @@ use Rattle.store_core.specs.Pins.{is_taken}
 use Rattle.store_core.specs.Cores.{HasState, StandsFor, listed_as, segment_of, tail_of, unsure_of}
 use Rattle.store_core.specs.New.{new_list, new_tail, IsEmptyHistory, IsNewStore}
 use Rattle.store_core.specs.NewCore.{new_machine, IsNewState}
+use Rattle.store_core.proofs.States.{ref_to}
 use Rattle.store_core.proofs.Founding.{rules_new}
 
 -- a history of nothing
@@ -82,6 +83,7 @@ new_state_is core list live head flushing infos file first count gate pins write
     listed = ap (map listed_as) infos ∙ sym (ap (λ (l : ListBody). l.blocks) list);
     rules = subst MeetsRules (sym list) rules_new;
     segments = sym (ap (λ (l : ListBody). map segment_of l.segments) list);
+    last = ([], ap (λ (l : ListBody). l.segments) list ∙ ap (λ (n : ℕ). ref_to n 0 ∷ []) (sym file) ∙ ap (λ (n : ℕ). ref_to core.segment.file n ∷ []) (sym first));
     floor = sym (ap (λ (l : ListBody). l.floor) list);
     loose = sym (ap (λ (l : ListBody). l.loose) list);
     next_file = sym (ap (λ (l : ListBody). l.next_file) list);

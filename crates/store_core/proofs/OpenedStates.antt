@@ -221,6 +221,7 @@ module _ (told : Type 0) (image : Image) (list : ListBody) (rules : MeetsRules l
       listed = ap (map listed_as) state.infos ∙ sym (ap (λ (l : ListBody). l.blocks) state.listing ∙ without_by list (λ (l : ListBody). l.blocks ≡ []) (λ generation loose. none));
       rules = subst MeetsRules (sym state.listing) (rules_after list rules list.loose);
       segments = without_by list (λ (l : ListBody). map segment_of list.segments ≡ map segment_of l.segments) (λ generation loose. refl) ∙ sym (ap (λ (l : ListBody). map segment_of l.segments) state.listing);
+      last = (read.front, ap (λ (l : ListBody). l.segments) state.listing ∙ without_by list (λ (l : ListBody). l.segments ≡ list.segments) (λ generation loose. refl) ∙ read.last);
       floor = without_by list (λ (l : ListBody). list.floor ≡ l.floor) (λ generation loose. refl) ∙ sym (ap (λ (l : ListBody). l.floor) state.listing);
       loose = no_loose ∙ sym (ap (λ (l : ListBody). l.loose) state.listing);
       next_file = without_by list (λ (l : ListBody). list.next_file ≡ l.next_file) (λ generation loose. refl) ∙ sym (ap (λ (l : ListBody). l.next_file) state.listing);

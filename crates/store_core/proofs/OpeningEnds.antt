@@ -31,7 +31,7 @@ use Rattle.store_core.specs.LogReading.{LogRead}
 use Rattle.store_core.specs.New.{IsEmptyHistory, StoresNothing}
 use Rattle.store_core.specs.NewCore.{new_machine}
 use Rattle.store_core.specs.Opening.{KeepsDisk, opened_state, BeginsAs, BeginsEmpty, Opened, IsOpenedState}
-use Rattle.store_core.proofs.Founding.{nothing_keeps}
+use Rattle.store_core.proofs.Founding.{empty_history, nothing_keeps}
 use Rattle.store_core.proofs.NewCores.{no_history, no_history_is_empty}
 use Rattle.store_core.proofs.LogLaws.{one_log}
 use Rattle.store_core.proofs.LogSteps.{read_whole}
@@ -51,13 +51,6 @@ tells_less told told' held may_leave core m known s = record {
   settled = λ t writes. s.settled (known t) writes;
   sure = s.sure;
 }
-
-empty_history : (image : Image) (h : History) → ImageHoldsList image None → ImageStandsFor image h → IsEmptyHistory h
-empty_history image h none s = by_stores s.rows (count_of h) s.stores s.agrees refl
-  where
-    by_stores : (rows : List Row) (count : ℕ) → ImageStores image rows count → AgreesOn rows h → count_of h ≡ count → IsEmptyHistory h
-    by_stores rows count (vacant holds no_rows no_count) agrees is = record { no_rows = subst (λ (r : List Row). AgreesOn r h) no_rows agrees; no_entries = is ∙ no_count }
-    by_stores rows count (filled body blocks batches st rows_are counts) agrees is = absurd (let bad : None ≡ Some body = one_list image None (Some body) none st.listed in cc)
 
 new_is_empty : (h : History) → BeginsEmpty (new_machine h)
 new_is_empty h = record { writes = refl; head = refl; loose = refl; pins = refl }

@@ -7,14 +7,15 @@ use Rattle.store_model.specs.Event.{Event, Reply}
 use Rattle.store_model.specs.Step.{Machine, IsLookPin}
 use Rattle.store_model.specs.Holds.{own_files}
 use Rattle.store_state.specs.Meaning.{Called, IsOpen}
-use Rattle.store_state.specs.Cores.{CoreSteps}
+use Rattle.store_state.specs.Cores.{CoreHolds, CoreSteps}
 use Rattle.store_state.specs.Given.{look_of}
 use Rattle.store_state.specs.Replies.{push_reply, look_reply}
 use Rattle.store_state.specs.declared.errors.PushError.{PushError}
 use Rattle.store_state.specs.declared.jobs.Look.{Look}
 use Rattle.store_state.proofs.CallLaws.{step_is_called}
+use Rattle.store_images.proofs.Lists.{not_in_nil}
 use Rattle.store_core.specs.declared.store.Core.{Core}
-use Rattle.store_core.specs.Cores.{CoreStandsFor}
+use Rattle.store_core.specs.Cores.{CoreShows}
 use Rattle.store_core.specs.Events.{Did}
 use Rattle.store_core.specs.Port.{shown_by, port_of}
 
@@ -23,6 +24,7 @@ steps : {D : Type 0} (g : Ghosts D) (old : Core D) (event : Event) (reply : Repl
     → CoreSteps (shown_by g) old event reply new
 steps g old event reply new begins did = record {
   did = λ m stands. let stepped = did.stepped m stands in (stepped.machine, stepped.stands, stepped.step);
+  shown = did.shown;
   telling = did.telling;
   bytes = did.files;
   empty = λ told file among. absurd (let bad : is_among file [] ≡ true = subst (λ (files : List ℕ). is_among file files ≡ true) begins among in cc);
@@ -39,6 +41,7 @@ did_is_called g old event reply new begins did =
     let called = step_is_called (shown_by g) old new event reply (steps g old event reply new begins did) in record {
       did = did;
       learns = called.learns;
+      holds = called.holds;
       telling = called.telling;
       bytes = called.bytes;
       empty = called.empty;
@@ -58,7 +61,17 @@ pub look_begins : (result : Result Look Memory) → own_files (look_reply result
 look_begins (Ok look) = refl
 look_begins (Err e) = refl
 
--- a look that the port holds open is open in a machine for which the core stands
+-- a look that the port holds open is open in a machine that the core's memory shows
 pub open_look : {D : Type 0} (g : Ghosts D) (core : Core D) (look : Look) → IsOpen (port_of g) core (look_of look)
-    → (m : Machine) × CoreStandsFor g core m × IsLookPin look.pin.number m.state
-open_look g core look (v, known, there) = (known.machine, known.stands, (known.open_holds (look_of look) there).open_pin)
+    → (m : Machine) × CoreShows g core m × IsLookPin look.pin.number m.state
+open_look g core look (held, known, there) = (known.machine, known.shown, (known.open_holds (look_of look) there).open_pin)
+
+-- nothing is open in a core whose memory shows a machine
+pub holds_nothing : {D : Type 0} (g : Ghosts D) (core : Core D) (m : Machine) → CoreShows g core m → CoreHolds (shown_by g) core []
+holds_nothing g core m shown = record {
+  machine = m;
+  shown = shown;
+  agrees = shown.agrees;
+  sound = shown.sound;
+  open_holds = λ hold inside. absurd (not_in_nil hold inside);
+}

@@ -54,14 +54,14 @@ pub did_refused : {D : Type 0} (g : Ghosts D) (only_now : OnlyNow g) (old : Core
     → Did g old (Push spans moment) (Refused why) (record old { state = old.state })
 did_refused g only_now old spans moment why is no_fault =
     quiet g only_now old old.state (Push spans moment) (Refused why) (λ file bytes. refl) (λ e. no_fault (refused_is why Fault e)) (refused_calls spans moment why no_fault) refl
-    (λ m stands. (m, stands, refl, Sure (is m stands.has) refl))
+    (λ told m stands. (m, stands, refl, Sure (is m stands.has) refl))
 
 pub did_lacking : {D : Type 0} (g : Ghosts D) (only_now : OnlyNow g) (old : Core D) (live : LiveParts) (spans : List Span) (moment : ℕ)
     → SameParts old.state.live live → ((m : Machine) → HasState old.state m → early m (Push spans moment) ≡ None)
     → Did g old (Push spans moment) (Refused Memory) (record old { state = record old.state { live = live } })
 did_lacking {D} g only_now old live spans moment same free =
     quiet g only_now old (record old.state { live = live }) (Push spans moment) (Refused Memory) (λ file bytes. refl) (λ e. let bad = refused_is Memory Fault e in cc) (λ n. refl) refl
-    (λ m stands. (m, stands_lacking (IsTrue (g.tells old.disk)) (g.held old.disk) (g.may_leave old.disk) old.state live m same stands, refl, Lacks (free m stands.has) refl refl refl))
+    (λ told m stands. (m, stands_lacking told (g.held old.disk) (g.may_leave old.disk) old.state live m same stands, refl, Lacks (free m stands.has) refl refl refl))
 
 -- ---- a record was added, or it may have been
 
@@ -131,7 +131,7 @@ module _ {D : Type 0} (g : Ghosts D) (old : Core D) (disk : D) (spans : List Spa
   did_pushed live segment number length_is below is added head flushing file first count stays acknowledged later calls reads = record {
     stepped = λ m stands.
         let taken = step_pushed (g.faults old.disk) (g.faults disk) m spans moment number (length_is m stands.has) (free m stands.has) in
-        let has = has_pushed old.state live segment m spans moment number stands.has added head flushing is below first count in
+        let has = has_pushed old.state live segment m spans moment number stands.has added head flushing is below file first count in
         record {
           machine = after_pushed spans moment m;
           stands = stands_pushed (IsTrue (g.tells old.disk)) (IsTrue (g.tells disk)) (g.held old.disk) (g.held disk) (g.may_leave old.disk) (g.may_leave disk) old.state live segment m spans moment number
@@ -147,8 +147,16 @@ module _ {D : Type 0} (g : Ghosts D) (old : Core D) (disk : D) (spans : List Spa
           unsure = refl;
           ended = inl (stands.sure writes);
         };
+    shown = λ m shows.
+        let taken = step_pushed (g.faults old.disk) (g.faults disk) m spans moment number (length_is m shows.has) (free m shows.has) in
+        let has = has_pushed old.state live segment m spans moment number shows.has added head flushing is below file first count in (
+          after_pushed spans moment m,
+          stands_pushed ⊥ ⊥ (g.held old.disk) (g.held disk) (g.may_leave old.disk) (g.may_leave disk) old.state live segment m spans moment number
+              (g.faults old.disk) (g.faults disk) shows (λ bad. bad) writes taken has (λ bad. absurd bad),
+          taken,
+        );
     tidy = tidy_in;
-    files = λ told m stands hold is_open stays' f among. held_stays old.state m (IsTrue (g.tells old.disk)) (g.held old.disk) (g.held disk) (g.may_leave old.disk) told writes stands (appends told).besides hold is_open f among;
+    files = λ told m stands hold is_open stays' f among. held_stays old.state m (g.held old.disk) (g.held disk) stands.has stands.sound (appends told).besides hold is_open f among;
     telling = telling;
     later = later;
     cause = λ fault. absurd (let bad : Count number ≡ Refused Fault = fault in cc);
@@ -171,8 +179,14 @@ module _ {D : Type 0} (g : Ghosts D) (old : Core D) (disk : D) (spans : List Spa
       unsure = ap (λ (s : List Span). Some s) its ∙ ap (unsure_after (Push spans moment) (Refused Fault)) (sym (stands.sure writes));
       ended = inl (stands.sure writes);
     };
+    shown = λ m shows. (
+      broken (g.faults disk) m,
+      stands_broken ⊥ ⊥ (g.held old.disk) (g.held disk) (g.may_leave old.disk) (g.may_leave disk) old.state live segment ready (g.faults disk) m same still shows
+          (λ bad. bad) (λ bad. absurd bad) (λ bad. absurd bad),
+      Breaks (free m shows.has) refl refl rose refl,
+    );
     tidy = tidy_in;
-    files = λ told m stands hold is_open stays f among. held_stays old.state m (IsTrue (g.tells old.disk)) (g.held old.disk) (g.held disk) (g.may_leave old.disk) told writes stands (appends told).besides hold is_open f among;
+    files = λ told m stands hold is_open stays f among. held_stays old.state m (g.held old.disk) (g.held disk) stands.has stands.sound (appends told).besides hold is_open f among;
     telling = telling;
     later = later;
     cause = λ fault. rose;

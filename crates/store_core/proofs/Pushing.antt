@@ -12,7 +12,7 @@ use Rattle.block_list.specs.declared.body.SegmentRef.{SegmentRef}
 use Rattle.block_list.specs.declared.body.ListBody.{ListBody}
 use Rattle.store_model.specs.History.{History, pushed}
 use Rattle.store_model.specs.State.{Block, is_among, block_files, segment_files}
-use Rattle.store_model.specs.Sound.{times}
+use Rattle.store_model.specs.Sound.{times, StateIsSound}
 use Rattle.store_model.specs.Holds.{Hold, OpenIn, files_of}
 use Rattle.store_model.specs.Step.{Machine}
 use Rattle.store_model.proofs.Numbers.{times-append, times_itself}
@@ -45,20 +45,18 @@ named_once : (front : List SegmentRef) (last : SegmentRef) → 1 ≤ times last.
 named_once [] last = omega (arith, times_itself last.file)
 named_once (x ∷ front) last = let rest = named_once front last in omega (arith, rest)
 
-pub tail_apart : (core : CoreState) (m : Machine) (held : Image) (may_leave : Image → Type 0) → HasState core m → IsSettled held may_leave core.list m.state.blocks (tail_of core.segment) m.history
-    → (file : ℕ) → times file (segment_files m.state.segments) ≡ 0 → file ≢ core.segment.file
-tail_apart core m held may_leave has s file none is =
+pub tail_apart : (core : CoreState) (m : Machine) → HasState core m → (file : ℕ) → times file (segment_files m.state.segments) ≡ 0 → file ≢ core.segment.file
+tail_apart core m has file none is =
     let last : SegmentRef = record { file = core.segment.file; first = core.segment.first } in
-    let listed : m.state.segments ≡ map segment_of (s.written.front ++ last ∷ []) = has.segments ∙ ap (map segment_of) s.written.last in
-    let once = named_once s.written.front last in
-    let same : times core.segment.file (segment_files m.state.segments) ≡ times core.segment.file (segment_files (map segment_of (s.written.front ++ last ∷ []))) = ap (λ l. times core.segment.file (segment_files l)) listed in
+    let listed : m.state.segments ≡ map segment_of (has.last.0 ++ last ∷ []) = has.segments ∙ ap (map segment_of) has.last.1 in
+    let once = named_once has.last.0 last in
+    let same : times core.segment.file (segment_files m.state.segments) ≡ times core.segment.file (segment_files (map segment_of (has.last.0 ++ last ∷ []))) = ap (λ l. times core.segment.file (segment_files l)) listed in
     let zero : times core.segment.file (segment_files m.state.segments) ≡ 0 = subst (λ (f : ℕ). times f (segment_files m.state.segments) ≡ 0) is none in
     absurd (omega (arith, once, same, zero))
 
-pub held_stays : (core : CoreState) (m : Machine) (told : Type 0) (held later : Image) (may_leave : Image → Type 0) → told → core.read_only ≡ None → StandsFor told held may_leave core m
-    → Besides core.segment.file held later → (hold : Hold) → OpenIn m hold → (file : ℕ) → is_among file (files_of hold) ≡ true → bytes_of later file ≡ bytes_of held file
-held_stays core m told held later may_leave t writes s besides hold is_open file among =
-    besides file (tail_apart core m held may_leave s.has (s.settled t writes) file (held_apart m hold s.sound is_open file among))
+pub held_stays : (core : CoreState) (m : Machine) (held later : Image) → HasState core m → StateIsSound m.state → Besides core.segment.file held later
+    → (hold : Hold) → OpenIn m hold → (file : ℕ) → is_among file (files_of hold) ≡ true → bytes_of later file ≡ bytes_of held file
+held_stays core m held later has sound besides hold is_open file among = besides file (tail_apart core m has file (held_apart m hold sound is_open file among))
 
 -- nor has a listed block
 listed_once : (blocks : List Block) (b : Block) → Contains blocks b → 1 ≤ times b.file (block_files blocks)
@@ -74,6 +72,6 @@ blocks_stay core m told held later may_leave t writes s besides b inside =
     let used = listed_once m.state.blocks b inside in
     let once = s.sound.files.once b.file in
     let none : times b.file (segment_files m.state.segments) ≡ 0 = omega (arith, used, once) in
-    let same : bytes_of later b.file ≡ bytes_of held b.file = besides b.file (tail_apart core m held may_leave s.has (s.settled t writes) b.file none) in
+    let same : bytes_of later b.file ≡ bytes_of held b.file = besides b.file (tail_apart core m s.has b.file none) in
     let was = s.built t b inside in
     record { holds = subst (BlockHolds b.rows) (sym same) was.holds; counted = was.counted }

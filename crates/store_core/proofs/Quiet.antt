@@ -12,7 +12,7 @@ use Rattle.store_model.specs.Step.{Machine, Step}
 use Rattle.store_state.specs.Meaning.{Rewritten}
 use Rattle.store_core.specs.declared.state.CoreState.{CoreState}
 use Rattle.store_core.specs.declared.store.Core.{Core}
-use Rattle.store_core.specs.Cores.{StandsFor, CoreStandsFor, unsure_of}
+use Rattle.store_core.specs.Cores.{StandsFor, unsure_of}
 use Rattle.store_state.specs.Calls.{MadeCalls}
 use Rattle.store_core.specs.Events.{Did, Between, unsure_after}
 
@@ -25,11 +25,11 @@ pub quiet : {D : Type 0} (g : Ghosts D) (only_now : (disk : D) (image : Image) �
     (old : Core D) (state : CoreState) (event : Event) (reply : Reply)
     → ((file : ℕ) (bytes : List ℕ) → Rewritten event reply file bytes bytes)
     → reply ≢ Refused Fault → ((n : ℕ) → MadeCalls event reply n n) → unsure_of state ≡ unsure_of old.state
-    → ((m : Machine) → CoreStandsFor g old m → (m' : Machine) × StandsFor (IsTrue (g.tells old.disk)) (g.held old.disk) (g.may_leave old.disk) state m' × (m'.history ≡ m.history)
+    → ((told : Type 0) (m : Machine) → StandsFor told (g.held old.disk) (g.may_leave old.disk) old.state m → (m' : Machine) × StandsFor told (g.held old.disk) (g.may_leave old.disk) state m' × (m'.history ≡ m.history)
     × Step (g.faults old.disk) (g.faults old.disk) m event reply m')
     → Did g old event reply (record old { state = state })
 quiet {D} g only_now old state event reply still no_fault no_call same step = record {
-  stepped = λ m stands. let done = step m stands in record {
+  stepped = λ m stands. let done = step (IsTrue (g.tells old.disk)) m stands in record {
     machine = done.0;
     stands = done.1;
     step = done.3;
@@ -38,6 +38,7 @@ quiet {D} g only_now old state event reply still no_fault no_call same step = re
     unsure = same ∙ sym (no_new event reply (unsure_of old.state) no_fault);
     ended = inr done.2;
   };
+  shown = λ m shows. let done = step ⊥ m shows in (done.0, done.1, done.3);
   tidy = λ told m stands tidy. started g.moment g.left_since old.disk _ (λ image left. tidy image (only_now old.disk image left));
   files = λ told m stands hold is_open stays file among. still file _;
   telling = refl;

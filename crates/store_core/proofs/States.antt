@@ -3,6 +3,7 @@ use Rattle.std.proofs.Common.{◌≡◌, ◌≢◌, ℕ, ◌+◌, ◌<◌, ◌�
 use Rattle.span_types.specs.declared.spans.Span.{Span}
 use Rattle.disk_model.specs.Images.{Image}
 use Rattle.head_log.specs.declared.segment.Segment.{Segment}
+use Rattle.block_list.specs.declared.body.SegmentRef.{SegmentRef}
 use Rattle.live_traces.specs.Parts.{LiveParts}
 use Rattle.live_traces.specs.Rows.{ChunkParts}
 use Rattle.store_model.specs.History.{History, batch_rows, count_of, pushed}
@@ -22,6 +23,9 @@ use Rattle.store_images.proofs.Growing.{count_of-pushed}
 use Rattle.store_images.proofs.Storing.{settled_now}
 use Rattle.store_core.specs.declared.state.CoreState.{CoreState}
 use Rattle.store_core.specs.Cores.{HasState, StandsFor, tail_of, unsure_of}
+
+abbrev pub ref_to : ℕ → ℕ → SegmentRef
+ref_to file first = record { file = file; first = first }
 
 -- the same rows, with room for others
 pub record SameParts (old new : LiveParts) : Type 0 where
@@ -45,6 +49,7 @@ has_same core live m same has = record {
   listed = has.listed;
   rules = has.rules;
   segments = has.segments;
+  last = has.last;
   floor = has.floor;
   loose = has.loose;
   next_file = has.next_file;
@@ -82,9 +87,9 @@ step_pushed before faults m spans moment number is free = Succeeds free (ap Coun
 pub has_pushed : (core : CoreState) (live : LiveParts) (segment : Segment) (m : Machine) (spans : List Span) (moment number : ℕ) → HasState core m
     → live.live ≡ core.live.live ++ arrived moment (batch_rows number spans) → live.head ≡ core.live.head → live.flushing ≡ core.live.flushing
     → number ≡ core.segment.first + core.segment.count → number < 4294967295
-    → segment.first ≡ core.segment.first → segment.count ≡ core.segment.count + 1
+    → segment.file ≡ core.segment.file → segment.first ≡ core.segment.first → segment.count ≡ core.segment.count + 1
     → HasState (record core { live = live; segment = segment }) (after_pushed spans moment m)
-has_pushed core live segment m spans moment number has added head flushing is below first count =
+has_pushed core live segment m spans moment number has added head flushing is below file first count =
     let grown = count_of-pushed m.history spans in
     let was = has.count in
     record {
@@ -101,6 +106,10 @@ has_pushed core live segment m spans moment number has added head flushing is be
       listed = has.listed;
       rules = has.rules;
       segments = has.segments;
+      last = (
+        has.last.0,
+        has.last.1 ∙ ap (λ (n : ℕ). has.last.0 ++ ref_to n core.segment.first ∷ []) (sym file) ∙ ap (λ (n : ℕ). has.last.0 ++ ref_to segment.file n ∷ []) (sym first),
+      );
       floor = has.floor;
       loose = has.loose;
       next_file = has.next_file;
@@ -145,6 +154,7 @@ has_broken core live segment ready faults m same still has = record {
   listed = has.listed;
   rules = has.rules;
   segments = has.segments;
+  last = (has.last.0, has.last.1 ∙ ap (λ (x : Segment). has.last.0 ++ ref_to x.file x.first ∷ []) (sym still));
   floor = has.floor;
   loose = has.loose;
   next_file = has.next_file;

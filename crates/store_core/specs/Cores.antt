@@ -1,5 +1,5 @@
 -- What a core stands for: a machine of the store's model, which its memory shows in part, and a history that its disk holds.
-use Rattle.std.specs.Prelude.{◌≡◌, ◌⊎◌, ℕ, ◌+◌, ◌≤◌, List, [], map, Option, None, IsTrue}
+use Rattle.std.specs.Prelude.{◌≡◌, ◌⊎◌, ℕ, ◌+◌, ◌≤◌, List, [], ◌∷◌, ◌++◌, map, Option, None, IsTrue}
 use Rattle.std.specs.Option.{option_map}
 use Rattle.span_types.specs.declared.spans.Span.{Span}
 use Rattle.disk_model.specs.Images.{Image}
@@ -50,6 +50,7 @@ pub record HasState (core : CoreState) (m : Machine) : Type 0 where
   pub listed : map listed_as core.infos ≡ core.list.blocks
   pub rules : MeetsRules core.list
   pub segments : m.state.segments ≡ map segment_of core.list.segments
+  pub last : (front : List SegmentRef) × (core.list.segments ≡ front ++ record { file = core.segment.file; first = core.segment.first } ∷ [])
   pub floor : m.state.floor ≡ core.list.floor
   pub loose : m.state.loose ≡ core.list.loose
   pub next_file : m.state.next_file ≡ core.list.next_file
@@ -74,3 +75,7 @@ pub record StandsFor (told : Type 0) (held : Image) (may_leave : Image → Type 
 -- the core stands for the machine
 abbrev pub CoreStandsFor : {D : Type 0} (g : Ghosts D) → Core D → Machine → Type 0
 CoreStandsFor {D} g core m = StandsFor (IsTrue (g.tells core.disk)) (g.held core.disk) (g.may_leave core.disk) core.state m
+
+-- the core's memory shows the machine, whatever its disk holds
+abbrev pub CoreShows : {D : Type 0} (g : Ghosts D) → Core D → Machine → Type 0
+CoreShows {D} g core m = StandsFor ⊥ (g.held core.disk) (g.may_leave core.disk) core.state m

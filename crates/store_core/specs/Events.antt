@@ -16,7 +16,7 @@ use Rattle.store_model.specs.Step.{Machine, Step}
 use Rattle.store_state.specs.Meaning.{Rewritten}
 use Rattle.store_state.specs.Calls.{MadeCalls}
 use Rattle.store_images.specs.Stored.{MayStandFor, IsTidy}
-use Rattle.store_core.specs.Cores.{CoreStandsFor, unsure_of}
+use Rattle.store_core.specs.Cores.{CoreStandsFor, CoreShows, unsure_of}
 use Rattle.store_core.specs.declared.store.Core.{Core}
 
 -- Whenever a crash comes in the event, what it leaves stands for what it might have stood for before, or for what it may stand
@@ -43,12 +43,14 @@ pub record Stepped {D : Type 0} (g : Ghosts D) (old : Core D) (event : Event) (r
 -- One event of a core, with its reply.
 pub record Did {D : Type 0} (g : Ghosts D) (old : Core D) (event : Event) (reply : Reply) (new : Core D) : Type 0 where
   pub stepped : (m : Machine) → CoreStandsFor g old m → Stepped g old event reply new m
+  -- over whatever bytes it is a step of each machine that the core's memory shows
+  pub shown : (m : Machine) → CoreShows g old m → (m' : Machine) × CoreShows g new m' × Step (g.faults old.disk) (g.faults new.disk) m event reply m'
   -- where all images were tidy, all stay so
   pub tidy : IsTrue (g.tells old.disk) → (m : Machine) → CoreStandsFor g old m
       → ((image : Image) → g.may_leave old.disk image → IsTidy image)
       → LeavesOnly g.moment g.left_since old.disk new.disk IsTidy
   -- the files of what is open and stays so
-  pub files : IsTrue (g.tells old.disk) → (m : Machine) → CoreStandsFor g old m → (hold : Hold) → OpenIn m hold
+  pub files : IsTrue (g.tells old.disk) → (m : Machine) → CoreShows g old m → (hold : Hold) → OpenIn m hold
       → ends event reply hold ≡ false → (file : ℕ) → is_among file (files_of hold) ≡ true
       → Rewritten event reply file (bytes_of (g.held old.disk) file) (bytes_of (g.held new.disk) file)
   pub telling : g.tells new.disk ≡ g.tells old.disk

@@ -28,9 +28,10 @@ new_list = record {
 abbrev pub new_tail : Tail
 new_tail = record { file = 2; first = 0; count = 0; gate = 1 }
 
--- the image stands for each empty history, and is tidy
+-- the image stands for each empty history and for no other, and is tidy
 pub record StoresNothing (image : Image) : Type 0 where
   pub stands : (h : History) → IsEmptyHistory h → ImageStandsFor image h
+  pub only : (h : History) → ImageStandsFor image h → IsEmptyHistory h
   pub tidy : IsTidy image
 
 -- the disk of a new store

@@ -19,7 +19,7 @@ use Rattle.store_model.specs.After.{arrived}
 use Rattle.store_model.specs.Step.{Machine}
 use Rattle.store_images.specs.Log.{LogHolds}
 use Rattle.store_images.specs.Stored.{ImageStandsFor, IsSoundImage, KeepsStored, first_number}
-use Rattle.store_core.specs.Cores.{StandsFor, CoreStandsFor, segment_of, unsure_of}
+use Rattle.store_core.specs.Cores.{CoreStandsFor, CoreShows, segment_of, unsure_of}
 use Rattle.store_core.specs.LogReading.{LogBreaks}
 use Rattle.store_core.specs.Loose.{without_loose}
 use Rattle.store_core.specs.New.{new_list}
@@ -29,7 +29,7 @@ use Rattle.store_core.specs.declared.error.OpenError.TheVariants as errors
 use Rattle.store_core.specs.declared.state.CoreState.{CoreState}
 use Rattle.store_core.specs.declared.store.Core.{Core}
 
--- An opening, refused or not: whenever a crash comes, the image stands for what some image stood for before.
+-- An opening, refused or not: whenever a crash comes, the image stands for what some image stood for before and for nothing else.
 abbrev pub KeepsDisk : {D : Type 0} (g : Ghosts D) → D → D → Type 0
 KeepsDisk g disk later = IsTrue (g.tells disk) → Run KeepsStored g.moment g.left_since g.may_leave disk later
 
@@ -90,7 +90,7 @@ pub record Opened {D : Type 0} (g : Ghosts D) (disk : D) (moment : ℕ) (core : 
   -- and for some machine, where those bytes are sound or the disk doesn't tell them
   pub some : (IsTrue (g.tells disk) → IsSoundImage (g.held disk)) → (m : Machine) × CoreStandsFor g core m × BeginsEmpty m
   -- its memory in any case shows some machine
-  pub shows : (m : Machine) × StandsFor ⊥ (g.held core.disk) (g.may_leave core.disk) core.state m × BeginsEmpty m
+  pub shows : (m : Machine) × CoreShows g core m × BeginsEmpty m
 
 -- What its memory has then.
 pub record IsOpenedState (list : ListBody) (batches : List (List Span)) (moment : ℕ) (state : CoreState) : Type 0 where

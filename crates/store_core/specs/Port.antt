@@ -8,15 +8,16 @@ use Rattle.store_state.specs.Meaning.{Meaning}
 use Rattle.store_state.specs.Cores.{CoreMeaning, meaning_of}
 use Rattle.store_state.specs.Shown.{ShowsHistory}
 use Rattle.store_state.specs.declared.jobs.Look.{Look}
-use Rattle.store_core.specs.Cores.{CoreStandsFor}
+use Rattle.store_core.specs.Cores.{CoreStandsFor, CoreShows}
 use Rattle.store_core.specs.Events.{Did}
 use Rattle.store_core.specs.declared.store.Core.{Core}
 
--- The machines that it stands for, the blocks that it lists, and what its disk shows: whether it tells its bytes, the bytes of a
+-- The machines that it stands for, those that its memory shows, the blocks that it lists, and what its disk shows: whether it tells its bytes, the bytes of a
 -- file, and the counts of faults, of reads and of calls.
 abbrev pub shown_by : {D : Type 0} → Ghosts D → CoreMeaning (Core D)
 shown_by {D} g = record {
   stands_for = CoreStandsFor g;
+  in_memory = CoreShows g;
   tells = λ core. g.tells core.disk;
   shows = λ core file. bytes_of (g.held core.disk) file;
   block_holds = λ bytes info rows. BlockHolds rows bytes;

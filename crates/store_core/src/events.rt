@@ -5,7 +5,7 @@ ghost use Rattle.store_model.specs.Event.Event.{Push, Held, Look as TakeLook, Do
 ghost use Rattle.store_model.specs.Event.Reply.{Count, Fine};
 ghost use Rattle.store_model.specs.Step.{Machine, IsLookPin};
 ghost use Rattle.store_state.specs.Replies.{push_reply, look_reply};
-ghost use Rattle.store_core.specs.Cores.{CoreStandsFor};
+ghost use Rattle.store_core.specs.Cores.{CoreStandsFor, CoreShows};
 ghost use Rattle.store_core.specs.Events.{Did};
 ghost use Rattle.store_core.specs.Port.{LookShows};
 
@@ -76,7 +76,7 @@ impl<D: Device> Core<D> {
 
     /// Gives a look back, and ends its pin. It makes no device call.
     pub fn end_look(&mut self, look: Look)
-        requires open { (m : Machine) × CoreStandsFor D.Device.own self.now m × IsLookPin look.pin.number m.state }
+        requires open { (m : Machine) × CoreShows D.Device.own self.now m × IsLookPin look.pin.number m.state }
         ensures { Did D.Device.own self.old (Done look.pin.number) Fine self.new }
     {
         free_number(&mut self.state.pins, look.pin.number);

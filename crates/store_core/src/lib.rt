@@ -21,7 +21,7 @@ pub use error::OpenError;
 pub use laws::images_since_opening;
 pub use loose::empty_loose;
 pub use new_store::{make_store, open_new};
-pub use port::an_event_is_a_call;
+pub use port::{a_shown_core_is_a_port, an_event_is_a_call};
 pub use reading::read_log;
 pub use state::CoreState;
 pub use store::Core;

@@ -4,6 +4,8 @@ ghost use Rattle.std.specs.Prelude.{◌≡◌, []};
 ghost use Rattle.store_model.specs.Event.{Event, Reply};
 ghost use Rattle.store_model.specs.Holds.{own_files};
 ghost use Rattle.store_state.specs.Meaning.{Called};
+ghost use Rattle.store_model.specs.Step.{Machine};
+ghost use Rattle.store_core.specs.Cores.{CoreShows};
 ghost use Rattle.store_core.specs.Events.{Did};
 ghost use Rattle.store_core.specs.Port.{port_of};
 
@@ -38,4 +40,10 @@ pub fn an_event_is_a_call<D: Device>(old: &Core<D>, new: &Core<D>)
     ensures { (event : Event) (reply : Reply) → own_files reply ≡ [] →
         Did D.Device.own old.now event reply new.now →
         Called (port_of D.Device.own) old.now event reply new.now }
+{}
+
+/// A core whose memory shows a machine, as that of each one does which was opened, is a port in which nothing of a caller's is open:
+/// what it gives out from then on is.
+pub fn a_shown_core_is_a_port<D: Device>(core: &Core<D>)
+    ensures { (m : Machine) → CoreShows D.Device.own core.now m → (port_of D.Device.own).holds core.now [] }
 {}

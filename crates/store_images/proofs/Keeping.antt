@@ -6,7 +6,9 @@ use Rattle.span_types.specs.declared.spans.Span.{Span}
 use Rattle.disk_model.specs.Images.{Image, bytes_of}
 use Rattle.block_list.specs.Body.{MeetsRules, files_of}
 use Rattle.block_list.specs.Slots.{SlotsHold, ImageHoldsList}
-use Rattle.block_list.specs.Loading.{KeepsList}
+use Rattle.block_list.specs.Loading.{StaysOrClears, KeepsList}
+use Rattle.block_list.proofs.LoadLemmas.{still_vacant, cut_stays_vacant}
+use Rattle.block_list.proofs.SlotLemmas.{seen_from, seen_back}
 use Rattle.block_list.proofs.AgainSlots.{slots_again, only_one}
 use Rattle.block_list.proofs.ReadyLemmas.{rules_of}
 use Rattle.block_list.specs.declared.body.BlockRef.{BlockRef}
@@ -65,10 +67,10 @@ store_same a b body blocks batches listed same s = record {
 -- ---- steps that keep what is stored
 
 pub keeps_same : (image : Image) → KeepsStored image image
-keeps_same image = record { stands = λ h s. s; tidy = λ t. t }
+keeps_same image = record { stands = λ h s. s; only = λ h s. s; tidy = λ t. t }
 
 pub keeps_then : (a b c : Image) → KeepsStored a b → KeepsStored b c → KeepsStored a c
-keeps_then a b c first second = record { stands = λ h s. second.stands h (first.stands h s); tidy = λ t. second.tidy (first.tidy t) }
+keeps_then a b c first second = record { stands = λ h s. second.stands h (first.stands h s); only = λ h s. first.only h (second.only h s); tidy = λ t. second.tidy (first.tidy t) }
 
 pub stands_by_stores : (a b : Image) → ((rows : _) (count : ℕ) → ImageStores a rows count → ImageStores b rows count) → (h : History) → ImageStandsFor a h → ImageStandsFor b h
 stands_by_stores a b stores h s = record { rows = s.rows; stores = stores s.rows _ s.stores; agrees = s.agrees }
@@ -84,10 +86,22 @@ module _ (a b : Image) (lists : (list : Option ListBody) → ImageHoldsList a li
   pub stands_kept : (h : History) → ImageStandsFor a h → ImageStandsFor b h
   stands_kept = stands_by_stores a b stores_kept
 
+-- a slot that stays, or is vacant and is cut, was part of what the two stand for
+slot_back : (slot : ℕ) (old new others : List ℕ) (found : Option ListBody) → StaysOrClears old new → SlotsHold slot new others found → SlotsHold slot old others found
+slot_back slot old new others found (inl same) stands = subst (λ (b : List ℕ). SlotsHold slot b others found) same stands
+slot_back slot old new others found (inr cut) stands = still_vacant slot new others old found stands (cut_stays_vacant old new cut.0 cut.2) cut.0
+
+lists_back : (old new : Image) → KeepsList old new → (found : Option ListBody) → ImageHoldsList new found → ImageHoldsList old found
+lists_back old new keeps found holds =
+    let mid : Image = (0, bytes_of old 0) ∷ (1, bytes_of new 1) ∷ [] in
+    let one : ImageHoldsList mid found = slot_back 0 (bytes_of old 0) (bytes_of new 0) (bytes_of new 1) found (keeps.slots 0 (omega arith)) holds in
+    seen_back 1 old found (omega arith) (slot_back 1 (bytes_of old 1) (bytes_of new 1) (bytes_of old 0) found (keeps.slots 1 (omega arith)) (seen_from 1 mid found (omega arith) one))
+
 -- what loading makes of an image
 pub loaded : (old new : Image) → KeepsList old new → KeepsStored old new
 loaded old new keeps = record {
   stands = stands_kept old new keeps.list (λ body holds file named. keeps.files file (given_out body file (rules_in old body holds) named).0);
+  only = stands_kept new old (lists_back old new keeps) (λ body holds file named. sym (keeps.files file (given_out body file (rules_in new body holds) named).0));
   tidy = λ t. record {
     list = t.list;
     counts = keeps.list t.list t.counts;

@@ -95,7 +95,8 @@ pub record IsTidy (image : Image) : Type 0 where
   pub files : (file : ℕ) → 2 ≤ file → file < next_file_of list
       → (bytes_of image file ≡ []) ⊎ Contains (named_files list) file
 
--- the new image stands for what the old one stood for, and is tidy where the old one was
+-- the new image stands for what the old one stood for and for nothing else, and is tidy where the old one was
 pub record KeepsStored (old new : Image) : Type 0 where
   pub stands : (h : History) → ImageStandsFor old h → ImageStandsFor new h
+  pub only : (h : History) → ImageStandsFor new h → ImageStandsFor old h
   pub tidy : IsTidy old → IsTidy new

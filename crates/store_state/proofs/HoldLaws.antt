@@ -3,8 +3,8 @@ use Rattle.std.proofs.Common.{◌≡◌, ℕ, ◌+◌, ◌<◌, zero, suc, List,
 use Rattle.std.specs.List.{Contains}
 use Rattle.std.proofs.lemmas.List.Elements.{Contains-append_left, Contains-append_right}
 use Rattle.store_model.specs.Event.{Event, Reply}
-use Rattle.store_model.specs.Holds.{Hold, ends, opened}
-use Rattle.store_state.specs.Meaning.{View, Meaning, Called, IsOpen}
+use Rattle.store_model.specs.Holds.{Hold, ends, opened, holds_after}
+use Rattle.store_state.specs.Meaning.{Meaning, Called, IsOpen}
 
 still_there : {X : Type 0} (p : X → Bool) (xs : List X) (x : X) (k : ℕ) → k < length xs → slice_index_or xs k x ≡ x → p x ≡ true → Contains (filter p xs) x
 still_there p [] x k l e h = absurd (omega arith)
@@ -19,18 +19,15 @@ still_there p (y ∷ ys) x (suc k) l e h =
 -- What is open and isn't ended by a call stays open.
 pub stays_open : {P : Type 0} (meaning : Meaning P) (old new : P) (event : Event) (reply : Reply) (hold : Hold) → Called meaning old event reply new →
     IsOpen meaning old hold → ends event reply hold ≡ false → IsOpen meaning new hold
-stays_open meaning old new event reply hold called (v, known, there) n =
-    let after = called.learns v known in (
-      after.0,
-      after.1,
-      subst (λ hs. Contains hs hold) (sym after.3)
-          (Contains-append_left (filter (λ x. not (ends event reply x)) v.holds) (opened reply) hold
-          (still_there (λ x. not (ends event reply x)) v.holds hold there.0 there.1 there.2 (ap not n))),
-    )
+stays_open meaning old new event reply hold called (held, known, there) n = (
+  holds_after event reply held,
+  called.holds held known,
+  Contains-append_left (filter (λ x. not (ends event reply x)) held) (opened reply) hold
+      (still_there (λ x. not (ends event reply x)) held hold there.0 there.1 there.2 (ap not n)),
+)
 
 -- A call opens what it gives.
 pub opens_new : {P : Type 0} (meaning : Meaning P) (old new : P) (event : Event) (reply : Reply) (hold : Hold) → Called meaning old event reply new →
-    ((v : View) × meaning.knows old v) → Contains (opened reply) hold → IsOpen meaning new hold
-opens_new meaning old new event reply hold called (v, known) there =
-    let after = called.learns v known in
-    (after.0, after.1, subst (λ hs. Contains hs hold) (sym after.3) (Contains-append_right (filter (λ x. not (ends event reply x)) v.holds) (opened reply) hold there))
+    ((held : List Hold) × meaning.holds old held) → Contains (opened reply) hold → IsOpen meaning new hold
+opens_new meaning old new event reply hold called (held, known) there =
+    (holds_after event reply held, called.holds held known, Contains-append_right (filter (λ x. not (ends event reply x)) held) (opened reply) hold there)

@@ -15,9 +15,10 @@ use Rattle.store_state.specs.Calls.{MadeCalls}
 use Rattle.store_state.specs.Written.{BlockRelation}
 use Rattle.store_state.specs.Meaning.{View, Meaning, Rewritten, reads_of}
 
--- Which machines a core stands for, and what it shows besides.
+-- Which machines a core stands for, which ones its memory shows, whatever its disk holds, and what it shows besides.
 pub record CoreMeaning (P : Type 0) : Type 1 where
   pub stands_for : P → Machine → Type 0
+  pub in_memory : P → Machine → Type 0
   pub tells : P → Bool
   pub shows : P → ℕ → List ℕ
   pub block_holds : BlockRelation
@@ -35,14 +36,28 @@ pub record CoreKnows {P : Type 0} (core : CoreMeaning P) (port : P) (v : View) :
   pub history : machine.history ≡ v.history
   pub open_holds : (hold : Hold) → Contains v.holds hold → OpenIn machine hold
 
+-- All these are open in one sound machine that the core's memory shows.
+pub record CoreHolds {P : Type 0} (core : CoreMeaning P) (port : P) (held : List Hold) : Type 0 where
+  pub machine : Machine
+  pub shown : core.in_memory port machine
+  pub agrees : Agrees machine
+  pub sound : StateIsSound machine.state
+  pub open_holds : (hold : Hold) → Contains held hold → OpenIn machine hold
+
 -- The event is a step of each machine that the core stands for.
 abbrev pub CoreDid : {P : Type 0} → CoreMeaning P → P → Event → Reply → P → Type 0
 CoreDid core old event reply new = (m : Machine) → core.stands_for old m →
     (m' : Machine) × core.stands_for new m' × Step (core.faults old) (core.faults new) m event reply m'
 
+-- It is a step of each machine that the core's memory shows.
+abbrev pub CoreShown : {P : Type 0} → CoreMeaning P → P → Event → Reply → P → Type 0
+CoreShown core old event reply new = (m : Machine) → core.in_memory old m →
+    (m' : Machine) × core.in_memory new m' × Step (core.faults old) (core.faults new) m event reply m'
+
 abbrev pub meaning_of : {P : Type 0} → CoreMeaning P → Meaning P
 meaning_of {P} core = record {
   knows = CoreKnows core;
+  holds = CoreHolds core;
   tells = core.tells;
   shows = core.shows;
   block_holds = core.block_holds;
@@ -56,8 +71,9 @@ meaning_of {P} core = record {
 -- What a core shows of one event.
 pub record CoreSteps {P : Type 0} (core : CoreMeaning P) (old : P) (event : Event) (reply : Reply) (new : P) : Type 0 where
   pub did : CoreDid core old event reply new
+  pub shown : CoreShown core old event reply new
   pub telling : core.tells new ≡ core.tells old
-  pub bytes : IsTrue (core.tells old) → (m : Machine) → core.stands_for old m → (hold : Hold) → OpenIn m hold →
+  pub bytes : IsTrue (core.tells old) → (m : Machine) → core.in_memory old m → (hold : Hold) → OpenIn m hold →
       ends event reply hold ≡ false → (file : ℕ) → is_among file (files_of hold) ≡ true
       → Rewritten event reply file (core.shows old file) (core.shows new file)
   pub empty : IsTrue (core.tells old) → (file : ℕ) → is_among file (own_files reply) ≡ true → core.shows new file ≡ []

@@ -22,6 +22,8 @@ pub record View : Type 0 where
 -- what a port shows
 pub record Meaning (P : Type 0) : Type 1 where
   pub knows : P → View → Type 0
+  -- all these looks and jobs are open in it at once, whatever bytes it stands on
+  pub holds : P → List Hold → Type 0
   -- whether contracts speak of bytes, and then the bytes of a file
   pub tells : P → Bool
   pub shows : P → ℕ → List ℕ
@@ -38,7 +40,7 @@ pub record Meaning (P : Type 0) : Type 1 where
 
 -- what the port gave out, and nobody gave back
 abbrev pub IsOpen : {P : Type 0} → Meaning P → P → Hold → Type 0
-IsOpen meaning port hold = (v : View) × meaning.knows port v × Contains v.holds hold
+IsOpen meaning port hold = (held : List Hold) × meaning.holds port held × Contains held hold
 
 -- What a call tells of the history: others may have pushed before it, then comes its own batch.
 abbrev pub Learns : Event → Reply → History → History → Type 0
@@ -65,6 +67,8 @@ pub record Called {P : Type 0} (meaning : Meaning P) (old : P) (event : Event) (
   -- the history that is known grows, and what is open stays open but for what the call ends
   pub learns : (v : View) → meaning.knows old v → (v' : View) × meaning.knows new v'
       × Learns event reply v.history v'.history × (v'.holds ≡ holds_after event reply v.holds)
+  -- the same of what is open where no history is known
+  pub holds : (held : List Hold) → meaning.holds old held → meaning.holds new (holds_after event reply held)
   pub telling : meaning.tells new ≡ meaning.tells old
   -- the files of what stays open
   pub bytes : IsTrue (meaning.tells old) → (hold : Hold) → IsOpen meaning old hold → ends event reply hold ≡ false →

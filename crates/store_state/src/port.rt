@@ -1,6 +1,6 @@
 //! The calls of a store.
 
-ghost use Rattle.std.specs.Prelude.{◌≡◌, ◌≢◌, ◌≤◌, ◌<◌, ◌+◌, ◌^◌, List, length, Err, IsTrue, IfOk, IfSome, OnOk, OnErr};
+ghost use Rattle.std.specs.Prelude.{◌≡◌, ◌≢◌, ◌≤◌, ◌+◌, List, length, Err, IsTrue, IfOk, IfSome, OnOk, OnErr};
 ghost use Rattle.block_info.specs.InfoParts.{InfoParts};
 ghost use Rattle.store_model.specs.Event.Event.{Push, Cut, CutAll, Held, BeginFlush, BeginCompact, WritePiece, CommitFlush, CommitCompact, DropFlush, DropCompact, Look as TakeLook, ReadPage, Done, Reclaim};
 ghost use Rattle.store_model.specs.Event.Reply.{Count, Fine};
@@ -81,7 +81,6 @@ pub trait Port: LookPort {
     fn write_piece(&mut self, out: &mut JobFile, bytes: &[u8]) -> Result<(), WriteError>
         requires open { IsJobOf out.now (IsOpen Self.meaning self.now) }
         requires whole { IsTrue (Self.meaning.tells self.now) → HasWritten (Self.meaning.shows self.now) out.now }
-        requires near { out.now.written + length bytes.now < 2 ^ 63 }
         ensures called { Called Self.meaning self.old (WritePiece out.old.number out.old.file bytes.now)
             (write_reply result) self.new }
         ensures raised { OnOk result (out.new.written ≡ out.old.written + length bytes.now) }

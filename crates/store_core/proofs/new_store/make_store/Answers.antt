@@ -23,6 +23,24 @@ commit-requires g c = λ told_mid.
     (ready_still d.moment d.left_since d.may_leave c.args.disk.now c.create.new.disk (d.held c.args.disk.now) (d.held c.create.new.disk) _ _ (c.requires.vacant told) c.create.ensures.any_moment (c.create.ensures.besides told))
     body.generation
 
+pub returns-in_default-clause-any_moment : goal.returns-in_default-clause-any_moment
+returns-in_default-clause-any_moment g c = λ told.
+    let d = g.D.Device in
+    let disk = c.args.disk.now in
+    vacant_now d.moment d.left_since d.may_leave disk (d.held disk) (g.met.D.Device.only_now disk) (c.requires.vacant told)
+
+pub returns-in_default-prepare-clause-any_moment : goal.returns-in_default-prepare-clause-any_moment
+returns-in_default-prepare-clause-any_moment g c = λ told.
+    let d = g.D.Device in
+    let disk = c.args.disk.now in
+    vacant_now d.moment d.left_since d.may_leave disk (d.held disk) (g.met.D.Device.only_now disk) (c.requires.vacant told)
+
+pub returns-in_default-create-clause-any_moment : goal.returns-in_default-create-clause-any_moment
+returns-in_default-create-clause-any_moment g c = λ told.
+    let d = g.D.Device in
+    let disk = c.args.disk.now in
+    made_segment d.moment d.left_since d.may_leave disk c.create.new.disk (d.held disk) _ _ (c.requires.vacant told) c.create.ensures.any_moment
+
 pub returns-in_default-commit-clause-any_moment : goal.returns-in_default-commit-clause-any_moment
 returns-in_default-commit-clause-any_moment g c = λ told.
     let d = g.D.Device in

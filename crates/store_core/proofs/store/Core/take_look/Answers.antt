@@ -5,6 +5,11 @@ use Rattle.store_core.proofs.Showing.{look_shows}
 use Rattle.store_core.proofs.LookEvents.{did_looked, did_look_lacking}
 use Rattle.store_core.proofs.store.Core.take_look.Goals as goal
 
+pub returns-in_err-rows-clause-looked : goal.returns-in_err-rows-clause-looked
+returns-in_err-rows-clause-looked g c =
+    let p = err_from_is_err_and c.from_residual.result c.from_residual.ensures.1 in
+    rw p.1 (did_look_lacking g.D.Device g.met.D.Device.only_now c.args.self.now c.args.self.now.state.pins (λ n. refl))
+
 pub returns-in_err-blocks-clause-looked : goal.returns-in_err-blocks-clause-looked
 returns-in_err-blocks-clause-looked g c =
     let p = err_from_is_err_and c.from_residual-in_err-blocks.result c.from_residual-in_err-blocks.ensures.1 in
