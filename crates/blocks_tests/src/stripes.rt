@@ -231,14 +231,10 @@ fn cut_or_with_another_fill(rt: HostRuntime) -> Result<(), Fail> {
         let mut bytes = page(alloc, words)?;
         assert_eq!(rt; told(alloc, bytes.as_slice(), form)?, SOUND);
         assert_eq!(rt;
-            first_untold_cut(alloc, bytes.as_slice(), count, form)?,
-            count
+            first_untold_cut(alloc, bytes.as_slice(), 4096, form)?,
+            4096
         );
-        for place in [count, 1000, 4095] {
-            assert_eq!(rt;
-                told(alloc, cut(bytes.as_slice(), place), form)?,
-                place as u64
-            );
+        for place in count..4096 {
             flip(bytes.as_mut_slice(), place, 1);
             assert_eq!(rt; told(alloc, bytes.as_slice(), form)?, place as u64);
             flip(bytes.as_mut_slice(), place, 1);
