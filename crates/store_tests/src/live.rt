@@ -5,8 +5,8 @@ ghost use Rattle.span_types.specs.Promises.{AreNames};
 
 use live_traces::Live;
 use span_types::{
-    Attrs, Batch, Key, Memory, Resource, Rows, Scope, Seq, SharedResource, SharedScope, Span,
-    SpanId, SpanKind, Spans, StatusCode, Text, TraceId,
+    Attrs, Batch, Key, MOST_SPANS, Memory, Resource, Rows, Scope, Seq, SharedResource, SharedScope,
+    Span, SpanId, SpanKind, Spans, StatusCode, Text, TraceId, TryCopy,
 };
 use std::alloc::Global;
 
@@ -75,6 +75,21 @@ pub(crate) fn both(alloc: Global) -> Result<Batch, Memory> {
 pub(crate) fn another(alloc: Global) -> Result<Batch, Memory> {
     let former = span(alloc, TWO)?;
     let spans = Vec::from_array(alloc, [former])?;
+    Ok(Batch {
+        spans: Spans::of(spans),
+    })
+}
+
+// A batch of so many spans, all of which have one key. More than a batch may have are refused.
+pub(crate) fn many(alloc: Global, count: usize) -> Result<Batch, Memory> {
+    let one = span(alloc, ONE)?;
+    let mut spans = Vec::new(alloc);
+    for _ in 0..count {
+        spans.push(one.copy()?)?;
+    }
+    if spans.len() as u64 > MOST_SPANS {
+        return Err(Memory);
+    }
     Ok(Batch {
         spans: Spans::of(spans),
     })
