@@ -8,9 +8,9 @@ use Rattle.block_index.specs.Bloom.{bloom_bytes}
 use Rattle.block_index.specs.Index.{index_bytes, traces}
 use Rattle.block_format.specs.declared.header.Header.{Header}
 use Rattle.block_format.specs.Blocks.{AreOfOneFile, BlockHasHeader, BlockHasInfo, BlockHolds, StripesHaveEntries, ids_of, info_of}
-use Rattle.block_format.specs.Stripes.{StripeHolds, is_extended}
+use Rattle.block_stripes.specs.Stripes.{StripeHolds, is_extended}
 use Rattle.block_format.proofs.HeaderLaws.{cut, one_front}
-use Rattle.block_format.proofs.StripeLaws.{again_stripe}
+use Rattle.block_stripes.proofs.StripeLaws.{again_stripe}
 
 same_ok : (a b : List Row) → (let r : Result (List Row) ℕ = Ok a in let q : Result (List Row) ℕ = Ok b in r ≡ q) → a ≡ b
 same_ok a b e = cc

@@ -10,13 +10,13 @@ use Rattle.span_fields.proofs.Meant.{bound, same_pair, step, took_none, took_the
 use Rattle.block_info.specs.declared.info.StripeInfo.{StripeInfo}
 use Rattle.block_format.specs.declared.header.Header.{Header}
 use Rattle.block_format.specs.declared.header_reading.Front.{Front}
-use Rattle.block_format.specs.StripeEncodings.{fill_size, padded}
-use Rattle.block_format.specs.StripeReadings.{unfilled, unless_some}
+use Rattle.block_stripes.specs.StripeEncodings.{fill_size, padded}
+use Rattle.block_stripes.specs.StripeReadings.{unfilled, unless_some}
 use Rattle.block_format.specs.Headers.{AreFromPage, HasMoments, HeaderHolds, IsAtPage, counts_bytes, entry_bytes, fields_bytes, header_pages}
 use Rattle.block_format.specs.HeaderReadings.{counts_at, entries_at, entry_at, header_at}
 use Rattle.block_format.proofs.HeaderFields.{IsFront, IsGoodEntry, again_counts, again_entry, front_bytes, meant_counts, meant_entry}
 use Rattle.block_format.proofs.HeaderSteps.{length-fields}
-use Rattle.block_format.proofs.StripeLaws.{fill_again, fill_found}
+use Rattle.block_stripes.proofs.StripeLaws.{fill_again, fill_found}
 
 -- ---- entries
 

@@ -10,7 +10,7 @@ use Rattle.span_fields.specs.declared.breaks.Break.{Break}
 use Rattle.span_fields.specs.declared.breaks.Break.TheVariants as breaks
 use Rattle.block_info.specs.declared.info.StripeInfo.{StripeInfo}
 use Rattle.block_format.specs.declared.header.Header.{Header}
-use Rattle.block_format.specs.StripeEncodings.{fill_size}
+use Rattle.block_stripes.specs.StripeEncodings.{fill_size}
 use Rattle.block_format.specs.Headers.{counts_bytes, entry_bytes, fields_bytes, header_bytes}
 use Rattle.block_format.specs.HeaderReadings.{entries_at, entry_at}
 

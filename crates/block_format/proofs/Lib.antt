@@ -1,14 +1,4 @@
-pub mod PartLaws
-pub mod PartSteps
-pub mod Promised
-pub mod ColumnsOfRows
-pub mod ContentLaws
-pub mod StripeLaws
 pub mod HeaderSteps
 pub mod HeaderFields
 pub mod HeaderLaws
 pub mod BlockLaws
-pub mod StripeSteps
-pub mod NamedCells
-pub mod KeptRows
-pub mod ReadSteps

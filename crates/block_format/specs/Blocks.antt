@@ -10,8 +10,8 @@ use Rattle.block_index.specs.Bloom.{bloom_bytes, filter_pages}
 use Rattle.block_index.specs.Index.{entries, index_bytes, traces}
 use Rattle.block_format.specs.declared.header.Header.{Header}
 use Rattle.block_format.specs.Headers.{HeaderHolds}
-use Rattle.block_format.specs.StripeReadings.{ascend}
-use Rattle.block_format.specs.Stripes.{StripeHolds}
+use Rattle.block_stripes.specs.StripeReadings.{ascend}
+use Rattle.block_stripes.specs.Stripes.{StripeHolds}
 
 -- the trace ids of rows, in the order of the rows
 abbrev pub ids_of : List Row → List TraceId

@@ -7,7 +7,7 @@ use Rattle.block_info.specs.declared.info.StripeInfo.{StripeInfo}
 use Rattle.block_format.specs.declared.header.Header.{Header}
 use Rattle.block_format.specs.declared.header_reading.Front.{Front}
 use Rattle.block_format.specs.Headers.{header_pages}
-use Rattle.block_format.specs.StripeReadings.{unfilled, unless_some}
+use Rattle.block_stripes.specs.StripeReadings.{unfilled, unless_some}
 
 -- ---- fields
 

@@ -5,10 +5,10 @@ use Rattle.std.specs.List.{AllByRecursion, flat_map}
 use Rattle.byte_fields.specs.Spelling.{fixed32_bytes, fixed64_bytes}
 use Rattle.span_fields.specs.Sound.{IsBelow64}
 use Rattle.block_info.specs.declared.info.StripeInfo.{StripeInfo}
-use Rattle.block_format.specs.declared.error.FormatError.{FormatError}
-use Rattle.block_format.specs.declared.error.FormatError.TheVariants.{NotBlock, Memory}
+use Rattle.block_stripes.specs.declared.error.FormatError.{FormatError}
+use Rattle.block_stripes.specs.declared.error.FormatError.TheVariants.{NotBlock, Memory}
 use Rattle.block_format.specs.declared.header.Header.{Header}
-use Rattle.block_format.specs.StripeEncodings.{padded}
+use Rattle.block_stripes.specs.StripeEncodings.{padded}
 
 -- ---- bytes
 

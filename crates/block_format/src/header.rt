@@ -4,8 +4,8 @@ ghost use Rattle.std.specs.Prelude.{◌≡◌, ◌++◌, ◌⊎◌, ◌<◌, ◌
 ghost use Rattle.std.specs.List.{AllByRecursion, flat_map};
 ghost use Rattle.block_format.specs.Headers.{CanBeHeader, HasMoments, HeaderHolds, counts_bytes, entry_bytes};
 
-use crate::fill::put_fill;
 use block_info::{StripeInfo, Stripes};
+use block_stripes::put_fill;
 use byte_fields::Writer;
 use span_types::{Bytes, Memory};
 use std::alloc::Global;

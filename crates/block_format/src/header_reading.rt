@@ -5,9 +5,9 @@ ghost use Rattle.span_fields.specs.Breaks.{Answers, Gives, break_of};
 ghost use Rattle.block_format.specs.Headers.{ReadsHeader, header_pages};
 ghost use Rattle.block_format.specs.HeaderReadings.{counts_at, entries_at, entry_at, form_at, has_rows, header_at, is_in_reach, number32_at, number64_at, passing, sizes_at};
 
-use crate::fill::unfilled;
 use crate::{FormatError, Header};
 use block_info::{StripeInfo, Stripes};
+use block_stripes::unfilled;
 use byte_fields::{FieldError, Reader};
 use span_fields::{Break, fixed64};
 use std::alloc::Global;

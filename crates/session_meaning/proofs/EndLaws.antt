@@ -61,7 +61,7 @@ or_none false b e = (refl, e)
 reply_plain : (item : Item) (before : History) (reply : Reply) (after : History) → IsAnsweredOrStarved item before reply after → is_refused item ≡ false
     → is_refusal reply ≡ false
 reply_plain (Ok asked) before reply after (inr starved) none = ap is_refusal starved.0
-reply_plain (Ok (request.Push reading)) before reply after (inl a) none = ap is_refusal a.0
+reply_plain (Ok (request.Push reading moment)) before reply after (inl a) none = ap is_refusal a.0
 reply_plain (Ok (request.Trace id)) before reply after (inl a) none = ap is_refusal a.2
 reply_plain (Ok (request.Search s)) before reply after (inl a) none = ap is_refusal a.2
 reply_plain (Err why) before reply after a none = ap is_refusal a.0 ∙ none

@@ -66,7 +66,7 @@ pub record IsFound (s : Search) (history : History) (results : List TraceResult)
 -- A search is told that number, and what it finds.
 -- A line that asks nothing is refused for its cause, and appends nothing.
 abbrev pub IsAnswered : Item → History → Reply → History → Type 0
-IsAnswered (Ok (Push reading)) before reply after =
+IsAnswered (Ok (Push reading moment)) before reply after =
     (reply ≡ Pushed (length_of before) (length reading.batch.spans) reading.rejected reading.skipped) × (after ≡ with_push before reading.batch.spans)
 IsAnswered (Ok (Trace id)) before reply after =
     (rows : List Row) × IsFirstOf (rows_of_trace id (rows_of before)) rows × (reply ≡ Traced (length_of before) rows) × (after ≡ before)

@@ -31,11 +31,11 @@ fn told(alloc: Global, search: &Search) -> Result<Text, Memory> {
 fn asked(alloc: Global, line: &[u8]) -> Result<Text, Memory> {
     let refused = vec![in alloc; 2]?;
     let mut maker = ScriptedMaker::new(alloc, Calls::of(refused));
-    match read_request(alloc, line, &mut maker) {
-        Ok(Request::Push(reading)) => {
+    match read_request(alloc, line, 7, &mut maker) {
+        Ok(Request::Push { reading, moment }) => {
             let spans = reading.batch.spans.len();
             let text = format!(in alloc;
-                "push {spans} {} {}\n",
+                "push {spans} {} {} at {moment}\n",
                 reading.rejected, reading.skipped
             )?;
             Ok(Text::of(text))
@@ -54,13 +54,13 @@ const LINES: &str = r#"
 push => refused bad-request at=4
 push_ => refused bad-json
 push_7 => refused bad-otlp path=$
-push_{} => push 0 0 0
-push__{}_ => push 0 0 0
+push_{} => push 0 0 0 at 7
+push__{}_ => push 0 0 0 at 7
 push_{}{} => refused bad-json
 push_{"resourceSpans": => refused bad-json
 push_{"resourceSpans":[{"scopeSpans":7}]} => refused bad-otlp path=$.resourceSpans[0].scopeSpans
-push_{"resourceSpans":[{"scopeSpans":[{"spans":[{}]}]}]} => push 0 1 0
-push_{"resourceSpans":[{"resource":{"attributes":[{}]}}]} => push 0 0 1
+push_{"resourceSpans":[{"scopeSpans":[{"spans":[{}]}]}]} => push 0 1 0 at 7
+push_{"resourceSpans":[{"resource":{"attributes":[{}]}}]} => push 0 0 1 at 7
 push_push_{} => refused bad-json
 Push_{} => refused bad-request at=0
 PUSH_{} => refused bad-request at=0
@@ -198,7 +198,7 @@ fn lines_may_have_16777216_bytes(rt: HostRuntime) -> Result<(), Fail> {
     for _ in 0..16_777_209 {
         line.push_str(" ")?;
     }
-    check_line(&rt, line.as_bytes(), "push 0 0 0")?;
+    check_line(&rt, line.as_bytes(), "push 0 0 0 at 7")?;
     line.push_str(" ")?;
     check_line(&rt, line.as_bytes(), "refused too-long length=16777217")?;
     Ok(())
@@ -266,5 +266,24 @@ fn refusals_are_written(rt: HostRuntime) -> Result<(), Fail> {
     check_refusal(&rt, Refusal::Memory, "refused memory\n")?;
     let spans = Refusal::TooMany { spans: 16_385 };
     check_refusal(&rt, spans, "refused too-many spans=16385\n")?;
+    Ok(())
+}
+
+#[test]
+fn refusals_of_a_store_are_written(rt: HostRuntime) -> Result<(), Fail> {
+    let live = Refusal::LiveFull { held: 262_144 };
+    check_refusal(&rt, live, "refused live-full held=262144\n")?;
+    let store = Refusal::StoreFull {
+        pushes: 4_294_967_295,
+    };
+    check_refusal(&rt, store, "refused store-full pushes=4294967295\n")?;
+    let read_only = Refusal::ReadOnly { faults: 1 };
+    check_refusal(&rt, read_only, "refused read-only faults=1\n")?;
+    check_refusal(&rt, Refusal::DiskFault, "refused disk-fault\n")?;
+    let bytes = Refusal::NotStore {
+        file: 3,
+        at: 16_383,
+    };
+    check_refusal(&rt, bytes, "refused not-store file=3 at=16383\n")?;
     Ok(())
 }

@@ -7,7 +7,7 @@ use Rattle.session_text.specs.declared.refusal.KindFault.TheVariants as kind
 use Rattle.session_text.specs.declared.refusal.QueryFault.{QueryFault}
 use Rattle.session_text.specs.declared.refusal.QueryFault.TheVariants as query
 use Rattle.session_text.specs.declared.refusal.Refusal.{Refusal}
-use Rattle.session_text.specs.declared.refusal.Refusal.TheVariants.{TooLong, BadRequest, BadJson, BadOtlp, TooMany, BadQuery, BadType, BadPattern, PatternTooBig, Memory}
+use Rattle.session_text.specs.declared.refusal.Refusal.TheVariants.{TooLong, BadRequest, BadJson, BadOtlp, TooMany, BadQuery, BadType, BadPattern, PatternTooBig, LiveFull, StoreFull, ReadOnly, DiskFault, NotStore, Memory}
 use Rattle.session_text.specs.declared.reply.Reply.{Reply}
 use Rattle.session_text.specs.declared.reply.Reply.TheVariants.{Pushed, Traced, Searched, Refused}
 
@@ -54,6 +54,10 @@ kind_text (kind.NotTruth at) = refused_text (codes "bad-type not-truth at=") (de
 kind_text (kind.DivisionInAggregate at) = refused_text (codes "bad-type division-in-aggregate at=") (decimal at)
 kind_text (kind.NotNumber at) = refused_text (codes "bad-type not-number at=") (decimal at)
 
+-- a disk whose bytes aren't a store's from this byte of this file on
+abbrev pub not_store_text : ℕ → ℕ → List ℕ
+not_store_text file at = texts (codes "refused not-store file=" ∷ decimal file ∷ codes " at=" ∷ decimal at ∷ codes "\n" ∷ [])
+
 abbrev pub refusal_text : Refusal → List ℕ
 refusal_text (TooLong length) = refused_text (codes "too-long length=") (decimal length)
 refusal_text (BadRequest at) = refused_text (codes "bad-request at=") (decimal at)
@@ -64,6 +68,11 @@ refusal_text (BadQuery fault) = query_text fault
 refusal_text (BadType fault) = kind_text fault
 refusal_text (BadPattern at) = refused_text (codes "bad-pattern at=") (decimal at)
 refusal_text (PatternTooBig at) = refused_text (codes "pattern-too-big at=") (decimal at)
+refusal_text (LiveFull held) = refused_text (codes "live-full held=") (decimal held)
+refusal_text (StoreFull pushes) = refused_text (codes "store-full pushes=") (decimal pushes)
+refusal_text (ReadOnly faults) = refused_text (codes "read-only faults=") (decimal faults)
+refusal_text DiskFault = refused_text (codes "disk-fault") []
+refusal_text (NotStore file at) = not_store_text file at
 refusal_text Memory = refused_text (codes "memory") []
 
 -- The text of a reply.

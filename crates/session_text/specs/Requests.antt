@@ -22,15 +22,16 @@ refusal_of NoJson = BadJson
 refusal_of (WrongForm path) = BadOtlp (path_text path)
 refusal_of (TooManySpans spans) = TooMany spans
 
--- What is pushed: what the JSON gives.
-abbrev pub pushed : Result Given otlp.Refusal → Result Request Refusal
-pushed (Ok given) = Ok (Push (record { batch = record { spans = given.spans }; rejected = given.rejected; skipped = given.skipped }))
-pushed (Err why) = Err (refusal_of why)
+-- What is pushed at a moment: what the JSON gives.
+abbrev pub pushed : ℕ → Result Given otlp.Refusal → Result Request Refusal
+pushed moment (Ok given) =
+    Ok (Push (record { batch = record { spans = given.spans }; rejected = given.rejected; skipped = given.skipped }) moment)
+pushed moment (Err why) = Err (refusal_of why)
 
 -- A push is the word `push`, one space and the rest of the line, which may be empty. A line of `push` alone lacks a part.
-abbrev pub push_with : ℕ → Option (List ℕ) → Result Request Refusal
-push_with len None = Err (BadRequest len)
-push_with len (Some json) = pushed (reading_of json)
+abbrev pub push_with : ℕ → ℕ → Option (List ℕ) → Result Request Refusal
+push_with moment len None = Err (BadRequest len)
+push_with moment len (Some json) = pushed moment (reading_of json)
 
 -- The id, and no part behind it. `start` is its first byte.
 abbrev pub with_id : ℕ → List ℕ → Option TraceId → Option (List ℕ) → Result Request Refusal
@@ -61,20 +62,21 @@ other_line word line rest =
     else if bytes_eq word (codes "search") then search_with (search_parts (length line) rest)
     else plain (Err (BadRequest 0))
 
--- What a request is, by its first part. Only a push may have bytes that aren't UTF-8, and its JSON is then none.
-abbrev pub request_by : List ℕ → List ℕ → Option (List ℕ) → Line
-request_by word line rest =
-    if bytes_eq word (codes "push") then plain (push_with (length line) rest)
+-- What a request is that was read at a moment, by its first part. Only a push may have bytes that aren't UTF-8, and its JSON
+-- is then none.
+abbrev pub request_by : ℕ → List ℕ → List ℕ → Option (List ℕ) → Line
+request_by moment word line rest =
+    if bytes_eq word (codes "push") then plain (push_with moment (length line) rest)
     else if is_utf8 line then other_line word line rest
     else plain (Err (BadRequest 0))
 
 -- What a request is, however long.
-abbrev pub request_of : List ℕ → Line
-request_of line = request_by (first_part line) line (other_parts line)
+abbrev pub request_of : ℕ → List ℕ → Line
+request_of moment line = request_by moment (first_part line) line (other_parts line)
 
--- What a line is: a request, or one that is refused for its length.
-unfoldable pub line_of : List ℕ → Line
-line_of line = if nat_le (length line) line_limit then request_of line else plain (Err (TooLong (length line)))
+-- What a line is that was read at a moment: a request, or one that is refused for its length.
+unfoldable pub line_of : ℕ → List ℕ → Line
+line_of moment line = if nat_le (length line) line_limit then request_of moment line else plain (Err (TooLong (length line)))
 
 -- a search as an answer to a line
 abbrev pub AsksSearch : SearchLine → List (List ℕ) → Result Request Refusal → Type 0
@@ -87,13 +89,17 @@ abbrev pub Answers : Line → List (List ℕ) → Result Request Refusal → Typ
 Answers (searched line) refused result = AsksSearch line refused result
 Answers (plain answer) refused result = ((result ≡ answer) ⊎ (result ≡ Err Memory)) × (refused ≡ [])
 
--- What a line asks, or why it asks nothing, where the maker of patterns refused these texts: none, unless the line is
--- refused for a pattern's size, and then the text of the pattern at the refusal's place in the line's query.
+-- What a line asks that was read at a moment, or why it asks nothing, where the maker of patterns refused these texts: none,
+-- unless the line is refused for a pattern's size, and then the text of the pattern at the refusal's place in the line's query.
+abbrev pub AsksAt : ℕ → List ℕ → List (List ℕ) → Result Request Refusal → Type 0
+AsksAt moment line refused result = Answers (line_of moment line) refused result
+
+-- The same at some moment.
 abbrev pub Asks : List ℕ → List (List ℕ) → Result Request Refusal → Type 0
-Asks line refused result = Answers (line_of line) refused result
+Asks line refused result = (moment : ℕ) × AsksAt moment line refused result
 
 -- A push has at most as many spans as a line may have.
 abbrev pub HasFewSpans : Request → Type 0
-HasFewSpans (Push reading) = length reading.batch.spans ≤ MOST_SPANS
+HasFewSpans (Push reading moment) = length reading.batch.spans ≤ MOST_SPANS
 HasFewSpans (Trace id) = ⊤
 HasFewSpans (Search search) = ⊤

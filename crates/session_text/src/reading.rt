@@ -5,7 +5,7 @@ ghost use Rattle.traceql_types.specs.Makers.{RefusesOnly};
 ghost use Rattle.session_text.specs.declared.refusal.Refusal.TheVariants.{Memory};
 ghost use Rattle.session_text.specs.Lines.{first_part, other_parts};
 ghost use Rattle.session_text.specs.Options.{search_parts};
-ghost use Rattle.session_text.specs.Requests.{Answers, Asks, HasFewSpans, line_of, other_line, push_with, search_with, trace_with, with_id};
+ghost use Rattle.session_text.specs.Requests.{Answers, AsksAt, HasFewSpans, line_of, other_line, push_with, search_with, trace_with, with_id};
 ghost use Rattle.session_text.specs.Parsed.{left_parsed};
 
 use crate::options::{search_parts, split_text};
@@ -19,7 +19,7 @@ use traceql_types::PatternMaker;
 /// How many bytes a line may have.
 const LINE_LIMIT: usize = MOST_LINE_BYTES as usize;
 
-/// What a line asks, or why it is refused.
+/// What a line asks that was read at this moment, in nanoseconds, or why it is refused.
 ///
 /// - `push JSON`: what the JSON gives, or why it gives nothing. The JSON is the rest of the line.
 /// - `trace ID`: an ID is 32 hexadecimal digits of either case that aren't all zeros.
@@ -35,11 +35,12 @@ const LINE_LIMIT: usize = MOST_LINE_BYTES as usize;
 pub fn read_request<P: PatternMaker>(
     alloc: Global,
     line: &[u8],
+    moment: u64,
     maker: &mut P,
 ) -> Result<Request, Refusal>
     // The maker refused just the pattern that the line is refused for, if it is for a pattern's size.
     ensures asked { (refused : List (List ℕ)) × RefusesOnly P.makes maker.old maker.new refused
-        × Asks line.now refused result }
+        × AsksAt moment line.now refused result }
     ensures few { IfOk result (λ request. HasFewSpans request) }
 {
     if line.len() > LINE_LIMIT {
@@ -49,7 +50,7 @@ pub fn read_request<P: PatternMaker>(
     }
     let (word, rest) = split(line);
     if word == b"push".as_slice() {
-        return push_with(alloc, line.len() as u64, rest);
+        return push_with(alloc, moment, line.len() as u64, rest);
     }
     match std::str::from_utf8(line) {
         Ok(text) => asked_by(alloc, text, maker),
@@ -84,16 +85,21 @@ fn asked_by<P: PatternMaker>(alloc: Global, line: &str, maker: &mut P) -> Result
     }
 }
 
-/// A push, in a line of this length.
-fn push_with(alloc: Global, length: u64, rest: Option<&[u8]>) -> Result<Request, Refusal>
-    ensures asked { (result ≡ push_with length (option_map (λ s. s.now) rest.entry)) ⊎ (result ≡ Err Memory) }
+/// A push at this moment, in a line of this length.
+fn push_with(
+    alloc: Global,
+    moment: u64,
+    length: u64,
+    rest: Option<&[u8]>,
+) -> Result<Request, Refusal>
+    ensures asked { (result ≡ push_with moment length (option_map (λ s. s.now) rest.entry)) ⊎ (result ≡ Err Memory) }
     ensures few { IfOk result (λ request. HasFewSpans request) }
 {
     let Some(json) = rest else {
         return Err(Refusal::BadRequest { at: length });
     };
     match read_line(alloc, json) {
-        Ok(reading) => Ok(Request::Push(reading)),
+        Ok(reading) => Ok(Request::Push { reading, moment }),
         Err(OtlpError::NotJson) => Err(Refusal::BadJson),
         Err(OtlpError::NotRequest { path }) => Err(Refusal::BadOtlp { path }),
         Err(OtlpError::TooMany { spans }) => Err(Refusal::TooMany { spans }),

@@ -41,6 +41,30 @@ pub enum Refusal {
         /// The first byte of its string, counted in the query.
         at: u64,
     },
+    /// With the push the store would hold more than 262,144 rows outside of blocks.
+    LiveFull {
+        /// How many it holds.
+        held: u64,
+    },
+    /// The history has as many entries as it may have.
+    StoreFull {
+        /// How many it has: 4,294,967,295.
+        pushes: u64,
+    },
+    /// A write, a cut or a sync of the disk failed since the store was opened.
+    ReadOnly {
+        /// How many faults the disk had counted after the first that did.
+        faults: u64,
+    },
+    /// A call of the disk failed for this request.
+    DiskFault,
+    /// What the disk holds is no store.
+    NotStore {
+        /// The file that is malformed.
+        file: u32,
+        /// The byte at which it is.
+        at: u64,
+    },
     /// Memory was wanted.
     Memory,
 }

@@ -9,7 +9,12 @@ use traceql_types::Checked;
 #[derive(Drop)]
 pub enum Request {
     /// `push JSON`: these spans are to be kept.
-    Push(Reading),
+    Push {
+        /// The spans, and what was left out.
+        reading: Reading,
+        /// When the line was read, in nanoseconds.
+        moment: u64,
+    },
     /// `trace ID`: the spans of this trace are to be told.
     Trace(TraceId),
     /// `search .. QUERY`: the traces of which the query leaves something are to be told.

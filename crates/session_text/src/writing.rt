@@ -2,7 +2,7 @@
 
 ghost use Rattle.std.specs.Prelude.{◌≡◌, IfOk, codes, string_bytes};
 ghost use Rattle.session_text.specs.declared.reply.Reply.TheVariants.{Searched, Traced};
-ghost use Rattle.session_text.specs.Replies.{kind_text, pushed_text, query_text, refusal_text, refused_text, reply_text, searched_text, traced_text};
+ghost use Rattle.session_text.specs.Replies.{kind_text, not_store_text, pushed_text, query_text, refusal_text, refused_text, reply_text, searched_text, traced_text};
 
 use crate::{KindFault, QueryFault, Refusal, Reply};
 use otlp_spans::write_trace;
@@ -105,6 +105,11 @@ fn refused(alloc: Global, why: &Refusal) -> Result<String, AllocError>
         Refusal::BadType(fault) => bad_type(alloc, *fault),
         Refusal::BadPattern { at } => format!(in alloc; "refused bad-pattern at={at}\n"),
         Refusal::PatternTooBig { at } => format!(in alloc; "refused pattern-too-big at={at}\n"),
+        Refusal::LiveFull { held } => format!(in alloc; "refused live-full held={held}\n"),
+        Refusal::StoreFull { pushes } => format!(in alloc; "refused store-full pushes={pushes}\n"),
+        Refusal::ReadOnly { faults } => format!(in alloc; "refused read-only faults={faults}\n"),
+        Refusal::DiskFault => String::from_str(alloc, "refused disk-fault\n"),
+        Refusal::NotStore { file, at } => not_store(alloc, *file, *at),
         Refusal::Memory => String::from_str(alloc, "refused memory\n"),
     }
 }
@@ -113,6 +118,13 @@ fn bad_otlp(alloc: Global, path: &str) -> Result<String, AllocError>
     ensures { IfOk result (λ text. string_bytes text ≡ refused_text (codes "bad-otlp path=") path.now) }
 {
     format!(in alloc; "refused bad-otlp path={path}\n")
+}
+
+/// The refusal of a disk that holds no store.
+fn not_store(alloc: Global, file: u32, at: u64) -> Result<String, AllocError>
+    ensures { IfOk result (λ text. string_bytes text ≡ not_store_text file at) }
+{
+    format!(in alloc; "refused not-store file={file} at={at}\n")
 }
 
 /// The refusal of a text that is no query.

@@ -4,6 +4,7 @@ mod HeldFiles
 mod Pushing
 mod PinNumbers
 mod Looking
+mod Showing
 mod Founding
 mod NewCores
 mod PushEvents
@@ -17,3 +18,4 @@ mod LogLaws
 mod OpenedStates
 mod OpeningSteps
 mod OpeningEnds
+mod LeftAlone

@@ -20,7 +20,7 @@ use Rattle.store_model.proofs.KeepsSound.{step_keeps as keeps_sound}
 use Rattle.store_model.proofs.KeepsFloor.{step_keeps as keeps_floor}
 use Rattle.store_core.specs.Pins.{is_taken}
 use Rattle.store_core.specs.declared.state.CoreState.{CoreState}
-use Rattle.store_images.specs.Stored.{ref_of}
+use Rattle.store_images.specs.Stored.{BlocksStand, ref_of}
 use Rattle.store_images.specs.Settled.{IsSettled}
 use Rattle.store_core.specs.Cores.{HasState, StandsFor, tail_of}
 use Rattle.store_core.proofs.PinNumbers.{among-more, among-less}
@@ -61,26 +61,33 @@ stands_stepped told held may_leave core pins m u before faults e r s state step 
   sound = keeps_sound before faults m _ e r s.sound step;
   above = keeps_floor before faults m _ e r s.above step;
   now = s.now;
+  built = λ t. subst (BlocksStand held) (sym (ap (λ (v : State). v.blocks) state)) (s.built t);
   settled = λ t free. subst (λ (b : _). IsSettled held may_leave core.list b (tail_of core.segment) m.history) (sym (ap (λ (v : State). v.blocks) state)) (s.settled t free);
   sure = s.sure;
 }
 
 -- ---- a look
 
+-- the rows outside of blocks
+pub waiting_in : (core : CoreState) (m : Machine) (rows : List Row) → HasState core m → rows ≡ core.live.flushing ++ core.live.head ++ live_rows core.live.live
+    → IsPermutation (flush_rows m.state.flush ++ m.state.head ++ live_rows m.state.live) rows
+waiting_in core m rows has is =
+    let all : rows ≡ flush_rows m.state.flush ++ m.state.head ++ live_rows m.state.live =
+    is ∙ ap (λ (r : List Row). r ++ core.live.head ++ live_rows core.live.live) (has.flushing ∙ sym (ap flush_rows has.flush))
+    ∙ ap (λ (r : List Row). flush_rows m.state.flush ++ r ++ live_rows core.live.live) (sym has.head)
+    ∙ ap (λ (l : List LiveRow). flush_rows m.state.flush ++ m.state.head ++ live_rows l) (sym has.live) in
+    subst (λ (r : List Row). IsPermutation r rows) all (IsPermutation-refl rows)
+
 pub step_looked : (core : CoreState) (m : Machine) (before faults number as_of : ℕ) (files : List ℕ) (rows : List Row) → HasState core m → as_of ≡ count_of m.history → files ≡ block_files m.state.blocks
     → rows ≡ core.live.flushing ++ core.live.head ++ live_rows core.live.live
     → is_taken number core.pins.items ≡ false → ((other : ℕ) → is_taken other core.pins.items ≡ false → number ≤ other)
     → Step before faults m Look (Looked number files as_of rows) (with_state (after_look number m.state) m)
 step_looked core m before faults number as_of files rows has length listed is free least =
-    let all : rows ≡ flush_rows m.state.flush ++ m.state.head ++ live_rows m.state.live =
-    is ∙ ap (λ (r : List Row). r ++ core.live.head ++ live_rows core.live.live) (has.flushing ∙ sym (ap flush_rows has.flush))
-    ∙ ap (λ (r : List Row). flush_rows m.state.flush ++ r ++ live_rows core.live.live) (sym has.head)
-    ∙ ap (λ (l : List LiveRow). flush_rows m.state.flush ++ m.state.head ++ live_rows l) (sym has.live) in
     Succeeds refl (
       number,
       rows,
       record { is_free = has.pins number ∙ free; least = λ other no_pin. least other (sym (has.pins other) ∙ no_pin) },
-      subst (λ (r : List Row). IsPermutation r rows) all (IsPermutation-refl rows),
+      waiting_in core m rows has is,
       ap (λ (f : List ℕ). Looked number f as_of rows) listed ∙ ap (λ (n : ℕ). Looked number (block_files m.state.blocks) n rows) length,
       refl,
     )

@@ -21,6 +21,20 @@ use Rattle.store_core.specs.New.{new_list, new_tail, IsEmptyHistory, IsNewStore}
 use Rattle.store_core.specs.NewCore.{new_machine, IsNewState}
 use Rattle.store_core.proofs.Founding.{rules_new}
 
+-- a history of nothing
+abbrev pub no_history : History
+no_history = record { base = []; start = 0; entries = [] }
+
+pub no_history_is_empty : IsEmptyHistory no_history
+no_history_is_empty = record {
+  no_rows = record {
+    firsts = λ k. refl;
+    one = λ x y hx hy e. absurd (not_in_nil x hx);
+    below = λ x c. absurd (not_in_nil x c);
+  };
+  no_entries = refl;
+}
+
 new_sound : (h : History) → StateIsSound (new_machine h).state
 new_sound h = record {
   files = record {
@@ -46,6 +60,7 @@ new_stands told held may_leave core h new made empty = record {
   agrees = empty.no_rows;
   sound = new_sound h;
   above = record { waiting = λ row c. absurd (not_in_nil row c); next = omega arith };
+  built = λ t block inside. absurd (not_in_nil block inside);
   now = λ t image left. subst (λ (u : Option (List Span)). MayStandFor h u image) (sym new.sure) (settled_now held may_leave new_list [] new_tail h (made t h empty) image left);
   settled = λ t free. subst (λ (l : ListBody). IsSettled held may_leave l [] (tail_of core.segment) h) (sym new.list) (subst (λ (x : Tail). IsSettled held may_leave new_list [] x h) (sym new.tail) (made t h empty));
   sure = λ free. new.sure;

@@ -22,7 +22,6 @@ use Rattle.store_images.specs.Log.{LogHolds}
 use Rattle.store_images.specs.Stored.{ImageStores, ImageStandsFor, IsSoundImage, KeepsStored, first_number}
 use Rattle.store_images.specs.Stored.ImageStores.{vacant, filled}
 use Rattle.store_images.specs.Settled.{Tail, IsSettled}
-use Rattle.store_images.proofs.Lists.{not_in_nil}
 use Rattle.store_images.proofs.Logs.{log_same}
 use Rattle.store_images.proofs.Keeping.{one_list, loaded, keeps_then}
 use Rattle.store_core.specs.declared.state.CoreState.{CoreState}
@@ -31,8 +30,9 @@ use Rattle.store_core.specs.Cores.{StandsFor, CoreStandsFor, tail_of}
 use Rattle.store_core.specs.LogReading.{LogRead}
 use Rattle.store_core.specs.New.{IsEmptyHistory, StoresNothing}
 use Rattle.store_core.specs.NewCore.{new_machine}
-use Rattle.store_core.specs.Opening.{KeepsDisk, opened_state, BeginsAs, Opened, IsOpenedState}
+use Rattle.store_core.specs.Opening.{KeepsDisk, opened_state, BeginsAs, BeginsEmpty, Opened, IsOpenedState}
 use Rattle.store_core.proofs.Founding.{nothing_keeps}
+use Rattle.store_core.proofs.NewCores.{no_history, no_history_is_empty}
 use Rattle.store_core.proofs.LogLaws.{one_log}
 use Rattle.store_core.proofs.LogSteps.{read_whole}
 use Rattle.store_core.proofs.LooseFiles.{stands_moved, used_low}
@@ -46,6 +46,7 @@ tells_less told told' held may_leave core m known s = record {
   agrees = s.agrees;
   sound = s.sound;
   above = s.above;
+  built = λ t. s.built (known t);
   now = λ t image left. s.now (known t) image left;
   settled = λ t writes. s.settled (known t) writes;
   sure = s.sure;
@@ -58,18 +59,11 @@ empty_history image h none s = by_stores s.rows (count_of h) s.stores s.agrees r
     by_stores rows count (vacant holds no_rows no_count) agrees is = record { no_rows = subst (λ (r : List Row). AgreesOn r h) no_rows agrees; no_entries = is ∙ no_count }
     by_stores rows count (filled body blocks batches st rows_are counts) agrees is = absurd (let bad : None ≡ Some body = one_list image None (Some body) none st.listed in cc)
 
-abbrev no_history : History
-no_history = record { base = []; start = 0; entries = [] }
+new_is_empty : (h : History) → BeginsEmpty (new_machine h)
+new_is_empty h = record { writes = refl; head = refl; loose = refl; pins = refl }
 
-no_history_is_empty : IsEmptyHistory no_history
-no_history_is_empty = record {
-  no_rows = record {
-    firsts = λ k. refl;
-    one = λ x y hx hy e. absurd (not_in_nil x hx);
-    below = λ x c. absurd (not_in_nil x c);
-  };
-  no_entries = refl;
-}
+opened_is_empty : (list : ListBody) (batches : List (List Span)) (moment : ℕ) (h : History) → BeginsEmpty (opened_machine list batches moment h)
+opened_is_empty list batches moment h = record { writes = refl; head = refl; loose = refl; pins = refl }
 
 module _ {D : Type 0} (g : Ghosts D) where
   -- the list was loaded
@@ -106,8 +100,8 @@ module _ {D : Type 0} (g : Ghosts D) where
         writes = refl;
       },
     );
-    some = λ sound. (new_machine no_history, stands no_history no_history_is_empty);
-    shows = (new_machine no_history, tells_less _ ⊥ (g.held core.disk) (g.may_leave core.disk) core.state (new_machine no_history) (λ bad. absurd bad) (stands no_history no_history_is_empty));
+    some = λ sound. (new_machine no_history, stands no_history no_history_is_empty, new_is_empty no_history);
+    shows = (new_machine no_history, tells_less _ ⊥ (g.held core.disk) (g.may_leave core.disk) core.state (new_machine no_history) (λ bad. absurd bad) (stands no_history no_history_is_empty), new_is_empty no_history);
   }
 
   -- a store was read: `mid` is the disk once its list was loaded
@@ -154,12 +148,12 @@ module _ {D : Type 0} (g : Ghosts D) where
     opened_existing = record {
       stands = λ told h s. (opened_machine list batches moment h, stands_for told h s, refl, begins told h);
       some = λ sound. by_telling (g.tells disk) refl sound;
-      shows = (opened_machine list batches moment (from_floor list batches), by_memory ⊥ (λ bad. bad));
+      shows = (opened_machine list batches moment (from_floor list batches), by_memory ⊥ (λ bad. bad), opened_is_empty list batches moment (from_floor list batches));
     }
       where
-        by_telling : (t : Bool) → g.tells disk ≡ t → (IsTrue (g.tells disk) → IsSoundImage (g.held disk)) → (m : Machine) × CoreStandsFor g core m
-        by_telling true e sound = let told : IsTrue (g.tells disk) = e in let s = sound told in (opened_machine list batches moment s.0, stands_for told s.0 s.1)
-        by_telling false e sound = (opened_machine list batches moment (from_floor list batches), by_memory (IsTrue (g.tells core.disk)) (λ t. let bad : true ≡ false = sym t ∙ telling_core ∙ e in absurd cc))
+        by_telling : (t : Bool) → g.tells disk ≡ t → (IsTrue (g.tells disk) → IsSoundImage (g.held disk)) → (m : Machine) × CoreStandsFor g core m × BeginsEmpty m
+        by_telling true e sound = let told : IsTrue (g.tells disk) = e in let s = sound told in (opened_machine list batches moment s.0, stands_for told s.0 s.1, opened_is_empty list batches moment s.0)
+        by_telling false e sound = (opened_machine list batches moment (from_floor list batches), by_memory (IsTrue (g.tells core.disk)) (λ t. let bad : true ≡ false = sym t ∙ telling_core ∙ e in absurd cc), opened_is_empty list batches moment (from_floor list batches))
 
 -- ---- answers that are handed on
 

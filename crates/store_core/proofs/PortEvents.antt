@@ -28,6 +28,7 @@ steps g old event reply new begins did = record {
   empty = λ told file among. absurd (let bad : is_among file [] ≡ true = subst (λ (files : List ℕ). is_among file files ≡ true) begins among in cc);
   later = did.later;
   cause = did.cause;
+  calls = did.calls;
   reads_rise = let same = did.reads in omega (arith, same);
   reads_bound = let same = did.reads in omega (arith, same);
 }
@@ -43,6 +44,7 @@ did_is_called g old event reply new begins did =
       empty = called.empty;
       later = called.later;
       cause = called.cause;
+      calls = called.calls;
       reads_rise = called.reads_rise;
       reads_bound = called.reads_bound;
     }

@@ -25,10 +25,11 @@ use Rattle.store_images.proofs.Storing.{only_tail, settled_after}
 use Rattle.store_core.specs.declared.state.CoreState.{CoreState}
 use Rattle.store_core.specs.declared.store.Core.{Core}
 use Rattle.store_core.specs.Cores.{HasState, StandsFor, CoreStandsFor, tail_of, unsure_of}
-use Rattle.store_core.specs.Events.{Did, Between, MadeCalls, unsure_after}
+use Rattle.store_state.specs.Calls.{MadeCalls}
+use Rattle.store_core.specs.Events.{Did, Between, unsure_after}
 use Rattle.store_core.proofs.Quiet.{quiet}
 use Rattle.store_core.proofs.States.{SameParts, stands_lacking, after_pushed, step_pushed, has_pushed, stands_pushed, stands_broken}
-use Rattle.store_core.proofs.Pushing.{pushing, tidy_push, held_stays}
+use Rattle.store_core.proofs.Pushing.{pushing, tidy_push, held_stays, blocks_stay}
 
 why_of : Reply → Refusal
 why_of (Refused why) = why
@@ -163,7 +164,8 @@ module _ {D : Type 0} (g : Ghosts D) (old : Core D) (disk : D) (spans : List Spa
       machine = broken (g.faults disk) m;
       stands = stands_broken (IsTrue (g.tells old.disk)) (IsTrue (g.tells disk)) (g.held old.disk) (g.held disk) (g.may_leave old.disk) (g.may_leave disk) old.state live segment ready (g.faults disk) m same still stands
           (λ t. subst IsTrue telling t)
-          (λ told image left. subst (λ (s : List Span). MayStandFor m.history (Some s) image) (sym its) ((both_in told m stands).1 image left));
+          (λ told image left. subst (λ (s : List Span). MayStandFor m.history (Some s) image) (sym its) ((both_in told m stands).1 image left))
+          (λ told. blocks_stay old.state m (IsTrue (g.tells old.disk)) (g.held old.disk) (g.held disk) (g.may_leave old.disk) told writes stands (appends told).besides);
       step = Breaks (free m stands.has) refl refl rose refl;
       images = λ told. images_in told m stands m.history (Some ready.spans) (λ image either. inr (subst (λ (s : List Span). MayStandFor m.history (Some s) image) (sym its) either));
       unsure = ap (λ (s : List Span). Some s) its ∙ ap (unsure_after (Push spans moment) (Refused Fault)) (sym (stands.sure writes));

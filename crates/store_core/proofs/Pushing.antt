@@ -11,13 +11,15 @@ use Rattle.head_log.specs.Stands.{SegmentHolds, SegmentKeepsEither}
 use Rattle.block_list.specs.declared.body.SegmentRef.{SegmentRef}
 use Rattle.block_list.specs.declared.body.ListBody.{ListBody}
 use Rattle.store_model.specs.History.{History, pushed}
-use Rattle.store_model.specs.State.{Block, is_among, segment_files}
+use Rattle.store_model.specs.State.{Block, is_among, block_files, segment_files}
 use Rattle.store_model.specs.Sound.{times}
 use Rattle.store_model.specs.Holds.{Hold, OpenIn, files_of}
 use Rattle.store_model.specs.Step.{Machine}
 use Rattle.store_model.proofs.Numbers.{times-append, times_itself}
-use Rattle.store_images.specs.Stored.{MayStandFor, ImageStandsFor, IsTidy}
+use Rattle.store_images.specs.BlockFile.{BlockHolds}
+use Rattle.store_images.specs.Stored.{MayStandFor, ImageStandsFor, BlocksStand, IsTidy}
 use Rattle.store_images.specs.Settled.{Tail, IsSettled}
+use Rattle.store_images.proofs.Lists.{not_in_nil, in_cons}
 use Rattle.store_images.proofs.Storing.{settled_either, settled_tidy, only_tail}
 use Rattle.store_core.specs.declared.state.CoreState.{CoreState}
 use Rattle.store_core.specs.Cores.{HasState, StandsFor, tail_of, segment_of}
@@ -44,8 +46,8 @@ named_once [] last = omega (arith, times_itself last.file)
 named_once (x ∷ front) last = let rest = named_once front last in omega (arith, rest)
 
 pub tail_apart : (core : CoreState) (m : Machine) (held : Image) (may_leave : Image → Type 0) → HasState core m → IsSettled held may_leave core.list m.state.blocks (tail_of core.segment) m.history
-    → (hold : Hold) → (file : ℕ) → times file (segment_files m.state.segments) ≡ 0 → file ≢ core.segment.file
-tail_apart core m held may_leave has s hold file none is =
+    → (file : ℕ) → times file (segment_files m.state.segments) ≡ 0 → file ≢ core.segment.file
+tail_apart core m held may_leave has s file none is =
     let last : SegmentRef = record { file = core.segment.file; first = core.segment.first } in
     let listed : m.state.segments ≡ map segment_of (s.written.front ++ last ∷ []) = has.segments ∙ ap (map segment_of) s.written.last in
     let once = named_once s.written.front last in
@@ -56,4 +58,22 @@ tail_apart core m held may_leave has s hold file none is =
 pub held_stays : (core : CoreState) (m : Machine) (told : Type 0) (held later : Image) (may_leave : Image → Type 0) → told → core.read_only ≡ None → StandsFor told held may_leave core m
     → Besides core.segment.file held later → (hold : Hold) → OpenIn m hold → (file : ℕ) → is_among file (files_of hold) ≡ true → bytes_of later file ≡ bytes_of held file
 held_stays core m told held later may_leave t writes s besides hold is_open file among =
-    besides file (tail_apart core m held may_leave s.has (s.settled t writes) hold file (held_apart m hold s.sound is_open file among))
+    besides file (tail_apart core m held may_leave s.has (s.settled t writes) file (held_apart m hold s.sound is_open file among))
+
+-- nor has a listed block
+listed_once : (blocks : List Block) (b : Block) → Contains blocks b → 1 ≤ times b.file (block_files blocks)
+listed_once [] b inside = absurd (not_in_nil b inside)
+listed_once (x ∷ xs) b inside = elim (in_cons b x xs inside) [
+  | inl is ↦ (let one = times_itself b.file in subst (λ (y : Block). 1 ≤ times b.file (y.file ∷ block_files xs)) (sym is) (omega (arith, one)))
+  | inr there ↦ (let rest = listed_once xs b there in omega (arith, rest))
+]
+
+pub blocks_stay : (core : CoreState) (m : Machine) (told : Type 0) (held later : Image) (may_leave : Image → Type 0) → told → core.read_only ≡ None → StandsFor told held may_leave core m
+    → Besides core.segment.file held later → BlocksStand later m.state.blocks
+blocks_stay core m told held later may_leave t writes s besides b inside =
+    let used = listed_once m.state.blocks b inside in
+    let once = s.sound.files.once b.file in
+    let none : times b.file (segment_files m.state.segments) ≡ 0 = omega (arith, used, once) in
+    let same : bytes_of later b.file ≡ bytes_of held b.file = besides b.file (tail_apart core m held may_leave s.has (s.settled t writes) b.file none) in
+    let was = s.built t b inside in
+    record { holds = subst (BlockHolds b.rows) (sym same) was.holds; counted = was.counted }

@@ -13,7 +13,8 @@ use Rattle.store_state.specs.Meaning.{Rewritten}
 use Rattle.store_core.specs.declared.state.CoreState.{CoreState}
 use Rattle.store_core.specs.declared.store.Core.{Core}
 use Rattle.store_core.specs.Cores.{StandsFor, CoreStandsFor, unsure_of}
-use Rattle.store_core.specs.Events.{Did, Between, MadeCalls, unsure_after}
+use Rattle.store_state.specs.Calls.{MadeCalls}
+use Rattle.store_core.specs.Events.{Did, Between, unsure_after}
 
 no_new : (event : Event) (reply : Reply) (unsure : Option (List Span)) → reply ≢ Refused Fault → unsure_after event reply unsure ≡ unsure
 no_new (Push spans moment) (Refused Fault) None no_fault = absurd (no_fault refl)

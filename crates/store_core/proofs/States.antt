@@ -16,7 +16,7 @@ use Rattle.store_model.specs.Step.Step.{Succeeds}
 use Rattle.store_model.proofs.KeepsFirsts.{step_keeps as keeps_firsts}
 use Rattle.store_model.proofs.KeepsSound.{step_keeps as keeps_sound}
 use Rattle.store_model.proofs.KeepsFloor.{step_keeps as keeps_floor}
-use Rattle.store_images.specs.Stored.{MayStandFor, ImageStandsFor}
+use Rattle.store_images.specs.Stored.{MayStandFor, ImageStandsFor, BlocksStand}
 use Rattle.store_images.specs.Settled.{Tail, IsSettled}
 use Rattle.store_images.proofs.Growing.{count_of-pushed}
 use Rattle.store_images.proofs.Storing.{settled_now}
@@ -60,6 +60,7 @@ stands_lacking told held may_leave core live m same s = record {
   agrees = s.agrees;
   sound = s.sound;
   above = s.above;
+  built = s.built;
   now = s.now;
   settled = s.settled;
   sure = s.sure;
@@ -120,6 +121,7 @@ stands_pushed told told' held held' may_leave may_leave' core live segment m spa
   agrees = keeps_firsts before faults m _ _ _ s.agrees step;
   sound = keeps_sound before faults m _ _ _ s.sound step;
   above = keeps_floor before faults m _ _ _ s.above step;
+  built = λ t. (settles (known t) (s.settled (known t) writes)).holds.built;
   now = λ t image left. subst (λ (u : Option (List Span)). MayStandFor (pushed m.history spans) u image) (sym (s.sure writes))
       (settled_now held' may_leave' core.list m.state.blocks (tail_of segment) (pushed m.history spans) (settles (known t) (s.settled (known t) writes)) image left);
   settled = λ t free. settles (known t) (s.settled (known t) writes);
@@ -154,12 +156,14 @@ has_broken core live segment ready faults m same still has = record {
 pub stands_broken : (told told' : Type 0) (held held' : Image) (may_leave may_leave' : Image → Type 0) (core : CoreState) (live : LiveParts) (segment : Segment) (ready : ChunkParts) (faults : ℕ) (m : Machine)
     → SameParts core.live live → segment ≡ core.segment → StandsFor told held may_leave core m → (told' → told)
     → (told → (image : Image) → may_leave' image → MayStandFor m.history (Some ready.spans) image)
+    → (told → BlocksStand held' m.state.blocks)
     → StandsFor told' held' may_leave' (record core { live = live; segment = segment; read_only = Some faults; unsure = Some ready }) (broken faults m)
-stands_broken told told' held held' may_leave may_leave' core live segment ready faults m same still s known now = record {
+stands_broken told told' held held' may_leave may_leave' core live segment ready faults m same still s known now built = record {
   has = has_broken core live segment ready faults m same still s.has;
   agrees = s.agrees;
   sound = s.sound;
   above = record { waiting = s.above.waiting; next = s.above.next };
+  built = λ t. built (known t);
   now = λ t image left. now (known t) image left;
   settled = λ t none. absurd (let bad : Some faults ≡ None = none in cc);
   sure = λ none. absurd (let bad : Some faults ≡ None = none in cc);

@@ -16,7 +16,7 @@ use Rattle.store_model.specs.Laws.{Agrees}
 use Rattle.store_model.specs.Sound.{StateIsSound}
 use Rattle.store_model.specs.Told.{IsAboveFloor}
 use Rattle.store_state.specs.Given.{info_files}
-use Rattle.store_images.specs.Stored.{MayStandFor, ref_of}
+use Rattle.store_images.specs.Stored.{MayStandFor, BlocksStand, ref_of}
 use Rattle.store_images.specs.Settled.{Tail, IsSettled}
 use Rattle.store_core.specs.Pins.{is_taken}
 use Rattle.store_core.specs.declared.state.CoreState.{CoreState}
@@ -65,6 +65,8 @@ pub record StandsFor (told : Type 0) (held : Image) (may_leave : Image → Type 
   pub agrees : Agrees m
   pub sound : StateIsSound m.state
   pub above : IsAboveFloor m
+  -- what the files of the listed blocks hold, also in a store that writes no more
+  pub built : told → BlocksStand held m.state.blocks
   pub now : told → (image : Image) → may_leave image → MayStandFor m.history (unsure_of core) image
   pub settled : told → core.read_only ≡ None → IsSettled held may_leave core.list m.state.blocks (tail_of core.segment) m.history
   pub sure : core.read_only ≡ None → unsure_of core ≡ None

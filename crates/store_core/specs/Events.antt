@@ -1,20 +1,20 @@
 -- What one event makes of a core and of its disk.
-use Rattle.std.specs.Prelude.{◌≡◌, ◌⊎◌, ◌+◌, ◌≤◌, ℕ, List, Option, Some, None, IsTrue, true, false}
+use Rattle.std.specs.Prelude.{◌≡◌, ◌⊎◌, ◌≤◌, ℕ, List, Option, Some, None, IsTrue, true, false}
 use Rattle.span_types.specs.Faults.{Rose}
 use Rattle.span_types.specs.declared.spans.Span.{Span}
 use Rattle.disk_model.specs.Images.{Image, bytes_of}
-use Rattle.disk_model.specs.Counts.{RoseBy}
 use Rattle.disk_model.specs.Crash.{LeavesOnly}
 use Rattle.disk_model.specs.declared.disk.Device.{Ghosts}
 use Rattle.store_model.specs.History.{History}
 use Rattle.store_model.specs.State.{is_among}
 use Rattle.store_model.specs.Event.{Event, Reply}
-use Rattle.store_model.specs.Event.Event.{Push, BeginFlush, BeginCompact, WritePiece, CommitFlush, CommitCompact, ReadPage, Reclaim}
-use Rattle.store_model.specs.Event.Reply.{Count, Refused}
+use Rattle.store_model.specs.Event.Event.{Push}
+use Rattle.store_model.specs.Event.Reply.{Refused}
 use Rattle.store_model.specs.Event.Refusal.{Fault}
 use Rattle.store_model.specs.Holds.{Hold, OpenIn, ends, files_of}
 use Rattle.store_model.specs.Step.{Machine, Step}
 use Rattle.store_state.specs.Meaning.{Rewritten}
+use Rattle.store_state.specs.Calls.{MadeCalls}
 use Rattle.store_images.specs.Stored.{MayStandFor, IsTidy}
 use Rattle.store_core.specs.Cores.{CoreStandsFor, unsure_of}
 use Rattle.store_core.specs.declared.store.Core.{Core}
@@ -28,22 +28,6 @@ Between before unsure after later_unsure image = MayStandFor before unsure image
 abbrev pub unsure_after : Event → Reply → Option (List Span) → Option (List Span)
 unsure_after (Push spans moment) (Refused Fault) None = Some spans
 unsure_after _ _ unsure = unsure
-
--- How many calls of the device an event makes: a push as many as add a record, and no more where one of them fails. What is
--- refused for another cause makes none, and neither does an event that reads and changes memory alone.
-abbrev pub MadeCalls : Event → Reply → ℕ → ℕ → Type 0
-MadeCalls (Push spans moment) (Count number) before now = RoseBy 4 before now
-MadeCalls (Push spans moment) (Refused Fault) before now = (before ≤ now) × (now ≤ before + 4)
-MadeCalls _ (Refused Fault) before now = before ≤ now
-MadeCalls _ (Refused why) before now = now ≡ before
-MadeCalls BeginFlush _ before now = before ≤ now
-MadeCalls BeginCompact _ before now = before ≤ now
-MadeCalls (WritePiece job file bytes) _ before now = before ≤ now
-MadeCalls (CommitFlush job rows) _ before now = before ≤ now
-MadeCalls (CommitCompact job rows) _ before now = before ≤ now
-MadeCalls (ReadPage pin file page) _ before now = before ≤ now
-MadeCalls Reclaim _ before now = before ≤ now
-MadeCalls _ _ before now = now ≡ before
 
 -- A step of the machine for which the core stood: the core stands for what it leaves, and so do all images in between.
 pub record Stepped {D : Type 0} (g : Ghosts D) (old : Core D) (event : Event) (reply : Reply) (new : Core D) (m : Machine) : Type 0 where

@@ -1,5 +1,5 @@
 -- What opening a store makes of its disk, what the core then stands for, and where bytes aren't a store's.
-use Rattle.std.specs.Prelude.{◌≡◌, ℕ, ◌+◌, ◌-◌, ◌≤◌, List, [], ◌∷◌, ◌++◌, map, drop, nat_le, if◌then◌else◌, Some, None, Ok, Err, IsTrue}
+use Rattle.std.specs.Prelude.{◌≡◌, ℕ, ◌+◌, ◌-◌, ◌≤◌, List, [], ◌∷◌, ◌++◌, map, drop, nat_le, if◌then◌else◌, Option, Some, None, Ok, Err, IsTrue}
 use Rattle.span_types.specs.declared.spans.Span.{Span}
 use Rattle.span_types.specs.declared.spans.Row.{Row}
 use Rattle.disk_model.specs.Images.{Image, bytes_of}
@@ -8,6 +8,7 @@ use Rattle.disk_model.specs.declared.disk.Device.{Ghosts}
 use Rattle.head_log.specs.declared.numbered.NumberedBatch.{NumberedBatch}
 use Rattle.block_list.specs.Reading.{slots_at}
 use Rattle.block_list.specs.Slots.{ImageHoldsList}
+use Rattle.block_list.specs.Loading.{KeepsList}
 use Rattle.block_list.specs.declared.body.BlockRef.{BlockRef}
 use Rattle.block_list.specs.declared.body.ListBody.{ListBody}
 use Rattle.block_list.specs.declared.error.ListError.{ListError}
@@ -21,6 +22,7 @@ use Rattle.store_images.specs.Stored.{ImageStandsFor, IsSoundImage, KeepsStored,
 use Rattle.store_core.specs.Cores.{StandsFor, CoreStandsFor, segment_of, unsure_of}
 use Rattle.store_core.specs.LogReading.{LogBreaks}
 use Rattle.store_core.specs.Loose.{without_loose}
+use Rattle.store_core.specs.New.{new_list}
 use Rattle.store_core.specs.NewCore.{new_machine}
 use Rattle.store_core.specs.declared.error.OpenError.{OpenError}
 use Rattle.store_core.specs.declared.error.OpenError.TheVariants as errors
@@ -31,7 +33,18 @@ use Rattle.store_core.specs.declared.store.Core.{Core}
 abbrev pub KeepsDisk : {D : Type 0} (g : Ghosts D) → D → D → Type 0
 KeepsDisk g disk later = IsTrue (g.tells disk) → Run KeepsStored g.moment g.left_since g.may_leave disk later
 
+-- An opening that is refused for another cause than a fault: of each image at any moment, and of what a read gives, every file and
+-- every slot stays as it was, but for a slot without a list, which may be cut to its gate.
+pub record LeavesAlone {D : Type 0} (g : Ghosts D) (disk later : D) : Type 0 where
+  pub images : Run KeepsList g.moment g.left_since g.may_leave disk later
+  pub bytes : KeepsList (g.held disk) (g.held later)
+
 -- ---- what the core stands for
+
+-- the list that an opening leaves of what the slots stood for
+abbrev pub opened_list : Option ListBody → ListBody
+opened_list None = new_list
+opened_list (Some list) = without_loose list
 
 -- the rows of the batches whose numbers are at least the floor
 abbrev pub rows_from : ℕ → List NumberedBatch → List Row
@@ -62,15 +75,22 @@ pub record BeginsAs (image : Image) (moment : ℕ) (m : Machine) : Type 0 where
       → LogHolds image list.segments (first_number list) batches → m.state ≡ opened_state list batches moment
   pub writes : m.read_only ≡ None
 
+-- A machine in which a store begins, over whatever bytes: it writes, its head is empty, no file is loose and no pin is open.
+pub record BeginsEmpty (m : Machine) : Type 0 where
+  pub writes : m.read_only ≡ None
+  pub head : m.state.head ≡ []
+  pub loose : m.state.loose ≡ []
+  pub pins : m.state.pins ≡ []
+
 -- A core that was opened on a disk.
 pub record Opened {D : Type 0} (g : Ghosts D) (disk : D) (moment : ℕ) (core : Core D) : Type 0 where
   -- it stands for each history that the bytes stood for which the disk held
   pub stands : IsTrue (g.tells disk) → (h : History) → ImageStandsFor (g.held disk) h
       → (m : Machine) × CoreStandsFor g core m × (m.history ≡ h) × BeginsAs (g.held disk) moment m
   -- and for some machine, where those bytes are sound or the disk doesn't tell them
-  pub some : (IsTrue (g.tells disk) → IsSoundImage (g.held disk)) → (m : Machine) × CoreStandsFor g core m
+  pub some : (IsTrue (g.tells disk) → IsSoundImage (g.held disk)) → (m : Machine) × CoreStandsFor g core m × BeginsEmpty m
   -- its memory in any case shows some machine
-  pub shows : (m : Machine) × StandsFor ⊥ (g.held core.disk) (g.may_leave core.disk) core.state m
+  pub shows : (m : Machine) × StandsFor ⊥ (g.held core.disk) (g.may_leave core.disk) core.state m × BeginsEmpty m
 
 -- What its memory has then.
 pub record IsOpenedState (list : ListBody) (batches : List (List Span)) (moment : ℕ) (state : CoreState) : Type 0 where

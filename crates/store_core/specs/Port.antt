@@ -1,25 +1,37 @@
 -- What a core shows as a port.
+use Rattle.std.specs.Prelude.{◌≡◌, IsTrue}
 use Rattle.disk_model.specs.Images.{bytes_of}
 use Rattle.disk_model.specs.declared.disk.Device.{Ghosts}
 use Rattle.store_images.specs.BlockFile.{BlockHolds}
+use Rattle.store_model.specs.History.{History}
 use Rattle.store_state.specs.Meaning.{Meaning}
 use Rattle.store_state.specs.Cores.{CoreMeaning, meaning_of}
+use Rattle.store_state.specs.Shown.{ShowsHistory}
+use Rattle.store_state.specs.declared.jobs.Look.{Look}
 use Rattle.store_core.specs.Cores.{CoreStandsFor}
 use Rattle.store_core.specs.Events.{Did}
 use Rattle.store_core.specs.declared.store.Core.{Core}
 
--- The machines that it stands for, and what its disk shows: whether it tells its bytes, the bytes of a file, and the counts of
--- faults and of reads.
+-- The machines that it stands for, the blocks that it lists, and what its disk shows: whether it tells its bytes, the bytes of a
+-- file, and the counts of faults, of reads and of calls.
 abbrev pub shown_by : {D : Type 0} → Ghosts D → CoreMeaning (Core D)
 shown_by {D} g = record {
   stands_for = CoreStandsFor g;
   tells = λ core. g.tells core.disk;
   shows = λ core file. bytes_of (g.held core.disk) file;
   block_holds = λ bytes info rows. BlockHolds rows bytes;
+  lists = λ core infos. infos ≡ core.state.infos;
   faults = λ core. g.faults core.disk;
   reads = λ core. g.reads core.disk;
+  calls = λ core. g.calls core.disk;
 }
 
 -- Of each call it says besides all that its event is: the step of the machine, and what a crash may leave meanwhile.
 abbrev pub port_of : {D : Type 0} → Ghosts D → Meaning (Core D)
 port_of {D} g = record (meaning_of (shown_by g)) { did = Did g }
+
+-- the look shows the history by what the core's disk holds
+abbrev pub LookShows : {D : Type 0} → Ghosts D → Core D → Look → History → Type 0
+LookShows {D} g core look h =
+    ShowsHistory (IsTrue (g.tells core.disk)) (λ bytes info rows. BlockHolds rows bytes)
+    (λ file. bytes_of (g.held core.disk) file) look h

@@ -7,6 +7,7 @@ ghost use Rattle.store_model.specs.Step.{Machine, IsLookPin};
 ghost use Rattle.store_state.specs.Replies.{push_reply, look_reply};
 ghost use Rattle.store_core.specs.Cores.{CoreStandsFor};
 ghost use Rattle.store_core.specs.Events.{Did};
+ghost use Rattle.store_core.specs.Port.{LookShows};
 
 use crate::pins::{free_number, take_number};
 use crate::store::Core;
@@ -59,6 +60,8 @@ impl<D: Device> Core<D> {
     pub fn take_look(&mut self) -> Result<Look, Memory>
         ensures looked { Did D.Device.own self.old TakeLook (look_reply result) self.new }
         ensures infos { IfOk result (λ look. look.pin.blocks ≡ self.old.state.infos) }
+        ensures shows { IfOk result (λ look. (m : Machine) → CoreStandsFor D.Device.own self.new m →
+            LookShows D.Device.own self.new look m.history) }
     {
         let as_of = self.state.length();
         let rows = self.state.live.runs()?;

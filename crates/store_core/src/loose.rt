@@ -1,6 +1,6 @@
 //! The files that a list names as loose are emptied, and the list is committed without them.
 
-ghost use Rattle.std.specs.Prelude.{◌≡◌, ◌≢◌, ◌≤◌, ℕ, [], Some, Err, IsTrue, IfOk, OnOk};
+ghost use Rattle.std.specs.Prelude.{◌≡◌, ◌≢◌, ◌≤◌, ℕ, [], Some, Err, IsTrue, IfOk, IfErr, OnOk};
 ghost use Rattle.std.specs.List.{Contains};
 ghost use Rattle.span_types.specs.Faults.{Rose};
 ghost use Rattle.disk_model.specs.Crash.{OnlyBytes, Run, HasCause};
@@ -39,6 +39,7 @@ pub fn empty_loose<D: Device>(
     ensures later { D.faults disk.old ≤ D.faults disk.new }
     ensures fault { result ≡ Err Fault → Rose (D.faults disk.old) (D.faults disk.new) }
     ensures a_store { (file at : ℕ) → result ≢ Err (NotStore file at) }
+    ensures unchanged { IfErr result (λ error. error ≢ Fault → disk.new ≡ disk.old) }
 {
     if list.loose.len() == 0 {
         return Ok(list);

@@ -1,6 +1,6 @@
 //! A new store is made on a disk that has none.
 
-ghost use Rattle.std.specs.Prelude.{◌≡◌, ◌≢◌, ◌≤◌, ℕ, None, Err, IsTrue, IfOk, IfErr, OnOk};
+ghost use Rattle.std.specs.Prelude.{◌≡◌, ◌≢◌, ◌≤◌, ℕ, None, Some, Err, IsTrue, IfOk, IfErr, OnOk};
 ghost use Rattle.span_types.specs.Faults.{Rose};
 ghost use Rattle.disk_model.specs.Crash.{LeavesOnly};
 ghost use Rattle.block_list.specs.Loading.{IsReady};
@@ -38,6 +38,9 @@ pub fn open_new<D: Device>(alloc: Global, disk: D) -> Result<Core<D>, (OpenError
     ensures later_refused { IfErr result (λ e. D.faults disk ≤ D.faults e.1) }
     ensures fault { IfErr result (λ e. e.0 ≡ Fault → Rose (D.faults disk) (D.faults e.1)) }
     ensures a_store { IfErr result (λ e. (file at : ℕ) → e.0 ≢ NotStore file at) }
+    ensures unchanged { IfErr result (λ e. e.0 ≢ Fault → e.1 ≡ disk) }
+    ensures list { IfOk result (λ core. core.state.list ≡ new_list) }
+    ensures ready { IfOk result (λ core. IsTrue (D.tells disk) → IsReady (D.held core.disk) (D.may_leave core.disk) (Some core.state.list)) }
 {
     let mut disk = disk;
     match make_store(alloc, &mut disk) {
@@ -78,6 +81,7 @@ pub fn make_store<D: Device>(alloc: Global, disk: &mut D) -> Result<ListBody, Op
     ensures later { D.faults disk.old ≤ D.faults disk.new }
     ensures fault { result ≡ Err Fault → Rose (D.faults disk.old) (D.faults disk.new) }
     ensures a_store { (file at : ℕ) → result ≢ Err (NotStore file at) }
+    ensures unchanged { IfErr result (λ error. error ≢ Fault → disk.new ≡ disk.old) }
     ensures no_read { D.reads disk.new ≡ D.reads disk.old }
 {
     let Ok(list) = first_list(alloc) else {

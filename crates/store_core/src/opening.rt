@@ -1,6 +1,6 @@
 //! A store is opened.
 
-ghost use Rattle.std.specs.Prelude.{◌≡◌, ◌≢◌, ◌≤◌, ◌+◌, ℕ, List, [], Some, Err, IsTrue, IfOk, IfErr, OnOk};
+ghost use Rattle.std.specs.Prelude.{◌≡◌, ◌≢◌, ◌≤◌, ◌+◌, ℕ, List, [], Option, Some, Err, IsTrue, IfOk, IfErr, OnOk};
 ghost use Rattle.std.specs.List.{Contains};
 ghost use Rattle.span_types.specs.Faults.{Rose};
 ghost use Rattle.span_types.specs.declared.spans.Span.{Span};
@@ -10,12 +10,13 @@ ghost use Rattle.block_list.specs.Body.{MeetsRules};
 ghost use Rattle.block_list.specs.Loading.{IsReady};
 ghost use Rattle.block_list.specs.Slots.{ImageHoldsList};
 ghost use Rattle.block_list.specs.declared.body.SegmentRef.{SegmentRef};
+ghost use Rattle.block_list.specs.declared.body.ListBody.{ListBody};
 ghost use Rattle.store_model.specs.History.{History};
 ghost use Rattle.store_images.specs.Stored.{ImageStandsFor, IsSoundImage, first_number};
 ghost use Rattle.store_images.specs.Settled.{IsSettled};
 ghost use Rattle.store_core.specs.Cores.{tail_of};
 ghost use Rattle.store_core.specs.LogReading.{LogRead};
-ghost use Rattle.store_core.specs.Opening.{KeepsDisk, Opened, opened_state, IsOpenedState, ListBreaks, StoreBreaks, refusal_of};
+ghost use Rattle.store_core.specs.Opening.{KeepsDisk, LeavesAlone, opened_list, Opened, opened_state, IsOpenedState, ListBreaks, StoreBreaks, refusal_of};
 ghost use Rattle.store_core.specs.declared.error.OpenError.TheVariants.{Fault, NotStore};
 
 use crate::error::OpenError;
@@ -37,12 +38,19 @@ impl<D: Device> Core<D> {
     /// of the rows which then wait in memory.
     ///
     /// The slots and each listed segment are made to last and read, the loose files are emptied, and where there were any the list is
-    /// committed without them. Refused, it hands the disk back as far as it came: what is stored there is kept.
+    /// committed without them. Refused, it hands the disk back as far as it came: what is stored there is kept, and bytes that are no
+    /// store are left as they are.
     pub fn open_store(alloc: Global, disk: D, moment: u64) -> Result<Core<D>, (OpenError, D)>
         ensures opened { IfOk result (λ core. Opened D.Device.own disk moment core) }
         // Whenever a crash comes, what is stored is kept, and what is left stays tidy.
         ensures kept { IfOk result (λ core. KeepsDisk D.Device.own disk core.disk) }
         ensures kept_refused { IfErr result (λ e. KeepsDisk D.Device.own disk e.1) }
+        // Refused for another cause than a fault it leaves all bytes as they were, be they a store's or not.
+        ensures left { IfErr result (λ e. IsTrue (D.tells disk) → e.0 ≢ Fault → LeavesAlone D.Device.own disk e.1) }
+        // The list that counts then is the one that counted, or the next one without loose files, or a new store's.
+        ensures list { IfOk result (λ core. IsTrue (D.tells disk) → (list : Option ListBody) → ImageHoldsList (D.held disk) list
+            → core.state.list ≡ opened_list list) }
+        ensures ready { IfOk result (λ core. IsTrue (D.tells disk) → IsReady (D.held core.disk) (D.may_leave core.disk) (Some core.state.list)) }
         // Bytes are refused where they break, and only there.
         ensures not_store { IfErr result (λ e. IsTrue (D.tells disk) → (file at : ℕ) → e.0 ≡ NotStore file at → StoreBreaks (D.held disk) file at) }
         ensures unbroken { IfOk result (λ core. IsTrue (D.tells disk) → (file at : ℕ) → StoreBreaks (D.held disk) file at → ⊥) }
@@ -94,6 +102,8 @@ fn read_store<D: Device>(
     ensures settled { IsTrue (D.tells disk.old) → IfOk result (λ state. (h : History) → ImageStandsFor (D.held disk.old) h
         → IsSettled (D.held disk.new) (D.may_leave disk.new) state.list [] (tail_of state.segment) h) }
     ensures kept { KeepsDisk D.Device.own disk.old disk.new }
+    ensures ready { IsTrue (D.tells disk.old) → IfOk result (λ state. IsReady (D.held disk.new) (D.may_leave disk.new) (Some state.list)) }
+    ensures left { IfErr result (λ error. error ≢ Fault → Untouched D.tells D.held D.may_leave D.moment D.left_since disk.old disk.new) }
     ensures not_store { IsTrue (D.tells disk.old) → (file at : ℕ) → result ≡ Err (NotStore file at) → ListBreaks (D.held disk.old) list file at }
     ensures telling { D.tells disk.new ≡ D.tells disk.old }
     ensures later { D.faults disk.old ≤ D.faults disk.new }

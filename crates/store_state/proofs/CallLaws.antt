@@ -66,6 +66,7 @@ step_is_called core old new event reply steps = record {
   empty = steps.empty;
   later = steps.later;
   cause = steps.cause;
+  calls = steps.calls;
   reads_rise = steps.reads_rise;
   reads_bound = steps.reads_bound;
 }

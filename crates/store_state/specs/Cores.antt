@@ -10,6 +10,8 @@ use Rattle.store_model.specs.Step.{Machine, Step}
 use Rattle.store_model.specs.Laws.{Agrees}
 use Rattle.store_model.specs.Sound.{StateIsSound}
 use Rattle.store_model.specs.Holds.{Hold, OpenIn, ends, files_of, own_files}
+use Rattle.block_info.specs.InfoParts.{InfoParts}
+use Rattle.store_state.specs.Calls.{MadeCalls}
 use Rattle.store_state.specs.Written.{BlockRelation}
 use Rattle.store_state.specs.Meaning.{View, Meaning, Rewritten, reads_of}
 
@@ -19,8 +21,10 @@ pub record CoreMeaning (P : Type 0) : Type 1 where
   pub tells : P → Bool
   pub shows : P → ℕ → List ℕ
   pub block_holds : BlockRelation
+  pub lists : P → List InfoParts → Type 0
   pub faults : P → ℕ
   pub reads : P → ℕ
+  pub calls : P → ℕ
 
 -- A core knows the history of a sound machine that it stands for, and holds what is open in it.
 pub record CoreKnows {P : Type 0} (core : CoreMeaning P) (port : P) (v : View) : Type 0 where
@@ -42,8 +46,10 @@ meaning_of {P} core = record {
   tells = core.tells;
   shows = core.shows;
   block_holds = core.block_holds;
+  lists = core.lists;
   faults = core.faults;
   reads = core.reads;
+  calls = core.calls;
   did = CoreDid core;
 }
 
@@ -57,5 +63,6 @@ pub record CoreSteps {P : Type 0} (core : CoreMeaning P) (old : P) (event : Even
   pub empty : IsTrue (core.tells old) → (file : ℕ) → is_among file (own_files reply) ≡ true → core.shows new file ≡ []
   pub later : core.faults old ≤ core.faults new
   pub cause : reply ≡ Refused Fault → Rose (core.faults old) (core.faults new)
+  pub calls : MadeCalls event reply (core.calls old) (core.calls new)
   pub reads_rise : core.reads old ≤ core.reads new
   pub reads_bound : core.reads new ≤ core.reads old + reads_of event

@@ -1,7 +1,9 @@
 pub mod Meaning
+pub mod Calls
 pub mod Given
 pub mod Replies
 pub mod Written
+pub mod Shown
 pub mod Loose
 pub mod Listed
 pub mod Pairing

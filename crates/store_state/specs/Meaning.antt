@@ -9,6 +9,8 @@ use Rattle.store_model.specs.Event.{Event, Reply}
 use Rattle.store_model.specs.Event.Event.{Push, WritePiece, ReadPage}
 use Rattle.store_model.specs.Event.Reply.{Count, Fine, Looked, Refused}
 use Rattle.store_model.specs.Event.Refusal.{Fault}
+use Rattle.block_info.specs.InfoParts.{InfoParts}
+use Rattle.store_state.specs.Calls.{MadeCalls}
 use Rattle.store_state.specs.Written.{BlockRelation}
 use Rattle.store_model.specs.Holds.{Hold, ends, holds_after, files_of, own_files}
 
@@ -25,9 +27,12 @@ pub record Meaning (P : Type 0) : Type 1 where
   pub shows : P → ℕ → List ℕ
   -- what it means that bytes are a block of rows
   pub block_holds : BlockRelation
-  -- how often a device call failed, and how many pages were read
+  -- the listed blocks by their information, in list order, where a port tells them
+  pub lists : P → List InfoParts → Type 0
+  -- how often a device call failed, how many pages were read, and how many device calls were made
   pub faults : P → ℕ
   pub reads : P → ℕ
+  pub calls : P → ℕ
   -- what a port says of one call besides, such as that it is a step of the machine that stands behind it
   pub did : P → Event → Reply → P → Type 0
 
@@ -44,10 +49,10 @@ Learns _ (Looked pin files as_of rows) h h' =
 Learns _ _ h h' = (others : List (List Span)) × (h' ≡ grown h others)
 
 -- What a call makes of a file that stays held: a piece goes behind the file's bytes. Nothing is said of the bytes of a file
--- once a write of it failed.
+-- once a write of it failed; a piece that is refused for another cause leaves it as it is.
 abbrev pub Rewritten : Event → Reply → ℕ → List ℕ → List ℕ → Type 0
 Rewritten (WritePiece number own bytes) Fine file old new = new ≡ (if own == file then old ++ bytes else old)
-Rewritten (WritePiece number own bytes) reply file old new = (own == file) ≡ false → new ≡ old
+Rewritten (WritePiece number own bytes) (Refused Fault) file old new = (own == file) ≡ false → new ≡ old
 Rewritten _ _ file old new = new ≡ old
 
 abbrev pub reads_of : Event → ℕ
@@ -70,6 +75,8 @@ pub record Called {P : Type 0} (meaning : Meaning P) (old : P) (event : Event) (
   -- faults are counted, and one is answered only where the count rose
   pub later : meaning.faults old ≤ meaning.faults new
   pub cause : reply ≡ Refused Fault → Rose (meaning.faults old) (meaning.faults new)
+  -- as many device calls as the event makes by itself: one that fails is not made again
+  pub calls : MadeCalls event reply (meaning.calls old) (meaning.calls new)
   -- a page read alone may count as a read, and as one
   pub reads_rise : meaning.reads old ≤ meaning.reads new
   pub reads_bound : meaning.reads new ≤ meaning.reads old + reads_of event

@@ -1,12 +1,15 @@
 //! The calls of a store.
 
-ghost use Rattle.std.specs.Prelude.{◌≡◌, ◌≤◌, ◌<◌, ◌+◌, ◌^◌, List, length, IsTrue, IfOk, IfSome, OnOk};
+ghost use Rattle.std.specs.Prelude.{◌≡◌, ◌≢◌, ◌≤◌, ◌<◌, ◌+◌, ◌^◌, List, length, Err, IsTrue, IfOk, IfSome, OnOk, OnErr};
+ghost use Rattle.block_info.specs.InfoParts.{InfoParts};
 ghost use Rattle.store_model.specs.Event.Event.{Push, Cut, CutAll, Held, BeginFlush, BeginCompact, WritePiece, CommitFlush, CommitCompact, DropFlush, DropCompact, Look as TakeLook, ReadPage, Done, Reclaim};
 ghost use Rattle.store_model.specs.Event.Reply.{Count, Fine};
-ghost use Rattle.store_state.specs.Meaning.{Meaning, Called, IsOpen};
+ghost use Rattle.store_state.specs.Meaning.{View, Meaning, Called, IsOpen};
 ghost use Rattle.store_state.specs.Given.{look_of, flush_of, compact_of, IsJobOf, IsPinOf};
 ghost use Rattle.store_state.specs.Replies.{push_reply, count_reply, begin_flush_reply, begin_compact_reply, write_reply, look_reply, page_reply, reclaim_reply};
-ghost use Rattle.store_state.specs.Written.{IsBlockOf, IsJoinedBlock, page_of};
+ghost use Rattle.store_state.specs.Written.{IsBlockOf, IsJoinedBlock, HasWritten, page_of};
+ghost use Rattle.store_state.specs.Shown.{ShowsHistory, AreBlocks, JoinsChoice};
+ghost use Rattle.store_state.specs.declared.errors.WriteError.TheVariants.{Fault};
 
 use crate::{
     BeginError, CompactJob, FlushJob, JobFile, Look, Pin, PushError, ReclaimError, WriteError,
@@ -30,9 +33,13 @@ pub trait LookPort {
     fn held(&mut self) -> u64
         ensures { Called meaning self.old Held (Count result) self.new };
 
-    /// Takes a look: all rows outside of blocks, and a pin on all blocks.
+    /// Takes a look: all rows outside of blocks, and a pin on all listed blocks. Together they have the first occurrences of each
+    /// history that is known after it.
     fn look(&mut self) -> Result<Look, Memory>
-        ensures { Called meaning self.old TakeLook (look_reply result) self.new };
+        ensures called { Called meaning self.old TakeLook (look_reply result) self.new }
+        ensures pins { IfOk result (λ look. (infos : List InfoParts) → meaning.lists self.old infos → look.pin.blocks ≡ infos) }
+        ensures shows { IfOk result (λ look. (v : View) → meaning.knows self.new v →
+            ShowsHistory (IsTrue (meaning.tells self.new)) meaning.block_holds (meaning.shows self.new) look v.history) };
 
     /// Gives a look back, and ends its pin. Only one that this port gave and that is open is taken.
     fn done(&mut self, look: Look)
@@ -63,32 +70,41 @@ pub trait Port: LookPort {
     /// Begins a compaction of the blocks that are to be joined next; none where no two of a level below 63 fit together.
     fn begin_compact(&mut self) -> Result<Option<CompactJob>, BeginError>
         ensures called { Called Self.meaning self.old BeginCompact (begin_compact_reply result) self.new }
-        ensures fresh { IfOk result (λ begun. IfSome begun (λ job. job.out.written ≡ 0)) };
+        ensures fresh { IfOk result (λ begun. IfSome begun (λ job. job.out.written ≡ 0)) }
+        ensures joins { IfOk result (λ begun. IfSome begun (λ job.
+            JoinsChoice (Self.meaning.lists self.old) job.level job.pin.blocks)) }
+        ensures blocks { IsTrue (Self.meaning.tells self.new) → IfOk result (λ begun. IfSome begun (λ job.
+            AreBlocks Self.meaning.block_holds (Self.meaning.shows self.new) job.pin.blocks)) };
 
-    /// Writes bytes behind those that were written to a job's file.
+    /// Writes bytes behind those that were written to a job's file, and counts them; a refusal counts none. The file is handed in
+    /// as the port left it: what was written to it is what it holds. Only where the write itself failed is this not so afterwards.
     fn write_piece(&mut self, out: &mut JobFile, bytes: &[u8]) -> Result<(), WriteError>
         requires open { IsJobOf out.now (IsOpen Self.meaning self.now) }
+        requires whole { IsTrue (Self.meaning.tells self.now) → HasWritten (Self.meaning.shows self.now) out.now }
         requires near { out.now.written + length bytes.now < 2 ^ 63 }
         ensures called { Called Self.meaning self.old (WritePiece out.old.number out.old.file bytes.now)
             (write_reply result) self.new }
         ensures raised { OnOk result (out.new.written ≡ out.old.written + length bytes.now) }
+        ensures kept { OnErr result (out.new.written ≡ out.old.written) }
+        ensures whole { IsTrue (Self.meaning.tells self.old) → result ≢ Err Fault → HasWritten (Self.meaning.shows self.new) out.new }
         ensures same { (out.new.number ≡ out.old.number) × (out.new.file ≡ out.old.file) };
 
-    /// Lists a flush's block, which its file holds. The job is spent, refused or not.
+    /// Lists a flush's block, which its file holds and the information describes. The job is spent, refused or not.
     fn commit_flush(&mut self, job: FlushJob, info: SharedInfo) -> Result<(), WriteError>
         requires open { IsOpen Self.meaning self.now (flush_of job) }
         requires size { (1 ≤ info.rows) × (info.rows ≤ 1048576) }
-        requires block { IsTrue (Self.meaning.tells self.now) →
-            IsBlockOf Self.meaning.block_holds (Self.meaning.shows self.now job.out.file)
+        requires block { IsBlockOf (IsTrue (Self.meaning.tells self.now))
+            Self.meaning.block_holds (Self.meaning.shows self.now job.out.file)
             job.out.file 0 info job.rows }
         ensures { Called Self.meaning self.old (CommitFlush job.out.number info.rows)
             (write_reply result) self.new };
 
-    /// Lists a compaction's block, which its file holds, in the place of those that it joins. The job is spent, refused or not.
+    /// Lists a compaction's block, which its file holds and the information describes, in the place of those that it joins. The job
+    /// is spent, refused or not.
     fn commit_compact(&mut self, job: CompactJob, info: SharedInfo) -> Result<(), WriteError>
         requires open { IsOpen Self.meaning self.now (compact_of job) }
         requires size { (1 ≤ info.rows) × (info.rows ≤ 1048576) }
-        requires block { IsTrue (Self.meaning.tells self.now) → IsJoinedBlock
+        requires block { IsJoinedBlock (IsTrue (Self.meaning.tells self.now))
             Self.meaning.block_holds (Self.meaning.shows self.now)
             job.out.file job.level info job.pin.blocks }
         ensures { Called Self.meaning self.old (CommitCompact job.out.number info.rows)

@@ -64,4 +64,4 @@ memory_answers (plain answer) = (inr refl, refl)
 -- nothing was written, since memory was wanted
 pub starved_alone : (line before : List ℕ) (taken : Option (List ℕ)) → taken ≡ Some before → CameAlone line before taken Starved []
 starved_alone line before taken is =
-    (reply.Refused refusal.Memory, no_push, (Err refusal.Memory, memory_answers (line_of line), (refl, refl)), inr is)
+    (reply.Refused refusal.Memory, no_push, (Err refusal.Memory, (0, memory_answers (line_of 0 line)), (refl, refl)), inr is)

@@ -18,10 +18,10 @@ use Rattle.session_meaning.specs.Session.{IsAnsweredOrStarved}
 use Rattle.session_meaning.proofs.SessionLaws.{length_of-push, rows_of-push}
 use Rattle.trace_shell.specs.Holding.{Holding, Holds}
 
-pub pushed_on : (old new : Holding) (history : History) (reading : Reading) (n accepted : ℕ) → Holds old history → n ≡ old.pushes → accepted ≡ length reading.batch.spans →
+pub pushed_on : (moment : ℕ) (old new : Holding) (history : History) (reading : Reading) (n accepted : ℕ) → Holds old history → n ≡ old.pushes → accepted ≡ length reading.batch.spans →
     new.pushes ≡ old.pushes + 1 → new.rows ≡ old.rows ++ rows_from n 0 reading.batch.spans →
-    (after : History) × IsAnsweredOrStarved (Ok (Push reading)) history (Pushed n accepted reading.rejected reading.skipped) after × Holds new after
-pushed_on old new history reading n accepted h is_n is_count pushes rows =
+    (after : History) × IsAnsweredOrStarved (Ok (Push reading moment)) history (Pushed n accepted reading.rejected reading.skipped) after × Holds new after
+pushed_on moment old new history reading n accepted h is_n is_count pushes rows =
     let number : n ≡ length_of history = is_n ∙ h.count in (
       with_push history reading.batch.spans,
       inl (ap (λ k. Pushed k accepted reading.rejected reading.skipped) number ∙ ap (λ k. Pushed (length_of history) k reading.rejected reading.skipped) is_count, refl),

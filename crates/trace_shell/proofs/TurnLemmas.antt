@@ -200,15 +200,15 @@ whole_at {M} makes a b left_old left taken_old taken reader_old reader held_old 
     )
 
 -- A line of too many bytes asks nothing.
-too_long_line : (line : List ℕ) → line_limit < length line → line_of line ≡ plain (Err (refusal.TooLong (length line)))
+too_long_line : (moment : ℕ) (line : List ℕ) → line_limit < length line → line_of moment line ≡ plain (Err (refusal.TooLong (length line)))
 unfolding line_of
-too_long_line line long = rw (not_within (length line) long) refl
+too_long_line moment line long = rw (not_within (length line) long) refl
   where
     not_within : (n : ℕ) → line_limit < n → nat_le n line_limit ≡ false
     not_within n h = grind arith
 
 too_long_asks : (line : List ℕ) → line_limit < length line → Asks line [] (Err (refusal.TooLong (length line)))
-too_long_asks line long = rw (too_long_line line long) (inl refl, refl)
+too_long_asks line long = (0, rw (too_long_line 0 line long) (inl refl, refl))
 
 -- A line of too many bytes was read, and refused.
 pub too_long_at : (text before : List ℕ) (left_old left taken_old taken : Option (List ℕ)) (reader_old reader : Reader) (held : Holding) (tally_old tally : Tally)

@@ -222,8 +222,9 @@ fn answer<P: PatternMaker>(alloc: Global, held: &mut Held, patterns: &mut P, lin
         → (after : History) × IsLineAnswered line.now more history result after × Holds held.new after) }
     ensures count { held.new.pushes ≤ held.old.pushes + 1 }
 {
-    match read_request(alloc, line, patterns) {
-        Ok(Request::Push(reading)) => push(held, reading),
+    // The rows in memory don't keep when they came.
+    match read_request(alloc, line, 0, patterns) {
+        Ok(Request::Push { reading, .. }) => push(held, reading),
         Ok(Request::Trace(id)) => trace(held, id),
         Ok(Request::Search(search)) => search_reply(alloc, held, &search),
         Err(why) => Reply::Refused(why),
@@ -241,8 +242,8 @@ fn count_of(batch: &Batch) -> u64
 fn push(held: &mut Held, reading: Reading) -> Reply
     requires counts { held.old.pushes + 1 < 2 ^ 64 }
     requires few { length reading.batch.spans ≤ MOST_SPANS }
-    ensures answered { (history : History) → Holds held.old history
-        → (after : History) × IsAnsweredOrStarved (Ok (Push reading)) history result after × Holds held.new after }
+    ensures answered { (moment : ℕ) (history : History) → Holds held.old history
+        → (after : History) × IsAnsweredOrStarved (Ok (Push reading moment)) history result after × Holds held.new after }
     ensures count { held.new.pushes ≤ held.old.pushes + 1 }
 {
     let accepted = count_of(&reading.batch);

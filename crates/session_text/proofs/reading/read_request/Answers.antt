@@ -14,7 +14,7 @@ returns-in-Ok-clause-asked g c =
     let short : length c.args.line.now ≤ line_limit = omega arith in
     let no : bytes_eq (first_part c.args.line.now) (codes "push") ≡ false = grind (arith, common_steps) in
     let asked = c.asked_by.ensures.asked in
-    (asked.0, asked.1, subst (λ (l : Line). Answers l asked.0 c.asked_by.result) (sym (of_text c.args.line.now c.in-Ok.text.now short no c.in-Ok.ensures.cases)) asked.2)
+    (asked.0, asked.1, subst (λ (l : Line). Answers l asked.0 c.asked_by.result) (sym (of_text c.args.moment c.args.line.now c.in-Ok.text.now short no c.in-Ok.ensures.cases)) asked.2)
 
 pub returns-in-Err-clause-asked : goal.returns-in-Err-clause-asked
 returns-in-Err-clause-asked g c =
@@ -22,5 +22,5 @@ returns-in-Err-clause-asked g c =
     let no : bytes_eq (first_part c.args.line.now) (codes "push") ≡ false = grind (arith, common_steps) in (
       [],
       refuses-none g.P.PatternMaker.makes c.args.maker.now c.args.maker.now c.args.maker.now,
-      subst (λ (l : Line). Answers l [] (Err (BadRequest 0))) (sym (of_bytes c.args.line.now short no c.in-Err.ensures.cases.0)) (inl refl, refl),
+      subst (λ (l : Line). Answers l [] (Err (BadRequest 0))) (sym (of_bytes c.args.moment c.args.line.now short no c.in-Err.ensures.cases.0)) (inl refl, refl),
     )

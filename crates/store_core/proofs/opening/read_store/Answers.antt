@@ -1,7 +1,7 @@
 use Rattle.std.proofs.Common.{◌≡◌, ◌≤◌, ℕ, IsTrue, List, [], Some, Err, refl, sym, ◌∙◌, ap, subst, arith}
 use Rattle.std.specs.List.{Contains}
 use Rattle.disk_model.specs.Images.{bytes_of}
-use Rattle.disk_model.specs.Crash.{OnlyBytes}
+use Rattle.disk_model.specs.Crash.{OnlyBytes, Untouched}
 use Rattle.disk_model.proofs.Runs.{run_on, run_untouched}
 use Rattle.block_list.specs.Loading.{IsReady}
 use Rattle.block_list.specs.declared.body.SegmentRef.{SegmentRef}
@@ -68,3 +68,14 @@ returns-in-Ok-empty_loose-clause-settled g c = λ told h stands.
     (λ x inside. others.still x.file (segment_low list rules x inside) (segment_stays list rules x inside) ∙ untouched.same_bytes told x.file)
     (λ x inside. others.images x.file (bytes_of (d.held disk) x.file) (segment_low list rules x inside) (segment_stays list rules x inside) (c.in-Ok.ensures.lies told x inside))
     h (subst (λ (l : ListBody). IsReady (d.held new) (d.may_leave new) (Some l)) c.in-Ok-empty_loose.ensures.list (c.in-Ok-empty_loose.ensures.ready told_mid)) stands)
+
+pub returns-in-Ok-empty_loose-clause-ready : goal.returns-in-Ok-empty_loose-clause-ready
+returns-in-Ok-empty_loose-clause-ready g c = λ told. c.in-Ok-empty_loose.ensures.ready (subst IsTrue (sym c.read_rows.ensures.untouched.telling) told)
+
+pub returns-in-Err-clause-left : goal.returns-in-Err-clause-left
+returns-in-Err-clause-left g c = λ other. c.read_rows.ensures.untouched
+
+pub returns-in-Err-empty_loose-clause-left : goal.returns-in-Err-empty_loose-clause-left
+returns-in-Err-empty_loose-clause-left g c = λ other.
+    let d = g.D.Device in
+    subst (λ x. Untouched d.tells d.held d.may_leave d.moment d.left_since c.args.disk.now x) (sym (c.in-Err-empty_loose.ensures.unchanged other)) c.read_rows.ensures.untouched

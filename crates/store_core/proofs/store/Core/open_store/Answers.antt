@@ -6,6 +6,9 @@ use Rattle.block_list.specs.declared.body.ListBody.{ListBody}
 use Rattle.disk_model.specs.Images.{bytes_of}
 use Rattle.store_core.specs.Opening.StoreBreaks.{slot, listed}
 use Rattle.store_core.proofs.OpeningSteps.{list_breaks_same, segment_low, store_unbroken, sound_unbroken, refused_slot, refused_fault}
+use Rattle.store_core.specs.Opening.{LeavesAlone, opened_list, refusal_of}
+use Rattle.store_images.proofs.Keeping.{one_list}
+use Rattle.store_core.proofs.LeftAlone.{left_untouched, left_loaded, left_then}
 use Rattle.store_core.proofs.OpeningEnds.{opened_existing, opened_new, logged_before, kept_loaded, kept_then, kept_new, if_ok_more, if_err_more}
 use Rattle.store_core.proofs.store.Core.open_store.Goals as goal
 
@@ -26,7 +29,32 @@ returns-in-Err-clause-sound g c = λ told sound file at is.
 pub returns-in-Err-clause-fault : goal.returns-in-Err-clause-fault
 returns-in-Err-clause-fault g c = λ is. c.in-Err.ensures.fault (ap Err (refused_fault c.in-Err.error (sym c.refusal.ensures ∙ is)))
 
+pub returns-in-Err-clause-left : goal.returns-in-Err-clause-left
+returns-in-Err-clause-left g c = λ told other.
+    left_untouched g.D.Device c.args.disk c.load.new.disk told (c.in-Err.ensures.left_alone (λ is. other (c.refusal.ensures ∙ ap refusal_of is)))
+
 -- ---- a new store was made
+
+pub returns-in-None-clause-left : goal.returns-in-None-clause-left
+returns-in-None-clause-left g c =
+    let d = g.D.Device in
+    let disk = c.args.disk in
+    let mid = c.load.new.disk in
+    if_err_more c.open_new.result _ _
+    (λ e same told other. subst (λ x. LeavesAlone d disk x) (sym (same other)) (left_loaded d disk mid None (c.load.ensures.kept told)
+    (subst (λ (l : Option ListBody). ImageHoldsList (d.held disk) l) c.in-None.is (c.in-Ok.ensures.list told))
+    (subst (λ (l : Option ListBody). IsReady (d.held mid) (d.may_leave mid) l) c.in-None.is (c.in-Ok.ensures.ready told)) (c.load.ensures.slots told) (c.load.ensures.others told)))
+    c.open_new.ensures.unchanged
+
+pub returns-in-None-clause-list : goal.returns-in-None-clause-list
+returns-in-None-clause-list g c =
+    let d = g.D.Device in
+    if_ok_more c.open_new.result _ _
+    (λ core is told list there. is ∙ ap opened_list (one_list (d.held c.args.disk) None list (subst (λ (l : Option ListBody). ImageHoldsList (d.held c.args.disk) l) c.in-None.is (c.in-Ok.ensures.list told)) there))
+    c.open_new.ensures.list
+
+pub returns-in-None-clause-ready : goal.returns-in-None-clause-ready
+returns-in-None-clause-ready g c = if_ok_more c.open_new.result _ _ (λ core ready told. ready (subst IsTrue (sym c.load.ensures.telling) told)) c.open_new.ensures.ready
 
 pub returns-in-None-clause-opened : goal.returns-in-None-clause-opened
 returns-in-None-clause-opened g c =
@@ -58,6 +86,26 @@ pub returns-in-None-clause-sound : goal.returns-in-None-clause-sound
 returns-in-None-clause-sound g c = if_err_more c.open_new.result _ _ (λ e never told sound file at is. never file at is) c.open_new.ensures.a_store
 
 -- ---- a store was read
+
+pub returns-in-Ok-read_store-clause-list : goal.returns-in-Ok-read_store-clause-list
+returns-in-Ok-read_store-clause-list g c = λ told list there.
+    let d = g.D.Device in
+    c.in-Ok-read_store.ensures.state.1.listing
+    ∙ ap opened_list (one_list (d.held c.args.disk) (Some c.in-Some.list) list (subst (λ (l : Option ListBody). ImageHoldsList (d.held c.args.disk) l) c.in-Some.is (c.in-Ok.ensures.list told)) there)
+
+pub returns-in-Ok-read_store-clause-ready : goal.returns-in-Ok-read_store-clause-ready
+returns-in-Ok-read_store-clause-ready g c = λ told. c.in-Ok-read_store.ensures.ready (subst IsTrue (sym c.load.ensures.telling) told)
+
+pub returns-in-Err-read_store-clause-left : goal.returns-in-Err-read_store-clause-left
+returns-in-Err-read_store-clause-left g c = λ told other.
+    let d = g.D.Device in
+    let disk = c.args.disk in
+    let mid = c.load.new.disk in
+    left_then d disk mid c.read_store.new.disk
+    (left_loaded d disk mid (Some c.in-Some.list) (c.load.ensures.kept told)
+    (subst (λ (l : Option ListBody). ImageHoldsList (d.held disk) l) c.in-Some.is (c.in-Ok.ensures.list told))
+    (subst (λ (l : Option ListBody). IsReady (d.held mid) (d.may_leave mid) l) c.in-Some.is (c.in-Ok.ensures.ready told)) (c.load.ensures.slots told) (c.load.ensures.others told))
+    (left_untouched d mid c.read_store.new.disk (subst IsTrue (sym c.load.ensures.telling) told) (c.in-Err-read_store.ensures.left other))
 
 pub returns-in-Ok-read_store-clause-opened : goal.returns-in-Ok-read_store-clause-opened
 returns-in-Ok-read_store-clause-opened g c =

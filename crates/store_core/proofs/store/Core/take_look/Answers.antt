@@ -1,6 +1,7 @@
-use Rattle.std.proofs.Common.{ap, refl}
+use Rattle.std.proofs.Common.{◌≡◌, ◌+◌, IsTrue, ap, refl, arith}
 use Rattle.std.proofs.lemmas.Result.{err_from_is_err_and}
 use Rattle.store_state.specs.Given.{info_files}
+use Rattle.store_core.proofs.Showing.{look_shows}
 use Rattle.store_core.proofs.LookEvents.{did_looked, did_look_lacking}
 use Rattle.store_core.proofs.store.Core.take_look.Goals as goal
 
@@ -19,3 +20,12 @@ returns-clause-looked g c =
     let number = c.in_ok-number.ensures in
     did_looked g.D.Device g.met.D.Device.only_now c.args.self.now c.take_number.new.pins _ _ _ _ c.length-as_of.ensures.count (ap info_files c.in_ok-blocks.ensures) c.in_ok-rows.ensures
     number.free number.least number.taken
+
+pub returns-clause-shows : goal.returns-clause-shows
+returns-clause-shows g c = λ m stands.
+    let d = g.D.Device in
+    let core = c.args.self.now in
+    let sum = c.length-as_of.ensures.sum in
+    let few = stands.has.few in
+    let length_is : c.length-as_of.result ≡ core.state.segment.first + core.state.segment.count = omega (arith, sum, few) in
+    look_shows (IsTrue (d.tells core.disk)) (d.held core.disk) (d.may_leave core.disk) (record core.state { pins = c.take_number.new.pins }) m _ stands c.in_ok-blocks.ensures length_is c.in_ok-rows.ensures

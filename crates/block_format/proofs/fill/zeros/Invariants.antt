@@ -1,7 +1,0 @@
-use Rattle.std.proofs.Common.{◌≡◌, ◌+◌, drop}
-use Rattle.block_format.specs.StripeReadings.{zeros}
-use Rattle.block_format.proofs.fill.zeros.Given as goal
-
--- The bytes so far are zeros.
-abbrev pub invariant-loop-index : goal.invariant-loop-index
-invariant-loop-index l = zeros l.bytes ≡ l.index + zeros (drop l.index l.bytes)

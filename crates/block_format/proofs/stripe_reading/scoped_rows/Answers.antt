@@ -1,5 +1,0 @@
-use Rattle.block_format.proofs.NamedCells.{cells_named}
-use Rattle.block_format.proofs.stripe_reading.scoped_rows.Goals as goal
-
-pub rows-requires : goal.rows-requires
-rows-requires c = cells_named _ _ _ _ _ _ _ _ _ c.in_ok-cells.ensures

@@ -1,0 +1,4 @@
+pub mod PartEncodings
+pub mod PartReadings
+pub mod PartsKept
+pub mod TextKeys

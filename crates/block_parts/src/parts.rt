@@ -1,0 +1,142 @@
+//! Reading a span's parts whose texts are references into a table.
+
+ghost use Rattle.std.specs.Prelude.{◌≡◌, ◌++◌, ◌∷◌, List, [], IfOk, OnOk, not};
+ghost use Rattle.span_types.specs.declared.attrs.Attr.{Attr};
+ghost use Rattle.span_types.specs.Promises.{has_key};
+ghost use Rattle.block_columns.specs.ColumnReadings.{items_at, reference_at};
+ghost use Rattle.block_columns.specs.Outcomes.{Finds};
+ghost use Rattle.block_parts.specs.PartReadings.{attr_with, attrs_with, event_with, link_with, resource_with, scope_with, value_with};
+ghost use Rattle.block_parts.specs.TextKeys.{HasKeysOf};
+
+use block_columns::Fields;
+use span_fields::Break;
+use span_types::{
+    Attr, AttrValue, Attrs, Memory, Resource, Scope, SpanEvent, SpanLink, Text, TryCopy,
+};
+use std::alloc::Global;
+use std::collections::HashSet;
+
+/// A text of the table.
+fn text(fields: &mut Fields, texts: &[Text]) -> Result<Text, Break>
+    ensures { Finds (λ x. x) result fields.new (reference_at texts.now fields.old) }
+{
+    let text = fields.reference(texts)?;
+    Ok(text.copy()?)
+}
+
+#[tactic(auto, unfolding(crate::specs::PartReadings::value_with, block_columns::specs::ColumnReadings::made_at))]
+fn value(fields: &mut Fields, texts: &[Text]) -> Result<AttrValue, Break>
+    ensures { Finds (λ x. x) result fields.new (value_with texts.now fields.old) }
+{
+    let mut ahead = fields.fork();
+    if ahead.byte()? == 0 {
+        let text = text(&mut ahead, texts)?;
+        *fields = ahead;
+        return Ok(AttrValue::Text(text));
+    }
+    fields.value()
+}
+
+/// Whether no attribute before has the key. Then it is one of their keys.
+fn is_new<'t>(keys: &mut HashSet<&'t Text>, key: &'t Text) -> Result<bool, Memory>
+    ensures new_key { IfOk result (λ new. (before : List Attr) → HasKeysOf keys.old before → new ≡ not (has_key key.now before)) }
+    ensures kept { OnOk result ((before : List Attr) (attr : Attr) → HasKeysOf keys.old before → attr.key ≡ key.now → HasKeysOf keys.new (before ++ attr ∷ [])) }
+{
+    match keys.insert(key) {
+        Ok(new) => Ok(new),
+        Err(_) => Err(Memory),
+    }
+}
+
+/// An attribute after those that have these keys, none of which has its key.
+#[tactic(auto, unfolding(crate::specs::PartReadings::attr_with, block_columns::specs::ColumnReadings::made_at, block_columns::specs::ColumnReadings::pair_at, block_columns::specs::ColumnReadings::unless_at))]
+fn attr<'t>(
+    fields: &mut Fields,
+    texts: &'t [Text],
+    keys: &mut HashSet<&'t Text>,
+) -> Result<Attr, Break>
+    ensures gives { (before : List Attr) → HasKeysOf keys.old before → Finds (λ x. x) result fields.new (attr_with texts.now before fields.old) }
+    ensures kept { IfOk result (λ attr. (before : List Attr) → HasKeysOf keys.old before → HasKeysOf keys.new (before ++ attr ∷ [])) }
+{
+    let at = fields.at();
+    let key = fields.reference(texts)?;
+    if !is_new(keys, key)? {
+        return Err(Break::At(at));
+    }
+    let value = value(fields, texts)?;
+    let key = key.copy()?;
+    Ok(Attr { key, value })
+}
+
+fn each_attr(
+    alloc: Global,
+    fields: &mut Fields,
+    texts: &[Text],
+    count: u64,
+) -> Result<Vec<Attr>, Break>
+    ensures { Finds (λ x. x.items) result fields.new (items_at (attr_with texts.now) count [] fields.old) }
+{
+    let mut attrs = Vec::new(alloc);
+    let mut keys = HashSet::new(alloc);
+    for _ in 0..count {
+        let attr = attr(fields, texts, &mut keys)?;
+        attrs.push(attr)?;
+    }
+    Ok(attrs)
+}
+
+/// A list of attributes, no two of which have one key.
+#[tactic(auto, unfolding(block_columns::specs::ColumnReadings::counted_at))]
+pub fn attrs(alloc: Global, fields: &mut Fields, texts: &[Text]) -> Result<Attrs, Break>
+    ensures { Finds (λ x. x) result fields.new (attrs_with texts.now fields.old) }
+{
+    let count = fields.number()?;
+    let attrs = each_attr(alloc, fields, texts, count)?;
+    Ok(Attrs::of(attrs))
+}
+
+/// An event.
+#[tactic(auto, unfolding(crate::specs::PartReadings::event_with, block_columns::specs::ColumnReadings::made_at, block_columns::specs::ColumnReadings::pair_at))]
+pub fn event(alloc: Global, fields: &mut Fields, texts: &[Text]) -> Result<SpanEvent, Break>
+    ensures { Finds (λ x. x) result fields.new (event_with texts.now fields.old) }
+{
+    let time = fields.moment()?;
+    let name = text(fields, texts)?;
+    let attrs = attrs(alloc, fields, texts)?;
+    Ok(SpanEvent { time, name, attrs })
+}
+
+/// A link.
+#[tactic(auto, unfolding(crate::specs::PartReadings::link_with, block_columns::specs::ColumnReadings::made_at, block_columns::specs::ColumnReadings::pair_at))]
+pub fn link(alloc: Global, fields: &mut Fields, texts: &[Text]) -> Result<SpanLink, Break>
+    ensures { Finds (λ x. x) result fields.new (link_with texts.now fields.old) }
+{
+    let trace = fields.trace_id()?;
+    let span = fields.span_id()?;
+    let attrs = attrs(alloc, fields, texts)?;
+    Ok(SpanLink { trace, span, attrs })
+}
+
+/// A resource.
+#[tactic(auto, unfolding(crate::specs::PartReadings::resource_with, block_columns::specs::ColumnReadings::made_at))]
+pub fn resource(alloc: Global, fields: &mut Fields, texts: &[Text]) -> Result<Resource, Break>
+    ensures { Finds (λ x. x) result fields.new (resource_with texts.now fields.old) }
+{
+    let attrs = attrs(alloc, fields, texts)?;
+    Ok(Resource { attrs })
+}
+
+/// A scope.
+#[tactic(auto, unfolding(crate::specs::PartReadings::scope_with, block_columns::specs::ColumnReadings::made_at, block_columns::specs::ColumnReadings::pair_at))]
+pub fn scope(alloc: Global, fields: &mut Fields, texts: &[Text]) -> Result<Scope, Break>
+    ensures { Finds (λ x. x) result fields.new (scope_with texts.now fields.old) }
+{
+    let name = text(fields, texts)?;
+    let version = text(fields, texts)?;
+    let attrs = attrs(alloc, fields, texts)?;
+    Ok(Scope {
+        name,
+        version,
+        attrs,
+    })
+}

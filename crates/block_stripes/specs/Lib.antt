@@ -1,0 +1,4 @@
+pub mod StripeRows
+pub mod StripeEncodings
+pub mod StripeReadings
+pub mod Stripes

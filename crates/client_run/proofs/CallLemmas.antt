@@ -1,0 +1,32 @@
+-- How calls of a port follow one another.
+use Rattle.std.proofs.Common.{◌≡◌, List, [], ◌∷◌, ◌++◌, refl, sym, ◌∙◌, ap, subst, append-nil, append_assoc}
+use Rattle.store_state.specs.Meaning.{Meaning}
+use Rattle.client_run.specs.declared.event.Event.{Event}
+use Rattle.client_run.specs.declared.event.EventReply.{EventReply}
+use Rattle.client_run.specs.Calls.{Call, Looks, AreMade, after_call, after_calls}
+use Rattle.client_run.specs.EventRuns.{AreEventsAnswered, IsEventAnswered}
+
+pub after-append : (front back : List Call) (looks : Looks) → after_calls (front ++ back) looks ≡ after_calls back (after_calls front looks)
+after-append [] back looks = refl
+after-append (c ∷ cs) back looks = after-append cs back (after_call c looks)
+
+pub made-append : {P : Type 0} (meaning : Meaning P) (old mid new : P) (front back : List Call) → AreMade meaning old front mid → AreMade meaning mid back new
+    → AreMade meaning old (front ++ back) new
+made-append {P} meaning old mid new [] back h made = subst (λ (x : P). AreMade meaning x back new) h made
+made-append meaning old mid new (c ∷ cs) back h made = (h.0, h.1, made-append meaning h.0 mid new cs back h.2 made)
+
+pub answered-push : (looks : Looks) (events : List Event) (replies : List EventReply) (e : Event) (r : EventReply) (calls now : List Call)
+    → AreEventsAnswered looks events replies calls → IsEventAnswered (after_calls calls looks) e r now
+    → AreEventsAnswered looks (events ++ e ∷ []) (replies ++ r ∷ []) (calls ++ now)
+answered-push looks [] replies e r calls now h a =
+    rw (h.0, h.1) (now, [], sym (append-nil now), subst (λ (cs : List Call). IsEventAnswered (after_calls cs looks) e r now) h.1 a, (refl, refl))
+answered-push looks (x ∷ xs) [] e r calls now h a = absurd h
+answered-push looks (x ∷ xs) (y ∷ ys) e r calls now h a =
+    let same : after_calls calls looks ≡ after_calls h.1 (after_calls h.0 looks) =
+    ap (λ (cs : List Call). after_calls cs looks) h.2 ∙ after-append h.0 h.1 looks in (
+      h.0,
+      h.1 ++ now,
+      ap (λ (cs : List Call). cs ++ now) h.2 ∙ append_assoc h.0 h.1 now,
+      h.3,
+      answered-push (after_calls h.0 looks) xs ys e r h.1 now h.4 (subst (λ (l : Looks). IsEventAnswered l e r now) same a),
+    )

@@ -1,0 +1,7 @@
+pub mod CallLemmas
+pub mod LookLemmas
+pub mod EventLemmas
+pub mod RunLemmas
+pub mod CoreLemmas
+pub mod PinLemmas
+pub mod AnswerLemmas

@@ -1,0 +1,14 @@
+use Rattle.store_state.specs.Given.{look_of}
+use Rattle.client_run.specs.Taken.{looks_of}
+use Rattle.client_run.proofs.EventLemmas.{has_ended}
+use Rattle.client_run.proofs.LookLemmas.{open_at}
+use Rattle.client_run.proofs.events.give_back.Goals as goal
+
+pub done-requires : goal.done-requires
+done-requires g c =
+    open_at g.P.LookPort.meaning c.args.port.now c.args.number (looks_of c.args.looks.now.items) (look_of c.in-Some.look) c.in-Some.ensures.open c.requires.open_looks
+
+pub returns-in-Some : goal.returns-in-Some
+returns-in-Some g c =
+    has_ended g.P.LookPort.meaning c.args.port.now c.done.new.self c.args.number c.in-Some.look
+    (looks_of c.args.looks.now.items) (looks_of c.end_look.new.looks.items) c.in-Some.ensures.open c.done.ensures c.in-Some.ensures.ended

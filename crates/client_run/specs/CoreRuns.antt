@@ -1,0 +1,29 @@
+-- Calls of a core are steps of the store's model.
+use Rattle.std.specs.Prelude.{◌≡◌, ℕ, ◌<◌, ◌≤◌, List, [], ◌∷◌, Some}
+use Rattle.disk_model.specs.declared.disk.Device.{Ghosts}
+use Rattle.store_model.specs.Fresh.{AreApart}
+use Rattle.store_model.specs.Holds.{Hold}
+use Rattle.store_model.specs.Step.{Machine, Step}
+use Rattle.store_core.specs.Cores.{CoreStandsFor}
+use Rattle.store_core.specs.declared.store.Core.{Core}
+use Rattle.client_run.specs.Calls.{Call, Looks, look_at}
+
+-- These calls are legal from a machine on: each is a step from what the one before it left. The numbers are the counts of
+-- faults before and after the calls; each call begins with the count that the one before it left.
+abbrev pub AreSteps : ℕ → Machine → List Call → ℕ → Machine → Type 0
+AreSteps before m [] after m' = (after ≡ before) × (m' ≡ m)
+AreSteps before m (c ∷ calls) after m' =
+    (now : ℕ) × (between : Machine) × (before ≤ now) × Step before now m c.event c.reply between
+    × AreSteps now between calls after m'
+
+-- A core that stood for this machine stands for what the calls leave.
+pub record HasStepped {D : Type 0} (g : Ghosts D) (old : Core D) (calls : List Call) (new : Core D) (m : Machine) : Type 0 where
+  pub machine : Machine
+  pub stands : CoreStandsFor g new machine
+  pub steps : AreSteps (g.faults old.disk) m calls (g.faults new.disk) machine
+
+-- No look that is open shares its pin with one that was taken before it and is open too: so whoever ends a look ends no other.
+abbrev pub HaveOwnPins : Looks → Type 0
+HaveOwnPins looks =
+    (first later : ℕ) (one other : Hold) → first < later → look_at first looks ≡ Some one → look_at later looks ≡ Some other
+    → AreApart other one

@@ -1,0 +1,6 @@
+pub mod Calls
+pub mod EventRuns
+pub mod Taken
+pub mod Walked
+pub mod CoreRuns
+pub mod Answers

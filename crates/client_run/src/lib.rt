@@ -1,0 +1,17 @@
+//! What a client's requests are answered by a store's port, and lists of events that are run on one.
+//!
+//! The entry points are `answer_request`, whose promise is `HasReplied` of `specs/Answers.antt`, and `run_events`, whose promise is
+//! `HasRun` of `specs/EventRuns.antt`. Both speak of the calls that were made on the port (`specs/Calls.antt`); `specs/CoreRuns.antt`
+//! says what calls make of a store over a disk.
+#![tactic(auto)]
+
+mod answer;
+mod event;
+mod events;
+mod laws;
+mod taken;
+
+pub use answer::answer_request;
+pub use event::{Event, EventReply, Events, Replies, Seen};
+pub use events::run_events;
+pub use laws::{calls_are_steps, looks_have_their_own_pins};

@@ -1,0 +1,57 @@
+//! The looks of a run of events.
+
+ghost use Rattle.std.specs.Prelude.{◌≡◌, ◌++◌, ◌∷◌, [], Some, None, map, option_map, if◌then◌else◌, IfSome, IfNone};
+ghost use Rattle.store_model.specs.Event.Event.{Done};
+ghost use Rattle.store_model.specs.Event.Reply.{Fine};
+ghost use Rattle.store_state.specs.Given.{look_of};
+ghost use Rattle.client_run.specs.Calls.{call, look_at, unless_ended};
+ghost use Rattle.client_run.specs.Taken.{looks_of};
+
+use span_types::Memory;
+use store_state::Look;
+
+// The look with this number, if it is open. It is open no more, and neither is another one under its pin.
+pub(crate) fn end_look(looks: &mut Vec<Option<Look>>, number: u64) -> Option<Look>
+    ensures closed { IfNone result ((look_at number (looks_of looks.old.items) ≡ None)
+        × (looks_of looks.new.items ≡ looks_of looks.old.items)) }
+    ensures open { IfSome result (λ look. look_at number (looks_of looks.old.items) ≡ Some (look_of look)) }
+    ensures ended { IfSome result (λ look. looks_of looks.new.items
+        ≡ map (unless_ended (call (Done look.pin.number) Fine)) (looks_of looks.old.items)) }
+{
+    if number >= looks.len() as u64 {
+        return None;
+    }
+    let Some(look) = looks[number as usize].take() else {
+        return None;
+    };
+    end_pin(looks, look.pin.number);
+    Some(look)
+}
+
+// No look under this pin is open any more.
+fn end_pin(looks: &mut Vec<Option<Look>>, pin: u64)
+    ensures { looks_of looks.new.items ≡ map (unless_ended (call (Done pin) Fine)) (looks_of looks.old.items) }
+{
+    for at in 0..looks.len() {
+        end_one(&mut looks[at], pin);
+    }
+}
+
+// The look is open no more, if it is under this pin.
+fn end_one(look: &mut Option<Look>, pin: u64)
+    ensures { option_map look_of look.new ≡ unless_ended (call (Done pin) Fine) (option_map look_of look.old) }
+{
+    if is_under(look, pin) {
+        *look = None;
+    }
+}
+
+fn is_under(look: &Option<Look>, pin: u64) -> bool
+    ensures { unless_ended (call (Done pin) Fine) (option_map look_of look.now)
+        ≡ (if result then None else option_map look_of look.now) }
+{
+    match look {
+        Some(look) => look.pin.number == pin,
+        None => false,
+    }
+}

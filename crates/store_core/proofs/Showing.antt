@@ -1,0 +1,77 @@
+-- A look of a core shows the history.
+use Rattle.std.proofs.Common.{◌≡◌, ℕ, ◌+◌, List, [], ◌∷◌, ◌++◌, length, map, take, drop, refl, sym, ◌∙◌, ap, subst, arith, ◌-◌}
+use Rattle.std.specs.List.{flat_map}
+use Rattle.span_types.specs.declared.spans.Row.{Row}
+use Rattle.span_types.specs.First.{first_at}
+use Rattle.disk_model.specs.Images.{Image, bytes_of}
+use Rattle.block_info.specs.InfoParts.{InfoParts}
+use Rattle.store_model.specs.History.{History, history_rows, count_of, up_to}
+use Rattle.store_model.specs.State.{Block, block_files, block_rows, live_rows}
+use Rattle.store_model.specs.Step.{Machine}
+use Rattle.store_model.proofs.KeepsFirsts.{look_is}
+use Rattle.store_state.specs.Given.{info_files}
+use Rattle.store_state.specs.Written.{BlockRelation, AreBlocksOf}
+use Rattle.store_state.specs.Shown.{ShowsHistory}
+use Rattle.store_state.specs.declared.jobs.Look.{Look}
+use Rattle.store_images.specs.BlockFile.{BlockHolds}
+use Rattle.store_images.specs.Stored.{BlocksStand}
+use Rattle.store_images.proofs.Lists.{at_front, behind}
+use Rattle.store_core.specs.declared.state.CoreState.{CoreState}
+use Rattle.store_core.specs.Cores.{StandsFor}
+use Rattle.store_core.proofs.Looking.{waiting_in}
+
+abbrev rows_by_block : List Block → List (List Row)
+rows_by_block blocks = map (λ (b : Block). b.rows) blocks
+
+abbrev holding : BlockRelation
+holding = λ bytes info rows. BlockHolds rows bytes
+
+abbrev front : List ℕ → ℕ
+front [] = 0
+front (x ∷ xs) = x
+
+-- ---- the blocks that a core lists are those of its machine
+
+are_blocks : (held : Image) (infos : List InfoParts) (blocks : List Block) → info_files infos ≡ block_files blocks → BlocksStand held blocks
+    → AreBlocksOf holding (λ file. bytes_of held file) infos (rows_by_block blocks)
+are_blocks held [] [] same built = tt
+are_blocks held [] (b ∷ bs) same built = absurd (let bad : [] ≡ b.file ∷ block_files bs = same in cc)
+are_blocks held (i ∷ is) [] same built = absurd (let bad : i.file ∷ info_files is ≡ [] = same in cc)
+are_blocks held (i ∷ is) (b ∷ bs) same built =
+    let first : i.file ≡ b.file = ap front same in (
+      subst (λ (f : ℕ). BlockHolds b.rows (bytes_of held f)) (sym first) (built b (at_front b bs)).holds,
+      are_blocks held is bs (ap (drop 1) same) (λ x inside. built x (behind x b bs inside)),
+    )
+
+each_one : (infos : List InfoParts) (blocks : List Block) → info_files infos ≡ block_files blocks → length (rows_by_block blocks) ≡ length infos
+each_one [] [] same = refl
+each_one [] (b ∷ bs) same = absurd (let bad : [] ≡ b.file ∷ block_files bs = same in cc)
+each_one (i ∷ is) [] same = absurd (let bad : i.file ∷ info_files is ≡ [] = same in cc)
+each_one (i ∷ is) (b ∷ bs) same = let rest = each_one is bs (ap (drop 1) same) in omega (arith, rest)
+
+flattened : (blocks : List Block) → flat_map (λ (rows : List Row). rows) (rows_by_block blocks) ≡ block_rows blocks
+flattened [] = refl
+flattened (b ∷ bs) = ap (λ (r : List Row). b.rows ++ r) (flattened bs)
+
+-- ---- the whole history
+
+take_all : {X : Type 0} (xs : List X) → take (length xs) xs ≡ xs
+take_all [] = refl
+take_all (x ∷ xs) = ap (λ ys. x ∷ ys) (take_all xs)
+
+whole : (h : History) (n : ℕ) → n ≡ count_of h → up_to n h ≡ h
+whole h n is =
+    let exact : n - h.start ≡ length h.entries = omega (arith, is) in
+    ap (λ bs. record { base = h.base; start = h.start; entries = bs }) (ap (λ k. take k h.entries) exact ∙ take_all h.entries)
+
+pub look_shows : (told : Type 0) (held : Image) (may_leave : Image → Type 0) (core : CoreState) (m : Machine) (look : Look) → StandsFor told held may_leave core m
+    → look.pin.blocks ≡ core.infos → look.as_of ≡ core.segment.first + core.segment.count → look.rows ≡ core.live.flushing ++ core.live.head ++ live_rows core.live.live
+    → ShowsHistory told holding (λ file. bytes_of held file) look m.history
+look_shows told held may_leave core m look s blocks length_is rows = record {
+  parts = rows_by_block m.state.blocks;
+  one_each = each_one core.infos m.state.blocks s.has.infos ∙ sym (ap length blocks);
+  their_rows = λ t. subst (λ (i : List InfoParts). AreBlocksOf holding (λ file. bytes_of held file) i (rows_by_block m.state.blocks)) (sym blocks) (are_blocks held core.infos m.state.blocks s.has.infos (s.built t));
+  firsts = λ k. ap (λ (r : List Row). first_at k (look.rows ++ r)) (flattened m.state.blocks)
+      ∙ look_is m look.rows s.agrees (waiting_in core m look.rows s.has rows) k
+      ∙ ap (λ (h : History). first_at k (history_rows h)) (sym (whole m.history look.as_of (length_is ∙ sym s.has.count)));
+}
