@@ -55,47 +55,74 @@ fn again(alloc: Global, core: Core<MemDisk>) -> Option<Core<MemDisk>> {
     opened(alloc, core.close())
 }
 
-#[test]
-fn acknowledged_pushes_are_found_again(rt: HostRuntime) -> Result<(), Fail> {
-    let alloc = rt.alloc();
-    let Some(mut core) = one_push(alloc)? else {
-        panic!(rt; "a store with one push");
-    };
-    assert_eq!(rt; core.push(another(alloc)?, 6), Ok(1));
-    let Some(mut core) = again(alloc, core) else {
-        panic!(rt; "a store with two pushes");
-    };
-    assert!(rt; shows(&core.look()?, 0, 2, 3)?);
-    assert_eq!(rt; core.push(another(alloc)?, 8), Ok(2));
-    let Some(mut core) = again(alloc, core) else {
-        panic!(rt; "a store with three pushes");
-    };
-    assert!(rt; shows(&core.look()?, 0, 3, 4)?);
-    assert_eq!(rt; core.held(), 4);
-    Ok(())
+// Pushes one more span.
+fn push_another(alloc: Global, core: &mut Core<MemDisk>, moment: u64) -> Result<Answer, Memory> {
+    let batch = another(alloc)?;
+    Ok(core.push(batch, moment))
 }
 
-// Two pushes come behind a first one, the device's call of that number failing, counted from 1 at the second push. The store, if they
-// are answered so and a batch is kept where a call fails.
-fn failed_at(
+// Whether a look at the store shows this.
+fn shows_now(core: &mut Core<MemDisk>, as_of: u64, rows: usize) -> Result<bool, Memory>
+    requires { rows ≤ 4 }
+{
+    let look = core.look()?;
+    shows(&look, 0, as_of, rows)
+}
+
+// The store that is found behind one more push, if it is acknowledged with this number, and a look then shows so many rows.
+fn found_behind(
     alloc: Global,
-    failing: u64,
-    second: Answer,
-    third: Answer,
-) -> Result<Option<Core<MemDisk>>, Fail> {
-    let Some(mut core) = one_push(alloc)? else {
+    core: Core<MemDisk>,
+    number: u64,
+    rows: usize,
+) -> Result<Option<Core<MemDisk>>, Memory>
+    requires { rows ≤ 4 }
+{
+    let mut core = core;
+    let answer = push_another(alloc, &mut core, 6)?;
+    let Some(mut core) = again(alloc, core) else {
         return Ok(None);
     };
-    core.disk.fail_at(Calls::of(vec![in alloc; failing]?));
-    if core.push(another(alloc)?, 6) != second || core.push(another(alloc)?, 7) != third {
-        return Ok(None);
-    }
-    let kept = core.state.unsure.is_some();
-    Ok(if kept == (failing > 0) {
+    let same = shows_now(&mut core, number.saturating_add(1), rows)?;
+    Ok(if same && answer == Ok(number) {
         Some(core)
     } else {
         None
     })
+}
+
+#[test]
+fn acknowledged_pushes_are_found_again(rt: HostRuntime) -> Result<(), Fail> {
+    let alloc = rt.alloc();
+    let Some(core) = one_push(alloc)? else {
+        panic!(rt; "a store with one push");
+    };
+    let Some(core) = found_behind(alloc, core, 1, 3)? else {
+        panic!(rt; "a store with two pushes");
+    };
+    assert!(rt; found_behind(alloc, core, 2, 4)?.is_some());
+    Ok(())
+}
+
+// Lets one of the device's next calls fail, counted from 1; none where it is 0.
+fn let_fail(alloc: Global, core: &mut Core<MemDisk>, failing: u64) -> Result<(), Memory> {
+    core.disk.fail_at(Calls::of(vec![in alloc; failing]?));
+    Ok(())
+}
+
+// Whether two pushes are answered so, and a batch is kept where the device's call of that number fails, counted from 1 at the first
+// of them.
+fn answers_are(
+    alloc: Global,
+    core: &mut Core<MemDisk>,
+    failing: u64,
+    answers: [Answer; 2],
+) -> Result<bool, Memory> {
+    let_fail(alloc, core, failing)?;
+    let first = push_another(alloc, core, 6)?;
+    let second = push_another(alloc, core, 7)?;
+    let kept = core.state.unsure.is_some() == (failing > 0);
+    Ok(kept && first == answers[0] && second == answers[1])
 }
 
 // Whether so many rows are held, a look is of so many pushes, and so many are found on the disk.
@@ -110,6 +137,20 @@ fn counts_are(alloc: Global, core: Core<MemDisk>, counts: [u64; 3]) -> Result<bo
     }
 }
 
+// Whether two pushes behind a first one are answered so, the call failing, and then there are so many.
+fn fails_at(
+    alloc: Global,
+    failing: u64,
+    answers: [Answer; 2],
+    counts: [u64; 3],
+) -> Result<bool, Fail> {
+    let Some(mut core) = one_push(alloc)? else {
+        return Ok(false);
+    };
+    let same = answers_are(alloc, &mut core, failing, answers)?;
+    Ok(same && counts_are(alloc, core, counts)?)
+}
+
 #[test]
 fn a_push_makes_four_calls_and_a_failed_one_is_the_last(rt: HostRuntime) -> Result<(), Fail> {
     let alloc = rt.alloc();
@@ -117,22 +158,22 @@ fn a_push_makes_four_calls_and_a_failed_one_is_the_last(rt: HostRuntime) -> Resu
     let refused = Err(PushError::ReadOnly { faults: 1 });
     // The call that fails, where 0 is none, what the second and the third push answer, and how many rows are held, how many pushes a
     // look is of, and how many are found on the disk: the last call of a push only makes last what was written.
-    let rows: [(u64, Answer, Answer, [u64; 3]); 9] = [
-        (0, Ok(1), Ok(2), [4, 3, 3]),
-        (1, fault, refused, [2, 1, 1]),
-        (2, fault, refused, [2, 1, 1]),
-        (3, fault, refused, [2, 1, 1]),
-        (4, fault, refused, [2, 1, 2]),
-        (5, Ok(1), fault, [3, 2, 2]),
-        (6, Ok(1), fault, [3, 2, 2]),
-        (7, Ok(1), fault, [3, 2, 2]),
-        (8, Ok(1), fault, [3, 2, 3]),
+    let rows: [(u64, [Answer; 2], [u64; 3]); 9] = [
+        (0, [Ok(1), Ok(2)], [4, 3, 3]),
+        (1, [fault, refused], [2, 1, 1]),
+        (2, [fault, refused], [2, 1, 1]),
+        (3, [fault, refused], [2, 1, 1]),
+        (4, [fault, refused], [2, 1, 2]),
+        (5, [Ok(1), fault], [3, 2, 2]),
+        (6, [Ok(1), fault], [3, 2, 2]),
+        (7, [Ok(1), fault], [3, 2, 2]),
+        (8, [Ok(1), fault], [3, 2, 3]),
     ];
-    for (failing, second, third, counts) in rows {
-        let Some(core) = failed_at(alloc, failing, second, third)? else {
-            panic!(rt; "call {failing}");
-        };
-        assert!(rt; counts_are(alloc, core, counts)?, "call {failing}");
+    for (failing, answers, counts) in rows {
+        assert!(rt;
+            fails_at(alloc, failing, answers, counts)?,
+            "call {failing}"
+        );
     }
     Ok(())
 }
@@ -200,16 +241,21 @@ fn a_push_that_is_stopped_is_stored_whole_or_not(rt: HostRuntime) -> Result<(), 
     Ok(())
 }
 
+// Whether a push fails whose last call failed, and no look shows it.
+fn fails_at_last(alloc: Global, core: &mut Core<MemDisk>) -> Result<bool, Memory> {
+    let_fail(alloc, core, 4)?;
+    let answer = push_another(alloc, core, 6)?;
+    let kept = core.state.unsure.is_some();
+    Ok(shows_now(core, 1, 2)? && kept && answer == Err(PushError::Fault))
+}
+
 #[test]
 fn a_push_whose_last_call_failed_may_be_found_later(rt: HostRuntime) -> Result<(), Fail> {
     let alloc = rt.alloc();
     let Some(mut core) = one_push(alloc)? else {
         panic!(rt; "a store with one push");
     };
-    core.disk.fail_at(Calls::of(vec![in alloc; 4]?));
-    assert_eq!(rt; core.push(another(alloc)?, 6), Err(PushError::Fault));
-    assert!(rt; core.state.unsure.is_some());
-    assert!(rt; shows(&core.look()?, 0, 1, 2)?);
+    assert!(rt; fails_at_last(alloc, &mut core)?);
     assert!(rt; images_have(alloc, &core.disk, [1, 2, 2, 1])?);
     Ok(())
 }
@@ -227,20 +273,24 @@ fn opened_at_last(alloc: Global) -> Result<Option<Core<MemDisk>>, Fail> {
     })
 }
 
+// Whether a push whose second call fails is the last that is taken, and the others are told of two faults, also where one came later.
+fn tells_two_faults(alloc: Global, core: &mut Core<MemDisk>) -> Result<bool, Memory> {
+    core.disk.fail_at(Calls::of(vec![in alloc; 2, 3]?));
+    let refused = Err(PushError::ReadOnly { faults: 2 });
+    let mut same = push_another(alloc, core, 6)? == Err(PushError::Fault);
+    same &= push_another(alloc, core, 7)? == refused;
+    same &= core.disk.len(9).is_err();
+    same &= push_another(alloc, core, 8)? == refused;
+    Ok(shows_now(core, 1, 2)? && same)
+}
+
 #[test]
 fn a_store_that_is_read_only_tells_the_count_of_faults(rt: HostRuntime) -> Result<(), Fail> {
     let alloc = rt.alloc();
     let Some(mut core) = opened_at_last(alloc)? else {
         panic!(rt; "a store with one push");
     };
-    core.disk.fail_at(Calls::of(vec![in alloc; 2, 3]?));
-    assert_eq!(rt; core.push(another(alloc)?, 6), Err(PushError::Fault));
-    let refused = Err(PushError::ReadOnly { faults: 2 });
-    assert_eq!(rt; core.push(another(alloc)?, 7), refused);
-    // A fault that comes later is not told.
-    assert!(rt; core.disk.len(9).is_err());
-    assert_eq!(rt; core.push(both(alloc)?, 8), refused);
-    assert!(rt; shows(&core.look()?, 0, 1, 2)?);
+    assert!(rt; tells_two_faults(alloc, &mut core)?);
     assert_eq!(rt; (core.held(), core.close().faults()), (2, 3));
     Ok(())
 }
