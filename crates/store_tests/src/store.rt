@@ -69,7 +69,7 @@ fn shows_now(core: &mut Core<MemDisk>, as_of: u64, rows: usize) -> Result<bool, 
     shows(&look, 0, as_of, rows)
 }
 
-// The store that is found behind one more push, if it is acknowledged with this number, and a look then shows so many rows.
+// The store that is found behind one more push, if it is acknowledged with this number, and so many rows are held and shown.
 fn found_behind(
     alloc: Global,
     core: Core<MemDisk>,
@@ -83,7 +83,8 @@ fn found_behind(
     let Some(mut core) = again(alloc, core) else {
         return Ok(None);
     };
-    let same = shows_now(&mut core, number.saturating_add(1), rows)?;
+    let shown = shows_now(&mut core, number.saturating_add(1), rows)?;
+    let same = shown && core.held() == rows as u64;
     Ok(if same && answer == Ok(number) {
         Some(core)
     } else {
@@ -148,7 +149,11 @@ fn fails_at(
         return Ok(false);
     };
     let same = answers_are(alloc, &mut core, failing, answers)?;
-    Ok(same && counts_are(alloc, core, counts)?)
+    if same {
+        counts_are(alloc, core, counts)
+    } else {
+        Ok(false)
+    }
 }
 
 #[test]
