@@ -3,9 +3,32 @@
 use crate::live::{another, many};
 use crate::store::opened;
 use disk_model::MemDisk;
-use span_types::{Batch, Spans};
+use span_types::{Batch, Memory, Spans};
+use std::alloc::Global;
 use std::test::Fail;
+use store_core::Core;
 use store_state::{LookPort, PushError};
+
+// Whether sixteen full batches are taken.
+fn takes_sixteen(alloc: Global, core: &mut Core<MemDisk>) -> Result<bool, Memory> {
+    let mut same = true;
+    for number in 0u64..16 {
+        let batch = many(alloc, 16_384)?;
+        same &= core.push(batch, 5) == Ok(number);
+    }
+    Ok(same)
+}
+
+// Whether one more span is refused, and a batch without spans is taken.
+fn takes_no_row(alloc: Global, core: &mut Core<MemDisk>) -> Result<bool, Memory> {
+    let batch = another(alloc)?;
+    let full = Err(PushError::LiveFull { held: 262_144 });
+    let refused = core.push(batch, 6) == full;
+    let empty = Batch {
+        spans: Spans::none(alloc),
+    };
+    Ok(core.push(empty, 6) == Ok(16) && refused)
+}
 
 #[test]
 fn sixteen_full_batches_are_held_and_no_more_rows(rt: HostRuntime) -> Result<(), Fail> {
@@ -13,15 +36,8 @@ fn sixteen_full_batches_are_held_and_no_more_rows(rt: HostRuntime) -> Result<(),
     let Some(mut core) = opened(alloc, MemDisk::empty(alloc)) else {
         panic!(rt; "a new store");
     };
-    for number in 0..16 {
-        assert_eq!(rt; core.push(many(alloc, 16_384)?, 5), Ok(number));
-    }
-    let full = Err(PushError::LiveFull { held: 262_144 });
-    assert_eq!(rt; core.push(another(alloc)?, 6), full);
-    let empty = Batch {
-        spans: Spans::none(alloc),
-    };
-    assert_eq!(rt; core.push(empty, 6), Ok(16));
+    assert!(rt; takes_sixteen(alloc, &mut core)?);
+    assert!(rt; takes_no_row(alloc, &mut core)?);
     assert_eq!(rt; core.held(), 262_144);
     Ok(())
 }
