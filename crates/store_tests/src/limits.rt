@@ -5,7 +5,6 @@ use crate::store::opened;
 use disk_model::MemDisk;
 use span_types::{Batch, Memory, Spans};
 use std::alloc::Global;
-use std::test::Fail;
 use store_core::Core;
 use store_state::{LookPort, PushError};
 
@@ -30,14 +29,17 @@ fn takes_no_row(alloc: Global, core: &mut Core<MemDisk>) -> Result<bool, Memory>
     Ok(core.push(empty, 6) == Ok(16) && refused)
 }
 
-#[test]
-fn sixteen_full_batches_are_held_and_no_more_rows(rt: HostRuntime) -> Result<(), Fail> {
-    let alloc = rt.alloc();
+// Whether a new store holds sixteen full batches, and no more rows.
+fn holds_no_more(alloc: Global) -> Result<bool, Memory> {
     let Some(mut core) = opened(alloc, MemDisk::empty(alloc)) else {
-        panic!(rt; "a new store");
+        return Ok(false);
     };
-    assert!(rt; takes_sixteen(alloc, &mut core)?);
-    assert!(rt; takes_no_row(alloc, &mut core)?);
-    assert_eq!(rt; core.held(), 262_144);
+    let same = takes_sixteen(alloc, &mut core)? && takes_no_row(alloc, &mut core)?;
+    Ok(same && core.held() == 262_144)
+}
+
+#[test]
+fn sixteen_full_batches_are_held_and_no_more_rows(rt: HostRuntime) -> Result<(), Memory> {
+    assert!(rt; holds_no_more(rt.alloc())?);
     Ok(())
 }

@@ -92,16 +92,20 @@ fn found_behind(
     })
 }
 
+// Whether two more pushes are found behind a first one, each as it was acknowledged.
+fn two_are_found(alloc: Global) -> Result<bool, Fail> {
+    let Some(core) = one_push(alloc)? else {
+        return Ok(false);
+    };
+    Ok(match found_behind(alloc, core, 1, 3)? {
+        Some(core) => found_behind(alloc, core, 2, 4)?.is_some(),
+        None => false,
+    })
+}
+
 #[test]
 fn acknowledged_pushes_are_found_again(rt: HostRuntime) -> Result<(), Fail> {
-    let alloc = rt.alloc();
-    let Some(core) = one_push(alloc)? else {
-        panic!(rt; "a store with one push");
-    };
-    let Some(core) = found_behind(alloc, core, 1, 3)? else {
-        panic!(rt; "a store with two pushes");
-    };
-    assert!(rt; found_behind(alloc, core, 2, 4)?.is_some());
+    assert!(rt; two_are_found(rt.alloc())?);
     Ok(())
 }
 
@@ -254,14 +258,23 @@ fn fails_at_last(alloc: Global, core: &mut Core<MemDisk>) -> Result<bool, Memory
     Ok(shows_now(core, 1, 2)? && kept && answer == Err(PushError::Fault))
 }
 
+// The disk of a store whose push failed so.
+fn failed_at_last(alloc: Global) -> Result<Option<MemDisk>, Fail> {
+    let Some(mut core) = one_push(alloc)? else {
+        return Ok(None);
+    };
+    let same = fails_at_last(alloc, &mut core)?;
+    let disk = core.close();
+    Ok(if same { Some(disk) } else { None })
+}
+
 #[test]
 fn a_push_whose_last_call_failed_may_be_found_later(rt: HostRuntime) -> Result<(), Fail> {
     let alloc = rt.alloc();
-    let Some(mut core) = one_push(alloc)? else {
-        panic!(rt; "a store with one push");
+    let Some(disk) = failed_at_last(alloc)? else {
+        panic!(rt; "a push whose last call failed");
     };
-    assert!(rt; fails_at_last(alloc, &mut core)?);
-    assert!(rt; images_have(alloc, &core.disk, [1, 2, 2, 1])?);
+    assert!(rt; images_have(alloc, &disk, [1, 2, 2, 1])?);
     Ok(())
 }
 
@@ -289,14 +302,20 @@ fn tells_two_faults(alloc: Global, core: &mut Core<MemDisk>) -> Result<bool, Mem
     Ok(shows_now(core, 1, 2)? && same)
 }
 
+// How many rows are then held, and how many faults its disk counted; none where it tells something else.
+fn held_and_faults(alloc: Global) -> Result<Option<(u64, u64)>, Fail> {
+    let Some(mut core) = opened_at_last(alloc)? else {
+        return Ok(None);
+    };
+    let same = tells_two_faults(alloc, &mut core)?;
+    let held = core.held();
+    let faults = core.close().faults();
+    Ok(if same { Some((held, faults)) } else { None })
+}
+
 #[test]
 fn a_store_that_is_read_only_tells_the_count_of_faults(rt: HostRuntime) -> Result<(), Fail> {
-    let alloc = rt.alloc();
-    let Some(mut core) = opened_at_last(alloc)? else {
-        panic!(rt; "a store with one push");
-    };
-    assert!(rt; tells_two_faults(alloc, &mut core)?);
-    assert_eq!(rt; (core.held(), core.close().faults()), (2, 3));
+    assert_eq!(rt; held_and_faults(rt.alloc())?, Some((2, 3)));
     Ok(())
 }
 
