@@ -1,0 +1,124 @@
+-- Reading a whole block, with the first offset of the file where it is malformed.
+use Rattle.std.specs.Prelude.{ℕ, zero, suc, ◌+◌, ◌-◌, ◌*◌, min, Bool, true, false, ◌&&◌, List, [], ◌∷◌, ◌++◌, length, take, drop, Option, Some, None, Result, Ok, Err, ◌==◌, nat_le, if◌then◌else◌}
+use Rattle.std.specs.Int.{w32, from_le_bytes, div_ceil}
+use Rattle.std.specs.List.{list_all, list_any, slice_get}
+use Rattle.std.specs.Ordering.{is_lt}
+use Rattle.span_types.specs.declared.spans.Row.{Row}
+use Rattle.span_types.specs.Orders.{block_order}
+use Rattle.byte_fields.specs.Reading.{◌>>=◌, fixed64_at}
+use Rattle.span_fields.specs.Breaks.{in_part}
+use Rattle.block_info.specs.declared.info.StripeInfo.{StripeInfo}
+use Rattle.block_index.specs.Bloom.{bloom_bytes, filter_pages}
+use Rattle.block_index.specs.Index.{entries, index_bytes, traces}
+use Rattle.block_format.specs.declared.header.Header.{Header}
+use Rattle.block_format.specs.Blocks.{form_of_rows, ids_of, index_page_of}
+use Rattle.block_format.specs.HeaderReadings.{header_at}
+use Rattle.block_format.specs.StripeReadings.{stripe_at, unless_some}
+use Rattle.block_format.specs.Stripes.{is_extended}
+use Rattle.block_read.specs.Files.{part_of}
+
+-- nothing more is asked where the test holds; else the bytes are malformed at that offset
+abbrev pub unless_not : {A : Type 0} → Bool → ℕ → A → Result A ℕ
+unless_not true at x = Ok x
+unless_not false at x = Err at
+
+-- ---- header
+
+-- How many pages the header has by its own field. Where that is no number that a header can have, or isn't there, the first page
+-- is enough to tell so: a header has 1 to 33 pages.
+abbrev pub front_pages : List ℕ → ℕ
+front_pages bytes = (let pages = from_le_bytes w32 (take 4 (drop 4 bytes)) in
+    if nat_le 8 (length bytes) && (nat_le 1 pages && nat_le pages 33) then pages else 1)
+
+unfoldable pub header_of : List ℕ → Result Header ℕ
+header_of bytes = header_at (part_of 0 (front_pages bytes) bytes)
+
+-- ---- stripes
+
+-- what is malformed at an offset of a part is malformed there in the file, but not past the part's end
+abbrev pub in_file : {A : Type 0} → ℕ → List ℕ → Result A ℕ → Result A ℕ
+in_file base part (Ok x) = Ok x
+in_file base part (Err at) = Err (base + min at (length part))
+
+-- the rows have these moments and this number, as their entry says
+abbrev pub agrees : StripeInfo → List Row → Bool
+agrees entry rows =
+    (length rows == entry.rows)
+    && (list_any (λ row. row.span.start == entry.earliest) rows && list_all (λ row. nat_le entry.earliest row.span.start) rows)
+    && (list_any (λ row. row.span.start == entry.latest) rows && list_all (λ row. nat_le row.span.start entry.latest) rows)
+
+-- each of the rows comes behind this one; where there is none, any rows do
+abbrev pub follow : Option Row → List Row → Bool
+follow None rows = true
+follow (Some last) rows = list_all (λ row. is_lt (block_order last row)) rows
+
+-- the last of the rows
+abbrev pub last_of : List Row → Option Row
+last_of rows = slice_get rows (length rows - 1)
+
+-- The rows of a stripe, by its entry and behind the last row of the stripe before. A stripe that disagrees with its entry, or one
+-- whose rows don't come behind that row, is malformed at its first byte. Its pages are compared with its length before anything
+-- else of it is read; its rows and their moments, and then that row, once all else is as it must be.
+unfoldable pub stripe_of : ℕ → StripeInfo → Option Row → List ℕ → Result (List Row) ℕ
+stripe_of form entry last part = do
+  size ← in_part false fixed64_at (record { whole = part; at = 0 })
+  _ ← unless_not (div_ceil (8 + size.0) 4096 == entry.pages) 0 size
+  rows ← stripe_at (is_extended form) part
+  unless_not (agrees entry rows && follow last rows) 0 rows
+
+-- The rows of stripes with these entries, the first of which comes behind that row.
+unfoldable pub stripes_of : ℕ → List StripeInfo → Option Row → List ℕ → Result (List Row) ℕ
+stripes_of form [] last bytes = Ok []
+stripes_of form (entry ∷ entries) last bytes = (let part = part_of entry.page entry.pages bytes in do
+  rows ← in_file (4096 * entry.page) part (stripe_of form entry last part)
+  later ← stripes_of form entries (last_of rows) bytes
+  Ok (rows ++ later))
+
+-- ---- index and Bloom filters
+
+-- how many bytes the two have in common before the first that differs
+abbrev pub common : List ℕ → List ℕ → ℕ
+common [] ys = 0
+common (x ∷ xs) [] = 0
+common (x ∷ xs) (y ∷ ys) = if x == y then suc (common xs ys) else 0
+
+-- The first place at which bytes aren't the wanted ones: one that differs, or where either ends.
+abbrev pub differs_at : List ℕ → List ℕ → Option ℕ
+differs_at wanted bytes = if (common wanted bytes == length wanted) && (length bytes == length wanted) then None else Some (common wanted bytes)
+
+abbrev pub shifted : ℕ → Option ℕ → Option ℕ
+shifted base None = None
+shifted base (Some at) = Some (base + at)
+
+-- what comes after the stripes of rows: index and Bloom filters
+abbrev pub tail_bytes : List Row → List ℕ
+tail_bytes rows = index_bytes (ids_of rows) ++ bloom_bytes (traces (ids_of rows))
+
+-- The rows, where the header counts their index pages and their Bloom pages right, and these follow the stripes up to the file's end.
+unfoldable pub indexed : Header → List Row → List ℕ → Result (List Row) ℕ
+indexed header rows bytes = do
+  _ ← unless_not (header.index_pages == div_ceil (length (entries (ids_of rows))) 170) 12 rows
+  _ ← unless_not (header.bloom_pages == filter_pages (length (traces (ids_of rows)))) 16 rows
+  unless_some (shifted (4096 * index_page_of header) (differs_at (tail_bytes rows) (drop (4096 * index_page_of header) bytes))) rows
+
+-- ---- the whole
+
+-- a block that was read: its header, and its rows
+pub record ReadBlock : Type 0 where
+  pub header : Header
+  pub rows : List Row
+
+-- The block that these bytes are. That its form is the one of its rows is tested last.
+unfoldable pub block_at : List ℕ → Result ReadBlock ℕ
+block_at bytes = do
+  header ← header_of bytes
+  rows ← stripes_of header.form header.stripes None bytes
+  _ ← indexed header rows bytes
+  unless_not (header.form == form_of_rows rows) 0 (record { header = header; rows = rows })
+
+-- The same for a block whose list entry says so many rows. With another number the block is malformed at 0, once all else is as it
+-- must be.
+unfoldable pub listed_at : ℕ → List ℕ → Result ReadBlock ℕ
+listed_at rows bytes = do
+  block ← block_at bytes
+  unless_not (length block.rows == rows) 0 block
