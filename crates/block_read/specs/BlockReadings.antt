@@ -47,10 +47,11 @@ agrees entry rows =
     && (list_any (λ row. row.span.start == entry.earliest) rows && list_all (λ row. nat_le entry.earliest row.span.start) rows)
     && (list_any (λ row. row.span.start == entry.latest) rows && list_all (λ row. nat_le row.span.start entry.latest) rows)
 
--- each of the rows comes behind this one; where there is none, any rows do
+-- the first of the rows comes behind this one, where there is one
 abbrev pub follow : Option Row → List Row → Bool
 follow None rows = true
-follow (Some last) rows = list_all (λ row. is_lt (block_order last row)) rows
+follow (Some last) [] = true
+follow (Some last) (row ∷ rows) = is_lt (block_order last row)
 
 -- the last of the rows
 abbrev pub last_of : List Row → Option Row

@@ -1,0 +1,62 @@
+//! A block whose header isn't written yet.
+
+ghost use Rattle.std.specs.Prelude.{◌≡◌, ◌+◌, ◌*◌, ◌%◌, ◌≤◌, ◌<◌, IfOk, OnOk, length, true};
+ghost use Rattle.std.specs.Vec.Iter.{into_iter_items};
+ghost use Rattle.block_build.specs.Drafts.{AddsStripe, IsDraft};
+ghost use Rattle.block_format.specs.Blocks.{form_of_rows};
+ghost use Rattle.block_format.specs.StripeReadings.{ascend};
+ghost use Rattle.block_format.specs.Stripes.{can_be_stripe, is_extended};
+
+use crate::rows::{STRIPE_ROWS, earliest, latest, next_rows};
+use block_format::write_stripe;
+use block_info::StripeInfo;
+use span_types::{Memory, Rows};
+use std::alloc::Global;
+
+const PAGE_BYTES: usize = 4096;
+
+/// The pages of a header, which are zeros so far, and those of the stripes after them, with the stripes' entries.
+#[derive(Drop)]
+pub struct Draft {
+    pub bytes: Vec<u8>,
+    pub stripes: Vec<StripeInfo>,
+}
+
+/// The stripes of rows in block order, of which there are 1 to 1,048,576.
+pub fn draft_of(alloc: Global, rows: Rows, form: u8) -> Result<Draft, Memory>
+    requires some { 1 ≤ length rows }
+    requires few { length rows ≤ 1048576 }
+    requires order { ascend rows ≡ true }
+    requires form { form ≡ form_of_rows rows }
+    ensures { IfOk result (λ draft. IsDraft form rows draft.bytes.items draft.stripes.items) }
+{
+    let count = rows.len().div_ceil(STRIPE_ROWS);
+    let front = (20 + 32 * count).div_ceil(PAGE_BYTES);
+    let mut bytes = vec![in alloc; 0; front * PAGE_BYTES]?;
+    let mut stripes = Vec::with_capacity(alloc, count)?;
+    let mut rest = rows.into_vec().into_iter();
+    for _ in 0..count {
+        let rows = next_rows(alloc, &mut rest)?;
+        let stripe = put_stripe(alloc, &mut bytes, &rows, form)?;
+        stripes.push(stripe)?;
+    }
+    Ok(Draft { bytes, stripes })
+}
+
+/// Adds the stripe of these rows to whole pages, and gives its entry.
+fn put_stripe(alloc: Global, bytes: &mut Vec<u8>, rows: &Rows, form: u8) -> Result<StripeInfo, Memory>
+    requires can { can_be_stripe (is_extended form) rows.now ≡ true }
+    requires whole { length bytes.old.items % 4096 ≡ 0 }
+    ensures { IfOk result (λ entry. AddsStripe form rows.now bytes.old.items bytes.new.items entry) }
+{
+    let stripe = write_stripe(alloc, rows, form)?;
+    let page = bytes.len() / PAGE_BYTES;
+    bytes.extend_from_slice(stripe.as_slice())?;
+    Ok(StripeInfo {
+        page: page as u64,
+        pages: (stripe.len() / PAGE_BYTES) as u64,
+        rows: rows.len() as u32,
+        earliest: earliest(rows.as_slice()),
+        latest: latest(rows.as_slice()),
+    })
+}

@@ -1,0 +1,10 @@
+//! Building a block: whole pages of bytes that stand for rows, and the information that describes them.
+//!
+//! `docs/BLOCK-FORMAT.md` has the bytes; what they stand for is in `block_format/specs/Blocks.antt`.
+#![tactic(auto)]
+
+mod build;
+mod draft;
+mod rows;
+
+pub use build::{BuiltBlock, build};
