@@ -4,10 +4,22 @@ use Rattle.std.specs.Int.{div_ceil}
 use Rattle.std.specs.List.{AllByRecursion, list_all}
 use Rattle.span_types.specs.declared.spans.Row.{Row}
 use Rattle.block_info.specs.declared.info.StripeInfo.{StripeInfo}
+use Rattle.block_tail.specs.declared.tail.Tail.{Tail}
+use Rattle.block_format.specs.declared.header.Header.{Header}
 use Rattle.block_format.specs.Blocks.{StripeHasEntry, StripesHaveEntries}
 use Rattle.block_format.specs.Headers.{AreFromPage, HasMoments, header_pages}
 use Rattle.block_format.specs.StripeReadings.{ascend}
 use Rattle.block_format.specs.Stripes.{has_form, is_extended}
+
+-- the header of a block with these stripes, and with this index and these Bloom filters
+abbrev pub header_with : ℕ → List StripeInfo → Tail → Header
+header_with form stripes tail = record {
+  form = form;
+  pages = header_pages (length stripes);
+  index_pages = tail.index_pages;
+  bloom_pages = tail.bloom_pages;
+  stripes = stripes;
+}
 
 -- One stripe more, on the pages after these bytes.
 pub record AddsStripe (form : ℕ) (rows : List Row) (old new : List ℕ) (entry : StripeInfo) : Type 0 where

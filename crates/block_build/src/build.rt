@@ -1,18 +1,17 @@
 //! The block of rows.
 
-ghost use Rattle.std.specs.Prelude.{◌≡◌, ◌++◌, ◌≤◌, IfOk, OnOk, drop, length, true};
+ghost use Rattle.std.specs.Prelude.{◌≡◌, ◌+◌, ◌^◌, ◌++◌, ◌<◌, ◌≤◌, IfOk, drop, length, true};
+ghost use Rattle.std.specs.List.{AllByRecursion};
 ghost use Rattle.block_build.specs.Built.{IsBlockOf};
-ghost use Rattle.block_build.specs.Drafts.{IsDraft};
-ghost use Rattle.block_format.specs.Blocks.{BlockHasInfo, form_of_rows, ids_of};
+ghost use Rattle.block_build.specs.Drafts.{header_with};
+ghost use Rattle.block_format.specs.Blocks.{BlockHasInfo, index_page_of, info_of};
 ghost use Rattle.block_format.specs.StripeReadings.{ascend};
-ghost use Rattle.block_index.specs.Bloom.{bloom_bytes};
-ghost use Rattle.block_index.specs.Index.{index_bytes, traces};
 
-use crate::draft::{Draft, draft_of};
+use crate::draft::{Draft, draft_of, header_pages};
 use crate::rows::{form_of, ids_of};
 use block_format::{Header, header_is_pages, write_header};
-use block_index::{bloom_pages, filters_hold_their_traces, index_pages};
-use block_info::{BlockInfo, Stripes};
+use block_info::{BlockInfo, StripeInfo, Stripes};
+use block_tail::{Tail, tail_of};
 use span_types::{Bytes, Memory, Rows, first_rows};
 use std::alloc::Global;
 
@@ -51,45 +50,63 @@ fn block_of(alloc: Global, rows: Rows) -> Result<BuiltBlock, Memory>
     ensures file { IfOk result (λ built. built.info.file ≡ 0) }
     ensures level { IfOk result (λ built. built.info.level ≡ 0) }
 {
-    let count = rows.len();
+    let count = rows.len() as u32;
     let form = form_of(rows.as_slice());
     let ids = ids_of(alloc, rows.as_slice())?;
-    let index = index_pages(alloc, &ids)?;
-    let bloom = bloom_pages(alloc, &ids)?;
-    let draft = draft_of(alloc, rows, form)?;
-    whole(alloc, draft, form, count as u32, &index, &bloom)
-}
-
-/// The block of a draft, with its header before it, and its index and Bloom filters after it.
-fn whole(
-    alloc: Global,
-    draft: Draft,
-    form: u8,
-    rows: u32,
-    index: &Bytes,
-    bloom: &Bytes,
-) -> Result<BuiltBlock, Memory> {
-    let header = Header {
-        form,
-        pages: header_pages(draft.stripes.len()) as u32,
-        index_pages: (index.len() / PAGE_BYTES) as u32,
-        bloom_pages: (bloom.len() / PAGE_BYTES) as u32,
-        stripes: Stripes::of(draft.stripes),
-    };
+    let tail = tail_of(alloc, &ids)?;
+    let Draft { bytes, stripes } = draft_of(alloc, rows, form)?;
+    let index_page = (bytes.len() / PAGE_BYTES) as u64;
+    let header = header_of(form, stripes, &tail);
     let front = write_header(alloc, &header)?;
     header_is_pages();
-    let index_page = draft.bytes.len() / PAGE_BYTES;
-    let bytes = joined(draft.bytes, front.as_slice(), index.as_slice(), bloom.as_slice())?;
-    Ok(BuiltBlock { bytes, info: info_of(header, rows) })
+    let bytes = joined(bytes, front.as_slice(), &tail)?;
+    let info = info_of(header, index_page, count);
+    Ok(BuiltBlock { bytes, info })
+}
+
+/// The header of a block with these stripes, and with this index and these Bloom filters.
+fn header_of(form: u8, stripes: Vec<StripeInfo>, tail: &Tail) -> Header
+    requires { length stripes.items ≤ 4096 }
+    ensures { result ≡ header_with form stripes.items tail.now }
+{
+    Header {
+        form,
+        pages: header_pages(stripes.len()) as u32,
+        index_pages: tail.index_pages,
+        bloom_pages: tail.bloom_pages,
+        stripes: Stripes::of(stripes),
+    }
 }
 
 /// The bytes with a header over their first ones, and index and Bloom filters after them.
-fn joined(mut bytes: Vec<u8>, front: &[u8], index: &[u8], bloom: &[u8]) -> Result<Bytes, Memory>
+fn joined(mut bytes: Vec<u8>, front: &[u8], tail: &Tail) -> Result<Bytes, Memory>
     requires { length front.now ≤ length bytes.items }
-    ensures { IfOk result (λ whole. whole ≡ front.now ++ (drop (length front.now) bytes.items ++ (index.now ++ bloom.now))) }
+    ensures { IfOk result (λ whole. whole ≡ front.now ++ (drop (length front.now) bytes.items ++ (tail.now.index ++ tail.now.bloom))) }
 {
     bytes[..front.len()].copy_from_slice(front);
-    bytes.extend_from_slice(index)?;
-    bytes.extend_from_slice(bloom)?;
+    bytes.extend_from_slice(tail.index.as_slice())?;
+    bytes.extend_from_slice(tail.bloom.as_slice())?;
     Ok(Bytes::of(bytes))
+}
+
+/// What a header tells of a block that has no file yet.
+fn info_of(header: Header, index_page: u64, rows: u32) -> BlockInfo
+    requires page { index_page ≡ index_page_of header }
+    requires near { index_page ≤ 2 ^ 51 }
+    requires reach { AllByRecursion (λ stripe. stripe.page + stripe.pages < 2 ^ 52) header.stripes }
+    ensures { result ≡ info_of 0 0 header rows }
+{
+    let bloom_page = index_page + u64::from(header.index_pages);
+    BlockInfo {
+        file: 0,
+        level: 0,
+        form: header.form,
+        rows,
+        pages: bloom_page + u64::from(header.bloom_pages),
+        index_page,
+        index_pages: header.index_pages,
+        bloom_page,
+        bloom_pages: header.bloom_pages,
+        stripes: header.stripes,
+    }
 }

@@ -1,9 +1,9 @@
 //! A block whose header isn't written yet.
 
-ghost use Rattle.std.specs.Prelude.{◌≡◌, ◌+◌, ◌*◌, ◌%◌, ◌≤◌, ◌<◌, IfOk, OnOk, length, true};
-ghost use Rattle.std.specs.Vec.Iter.{into_iter_items};
+ghost use Rattle.std.specs.Prelude.{◌≡◌, ◌%◌, ◌≤◌, IfOk, length, true};
 ghost use Rattle.block_build.specs.Drafts.{AddsStripe, IsDraft};
 ghost use Rattle.block_format.specs.Blocks.{form_of_rows};
+ghost use Rattle.block_format.specs.Headers.{header_pages};
 ghost use Rattle.block_format.specs.StripeReadings.{ascend};
 ghost use Rattle.block_format.specs.Stripes.{can_be_stripe, is_extended};
 
@@ -31,7 +31,7 @@ pub fn draft_of(alloc: Global, rows: Rows, form: u8) -> Result<Draft, Memory>
     ensures { IfOk result (λ draft. IsDraft form rows draft.bytes.items draft.stripes.items) }
 {
     let count = rows.len().div_ceil(STRIPE_ROWS);
-    let front = (20 + 32 * count).div_ceil(PAGE_BYTES);
+    let front = header_pages(count);
     let mut bytes = vec![in alloc; 0; front * PAGE_BYTES]?;
     let mut stripes = Vec::with_capacity(alloc, count)?;
     let mut rest = rows.into_vec().into_iter();
@@ -41,6 +41,14 @@ pub fn draft_of(alloc: Global, rows: Rows, form: u8) -> Result<Draft, Memory>
         stripes.push(stripe)?;
     }
     Ok(Draft { bytes, stripes })
+}
+
+/// How many pages the header of so many stripes has.
+pub fn header_pages(stripes: usize) -> usize
+    requires { stripes ≤ 4096 }
+    ensures { result ≡ header_pages stripes }
+{
+    (20 + 32 * stripes).div_ceil(PAGE_BYTES)
 }
 
 /// Adds the stripe of these rows to whole pages, and gives its entry.

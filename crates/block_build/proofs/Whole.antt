@@ -1,0 +1,105 @@
+-- A draft, its header, its index and its Bloom filters are a block.
+use Rattle.std.proofs.Common.{◌≡◌, ◌⊎◌, inl, inr, ℕ, zero, suc, ◌+◌, ◌-◌, ◌*◌, ◌/◌, ◌%◌, ◌^◌, ◌<◌, ◌≤◌, Bool, true, false, List, [], ◌∷◌, ◌++◌, length, map, take, drop, if◌then◌else◌, refl, sym, ap, subst, ◌∙◌, arith}
+use Rattle.std.specs.Int.{div_ceil}
+use Rattle.std.specs.List.{AllByRecursion, list_any}
+use Rattle.std.specs.Prelude.{sum_by}
+use Rattle.std.proofs.lemmas.List.{drop_at, length-append, length-map, take-append-drop}
+use Rattle.std.proofs.lemmas.List.Sums.{sum_by-cons}
+use Rattle.span_types.specs.declared.ids.TraceId.{TraceId}
+use Rattle.span_types.specs.declared.spans.Row.{Row}
+use Rattle.span_fields.specs.Sound.{IsTrace}
+use Rattle.block_info.specs.declared.info.StripeInfo.{StripeInfo}
+use Rattle.block_info.specs.InfoParts.{InfoParts}
+use Rattle.block_index.specs.Bloom.{bloom_bytes, filter_pages}
+use Rattle.block_index.specs.Index.{entries, index_bytes, traces}
+use Rattle.block_tail.specs.declared.tail.Tail.{Tail}
+use Rattle.block_tail.specs.Tails.{IsTailOf}
+use Rattle.block_format.specs.declared.header.Header.{Header}
+use Rattle.block_format.specs.Blocks.{BlockHasHeader, BlockHasInfo, StripesHaveEntries, form_of_rows, ids_of, index_page_of, info_of, is_rich}
+use Rattle.block_format.specs.Headers.{AreFromPage, CanBeHeader, HasMoments, HeaderHolds, header_pages}
+use Rattle.block_format.specs.StripeReadings.{ascend}
+use Rattle.block_format.specs.Stripes.{IsKeptRow, is_extended}
+use Rattle.block_build.specs.Drafts.{AreStripes, IsDraft, header_with}
+
+-- ---- pages
+
+body_size : (form : ℕ) (stripes : List StripeInfo) (bytes : List ℕ) (rows : List Row) → StripesHaveEntries form stripes bytes rows → length bytes ≡ 4096 * sum_by (λ (s : StripeInfo). s.pages) stripes
+body_size form [] bytes rows have = ap length have.0
+body_size form (stripe ∷ stripes) bytes rows have =
+    let n = 4096 * stripe.pages in
+    let first : length (take n bytes) ≡ n = have.0.pages in
+    let rest = body_size form stripes (drop n bytes) (drop stripe.rows rows) have.1 in
+    let whole : length (take n bytes) + length (drop n bytes) ≡ length bytes = sym (length-append (take n bytes) (drop n bytes)) ∙ ap length (take-append-drop n bytes) in
+    omega (arith, first, rest, whole, sum_by-cons (λ (s : StripeInfo). s.pages) stripe stripes)
+
+in_reach : (page : ℕ) (stripes : List StripeInfo) → AreFromPage page stripes → AllByRecursion (λ (s : StripeInfo). s.page + s.pages < 2 ^ 52) stripes
+in_reach page [] are = tt
+in_reach page (stripe ∷ stripes) are = ((let begins = are.0.begins in let ends = are.0.ends in omega (arith, begins, ends)), in_reach (page + stripe.pages) stripes are.1)
+
+-- ---- what the calls on a draft ask for
+
+one_or_two : (any : Bool) → ((if any then 2 else 1) ≡ 1) ⊎ ((if any then 2 else 1) ≡ 2)
+one_or_two true = inr refl
+one_or_two false = inl refl
+
+a_form : (form : ℕ) (rows : List Row) → form ≡ form_of_rows rows → (form ≡ 1) ⊎ (form ≡ 2)
+a_form form rows is = subst (λ (f : ℕ). (f ≡ 1) ⊎ (f ≡ 2)) (sym is) (one_or_two (list_any is_rich rows))
+
+-- all that is needed of a draft of rows before it is made a block
+pub record IsReady (form : ℕ) (bytes : List ℕ) (stripes : List StripeInfo) (tail : Tail) : Type 0 where
+  pub few : length stripes ≤ 4096
+  pub header : CanBeHeader (header_with form stripes tail)
+  pub page : length bytes ≡ 4096 * index_page_of (header_with form stripes tail)
+  pub front : 4096 * header_pages (length stripes) ≤ length bytes
+  pub reach : AllByRecursion (λ (s : StripeInfo). s.page + s.pages < 2 ^ 52) stripes
+
+pub is_ready : (form : ℕ) (rows : List Row) (bytes : List ℕ) (stripes : List StripeInfo) (tail : Tail) → IsDraft form rows bytes stripes → 1 ≤ length rows → length rows ≤ 1048576 → form ≡ form_of_rows rows → IsReady form bytes stripes tail
+is_ready form rows bytes stripes tail draft some few form_is =
+    let are = draft.stripes_are in
+    let count = are.count in
+    let body = body_size form stripes draft.body rows are.entries in
+    let size : length bytes ≡ length draft.front + length draft.body = ap length draft.bytes_are ∙ length-append draft.front draft.body in
+    record {
+      few = omega (arith, count, few);
+      header = record {
+        form = a_form form rows form_is;
+        some = omega (arith, count, some);
+        few = omega (arith, count, few);
+        pages = refl;
+        stripes = are.pages;
+      };
+      page = omega (arith, size, draft.front_size, body);
+      front = omega (arith, size, draft.front_size);
+      reach = in_reach (header_pages (length stripes)) stripes are.pages;
+    }
+
+-- ---- the block
+
+pub described : (form : ℕ) (rows : List Row) (bytes whole front : List ℕ) (stripes : List StripeInfo) (tail : Tail) (header : Header) (info : InfoParts)
+    → IsDraft form rows bytes stripes → IsTailOf (ids_of rows) tail → header ≡ header_with form stripes tail → HeaderHolds front header → length front ≡ 4096 * header.pages
+    → whole ≡ front ++ (drop (length front) bytes ++ (tail.index ++ tail.bloom)) → ascend rows ≡ true → form ≡ form_of_rows rows → info ≡ info_of 0 0 header (length rows)
+    → BlockHasInfo info whole rows
+described form rows bytes whole front stripes tail header info draft tail_is header_is holds size whole_is order form_is info_is =
+    let made = header_with form stripes tail in
+    let same : length draft.front ≡ length front = draft.front_size ∙ sym (size ∙ ap (λ (h : Header). 4096 * h.pages) header_is) in
+    let body : drop (length front) bytes ≡ draft.body = ap (drop (length front)) draft.bytes_are ∙ drop_at draft.front draft.body (length front) same in
+    let parts : BlockHasHeader made whole rows = record {
+      front = front;
+      stripes = draft.body;
+      bytes_are = whole_is ∙ ap (λ (l : List ℕ). front ++ (l ++ (tail.index ++ tail.bloom))) body
+          ∙ ap (λ (l : List ℕ). front ++ (draft.body ++ (l ++ tail.bloom))) tail_is.index
+          ∙ ap (λ (l : List ℕ). front ++ (draft.body ++ (index_bytes (ids_of rows) ++ l))) tail_is.bloom;
+      header_holds = subst (HeaderHolds front) header_is holds;
+      stripes_hold = draft.stripes_are.entries;
+      order = order;
+      form = form_is;
+      index_pages = tail_is.index_pages;
+      bloom_pages = tail_is.bloom_pages;
+    } in
+    let file : 0 ≡ info.file = sym (ap (λ (i : InfoParts). i.file) info_is) in
+    let level : 0 ≡ info.level = sym (ap (λ (i : InfoParts). i.level) info_is) in
+    record {
+      header = header;
+      parts = subst (λ (h : Header). BlockHasHeader h whole rows) (sym header_is) parts;
+      info_is = info_is ∙ ap (λ (k : ℕ). info_of k 0 header (length rows)) file ∙ ap (λ (k : ℕ). info_of info.file k header (length rows)) level;
+    }

@@ -1,0 +1,49 @@
+//! The index and the Bloom filters of a block, and how many pages each has.
+
+ghost use Rattle.std.specs.Prelude.{◌≡◌, ◌≤◌, IfOk, length};
+ghost use Rattle.std.specs.List.{AllByRecursion};
+ghost use Rattle.block_tail.specs.Tails.{IsTailOf};
+
+use block_index::{bloom_pages, filters_hold_their_traces, index_pages};
+use span_types::{Bytes, Ids, Memory, TraceId};
+use std::alloc::Global;
+
+const PAGE_BYTES: usize = 4096;
+
+/// What comes after the stripes of a block, in whole pages of 4,096 bytes.
+#[derive(Debug, Drop)]
+pub struct Tail {
+    /// The index of trace ids.
+    pub index: Bytes,
+    /// How many pages the index has.
+    pub index_pages: u32,
+    /// The Bloom filters.
+    pub bloom: Bytes,
+    /// How many pages they have.
+    pub bloom_pages: u32,
+}
+
+/// What comes after the stripes of rows with these trace ids, of which there are at most 1,048,576. They stand in the order of
+/// the rows.
+pub fn tail_of(alloc: Global, ids: &Ids) -> Result<Tail, Memory>
+    requires { length ids.now ≤ 1048576 }
+    ensures { IfOk result (λ tail. IsTailOf ids.now tail) }
+{
+    let index = index_pages(alloc, ids)?;
+    let bloom = bloom_pages(alloc, ids)?;
+    filters_hold_their_traces();
+    each_is_long(ids.as_slice());
+    Ok(Tail {
+        index_pages: (index.len() / PAGE_BYTES) as u32,
+        index,
+        bloom_pages: (bloom.len() / PAGE_BYTES) as u32,
+        bloom,
+    })
+}
+
+/// What the type of ids promises, for the proof of the caller: each has 16 bytes. It does nothing.
+fn each_is_long(ids: &[TraceId])
+    ensures { AllByRecursion (λ id. length id.0 ≡ 16) ids.now }
+{
+    let _ = ids;
+}
