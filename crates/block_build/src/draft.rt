@@ -52,7 +52,12 @@ pub fn header_pages(stripes: usize) -> usize
 }
 
 /// Adds the stripe of these rows to whole pages, and gives its entry.
-fn put_stripe(alloc: Global, bytes: &mut Vec<u8>, rows: &Rows, form: u8) -> Result<StripeInfo, Memory>
+fn put_stripe(
+    alloc: Global,
+    bytes: &mut Vec<u8>,
+    rows: &Rows,
+    form: u8,
+) -> Result<StripeInfo, Memory>
     requires can { can_be_stripe (is_extended form) rows.now ≡ true }
     requires whole { length bytes.old.items % 4096 ≡ 0 }
     ensures { IfOk result (λ entry. AddsStripe form rows.now bytes.old.items bytes.new.items entry) }
