@@ -12,8 +12,8 @@ use Rattle.block_info.specs.declared.info.StripeInfo.{StripeInfo}
 use Rattle.block_info.specs.InfoParts.{InfoParts}
 use Rattle.block_index.specs.Bloom.{bloom_bytes, filter_pages}
 use Rattle.block_index.specs.Index.{entries, index_bytes, traces}
-use Rattle.block_tail.specs.declared.tail.Tail.{Tail}
-use Rattle.block_tail.specs.Tails.{IsTailOf}
+use Rattle.block_rows.specs.declared.tail.Tail.{Tail}
+use Rattle.block_rows.specs.Tails.{IsTailOf}
 use Rattle.block_format.specs.declared.header.Header.{Header}
 use Rattle.block_format.specs.Blocks.{BlockHasHeader, BlockHasInfo, StripesHaveEntries, form_of_rows, ids_of, index_page_of, info_of, is_rich}
 use Rattle.block_format.specs.Headers.{AreFromPage, CanBeHeader, HasMoments, HeaderHolds, header_pages}

@@ -8,10 +8,9 @@ ghost use Rattle.block_format.specs.Blocks.{BlockHasInfo, index_page_of, info_of
 ghost use Rattle.block_format.specs.StripeReadings.{ascend};
 
 use crate::draft::{Draft, draft_of, header_pages};
-use crate::rows::{form_of, ids_of};
 use block_format::{Header, header_is_pages, write_header};
 use block_info::{BlockInfo, StripeInfo, Stripes};
-use block_tail::{Tail, tail_of};
+use block_rows::{Tail, form_of, ids_of, tail_of};
 use span_types::{Bytes, Memory, Rows, first_rows};
 use std::alloc::Global;
 

@@ -88,7 +88,7 @@ pub record FewPages (ids : List TraceId) (index bloom : ℕ) : Type 0 where
   pub index_fits : index / 4096 < 2 ^ 32
   pub bloom_fits : bloom / 4096 < 2 ^ 32
 
-pub few_pages : (ids : List TraceId) (index bloom : ℕ) → AllByRecursion IsLong ids → length ids ≤ 1048576 → index ≡ length (index_bytes ids) → bloom ≡ 4096 * filter_pages (length (traces ids)) → FewPages ids index bloom
+pub few_pages : (ids : List TraceId) (index bloom : ℕ) → AllByRecursion IsLong ids → length ids < 2 ^ 32 → index ≡ length (index_bytes ids) → bloom ≡ 4096 * filter_pages (length (traces ids)) → FewPages ids index bloom
 few_pages ids index bloom all few index_is bloom_is =
     let count : length (traces ids) ≡ length (entries ids) = length-map (λ (e : IndexEntry). e.id) (entries ids) in
     let size = index_size ids all in

@@ -1,8 +1,8 @@
 //! The index and the Bloom filters of a block, and how many pages each has.
 
-ghost use Rattle.std.specs.Prelude.{◌≡◌, ◌≤◌, IfOk, length};
+ghost use Rattle.std.specs.Prelude.{◌≡◌, ◌^◌, ◌<◌, IfOk, length};
 ghost use Rattle.std.specs.List.{AllByRecursion};
-ghost use Rattle.block_tail.specs.Tails.{IsTailOf};
+ghost use Rattle.block_rows.specs.Tails.{IsTailOf};
 
 use block_index::{bloom_pages, filters_hold_their_traces, index_pages};
 use span_types::{Bytes, Ids, Memory, TraceId};
@@ -23,10 +23,10 @@ pub struct Tail {
     pub bloom_pages: u32,
 }
 
-/// What comes after the stripes of rows with these trace ids, of which there are at most 1,048,576. They stand in the order of
-/// the rows.
+/// What comes after the stripes of rows with these trace ids, of which there are fewer than 2^32. They stand in the order of the
+/// rows.
 pub fn tail_of(alloc: Global, ids: &Ids) -> Result<Tail, Memory>
-    requires { length ids.now ≤ 1048576 }
+    requires { length ids.now < 2 ^ 32 }
     ensures { IfOk result (λ tail. IsTailOf ids.now tail) }
 {
     let index = index_pages(alloc, ids)?;

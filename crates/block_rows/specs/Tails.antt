@@ -4,7 +4,7 @@ use Rattle.std.specs.Int.{div_ceil}
 use Rattle.span_types.specs.declared.ids.TraceId.{TraceId}
 use Rattle.block_index.specs.Bloom.{bloom_bytes, filter_pages}
 use Rattle.block_index.specs.Index.{entries, index_bytes, traces}
-use Rattle.block_tail.specs.declared.tail.Tail.{Tail}
+use Rattle.block_rows.specs.declared.tail.Tail.{Tail}
 
 -- The index and the Bloom filters of rows with these trace ids, and how many pages each has: 170 traces have one page of the
 -- index, and 2,048 one of the filters.
