@@ -1,4 +1,5 @@
 pub mod Firsts
 pub mod Parts
+pub mod Moments
 pub mod Drafting
 pub mod Whole
