@@ -3,6 +3,7 @@ use Rattle.std.specs.Prelude.{ℕ, zero, suc, ◌+◌, ◌-◌, ◌*◌, min, Bo
 use Rattle.std.specs.Int.{w32, from_le_bytes, div_ceil}
 use Rattle.std.specs.List.{list_all, list_any, slice_get}
 use Rattle.std.specs.Ordering.{is_lt}
+use Rattle.span_types.specs.declared.ids.TraceId.{TraceId}
 use Rattle.span_types.specs.declared.spans.Row.{Row}
 use Rattle.span_types.specs.Orders.{block_order}
 use Rattle.byte_fields.specs.Reading.{◌>>=◌, fixed64_at}
@@ -15,6 +16,7 @@ use Rattle.block_format.specs.Blocks.{form_of_rows, ids_of, index_page_of}
 use Rattle.block_format.specs.HeaderReadings.{header_at}
 use Rattle.block_format.specs.StripeReadings.{stripe_at, unless_some}
 use Rattle.block_format.specs.Stripes.{is_extended}
+use Rattle.block_read.specs.declared.block.Block.{Block}
 use Rattle.block_read.specs.Files.{part_of}
 
 -- nothing more is asked where the test holds; else the bytes are malformed at that offset
@@ -91,35 +93,30 @@ abbrev pub shifted : ℕ → Option ℕ → Option ℕ
 shifted base None = None
 shifted base (Some at) = Some (base + at)
 
--- what comes after the stripes of rows: index and Bloom filters
-abbrev pub tail_bytes : List Row → List ℕ
-tail_bytes rows = index_bytes (ids_of rows) ++ bloom_bytes (traces (ids_of rows))
+-- what comes after the stripes of rows with these trace ids: index and Bloom filters
+abbrev pub tail_bytes : List TraceId → List ℕ
+tail_bytes ids = index_bytes ids ++ bloom_bytes (traces ids)
 
--- The rows, where the header counts their index pages and their Bloom pages right, and these follow the stripes up to the file's end.
-unfoldable pub indexed : Header → List Row → List ℕ → Result (List Row) ℕ
-indexed header rows bytes = do
-  _ ← unless_not (header.index_pages == div_ceil (length (entries (ids_of rows))) 170) 12 rows
-  _ ← unless_not (header.bloom_pages == filter_pages (length (traces (ids_of rows)))) 16 rows
-  unless_some (shifted (4096 * index_page_of header) (differs_at (tail_bytes rows) (drop (4096 * index_page_of header) bytes))) rows
+-- The trace ids of the rows, where the header counts the pages of their index and of their Bloom filters right, and these follow
+-- the stripes up to the file's end.
+unfoldable pub indexed : Header → List TraceId → List ℕ → Result (List TraceId) ℕ
+indexed header ids bytes = do
+  _ ← unless_not (header.index_pages == div_ceil (length (entries ids)) 170) 12 ids
+  _ ← unless_not (header.bloom_pages == filter_pages (length (traces ids))) 16 ids
+  unless_some (shifted (4096 * index_page_of header) (differs_at (tail_bytes ids) (drop (4096 * index_page_of header) bytes))) ids
 
 -- ---- the whole
 
--- a block that was read: its header, and its rows
-pub record ReadBlock : Type 0 where
-  pub header : Header
-  pub rows : List Row
-
 -- The block that these bytes are. That its form is the one of its rows is tested last.
-unfoldable pub block_at : List ℕ → Result ReadBlock ℕ
+unfoldable pub block_at : List ℕ → Result Block ℕ
 block_at bytes = do
   header ← header_of bytes
   rows ← stripes_of header.form header.stripes None bytes
-  _ ← indexed header rows bytes
+  _ ← indexed header (ids_of rows) bytes
   unless_not (header.form == form_of_rows rows) 0 (record { header = header; rows = rows })
 
--- The same for a block whose list entry says so many rows. With another number the block is malformed at 0, once all else is as it
--- must be.
-unfoldable pub listed_at : ℕ → List ℕ → Result ReadBlock ℕ
+-- The same for a block whose list entry says so many rows. With another number it is malformed at 0, once all else is as it must be.
+unfoldable pub listed_at : ℕ → List ℕ → Result Block ℕ
 listed_at rows bytes = do
   block ← block_at bytes
   unless_not (length block.rows == rows) 0 block
