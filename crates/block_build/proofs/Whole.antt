@@ -21,21 +21,6 @@ use Rattle.block_format.specs.StripeReadings.{ascend}
 use Rattle.block_format.specs.Stripes.{IsKeptRow, is_extended}
 use Rattle.block_build.specs.Drafts.{AreStripes, IsDraft, header_with}
 
--- ---- pages
-
-body_size : (form : ℕ) (stripes : List StripeInfo) (bytes : List ℕ) (rows : List Row) → StripesHaveEntries form stripes bytes rows → length bytes ≡ 4096 * sum_by (λ (s : StripeInfo). s.pages) stripes
-body_size form [] bytes rows have = ap length have.0
-body_size form (stripe ∷ stripes) bytes rows have =
-    let n = 4096 * stripe.pages in
-    let first : length (take n bytes) ≡ n = have.0.pages in
-    let rest = body_size form stripes (drop n bytes) (drop stripe.rows rows) have.1 in
-    let whole : length (take n bytes) + length (drop n bytes) ≡ length bytes = sym (length-append (take n bytes) (drop n bytes)) ∙ ap length (take-append-drop n bytes) in
-    omega (arith, first, rest, whole, sum_by-cons (λ (s : StripeInfo). s.pages) stripe stripes)
-
-in_reach : (page : ℕ) (stripes : List StripeInfo) → AreFromPage page stripes → AllByRecursion (λ (s : StripeInfo). s.page + s.pages < 2 ^ 52) stripes
-in_reach page [] are = tt
-in_reach page (stripe ∷ stripes) are = ((let begins = are.0.begins in let ends = are.0.ends in omega (arith, begins, ends)), in_reach (page + stripe.pages) stripes are.1)
-
 -- ---- what the calls on a draft ask for
 
 one_or_two : (any : Bool) → ((if any then 2 else 1) ≡ 1) ⊎ ((if any then 2 else 1) ≡ 2)
@@ -49,15 +34,12 @@ a_form form rows is = subst (λ (f : ℕ). (f ≡ 1) ⊎ (f ≡ 2)) (sym is) (on
 pub record IsReady (form : ℕ) (bytes : List ℕ) (stripes : List StripeInfo) (tail : Tail) : Type 0 where
   pub few : length stripes ≤ 4096
   pub header : CanBeHeader (header_with form stripes tail)
-  pub page : length bytes ≡ 4096 * index_page_of (header_with form stripes tail)
   pub front : 4096 * header_pages (length stripes) ≤ length bytes
-  pub reach : AllByRecursion (λ (s : StripeInfo). s.page + s.pages < 2 ^ 52) stripes
 
 pub is_ready : (form : ℕ) (rows : List Row) (bytes : List ℕ) (stripes : List StripeInfo) (tail : Tail) → IsDraft form rows bytes stripes → 1 ≤ length rows → length rows ≤ 1048576 → form ≡ form_of_rows rows → IsReady form bytes stripes tail
 is_ready form rows bytes stripes tail draft some few form_is =
     let are = draft.stripes_are in
     let count = are.count in
-    let body = body_size form stripes draft.body rows are.entries in
     let size : length bytes ≡ length draft.front + length draft.body = ap length draft.bytes_are ∙ length-append draft.front draft.body in
     record {
       few = omega (arith, count, few);
@@ -68,9 +50,7 @@ is_ready form rows bytes stripes tail draft some few form_is =
         pages = refl;
         stripes = are.pages;
       };
-      page = omega (arith, size, draft.front_size, body);
       front = omega (arith, size, draft.front_size);
-      reach = in_reach (header_pages (length stripes)) stripes are.pages;
     }
 
 -- ---- the block

@@ -1,20 +1,17 @@
 //! The block of rows.
 
-ghost use Rattle.std.specs.Prelude.{◌≡◌, ◌+◌, ◌^◌, ◌++◌, ◌<◌, ◌≤◌, IfOk, drop, length, true};
-ghost use Rattle.std.specs.List.{AllByRecursion};
+ghost use Rattle.std.specs.Prelude.{◌≡◌, ◌++◌, ◌≤◌, IfOk, drop, length, true};
 ghost use Rattle.block_build.specs.Built.{IsBlockOf};
 ghost use Rattle.block_build.specs.Drafts.{header_with};
-ghost use Rattle.block_format.specs.Blocks.{BlockHasInfo, index_page_of, info_of};
+ghost use Rattle.block_format.specs.Blocks.{BlockHasInfo};
 ghost use Rattle.block_format.specs.StripeReadings.{ascend};
 
 use crate::draft::{Draft, draft_of, header_pages};
 use block_format::{Header, header_is_pages, write_header};
 use block_info::{BlockInfo, StripeInfo, Stripes};
-use block_rows::{Tail, form_of, ids_of, tail_of};
+use block_rows::{Tail, form_of, ids_of, info_of, tail_of};
 use span_types::{Bytes, Memory, Rows, first_rows};
 use std::alloc::Global;
-
-const PAGE_BYTES: usize = 4096;
 
 /// A block that has no file yet: its bytes, and what is known of it without reading them.
 #[derive(Debug, Drop)]
@@ -54,12 +51,11 @@ fn block_of(alloc: Global, rows: Rows) -> Result<BuiltBlock, Memory>
     let ids = ids_of(alloc, rows.as_slice())?;
     let tail = tail_of(alloc, &ids)?;
     let Draft { bytes, stripes } = draft_of(alloc, rows, form)?;
-    let index_page = (bytes.len() / PAGE_BYTES) as u64;
     let header = header_of(form, stripes, &tail);
     let front = write_header(alloc, &header)?;
     header_is_pages();
     let bytes = joined(bytes, front.as_slice(), &tail)?;
-    let info = info_of(header, index_page, count);
+    let info = info_of(0, 0, header, count);
     Ok(BuiltBlock { bytes, info })
 }
 
@@ -86,26 +82,4 @@ fn joined(mut bytes: Vec<u8>, front: &[u8], tail: &Tail) -> Result<Bytes, Memory
     bytes.extend_from_slice(tail.index.as_slice())?;
     bytes.extend_from_slice(tail.bloom.as_slice())?;
     Ok(Bytes::of(bytes))
-}
-
-/// What a header tells of a block that has no file yet.
-fn info_of(header: Header, index_page: u64, rows: u32) -> BlockInfo
-    requires page { index_page ≡ index_page_of header }
-    requires near { index_page ≤ 2 ^ 51 }
-    requires reach { AllByRecursion (λ stripe. stripe.page + stripe.pages < 2 ^ 52) header.stripes }
-    ensures { result ≡ info_of 0 0 header rows }
-{
-    let bloom_page = index_page + u64::from(header.index_pages);
-    BlockInfo {
-        file: 0,
-        level: 0,
-        form: header.form,
-        rows,
-        pages: bloom_page + u64::from(header.bloom_pages),
-        index_page,
-        index_pages: header.index_pages,
-        bloom_page,
-        bloom_pages: header.bloom_pages,
-        stripes: header.stripes,
-    }
 }

@@ -11,6 +11,7 @@ use crate::block::{Block, block, listed};
 use crate::file::file_bytes;
 use crate::{Pages, ReadError};
 use block_info::BlockInfo;
+use block_rows::info_of;
 use rows_by_trace::rows_of;
 use span_fields::Break;
 use span_types::{Rows, TraceId};
@@ -89,7 +90,7 @@ pub fn check_block<P: Pages>(
 {
     let bytes = file_bytes(alloc, pages, block, length)?;
     match listed(alloc, bytes.as_slice(), rows) {
-        Ok(found) => Ok(found.info(block, level)),
+        Ok(found) => Ok(info_of(block, level, found.header, rows)),
         Err(error) => Err(in_file(block, error)),
     }
 }

@@ -12,7 +12,12 @@ use std::alloc::Global;
 const PAGE_BYTES: u64 = 4096;
 
 /// The first `length` bytes of a file, page by page: no more memory is taken than pages were read.
-pub fn file_bytes<P: Pages>(alloc: Global, pages: &mut P, block: u32, length: u64) -> Result<Vec<u8>, ReadError>
+pub fn file_bytes<P: Pages>(
+    alloc: Global,
+    pages: &mut P,
+    block: u32,
+    length: u64,
+) -> Result<Vec<u8>, ReadError>
     ensures bytes { IsTrue (P.tells pages.old) → IfOk result (λ bytes. bytes.items ≡ first_bytes length (P.held pages.old block)) }
     ensures stays { StaysSame P.tells P.held pages.old pages.new }
     ensures later { P.faults pages.old ≤ P.faults pages.new }

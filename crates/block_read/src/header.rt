@@ -1,10 +1,10 @@
 //! The header of a block's file.
 
 ghost use Rattle.std.specs.Prelude.{◌≡◌, ◌+◌, ◌≤◌, ◌^◌, IfOk};
-ghost use Rattle.std.specs.List.{AllByRecursion};
 ghost use Rattle.byte_fields.specs.Reading.{AreBytes};
 ghost use Rattle.span_fields.specs.Breaks.{Answers};
-ghost use Rattle.block_read.specs.BlockReadings.{IsNear, front_pages, header_of};
+ghost use Rattle.block_format.specs.Headers.{CanBeHeader};
+ghost use Rattle.block_read.specs.BlockReadings.{front_pages, header_of};
 
 use crate::file::part;
 use block_format::{FormatError, Header, read_header, read_header_is_held};
@@ -15,7 +15,7 @@ use std::alloc::Global;
 #[tactic(auto, unfolding(crate::specs::BlockReadings::header_of))]
 pub fn header(alloc: Global, bytes: &[u8]) -> Result<Header, Break>
     ensures answers { Answers (λ x. x) result (header_of bytes.now) }
-    ensures near { IfOk result (λ header. AllByRecursion IsNear header.stripes) }
+    ensures rules { IfOk result (λ header. CanBeHeader header) }
 {
     let front = part(bytes, 0, front_pages(bytes));
     read_header_is_held();

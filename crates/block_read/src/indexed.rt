@@ -2,12 +2,11 @@
 
 ghost use Rattle.std.specs.Prelude.{◌≡◌, ◌+◌, ◌*◌, ◌≤◌, ◌<◌, ◌^◌, drop, length};
 ghost use Rattle.span_fields.specs.Breaks.{Answers};
-ghost use Rattle.block_format.specs.Blocks.{index_page_of};
 ghost use Rattle.block_format.specs.Headers.{CanBeHeader};
 ghost use Rattle.block_read.specs.BlockReadings.{common, differs_at, indexed, tail_bytes};
 
 use block_format::Header;
-use block_rows::tail_of;
+use block_rows::{index_page, tail_of};
 use span_fields::Break;
 use span_types::Ids;
 use std::alloc::Global;
@@ -36,18 +35,6 @@ pub fn indexed(alloc: Global, bytes: &[u8], header: &Header, ids: &Ids) -> Resul
     match differs_at(wanted.as_slice(), rest) {
         None => Ok(()),
         Some(at) => Err(Break::At(base + at)),
-    }
-}
-
-/// The page after the last stripe.
-fn index_page(header: &Header) -> u64
-    requires { CanBeHeader header.now }
-    ensures page { result ≡ index_page_of header.now }
-    ensures near { result ≤ 2 ^ 51 }
-{
-    match header.stripes.as_slice().last() {
-        None => u64::from(header.pages),
-        Some(stripe) => stripe.page + stripe.pages,
     }
 }
 

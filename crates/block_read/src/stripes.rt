@@ -55,7 +55,13 @@ fn last_of(rows: &[Row]) -> Result<Option<Row>, Memory>
 }
 
 /// The rows of one stripe, with offsets of the file.
-fn stripe_at(alloc: Global, bytes: &[u8], form: u8, entry: &StripeInfo, last: &Option<Row>) -> Result<Vec<Row>, Break>
+fn stripe_at(
+    alloc: Global,
+    bytes: &[u8],
+    form: u8,
+    entry: &StripeInfo,
+    last: &Option<Row>,
+) -> Result<Vec<Row>, Break>
     requires { IsNear entry.now }
     ensures { Answers (λ x. x.items) result (in_file (4096 * entry.now.page) (part_of entry.now.page entry.now.pages bytes.now)
         (stripe_of form entry.now last.now (part_of entry.now.page entry.now.pages bytes.now))) }

@@ -1,1 +1,2 @@
 mod IndexSizes
+mod Pages
