@@ -1,8 +1,9 @@
 -- How many bytes an index has, and that its counts of pages fit their fields.
-use Rattle.std.proofs.Common.{◌≡◌, ℕ, zero, suc, ◌+◌, ◌-◌, ◌*◌, ◌/◌, ◌%◌, ◌^◌, ◌<◌, ◌≤◌, min, Bool, true, false, cond, List, [], ◌∷◌, ◌++◌, length, map, take, drop, replicate, refl, sym, ap, subst, ◌∙◌, arith}
+use Rattle.std.proofs.Common.{◌≡◌, ℕ, zero, suc, ◌+◌, ◌-◌, ◌*◌, ◌/◌, ◌%◌, ◌^◌, ◌<◌, ◌≤◌, min, Bool, true, false, cond, All, List, [], ◌∷◌, ◌++◌, length, map, take, drop, replicate, refl, sym, ap, subst, ◌∙◌, arith}
 use Rattle.std.specs.Int.{div_ceil}
 use Rattle.std.specs.List.{AllByRecursion, flat_map}
 use Rattle.std.proofs.lemmas.List.{length-append, length-map, length-replicate, length-take}
+use Rattle.std.proofs.lemmas.List.Elements.{recursion_from_All}
 use Rattle.span_types.specs.declared.ids.TraceId.{TraceId}
 use Rattle.byte_fields.specs.Spelling.{fixed32_bytes}
 use Rattle.block_index.specs.declared.entries.IndexEntry.{IndexEntry}
@@ -88,10 +89,10 @@ pub record FewPages (ids : List TraceId) (index bloom : ℕ) : Type 0 where
   pub index_fits : index / 4096 < 2 ^ 32
   pub bloom_fits : bloom / 4096 < 2 ^ 32
 
-pub few_pages : (ids : List TraceId) (index bloom : ℕ) → AllByRecursion IsLong ids → length ids < 2 ^ 32 → index ≡ length (index_bytes ids) → bloom ≡ 4096 * filter_pages (length (traces ids)) → FewPages ids index bloom
+pub few_pages : (ids : List TraceId) (index bloom : ℕ) → All IsLong ids → length ids < 2 ^ 32 → index ≡ length (index_bytes ids) → bloom ≡ 4096 * filter_pages (length (traces ids)) → FewPages ids index bloom
 few_pages ids index bloom all few index_is bloom_is =
     let count : length (traces ids) ≡ length (entries ids) = length-map (λ (e : IndexEntry). e.id) (entries ids) in
-    let size = index_size ids all in
+    let size = index_size ids (recursion_from_All IsLong ids all) in
     let pages : index / 4096 ≡ div_ceil (length (entries ids)) 170 = omega (arith, size, index_is) in
     let filters : bloom / 4096 ≡ filter_pages (length (traces ids)) = omega (arith, bloom_is) in
     record {

@@ -1,7 +1,7 @@
 //! The index and the Bloom filters of a block, and how many pages each has.
 
 ghost use Rattle.std.specs.Prelude.{◌≡◌, ◌^◌, ◌<◌, IfOk, length};
-ghost use Rattle.std.specs.List.{AllByRecursion};
+ghost use Rattle.std.specs.List.{All};
 ghost use Rattle.block_rows.specs.Tails.{IsTailOf};
 
 use block_index::{bloom_pages, filters_hold_their_traces, index_pages};
@@ -43,7 +43,16 @@ pub fn tail_of(alloc: Global, ids: &Ids) -> Result<Tail, Memory>
 
 /// What the type of ids promises, for the proof of the caller: each has 16 bytes. It does nothing.
 fn each_is_long(ids: &[TraceId])
-    ensures { AllByRecursion (λ id. length id.0 ≡ 16) ids.now }
+    ensures { All (λ id. length id.0 ≡ 16) ids.now }
 {
-    let _ = ids;
+    for id in ids {
+        is_long(*id);
+    }
+}
+
+/// What the type of an id promises: it has 16 bytes.
+fn is_long(id: TraceId)
+    ensures { length id.0 ≡ 16 }
+{
+    let _ = id;
 }
