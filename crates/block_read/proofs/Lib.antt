@@ -1,0 +1,3 @@
+mod StripesAgree
+mod StripesBoth
+mod BlockBoth
