@@ -41,10 +41,13 @@ front_is bytes front rest header holds is =
   where
     pages : header.pages ≡ div_ceil (20 + 32 * length header.stripes) 4096
     pages = holds.rules.pages
+
     some : 1 ≤ length header.stripes
     some = holds.rules.some
+
     few : length header.stripes ≤ 4096
     few = holds.rules.few
+
     by : (n : ℕ) → n ≡ header.pages → 8 ≤ length bytes → cond (leb 8 (length bytes) && (leb 1 n && leb n 33)) n 1 ≡ header.pages
     by n same long = rw (le-leb 8 (length bytes) long, le-leb 1 n (omega (arith, same, pages, some)), le-leb n 33 (omega (arith, same, pages, few))) same
 

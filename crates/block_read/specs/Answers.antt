@@ -1,6 +1,8 @@
 -- What calls that read a block answer.
 use Rattle.std.specs.Prelude.{◌≡◌, ℕ, Bool, IsTrue, List, Result, Ok, Err}
 use Rattle.span_types.specs.Faults.{Rose}
+use Rattle.span_fields.specs.declared.breaks.Break.{Break}
+use Rattle.span_fields.specs.declared.breaks.Break.TheVariants as breaks
 use Rattle.block_read.specs.Files.{SameFiles}
 use Rattle.block_read.specs.declared.error.ReadError.{ReadError}
 use Rattle.block_read.specs.declared.error.ReadError.TheVariants.{Fault, NotBlock, Memory}
@@ -17,6 +19,11 @@ AnswersOf view file (Ok x) read = read ≡ Ok (view x)
 AnswersOf view file (Err (NotBlock other at)) read = (other ≡ file) × (read ≡ Err at)
 AnswersOf view file (Err Fault) read = Unit {0}
 AnswersOf view file (Err Memory) read = Unit {0}
+
+-- what a call on this file answers where reading stopped so
+abbrev pub in_error : ℕ → Break → ReadError
+in_error file (breaks.At at) = NotBlock file at
+in_error file breaks.Memory = Memory
 
 -- A fault comes only where the count of faults rose.
 abbrev pub FailsByFault : {X : Type 0} → ℕ → ℕ → Result X ReadError → Type 0

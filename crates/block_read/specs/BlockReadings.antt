@@ -37,10 +37,15 @@ header_of bytes = header_at (part_of 0 (front_pages bytes) bytes)
 
 -- ---- stripes
 
--- what is malformed at an offset of a part is malformed there in the file, but not past the part's end
-abbrev pub in_file : {A : Type 0} → ℕ → List ℕ → Result A ℕ → Result A ℕ
-in_file base part (Ok x) = Ok x
-in_file base part (Err at) = Err (base + min at (length part))
+-- what is malformed past the part's end is malformed where it ends
+abbrev pub within : {A : Type 0} → List ℕ → Result A ℕ → Result A ℕ
+within part (Ok x) = Ok x
+within part (Err at) = Err (min at (length part))
+
+-- what is malformed at an offset of a part that begins there
+abbrev pub at_base : {A : Type 0} → ℕ → Result A ℕ → Result A ℕ
+at_base base (Ok x) = Ok x
+at_base base (Err at) = Err (base + at)
 
 -- the rows have these moments and this number, as their entry says
 abbrev pub agrees : StripeInfo → List Row → Bool
@@ -66,16 +71,16 @@ unfoldable pub stripe_of : ℕ → StripeInfo → Option Row → List ℕ → Re
 stripe_of form entry last part = do
   size ← in_part false fixed64_at (record { whole = part; at = 0 })
   _ ← unless_not (div_ceil (8 + size.0) 4096 == entry.pages) 0 size
-  rows ← stripe_at (is_extended form) part
+  rows ← within part (stripe_at (is_extended form) part)
   unless_not (agrees entry rows && follow last rows) 0 rows
 
 -- The rows of stripes with these entries, the first of which comes behind that row.
 unfoldable pub stripes_of : ℕ → List StripeInfo → Option Row → List ℕ → Result (List Row) ℕ
 stripes_of form [] last bytes = Ok []
-stripes_of form (entry ∷ entries) last bytes = (let part = part_of entry.page entry.pages bytes in do
-  rows ← in_file (4096 * entry.page) part (stripe_of form entry last part)
+stripes_of form (entry ∷ entries) last bytes = do
+  rows ← at_base (4096 * entry.page) (stripe_of form entry last (part_of entry.page entry.pages bytes))
   later ← stripes_of form entries (last_of rows) bytes
-  Ok (rows ++ later))
+  Ok (rows ++ later)
 
 -- ---- index and Bloom filters
 

@@ -24,7 +24,7 @@ pub struct Block {
 
 /// The block that these bytes are.
 #[tactic(auto, unfolding(crate::specs::BlockReadings::block_at))]
-pub fn block(alloc: Global, bytes: &[u8]) -> Result<Block, Break>
+pub fn block_of(alloc: Global, bytes: &[u8]) -> Result<Block, Break>
     ensures { Answers (λ x. x) result (block_at bytes.now) }
 {
     let header = header(alloc, bytes)?;
@@ -45,7 +45,7 @@ pub fn block(alloc: Global, bytes: &[u8]) -> Result<Block, Break>
 pub fn listed(alloc: Global, bytes: &[u8], rows: u32) -> Result<Block, Break>
     ensures { Answers (λ x. x) result (listed_at rows bytes.now) }
 {
-    let block = block(alloc, bytes)?;
+    let block = block_of(alloc, bytes)?;
     if block.rows.len() != rows as usize {
         return Err(Break::At(0));
     }

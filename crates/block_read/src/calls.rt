@@ -3,11 +3,11 @@
 ghost use Rattle.std.specs.Prelude.{◌≡◌, ◌*◌, ◌≤◌, IsTrue, length};
 ghost use Rattle.rows_by_trace.specs.Traces.{rows_of_trace};
 ghost use Rattle.block_format.specs.Blocks.{info_of};
-ghost use Rattle.block_read.specs.Answers.{AnswersOf, FailsByFault, StaysSame, made_of};
+ghost use Rattle.block_read.specs.Answers.{AnswersOf, FailsByFault, StaysSame, in_error, made_of};
 ghost use Rattle.block_read.specs.BlockReadings.{block_at, listed_at};
 ghost use Rattle.block_read.specs.Files.{first_bytes};
 
-use crate::block::{Block, block, listed};
+use crate::block::{block_of, listed};
 use crate::file::file_bytes;
 use crate::{Pages, ReadError};
 use block_info::BlockInfo;
@@ -35,7 +35,7 @@ pub fn all_rows<P: Pages>(
     ensures cause { FailsByFault (P.faults pages.old) (P.faults pages.new) result }
 {
     let bytes = file_bytes(alloc, pages, block, info.pages * PAGE_BYTES)?;
-    match crate::block::block(alloc, bytes.as_slice()) {
+    match block_of(alloc, bytes.as_slice()) {
         Ok(found) => Ok(found.rows),
         Err(error) => Err(in_file(block, error)),
     }

@@ -1,6 +1,6 @@
 //! The bytes of a block's file.
 
-ghost use Rattle.std.specs.Prelude.{◌≡◌, ◌≤◌, IfOk, IsTrue, OnErr};
+ghost use Rattle.std.specs.Prelude.{◌≡◌, ◌≤◌, ◌++◌, IfOk, IsTrue, OnOk};
 ghost use Rattle.byte_fields.specs.Reading.{AreBytes};
 ghost use Rattle.block_read.specs.Answers.{StaysSame, FailsByFault};
 ghost use Rattle.block_read.specs.Files.{first_bytes, part_of};
@@ -19,6 +19,7 @@ pub fn file_bytes<P: Pages>(
     length: u64,
 ) -> Result<Vec<u8>, ReadError>
     ensures bytes { IsTrue (P.tells pages.old) → IfOk result (λ bytes. bytes.items ≡ first_bytes length (P.held pages.old block)) }
+    ensures fits { IfOk result (λ bytes. AreBytes bytes.items) }
     ensures stays { StaysSame P.tells P.held pages.old pages.new }
     ensures later { P.faults pages.old ≤ P.faults pages.new }
     ensures cause { FailsByFault (P.faults pages.old) (P.faults pages.new) result }
@@ -48,4 +49,11 @@ pub fn part(bytes: &[u8], page: u64, pages: u64) -> &[u8]
     let rest = &bytes[first..];
     let size = pages.saturating_mul(PAGE_BYTES).min(rest.len() as u64) as usize;
     &rest[..size]
+}
+
+/// What bytes promise, for the proof of the caller: each is below 256. It does nothing.
+pub fn each_fits(bytes: &[u8])
+    ensures { AreBytes bytes.now }
+{
+    let _ = bytes;
 }

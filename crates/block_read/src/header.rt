@@ -1,12 +1,11 @@
 //! The header of a block's file.
 
-ghost use Rattle.std.specs.Prelude.{◌≡◌, ◌+◌, ◌≤◌, ◌^◌, IfOk};
-ghost use Rattle.byte_fields.specs.Reading.{AreBytes};
+ghost use Rattle.std.specs.Prelude.{◌≡◌, IfOk};
 ghost use Rattle.span_fields.specs.Breaks.{Answers};
 ghost use Rattle.block_format.specs.Headers.{CanBeHeader};
 ghost use Rattle.block_read.specs.BlockReadings.{front_pages, header_of};
 
-use crate::file::part;
+use crate::file::{each_fits, part};
 use block_format::{FormatError, Header, read_header, read_header_is_held};
 use span_fields::Break;
 use std::alloc::Global;
@@ -39,11 +38,4 @@ fn front_pages(bytes: &[u8]) -> u64
         return u64::from(pages);
     }
     1
-}
-
-/// What bytes promise, for the proof of the caller: each is below 256. It does nothing.
-fn each_fits(bytes: &[u8])
-    ensures { AreBytes bytes.now }
-{
-    let _ = bytes;
 }

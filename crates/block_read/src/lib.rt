@@ -17,6 +17,6 @@ mod stripes;
 
 pub use calls::{all_rows, check_block, trace_rows};
 pub use error::ReadError;
-pub use laws::{held_block_is_read, no_rows_have_no_block, read_block_is_held};
+pub use laws::{held_block_is_read, read_block_is_held};
 pub use memory::MemPages;
 pub use pages::Pages;

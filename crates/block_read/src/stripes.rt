@@ -1,34 +1,38 @@
 //! The stripes of a block.
 
-ghost use Rattle.std.specs.Prelude.{◌≡◌, ◌+◌, ◌*◌, ◌≤◌, ◌<◌, ◌^◌, None, length, IfOk};
-ghost use Rattle.std.specs.List.{AllByRecursion, list_any, list_all};
+ghost use Rattle.std.specs.Prelude.{◌≡◌, ◌+◌, ◌*◌, ◌≤◌, ◌^◌, ◌++◌, ◌&&◌, ◌==◌, None, IfOk, OnOk, length, nat_le};
 ghost use Rattle.std.specs.Int.{div_ceil};
+ghost use Rattle.std.specs.List.{list_all, list_any};
 ghost use Rattle.std.specs.Ordering.{is_lt};
 ghost use Rattle.span_types.specs.Orders.{block_order};
-ghost use Rattle.span_fields.specs.Breaks.{Answers, in_part};
-ghost use Rattle.byte_fields.specs.Reading.{fixed64_at};
-ghost use Rattle.block_read.specs.BlockReadings.{IsNear, agrees, follow, in_file, part_size_at, stripe_of, stripes_of};
+ghost use Rattle.byte_fields.specs.Reading.{AreBytes};
+ghost use Rattle.span_fields.specs.Breaks.{Answers};
+ghost use Rattle.block_format.specs.Headers.{CanBeHeader};
+ghost use Rattle.block_format.specs.StripeReadings.{stripe_at};
+ghost use Rattle.block_format.specs.Stripes.{is_extended};
+ghost use Rattle.block_read.specs.BlockReadings.{agrees, at_base, follow, last_of, stripe_of, stripes_of, within};
 ghost use Rattle.block_read.specs.Files.{part_of};
 
-use crate::file::part;
-use block_format::{FormatError, Header, read_stripe};
+use crate::file::{each_fits, part};
+use block_format::{FormatError, Header, read_is_held, read_stripe};
 use block_info::StripeInfo;
 use byte_fields::Reader;
 use span_fields::{Break, fixed64};
-use span_types::{Memory, Row, Rows, TryCopy};
+use span_types::{Memory, Row, TryCopy};
 use std::alloc::Global;
 
 const PAGE_BYTES: u64 = 4096;
 
-/// The rows of the stripes of a block.
+/// The rows of all stripes of a block.
 pub fn stripes(alloc: Global, bytes: &[u8], header: &Header) -> Result<Vec<Row>, Break>
-    requires { AllByRecursion IsNear header.now.stripes }
-    ensures { Answers (λ x. x.items) result (stripes_of header.now.form header.now.stripes None bytes.now) }
+    requires { CanBeHeader header.now }
+    ensures answers { Answers (λ x. x.items) result (stripes_of header.now.form header.now.stripes None bytes.now) }
+    ensures few { IfOk result (λ rows. length rows.items ≤ 256 * length header.now.stripes) }
 {
     let mut rows = Vec::new(alloc);
     let mut last = None;
     for entry in header.stripes.as_slice() {
-        let found = stripe_at(alloc, bytes, header.form, entry, &last)?;
+        let found = placed_stripe(alloc, bytes, header.form, entry, &last)?;
         last = last_of(found.as_slice())?;
         add(&mut rows, found)?;
     }
@@ -54,35 +58,129 @@ fn last_of(rows: &[Row]) -> Result<Option<Row>, Memory>
     }
 }
 
-/// The rows of one stripe, with offsets of the file.
-fn stripe_at(
+/// The rows of the stripe with this entry, behind that row. Offsets are the file's.
+fn placed_stripe(
     alloc: Global,
     bytes: &[u8],
     form: u8,
     entry: &StripeInfo,
     last: &Option<Row>,
 ) -> Result<Vec<Row>, Break>
-    requires { IsNear entry.now }
-    ensures { Answers (λ x. x.items) result (in_file (4096 * entry.now.page) (part_of entry.now.page entry.now.pages bytes.now)
-        (stripe_of form entry.now last.now (part_of entry.now.page entry.now.pages bytes.now))) }
+    requires { entry.now.page ≤ 2 ^ 51 }
+    ensures answers { Answers (λ x. x.items) result (at_base (4096 * entry.now.page) (stripe_of form entry.now last.now (part_of entry.now.page entry.now.pages bytes.now))) }
+    ensures few { IfOk result (λ rows. length rows.items ≤ 256) }
 {
     let part = part(bytes, entry.page, entry.pages);
-    let base = entry.page * PAGE_BYTES;
-    let size = match size_of(alloc, part) {
-        Ok(size) => size,
-        Err(Break::At(at)) => return Err(Break::At(base + at.min(part.len() as u64))),
-        Err(Break::Memory) => return Err(Break::Memory),
-    };
+    match stripe(alloc, part, form, entry, last) {
+        Ok(rows) => Ok(rows),
+        Err(Break::At(at)) => Err(Break::At(entry.page * PAGE_BYTES + at)),
+        Err(Break::Memory) => Err(Break::Memory),
+    }
+}
+
+/// The rows of the stripe that this part of a file is. Offsets are counted from the part's first byte.
+#[tactic(auto, unfolding(crate::specs::BlockReadings::stripe_of))]
+fn stripe(
+    alloc: Global,
+    part: &[u8],
+    form: u8,
+    entry: &StripeInfo,
+    last: &Option<Row>,
+) -> Result<Vec<Row>, Break>
+    ensures answers { Answers (λ x. x.items) result (stripe_of form entry.now last.now part.now) }
+    ensures few { IfOk result (λ rows. length rows.items ≤ 256) }
+{
+    let mut reader = Reader::new(alloc, part);
+    let size = fixed64(&mut reader, false)?;
     if !has_pages(size, entry.pages) {
-        return Err(Break::At(base));
+        return Err(Break::At(0));
     }
-    let rows = match read_stripe(alloc, part, base, form) {
-        Ok(rows) => rows.into_vec(),
-        Err(FormatError::NotBlock { at }) => return Err(Break::At(at)),
-        Err(FormatError::Memory) => return Err(Break::Memory),
+    let rows = rows_of(alloc, part, form)?;
+    if !is_right(entry, last, rows.as_slice()) {
+        return Err(Break::At(0));
+    }
+    Ok(rows)
+}
+
+/// Whether a content of so many bytes has, with its length, so many pages.
+fn has_pages(size: u64, pages: u64) -> bool
+    ensures { result ≡ (div_ceil (8 + size) 4096 == pages) }
+{
+    (8 + u128::from(size)).div_ceil(4096) == u128::from(pages)
+}
+
+/// The rows of a stripe by itself.
+fn rows_of(alloc: Global, part: &[u8], form: u8) -> Result<Vec<Row>, Break>
+    ensures answers { Answers (λ x. x.items) result (within part.now (stripe_at (is_extended form) part.now)) }
+    ensures few { IfOk result (λ rows. length rows.items ≤ 256) }
+{
+    each_fits(part);
+    read_is_held();
+    match read_stripe(alloc, part, 0, form) {
+        Ok(rows) => Ok(rows.into_vec()),
+        Err(FormatError::NotBlock { at }) => Err(Break::At(at)),
+        Err(FormatError::Memory) => Err(Break::Memory),
+    }
+}
+
+/// Whether rows agree with their entry, and come behind that row.
+fn is_right(entry: &StripeInfo, last: &Option<Row>, rows: &[Row]) -> bool
+    ensures { result ≡ (agrees entry.now rows.now && follow last.now rows.now) }
+{
+    agrees(entry, rows) && follow(last, rows)
+}
+
+/// Whether rows are as many as their entry says, with the moments that it says.
+fn agrees(entry: &StripeInfo, rows: &[Row]) -> bool
+    ensures { result ≡ agrees entry.now rows.now }
+{
+    rows.len() == entry.rows as usize
+        && is_earliest(entry.earliest, rows)
+        && is_latest(entry.latest, rows)
+}
+
+/// Whether a row starts at that moment, and none before it.
+fn is_earliest(moment: u64, rows: &[Row]) -> bool
+    ensures { result ≡ (list_any (λ row. row.span.start == moment) rows.now && list_all (λ row. nat_le moment row.span.start) rows.now) }
+{
+    rows.iter().any(|row| row.span.start == moment)
+        && rows.iter().all(|row| moment <= row.span.start)
+}
+
+/// Whether a row starts at that moment, and none after it.
+fn is_latest(moment: u64, rows: &[Row]) -> bool
+    ensures { result ≡ (list_any (λ row. row.span.start == moment) rows.now && list_all (λ row. nat_le row.span.start moment) rows.now) }
+{
+    rows.iter().any(|row| row.span.start == moment)
+        && rows.iter().all(|row| row.span.start <= moment)
+}
+
+/// Whether the first of the rows comes behind that row, where there is one.
+fn follow(last: &Option<Row>, rows: &[Row]) -> bool
+    ensures { result ≡ follow last.now rows.now }
+{
+    match last {
+        None => true,
+        Some(last) => comes_before(last, rows),
+    }
+}
+
+/// Whether a row comes before the first of others.
+fn comes_before(last: &Row, rows: &[Row]) -> bool
+    ensures { result ≡ follow (Some last.now) rows.now }
+{
+    let [first, ..] = rows else {
+        return true;
     };
-    if agrees(entry, rows.as_slice()) && follow(last, rows.as_slice()) {
-        return Ok(rows);
-    }
-    Err(Break::At(base))
+    is_before(last, first)
+}
+
+/// Whether a row comes before the other in block order.
+fn is_before(a: &Row, b: &Row) -> bool
+    ensures { result ≡ is_lt (block_order a.now b.now) }
+{
+    let trace = a.span.trace.cmp(&b.span.trace);
+    let start = a.span.start.cmp(&b.span.start);
+    let order = trace.then(start.then(a.span.id.cmp(&b.span.id)));
+    order.is_lt()
 }
