@@ -1,3 +1,5 @@
 mod StripesAgree
 mod StripesBoth
 mod BlockBoth
+mod StripesWalk
+mod Parts

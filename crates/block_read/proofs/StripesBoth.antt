@@ -161,6 +161,10 @@ pub record StripesMean (form page : ℕ) (stripes : List StripeInfo) (last : Opt
   pub order : ascend rows ≡ true
   pub behind : follow last rows ≡ true
 
+no_order : ascend [] ≡ true
+unfolding ascend
+no_order = refl
+
 same_rows : (xs ys : List Row) → (let r : Result (List Row) ℕ = Ok xs in let q : Result (List Row) ℕ = Ok ys in r ≡ q) → xs ≡ ys
 same_rows xs ys e = cc
 
@@ -199,11 +203,7 @@ one_more form page entry entries last bytes some later begins means rest =
 pub stripes_mean : (form page : ℕ) (stripes : List StripeInfo) (last : Option Row) (bytes : List ℕ) (rows : List Row) → AreBytes bytes → AreFromPage page stripes → stripes_of form stripes last bytes ≡ Ok rows → StripesMean form page stripes last bytes rows
 unfolding stripes_of
 stripes_mean form page [] last bytes rows fit from e =
-    subst (StripesMean form page [] last bytes) (same_rows [] rows e) (record { fits = omega arith; have = (refl, refl); order = none; behind = follow_nothing last })
-  where
-    none : ascend [] ≡ true
-    unfolding ascend
-    none = refl
+    subst (StripesMean form page [] last bytes) (same_rows [] rows e) (record { fits = omega arith; have = (refl, refl); order = no_order; behind = follow_nothing last })
 stripes_mean form page (entry ∷ entries) last bytes rows fit from e =
     let part = part_of entry.page entry.pages bytes in
     let a = bound (at_base (4096 * entry.page) (stripe_of form entry last part)) (λ some. stripes_of form entries (last_of some) bytes >>= λ later. Ok (some ++ later)) rows e in

@@ -91,7 +91,7 @@ pub record FewPages (ids : List TraceId) (index bloom : ℕ) : Type 0 where
 
 pub few_pages : (ids : List TraceId) (index bloom : ℕ) → All IsLong ids → length ids < 2 ^ 32 → index ≡ length (index_bytes ids) → bloom ≡ 4096 * filter_pages (length (traces ids)) → FewPages ids index bloom
 few_pages ids index bloom all few index_is bloom_is =
-    let count : length (traces ids) ≡ length (entries ids) = length-map (λ (e : IndexEntry). e.id) (entries ids) in
+    let count : length (traces ids) ≡ length (entries ids) = length-map (entries ids) (λ (e : IndexEntry). e.id) in
     let size = index_size ids (recursion_from_All IsLong ids all) in
     let pages : index / 4096 ≡ div_ceil (length (entries ids)) 170 = omega (arith, size, index_is) in
     let filters : bloom / 4096 ≡ filter_pages (length (traces ids)) = omega (arith, bloom_is) in
