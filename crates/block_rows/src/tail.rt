@@ -46,13 +46,13 @@ fn each_is_long(ids: &[TraceId])
     ensures { All (λ id. length id.0 ≡ 16) ids.now }
 {
     for id in ids {
-        is_long(*id);
+        is_long(id);
     }
 }
 
 /// What the type of an id promises: it has 16 bytes.
-fn is_long(id: TraceId)
-    ensures { length id.0 ≡ 16 }
+fn is_long(id: &TraceId)
+    ensures { length id.now.0 ≡ 16 }
 {
-    let _ = id;
+    let _value = *id;
 }

@@ -10,8 +10,8 @@ loop-id-init c = All-nil IsLong
 
 pub loop-id-preserved : goal.loop-id-preserved
 loop-id-preserved c =
-    All-more IsLong c.args.ids.now c.loop-id.id-index c.is_long-arg-1.result (omega (arith, c.loop-id-test.true)) c.loop-id.invariant
-    (subst IsLong c.is_long-arg-1.is c.is_long.ensures)
+    All-more IsLong c.args.ids.now c.loop-id.id-index c.id-item.result (omega (arith, c.loop-id-test.true)) c.loop-id.invariant
+    (subst IsLong c.id-item.is c.is_long.ensures)
 
 pub returns : goal.returns
 returns c = subst (λ (l : List TraceId). All IsLong l) (take_all c.loop-id.id-index c.args.ids.now (omega (arith, c.loop-id-test.false))) c.loop-id.invariant
