@@ -19,7 +19,7 @@ use Rattle.block_format.specs.StripeEncodings.{after_length, content_bytes, fill
 use Rattle.block_format.specs.StripeReadings.{ascend, stripe_at}
 use Rattle.block_format.specs.Stripes.{AreStripe, is_extended}
 use Rattle.block_format.proofs.StripeLaws.{again_stripe, meant_stripe}
-use Rattle.block_read.specs.BlockReadings.{agrees, at_base, follow, last_of, stripe_of, stripes_of, unless_not, within}
+use Rattle.block_read.specs.BlockReadings.{agrees, follow, in_file, last_of, stripe_of, stripes_of, unless_not, within}
 use Rattle.block_read.specs.Files.{part_of}
 use Rattle.block_read.proofs.StripesAgree.{Agree, agree_means, agree_passes, follow_front, follow_more, joined, later_ascend, parted}
 
@@ -109,9 +109,9 @@ stripe_means form entry last part rows fit e =
 
 -- ---- all stripes
 
-at_base_ok : {A : Type 0} (base : ℕ) (r : Result A ℕ) (x : A) → at_base base r ≡ Ok x → r ≡ Ok x
-at_base_ok base (Ok y) x e = e
-at_base_ok base (Err at) x e = absurd (cc)
+in_file_ok : {A : Type 0} (base : ℕ) (part : List ℕ) (r : Result A ℕ) (x : A) → in_file base part r ≡ Ok x → r ≡ Ok x
+in_file_ok base part (Ok y) x e = e
+in_file_ok base part (Err at) x e = absurd (cc)
 
 pub stripes_again : (form page : ℕ) (stripes : List StripeInfo) (last : Option Row) (bytes body tail : List ℕ) (rows : List Row) → AreFromPage page stripes → drop (4096 * page) bytes ≡ body ++ tail
     → StripesHaveEntries form stripes body rows → ascend rows ≡ true → follow last rows ≡ true → stripes_of form stripes last bytes ≡ Ok rows
@@ -129,8 +129,8 @@ stripes_again form page (entry ∷ entries) last bytes body tail rows from there
     let some = take entry.rows rows in
     let more = drop entry.rows rows in
     let first = stripe_again form entry last front some have.0 (follow_front last entry.rows rows behind) in
-    let read : at_base (4096 * entry.page) (stripe_of form entry last part) ≡ Ok some =
-    ap (λ (l : List ℕ). at_base (4096 * entry.page) (stripe_of form entry last l)) here ∙ ap (at_base (4096 * entry.page)) first in
+    let read : in_file (4096 * entry.page) part (stripe_of form entry last part) ≡ Ok some =
+    ap (λ (l : List ℕ). in_file (4096 * entry.page) part (stripe_of form entry last l)) here ∙ ap (in_file (4096 * entry.page) part) first in
     let step : 4096 * (page + entry.pages) ≡ 4096 * page + n = omega arith in
     let next : drop (4096 * (page + entry.pages)) bytes ≡ drop n body ++ tail =
     ap (λ (k : ℕ). drop k bytes) step ∙ sym (drop-drop n (4096 * page) bytes) ∙ ap (drop n) there ∙ ap (λ (l : List ℕ). drop n (l ++ tail)) (sym (take-append-drop n body))
@@ -206,9 +206,9 @@ stripes_mean form page [] last bytes rows fit from e =
     subst (StripesMean form page [] last bytes) (same_rows [] rows e) (record { fits = omega arith; have = (refl, refl); order = no_order; behind = follow_nothing last })
 stripes_mean form page (entry ∷ entries) last bytes rows fit from e =
     let part = part_of entry.page entry.pages bytes in
-    let a = bound (at_base (4096 * entry.page) (stripe_of form entry last part)) (λ some. stripes_of form entries (last_of some) bytes >>= λ later. Ok (some ++ later)) rows e in
+    let a = bound (in_file (4096 * entry.page) part (stripe_of form entry last part)) (λ some. stripes_of form entries (last_of some) bytes >>= λ later. Ok (some ++ later)) rows e in
     let some = a.value in
-    let means = stripe_means form entry last part some (fit_part (4096 * entry.pages) (4096 * entry.page) bytes fit) (at_base_ok (4096 * entry.page) (stripe_of form entry last part) some a.first) in
+    let means = stripe_means form entry last part some (fit_part (4096 * entry.pages) (4096 * entry.page) bytes fit) (in_file_ok (4096 * entry.page) part (stripe_of form entry last part) some a.first) in
     let b = bound (stripes_of form entries (last_of some) bytes) (λ later. Ok (some ++ later)) rows a.last in
     let rest = stripes_mean form (page + entry.pages) entries (last_of some) bytes b.value fit from.1 b.first in
     subst (StripesMean form page (entry ∷ entries) last bytes) (same_rows (some ++ b.value) rows b.last) (one_more form page entry entries last bytes some b.value from.0.begins means rest)

@@ -1,5 +1,5 @@
 -- Stripe by stripe, the rows are read.
-use Rattle.std.proofs.Common.{◌≡◌, ℕ, zero, suc, ◌+◌, ◌*◌, ◌<◌, ◌≤◌, ◌^◌, List, [], ◌∷◌, ◌++◌, length, drop, get_or, Option, Some, None, Result, Ok, Err, append_assoc, refl, sym, ap, subst, ◌∙◌, arith}
+use Rattle.std.proofs.Common.{◌≡◌, ℕ, zero, suc, ◌+◌, ◌*◌, ◌<◌, ◌≤◌, ◌^◌, min, List, [], ◌∷◌, ◌++◌, length, drop, get_or, Option, Some, None, Result, Ok, Err, append_assoc, refl, sym, ap, subst, ◌∙◌, arith}
 use Rattle.std.proofs.lemmas.List.{append-nil, drop_all, drop_more}
 use Rattle.span_types.specs.declared.spans.Row.{Row}
 use Rattle.span_fields.specs.declared.breaks.Break.{Break}
@@ -9,7 +9,7 @@ use Rattle.byte_fields.specs.Reading.{◌>>=◌}
 use Rattle.block_info.specs.declared.info.StripeInfo.{StripeInfo}
 use Rattle.block_format.specs.Headers.{AreFromPage}
 use Rattle.block_read.specs.Answers.{made_of}
-use Rattle.block_read.specs.BlockReadings.{at_base, last_of, stripe_of, stripes_of}
+use Rattle.block_read.specs.BlockReadings.{in_file, last_of, stripe_of, stripes_of}
 use Rattle.block_read.specs.Files.{part_of}
 
 -- the rows so far, and those of the stripes that are left
@@ -25,7 +25,7 @@ at_stripe : (stripes : List StripeInfo) (i : ℕ) (entry : StripeInfo) → i < l
 at_stripe stripes i entry low is = drop_more stripes i entry low ∙ ap (λ (e : StripeInfo). e ∷ drop (i + 1) stripes) (sym is)
 
 pub walk_more : (form : ℕ) (stripes : List StripeInfo) (i : ℕ) (entry : StripeInfo) (last : Option Row) (bytes : List ℕ) (rows found new : List Row) (next : Option Row) (whole : Result (List Row) ℕ) → i < length stripes → entry ≡ get_or stripes i entry
-    → at_base (4096 * entry.page) (stripe_of form entry last (part_of entry.page entry.pages bytes)) ≡ Ok found → next ≡ last_of found → new ≡ rows ++ found
+    → in_file (4096 * entry.page) (part_of entry.page entry.pages bytes) (stripe_of form entry last (part_of entry.page entry.pages bytes)) ≡ Ok found → next ≡ last_of found → new ≡ rows ++ found
     → with_later rows (stripes_of form (drop i stripes) last bytes) ≡ whole → with_later new (stripes_of form (drop (i + 1) stripes) next bytes) ≡ whole
 unfolding stripes_of
 walk_more form stripes i entry last bytes rows found new next whole low is read next_is new_is so_far =
@@ -36,7 +36,7 @@ walk_more form stripes i entry last bytes rows found new next whole low is read 
     ∙ sym (joined_later rows found later) ∙ sym (ap (with_later rows) step) ∙ so_far
 
 pub walk_fails : (error : Break) (form : ℕ) (stripes : List StripeInfo) (i : ℕ) (entry : StripeInfo) (last : Option Row) (bytes : List ℕ) (rows : List Row) (whole : Result (List Row) ℕ) → i < length stripes → entry ≡ get_or stripes i entry
-    → Fails error (at_base (4096 * entry.page) (stripe_of form entry last (part_of entry.page entry.pages bytes))) → with_later rows (stripes_of form (drop i stripes) last bytes) ≡ whole → Fails error whole
+    → Fails error (in_file (4096 * entry.page) (part_of entry.page entry.pages bytes) (stripe_of form entry last (part_of entry.page entry.pages bytes))) → with_later rows (stripes_of form (drop i stripes) last bytes) ≡ whole → Fails error whole
 unfolding stripes_of
 walk_fails breaks.Memory form stripes i entry last bytes rows whole low is fails so_far = tt
 walk_fails (breaks.At at) form stripes i entry last bytes rows whole low is fails so_far =
@@ -65,5 +65,5 @@ near_page page (stripe ∷ stripes) (suc i) entry from low is = near_page (page 
 
 -- ---- a break in a part
 
-pub placed : (error : Break) (base : ℕ) (at new : ℕ) (read : Result (List Row) ℕ) → read ≡ Err at → new ≡ base + at → at_base base read ≡ Err new
-placed error base at new read e is = ap (at_base base) e ∙ ap (λ (k : ℕ). (let r : Result (List Row) ℕ = Err k in r)) (sym is)
+pub placed : (base : ℕ) (part : List ℕ) (at new : ℕ) (read : Result (List Row) ℕ) → read ≡ Err at → new ≡ base + min at (length part) → in_file base part read ≡ Err new
+placed base part at new read e is = ap (in_file base part) e ∙ ap (λ (k : ℕ). (let r : Result (List Row) ℕ = Err k in r)) (sym is)

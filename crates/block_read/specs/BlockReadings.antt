@@ -42,10 +42,10 @@ abbrev pub within : {A : Type 0} → List ℕ → Result A ℕ → Result A ℕ
 within part (Ok x) = Ok x
 within part (Err at) = Err (min at (length part))
 
--- what is malformed at an offset of a part that begins there
-abbrev pub at_base : {A : Type 0} → ℕ → Result A ℕ → Result A ℕ
-at_base base (Ok x) = Ok x
-at_base base (Err at) = Err (base + at)
+-- the same for a part that begins at that offset of the file: offsets are the file's
+abbrev pub in_file : {A : Type 0} → ℕ → List ℕ → Result A ℕ → Result A ℕ
+in_file base part (Ok x) = Ok x
+in_file base part (Err at) = Err (base + min at (length part))
 
 -- the rows have these moments and this number, as their entry says
 abbrev pub agrees : StripeInfo → List Row → Bool
@@ -78,7 +78,7 @@ stripe_of form entry last part = do
 unfoldable pub stripes_of : ℕ → List StripeInfo → Option Row → List ℕ → Result (List Row) ℕ
 stripes_of form [] last bytes = Ok []
 stripes_of form (entry ∷ entries) last bytes = do
-  rows ← at_base (4096 * entry.page) (stripe_of form entry last (part_of entry.page entry.pages bytes))
+  rows ← in_file (4096 * entry.page) (part_of entry.page entry.pages bytes) (stripe_of form entry last (part_of entry.page entry.pages bytes))
   later ← stripes_of form entries (last_of rows) bytes
   Ok (rows ++ later)
 

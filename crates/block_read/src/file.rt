@@ -1,6 +1,6 @@
 //! The bytes of a block's file.
 
-ghost use Rattle.std.specs.Prelude.{◌≡◌, ◌≤◌, ◌++◌, IfOk, IsTrue, OnOk};
+ghost use Rattle.std.specs.Prelude.{◌≡◌, ◌-◌, ◌*◌, ◌≤◌, ◌++◌, IfOk, IsTrue, OnOk, length};
 ghost use Rattle.byte_fields.specs.Reading.{AreBytes};
 ghost use Rattle.block_read.specs.Answers.{StaysSame, FailsByFault};
 ghost use Rattle.block_read.specs.Files.{first_bytes, part_of};
@@ -43,7 +43,8 @@ fn put(bytes: &mut Vec<u8>, more: &[u8]) -> Result<(), Memory>
 
 /// So many pages of these bytes from that page on, or what is there of them.
 pub fn part(bytes: &[u8], page: u64, pages: u64) -> &[u8]
-    ensures { result.now ≡ part_of page pages bytes.now }
+    ensures part { result.now ≡ part_of page pages bytes.now }
+    ensures fits { length result.now ≤ length bytes.now - 4096 * page }
 {
     let first = page.saturating_mul(PAGE_BYTES).min(bytes.len() as u64) as usize;
     let rest = &bytes[first..];

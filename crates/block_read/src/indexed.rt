@@ -1,6 +1,6 @@
 //! What comes after the stripes of a block: index and Bloom filters.
 
-ghost use Rattle.std.specs.Prelude.{◌≡◌, ◌+◌, ◌*◌, ◌≤◌, ◌<◌, ◌^◌, drop, length};
+ghost use Rattle.std.specs.Prelude.{◌≡◌, ◌+◌, ◌*◌, ◌≤◌, ◌<◌, ◌^◌, IfSome, drop, length};
 ghost use Rattle.span_fields.specs.Breaks.{Answers};
 ghost use Rattle.block_format.specs.Headers.{CanBeHeader};
 ghost use Rattle.block_read.specs.BlockReadings.{common, differs_at, indexed, tail_bytes};
@@ -48,7 +48,8 @@ fn after(bytes: &[u8], base: u64) -> &[u8]
 
 /// The first place at which bytes aren't the wanted ones.
 fn differs_at(wanted: &[u8], bytes: &[u8]) -> Option<u64>
-    ensures { result ≡ differs_at wanted.now bytes.now }
+    ensures place { result ≡ differs_at wanted.now bytes.now }
+    ensures within { IfSome result (λ at. at ≤ length bytes.now) }
 {
     let common = common(wanted, bytes);
     if common == wanted.len() && bytes.len() == wanted.len() {
@@ -59,7 +60,8 @@ fn differs_at(wanted: &[u8], bytes: &[u8]) -> Option<u64>
 
 /// How many bytes the two have in common before the first that differs.
 fn common(wanted: &[u8], bytes: &[u8]) -> usize
-    ensures { result ≡ common wanted.now bytes.now }
+    ensures count { result ≡ common wanted.now bytes.now }
+    ensures within { result ≤ length bytes.now }
 {
     for (index, byte) in wanted.iter().enumerate() {
         if bytes.len() <= index || bytes[index] != *byte {

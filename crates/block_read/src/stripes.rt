@@ -10,7 +10,7 @@ ghost use Rattle.span_fields.specs.Breaks.{Answers};
 ghost use Rattle.block_format.specs.Headers.{CanBeHeader};
 ghost use Rattle.block_format.specs.StripeReadings.{stripe_at};
 ghost use Rattle.block_format.specs.Stripes.{is_extended};
-ghost use Rattle.block_read.specs.BlockReadings.{agrees, at_base, follow, last_of, stripe_of, stripes_of, within};
+ghost use Rattle.block_read.specs.BlockReadings.{agrees, follow, in_file, last_of, stripe_of, stripes_of, within};
 ghost use Rattle.block_read.specs.Files.{part_of};
 
 use crate::file::{each_fits, part};
@@ -67,13 +67,14 @@ fn placed_stripe(
     last: &Option<Row>,
 ) -> Result<Vec<Row>, Break>
     requires { entry.now.page ≤ 2 ^ 51 }
-    ensures answers { Answers (λ x. x.items) result (at_base (4096 * entry.now.page) (stripe_of form entry.now last.now (part_of entry.now.page entry.now.pages bytes.now))) }
+    ensures answers { Answers (λ x. x.items) result (in_file (4096 * entry.now.page) (part_of entry.now.page entry.now.pages bytes.now)
+        (stripe_of form entry.now last.now (part_of entry.now.page entry.now.pages bytes.now))) }
     ensures few { IfOk result (λ rows. length rows.items ≤ 256) }
 {
     let part = part(bytes, entry.page, entry.pages);
     match stripe(alloc, part, form, entry, last) {
         Ok(rows) => Ok(rows),
-        Err(Break::At(at)) => Err(Break::At(entry.page * PAGE_BYTES + at)),
+        Err(Break::At(at)) => Err(Break::At(entry.page * PAGE_BYTES + at.min(part.len() as u64))),
         Err(Break::Memory) => Err(Break::Memory),
     }
 }
