@@ -1,25 +1,23 @@
 -- A draft, its header, its index and its Bloom filters are a block.
-use Rattle.std.proofs.Common.{◌≡◌, ◌⊎◌, inl, inr, ℕ, zero, suc, ◌+◌, ◌-◌, ◌*◌, ◌/◌, ◌%◌, ◌^◌, ◌<◌, ◌≤◌, Bool, true, false, List, [], ◌∷◌, ◌++◌, length, map, take, drop, if◌then◌else◌, refl, sym, ap, subst, ◌∙◌, arith}
+use Rattle.std.proofs.Common.{◌≡◌, ◌⊎◌, inl, inr, ℕ, zero, suc, ◌+◌, ◌-◌, ◌*◌, ◌/◌, ◌%◌, ◌^◌, ◌<◌, ◌≤◌, Bool, true, false, List, [], ◌∷◌, ◌++◌, length, drop, if◌then◌else◌, Result, Ok, Err, refl, sym, ap, subst, ◌∙◌, arith}
 use Rattle.std.specs.Int.{div_ceil}
-use Rattle.std.specs.List.{AllByRecursion, list_any}
-use Rattle.std.specs.Prelude.{sum_by}
-use Rattle.std.proofs.lemmas.List.{drop_at, length-append, length-map, take-append-drop}
-use Rattle.std.proofs.lemmas.List.Sums.{sum_by-cons}
-use Rattle.span_types.specs.declared.ids.TraceId.{TraceId}
+use Rattle.std.specs.List.{list_any}
+use Rattle.std.specs.Prelude.{IfOk}
+use Rattle.std.proofs.lemmas.List.{drop_at, length-append}
 use Rattle.span_types.specs.declared.spans.Row.{Row}
-use Rattle.span_fields.specs.Sound.{IsTrace}
 use Rattle.block_info.specs.declared.info.StripeInfo.{StripeInfo}
 use Rattle.block_info.specs.InfoParts.{InfoParts}
-use Rattle.block_index.specs.Bloom.{bloom_bytes, filter_pages}
-use Rattle.block_index.specs.Index.{entries, index_bytes, traces}
+use Rattle.block_index.specs.Index.{index_bytes}
 use Rattle.block_rows.specs.declared.tail.Tail.{Tail}
 use Rattle.block_rows.specs.Tails.{IsTailOf}
 use Rattle.block_format.specs.declared.header.Header.{Header}
-use Rattle.block_format.specs.Blocks.{BlockHasHeader, BlockHasInfo, StripesHaveEntries, form_of_rows, ids_of, index_page_of, info_of, is_rich}
-use Rattle.block_format.specs.Headers.{AreFromPage, CanBeHeader, HasMoments, HeaderHolds, header_pages}
+use Rattle.block_format.specs.Blocks.{BlockHasHeader, BlockHasInfo, form_of_rows, ids_of, info_of, is_rich}
+use Rattle.block_format.specs.Headers.{CanBeHeader, HeaderHolds, header_pages}
 use Rattle.block_format.specs.StripeReadings.{ascend}
-use Rattle.block_format.specs.Stripes.{IsKeptRow, is_extended}
-use Rattle.block_build.specs.Drafts.{AreStripes, IsDraft, header_with}
+use Rattle.span_types.specs.First.{IsFirstOf}
+use Rattle.block_build.specs.declared.build.BuiltBlock.{BuiltBlock}
+use Rattle.block_build.specs.Built.{IsBlockOf}
+use Rattle.block_build.specs.Drafts.{IsDraft, header_with}
 
 -- ---- what the calls on a draft ask for
 
@@ -83,3 +81,8 @@ described form rows bytes whole front stripes tail header info draft tail_is hea
       parts = subst (λ (h : Header). BlockHasHeader h whole rows) (sym header_is) parts;
       info_is = info_is ∙ ap (λ (k : ℕ). info_of k 0 header (length rows)) file ∙ ap (λ (k : ℕ). info_of info.file k header (length rows)) level;
     }
+
+-- what is built of the first occurrences of rows is the block of the rows
+pub made_block : {E : Type 0} (r : Result BuiltBlock E) (rows firsts : List Row) → IsFirstOf rows firsts → IfOk r (λ b. BlockHasInfo b.info b.bytes firsts) → IfOk r (λ b. IsBlockOf rows b)
+made_block (Ok b) rows firsts is h = record { firsts = firsts; firsts_are = is; describes = h }
+made_block (Err e) rows firsts is h = tt

@@ -50,7 +50,8 @@ fn block_of(alloc: Global, rows: Rows) -> Result<BuiltBlock, Memory>
     let form = form_of(rows.as_slice());
     let ids = ids_of(alloc, rows.as_slice())?;
     let tail = tail_of(alloc, &ids)?;
-    let Draft { bytes, stripes } = draft_of(alloc, rows, form)?;
+    let draft = draft_of(alloc, rows, form)?;
+    let Draft { bytes, stripes } = draft;
     let header = header_of(form, stripes, &tail);
     let front = write_header(alloc, &header)?;
     header_is_pages();
