@@ -1,7 +1,8 @@
 //! A whole block, read of the bytes of its file.
 
-ghost use Rattle.std.specs.Prelude.{◌≡◌};
+ghost use Rattle.std.specs.Prelude.{◌≡◌, IfOk, length};
 ghost use Rattle.span_fields.specs.Breaks.{Answers};
+ghost use Rattle.block_format.specs.Headers.{CanBeHeader};
 ghost use Rattle.block_read.specs.BlockReadings.{block_at, listed_at};
 
 use crate::header::header;
@@ -25,7 +26,8 @@ pub struct Block {
 /// The block that these bytes are.
 #[tactic(auto, unfolding(crate::specs::BlockReadings::block_at))]
 pub fn block_of(alloc: Global, bytes: &[u8]) -> Result<Block, Break>
-    ensures { Answers (λ x. x) result (block_at bytes.now) }
+    ensures answers { Answers (λ x. x) result (block_at bytes.now) }
+    ensures rules { IfOk result (λ block. CanBeHeader block.header) }
 {
     let header = header(alloc, bytes)?;
     let rows = stripes(alloc, bytes, &header)?;
@@ -43,7 +45,9 @@ pub fn block_of(alloc: Global, bytes: &[u8]) -> Result<Block, Break>
 /// The block that these bytes are, where its list entry says so many rows.
 #[tactic(auto, unfolding(crate::specs::BlockReadings::listed_at))]
 pub fn listed(alloc: Global, bytes: &[u8], rows: u32) -> Result<Block, Break>
-    ensures { Answers (λ x. x) result (listed_at rows bytes.now) }
+    ensures answers { Answers (λ x. x) result (listed_at rows bytes.now) }
+    ensures rules { IfOk result (λ block. CanBeHeader block.header) }
+    ensures count { IfOk result (λ block. length block.rows ≡ rows) }
 {
     let block = block_of(alloc, bytes)?;
     if block.rows.len() != rows as usize {

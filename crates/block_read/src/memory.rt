@@ -60,11 +60,7 @@ impl Pages for MemPages {
             self.faults = self.faults.saturating_add(1);
             return Err(Failed);
         }
-        let bytes = if block == self.file {
-            self.bytes.as_slice()
-        } else {
-            &[]
-        };
+        let bytes = bytes_of(&self.bytes, block == self.file);
         copy_page(bytes, page, buf);
         Ok(())
     }
@@ -76,13 +72,23 @@ fn is_listed(failing: &[u64], number: u64) -> bool
     failing.iter().any(|n| *n == number)
 }
 
+/// The bytes of a file: these, or none.
+fn bytes_of(bytes: &Bytes, is_it: bool) -> &[u8]
+    ensures { result.now ≡ (if is_it then bytes.now else []) }
+{
+    if is_it {
+        return bytes.as_slice();
+    }
+    &[]
+}
+
 /// Copies the page of these bytes with that number, and zeros past their end.
 fn copy_page(bytes: &[u8], page: u64, buf: &mut [u8; 4096])
     ensures { buf.new ≡ page_of bytes.now page }
 {
     let first = page.saturating_mul(PAGE_BYTES).min(bytes.len() as u64) as usize;
     let rest = &bytes[first..];
-    for (index, byte) in buf.iter_mut().enumerate() {
-        *byte = if index < rest.len() { rest[index] } else { 0 };
-    }
+    let count = rest.len().min(buf.len());
+    *buf = [0; 4096];
+    buf[..count].copy_from_slice(&rest[..count]);
 }
