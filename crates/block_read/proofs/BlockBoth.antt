@@ -1,7 +1,8 @@
 -- A whole block, both ways.
-use Rattle.std.proofs.Common.{◌≡◌, ℕ, zero, suc, ◌+◌, ◌-◌, ◌*◌, ◌/◌, ◌%◌, ◌<◌, ◌≤◌, ◌^◌, min, Bool, true, false, ◌&&◌, cond, eqb, leb, List, [], ◌∷◌, ◌++◌, length, take, drop, Option, Some, None, Result, Ok, Err, append_assoc, refl, sym, ap, subst, ◌∙◌, arith}
+use Rattle.std.proofs.Common.{◌≡◌, ℕ, zero, suc, ◌+◌, ◌-◌, ◌*◌, ◌/◌, ◌%◌, ◌<◌, ◌≤◌, ◌^◌, min, Bool, true, false, ◌&&◌, cond, eqb, leb, List, [], ◌∷◌, ◌++◌, length, take, drop, replicate, Option, Some, None, Result, Ok, Err, append_assoc, refl, sym, ap, subst, ◌∙◌, arith}
 use Rattle.std.specs.Int.{w32, div_ceil, from_le_bytes}
 use Rattle.std.specs.Prelude.{sum_by}
+use Rattle.std.specs.List.{flat_map}
 use Rattle.std.proofs.lemmas.Bool.{and_from, and_parts, eq-eqb, eqb-true, le-leb}
 use Rattle.std.proofs.lemmas.List.{drop-drop, drop_at, length-append, take-append-drop, take_at}
 use Rattle.std.proofs.lemmas.List.Sums.{sum_by-cons}
@@ -17,7 +18,8 @@ use Rattle.block_index.specs.Index.{entries, index_bytes, traces}
 use Rattle.block_format.specs.declared.header.Header.{Header}
 use Rattle.block_format.specs.Blocks.{BlockHasHeader, BlockHolds, StripesHaveEntries, form_of_rows, ids_of, index_page_of}
 use Rattle.block_format.specs.HeaderReadings.{header_at}
-use Rattle.block_format.specs.Headers.{HeaderHolds, counts_bytes, fields_bytes, form_bytes, header_pages}
+use Rattle.block_format.specs.Headers.{HeaderHolds, counts_bytes, entry_bytes, fields_bytes, form_bytes}
+use Rattle.block_format.specs.StripeEncodings.{fill_size}
 use Rattle.block_format.specs.StripeReadings.{unless_some}
 use Rattle.block_format.proofs.HeaderLaws.{again_header, header_size, meant_header}
 use Rattle.block_read.specs.declared.block.Block.{Block}
@@ -30,7 +32,10 @@ use Rattle.block_read.proofs.StripesBoth.{Tested, fit_part, pages_in, passed, st
 -- a header begins with its form, and the number of its pages comes then
 front_begins : (front rest : List ℕ) (header : Header) → HeaderHolds front header → (more : List ℕ) × (front ++ rest ≡ form_bytes header.form ++ (fixed32_bytes header.pages ++ more))
 unfolding counts_bytes
-front_begins front rest header holds = (_, ap (λ (l : List ℕ). l ++ rest) holds.bytes_are)
+front_begins front rest header holds =
+    let counts = fixed32_bytes (length header.stripes) ++ (fixed32_bytes header.index_pages ++ fixed32_bytes header.bloom_pages) in
+    let fill : List ℕ = replicate (fill_size (length (fields_bytes header))) 0 in
+    (((counts ++ flat_map entry_bytes header.stripes) ++ fill) ++ rest, ap (λ (l : List ℕ). l ++ rest) holds.bytes_are)
 
 front_is : (bytes front rest : List ℕ) (header : Header) → HeaderHolds front header → bytes ≡ front ++ rest → front_pages bytes ≡ header.pages
 front_is bytes front rest header holds is =
