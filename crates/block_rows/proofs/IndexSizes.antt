@@ -3,7 +3,7 @@ use Rattle.std.proofs.Common.{◌≡◌, ℕ, zero, suc, ◌+◌, ◌-◌, ◌*�
 use Rattle.std.specs.Int.{div_ceil}
 use Rattle.std.specs.List.{AllByRecursion, flat_map}
 use Rattle.std.proofs.lemmas.List.{length-append, length-map, length-replicate, length-take}
-use Rattle.std.proofs.lemmas.List.Elements.{recursion_from_All}
+use Rattle.std.proofs.lemmas.List.Elements.{All-push, recursion_from_All}
 use Rattle.span_types.specs.declared.ids.TraceId.{TraceId}
 use Rattle.byte_fields.specs.Spelling.{fixed32_bytes}
 use Rattle.block_index.specs.declared.entries.IndexEntry.{IndexEntry}
@@ -27,6 +27,9 @@ kept_rest P (suc n) (x ∷ xs) all = kept_rest P n xs all.1
 
 abbrev pub IsLong : TraceId → Type 0
 IsLong id = length id.0 ≡ 16
+
+pub long_more : (ids new : List TraceId) (id : TraceId) → All IsLong ids → IsLong id → new ≡ ids ++ id ∷ [] → All IsLong new
+long_more ids new id all long is = subst (All IsLong) (sym is) (All-push IsLong ids id all long)
 
 abbrev HasLong : IndexEntry → Type 0
 HasLong e = length e.id.0 ≡ 16

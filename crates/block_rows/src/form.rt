@@ -1,10 +1,10 @@
 //! What rows tell of their block: its form, and their trace ids.
 
-ghost use Rattle.std.specs.Prelude.{◌≡◌, IfOk};
-ghost use Rattle.std.specs.List.{list_any};
+ghost use Rattle.std.specs.Prelude.{◌≡◌, IfOk, length};
+ghost use Rattle.std.specs.List.{All, list_any};
 ghost use Rattle.block_format.specs.Blocks.{form_of_rows, ids_of, is_rich};
 
-use span_types::{Ids, Memory, Row};
+use span_types::{Ids, Memory, Row, TraceId};
 use std::alloc::Global;
 
 /// The form of a block of these rows: 2 where one has an event or a link, else 1.
@@ -27,13 +27,22 @@ fn is_rich(row: &Row) -> bool
     row.span.events.len() != 0 || row.span.links.len() != 0
 }
 
-/// The trace id of each row.
+/// The trace id of each row. Each has 16 bytes, as its type promises.
 pub fn ids_of(alloc: Global, rows: &[Row]) -> Result<Ids, Memory>
-    ensures { IfOk result (λ ids. ids ≡ ids_of rows.now) }
+    ensures ids { IfOk result (λ ids. ids ≡ ids_of rows.now) }
+    ensures long { IfOk result (λ ids. All (λ id. length id.0 ≡ 16) ids) }
 {
     let mut ids = Vec::with_capacity(alloc, rows.len())?;
     for row in rows {
-        ids.push(row.span.trace)?;
+        ids.push(long(row.span.trace))?;
     }
     Ok(Ids::of(ids))
+}
+
+/// The id itself, of which its type promises that it has 16 bytes.
+fn long(id: TraceId) -> TraceId
+    ensures same { result ≡ id }
+    ensures long { length result.0 ≡ 16 }
+{
+    id
 }

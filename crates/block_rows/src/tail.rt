@@ -5,7 +5,7 @@ ghost use Rattle.std.specs.List.{All};
 ghost use Rattle.block_rows.specs.Tails.{IsTailOf};
 
 use block_index::{bloom_pages, filters_hold_their_traces, index_pages};
-use span_types::{Bytes, Ids, Memory, TraceId};
+use span_types::{Bytes, Ids, Memory};
 use std::alloc::Global;
 
 const PAGE_BYTES: usize = 4096;
@@ -26,33 +26,17 @@ pub struct Tail {
 /// What comes after the stripes of rows with these trace ids, of which there are fewer than 2^32. They stand in the order of the
 /// rows.
 pub fn tail_of(alloc: Global, ids: &Ids) -> Result<Tail, Memory>
-    requires { length ids.now < 2 ^ 32 }
+    requires few { length ids.now < 2 ^ 32 }
+    requires long { All (λ id. length id.0 ≡ 16) ids.now }
     ensures { IfOk result (λ tail. IsTailOf ids.now tail) }
 {
     let index = index_pages(alloc, ids)?;
     let bloom = bloom_pages(alloc, ids)?;
     filters_hold_their_traces();
-    each_is_long(ids.as_slice());
     Ok(Tail {
         index_pages: (index.len() / PAGE_BYTES) as u32,
         index,
         bloom_pages: (bloom.len() / PAGE_BYTES) as u32,
         bloom,
     })
-}
-
-/// What the type of ids promises, for the proof of the caller: each has 16 bytes. It does nothing.
-fn each_is_long(ids: &[TraceId])
-    ensures { All (λ id. length id.0 ≡ 16) ids.now }
-{
-    for id in ids {
-        is_long(id);
-    }
-}
-
-/// What the type of an id promises: it has 16 bytes.
-fn is_long(id: &TraceId)
-    ensures { length id.now.0 ≡ 16 }
-{
-    let _value = *id;
 }
