@@ -5,11 +5,11 @@ use Rattle.std.specs.List.{list_all}
 use Rattle.std.proofs.lemmas.List.{append-nil, drop_all, drop_at, drop_min, drop-append-le, length-append, length-drop, length-replicate, length-take, length-take-le, take-append-drop, take_at, take_min}
 use Rattle.span_types.specs.declared.spans.Row.{Row}
 use Rattle.block_info.specs.declared.info.StripeInfo.{StripeInfo}
-use Rattle.block_format.specs.Blocks.{StripeHasEntry, StripesHaveEntries, form_of_rows}
+use Rattle.block_format.specs.Blocks.{IsEarliest, IsLatest, StripeHasEntry, StripesHaveEntries, form_of_rows}
 use Rattle.block_format.specs.Headers.{AreFromPage, HasMoments, HasRows, IsAtPage, header_pages}
-use Rattle.block_format.specs.StripeEncodings.{fill_size, padded}
+use Rattle.block_format.specs.StripeEncodings.{after_length, content_bytes, fill_size, padded, stripe_bytes}
 use Rattle.block_format.specs.StripeReadings.{ascend}
-use Rattle.block_format.specs.Stripes.{has_form, is_extended}
+use Rattle.block_format.specs.Stripes.{StripeHolds, has_form, is_extended}
 use Rattle.block_build.specs.Drafts.{AddsStripe, AreStripes, DraftSoFar, IsDraft}
 use Rattle.block_build.proofs.Parts.{all_rest, ascend_rest, have_form}
 
@@ -110,3 +110,20 @@ pub padded_pages : (bytes : List ℕ) → length (padded bytes) ≡ 4096 * (leng
 padded_pages bytes =
     let size : length (padded bytes) ≡ length bytes + fill_size (length bytes) = length-append bytes (replicate (fill_size (length bytes)) 0) ∙ ap (λ (k : ℕ). length bytes + k) (length-replicate {A = ℕ} (fill_size (length bytes)) 0) in
     omega (arith, size)
+
+-- what was written of a stripe, and its entry
+pub stripe_added : (form : ℕ) (rows : List Row) (old new stripe : List ℕ) (entry : StripeInfo) → StripeHolds form stripe rows → new ≡ old ++ stripe → length old % 4096 ≡ 0 → length new < 2 ^ 63 → entry.page ≡ length old / 4096 → entry.pages ≡ length stripe / 4096
+    → entry.rows ≡ length rows → IsEarliest rows entry.earliest → IsLatest rows entry.latest → HasMoments entry → AddsStripe form rows old new entry
+unfolding stripe_bytes
+stripe_added form rows old new stripe entry holds added whole small page pages count earliest latest moments =
+    let text = after_length (content_bytes (is_extended form) rows) in
+    let parts : length stripe ≡ 4096 * (length stripe / 4096) = ap length holds.bytes_are ∙ padded_pages text ∙ ap (λ (l : List ℕ). 4096 * (length l / 4096)) (sym holds.bytes_are) in
+    let size : length new ≡ length old + length stripe = ap length added ∙ length-append old stripe in
+    record {
+      stripe = stripe;
+      added = added;
+      page = omega (arith, whole, page);
+      ends = omega (arith, small, size, parts, whole, page, pages);
+      has = record { holds = holds; pages = omega (arith, parts, pages); count = sym count; earliest = earliest; latest = latest };
+      moments = moments;
+    }

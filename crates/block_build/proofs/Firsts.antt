@@ -91,7 +91,7 @@ some_first rows firsts r (Some x) is some same e = (let there = is.whole (row_ke
 
 some_firsts : (rows firsts : List Row) → IsFirstOf rows firsts → 1 ≤ length rows → 1 ≤ length firsts
 some_firsts [] firsts is some = omega (arith, some)
-some_firsts (r ∷ rs) firsts is some = some_first (r ∷ rs) firsts r (first_at (row_key r) (r ∷ rs)) is some refl refl
+some_firsts (r ∷ rs) firsts is some = some_first (r ∷ rs) firsts r (first_at (row_key r) (r ∷ rs)) is (omega (arith, some)) refl refl
 
 -- ---- the whole
 

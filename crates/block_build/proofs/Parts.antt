@@ -1,8 +1,8 @@
 -- Parts of rows in block order: each of them can be a stripe.
-use Rattle.std.proofs.Common.{◌≡◌, ℕ, zero, suc, ◌+◌, ◌<◌, ◌≤◌, Bool, true, false, not, ◌||◌, ◌&&◌, cond, eqb, ltb, List, [], ◌∷◌, ◌++◌, length, take, drop, append_assoc, if◌then◌else◌, refl, ap, ◌∙◌, sym, arith}
+use Rattle.std.proofs.Common.{◌≡◌, ℕ, zero, suc, ◌+◌, ◌<◌, ◌≤◌, min, Bool, true, false, not, ◌||◌, ◌&&◌, cond, eqb, ltb, List, [], ◌∷◌, ◌++◌, length, take, drop, append_assoc, if◌then◌else◌, refl, ap, ◌∙◌, sym, arith}
 use Rattle.std.specs.List.{list_all, list_any}
 use Rattle.std.specs.Ordering.{is_lt}
-use Rattle.std.proofs.lemmas.Bool.{and_from, and_parts}
+use Rattle.std.proofs.lemmas.Bool.{and_from, and_parts, le-ltb, ne_eqb}
 use Rattle.std.proofs.lemmas.List.{append-nil, drop_all, drop_at, length-take, take_all, take_at}
 use Rattle.span_types.specs.declared.spans.Row.{Row}
 use Rattle.span_types.specs.Orders.{block_order}
@@ -77,12 +77,16 @@ have_form form rows e = ap (λ (f : ℕ). list_all (has_form (is_extended f)) ro
 
 -- ---- stripes
 
+neither : (a b : Bool) → a ≡ false → b ≡ false → not (a || b) ≡ true
+neither true b e f = absurd (cc)
+neither false b e f = ap not f
+
 sized : (n : ℕ) → 1 ≤ n → n ≤ 256 → not (is_no_size n) ≡ true
-sized n some few = grind arith
+sized n some few = neither (eqb n 0) (ltb 256 n) (ne_eqb n 0 (λ e. omega (arith, some, e))) (le-ltb 256 n few)
 
 pub first_stripe : (form : ℕ) (rows : List Row) → 1 ≤ length rows → ascend rows ≡ true → list_all (has_form (is_extended form)) rows ≡ true → can_be_stripe (is_extended form) (take 256 rows) ≡ true
 first_stripe form rows some order fits =
-    let size : length (take 256 rows) ≡ _ = length-take 256 rows in
+    let size : length (take 256 rows) ≡ min 256 (length rows) = length-take 256 rows in
     and_from (not (is_no_size (length (take 256 rows)))) (ascend (take 256 rows) && list_all (has_form (is_extended form)) (take 256 rows))
     (sized (length (take 256 rows)) (omega (arith, size)) (omega (arith, size)))
     (and_from (ascend (take 256 rows)) (list_all (has_form (is_extended form)) (take 256 rows)) (ascend_front 256 rows order) (all_front (has_form (is_extended form)) 256 rows fits))
