@@ -9,9 +9,9 @@ use Rattle.block_format.specs.Blocks.{IsEarliest, IsLatest, StripeHasEntry, Stri
 use Rattle.block_format.specs.Headers.{AreFromPage, HasMoments, HasRows, IsAtPage, header_pages}
 use Rattle.block_format.specs.StripeEncodings.{after_length, content_bytes, fill_size, padded, stripe_bytes}
 use Rattle.block_format.specs.StripeReadings.{ascend}
-use Rattle.block_format.specs.Stripes.{StripeHolds, has_form, is_extended}
+use Rattle.block_format.specs.Stripes.{StripeHolds, can_be_stripe, has_form, is_extended}
 use Rattle.block_build.specs.Drafts.{AddsStripe, AreStripes, DraftSoFar, IsDraft}
-use Rattle.block_build.proofs.Parts.{all_rest, ascend_rest, have_form}
+use Rattle.block_build.proofs.Parts.{all_rest, ascend_rest, first_stripe, have_form}
 
 -- ---- one stripe before others
 
@@ -42,10 +42,20 @@ one_before form page entry stripe rest at ends has moments some later more are =
 same_page : (old page other : ℕ) → old ≡ 4096 * page → old ≡ 4096 * other → other ≡ page
 same_page old page other a b = omega (arith, a, b)
 
-pub draft_step : (form front : ℕ) (rows rest next : List Row) (i j : ℕ) (bytes new : List ℕ) (stripes all : List StripeInfo) (entry : StripeInfo)
-    → DraftSoFar form front rows rest i bytes stripes → 1 ≤ length rest → AddsStripe form (take 256 rest) bytes new entry → next ≡ drop 256 rest → all ≡ stripes ++ entry ∷ [] → j ≡ i + 1
+some_left : (form front count : ℕ) (rows rest : List Row) (i : ℕ) (bytes : List ℕ) (stripes : List StripeInfo) → DraftSoFar form front rows rest i bytes stripes → i < count → count ≡ div_ceil (length rows) 256 → 1 ≤ length rest
+some_left form front count rows rest i bytes stripes so_far low count_is = omega (arith, so_far.left, low, count_is)
+
+-- the next rows can be a stripe
+pub draft_can : (form front count : ℕ) (rows rest taken : List Row) (i : ℕ) (bytes : List ℕ) (stripes : List StripeInfo) → DraftSoFar form front rows rest i bytes stripes → i < count → count ≡ div_ceil (length rows) 256 → taken ≡ take 256 rest → can_be_stripe (is_extended form) taken ≡ true
+draft_can form front count rows rest taken i bytes stripes so_far low count_is taken_is =
+    ap (can_be_stripe (is_extended form)) taken_is ∙ first_stripe form rest (some_left form front count rows rest i bytes stripes so_far low count_is) so_far.order so_far.fits
+
+pub draft_step : (form front count : ℕ) (rows rest taken next : List Row) (i j : ℕ) (bytes new : List ℕ) (stripes all : List StripeInfo) (entry : StripeInfo)
+    → DraftSoFar form front rows rest i bytes stripes → i < count → count ≡ div_ceil (length rows) 256 → AddsStripe form taken bytes new entry → taken ≡ take 256 rest → next ≡ drop 256 rest → all ≡ stripes ++ entry ∷ [] → j ≡ i + 1
     → DraftSoFar form front rows next j new all
-draft_step form front rows rest next i j bytes new stripes all entry so_far some adds next_is all_is j_is =
+draft_step form front count rows rest taken next i j bytes new stripes all entry so_far low count_is added taken_is next_is all_is j_is =
+    let adds = subst (λ (l : List Row). AddsStripe form l bytes new entry) taken_is added in
+    let some = some_left form front count rows rest i bytes stripes so_far low count_is in
     let n = 4096 * front in
     let stripe = adds.stripe in
     let page : entry.page ≡ so_far.page = same_page (length bytes) so_far.page entry.page so_far.whole adds.page in
@@ -67,10 +77,10 @@ draft_step form front rows rest next i j bytes new stripes all entry so_far some
     } in
     subst (λ (l : List StripeInfo). DraftSoFar form front rows next j new l) (sym all_is) (subst (λ (r : List Row). DraftSoFar form front rows r j new (stripes ++ entry ∷ [])) (sym next_is) made)
 
-pub draft_begins : (form front : ℕ) (rows rest : List Row) (bytes : List ℕ) (stripes : List StripeInfo) → bytes ≡ replicate (front * 4096) 0 → rest ≡ rows → stripes ≡ [] → ascend rows ≡ true → form ≡ form_of_rows rows → DraftSoFar form front rows rest 0 bytes stripes
+pub draft_begins : (form front : ℕ) (rows rest : List Row) (bytes : List ℕ) (stripes : List StripeInfo) → length bytes ≡ front * 4096 → rest ≡ rows → stripes ≡ [] → ascend rows ≡ true → form ≡ form_of_rows rows → DraftSoFar form front rows rest 0 bytes stripes
 draft_begins form front rows rest bytes stripes zeros same none order is =
     let n = 4096 * front in
-    let size : length bytes ≡ 4096 * front = ap length zeros ∙ length-replicate {A = ℕ} (front * 4096) 0 ∙ omega arith in
+    let size : length bytes ≡ 4096 * front = omega (arith, zeros) in
     let nothing : drop n bytes ≡ [] = drop_all n bytes (omega (arith, size)) in
     let made : DraftSoFar form front rows rows 0 bytes [] = record {
       page = front;
@@ -87,10 +97,10 @@ no_rows_left : (form page : ℕ) (rest : List Row) → length rest ≡ 0 → Are
 no_rows_left form page [] none = record { entries = (refl, refl); pages = tt; moments = tt; count = refl }
 no_rows_left form page (row ∷ rest) none = absurd (omega (arith, none))
 
-pub draft_ends : (form front count : ℕ) (rows rest : List Row) (bytes : List ℕ) (stripes : List StripeInfo) → DraftSoFar form front rows rest count bytes stripes → count ≡ div_ceil (length rows) 256 → front ≡ header_pages count → IsDraft form rows bytes stripes
-draft_ends form front count rows rest bytes stripes so_far count_is front_is =
+pub draft_ends : (form front count i : ℕ) (rows rest : List Row) (bytes : List ℕ) (stripes : List StripeInfo) → DraftSoFar form front rows rest i bytes stripes → count ≤ i → count ≡ div_ceil (length rows) 256 → front ≡ header_pages count → IsDraft form rows bytes stripes
+draft_ends form front count i rows rest bytes stripes so_far high count_is front_is =
     let n = 4096 * front in
-    let none : length rest ≡ 0 = omega (arith, so_far.left, count_is) in
+    let none : length rest ≡ 0 = omega (arith, so_far.left, high, count_is) in
     let whole = so_far.goes_on [] [] (no_rows_left form so_far.page rest none) in
     let are : AreStripes form front stripes (drop n bytes) rows =
     subst (λ (l : List StripeInfo). AreStripes form front l (drop n bytes) rows) (append-nil stripes)

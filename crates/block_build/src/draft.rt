@@ -1,13 +1,14 @@
 //! A block whose header isn't written yet.
 
 ghost use Rattle.std.specs.Prelude.{◌≡◌, ◌%◌, ◌≤◌, IfOk, length, true};
+ghost use Rattle.std.specs.Int.{div_ceil};
 ghost use Rattle.block_build.specs.Drafts.{AddsStripe, IsDraft};
 ghost use Rattle.block_format.specs.Blocks.{form_of_rows};
 ghost use Rattle.block_format.specs.Headers.{header_pages};
 ghost use Rattle.block_format.specs.StripeReadings.{ascend};
 ghost use Rattle.block_format.specs.Stripes.{can_be_stripe, is_extended};
 
-use crate::rows::{STRIPE_ROWS, earliest, latest, next_rows};
+use crate::rows::{STRIPE_ROWS, earliest, latest, next_rows, one_by_one};
 use block_format::write_stripe;
 use block_info::StripeInfo;
 use span_types::{Memory, Rows};
@@ -30,11 +31,11 @@ pub fn draft_of(alloc: Global, rows: Rows, form: u8) -> Result<Draft, Memory>
     requires form { form ≡ form_of_rows rows }
     ensures { IfOk result (λ draft. IsDraft form rows draft.bytes.items draft.stripes.items) }
 {
-    let count = rows.len().div_ceil(STRIPE_ROWS);
+    let count = stripe_count(&rows);
     let front = header_pages(count);
-    let mut bytes = vec![in alloc; 0; front * PAGE_BYTES]?;
+    let mut bytes = zeros(alloc, front * PAGE_BYTES)?;
     let mut stripes = Vec::with_capacity(alloc, count)?;
-    let mut rest = rows.into_vec().into_iter();
+    let mut rest = one_by_one(rows);
     for _ in 0..count {
         let rows = next_rows(alloc, &mut rest)?;
         let stripe = put_stripe(alloc, &mut bytes, &rows, form)?;
@@ -43,10 +44,25 @@ pub fn draft_of(alloc: Global, rows: Rows, form: u8) -> Result<Draft, Memory>
     Ok(Draft { bytes, stripes })
 }
 
+/// How many stripes rows have.
+fn stripe_count(rows: &Rows) -> usize
+    ensures { result ≡ div_ceil (length rows.now) 256 }
+{
+    rows.len().div_ceil(STRIPE_ROWS)
+}
+
+/// So many zeros.
+fn zeros(alloc: Global, size: usize) -> Result<Vec<u8>, Memory>
+    ensures { IfOk result (λ bytes. length bytes.items ≡ size) }
+{
+    Ok(vec![in alloc; 0; size]?)
+}
+
 /// How many pages the header of so many stripes has.
 pub fn header_pages(stripes: usize) -> usize
     requires { stripes ≤ 4096 }
-    ensures { result ≡ header_pages stripes }
+    ensures pages { result ≡ header_pages stripes }
+    ensures few { result ≤ 33 }
 {
     (20 + 32 * stripes).div_ceil(PAGE_BYTES)
 }

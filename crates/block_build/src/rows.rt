@@ -35,6 +35,13 @@ pub fn latest(rows: &[Row]) -> u64
     latest
 }
 
+/// Rows to be taken one after another.
+pub fn one_by_one(rows: Rows) -> IntoIter<Row>
+    ensures { into_iter_items result ≡ rows }
+{
+    rows.into_vec().into_iter()
+}
+
 /// Takes the rows of the next stripe from those that are left: 256, or all of them.
 pub fn next_rows(alloc: Global, rest: &mut IntoIter<Row>) -> Result<Rows, Memory>
     ensures taken { IfOk result (λ taken. taken ≡ take 256 (into_iter_items rest.old)) }
