@@ -15,7 +15,7 @@ use Rattle.block_format.specs.Blocks.{BlockHasHeader, BlockHasInfo, form_of_rows
 use Rattle.block_format.specs.Headers.{CanBeHeader, HeaderHolds, header_pages}
 use Rattle.block_format.specs.StripeReadings.{ascend}
 use Rattle.span_types.specs.First.{IsFirstOf}
-use Rattle.block_build.specs.declared.build.BuiltBlock.{BuiltBlock}
+use Rattle.block_build.specs.declared.building.BuiltBlock.{BuiltBlock}
 use Rattle.block_build.specs.Built.{IsBlockOf}
 use Rattle.block_build.specs.Drafts.{IsDraft, header_with}
 

@@ -3,7 +3,7 @@ use Rattle.std.specs.Prelude.{◌≡◌, ℕ, Bool, List}
 use Rattle.span_types.specs.declared.spans.Row.{Row}
 use Rattle.span_types.specs.First.{IsFirstOf}
 use Rattle.block_format.specs.Blocks.{BlockHasInfo}
-use Rattle.block_build.specs.declared.build.BuiltBlock.{BuiltBlock}
+use Rattle.block_build.specs.declared.building.BuiltBlock.{BuiltBlock}
 
 -- The bytes stand for the first occurrences of these rows and for nothing else, and the information describes them.
 pub record IsBlockOf (rows : List Row) (built : BuiltBlock) : Type 0 where

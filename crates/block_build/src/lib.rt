@@ -3,8 +3,8 @@
 //! `docs/BLOCK-FORMAT.md` has the bytes; what they stand for is in `block_format/specs/Blocks.antt`.
 #![tactic(auto)]
 
-mod build;
+mod building;
 mod draft;
 mod rows;
 
-pub use build::{BuiltBlock, build};
+pub use building::{BuiltBlock, build};

@@ -16,7 +16,8 @@ pub fn earliest(rows: &[Row]) -> u64
     requires { 1 ≤ length rows.now }
     ensures { IsEarliest rows.now result }
 {
-    let mut earliest = rows[0].span.start;
+    let first = &rows[0];
+    let mut earliest = first.span.start;
     for row in rows {
         earliest = earliest.min(row.span.start);
     }
@@ -28,7 +29,8 @@ pub fn latest(rows: &[Row]) -> u64
     requires { 1 ≤ length rows.now }
     ensures { IsLatest rows.now result }
 {
-    let mut latest = rows[0].span.start;
+    let first = &rows[0];
+    let mut latest = first.span.start;
     for row in rows {
         latest = latest.max(row.span.start);
     }

@@ -1,7 +1,7 @@
 use Rattle.std.proofs.Common.{arith}
 use Rattle.block_build.proofs.Firsts.{can_be_block}
 use Rattle.block_build.proofs.Whole.{made_block}
-use Rattle.block_build.proofs.build.build.Goals as goal
+use Rattle.block_build.proofs.building.build.Goals as goal
 
 pub block_of-requires-clause-some : goal.block_of-requires-clause-some
 block_of-requires-clause-some c = (can_be_block c.args.rows c.in_ok-firsts.firsts c.in_ok-firsts.ensures c.requires.some).some

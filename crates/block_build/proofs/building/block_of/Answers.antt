@@ -7,7 +7,7 @@ use Rattle.block_format.specs.declared.header.Header.{Header}
 use Rattle.block_format.specs.Blocks.{form_of_rows, ids_of, info_of}
 use Rattle.block_format.specs.Headers.{CanBeHeader}
 use Rattle.block_build.proofs.Whole.{described, is_ready}
-use Rattle.block_build.proofs.build.block_of.Goals as goal
+use Rattle.block_build.proofs.building.block_of.Goals as goal
 
 pub tail_of-requires-clause-few : goal.tail_of-requires-clause-few
 tail_of-requires-clause-few c =
