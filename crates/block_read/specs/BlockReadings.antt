@@ -9,10 +9,11 @@ use Rattle.span_types.specs.Orders.{block_order}
 use Rattle.byte_fields.specs.Reading.{◌>>=◌, fixed64_at}
 use Rattle.span_fields.specs.Breaks.{in_part}
 use Rattle.block_info.specs.declared.info.StripeInfo.{StripeInfo}
+use Rattle.block_info.specs.InfoParts.{InfoParts}
 use Rattle.block_index.specs.Bloom.{bloom_bytes, filter_pages}
 use Rattle.block_index.specs.Index.{entries, index_bytes, traces}
 use Rattle.block_format.specs.declared.header.Header.{Header}
-use Rattle.block_format.specs.Blocks.{form_of_rows, ids_of, index_page_of}
+use Rattle.block_format.specs.Blocks.{form_of_rows, ids_of, index_page_of, info_of}
 use Rattle.block_format.specs.HeaderReadings.{header_at}
 use Rattle.block_format.specs.StripeReadings.{stripe_at, unless_some}
 use Rattle.block_format.specs.Stripes.{is_extended}
@@ -125,3 +126,7 @@ unfoldable pub listed_at : ℕ → List ℕ → Result Block ℕ
 listed_at rows bytes = do
   block ← block_at bytes
   unless_not (length block.rows == rows) 0 block
+
+-- what is known of a block that was read, by its file and its level
+abbrev pub info_read : ℕ → ℕ → Block → InfoParts
+info_read file level block = info_of file level block.header (length block.rows)

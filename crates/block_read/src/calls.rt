@@ -1,10 +1,9 @@
 //! The calls that read a block.
 
-ghost use Rattle.std.specs.Prelude.{◌≡◌, ◌*◌, ◌≤◌, IsTrue, length};
+ghost use Rattle.std.specs.Prelude.{◌≡◌, ◌*◌, ◌≤◌, IsTrue};
 ghost use Rattle.rows_by_trace.specs.Traces.{rows_of_trace};
-ghost use Rattle.block_format.specs.Blocks.{info_of};
 ghost use Rattle.block_read.specs.Answers.{AnswersOf, FailsByFault, StaysSame, in_error, made_of};
-ghost use Rattle.block_read.specs.BlockReadings.{block_at, listed_at};
+ghost use Rattle.block_read.specs.BlockReadings.{block_at, info_read, listed_at};
 ghost use Rattle.block_read.specs.Files.{first_bytes};
 
 use crate::block::{block_of, listed};
@@ -83,7 +82,7 @@ pub fn check_block<P: Pages>(
     length: u64,
 ) -> Result<BlockInfo, ReadError>
     ensures answers { IsTrue (P.tells pages.old) → AnswersOf (λ x. x) block result
-        (made_of (λ b. info_of block level b.header (length b.rows)) (listed_at rows (first_bytes length (P.held pages.old block)))) }
+        (made_of (info_read block level) (listed_at rows (first_bytes length (P.held pages.old block)))) }
     ensures stays { StaysSame P.tells P.held pages.old pages.new }
     ensures later { P.faults pages.old ≤ P.faults pages.new }
     ensures cause { FailsByFault (P.faults pages.old) (P.faults pages.new) result }

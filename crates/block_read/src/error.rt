@@ -1,5 +1,6 @@
 //! Why a block could not be read.
 
+ghost use Rattle.std.specs.Prelude.{◌≡◌};
 ghost use Rattle.block_read.specs.declared.error.ReadError.TheVariants as errors;
 
 use span_types::{Failed, Memory};
