@@ -2,6 +2,7 @@
 use Rattle.std.proofs.Common.{◌≡◌, ℕ, zero, suc, ◌+◌, ◌-◌, ◌*◌, ◌/◌, ◌%◌, ◌^◌, ◌<◌, ◌≤◌, min, Bool, true, false, eqb, List, [], ◌∷◌, ◌++◌, length, take, drop, replicate, refl, sym, ap, subst, ◌∙◌, arith, append_assoc}
 use Rattle.std.specs.Int.{div_ceil}
 use Rattle.std.specs.List.{list_all}
+use Rattle.std.proofs.lemmas.Bool.{eqb-false}
 use Rattle.std.proofs.lemmas.List.{append-nil, drop_all, drop_at, drop_min, drop-append-le, length-append, length-drop, length-replicate, length-take, length-take-le, take-append-drop, take_at, take_min}
 use Rattle.span_types.specs.declared.spans.Row.{Row}
 use Rattle.block_info.specs.declared.info.StripeInfo.{StripeInfo}
@@ -15,9 +16,16 @@ use Rattle.block_build.proofs.Parts.{all_rest, ascend_rest, first_stripe, have_f
 
 -- ---- one stripe before others
 
+some_number : (n : ℕ) → (n ≡ 0 → ⊥) → 1 ≤ n
+some_number zero other = absurd (other refl)
+some_number (suc n) other = omega arith
+
+has_rows_by : (last : Bool) (k n m : ℕ) → eqb k 0 ≡ last → k ≡ div_ceil (m - 256) 256 → n ≡ min 256 m → 1 ≤ m → HasRows last n
+has_rows_by true k n m e count is some = (omega (arith, is, some), omega (arith, is))
+has_rows_by false k n m e count is some = (let more = some_number k (eqb-false k 0 e) in omega (arith, more, count, is))
+
 has_rows : (later : List StripeInfo) (n m : ℕ) → length later ≡ div_ceil (m - 256) 256 → n ≡ min 256 m → 1 ≤ m → HasRows (eqb (length later) 0) n
-has_rows [] n m count is some = (omega (arith, is), omega (arith, is))
-has_rows (entry ∷ later) n m count is some = omega (arith, count, is)
+has_rows later n m count is some = has_rows_by (eqb (length later) 0) (length later) n m refl count is some
 
 pub one_before : (form page : ℕ) (entry : StripeInfo) (stripe : List ℕ) (rest : List Row) → entry.page ≡ page → entry.page + entry.pages ≤ 2 ^ 51 → StripeHasEntry form entry stripe (take 256 rest) → HasMoments entry → 1 ≤ length rest
     → (later : List StripeInfo) (more : List ℕ) → AreStripes form (page + entry.pages) later more (drop 256 rest) → AreStripes form page (entry ∷ later) (stripe ++ more) rest

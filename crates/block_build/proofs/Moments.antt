@@ -14,7 +14,7 @@ starts rows = map (λ row. row.span.start) rows
 start_there : (rows : List Row) (i : ℕ) (row : Row) (start : ℕ) → i < length rows → row ≡ slice_index_or rows i row → start ≡ row.span.start → Contains (starts rows) start
 start_there rows i row start low is same = (
   i,
-  omega (arith, length-map (λ (row : Row). row.span.start) rows, low),
+  omega (arith, length-map rows (λ (row : Row). row.span.start), low),
   get_or-map (λ (row : Row). row.span.start) rows i row start low ∙ ap (λ (r : Row). r.span.start) (sym is) ∙ sym same,
 )
 

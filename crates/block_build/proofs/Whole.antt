@@ -1,5 +1,5 @@
 -- A draft, its header, its index and its Bloom filters are a block.
-use Rattle.std.proofs.Common.{◌≡◌, ◌⊎◌, inl, inr, ℕ, zero, suc, ◌+◌, ◌-◌, ◌*◌, ◌/◌, ◌%◌, ◌^◌, ◌<◌, ◌≤◌, Bool, true, false, List, [], ◌∷◌, ◌++◌, length, drop, if◌then◌else◌, Result, Ok, Err, refl, sym, ap, subst, ◌∙◌, arith}
+use Rattle.std.proofs.Common.{◌≡◌, ◌⊎◌, inl, inr, ℕ, zero, suc, ◌+◌, ◌-◌, ◌*◌, ◌/◌, ◌%◌, ◌^◌, ◌<◌, ◌≤◌, Bool, true, false, List, [], ◌∷◌, ◌++◌, length, drop, append_assoc, if◌then◌else◌, Result, Ok, Err, refl, sym, ap, subst, ◌∙◌, arith}
 use Rattle.std.specs.Int.{div_ceil}
 use Rattle.std.specs.List.{list_any}
 use Rattle.std.specs.Prelude.{IfOk}
@@ -21,7 +21,10 @@ use Rattle.block_build.specs.Drafts.{IsDraft, header_with}
 
 -- ---- what the calls on a draft ask for
 
-one_or_two : (any : Bool) → ((if any then 2 else 1) ≡ 1) ⊎ ((if any then 2 else 1) ≡ 2)
+abbrev form_by : Bool → ℕ
+form_by any = if any then 2 else 1
+
+one_or_two : (any : Bool) → (form_by any ≡ 1) ⊎ (form_by any ≡ 2)
 one_or_two true = inr refl
 one_or_two false = inl refl
 
@@ -86,3 +89,9 @@ described form rows bytes whole front stripes tail header info draft tail_is hea
 pub made_block : {E : Type 0} (r : Result BuiltBlock E) (rows firsts : List Row) → IsFirstOf rows firsts → IfOk r (λ b. BlockHasInfo b.info b.bytes firsts) → IfOk r (λ b. IsBlockOf rows b)
 made_block (Ok b) rows firsts is h = record { firsts = firsts; firsts_are = is; describes = h }
 made_block (Err e) rows firsts is h = tt
+
+-- the parts of a block, one after another
+pub four_parts : (front body index bloom one two : List ℕ) → one ≡ index → two ≡ bloom → ((front ++ body) ++ one) ++ two ≡ front ++ (body ++ (index ++ bloom))
+four_parts front body index bloom one two is_one is_two =
+    ap (λ (l : List ℕ). ((front ++ body) ++ l) ++ two) is_one ∙ ap (λ (l : List ℕ). ((front ++ body) ++ index) ++ l) is_two
+    ∙ append_assoc (front ++ body) index bloom ∙ append_assoc front body (index ++ bloom)

@@ -79,8 +79,23 @@ fn joined(mut bytes: Vec<u8>, front: &[u8], tail: &Tail) -> Result<Bytes, Memory
     requires { length front.now ≤ length bytes.items }
     ensures { IfOk result (λ whole. whole ≡ front.now ++ (drop (length front.now) bytes.items ++ (tail.now.index ++ tail.now.bloom))) }
 {
-    bytes[..front.len()].copy_from_slice(front);
+    with_front(&mut bytes, front);
     bytes.extend_from_slice(tail.index.as_slice())?;
     bytes.extend_from_slice(tail.bloom.as_slice())?;
     Ok(Bytes::of(bytes))
+}
+
+/// Puts a header over the first bytes.
+fn with_front(bytes: &mut Vec<u8>, front: &[u8])
+    requires { length front.now ≤ length bytes.old.items }
+    ensures { bytes.new.items ≡ front.now ++ drop (length front.now) bytes.old.items }
+{
+    replace_front(bytes, front);
+}
+
+fn replace_front(bytes: &mut [u8], front: &[u8])
+    requires { length front.now ≤ length bytes.old }
+    ensures { bytes.new ≡ front.now ++ drop (length front.now) bytes.old }
+{
+    bytes[..front.len()].copy_from_slice(front);
 }

@@ -1,6 +1,6 @@
 //! A block whose header isn't written yet.
 
-ghost use Rattle.std.specs.Prelude.{◌≡◌, ◌%◌, ◌≤◌, IfOk, length, true};
+ghost use Rattle.std.specs.Prelude.{◌≡◌, ◌%◌, ◌^◌, ◌<◌, ◌≤◌, IfOk, length, true};
 ghost use Rattle.std.specs.Int.{div_ceil};
 ghost use Rattle.block_build.specs.Drafts.{AddsStripe, IsDraft};
 ghost use Rattle.block_format.specs.Blocks.{form_of_rows};
@@ -81,11 +81,21 @@ fn put_stripe(
     let stripe = write_stripe(alloc, rows, form)?;
     let page = bytes.len() / PAGE_BYTES;
     bytes.extend_from_slice(stripe.as_slice())?;
+    let first = earliest(rows.as_slice());
+    let last = latest(rows.as_slice());
+    moments_fit(first, last);
     Ok(StripeInfo {
         page: page as u64,
         pages: (stripe.len() / PAGE_BYTES) as u64,
         rows: rows.len() as u32,
-        earliest: earliest(rows.as_slice()),
-        latest: latest(rows.as_slice()),
+        earliest: first,
+        latest: last,
     })
+}
+
+/// What the type of moments promises, for the proof of the caller. It does nothing.
+fn moments_fit(first: u64, last: u64)
+    ensures { (first < 2 ^ 64) × (last < 2 ^ 64) }
+{
+    let _ = (first, last);
 }

@@ -17,8 +17,8 @@ tail_of-requires-clause-few c =
 pub draft_of-requires-clause-form : goal.draft_of-requires-clause-form
 draft_of-requires-clause-form c = c.form_of-form.ensures ∙ ap form_of_rows c.as_slice.ensures
 
-pub header_of-requires : goal.header_of-requires
-header_of-requires c =
+pub header_of-header-requires : goal.header_of-header-requires
+header_of-header-requires c =
     (is_ready _ c.args.rows _ _ c.in_ok-tail.tail c.in_ok-draft.ensures c.requires.some c.requires.few (c.form_of-form.ensures ∙ ap form_of_rows c.as_slice.ensures)).few
 
 pub write_header-requires : goal.write_header-requires
@@ -26,8 +26,8 @@ write_header-requires c =
     subst CanBeHeader (sym c.header_of-header.ensures)
     (is_ready _ c.args.rows _ _ c.in_ok-tail.tail c.in_ok-draft.ensures c.requires.some c.requires.few (c.form_of-form.ensures ∙ ap form_of_rows c.as_slice.ensures)).header
 
-pub info_of-requires : goal.info_of-requires
-info_of-requires c =
+pub info_of-info-requires : goal.info_of-info-requires
+info_of-info-requires c =
     subst CanBeHeader (sym c.header_of-header.ensures)
     (is_ready _ c.args.rows _ _ c.in_ok-tail.tail c.in_ok-draft.ensures c.requires.some c.requires.few (c.form_of-form.ensures ∙ ap form_of_rows c.as_slice.ensures)).header
 
@@ -48,4 +48,4 @@ returns-clause-describes c =
     described c.form_of-form.result c.args.rows draft.bytes.items _ c.in_ok-front.front draft.stripes.items tail c.header_of-header.result _ c.in_ok-draft.ensures (subst (λ (l : List TraceId). IsTailOf l tail) ids c.in_ok-tail.ensures)
     c.header_of-header.ensures c.in_ok-front.ensures size
     (c.in_ok-bytes.ensures ∙ ap (λ (l : List ℕ). l ++ (drop (length l) draft.bytes.items ++ (tail.index ++ tail.bloom))) c.as_slice-3.ensures) c.requires.order form_is
-    (c.info_of-info.ensures ∙ ap (λ (n : ℕ). info_of 0 0 c.header_of-header.result n) c.len.ensures)
+    (c.info_of-info.ensures ∙ ap (λ (n : ℕ). info_of 0 0 c.header_of-header.result n) c.len-count.ensures)
