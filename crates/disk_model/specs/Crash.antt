@@ -1,5 +1,5 @@
 -- What a crash may leave, over calls and over time.
-use Rattle.std.specs.Prelude.{◌≡◌, ◌⊎◌, ℕ, ◌≤◌, Bool, IsTrue, List, Result, IsErr}
+use Rattle.std.specs.Prelude.{◌≡◌, ◌⊎◌, ℕ, ◌≤◌, ◌+◌, Bool, IsTrue, List, Result, IsErr, IsOk}
 use Rattle.span_types.specs.Faults.{Rose}
 use Rattle.disk_model.specs.Images.{Image, bytes_of, Besides, SameBytes}
 
@@ -62,7 +62,10 @@ pub record Untouched {D : Type 0} (tells : D → Bool) (held : D → Image) (may
   pub crash : Within (may_leave old) (may_leave new)
   pub any_moment : LeavesOnly moment left_since old new (may_leave old)
 
--- the count of faults didn't fall, and a call fails only where it rose
+-- The count of faults rises by one where a call fails, and stays where none does: so of a run of calls one fails at most, and
+-- it is the last. A count that stands at the last value of its type stays there.
 pub record HasCause {T E : Type 0} (before now : ℕ) (result : Result T E) : Type 0 where
   pub later : before ≤ now
   pub rose : IsErr result → Rose before now
+  pub once : now ≤ before + 1
+  pub still : IsOk result → now ≡ before

@@ -28,6 +28,8 @@ steps g old event reply new begins did = record {
   empty = λ told file among. absurd (let bad : is_among file [] ≡ true = subst (λ (files : List ℕ). is_among file files ≡ true) begins among in cc);
   later = did.later;
   cause = did.cause;
+  once = did.once;
+  still = did.still;
   calls = did.calls;
   reads_rise = let same = did.reads in omega (arith, same);
   reads_bound = let same = did.reads in omega (arith, same);
@@ -44,6 +46,8 @@ did_is_called g old event reply new begins did =
       empty = called.empty;
       later = called.later;
       cause = called.cause;
+      once = called.once;
+      still = called.still;
       calls = called.calls;
       reads_rise = called.reads_rise;
       reads_bound = called.reads_bound;

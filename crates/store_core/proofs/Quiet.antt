@@ -43,6 +43,8 @@ quiet {D} g only_now old state event reply still no_fault no_call same step = re
   telling = refl;
   later = omega arith;
   cause = λ is. absurd (no_fault is);
+  once = omega arith;
+  still = λ no. refl;
   calls = no_call _;
   reads = refl;
 }

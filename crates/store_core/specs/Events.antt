@@ -1,5 +1,5 @@
 -- What one event makes of a core and of its disk.
-use Rattle.std.specs.Prelude.{◌≡◌, ◌⊎◌, ◌≤◌, ℕ, List, Option, Some, None, IsTrue, true, false}
+use Rattle.std.specs.Prelude.{◌≡◌, ◌⊎◌, ◌≤◌, ◌+◌, ℕ, List, Option, Some, None, IsTrue, true, false}
 use Rattle.span_types.specs.Faults.{Rose}
 use Rattle.span_types.specs.declared.spans.Span.{Span}
 use Rattle.disk_model.specs.Images.{Image, bytes_of}
@@ -54,5 +54,7 @@ pub record Did {D : Type 0} (g : Ghosts D) (old : Core D) (event : Event) (reply
   pub telling : g.tells new.disk ≡ g.tells old.disk
   pub later : g.faults old.disk ≤ g.faults new.disk
   pub cause : reply ≡ Refused Fault → Rose (g.faults old.disk) (g.faults new.disk)
+  pub once : g.faults new.disk ≤ g.faults old.disk + 1
+  pub still : (reply ≡ Refused Fault → ⊥) → g.faults new.disk ≡ g.faults old.disk
   pub calls : MadeCalls event reply (g.calls old.disk) (g.calls new.disk)
   pub reads : g.reads new.disk ≡ g.reads old.disk

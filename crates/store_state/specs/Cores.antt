@@ -63,6 +63,8 @@ pub record CoreSteps {P : Type 0} (core : CoreMeaning P) (old : P) (event : Even
   pub empty : IsTrue (core.tells old) → (file : ℕ) → is_among file (own_files reply) ≡ true → core.shows new file ≡ []
   pub later : core.faults old ≤ core.faults new
   pub cause : reply ≡ Refused Fault → Rose (core.faults old) (core.faults new)
+  pub once : core.faults new ≤ core.faults old + 1
+  pub still : (reply ≡ Refused Fault → ⊥) → core.faults new ≡ core.faults old
   pub calls : MadeCalls event reply (core.calls old) (core.calls new)
   pub reads_rise : core.reads old ≤ core.reads new
   pub reads_bound : core.reads new ≤ core.reads old + reads_of event

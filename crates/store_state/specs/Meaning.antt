@@ -75,6 +75,9 @@ pub record Called {P : Type 0} (meaning : Meaning P) (old : P) (event : Event) (
   -- faults are counted, and one is answered only where the count rose
   pub later : meaning.faults old ≤ meaning.faults new
   pub cause : reply ≡ Refused Fault → Rose (meaning.faults old) (meaning.faults new)
+  -- the first device call that fails ends the call, and it answers the fault
+  pub once : meaning.faults new ≤ meaning.faults old + 1
+  pub still : (reply ≡ Refused Fault → ⊥) → meaning.faults new ≡ meaning.faults old
   -- as many device calls as the event makes by itself: one that fails is not made again
   pub calls : MadeCalls event reply (meaning.calls old) (meaning.calls new)
   -- a page read alone may count as a read, and as one
