@@ -1,7 +1,6 @@
 -- A look of a core shows the history.
-use Rattle.std.proofs.Common.{◌≡◌, ℕ, ◌+◌, List, [], ◌∷◌, ◌++◌, length, map, take, drop, tt, refl, sym, ◌∙◌, ap, subst, arith, ◌-◌}
+use Rattle.std.proofs.Common.{◌≡◌, ℕ, ◌+◌, List, [], ◌∷◌, ◌++◌, length, map, take, drop, refl, sym, ◌∙◌, ap, subst, arith, ◌-◌}
 use Rattle.std.specs.List.{flat_map}
-use Rattle.span_types.specs.declared.ids.Key.{Key}
 use Rattle.span_types.specs.declared.spans.Row.{Row}
 use Rattle.span_types.specs.First.{first_at}
 use Rattle.disk_model.specs.Images.{Image, bytes_of}
@@ -18,7 +17,7 @@ use Rattle.store_images.specs.BlockFile.{BlockHolds}
 use Rattle.store_images.specs.Stored.{BlocksStand}
 use Rattle.store_images.proofs.Lists.{at_front, behind}
 use Rattle.store_core.specs.declared.state.CoreState.{CoreState}
-use Rattle.store_core.specs.Cores.{HasState, StandsFor}
+use Rattle.store_core.specs.Cores.{StandsFor}
 use Rattle.store_core.proofs.Looking.{waiting_in}
 
 abbrev rows_by_block : List Block → List (List Row)

@@ -3,3 +3,4 @@ pub mod HoldLaws
 pub mod CallLaws
 pub mod Choosing
 pub mod Listings
+mod Few

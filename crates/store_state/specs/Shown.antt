@@ -1,13 +1,13 @@
 -- What a look shows of the history, and which blocks a compaction joins.
-use Rattle.std.specs.Prelude.{◌≡◌, ℕ, ◌+◌, ◌≤◌, List, [], ◌++◌, length, map}
-use Rattle.std.specs.List.{flat_map, Contains}
+use Rattle.std.specs.Prelude.{◌≡◌, ℕ, ◌+◌, ◌≤◌, List, [], ◌∷◌, ◌++◌, length, map}
+use Rattle.std.specs.List.{flat_map, AllByRecursion, Contains}
 use Rattle.span_types.specs.declared.ids.Key.{Key}
 use Rattle.span_types.specs.declared.spans.Row.{Row}
 use Rattle.span_types.specs.First.{first_at}
 use Rattle.block_info.specs.InfoParts.{InfoParts}
 use Rattle.store_model.specs.History.{History, history_rows, up_to}
 use Rattle.store_model.specs.State.{Block}
-use Rattle.store_model.specs.Choice.{choice, level_of}
+use Rattle.store_model.specs.Choice.{choice, level_of, most_rows}
 use Rattle.store_state.specs.declared.jobs.Look.{Look}
 use Rattle.store_state.specs.Written.{BlockRelation, AreBlocksOf}
 
@@ -34,7 +34,20 @@ pub record IsChoiceOf (listed : List InfoParts) (level : ℕ) (pinned : List Inf
   pub theirs : (info : InfoParts) → Contains pinned info → Contains listed info
   pub its_level : level ≡ level_of (map told_block pinned) + 1
 
--- The same, with at least one block, among those that are listed, or among some where a port doesn't tell them.
+-- how many rows the blocks have together, by their information
+abbrev pub rows_of : List InfoParts → ℕ
+rows_of [] = 0
+rows_of (info ∷ infos) = info.rows + rows_of infos
+
+-- Two to four blocks of the level below this one, with at most 1,048,576 rows together.
+pub record AreFew (level : ℕ) (infos : List InfoParts) : Type 0 where
+  pub two : 2 ≤ length infos
+  pub four : length infos ≤ 4
+  pub high : level ≤ 63
+  pub levels : AllByRecursion (λ (info : InfoParts). info.level + 1 ≡ level) infos
+  pub rows : rows_of infos ≤ most_rows
+
+-- They are the choice, with at least one block, among those that are listed, or among some where a port doesn't tell them.
 abbrev pub JoinsChoice : (List InfoParts → Type 0) → ℕ → List InfoParts → Type 0
 JoinsChoice lists level pinned =
     (listed : List InfoParts) × IsChoiceOf listed level pinned × (1 ≤ length pinned)

@@ -1,6 +1,7 @@
 //! What a step of the machine is to a port that shows it.
 
-ghost use Rattle.std.specs.Prelude.{◌≡◌, ◌++◌, ℕ};
+ghost use Rattle.std.specs.Prelude.{◌≡◌, ◌≤◌, ◌++◌, ℕ, List, length};
+ghost use Rattle.block_info.specs.InfoParts.{InfoParts};
 ghost use Rattle.store_model.specs.State.{State, live_rows};
 ghost use Rattle.store_model.specs.After.{floor_after};
 ghost use Rattle.live_traces.specs.Parts.{least_number};
@@ -8,6 +9,7 @@ ghost use Rattle.store_state.specs.Listed.{floor_from};
 ghost use Rattle.store_model.specs.Event.{Event, Reply};
 ghost use Rattle.store_model.specs.Step.{Machine, Step};
 ghost use Rattle.store_state.specs.Meaning.{Learns};
+ghost use Rattle.store_state.specs.Shown.{IsChoiceOf, AreFew};
 
 /// A step tells its caller of the history what a call of a port is to tell, where nobody else pushed.
 pub fn a_step_tells_what_is_learnt()
@@ -20,4 +22,10 @@ pub fn a_step_tells_what_is_learnt()
 pub fn the_floor_is_the_least_that_waits()
     ensures { (count : ℕ) (u : State) →
         floor_after count u ≡ floor_from count (least_number (u.head ++ live_rows u.live)) }
+{}
+
+/// What a compaction joins are two to four blocks of one level below 63, with at most 1,048,576 rows together.
+pub fn a_choice_is_few()
+    ensures { (listed : List InfoParts) (level : ℕ) (pinned : List InfoParts) → IsChoiceOf listed level pinned →
+        1 ≤ length pinned → AreFew level pinned }
 {}

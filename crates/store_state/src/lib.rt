@@ -19,6 +19,6 @@ pub use choice::choose;
 pub use errors::{BeginError, PushError, ReclaimError, WriteError};
 pub use freeing::reclaim;
 pub use jobs::{CompactJob, FlushJob, JobFile, Look, Pin};
-pub use laws::{a_step_tells_what_is_learnt, the_floor_is_the_least_that_waits};
+pub use laws::{a_choice_is_few, a_step_tells_what_is_learnt, the_floor_is_the_least_that_waits};
 pub use listing::{FlushFiles, Listing, commit_compact, commit_flush, list_body, listing_of};
 pub use port::{LookPort, Port};

@@ -89,7 +89,7 @@ pub trait Port: LookPort {
         ensures whole { IsTrue (Self.meaning.tells self.old) → result ≢ Err Fault → HasWritten (Self.meaning.shows self.new) out.new }
         ensures same { (out.new.number ≡ out.old.number) × (out.new.file ≡ out.old.file) };
 
-    /// Lists a flush's block, which its file holds. The job is spent, refused or not.
+    /// Lists a flush's block, which its file holds and the information describes. The job is spent, refused or not.
     fn commit_flush(&mut self, job: FlushJob, info: SharedInfo) -> Result<(), WriteError>
         requires open { IsOpen Self.meaning self.now (flush_of job) }
         requires size { (1 ≤ info.rows) × (info.rows ≤ 1048576) }
@@ -99,7 +99,8 @@ pub trait Port: LookPort {
         ensures { Called Self.meaning self.old (CommitFlush job.out.number info.rows)
             (write_reply result) self.new };
 
-    /// Lists a compaction's block, which its file holds, in the place of those that it joins. The job is spent, refused or not.
+    /// Lists a compaction's block, which its file holds and the information describes, in the place of those that it joins. The job
+    /// is spent, refused or not.
     fn commit_compact(&mut self, job: CompactJob, info: SharedInfo) -> Result<(), WriteError>
         requires open { IsOpen Self.meaning self.now (compact_of job) }
         requires size { (1 ≤ info.rows) × (info.rows ≤ 1048576) }
