@@ -126,9 +126,9 @@ module _ {D : Type 0} (g : Ghosts D) (old : Core D) (disk : D) (spans : List Spa
       → SegmentHolds old.state.segment.first batches old.state.segment.gate (bytes_of (g.held old.disk) old.state.segment.file) → length batches ≡ old.state.segment.count
       → SegmentHolds old.state.segment.first (batches ++ spans ∷ []) segment.gate (bytes_of (g.held disk) old.state.segment.file)
       × OnlyBytes old.state.segment.file (bytes_of (g.held disk) old.state.segment.file) (g.may_leave disk))
-      → g.faults old.disk ≤ g.faults disk → RoseBy 4 (g.calls old.disk) (g.calls disk) → g.reads disk ≡ g.reads old.disk
+      → g.faults disk ≡ g.faults old.disk → RoseBy 4 (g.calls old.disk) (g.calls disk) → g.reads disk ≡ g.reads old.disk
       → Did g old (Push spans moment) (Count number) (record old { disk = disk; state = record old.state { live = live; segment = segment } })
-  did_pushed live segment number length_is below is added head flushing file first count stays acknowledged later calls reads = record {
+  did_pushed live segment number length_is below is added head flushing file first count stays acknowledged still calls reads = record {
     stepped = λ m stands.
         let taken = step_pushed (g.faults old.disk) (g.faults disk) m spans moment number (length_is m stands.has) (free m stands.has) in
         let has = has_pushed old.state live segment m spans moment number stands.has added head flushing is below first count in
@@ -150,16 +150,18 @@ module _ {D : Type 0} (g : Ghosts D) (old : Core D) (disk : D) (spans : List Spa
     tidy = tidy_in;
     files = λ told m stands hold is_open stays' f among. held_stays old.state m (IsTrue (g.tells old.disk)) (g.held old.disk) (g.held disk) (g.may_leave old.disk) told writes stands (appends told).besides hold is_open f among;
     telling = telling;
-    later = later;
+    later = omega (arith, still);
     cause = λ fault. absurd (let bad : Count number ≡ Refused Fault = fault in cc);
+    once = omega (arith, still);
+    still = λ no. still;
     calls = calls;
     reads = reads;
   }
 
   broken_at : (live : LiveParts) (segment : Segment) (ready : ChunkParts) → SameParts old.state.live live → segment ≡ old.state.segment → ready.spans ≡ spans
-      → Rose (g.faults old.disk) (g.faults disk) → g.faults old.disk ≤ g.faults disk → (g.calls old.disk ≤ g.calls disk) × (g.calls disk ≤ g.calls old.disk + 4) → g.reads disk ≡ g.reads old.disk
+      → Rose (g.faults old.disk) (g.faults disk) → g.faults old.disk ≤ g.faults disk → g.faults disk ≤ g.faults old.disk + 1 → (g.calls old.disk ≤ g.calls disk) × (g.calls disk ≤ g.calls old.disk + 4) → g.reads disk ≡ g.reads old.disk
       → Did g old (Push spans moment) (Refused Fault) (record old { disk = disk; state = record old.state { live = live; segment = segment; read_only = Some (g.faults disk); unsure = Some ready } })
-  broken_at live segment ready same still its rose later calls reads = record {
+  broken_at live segment ready same still its rose later once calls reads = record {
     stepped = λ m stands. record {
       machine = broken (g.faults disk) m;
       stands = stands_broken (IsTrue (g.tells old.disk)) (IsTrue (g.tells disk)) (g.held old.disk) (g.held disk) (g.may_leave old.disk) (g.may_leave disk) old.state live segment ready (g.faults disk) m same still stands
@@ -176,13 +178,15 @@ module _ {D : Type 0} (g : Ghosts D) (old : Core D) (disk : D) (spans : List Spa
     telling = telling;
     later = later;
     cause = λ fault. rose;
+    once = once;
+    still = λ no. absurd (no refl);
     calls = calls;
     reads = reads;
   }
 
   pub did_broken : (live : LiveParts) (segment : Segment) (ready : ChunkParts) (faults : ℕ) → faults ≡ g.faults disk → SameParts old.state.live live → segment ≡ old.state.segment → ready.spans ≡ spans
-      → Rose (g.faults old.disk) (g.faults disk) → g.faults old.disk ≤ g.faults disk → (g.calls old.disk ≤ g.calls disk) × (g.calls disk ≤ g.calls old.disk + 4) → g.reads disk ≡ g.reads old.disk
+      → Rose (g.faults old.disk) (g.faults disk) → g.faults old.disk ≤ g.faults disk → g.faults disk ≤ g.faults old.disk + 1 → (g.calls old.disk ≤ g.calls disk) × (g.calls disk ≤ g.calls old.disk + 4) → g.reads disk ≡ g.reads old.disk
       → Did g old (Push spans moment) (Refused Fault) (record old { disk = disk; state = record old.state { live = live; segment = segment; read_only = Some faults; unsure = Some ready } })
-  did_broken live segment ready faults counted same still its rose later calls reads =
+  did_broken live segment ready faults counted same still its rose later once calls reads =
       subst (λ (n : ℕ). Did g old (Push spans moment) (Refused Fault) (record old { disk = disk; state = record old.state { live = live; segment = segment; read_only = Some n; unsure = Some ready } })) (sym counted)
-      (broken_at live segment ready same still its rose later calls reads)
+      (broken_at live segment ready same still its rose later once calls reads)
