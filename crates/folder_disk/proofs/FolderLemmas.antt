@@ -20,4 +20,9 @@ cut_follows file len = any_follows file (HalfCut len) (cut_same len)
 -- a call that was counted has the cause that the trait asks for
 pub counted_cause : {R T E : Type 0} (old new : FolderDisk R) (result : Result T E) → faults_of old ≤ faults_of new → Counted old new result
     → HasCause (faults_of old) (faults_of new) result
-counted_cause old new result later counted = record { later = later; rose = λ failed. omega (arith, counted.one_fault failed) }
+counted_cause old new (Ok x) later counted =
+    let same = counted.no_fault refl in
+    record { later = later; rose = λ failed. omega (arith, counted.one_fault failed); once = omega (arith, same); still = λ ok. same }
+counted_cause old new (Err e) later counted =
+    let more = counted.one_fault refl in
+    record { later = later; rose = λ failed. omega (arith, counted.one_fault failed); once = omega (arith, more); still = λ ok. counted.no_fault ok }

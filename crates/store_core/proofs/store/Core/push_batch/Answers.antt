@@ -49,7 +49,7 @@ returns-in-Ok-append g c =
     (c.add.ensures.same.0 ∙ same.1) (c.add.ensures.same.1 ∙ same.2)
     shown.0 shown.1 shown.2 (g.met.D.Device.held_may_stay core.disk)
     (λ told batches only holds counted. c.in-Ok-append.ensures.acknowledged batches spans known told only holds counted body)
-    (c.in-Ok-append.ensures.cause.still tt) (record { later = calls.later; at_most = calls.at_most; exact = λ few. calls.all refl few }) c.append.ensures.no_read
+    (c.in-Ok-append.ensures.cause.still refl) (record { later = calls.later; at_most = calls.at_most; exact = λ few. calls.all refl few }) c.append.ensures.no_read
 
 pub returns : goal.returns
 returns g c =
