@@ -1,5 +1,5 @@
 -- What the trait says of a disk that tells nothing, and of its counts.
-use Rattle.std.proofs.Common.{ℕ, ◌≤◌, List, Result, refl, arith}
+use Rattle.std.proofs.Common.{ℕ, ◌≤◌, List, Result, Ok, Err, refl, arith}
 use Rattle.disk_model.specs.Images.{bytes_of, OnFile}
 use Rattle.disk_model.specs.Bytes.{Torn, HalfCut}
 use Rattle.disk_model.specs.Crash.{Follows, HasCause}
