@@ -179,7 +179,7 @@ fn lines_ask_or_are_refused(rt: HostRuntime) -> Result<(), Fail> {
         (b"push\xff", "refused bad-request at=0"),
         (b"push \xff", "refused bad-json"),
         (b"push\t{}", "refused bad-request at=0"),
-        (b"push {}\r", "push 0 0 0"),
+        (b"push {}\r", "push 0 0 0 at 7"),
         (
             b"trace 000000000000000000000000000000a1\r",
             "refused bad-request at=6",
