@@ -268,3 +268,22 @@ fn refusals_are_written(rt: HostRuntime) -> Result<(), Fail> {
     check_refusal(&rt, spans, "refused too-many spans=16385\n")?;
     Ok(())
 }
+
+#[test]
+fn refusals_of_a_store_are_written(rt: HostRuntime) -> Result<(), Fail> {
+    let live = Refusal::LiveFull { held: 262_144 };
+    check_refusal(&rt, live, "refused live-full held=262144\n")?;
+    let store = Refusal::StoreFull {
+        pushes: 4_294_967_295,
+    };
+    check_refusal(&rt, store, "refused store-full pushes=4294967295\n")?;
+    let read_only = Refusal::ReadOnly { faults: 1 };
+    check_refusal(&rt, read_only, "refused read-only faults=1\n")?;
+    check_refusal(&rt, Refusal::DiskFault, "refused disk-fault\n")?;
+    let bytes = Refusal::NotStore {
+        file: 3,
+        at: 16_383,
+    };
+    check_refusal(&rt, bytes, "refused not-store file=3 at=16383\n")?;
+    Ok(())
+}
