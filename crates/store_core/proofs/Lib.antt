@@ -1,4 +1,5 @@
 mod Quiet
+mod Described
 mod States
 mod HeldFiles
 mod Pushing
@@ -10,6 +11,7 @@ mod NewCores
 mod PushEvents
 mod Past
 mod LookEvents
+mod CutEvents
 mod PortEvents
 pub mod LogSteps
 mod LooseFiles

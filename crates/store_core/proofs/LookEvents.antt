@@ -34,7 +34,7 @@ pub did_held : {D : Type 0} (g : Ghosts D) (only_now : OnlyNow g) (old : Core D)
     → held ≡ length old.state.live.flushing + length old.state.live.head + length old.state.live.live
     → Did g old Held (Count held) (record old { state = old.state })
 did_held g only_now old held is =
-    quiet g only_now old old.state Held (Count held) (λ file bytes. refl) (λ e. let bad : Count held ≡ Refused Fault = e in cc) (λ n. refl) refl
+    quiet g only_now old old.state Held (Count held) (λ file bytes. refl) (λ e. let bad : Count held ≡ Refused Fault = e in cc) (λ n. refl) refl refl
     (λ told m stands. (m, stands, refl, Succeeds refl (ap Count (is ∙ held_is old.state m stands.has), refl)))
 
 pub did_looked : {D : Type 0} (g : Ghosts D) (only_now : OnlyNow g) (old : Core D) (pins : Vec Bool Global) (number as_of : ℕ) (files : List ℕ) (rows : List Row)
@@ -44,7 +44,7 @@ pub did_looked : {D : Type 0} (g : Ghosts D) (only_now : OnlyNow g) (old : Core 
     → ((other : ℕ) → is_taken other pins.items ≡ (is_taken other old.state.pins.items || (number == other)))
     → Did g old Look (Looked number files as_of rows) (record old { state = record old.state { pins = pins } })
 did_looked {D} g only_now old pins number as_of files rows length_is listed is free least taken =
-    quiet g only_now old (record old.state { pins = pins }) Look (Looked number files as_of rows) (λ file bytes. refl) (λ e. let bad : Looked number files as_of rows ≡ Refused Fault = e in cc) (λ n. refl) refl
+    quiet g only_now old (record old.state { pins = pins }) Look (Looked number files as_of rows) (λ file bytes. refl) (λ e. let bad : Looked number files as_of rows ≡ Refused Fault = e in cc) (λ n. refl) refl refl
     (λ told m stands.
     let step = step_looked old.state m (g.faults old.disk) (g.faults old.disk) number as_of files rows stands.has (length_is m stands.has) (listed ∙ stands.has.infos) is free least in (
       with_state (after_look number m.state) m,
@@ -58,7 +58,7 @@ pub did_look_lacking : {D : Type 0} (g : Ghosts D) (only_now : OnlyNow g) (old :
     → ((other : ℕ) → is_taken other pins.items ≡ is_taken other old.state.pins.items)
     → Did g old Look (Refused Memory) (record old { state = record old.state { pins = pins } })
 did_look_lacking {D} g only_now old pins same =
-    quiet g only_now old (record old.state { pins = pins }) Look (Refused Memory) (λ file bytes. refl) (λ e. let bad = refused_is Memory Fault e in cc) (λ n. refl) refl
+    quiet g only_now old (record old.state { pins = pins }) Look (Refused Memory) (λ file bytes. refl) (λ e. let bad = refused_is Memory Fault e in cc) (λ n. refl) refl refl
     (λ told m stands.
     let step : Step (g.faults old.disk) (g.faults old.disk) m Look (Refused Memory) (with_state m.state m) = Lacks refl refl refl refl in (
       with_state m.state m,
@@ -73,7 +73,7 @@ pub did_done : {D : Type 0} (g : Ghosts D) (only_now : OnlyNow g) (old : Core D)
     → ((other : ℕ) → is_taken other pins.items ≡ (is_taken other old.state.pins.items && not (number == other)))
     → Did g old (Done number) Fine (record old { state = record old.state { pins = pins } })
 did_done {D} g only_now old pins number is_open taken =
-    quiet g only_now old (record old.state { pins = pins }) (Done number) Fine (λ file bytes. refl) (λ e. let bad : Fine ≡ Refused Fault = e in cc) (λ n. refl) refl
+    quiet g only_now old (record old.state { pins = pins }) (Done number) Fine (λ file bytes. refl) (λ e. let bad : Fine ≡ Refused Fault = e in cc) (λ n. refl) refl refl
     (λ told m stands.
     let step = step_done m (g.faults old.disk) (g.faults old.disk) number (look_open old.state is_open.0 m number is_open.1.has stands.has is_open.2) in (
       with_state (after_done number m.state) m,

@@ -20,9 +20,9 @@ use Rattle.store_model.proofs.KeepsSound.{step_keeps as keeps_sound}
 use Rattle.store_model.proofs.KeepsFloor.{step_keeps as keeps_floor}
 use Rattle.store_core.specs.Pins.{is_taken}
 use Rattle.store_core.specs.declared.state.CoreState.{CoreState}
-use Rattle.store_images.specs.Stored.{BlocksStand, ref_of}
+use Rattle.store_images.specs.Stored.{ref_of}
 use Rattle.store_images.specs.Settled.{IsSettled}
-use Rattle.store_core.specs.Cores.{HasState, StandsFor, tail_of}
+use Rattle.store_core.specs.Cores.{HasState, StandsFor, AreDescribed, tail_of}
 use Rattle.store_core.proofs.PinNumbers.{among-more, among-less}
 
 -- a change of the pins alone
@@ -62,7 +62,7 @@ stands_stepped told held may_leave core pins m u before faults e r s state step 
   sound = keeps_sound before faults m _ e r s.sound step;
   above = keeps_floor before faults m _ e r s.above step;
   now = s.now;
-  built = λ t. subst (BlocksStand held) (sym (ap (λ (v : State). v.blocks) state)) (s.built t);
+  built = λ t. subst (AreDescribed held core.infos) (sym (ap (λ (v : State). v.blocks) state)) (s.built t);
   settled = λ t free. subst (λ (b : _). IsSettled held may_leave core.list b (tail_of core.segment) m.history) (sym (ap (λ (v : State). v.blocks) state)) (s.settled t free);
   sure = s.sure;
 }

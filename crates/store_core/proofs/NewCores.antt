@@ -19,6 +19,7 @@ use Rattle.store_core.specs.Pins.{is_taken}
 use Rattle.store_core.specs.Cores.{HasState, StandsFor, listed_as, segment_of, tail_of, unsure_of}
 use Rattle.store_core.specs.New.{new_list, new_tail, IsEmptyHistory, IsNewStore}
 use Rattle.store_core.specs.NewCore.{new_machine, IsNewState}
+use Rattle.store_core.proofs.Described.{none_described}
 use Rattle.store_core.proofs.States.{ref_to}
 use Rattle.store_core.proofs.Founding.{rules_new}
 
@@ -61,7 +62,7 @@ new_stands told held may_leave core h new made empty = record {
   agrees = empty.no_rows;
   sound = new_sound h;
   above = record { waiting = λ row c. absurd (not_in_nil row c); next = omega arith };
-  built = λ t block inside. absurd (not_in_nil block inside);
+  built = λ t. none_described held core.infos (new.has h empty).infos;
   now = λ t image left. subst (λ (u : Option (List Span)). MayStandFor h u image) (sym new.sure) (settled_now held may_leave new_list [] new_tail h (made t h empty) image left);
   settled = λ t free. subst (λ (l : ListBody). IsSettled held may_leave l [] (tail_of core.segment) h) (sym new.list) (subst (λ (x : Tail). IsSettled held may_leave new_list [] x h) (sym new.tail) (made t h empty));
   sure = λ free. new.sure;

@@ -30,6 +30,7 @@ use Rattle.store_core.specs.Loose.{without_loose, list_after}
 use Rattle.store_core.specs.LogReading.{LogRead}
 use Rattle.store_core.specs.Opening.{opened_state, IsOpenedState}
 use Rattle.store_core.proofs.LooseFiles.{used_files, distinct_front, rules_without}
+use Rattle.store_core.proofs.Described.{none_described}
 use Rattle.store_core.proofs.LogSteps.{read_size}
 use Rattle.store_core.proofs.Revived.{live_of_arrived}
 
@@ -249,7 +250,7 @@ module _ (told : Type 0) (image : Image) (list : ListBody) (rules : MeetsRules l
             waiting = λ row c. (entry_numbers list.floor (drop (list.floor - first_number list) batches) row (subst (λ (r : List Row). Contains r row) (live_of_arrived moment rows) c)).0;
             next = (let high = low_floor in omega (arith, high, counts));
           };
-          built = λ t. (settled t).holds.built;
+          built = λ t. none_described held core.infos (ap info_files state.infos);
           now = λ t image left. subst (λ (u : Option (List Span)). MayStandFor h u image) (sym state.sure) (settled_now held may_leave core.list [] (tail_of core.segment) h (settled t) image left);
           settled = λ t free. settled t;
           sure = λ free. state.sure;

@@ -21,9 +21,8 @@ use Rattle.block_list.specs.declared.error.ListError.TheVariants as list_errors
 use Rattle.store_model.specs.History.{History, count_of}
 use Rattle.store_model.specs.State.{Block}
 use Rattle.store_model.specs.Laws.{AgreesOn}
-use Rattle.store_images.specs.BlockFile.{BlockHolds}
 use Rattle.store_images.specs.Log.{LogHolds}
-use Rattle.store_images.specs.Stored.{StoreHolds, ImageStores, ImageStandsFor, BlocksStand, SameFirsts, stored_rows, first_number, ref_of}
+use Rattle.store_images.specs.Stored.{StoreHolds, ImageStores, ImageStandsFor, SameFirsts, stored_rows, first_number, ref_of}
 use Rattle.store_images.specs.Stored.ImageStores.{vacant, filled}
 use Rattle.store_images.specs.Settled.{Tail, IsTail, ListLies, IsSettled}
 use Rattle.store_images.proofs.Lists.{not_in_nil, at_front}
@@ -33,7 +32,7 @@ use Rattle.store_core.specs.Loose.{without_loose, OthersStay}
 use Rattle.store_core.specs.LogReading.{LogRead, SegmentBreaks, LogBreaks}
 use Rattle.store_core.specs.declared.error.OpenError.{OpenError}
 use Rattle.store_core.specs.declared.error.OpenError.TheVariants.{NotStore, Fault}
-use Rattle.store_core.specs.Opening.{ListBreaks, StoreBreaks, refusal_of}
+use Rattle.store_core.specs.Opening.{ListBreaks, StoreBreaks, NamesNoBlock, refusal_of}
 use Rattle.store_core.specs.Opening.ListBreaks.{block, log}
 use Rattle.store_core.specs.Opening.StoreBreaks.{slot, listed}
 use Rattle.store_core.proofs.LogLaws.{one_log, unbroken}
@@ -166,20 +165,15 @@ pub vacant_unbroken : (image : Image) (file at : ℕ) → slots_at (bytes_of ima
 vacant_unbroken image file at reads (slot broken) = absurd (let bad : Ok None ≡ Err (file, at) = sym reads ∙ broken in cc)
 vacant_unbroken image file at reads (listed other its broken) = absurd (let bad : Ok None ≡ Ok (Some other) = sym reads ∙ its in cc)
 
--- no bytes are a block yet
-never_built : (image : Image) (blocks : List Block) → BlocksStand image blocks → blocks ≡ []
-unfolding BlockHolds
-never_built image [] built = refl
-never_built image (b ∷ bs) built = absurd (built b (at_front b bs)).holds
-
-pub sound_unbroken : (image : Image) (h : History) (file at : ℕ) → ImageStandsFor image h → StoreBreaks image file at → ⊥
-sound_unbroken image h file at s broken = by_stores s.rows (count_of h) s.stores
+-- nor does a sound image that names no block
+pub sound_unbroken : (image : Image) (h : History) (file at : ℕ) → NamesNoBlock image → ImageStandsFor image h → StoreBreaks image file at → ⊥
+sound_unbroken image h file at none s broken = by_stores s.rows (count_of h) s.stores
   where
     by_stores : (rows : List Row) (count : ℕ) → ImageStores image rows count → ⊥
     by_stores rows count (vacant holds no_rows no_count) = vacant_unbroken image file at (slots_again (bytes_of image 0) (bytes_of image 1) None holds) broken
     by_stores rows count (filled body blocks all st rows_are counts) =
         store_unbroken image body all file at (slots_again (bytes_of image 0) (bytes_of image 1) (Some body) st.listed)
-        (st.its_blocks ∙ ap (map ref_of) (never_built image blocks st.built)) st.logged broken
+        (none body st.listed) st.logged broken
 
 -- ---- the blocks of a list
 

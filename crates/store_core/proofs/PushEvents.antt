@@ -27,7 +27,7 @@ use Rattle.store_core.specs.declared.store.Core.{Core}
 use Rattle.store_core.specs.Cores.{HasState, StandsFor, CoreStandsFor, tail_of, unsure_of}
 use Rattle.store_state.specs.Calls.{MadeCalls}
 use Rattle.store_core.specs.Events.{Did, Between, unsure_after}
-use Rattle.store_core.proofs.Quiet.{quiet}
+use Rattle.store_core.proofs.Quiet.{quiet, none_begun}
 use Rattle.store_core.proofs.States.{SameParts, stands_lacking, after_pushed, step_pushed, has_pushed, stands_pushed, stands_broken}
 use Rattle.store_core.proofs.Pushing.{pushing, tidy_push, held_stays, blocks_stay}
 
@@ -53,14 +53,14 @@ pub did_refused : {D : Type 0} (g : Ghosts D) (only_now : OnlyNow g) (old : Core
     → ((m : Machine) → HasState old.state m → early m (Push spans moment) ≡ Some (Refused why)) → why ≢ Fault
     → Did g old (Push spans moment) (Refused why) (record old { state = old.state })
 did_refused g only_now old spans moment why is no_fault =
-    quiet g only_now old old.state (Push spans moment) (Refused why) (λ file bytes. refl) (λ e. no_fault (refused_is why Fault e)) (refused_calls spans moment why no_fault) refl
+    quiet g only_now old old.state (Push spans moment) (Refused why) (λ file bytes. refl) (λ e. no_fault (refused_is why Fault e)) (refused_calls spans moment why no_fault) refl refl
     (λ told m stands. (m, stands, refl, Sure (is m stands.has) refl))
 
 pub did_lacking : {D : Type 0} (g : Ghosts D) (only_now : OnlyNow g) (old : Core D) (live : LiveParts) (spans : List Span) (moment : ℕ)
     → SameParts old.state.live live → ((m : Machine) → HasState old.state m → early m (Push spans moment) ≡ None)
     → Did g old (Push spans moment) (Refused Memory) (record old { state = record old.state { live = live } })
 did_lacking {D} g only_now old live spans moment same free =
-    quiet g only_now old (record old.state { live = live }) (Push spans moment) (Refused Memory) (λ file bytes. refl) (λ e. let bad = refused_is Memory Fault e in cc) (λ n. refl) refl
+    quiet g only_now old (record old.state { live = live }) (Push spans moment) (Refused Memory) (λ file bytes. refl) (λ e. let bad = refused_is Memory Fault e in cc) (λ n. refl) refl refl
     (λ told m stands. (m, stands_lacking told (g.held old.disk) (g.may_leave old.disk) old.state live m same stands, refl, Lacks (free m stands.has) refl refl refl))
 
 -- ---- a record was added, or it may have been
@@ -141,7 +141,8 @@ module _ {D : Type 0} (g : Ghosts D) (old : Core D) (disk : D) (spans : List Spa
               (let only = only_tail (g.held old.disk) (g.may_leave old.disk) old.state.list m.state.blocks (tail_of old.state.segment) m.history s in
               let run = (appends told).any_moment s.mine only s.written.current s.written.counted in
               let done = acknowledged told s.mine only s.written.current s.written.counted in
-              settled_after (g.held old.disk) (g.may_leave old.disk) old.state.list m.state.blocks (tail_of old.state.segment) m.history s spans (g.held disk) (g.may_leave disk) segment.gate _ (appends told).besides run.now (stays told) done.0 done.1));
+              settled_after (g.held old.disk) (g.may_leave old.disk) old.state.list m.state.blocks (tail_of old.state.segment) m.history s spans (g.held disk) (g.may_leave disk) segment.gate _ (appends told).besides run.now (stays told) done.0 done.1))
+              (λ told. blocks_stay old.state m (IsTrue (g.tells old.disk)) (g.held old.disk) (g.held disk) (g.may_leave old.disk) told writes stands (appends told).besides);
           step = taken;
           images = λ told. images_in told m stands (pushed m.history spans) (unsure_of old.state) (λ image either. pushed_between m.history (unsure_of old.state) image (stands.sure writes) either);
           unsure = refl;
@@ -152,16 +153,17 @@ module _ {D : Type 0} (g : Ghosts D) (old : Core D) (disk : D) (spans : List Spa
         let has = has_pushed old.state live segment m spans moment number shows.has added head flushing is below file first count in (
           after_pushed spans moment m,
           stands_pushed ⊥ ⊥ (g.held old.disk) (g.held disk) (g.may_leave old.disk) (g.may_leave disk) old.state live segment m spans moment number
-              (g.faults old.disk) (g.faults disk) shows (λ bad. bad) writes taken has (λ bad. absurd bad),
+              (g.faults old.disk) (g.faults disk) shows (λ bad. bad) writes taken has (λ bad. absurd bad) (λ bad. absurd bad),
           taken,
         );
     tidy = tidy_in;
     files = λ told m stands hold is_open stays' f among. held_stays old.state m (g.held old.disk) (g.held disk) stands.has stands.sound (appends told).besides hold is_open f among;
+    empty = λ told f among. none_begun _ f _ refl among;
     telling = telling;
     later = later;
     cause = λ fault. absurd (let bad : Count number ≡ Refused Fault = fault in cc);
     calls = calls;
-    reads = reads;
+    reads = (omega (arith, reads), omega (arith, reads));
   }
 
   broken_at : (live : LiveParts) (segment : Segment) (ready : ChunkParts) → SameParts old.state.live live → segment ≡ old.state.segment → ready.spans ≡ spans
@@ -187,11 +189,12 @@ module _ {D : Type 0} (g : Ghosts D) (old : Core D) (disk : D) (spans : List Spa
     );
     tidy = tidy_in;
     files = λ told m stands hold is_open stays f among. held_stays old.state m (g.held old.disk) (g.held disk) stands.has stands.sound (appends told).besides hold is_open f among;
+    empty = λ told f among. none_begun _ f _ refl among;
     telling = telling;
     later = later;
     cause = λ fault. rose;
     calls = calls;
-    reads = reads;
+    reads = (omega (arith, reads), omega (arith, reads));
   }
 
   pub did_broken : (live : LiveParts) (segment : Segment) (ready : ChunkParts) (faults : ℕ) → faults ≡ g.faults disk → SameParts old.state.live live → segment ≡ old.state.segment → ready.spans ≡ spans

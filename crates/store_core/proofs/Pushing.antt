@@ -16,13 +16,13 @@ use Rattle.store_model.specs.Sound.{times, StateIsSound}
 use Rattle.store_model.specs.Holds.{Hold, OpenIn, files_of}
 use Rattle.store_model.specs.Step.{Machine}
 use Rattle.store_model.proofs.Numbers.{times-append, times_itself}
-use Rattle.store_images.specs.BlockFile.{BlockHolds}
-use Rattle.store_images.specs.Stored.{MayStandFor, ImageStandsFor, BlocksStand, IsTidy}
+use Rattle.store_images.specs.Stored.{MayStandFor, ImageStandsFor, IsTidy}
 use Rattle.store_images.specs.Settled.{Tail, IsSettled}
 use Rattle.store_images.proofs.Lists.{not_in_nil, in_cons}
 use Rattle.store_images.proofs.Storing.{settled_either, settled_tidy, only_tail}
 use Rattle.store_core.specs.declared.state.CoreState.{CoreState}
-use Rattle.store_core.specs.Cores.{HasState, StandsFor, tail_of, segment_of}
+use Rattle.store_core.specs.Cores.{HasState, StandsFor, AreDescribed, tail_of, segment_of}
+use Rattle.store_core.proofs.Described.{described_same}
 use Rattle.store_core.proofs.HeldFiles.{held_apart}
 
 module _ {D : Type 0} (moment : D → ℕ) (left_since : D → ℕ → Image → Type 0) (may_leave : D → Image → Type 0) (held : Image) (body : ListBody) (blocks : List Block) (tail : Tail) (h : History) (old new : D)
@@ -67,11 +67,12 @@ listed_once (x ∷ xs) b inside = elim (in_cons b x xs inside) [
 ]
 
 pub blocks_stay : (core : CoreState) (m : Machine) (told : Type 0) (held later : Image) (may_leave : Image → Type 0) → told → core.read_only ≡ None → StandsFor told held may_leave core m
-    → Besides core.segment.file held later → BlocksStand later m.state.blocks
-blocks_stay core m told held later may_leave t writes s besides b inside =
-    let used = listed_once m.state.blocks b inside in
-    let once = s.sound.files.once b.file in
-    let none : times b.file (segment_files m.state.segments) ≡ 0 = omega (arith, used, once) in
-    let same : bytes_of later b.file ≡ bytes_of held b.file = besides b.file (tail_apart core m s.has b.file none) in
-    let was = s.built t b inside in
-    record { holds = subst (BlockHolds b.rows) (sym same) was.holds; counted = was.counted }
+    → Besides core.segment.file held later → AreDescribed later core.infos m.state.blocks
+blocks_stay core m told held later may_leave t writes s besides = described_same held later core.infos m.state.blocks s.has.infos same (s.built t)
+  where
+    same : (b : Block) → Contains m.state.blocks b → bytes_of later b.file ≡ bytes_of held b.file
+    same b inside =
+        let used = listed_once m.state.blocks b inside in
+        let once = s.sound.files.once b.file in
+        let none : times b.file (segment_files m.state.segments) ≡ 0 = omega (arith, used, once) in
+        besides b.file (tail_apart core m s.has b.file none)

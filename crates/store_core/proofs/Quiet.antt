@@ -1,14 +1,16 @@
 -- Events that make no device call.
-use Rattle.std.proofs.Common.{◌≡◌, ◌≢◌, inl, inr, ℕ, List, None, Option, IsTrue, refl, sym, ◌∙◌, arith}
+use Rattle.std.proofs.Common.{◌≡◌, ◌≢◌, inl, inr, ℕ, List, [], None, Option, IsTrue, true, refl, sym, ◌∙◌, subst, arith}
 use Rattle.span_types.specs.declared.spans.Span.{Span}
 use Rattle.disk_model.specs.Images.{Image}
 use Rattle.disk_model.specs.declared.disk.Device.{Ghosts}
 use Rattle.disk_model.proofs.Moments.{started}
+use Rattle.store_model.specs.State.{is_among}
 use Rattle.store_model.specs.Event.{Event, Reply}
 use Rattle.store_model.specs.Event.Event.{Push}
 use Rattle.store_model.specs.Event.Reply.{Refused}
 use Rattle.store_model.specs.Event.Refusal.{Fault}
 use Rattle.store_model.specs.Step.{Machine, Step}
+use Rattle.store_model.specs.Holds.{own_files}
 use Rattle.store_state.specs.Meaning.{Rewritten}
 use Rattle.store_core.specs.declared.state.CoreState.{CoreState}
 use Rattle.store_core.specs.declared.store.Core.{Core}
@@ -20,15 +22,18 @@ no_new : (event : Event) (reply : Reply) (unsure : Option (List Span)) → reply
 no_new (Push spans moment) (Refused Fault) None no_fault = absurd (no_fault refl)
 no_new _ _ unsure no_fault = refl
 
--- An event that changes the memory alone, and answers no fault.
+pub none_begun : (reply : Reply) (file : ℕ) (G : Type 0) → own_files reply ≡ [] → is_among file (own_files reply) ≡ true → G
+none_begun reply file G none among = absurd (let bad : is_among file [] ≡ true = subst (λ (files : List ℕ). is_among file files ≡ true) none among in cc)
+
+-- An event that changes the memory alone, and answers no fault and no job.
 pub quiet : {D : Type 0} (g : Ghosts D) (only_now : (disk : D) (image : Image) → g.left_since disk (g.moment disk) image → g.may_leave disk image)
     (old : Core D) (state : CoreState) (event : Event) (reply : Reply)
     → ((file : ℕ) (bytes : List ℕ) → Rewritten event reply file bytes bytes)
-    → reply ≢ Refused Fault → ((n : ℕ) → MadeCalls event reply n n) → unsure_of state ≡ unsure_of old.state
+    → reply ≢ Refused Fault → ((n : ℕ) → MadeCalls event reply n n) → own_files reply ≡ [] → unsure_of state ≡ unsure_of old.state
     → ((told : Type 0) (m : Machine) → StandsFor told (g.held old.disk) (g.may_leave old.disk) old.state m → (m' : Machine) × StandsFor told (g.held old.disk) (g.may_leave old.disk) state m' × (m'.history ≡ m.history)
     × Step (g.faults old.disk) (g.faults old.disk) m event reply m')
     → Did g old event reply (record old { state = state })
-quiet {D} g only_now old state event reply still no_fault no_call same step = record {
+quiet {D} g only_now old state event reply still no_fault no_call begins same step = record {
   stepped = λ m stands. let done = step (IsTrue (g.tells old.disk)) m stands in record {
     machine = done.0;
     stands = done.1;
@@ -41,9 +46,10 @@ quiet {D} g only_now old state event reply still no_fault no_call same step = re
   shown = λ m shows. let done = step ⊥ m shows in (done.0, done.1, done.3);
   tidy = λ told m stands tidy. started g.moment g.left_since old.disk _ (λ image left. tidy image (only_now old.disk image left));
   files = λ told m stands hold is_open stays file among. still file _;
+  empty = λ told file among. none_begun reply file _ begins among;
   telling = refl;
   later = omega arith;
   cause = λ is. absurd (no_fault is);
   calls = no_call _;
-  reads = refl;
+  reads = (omega arith, omega arith);
 }

@@ -7,22 +7,22 @@ use Rattle.block_list.specs.declared.body.SegmentRef.{SegmentRef}
 use Rattle.live_traces.specs.Parts.{LiveParts}
 use Rattle.live_traces.specs.Rows.{ChunkParts}
 use Rattle.store_model.specs.History.{History, batch_rows, count_of, pushed}
-use Rattle.store_model.specs.State.{State, LiveRow}
+use Rattle.store_model.specs.State.{State, Block, LiveRow}
 use Rattle.store_model.specs.After.{arrived, after_push}
 use Rattle.store_model.specs.Event.{Event, Reply}
 use Rattle.store_model.specs.Event.Event.{Push}
 use Rattle.store_model.specs.Event.Reply.{Count}
-use Rattle.store_model.specs.Step.{Machine, Step, early, broken}
+use Rattle.store_model.specs.Step.{Machine, Step, early, broken, with_state}
 use Rattle.store_model.specs.Step.Step.{Succeeds}
 use Rattle.store_model.proofs.KeepsFirsts.{step_keeps as keeps_firsts}
 use Rattle.store_model.proofs.KeepsSound.{step_keeps as keeps_sound}
 use Rattle.store_model.proofs.KeepsFloor.{step_keeps as keeps_floor}
-use Rattle.store_images.specs.Stored.{MayStandFor, ImageStandsFor, BlocksStand}
+use Rattle.store_images.specs.Stored.{MayStandFor, ImageStandsFor}
 use Rattle.store_images.specs.Settled.{Tail, IsSettled}
 use Rattle.store_images.proofs.Growing.{count_of-pushed}
 use Rattle.store_images.proofs.Storing.{settled_now}
 use Rattle.store_core.specs.declared.state.CoreState.{CoreState}
-use Rattle.store_core.specs.Cores.{HasState, StandsFor, tail_of, unsure_of}
+use Rattle.store_core.specs.Cores.{HasState, StandsFor, AreDescribed, tail_of, unsure_of}
 
 abbrev pub ref_to : ℕ → ℕ → SegmentRef
 ref_to file first = record { file = file; first = first }
@@ -124,13 +124,14 @@ pub stands_pushed : (told told' : Type 0) (held held' : Image) (may_leave may_le
     → HasState (record core { live = live; segment = segment }) (after_pushed spans moment m)
     → (told → IsSettled held may_leave core.list m.state.blocks (tail_of core.segment) m.history
     → IsSettled held' may_leave' core.list m.state.blocks (tail_of segment) (pushed m.history spans))
+    → (told → AreDescribed held' core.infos m.state.blocks)
     → StandsFor told' held' may_leave' (record core { live = live; segment = segment }) (after_pushed spans moment m)
-stands_pushed told told' held held' may_leave may_leave' core live segment m spans moment number before faults s known writes step has settles = record {
+stands_pushed told told' held held' may_leave may_leave' core live segment m spans moment number before faults s known writes step has settles built = record {
   has = has;
   agrees = keeps_firsts before faults m _ _ _ s.agrees step;
   sound = keeps_sound before faults m _ _ _ s.sound step;
   above = keeps_floor before faults m _ _ _ s.above step;
-  built = λ t. (settles (known t) (s.settled (known t) writes)).holds.built;
+  built = λ t. built (known t);
   now = λ t image left. subst (λ (u : Option (List Span)). MayStandFor (pushed m.history spans) u image) (sym (s.sure writes))
       (settled_now held' may_leave' core.list m.state.blocks (tail_of segment) (pushed m.history spans) (settles (known t) (s.settled (known t) writes)) image left);
   settled = λ t free. settles (known t) (s.settled (known t) writes);
@@ -166,7 +167,7 @@ has_broken core live segment ready faults m same still has = record {
 pub stands_broken : (told told' : Type 0) (held held' : Image) (may_leave may_leave' : Image → Type 0) (core : CoreState) (live : LiveParts) (segment : Segment) (ready : ChunkParts) (faults : ℕ) (m : Machine)
     → SameParts core.live live → segment ≡ core.segment → StandsFor told held may_leave core m → (told' → told)
     → (told → (image : Image) → may_leave' image → MayStandFor m.history (Some ready.spans) image)
-    → (told → BlocksStand held' m.state.blocks)
+    → (told → AreDescribed held' core.infos m.state.blocks)
     → StandsFor told' held' may_leave' (record core { live = live; segment = segment; read_only = Some faults; unsure = Some ready }) (broken faults m)
 stands_broken told told' held held' may_leave may_leave' core live segment ready faults m same still s known now built = record {
   has = has_broken core live segment ready faults m same still s.has;
@@ -177,6 +178,22 @@ stands_broken told told' held held' may_leave may_leave' core live segment ready
   now = λ t image left. now (known t) image left;
   settled = λ t none. absurd (let bad : Some faults ≡ None = none in cc);
   sure = λ none. absurd (let bad : Some faults ≡ None = none in cc);
+}
+
+-- ---- a change of the rows in memory
+
+pub stands_by_rows : (told : Type 0) (held : Image) (may_leave : Image → Type 0) (core : CoreState) (live : LiveParts) (m : Machine) (u : State) (before faults : ℕ) (e : Event) (r : Reply)
+    → StandsFor told held may_leave core m → HasState (record core { live = live }) (with_state u m) → u.blocks ≡ m.state.blocks → Step before faults m e r (with_state u m)
+    → StandsFor told held may_leave (record core { live = live }) (with_state u m)
+stands_by_rows told held may_leave core live m u before faults e r s has blocks step = record {
+  has = has;
+  agrees = keeps_firsts before faults m _ e r s.agrees step;
+  sound = keeps_sound before faults m _ e r s.sound step;
+  above = keeps_floor before faults m _ e r s.above step;
+  built = λ t. subst (AreDescribed held core.infos) (sym blocks) (s.built t);
+  now = s.now;
+  settled = λ t free. subst (λ (b : List Block). IsSettled held may_leave core.list b (tail_of core.segment) m.history) (sym blocks) (s.settled t free);
+  sure = s.sure;
 }
 
 pub none_of : {A : Type 0} (o : Option A) → ((x : A) → o ≡ Some x → ⊥) → o ≡ None

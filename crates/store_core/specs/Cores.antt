@@ -2,7 +2,8 @@
 use Rattle.std.specs.Prelude.{◌≡◌, ◌⊎◌, ℕ, ◌+◌, ◌≤◌, List, [], ◌∷◌, ◌++◌, map, Option, None, IsTrue}
 use Rattle.std.specs.Option.{option_map}
 use Rattle.span_types.specs.declared.spans.Span.{Span}
-use Rattle.disk_model.specs.Images.{Image}
+use Rattle.span_types.specs.declared.spans.Row.{Row}
+use Rattle.disk_model.specs.Images.{Image, bytes_of}
 use Rattle.disk_model.specs.declared.disk.Device.{Ghosts}
 use Rattle.head_log.specs.declared.segment.Segment.{Segment}
 use Rattle.block_info.specs.InfoParts.{InfoParts}
@@ -10,13 +11,15 @@ use Rattle.block_list.specs.Body.{MeetsRules}
 use Rattle.block_list.specs.declared.body.BlockRef.{BlockRef}
 use Rattle.block_list.specs.declared.body.SegmentRef.{SegmentRef}
 use Rattle.store_model.specs.History.{History, count_of}
-use Rattle.store_model.specs.State.{State, Segment as ModelSegment, pin_numbers, block_files, is_among}
+use Rattle.store_model.specs.State.{State, Block, Segment as ModelSegment, pin_numbers, block_files, is_among}
 use Rattle.store_model.specs.Step.{Machine}
 use Rattle.store_model.specs.Laws.{Agrees}
 use Rattle.store_model.specs.Sound.{StateIsSound}
 use Rattle.store_model.specs.Told.{IsAboveFloor}
+use Rattle.block_format.specs.Blocks.{BlockHasInfo}
 use Rattle.store_state.specs.Given.{info_files}
-use Rattle.store_images.specs.Stored.{MayStandFor, BlocksStand, ref_of}
+use Rattle.store_state.specs.Written.{BlockRelation, AreBlocksOf}
+use Rattle.store_images.specs.Stored.{MayStandFor, ref_of}
 use Rattle.store_images.specs.Settled.{Tail, IsSettled}
 use Rattle.store_core.specs.Pins.{is_taken}
 use Rattle.store_core.specs.declared.state.CoreState.{CoreState}
@@ -35,6 +38,17 @@ segment_of ref = record { file = ref.file; first = ref.first }
 -- how a list names the block of which this is known
 abbrev pub listed_as : InfoParts → BlockRef
 listed_as info = record { file = info.file; level = info.level; rows = info.rows }
+
+-- the bytes are a block of these rows, and the information describes it
+abbrev pub described : BlockRelation
+described bytes info rows = BlockHasInfo info bytes rows
+
+abbrev pub rows_by_block : List Block → List (List Row)
+rows_by_block blocks = map (λ block. block.rows) blocks
+
+-- The file of each block is a block of its rows, which the information at the same place describes.
+abbrev pub AreDescribed : Image → List InfoParts → List Block → Type 0
+AreDescribed held infos blocks = AreBlocksOf described (λ file. bytes_of held file) infos (rows_by_block blocks)
 
 -- What the core's memory shows of the machine. No job is open as long as there are no calls that begin one.
 pub record HasState (core : CoreState) (m : Machine) : Type 0 where
@@ -67,7 +81,7 @@ pub record StandsFor (told : Type 0) (held : Image) (may_leave : Image → Type 
   pub sound : StateIsSound m.state
   pub above : IsAboveFloor m
   -- what the files of the listed blocks hold, also in a store that writes no more
-  pub built : told → BlocksStand held m.state.blocks
+  pub built : told → AreDescribed held core.infos m.state.blocks
   pub now : told → (image : Image) → may_leave image → MayStandFor m.history (unsure_of core) image
   pub settled : told → core.read_only ≡ None → IsSettled held may_leave core.list m.state.blocks (tail_of core.segment) m.history
   pub sure : core.read_only ≡ None → unsure_of core ≡ None

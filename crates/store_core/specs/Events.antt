@@ -1,5 +1,5 @@
 -- What one event makes of a core and of its disk.
-use Rattle.std.specs.Prelude.{◌≡◌, ◌⊎◌, ◌≤◌, ℕ, List, Option, Some, None, IsTrue, true, false}
+use Rattle.std.specs.Prelude.{◌≡◌, ◌⊎◌, ◌≤◌, ℕ, List, [], Option, Some, None, IsTrue, true, false}
 use Rattle.span_types.specs.Faults.{Rose}
 use Rattle.span_types.specs.declared.spans.Span.{Span}
 use Rattle.disk_model.specs.Images.{Image, bytes_of}
@@ -11,10 +11,10 @@ use Rattle.store_model.specs.Event.{Event, Reply}
 use Rattle.store_model.specs.Event.Event.{Push}
 use Rattle.store_model.specs.Event.Reply.{Refused}
 use Rattle.store_model.specs.Event.Refusal.{Fault}
-use Rattle.store_model.specs.Holds.{Hold, OpenIn, ends, files_of}
+use Rattle.store_model.specs.Holds.{Hold, OpenIn, ends, files_of, own_files}
 use Rattle.store_model.specs.Step.{Machine, Step}
-use Rattle.store_state.specs.Meaning.{Rewritten}
-use Rattle.store_state.specs.Calls.{MadeCalls}
+use Rattle.store_state.specs.Meaning.{Rewritten, reads_of}
+use Rattle.store_state.specs.Calls.{MadeCalls, RoseAtMost}
 use Rattle.store_images.specs.Stored.{MayStandFor, IsTidy}
 use Rattle.store_core.specs.Cores.{CoreStandsFor, CoreShows, unsure_of}
 use Rattle.store_core.specs.declared.store.Core.{Core}
@@ -53,8 +53,11 @@ pub record Did {D : Type 0} (g : Ghosts D) (old : Core D) (event : Event) (reply
   pub files : IsTrue (g.tells old.disk) → (m : Machine) → CoreShows g old m → (hold : Hold) → OpenIn m hold
       → ends event reply hold ≡ false → (file : ℕ) → is_among file (files_of hold) ≡ true
       → Rewritten event reply file (bytes_of (g.held old.disk) file) (bytes_of (g.held new.disk) file)
+  -- the file of a job that begins
+  pub empty : IsTrue (g.tells old.disk) → (file : ℕ) → is_among file (own_files reply) ≡ true → bytes_of (g.held new.disk) file ≡ []
   pub telling : g.tells new.disk ≡ g.tells old.disk
   pub later : g.faults old.disk ≤ g.faults new.disk
   pub cause : reply ≡ Refused Fault → Rose (g.faults old.disk) (g.faults new.disk)
   pub calls : MadeCalls event reply (g.calls old.disk) (g.calls new.disk)
-  pub reads : g.reads new.disk ≡ g.reads old.disk
+  -- a page read alone counts as a read
+  pub reads : RoseAtMost (reads_of event) (g.reads old.disk) (g.reads new.disk)

@@ -106,6 +106,10 @@ pub record IsOpenedState (list : ListBody) (batches : List (List Span)) (moment 
 
 -- ---- where bytes aren't a store's
 
+-- a list that stands in the slots names no block
+abbrev pub NamesNoBlock : Image → Type 0
+NamesNoBlock image = (list : ListBody) → ImageHoldsList image (Some list) → list.blocks ≡ []
+
 -- what is said of slots that were refused
 abbrev pub refusal_of : ListError → OpenError
 refusal_of list_errors.Fault = errors.Fault

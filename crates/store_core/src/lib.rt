@@ -4,6 +4,7 @@
 #![tactic(auto)]
 
 mod admit;
+mod cutting;
 mod error;
 mod events;
 mod laws;

@@ -16,7 +16,7 @@ ghost use Rattle.store_images.specs.Stored.{ImageStandsFor, IsSoundImage, first_
 ghost use Rattle.store_images.specs.Settled.{IsSettled};
 ghost use Rattle.store_core.specs.Cores.{tail_of};
 ghost use Rattle.store_core.specs.LogReading.{LogRead};
-ghost use Rattle.store_core.specs.Opening.{KeepsDisk, LeavesAlone, opened_list, Opened, opened_state, IsOpenedState, ListBreaks, StoreBreaks, refusal_of};
+ghost use Rattle.store_core.specs.Opening.{KeepsDisk, LeavesAlone, opened_list, Opened, opened_state, IsOpenedState, ListBreaks, StoreBreaks, NamesNoBlock, refusal_of};
 ghost use Rattle.store_core.specs.declared.error.OpenError.TheVariants.{Fault, NotStore};
 
 use crate::error::OpenError;
@@ -51,10 +51,12 @@ impl<D: Device> Core<D> {
         ensures list { IfOk result (λ core. IsTrue (D.tells disk) → (list : Option ListBody) → ImageHoldsList (D.held disk) list
             → core.state.list ≡ opened_list list) }
         ensures ready { IfOk result (λ core. IsTrue (D.tells disk) → IsReady (D.held core.disk) (D.may_leave core.disk) (Some core.state.list)) }
-        // Bytes are refused where they break, and only there.
+        // Bytes are refused where they break, and only there. No block is read yet, so that a list which names one is refused at its
+        // first byte; a sound store that names none is not refused.
         ensures not_store { IfErr result (λ e. IsTrue (D.tells disk) → (file at : ℕ) → e.0 ≡ NotStore file at → StoreBreaks (D.held disk) file at) }
         ensures unbroken { IfOk result (λ core. IsTrue (D.tells disk) → (file at : ℕ) → StoreBreaks (D.held disk) file at → ⊥) }
-        ensures sound { IfErr result (λ e. IsTrue (D.tells disk) → IsSoundImage (D.held disk) → (file at : ℕ) → e.0 ≢ NotStore file at) }
+        ensures sound { IfErr result (λ e. IsTrue (D.tells disk) → IsSoundImage (D.held disk) → NamesNoBlock (D.held disk)
+            → (file at : ℕ) → e.0 ≢ NotStore file at) }
         ensures telling { IfOk result (λ core. D.tells core.disk ≡ D.tells disk) }
         ensures telling_refused { IfErr result (λ e. D.tells e.1 ≡ D.tells disk) }
         ensures later { IfOk result (λ core. D.faults disk ≤ D.faults core.disk) }

@@ -1,8 +1,7 @@
 //! A core as a port, for pushes and looks.
 
-ghost use Rattle.std.specs.Prelude.{◌≡◌, []};
+ghost use Rattle.std.specs.Prelude.{[]};
 ghost use Rattle.store_model.specs.Event.{Event, Reply};
-ghost use Rattle.store_model.specs.Holds.{own_files};
 ghost use Rattle.store_state.specs.Meaning.{Called};
 ghost use Rattle.store_model.specs.Step.{Machine};
 ghost use Rattle.store_core.specs.Cores.{CoreShows};
@@ -34,10 +33,10 @@ impl<D: Device> LookPort for Core<D> {
     }
 }
 
-/// An event of a core that begins no job is a call of its port: what is known of the history and what is open go on as a port's
+/// An event of a core is a call of its port: what is known of the history and what is open go on as a port's
 /// calls say, by the step of the machine that the core stands for.
 pub fn an_event_is_a_call<D: Device>(old: &Core<D>, new: &Core<D>)
-    ensures { (event : Event) (reply : Reply) → own_files reply ≡ [] →
+    ensures { (event : Event) (reply : Reply) →
         Did D.Device.own old.now event reply new.now →
         Called (port_of D.Device.own) old.now event reply new.now }
 {}

@@ -16,7 +16,7 @@ use Rattle.block_list.specs.declared.body.SegmentRef.{SegmentRef}
 use Rattle.block_list.specs.declared.body.ListBody.{ListBody}
 use Rattle.store_model.specs.History.{History}
 use Rattle.store_model.specs.State.{Block}
-use Rattle.store_images.specs.BlockFile.{BlockHolds}
+use Rattle.block_format.specs.Blocks.{BlockHolds}
 use Rattle.store_images.specs.Stored.{BlocksStand, StoreHolds, ImageStores, ImageStandsFor, IsTidy, KeepsStored, ref_of, named_files, next_file_of}
 use Rattle.store_images.specs.Stored.ImageStores.{vacant, filled}
 use Rattle.store_images.proofs.Lists.{in_map}
@@ -49,7 +49,7 @@ slots_same a b list same holds =
 
 pub blocks_same : (a b : Image) (blocks : List Block) → ((x : Block) → Contains blocks x → bytes_of b x.file ≡ bytes_of a x.file) → BlocksStand a blocks → BlocksStand b blocks
 blocks_same a b blocks same stand = λ x c. record {
-  holds = subst (λ (bytes : List ℕ). BlockHolds x.rows bytes) (sym (same x c)) (stand x c).holds;
+  holds = subst (λ (bytes : List ℕ). BlockHolds bytes x.rows) (sym (same x c)) (stand x c).holds;
   counted = (stand x c).counted;
 }
 

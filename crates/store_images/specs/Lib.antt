@@ -1,4 +1,3 @@
-pub mod BlockFile
 pub mod Log
 pub mod Stored
 pub mod Settled

@@ -10,10 +10,10 @@ use Rattle.block_list.specs.Body.{firsts_of, files_of}
 use Rattle.block_list.specs.Slots.{ImageHoldsList}
 use Rattle.block_list.specs.declared.body.BlockRef.{BlockRef}
 use Rattle.block_list.specs.declared.body.ListBody.{ListBody}
+use Rattle.block_format.specs.Blocks.{BlockHolds}
 use Rattle.store_model.specs.History.{History, entry_rows, count_of, pushed}
 use Rattle.store_model.specs.Laws.{AgreesOn}
 use Rattle.store_model.specs.State.{Block, block_rows}
-use Rattle.store_images.specs.BlockFile.{BlockHolds}
 use Rattle.store_images.specs.Log.{LogHolds}
 
 -- the two lists of rows have the same first occurrences
@@ -26,9 +26,9 @@ SameFirsts rows others = (k : Key) → first_at k rows ≡ first_at k others
 abbrev pub ref_of : Block → BlockRef
 ref_of block = record { file = block.file; level = block.level; rows = block.size }
 
--- A listed block: its file's bytes stand for its rows, which are as many as its list entry says.
+-- A listed block: its file's bytes stand for its rows by the format of blocks, and they are as many as its list entry says.
 pub record BlockStands (image : Image) (block : Block) : Type 0 where
-  pub holds : BlockHolds block.rows (bytes_of image block.file)
+  pub holds : BlockHolds (bytes_of image block.file) block.rows
   pub counted : block.size ≡ length block.rows
 
 abbrev pub BlocksStand : Image → List Block → Type 0

@@ -1,6 +1,5 @@
-use Rattle.std.proofs.Common.{refl}
 use Rattle.store_core.proofs.PortEvents.{did_is_called}
 use Rattle.store_core.proofs.port.CoreLookPort.held.Goals as goal
 
 pub returns : goal.returns
-returns g c = did_is_called g.D.Device c.args.self.now _ _ _ refl c.held_rows.ensures
+returns g c = did_is_called g.D.Device c.args.self.now _ _ _ c.held_rows.ensures

@@ -2,11 +2,11 @@ use Rattle.std.proofs.Common.{◌∙◌, sym, subst}
 use Rattle.store_model.specs.History.{History}
 use Rattle.store_core.specs.Port.{LookShows}
 use Rattle.store_core.proofs.OpeningEnds.{if_ok_more}
-use Rattle.store_core.proofs.PortEvents.{did_is_called, look_begins}
+use Rattle.store_core.proofs.PortEvents.{did_is_called}
 use Rattle.store_core.proofs.port.CoreLookPort.look.Goals as goal
 
 pub returns-clause-called : goal.returns-clause-called
-returns-clause-called g c = did_is_called g.D.Device c.args.self.now _ _ _ (look_begins c.take_look.result) c.take_look.ensures.looked
+returns-clause-called g c = did_is_called g.D.Device c.args.self.now _ _ _ c.take_look.ensures.looked
 
 pub returns-clause-pins : goal.returns-clause-pins
 returns-clause-pins g c = if_ok_more c.take_look.result _ _ (λ look same infos told. same ∙ sym told) c.take_look.ensures.infos

@@ -1,5 +1,5 @@
-use Rattle.store_core.proofs.PortEvents.{did_is_called, push_begins}
+use Rattle.store_core.proofs.PortEvents.{did_is_called}
 use Rattle.store_core.proofs.port.CoreLookPort.push.Goals as goal
 
 pub returns : goal.returns
-returns g c = did_is_called g.D.Device c.args.self.now _ _ _ (push_begins c.push_batch.result) c.push_batch.ensures
+returns g c = did_is_called g.D.Device c.args.self.now _ _ _ c.push_batch.ensures

@@ -22,8 +22,8 @@ returns-in-Err-clause-not_store g c = λ told file at is.
     slot (c.in-Err.ensures.not_list told file at (ap Err (refused_slot c.in-Err.error file at (sym c.refusal.ensures ∙ is))))
 
 pub returns-in-Err-clause-sound : goal.returns-in-Err-clause-sound
-returns-in-Err-clause-sound g c = λ told sound file at is.
-    sound_unbroken (g.D.Device.held c.args.disk) sound.0 file at sound.1
+returns-in-Err-clause-sound g c = λ told sound none file at is.
+    sound_unbroken (g.D.Device.held c.args.disk) sound.0 file at none sound.1
     (slot (c.in-Err.ensures.not_list told file at (ap Err (refused_slot c.in-Err.error file at (sym c.refusal.ensures ∙ is)))))
 
 pub returns-in-Err-clause-fault : goal.returns-in-Err-clause-fault
@@ -83,7 +83,7 @@ pub returns-in-None-clause-not_store : goal.returns-in-None-clause-not_store
 returns-in-None-clause-not_store g c = if_err_more c.open_new.result _ _ (λ e never told file at is. absurd (never file at is)) c.open_new.ensures.a_store
 
 pub returns-in-None-clause-sound : goal.returns-in-None-clause-sound
-returns-in-None-clause-sound g c = if_err_more c.open_new.result _ _ (λ e never told sound file at is. never file at is) c.open_new.ensures.a_store
+returns-in-None-clause-sound g c = if_err_more c.open_new.result _ _ (λ e never told sound none file at is. never file at is) c.open_new.ensures.a_store
 
 -- ---- a store was read
 
@@ -157,13 +157,13 @@ returns-in-Err-read_store-clause-not_store g c = λ told file at is.
     (λ x inside. c.load.ensures.others told x.file (segment_low list (c.in-Ok.ensures.rules list (ap Ok c.in-Some.is)) x inside)) (c.in-Err-read_store.ensures.not_store told_mid file at (ap Err is)))
 
 pub returns-in-Err-read_store-clause-sound : goal.returns-in-Err-read_store-clause-sound
-returns-in-Err-read_store-clause-sound g c = λ told sound file at is.
+returns-in-Err-read_store-clause-sound g c = λ told sound none file at is.
     let d = g.D.Device in
     let disk = c.args.disk in
     let mid = c.load.new.disk in
     let list = c.in-Some.list in
     let told_mid : IsTrue (d.tells mid) = subst IsTrue (sym c.load.ensures.telling) told in
-    sound_unbroken (d.held disk) sound.0 file at sound.1
+    sound_unbroken (d.held disk) sound.0 file at none sound.1
     (listed list (subst (λ (l : Option ListBody). slots_at (bytes_of (d.held disk) 0) (bytes_of (d.held disk) 1) ≡ Ok l) c.in-Some.is (c.in-Ok.ensures.found told))
     (list_breaks_same (d.held disk) (d.held mid) list file at
     (λ x inside. c.load.ensures.others told x.file (segment_low list (c.in-Ok.ensures.rules list (ap Ok c.in-Some.is)) x inside)) (c.in-Err-read_store.ensures.not_store told_mid file at (ap Err is))))
