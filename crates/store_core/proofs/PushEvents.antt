@@ -158,7 +158,7 @@ module _ {D : Type 0} (g : Ghosts D) (old : Core D) (disk : D) (spans : List Spa
         );
     tidy = tidy_in;
     files = λ told m stands hold is_open stays' f among. held_stays old.state m (g.held old.disk) (g.held disk) stands.has stands.sound (appends told).besides hold is_open f among;
-    empty = λ told f among. none_begun _ f _ refl among;
+    empty = λ told f among. none_begun (Count number) f _ refl among;
     telling = telling;
     later = later;
     cause = λ fault. absurd (let bad : Count number ≡ Refused Fault = fault in cc);
@@ -189,7 +189,7 @@ module _ {D : Type 0} (g : Ghosts D) (old : Core D) (disk : D) (spans : List Spa
     );
     tidy = tidy_in;
     files = λ told m stands hold is_open stays f among. held_stays old.state m (g.held old.disk) (g.held disk) stands.has stands.sound (appends told).besides hold is_open f among;
-    empty = λ told f among. none_begun _ f _ refl among;
+    empty = λ told f among. none_begun (Refused Fault) f _ refl among;
     telling = telling;
     later = later;
     cause = λ fault. rose;
