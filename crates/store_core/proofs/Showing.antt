@@ -10,7 +10,8 @@ use Rattle.store_model.specs.State.{Block, block_files, block_rows, live_rows}
 use Rattle.store_model.specs.Step.{Machine}
 use Rattle.store_model.proofs.KeepsFirsts.{look_is}
 use Rattle.store_state.specs.Given.{info_files}
-use Rattle.store_state.specs.Written.{BlockRelation, AreBlocksOf}
+use Rattle.block_format.specs.Blocks.{BlockHasInfo}
+use Rattle.store_state.specs.Written.{AreBlocksOf}
 use Rattle.store_state.specs.Shown.{ShowsHistory}
 use Rattle.store_state.specs.declared.jobs.Look.{Look}
 use Rattle.store_images.specs.BlockFile.{BlockHolds}
@@ -23,23 +24,24 @@ use Rattle.store_core.proofs.Looking.{waiting_in}
 abbrev rows_by_block : List Block → List (List Row)
 rows_by_block blocks = map (λ (b : Block). b.rows) blocks
 
-abbrev holding : BlockRelation
-holding = λ bytes info rows. BlockHolds rows bytes
-
 abbrev front : List ℕ → ℕ
 front [] = 0
 front (x ∷ xs) = x
 
 -- ---- the blocks that a core lists are those of its machine
 
+unfolding BlockHolds
+none_yet : (info : InfoParts) (bytes : List ℕ) (rows : List Row) (stored : List ℕ) → BlockHolds rows stored → BlockHasInfo info bytes rows
+none_yet info bytes rows stored holds = absurd holds
+
 are_blocks : (held : Image) (infos : List InfoParts) (blocks : List Block) → info_files infos ≡ block_files blocks → BlocksStand held blocks
-    → AreBlocksOf holding (λ file. bytes_of held file) infos (rows_by_block blocks)
+    → AreBlocksOf (λ file. bytes_of held file) infos (rows_by_block blocks)
 are_blocks held [] [] same built = tt
 are_blocks held [] (b ∷ bs) same built = absurd (let bad : [] ≡ b.file ∷ block_files bs = same in cc)
 are_blocks held (i ∷ is) [] same built = absurd (let bad : i.file ∷ info_files is ≡ [] = same in cc)
 are_blocks held (i ∷ is) (b ∷ bs) same built =
     let first : i.file ≡ b.file = ap front same in (
-      subst (λ (f : ℕ). BlockHolds b.rows (bytes_of held f)) (sym first) (built b (at_front b bs)).holds,
+      none_yet i (bytes_of held i.file) b.rows (bytes_of held b.file) (built b (at_front b bs)).holds,
       are_blocks held is bs (ap (drop 1) same) (λ x inside. built x (behind x b bs inside)),
     )
 
@@ -66,11 +68,11 @@ whole h n is =
 
 pub look_shows : (told : Type 0) (held : Image) (may_leave : Image → Type 0) (core : CoreState) (m : Machine) (look : Look) → StandsFor told held may_leave core m
     → look.pin.blocks ≡ core.infos → look.as_of ≡ core.segment.first + core.segment.count → look.rows ≡ core.live.flushing ++ core.live.head ++ live_rows core.live.live
-    → ShowsHistory told holding (λ file. bytes_of held file) look m.history
+    → ShowsHistory told (λ file. bytes_of held file) look m.history
 look_shows told held may_leave core m look s blocks length_is rows = record {
   parts = rows_by_block m.state.blocks;
   one_each = each_one core.infos m.state.blocks s.has.infos ∙ sym (ap length blocks);
-  their_rows = λ t. subst (λ (i : List InfoParts). AreBlocksOf holding (λ file. bytes_of held file) i (rows_by_block m.state.blocks)) (sym blocks) (are_blocks held core.infos m.state.blocks s.has.infos (s.built t));
+  their_rows = λ t. subst (λ (i : List InfoParts). AreBlocksOf (λ file. bytes_of held file) i (rows_by_block m.state.blocks)) (sym blocks) (are_blocks held core.infos m.state.blocks s.has.infos (s.built t));
   firsts = λ k. ap (λ (r : List Row). first_at k (look.rows ++ r)) (flattened m.state.blocks)
       ∙ look_is m look.rows s.agrees (waiting_in core m look.rows s.has rows) k
       ∙ ap (λ (h : History). first_at k (history_rows h)) (sym (whole m.history look.as_of (length_is ∙ sym s.has.count)));

@@ -2,7 +2,6 @@
 use Rattle.std.specs.Prelude.{◌≡◌, IsTrue}
 use Rattle.disk_model.specs.Images.{bytes_of}
 use Rattle.disk_model.specs.declared.disk.Device.{Ghosts}
-use Rattle.store_images.specs.BlockFile.{BlockHolds}
 use Rattle.store_model.specs.History.{History}
 use Rattle.store_state.specs.Meaning.{Meaning}
 use Rattle.store_state.specs.Cores.{CoreMeaning, meaning_of}
@@ -20,7 +19,6 @@ shown_by {D} g = record {
   in_memory = CoreShows g;
   tells = λ core. g.tells core.disk;
   shows = λ core file. bytes_of (g.held core.disk) file;
-  block_holds = λ bytes info rows. BlockHolds rows bytes;
   lists = λ core infos. infos ≡ core.state.infos;
   faults = λ core. g.faults core.disk;
   reads = λ core. g.reads core.disk;
@@ -34,5 +32,4 @@ port_of {D} g = record (meaning_of (shown_by g)) { did = Did g }
 -- the look shows the history by what the core's disk holds
 abbrev pub LookShows : {D : Type 0} → Ghosts D → Core D → Look → History → Type 0
 LookShows {D} g core look h =
-    ShowsHistory (IsTrue (g.tells core.disk)) (λ bytes info rows. BlockHolds rows bytes)
-    (λ file. bytes_of (g.held core.disk) file) look h
+    ShowsHistory (IsTrue (g.tells core.disk)) (λ file. bytes_of (g.held core.disk) file) look h
