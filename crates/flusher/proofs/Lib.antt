@@ -1,1 +1,2 @@
 mod TaskLaws
+mod RoundLaws

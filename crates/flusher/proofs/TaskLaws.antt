@@ -57,7 +57,7 @@ take_whole zero (x ∷ xs) h = absurd (omega (arith, h))
 take_whole (suc w) [] h = refl
 take_whole (suc w) (x ∷ xs) h = ap (λ ys. x ∷ ys) (take_whole w xs (omega (arith, h)))
 
-itself : (n : ℕ) → (n == n) ≡ true
+pub itself : (n : ℕ) → (n == n) ≡ true
 itself n = search rules
 
 -- ---- the block
@@ -110,7 +110,6 @@ after_piece meaning old new job bytes info piece is called part within = record 
   few = is.few;
   block = is.block;
   within = within;
-  near = is.near;
   so_far = λ tells. let told : IsTrue (meaning.tells old) = subst IsTrue called.telling tells in
       called.bytes told (flush_of job) is.is_open refl job.out.file (ap (λ t. t || false) (itself job.out.file))
       ∙ ap (λ t. if t then meaning.shows old job.out.file ++ piece else meaning.shows old job.out.file) (itself job.out.file)
@@ -164,10 +163,10 @@ leads_out number file size n rest piece why hn hp some calls round h =
 
 -- the commit
 pub leads_listed : (number file size : ℕ) (rest : List ℕ) → rest ≡ [] → Leads (stage.Writing number file rest size) (call (CommitFlush number size) Fine ∷ []) (Did 1 size)
-leads_listed number file size rest none = subst (λ (x : List ℕ). Leads (stage.Writing number file x size) (call (CommitFlush number size) Fine ∷ []) _) (sym none) (listed number file size)
+leads_listed number file size rest none = subst (λ (x : List ℕ). Leads (stage.Writing number file x size) (call (CommitFlush number size) Fine ∷ []) (Did 1 size)) (sym none) (listed number file size)
 
 pub leads_unlisted : (number file size : ℕ) (rest : List ℕ) (why : WriteError) → rest ≡ [] → Leads (stage.Writing number file rest size) (call (CommitFlush number size) (reply.Refused (write_refusal why)) ∷ []) (Refused (write_cause why))
-leads_unlisted number file size rest why none = subst (λ (x : List ℕ). Leads (stage.Writing number file x size) (call (CommitFlush number size) (reply.Refused (write_refusal why)) ∷ []) _) (sym none) (unlisted number file size why)
+leads_unlisted number file size rest why none = subst (λ (x : List ℕ). Leads (stage.Writing number file x size) (call (CommitFlush number size) (reply.Refused (write_refusal why)) ∷ []) (Refused (write_cause why))) (sym none) (unlisted number file size why)
 
 -- Whatever is written first of a block is the first event behind the begin.
 pub from_start : {P : Type 0} (meaning : Meaning P) (old new : P) (job : FlushJob) (bytes : List ℕ) (info : InfoParts) (after : Task) → IsWriting meaning job bytes info old

@@ -47,7 +47,6 @@ pub record IsWriting {P : Type 0} (meaning : Meaning P) (job : FlushJob) (bytes 
   pub few : length job.rows ≤ 1048576
   pub block : IsFlushBlock job.out.file job.rows bytes info
   pub within : job.out.written ≤ length bytes
-  pub near : length bytes < 2 ^ 62
   pub so_far : IsTrue (meaning.tells port) → meaning.shows port job.out.file ≡ take job.out.written bytes
 
 -- The port has what the task stands on. A task that hasn't begun asks of it that it says what is open in it.
@@ -83,8 +82,8 @@ Answers More (Ended round) = ⊥
 
 -- how many steps are left at most
 abbrev pub steps_left : Task → ℕ
-steps_left Fresh = 2 ^ 62 + 5
-steps_left (Begun job) = 2 ^ 62 + 4
+steps_left Fresh = 2 ^ 64 + 5
+steps_left (Begun job) = 2 ^ 64 + 4
 steps_left (Writing job bytes info) = length bytes - job.out.written + 2
 steps_left (Failing job why) = 1
 steps_left (Ended round) = 0

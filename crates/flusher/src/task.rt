@@ -12,6 +12,7 @@ ghost use Rattle.flusher.specs.Tasks.{Answers, Ended, Failing, Fits, Fresh, HasB
 
 use crate::building::{Block, build_block};
 use crate::piece::piece;
+use block_info::SharedInfo;
 use std::alloc::Global;
 use std::marker::Model;
 use std::mem;
@@ -93,7 +94,7 @@ fn begin<P: Port>(port: &mut P) -> Phase
     requires { (held : List Hold) × P.meaning.holds port.old held }
     ensures steps { OneEvent P.meaning Fresh port.old (task_of result) port.new }
     ensures fits { Fits P.meaning (task_of result) port.new }
-    ensures left { steps_left (task_of result) ≤ 2 ^ 62 + 4 }
+    ensures left { steps_left (task_of result) ≤ 2 ^ 64 + 4 }
 {
     match port.begin_flush() {
         Ok(Some(job)) => Phase::Begun(job),
@@ -107,10 +108,10 @@ fn open<P: Port>(alloc: Global, job: FlushJob, port: &mut P) -> Phase
     requires { HasBegun P.meaning job port.old }
     ensures steps { OneEvent P.meaning (Begun job) port.old (task_of result) port.new }
     ensures fits { Fits P.meaning (task_of result) port.new }
-    ensures left { steps_left (task_of result) ≤ 2 ^ 62 + 3 }
+    ensures left { steps_left (task_of result) ≤ 2 ^ 64 + 3 }
 {
     match build_block(alloc, &job) {
-        Ok(block) => write_first(job, block, port),
+        Ok(block) => start(job, block, port),
         Err(_) => give_up_begun(job, port),
     }
 }
@@ -126,15 +127,15 @@ fn give_up_begun<P: Port>(job: FlushJob, port: &mut P) -> Phase
     Phase::Ended(Round::Refused(Refusal::Memory))
 }
 
-// Writes the first piece of a block.
-fn write_first<P: Port>(job: FlushJob, block: Block, port: &mut P) -> Phase
+// Makes the first event of a block that is built.
+fn start<P: Port>(job: FlushJob, block: Block, port: &mut P) -> Phase
     requires is_writing { IsWriting P.meaning job block.bytes block.info port.old }
     requires at_start { job.out.written ≡ 0 }
     ensures steps { OneEvent P.meaning (Begun job) port.old (task_of result) port.new }
     ensures fits { Fits P.meaning (task_of result) port.new }
-    ensures left { steps_left (task_of result) ≤ 2 ^ 62 + 3 }
+    ensures left { steps_left (task_of result) ≤ 2 ^ 64 + 3 }
 {
-    write(job, block, port)
+    go_on(job, block, port)
 }
 
 // Writes the next piece, or lists the block that is written.
@@ -143,6 +144,7 @@ fn go_on<P: Port>(job: FlushJob, block: Block, port: &mut P) -> Phase
     ensures steps { OneEvent P.meaning (Writing job block.bytes block.info) port.old (task_of result) port.new }
     ensures fits { Fits P.meaning (task_of result) port.new }
     ensures left { steps_left (task_of result) ≤ length block.bytes - job.out.written + 1 }
+    ensures near { length block.bytes < 2 ^ 64 }
 {
     if job.out.written < block.bytes.len() as u64 {
         write(job, block, port)
@@ -175,11 +177,17 @@ fn commit<P: Port>(job: FlushJob, block: Block, port: &mut P) -> Phase
     ensures fits { Fits P.meaning (task_of result) port.new }
     ensures left { steps_left (task_of result) ≡ 0 }
 {
-    let rows = block.info.get().rows;
+    let rows = rows_of(&block.info);
     match port.commit_flush(job, block.info) {
         Ok(()) => Phase::Ended(Round::Did { blocks: 1, rows }),
         Err(error) => Phase::Ended(Round::Refused(write_cause(error))),
     }
+}
+
+fn rows_of(info: &SharedInfo) -> u32
+    ensures { result ≡ info.now.rows }
+{
+    info.get().rows
 }
 
 // Gives a job up.

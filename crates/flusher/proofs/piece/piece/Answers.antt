@@ -18,13 +18,16 @@ short_rest (suc n) zero xs h = absurd (omega (arith, h))
 short_rest (suc n) (suc m) [] h = absurd (omega (arith, h))
 short_rest (suc n) (suc m) (x ∷ xs) h = short_rest n m xs (omega (arith, h))
 
+nothing_left : (n : ℕ) → drop {A = ℕ} n [] ≡ []
+nothing_left zero = refl
+nothing_left (suc n) = refl
+
 drop_more : (w n : ℕ) (xs : List ℕ) → drop (w + n) xs ≡ drop n (drop w xs)
 drop_more zero n xs = ap (λ (m : ℕ). drop m xs) (plus n)
   where
     plus : (n : ℕ) → 0 + n ≡ n
     plus n = omega arith
-drop_more (suc w) zero [] = refl
-drop_more (suc w) (suc n) [] = refl
+drop_more (suc w) n [] = nothing_left (suc w + n) ∙ sym (nothing_left n)
 drop_more (suc w) n (x ∷ xs) = ap (λ (m : ℕ). drop m (x ∷ xs)) (plus w n) ∙ drop_more w n xs
   where
     plus : (w n : ℕ) → suc w + n ≡ suc (w + n)
