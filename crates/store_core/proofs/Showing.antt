@@ -14,7 +14,7 @@ use Rattle.store_state.specs.Written.{AreBlocksOf}
 use Rattle.store_state.specs.Shown.{ShowsHistory}
 use Rattle.store_state.specs.declared.jobs.Look.{Look}
 use Rattle.store_core.specs.declared.state.CoreState.{CoreState}
-use Rattle.store_core.specs.Cores.{StandsFor, described, rows_by_block}
+use Rattle.store_core.specs.Cores.{StandsFor, rows_by_block}
 use Rattle.store_core.proofs.Looking.{waiting_in}
 
 -- ---- the blocks that a core lists are those of its machine
@@ -42,11 +42,11 @@ whole h n is =
 
 pub look_shows : (told : Type 0) (held : Image) (may_leave : Image → Type 0) (core : CoreState) (m : Machine) (look : Look) → StandsFor told held may_leave core m
     → look.pin.blocks ≡ core.infos → look.as_of ≡ core.segment.first + core.segment.count → look.rows ≡ core.live.flushing ++ core.live.head ++ live_rows core.live.live
-    → ShowsHistory told described (λ file. bytes_of held file) look m.history
+    → ShowsHistory told (λ file. bytes_of held file) look m.history
 look_shows told held may_leave core m look s blocks length_is rows = record {
   parts = rows_by_block m.state.blocks;
   one_each = each_one core.infos m.state.blocks s.has.infos ∙ sym (ap length blocks);
-  their_rows = λ t. subst (λ (i : List InfoParts). AreBlocksOf described (λ file. bytes_of held file) i (rows_by_block m.state.blocks)) (sym blocks) (s.built t);
+  their_rows = λ t. subst (λ (i : List InfoParts). AreBlocksOf (λ file. bytes_of held file) i (rows_by_block m.state.blocks)) (sym blocks) (s.built t);
   firsts = λ k. ap (λ (r : List Row). first_at k (look.rows ++ r)) (flattened m.state.blocks)
       ∙ look_is m look.rows s.agrees (waiting_in core m look.rows s.has rows) k
       ∙ ap (λ (h : History). first_at k (history_rows h)) (sym (whole m.history look.as_of (length_is ∙ sym s.has.count)));

@@ -16,9 +16,8 @@ use Rattle.store_model.specs.Step.{Machine}
 use Rattle.store_model.specs.Laws.{Agrees}
 use Rattle.store_model.specs.Sound.{StateIsSound}
 use Rattle.store_model.specs.Told.{IsAboveFloor}
-use Rattle.block_format.specs.Blocks.{BlockHasInfo}
 use Rattle.store_state.specs.Given.{info_files}
-use Rattle.store_state.specs.Written.{BlockRelation, AreBlocksOf}
+use Rattle.store_state.specs.Written.{AreBlocksOf}
 use Rattle.store_images.specs.Stored.{MayStandFor, ref_of}
 use Rattle.store_images.specs.Settled.{Tail, IsSettled}
 use Rattle.store_core.specs.Pins.{is_taken}
@@ -39,16 +38,12 @@ segment_of ref = record { file = ref.file; first = ref.first }
 abbrev pub listed_as : InfoParts → BlockRef
 listed_as info = record { file = info.file; level = info.level; rows = info.rows }
 
--- the bytes are a block of these rows, and the information describes it
-abbrev pub described : BlockRelation
-described bytes info rows = BlockHasInfo info bytes rows
-
 abbrev pub rows_by_block : List Block → List (List Row)
 rows_by_block blocks = map (λ block. block.rows) blocks
 
 -- The file of each block is a block of its rows, which the information at the same place describes.
 abbrev pub AreDescribed : Image → List InfoParts → List Block → Type 0
-AreDescribed held infos blocks = AreBlocksOf described (λ file. bytes_of held file) infos (rows_by_block blocks)
+AreDescribed held infos blocks = AreBlocksOf (λ file. bytes_of held file) infos (rows_by_block blocks)
 
 -- What the core's memory shows of the machine. No job is open as long as there are no calls that begin one.
 pub record HasState (core : CoreState) (m : Machine) : Type 0 where

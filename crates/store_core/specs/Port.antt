@@ -7,7 +7,7 @@ use Rattle.store_state.specs.Meaning.{Meaning}
 use Rattle.store_state.specs.Cores.{CoreMeaning, meaning_of}
 use Rattle.store_state.specs.Shown.{ShowsHistory}
 use Rattle.store_state.specs.declared.jobs.Look.{Look}
-use Rattle.store_core.specs.Cores.{CoreStandsFor, CoreShows, described}
+use Rattle.store_core.specs.Cores.{CoreStandsFor, CoreShows}
 use Rattle.store_core.specs.Events.{Did}
 use Rattle.store_core.specs.declared.store.Core.{Core}
 
@@ -19,7 +19,6 @@ shown_by {D} g = record {
   in_memory = CoreShows g;
   tells = λ core. g.tells core.disk;
   shows = λ core file. bytes_of (g.held core.disk) file;
-  block_holds = described;
   lists = λ core infos. infos ≡ core.state.infos;
   faults = λ core. g.faults core.disk;
   reads = λ core. g.reads core.disk;
@@ -33,4 +32,4 @@ port_of {D} g = record (meaning_of (shown_by g)) { did = Did g }
 -- the look shows the history by what the core's disk holds
 abbrev pub LookShows : {D : Type 0} → Ghosts D → Core D → Look → History → Type 0
 LookShows {D} g core look h =
-    ShowsHistory (IsTrue (g.tells core.disk)) described (λ file. bytes_of (g.held core.disk) file) look h
+    ShowsHistory (IsTrue (g.tells core.disk)) (λ file. bytes_of (g.held core.disk) file) look h

@@ -12,7 +12,6 @@ use Rattle.store_model.specs.Sound.{StateIsSound}
 use Rattle.store_model.specs.Holds.{Hold, OpenIn, ends, files_of, own_files}
 use Rattle.block_info.specs.InfoParts.{InfoParts}
 use Rattle.store_state.specs.Calls.{MadeCalls}
-use Rattle.store_state.specs.Written.{BlockRelation}
 use Rattle.store_state.specs.Meaning.{View, Meaning, Rewritten, reads_of}
 
 -- Which machines a core stands for, which ones its memory shows, whatever its disk holds, and what it shows besides.
@@ -21,7 +20,6 @@ pub record CoreMeaning (P : Type 0) : Type 1 where
   pub in_memory : P → Machine → Type 0
   pub tells : P → Bool
   pub shows : P → ℕ → List ℕ
-  pub block_holds : BlockRelation
   pub lists : P → List InfoParts → Type 0
   pub faults : P → ℕ
   pub reads : P → ℕ
@@ -60,7 +58,6 @@ meaning_of {P} core = record {
   holds = CoreHolds core;
   tells = core.tells;
   shows = core.shows;
-  block_holds = core.block_holds;
   lists = core.lists;
   faults = core.faults;
   reads = core.reads;

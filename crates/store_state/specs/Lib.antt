@@ -1,5 +1,7 @@
 pub mod Meaning
 pub mod Calls
+pub mod Made
+pub mod Rounds
 pub mod Given
 pub mod Replies
 pub mod Written

@@ -11,7 +11,6 @@ use Rattle.store_model.specs.Event.Reply.{Count, Fine, Looked, Refused}
 use Rattle.store_model.specs.Event.Refusal.{Fault}
 use Rattle.block_info.specs.InfoParts.{InfoParts}
 use Rattle.store_state.specs.Calls.{MadeCalls}
-use Rattle.store_state.specs.Written.{BlockRelation}
 use Rattle.store_model.specs.Holds.{Hold, ends, holds_after, files_of, own_files}
 
 -- what a port knows: a history, and its own open looks and jobs
@@ -27,8 +26,6 @@ pub record Meaning (P : Type 0) : Type 1 where
   -- whether contracts speak of bytes, and then the bytes of a file
   pub tells : P → Bool
   pub shows : P → ℕ → List ℕ
-  -- what it means that bytes are a block of rows
-  pub block_holds : BlockRelation
   -- the listed blocks by their information, in list order, where a port tells them
   pub lists : P → List InfoParts → Type 0
   -- how often a device call failed, how many pages were read, and how many device calls were made

@@ -9,20 +9,20 @@ use Rattle.store_model.specs.History.{History, history_rows, up_to}
 use Rattle.store_model.specs.State.{Block}
 use Rattle.store_model.specs.Choice.{choice, level_of, most_rows}
 use Rattle.store_state.specs.declared.jobs.Look.{Look}
-use Rattle.store_state.specs.Written.{BlockRelation, AreBlocksOf}
+use Rattle.store_state.specs.Written.{AreBlocksOf}
 
 -- The look's rows, and the rows of its blocks, have the first occurrences of the history as it was at the look's length. Where
 -- bytes are told, the files of the blocks hold these rows, as the blocks' information describes them.
-pub record ShowsHistory (told : Type 0) (holds : BlockRelation) (bytes : ℕ → List ℕ) (look : Look) (h : History) : Type 0 where
+pub record ShowsHistory (told : Type 0) (bytes : ℕ → List ℕ) (look : Look) (h : History) : Type 0 where
   pub parts : List (List Row)
   pub one_each : length parts ≡ length look.pin.blocks
-  pub their_rows : told → AreBlocksOf holds bytes look.pin.blocks parts
+  pub their_rows : told → AreBlocksOf bytes look.pin.blocks parts
   pub firsts : (k : Key) → first_at k (look.rows ++ flat_map (λ rows. rows) parts)
       ≡ first_at k (history_rows (up_to look.as_of h))
 
 -- Each of the blocks is one, of some rows, as its information describes it.
-abbrev pub AreBlocks : BlockRelation → (ℕ → List ℕ) → List InfoParts → Type 0
-AreBlocks holds bytes infos = (parts : List (List Row)) × AreBlocksOf holds bytes infos parts
+abbrev pub AreBlocks : (ℕ → List ℕ) → List InfoParts → Type 0
+AreBlocks bytes infos = (parts : List (List Row)) × AreBlocksOf bytes infos parts
 
 -- a block as its information tells of it: its rows are left out
 abbrev pub told_block : InfoParts → Block

@@ -4,6 +4,7 @@ use Rattle.std.specs.List.{flat_map}
 use Rattle.span_types.specs.First.{IsFirstOf}
 use Rattle.span_types.specs.declared.spans.Row.{Row}
 use Rattle.block_info.specs.InfoParts.{InfoParts}
+use Rattle.block_format.specs.Blocks.{BlockHasInfo}
 use Rattle.store_state.specs.declared.jobs.JobFile.{JobFile}
 
 -- a page of a file; behind the file's end it has zeros
@@ -16,32 +17,28 @@ pub record IsInfoOf (file level : ℕ) (info : InfoParts) (rows : List Row) : Ty
   pub its_level : info.level ≡ level
   pub counted : (firsts : List Row) → IsFirstOf rows firsts → info.rows ≡ length firsts
 
--- Bytes, a block's information and rows: what it means that they are a block of those rows is handed in.
-abbrev pub BlockRelation : Type 1
-BlockRelation = List ℕ → InfoParts → List Row → Type 0
-
 -- The information is that of a block of the rows' first occurrences, and where bytes are told the job's file holds that block.
-pub record IsBlockOf (told : Type 0) (holds : BlockRelation) (own : List ℕ) (file level : ℕ) (info : InfoParts) (rows : List Row) : Type 0 where
+pub record IsBlockOf (told : Type 0) (own : List ℕ) (file level : ℕ) (info : InfoParts) (rows : List Row) : Type 0 where
   pub its_info : IsInfoOf file level info rows
   pub firsts : List Row
   pub are_first : IsFirstOf rows firsts
   pub bytes : List ℕ
-  pub block : holds bytes info firsts
+  pub block : BlockHasInfo info bytes firsts
   pub its_bytes : told → own ≡ bytes
 
 -- Blocks, each of which holds the rows of one part.
-abbrev pub AreBlocksOf : BlockRelation → (ℕ → List ℕ) → List InfoParts → List (List Row) → Type 0
-AreBlocksOf holds bytes [] [] = Unit {0}
-AreBlocksOf holds bytes (info ∷ infos) (rows ∷ parts) =
-    holds (bytes info.file) info rows × AreBlocksOf holds bytes infos parts
-AreBlocksOf holds bytes _ _ = ⊥
+abbrev pub AreBlocksOf : (ℕ → List ℕ) → List InfoParts → List (List Row) → Type 0
+AreBlocksOf bytes [] [] = Unit {0}
+AreBlocksOf bytes (info ∷ infos) (rows ∷ parts) =
+    BlockHasInfo info (bytes info.file) rows × AreBlocksOf bytes infos parts
+AreBlocksOf bytes _ _ = ⊥
 
 -- It is a block of the first occurrences of the rows of these blocks.
-pub record IsJoinedBlock (told : Type 0) (holds : BlockRelation) (bytes : ℕ → List ℕ) (file level : ℕ) (info : InfoParts) (infos : List InfoParts) : Type 0 where
+pub record IsJoinedBlock (told : Type 0) (bytes : ℕ → List ℕ) (file level : ℕ) (info : InfoParts) (infos : List InfoParts) : Type 0 where
   pub parts : List (List Row)
   pub one_each : length parts ≡ length infos
-  pub their_rows : told → AreBlocksOf holds bytes infos parts
-  pub block : IsBlockOf told holds (bytes file) file level info (flat_map (λ rows. rows) parts)
+  pub their_rows : told → AreBlocksOf bytes infos parts
+  pub block : IsBlockOf told (bytes file) file level info (flat_map (λ rows. rows) parts)
 
 -- What the file of a job holds is just as long as what was written to it.
 abbrev pub HasWritten : (ℕ → List ℕ) → JobFile → Type 0

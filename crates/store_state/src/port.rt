@@ -39,7 +39,7 @@ pub trait LookPort {
         ensures called { Called meaning self.old TakeLook (look_reply result) self.new }
         ensures pins { IfOk result (λ look. (infos : List InfoParts) → meaning.lists self.old infos → look.pin.blocks ≡ infos) }
         ensures shows { IfOk result (λ look. (v : View) → meaning.knows self.new v →
-            ShowsHistory (IsTrue (meaning.tells self.new)) meaning.block_holds (meaning.shows self.new) look v.history) };
+            ShowsHistory (IsTrue (meaning.tells self.new)) (meaning.shows self.new) look v.history) };
 
     /// Gives a look back, and ends its pin. Only one that this port gave and that is open is taken.
     fn done(&mut self, look: Look)
@@ -74,7 +74,7 @@ pub trait Port: LookPort {
         ensures joins { IfOk result (λ begun. IfSome begun (λ job.
             JoinsChoice (Self.meaning.lists self.old) job.level job.pin.blocks)) }
         ensures blocks { IsTrue (Self.meaning.tells self.new) → IfOk result (λ begun. IfSome begun (λ job.
-            AreBlocks Self.meaning.block_holds (Self.meaning.shows self.new) job.pin.blocks)) };
+            AreBlocks (Self.meaning.shows self.new) job.pin.blocks)) };
 
     /// Writes bytes behind those that were written to a job's file, and counts them; a refusal counts none. The file is handed in
     /// as the port left it: what was written to it is what it holds. Only where the write itself failed is this not so afterwards.
@@ -92,8 +92,7 @@ pub trait Port: LookPort {
     fn commit_flush(&mut self, job: FlushJob, info: SharedInfo) -> Result<(), WriteError>
         requires open { IsOpen Self.meaning self.now (flush_of job) }
         requires size { (1 ≤ info.rows) × (info.rows ≤ 1048576) }
-        requires block { IsBlockOf (IsTrue (Self.meaning.tells self.now))
-            Self.meaning.block_holds (Self.meaning.shows self.now job.out.file)
+        requires block { IsBlockOf (IsTrue (Self.meaning.tells self.now)) (Self.meaning.shows self.now job.out.file)
             job.out.file 0 info job.rows }
         ensures { Called Self.meaning self.old (CommitFlush job.out.number info.rows)
             (write_reply result) self.new };
@@ -103,8 +102,7 @@ pub trait Port: LookPort {
     fn commit_compact(&mut self, job: CompactJob, info: SharedInfo) -> Result<(), WriteError>
         requires open { IsOpen Self.meaning self.now (compact_of job) }
         requires size { (1 ≤ info.rows) × (info.rows ≤ 1048576) }
-        requires block { IsJoinedBlock (IsTrue (Self.meaning.tells self.now))
-            Self.meaning.block_holds (Self.meaning.shows self.now)
+        requires block { IsJoinedBlock (IsTrue (Self.meaning.tells self.now)) (Self.meaning.shows self.now)
             job.out.file job.level info job.pin.blocks }
         ensures { Called Self.meaning self.old (CommitCompact job.out.number info.rows)
             (write_reply result) self.new };

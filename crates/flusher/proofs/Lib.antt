@@ -1,0 +1,2 @@
+mod TaskLaws
+mod RoundLaws

@@ -1,0 +1,48 @@
+use Rattle.std.proofs.Common.{◌≡◌, [], ◌∷◌, zero, refl, sym, subst, ap, true, false, Bool, arith}
+use Rattle.std.specs.Prelude.{IsTrue, ◌||◌}
+use Rattle.store_model.specs.Event.Event.{BeginFlush}
+use Rattle.store_model.specs.Event.{Reply as reply}
+use Rattle.store_state.specs.Given.{flush_of}
+use Rattle.store_state.specs.Made.{call}
+use Rattle.store_state.specs.Replies.{begin_refusal}
+use Rattle.store_state.specs.declared.rounds.Refusal.{Refusal}
+use Rattle.store_state.specs.declared.rounds.Round.TheVariants.{Nothing, Refused}
+use Rattle.store_state.proofs.HoldLaws.{opens_new}
+use Rattle.flusher.specs.Rounds.{Stage as stage, Leads}
+use Rattle.flusher.specs.Rounds.Leads.{nothing, no_job, job}
+use Rattle.flusher.proofs.TaskLaws.{ends_in, itself}
+use Rattle.flusher.proofs.task.begin.Goals as goal
+
+pub returns-in-Ok-Some-clause-steps : goal.returns-in-Ok-Some-clause-steps
+returns-in-Ok-Some-clause-steps g c = record {
+  made = call BeginFlush (reply.Flushing c.in-Ok-Some.job.out.number c.in-Ok-Some.job.out.file c.in-Ok-Some.job.rows);
+  called = c.in-Ok-Some.ensures.called;
+  leads = λ calls round h. job c.in-Ok-Some.job.out.number c.in-Ok-Some.job.out.file c.in-Ok-Some.job.rows h;
+}
+
+pub returns-in-Ok-Some-clause-fits : goal.returns-in-Ok-Some-clause-fits
+returns-in-Ok-Some-clause-fits g c = record {
+  is_open = opens_new g.P.LookPort.meaning c.args.port.now c.begin_flush.new.self BeginFlush
+      (reply.Flushing c.in-Ok-Some.job.out.number c.in-Ok-Some.job.out.file c.in-Ok-Some.job.rows) (flush_of c.in-Ok-Some.job)
+      c.in-Ok-Some.ensures.called c.requires (zero, omega arith, refl);
+  at_start = c.in-Ok-Some.ensures.fresh.0;
+  some = c.in-Ok-Some.ensures.fresh.1;
+  few = c.in-Ok-Some.ensures.fresh.2;
+  empty = λ tells. c.in-Ok-Some.ensures.called.empty (subst IsTrue c.in-Ok-Some.ensures.called.telling tells) c.in-Ok-Some.job.out.file
+      (ap (λ (t : Bool). t || false) (itself c.in-Ok-Some.job.out.file));
+}
+
+pub returns-in-Ok-None-clause-steps : goal.returns-in-Ok-None-clause-steps
+returns-in-Ok-None-clause-steps g c = record {
+  made = call BeginFlush reply.Nothing;
+  called = c.in-Ok-None.ensures.called;
+  leads = ends_in stage.Fresh (call BeginFlush reply.Nothing) Nothing nothing;
+}
+
+pub returns-in-Err-clause-steps : goal.returns-in-Err-clause-steps
+returns-in-Err-clause-steps g c = record {
+  made = call BeginFlush (reply.Refused (begin_refusal c.in-Err.error));
+  called = c.in-Err.ensures.called;
+  leads = ends_in stage.Fresh (call BeginFlush (reply.Refused (begin_refusal c.in-Err.error))) (Refused c.begin_cause.result)
+      (subst (λ (why : Refusal). Leads stage.Fresh (call BeginFlush (reply.Refused (begin_refusal c.in-Err.error)) ∷ []) (Refused why)) (sym c.begin_cause.ensures) (no_job c.in-Err.error));
+}
