@@ -97,8 +97,8 @@ pub record HasNotOpened (o : Outcome) (old new : Edges) : Type 0 where
 
 -- ---- what each command does
 
--- A session that read `text`: the lines of a prefix were answered in order from the store that was opened on, each read at the
--- clock's next moment, and their replies, and nothing else, stand written as the ending says. What the maker refused is, in
+-- A session that read `text`: the lines of a prefix were asked in order, each read at the clock's next moment, and their
+-- replies, and nothing else, stand written as the ending says. What the maker refused is, in
 -- order, the text of the pattern that each line refused for a pattern's size is refused for, and no other.
 pub record HasRun (text before : List ℕ) (o : Outcome) (old new : Edges) : Type 0 where
   pub answered : List (List ℕ)
@@ -106,10 +106,9 @@ pub record HasRun (text before : List ℕ) (o : Outcome) (old new : Edges) : Typ
   pub lines_are : lines text ≡ answered ++ later
   pub asked : AreAsked answered (after_moment old.moments) o.items o.refused
   pub clock : new.moments ≡ after_lines answered (after_moment old.moments)
-  pub session : Session o.first o.items o.replies o.last
   pub ends : Ends o.ending text later new.left before o.replies new.taken
 
--- One line was answered alone, read at the clock's next moment, and its reply stands written as the ending says. The maker
+-- One line was asked alone, read at the clock's next moment, and its reply stands written as the ending says. The maker
 -- refused just the pattern that it is refused for, if it is for a pattern's size.
 pub record HasAnswered (line before : List ℕ) (o : Outcome) (old new : Edges) : Type 0 where
   pub item : Item
@@ -118,7 +117,6 @@ pub record HasAnswered (line before : List ℕ) (o : Outcome) (old new : Edges) 
   pub replies_are : o.replies ≡ reply ∷ []
   pub asked : AsksNext (after_moment old.moments) line o.refused item
   pub clock : new.moments ≡ after_moment (after_moment old.moments)
-  pub session : Session o.first o.items o.replies o.last
   pub ends : EndsAlone o.ending before reply new.taken
 
 -- A run ends so in a store that was opened, if it does.
@@ -166,11 +164,12 @@ FitsWords (fault ∷ faults) ending = (ending ≡ BadWords) ⊎ (ending ≡ Star
 
 -- ---- a run
 
--- A run on these words between the edges as they were and as they are: what the words ask was done, and the ending has
--- its cause.
+-- A run on these words between the edges as they were and as they are: what the words ask was done, what was asked was answered
+-- in order from a store to a store, and the ending has its cause.
 pub record IsRunOf (words : List (List ℕ)) (o : Outcome) (old new : Edges) : Type 0 where
   pub words_fit : FitsWords (fault_of words_app words) o.ending
   pub does : (c : Command) → Spells words c → Does c o old new
+  pub session : Session o.first o.items o.replies o.last
   pub cause : HasCause o.ending old new
 
 -- ---- runs that come to their own end
