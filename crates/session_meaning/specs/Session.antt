@@ -32,34 +32,6 @@ use Rattle.session_meaning.specs.declared.ending.Ending.{Ending}
 use Rattle.session_meaning.specs.declared.ending.Ending.TheVariants.{Answered, ReadFault, Spent, Starved, WriteFault}
 use Rattle.session_meaning.specs.declared.ending.Ending.TheVariants as ending
 
--- A refusal for another cause than memory.
-abbrev pub is_for_other : Refusal → Bool
-is_for_other Memory = false
-is_for_other _ = true
-
-abbrev pub is_refusal : Reply → Bool
-is_refusal (Refused why) = is_for_other why
-is_refusal _ = false
-
--- It was refused in reading for another cause than memory.
-abbrev pub is_refused : Item → Bool
-is_refused (Ok request) = false
-is_refused (Err why) = is_for_other why
-
--- A refusal for memory.
-abbrev pub is_memory : Refusal → Bool
-is_memory Memory = true
-is_memory _ = false
-
-abbrev pub is_for_memory : Reply → Bool
-is_for_memory (Refused why) = is_memory why
-is_for_memory _ = false
-
--- The texts of replies, in order.
-abbrev pub reply_texts : List Reply → List ℕ
-reply_texts [] = []
-reply_texts (r ∷ rs) = reply_text r ++ reply_texts rs
-
 -- ---- the store between two lines
 
 -- Where a session stands between two lines: the store's machine, whose history is the pushes that were accepted so far, and
@@ -122,6 +94,34 @@ Session before (item ∷ items) (reply ∷ replies) after =
     (between : At) × IsAnsweredOrStarved item before reply between × Session between items replies after
 
 -- ---- how a session ends, and what stands written
+
+-- A refusal for another cause than memory.
+abbrev pub is_for_other : Refusal → Bool
+is_for_other Memory = false
+is_for_other _ = true
+
+abbrev pub is_refusal : Reply → Bool
+is_refusal (Refused why) = is_for_other why
+is_refusal _ = false
+
+-- It was refused in reading for another cause than memory.
+abbrev pub is_refused : Item → Bool
+is_refused (Ok request) = false
+is_refused (Err why) = is_for_other why
+
+-- A refusal for memory.
+abbrev pub is_memory : Refusal → Bool
+is_memory Memory = true
+is_memory _ = false
+
+abbrev pub is_for_memory : Reply → Bool
+is_for_memory (Refused why) = is_memory why
+is_for_memory _ = false
+
+-- The texts of replies, in order.
+abbrev pub reply_texts : List Reply → List ℕ
+reply_texts [] = []
+reply_texts (r ∷ rs) = reply_text r ++ reply_texts rs
 
 -- How a session ends whose input was read to its end: with a refusal for another cause than memory among its replies,
 -- else with one for memory among them, else with none.
