@@ -1,5 +1,5 @@
 -- A store that has room refuses nothing but for memory, as long as its disk doesn't fail.
-use Rattle.std.proofs.Common.{rules, ◌≡◌, ◌⊎◌, inl, inr, ◌∙◌, ℕ, ◌+◌, ◌-◌, ◌<◌, ◌≤◌, ◌^◌, ◌||◌, suc, min, nat_le, nat_lt, Bool, true, false, List, [], ◌∷◌, ◌++◌, Option, Some, None, Result, Ok, Err, ap, arith, length, length-append, refl, sym, subst, le_trans}
+use Rattle.std.proofs.Common.{rules, ◌≡◌, inl, inr, ◌∙◌, ℕ, ◌+◌, ◌<◌, ◌≤◌, ◌||◌, suc, nat_le, nat_lt, Bool, true, false, List, [], ◌∷◌, ◌++◌, Option, None, Result, Ok, Err, ap, arith, length, length-append, refl, sym, subst, le_trans}
 use Rattle.std.specs.List.{list_any}
 use Rattle.std.proofs.lemmas.List.{length-map}
 use Rattle.span_types.specs.Faults.{Rose}
@@ -10,12 +10,12 @@ use Rattle.session_text.specs.declared.reply.Reply.{Reply}
 use Rattle.session_text.specs.declared.request.Request.TheVariants as request
 use Rattle.session_text.specs.Items.{Item}
 use Rattle.store_model.specs.After.{arrived}
-use Rattle.store_model.specs.Event.{Event as event, Reply as reply, Refusal as cause}
+use Rattle.store_model.specs.Event.{Reply as reply, Refusal as cause}
 use Rattle.store_model.specs.Event.Event.{Push}
 use Rattle.store_model.specs.Event.Reply.{Count, Refused}
-use Rattle.store_model.specs.Event.Refusal.{Fault, Memory}
-use Rattle.store_model.specs.History.{History, batch_rows, count_of, pushed, rows_at}
-use Rattle.store_model.specs.State.{LiveRow, State, flush_rows, held_of}
+use Rattle.store_model.specs.Event.Refusal.{Memory}
+use Rattle.store_model.specs.History.{batch_rows, count_of, pushed, rows_at}
+use Rattle.store_model.specs.State.{State, flush_rows, held_of}
 use Rattle.store_model.specs.Step.{Machine, Step, early, if_full, if_read_only, if_test}
 use Rattle.store_model.specs.Step.Step.{Sure, Succeeds, Lacks, Unread, Breaks, Halts}
 use Rattle.store_images.proofs.Growing.{count_of-pushed}
@@ -23,7 +23,7 @@ use Rattle.store_state.specs.Replies.{push_refusal, push_reply}
 use Rattle.store_state.specs.declared.errors.PushError.{PushError}
 use Rattle.store_state.specs.declared.errors.PushError.TheVariants as push
 use Rattle.client_run.specs.Answers.{pushed_reply}
-use Rattle.session_meaning.specs.Pushes.{HasRoomFor, all_spans}
+use Rattle.session_meaning.specs.Pushes.{HasRoomFor}
 use Rattle.session_meaning.specs.Session.{At, IsAnsweredOrStarved, Session, is_refusal, is_refused}
 
 -- ---- counts of faults

@@ -1,5 +1,5 @@
 -- What is asked in a session is answered in order, each at the store that what came before it left.
-use Rattle.std.specs.Prelude.{◌≡◌, ◌⊎◌, ℕ, ◌+◌, ◌<◌, ◌≤◌, Bool, true, false, List, [], ◌∷◌, ◌++◌, length, take, Option, Some, Result, Ok, Err, if◌then◌else◌}
+use Rattle.std.specs.Prelude.{◌≡◌, ◌⊎◌, ℕ, ◌<◌, ◌≤◌, Bool, true, false, List, [], ◌∷◌, ◌++◌, length, take, Option, Some, Result, Ok, Err, if◌then◌else◌}
 use Rattle.std.specs.List.{list_any}
 use Rattle.io_edges.specs.Lines.{lines, taken_limit}
 use Rattle.io_edges.specs.Reader.{HasNoFeed}
@@ -11,8 +11,6 @@ use Rattle.spanset_eval.specs.declared.results.TraceResult.{TraceResult}
 use Rattle.search_answer.specs.Answers.{IsAnswer}
 use Rattle.search_text.specs.Fields.{printed_fields}
 use Rattle.traceql_syntax.specs.Trees.{query_tree}
-use Rattle.otlp_spans.specs.declared.read.Reading.{Reading}
-use Rattle.session_text.specs.declared.request.Request.{Request}
 use Rattle.session_text.specs.declared.request.Request.TheVariants.{Push, Trace}
 use Rattle.session_text.specs.declared.request.Request.TheVariants as request
 use Rattle.session_text.specs.declared.request.Search.{Search}

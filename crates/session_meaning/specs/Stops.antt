@@ -5,7 +5,7 @@ use Rattle.span_types.specs.First.{IsFirstOf}
 use Rattle.disk_model.specs.Images.{Image}
 use Rattle.disk_model.specs.Crash.{Reached}
 use Rattle.disk_model.specs.declared.disk.Device.{Ghosts}
-use Rattle.store_model.specs.History.{History, count_of}
+use Rattle.store_model.specs.History.{count_of}
 use Rattle.store_images.specs.Stored.{ImageStandsFor, KeepsStored, MayStandFor}
 use Rattle.store_core.specs.Opening.{BeginsAs}
 use Rattle.store_core.specs.Past.{StoodFor}
