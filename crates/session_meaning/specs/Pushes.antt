@@ -1,0 +1,55 @@
+-- What the replies of a session tell of its pushes.
+use Rattle.std.specs.Prelude.{◌≡◌, ℕ, ◌+◌, ◌≤◌, List, [], ◌∷◌, ◌++◌, length, Option, Some, None, Ok}
+use Rattle.span_types.specs.declared.spans.Span.{Span}
+use Rattle.session_text.specs.declared.request.Request.TheVariants.{Push}
+use Rattle.session_text.specs.declared.refusal.Refusal.TheVariants.{DiskFault}
+use Rattle.session_text.specs.declared.reply.Reply.{Reply}
+use Rattle.session_text.specs.declared.reply.Reply.TheVariants.{Pushed, Traced, Searched, Refused}
+use Rattle.session_text.specs.Items.{Item}
+use Rattle.store_model.specs.History.{count_of}
+use Rattle.store_model.specs.State.{held_of}
+use Rattle.store_model.specs.Step.{Machine}
+
+-- the batch of a push that was accepted
+abbrev pub accepted_batch : Item → Reply → List (List Span)
+accepted_batch (Ok (Push reading moment)) (Pushed number kept rejected skipped) = reading.batch.spans ∷ []
+accepted_batch _ _ = []
+
+-- The batches of the pushes that were accepted, in order.
+abbrev pub accepted_batches : List Item → List Reply → List (List Span)
+accepted_batches [] replies = []
+accepted_batches (item ∷ items) [] = []
+accepted_batches (item ∷ items) (reply ∷ replies) = accepted_batch item reply ++ accepted_batches items replies
+
+-- the batch of a push that was refused since the disk failed, else another one
+abbrev pub unsure_or : Item → Reply → Option (List Span) → Option (List Span)
+unsure_or (Ok (Push reading moment)) (Refused DiskFault) other = Some reading.batch.spans
+unsure_or _ _ other = other
+
+-- The batch of the push that was refused since the disk failed, where there was one: whether it is stored isn't sure. There is no
+-- second one, since from then on the store takes no push.
+abbrev pub unsure_batch : List Item → List Reply → Option (List Span)
+unsure_batch [] replies = None
+unsure_batch (item ∷ items) [] = None
+unsure_batch (item ∷ items) (reply ∷ replies) = unsure_or item reply (unsure_batch items replies)
+
+-- how many pushes an answered query says that it knows of
+abbrev pub known_pushes : Reply → Option ℕ
+known_pushes (Traced as_of rows) = Some as_of
+known_pushes (Searched as_of fields results) = Some as_of
+known_pushes _ = None
+
+-- how many spans are to be pushed
+abbrev pub spans_in : Item → ℕ
+spans_in (Ok (Push reading moment)) = length reading.batch.spans
+spans_in _ = 0
+
+abbrev pub all_spans : List Item → ℕ
+all_spans [] = 0
+all_spans (item ∷ items) = spans_in item + all_spans items
+
+-- There is room in the store for all of this: it writes, and neither the history nor what is held in memory will be full.
+pub record HasRoomFor (items : List Item) (m : Machine) : Type 0 where
+  pub writes : m.read_only ≡ None
+  pub pushes : count_of m.history + length items ≤ 4294967295
+  pub rows : held_of m.state + all_spans items ≤ 262144
