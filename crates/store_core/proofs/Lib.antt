@@ -8,7 +8,7 @@ mod Showing
 mod Founding
 mod NewCores
 mod PushEvents
-mod Past
+pub mod Past
 mod LookEvents
 mod PortEvents
 pub mod LogSteps
