@@ -1,5 +1,7 @@
-pub mod History
+pub mod Asked
 pub mod Statuses
 pub mod Session
+pub mod Answering
 pub mod Runs
+pub mod Stops
 pub mod Progress

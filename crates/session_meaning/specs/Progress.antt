@@ -1,23 +1,31 @@
 -- Private mechanism of the loop over lines: how far a session came. No public clause cites it.
-use Rattle.std.specs.Prelude.{◌≡◌, ℕ, List, ◌++◌}
+use Rattle.std.specs.Prelude.{◌≡◌, ℕ, List, ◌++◌, Option}
 use Rattle.io_edges.specs.Lines.{lines}
 use Rattle.session_text.specs.declared.reply.Reply.{Reply}
-use Rattle.session_text.specs.Items.{AreAsked, Item}
-use Rattle.session_text.specs.Requests.{Asks}
-use Rattle.session_meaning.specs.History.{History, no_push}
-use Rattle.session_meaning.specs.Session.{IsAnsweredOrStarved, Session}
+use Rattle.session_text.specs.Items.{Item}
+use Rattle.store_state.specs.Meaning.{Meaning}
+use Rattle.client_run.specs.Calls.{AreMade, Call}
+use Rattle.session_meaning.specs.Asked.{AreAsked, after_lines}
+use Rattle.session_meaning.specs.Answering.{AreItemsAnswered, IsItemAnswered}
 
--- The line asks something, or has a cause to be refused, where these texts were refused, and is answered so.
-abbrev pub IsLineAnswered : List ℕ → List (List ℕ) → History → Reply → History → Type 0
-IsLineAnswered line refused before reply after =
-    (item : Item) × Asks line refused item × IsAnsweredOrStarved item before reply after
-
--- The lines of `text` before `rest` were answered so, from no push on, and left this history.
-pub record Progress (text rest : List ℕ) (refused : List (List ℕ)) (replies : List Reply) (history : History) : Type 0 where
+-- The lines of `text` before `rest` asked this, where these texts were refused. `told` is what the clock had to give at first,
+-- and `to_tell` what it has to give now.
+pub record Progress (told : Option (List ℕ)) (text rest : List ℕ) (refused : List (List ℕ)) (items : List Item) (to_tell : Option (List ℕ)) : Type 0 where
   pub front : List ℕ
   pub answered : List (List ℕ)
-  pub items : List Item
   pub text_is : text ≡ front ++ rest
   pub lines_are : lines text ≡ answered ++ lines rest
-  pub asked : AreAsked answered items refused
-  pub session : Session no_push items replies history
+  pub asked : AreAsked answered told items refused
+  pub clock : to_tell ≡ after_lines answered told
+
+-- This was answered so, by calls of a port from `start` on, and by no others.
+pub record HasAnsweredOver {P : Type 0} (meaning : Meaning P) (start : P) (items : List Item) (replies : List Reply) (port : P) : Type 0 where
+  pub calls : List Call
+  pub by_calls : AreItemsAnswered items replies calls
+  pub made : AreMade meaning start calls port
+
+-- The same of one item.
+pub record HasAnsweredOne {P : Type 0} (meaning : Meaning P) (before : P) (item : Item) (reply : Reply) (after : P) : Type 0 where
+  pub calls : List Call
+  pub answered : IsItemAnswered item reply calls
+  pub made : AreMade meaning before calls after

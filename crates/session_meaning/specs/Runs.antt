@@ -1,71 +1,130 @@
 -- What a run of the program does.
-use Rattle.std.specs.Prelude.{◌≡◌, ◌≢◌, ◌⊎◌, ⊤, ℕ, ◌<◌, List, [], ◌∷◌, ◌++◌, Option, Some, IfSome, length}
+use Rattle.std.specs.Prelude.{◌≡◌, ◌≢◌, ◌⊎◌, ⊤, ℕ, ◌<◌, ◌≤◌, Bool, true, false, List, [], ◌∷◌, ◌++◌, Option, Some, None, IfSome, IsTrue, if◌then◌else◌, length}
+use Rattle.std.specs.Io.KnownBytes.{Appends}
 use Rattle.clap.specs.Words.{Kinds, fault_of}
-use Rattle.command_words.specs.Commands.{Alone, Command, Session as session, Spells}
-use Rattle.command_words.specs.Table.{words_app}
+use Rattle.span_types.specs.Faults.{Rose}
+use Rattle.io_edges.specs.Devices.{AppendsPrefix}
 use Rattle.io_edges.specs.Lines.{lines, taken_limit}
 use Rattle.io_edges.specs.Reader.{TakesBytes}
-use Rattle.span_types.specs.Faults.{Rose}
+use Rattle.disk_model.specs.Images.{Image}
+use Rattle.disk_model.specs.declared.disk.Device.{Ghosts}
+use Rattle.command_words.specs.Commands.{Alone, Command, Session as session, Spells}
+use Rattle.command_words.specs.Table.{words_app}
 use Rattle.session_text.specs.declared.reply.Reply.{Reply}
-use Rattle.session_text.specs.Items.{AreAsked, Item}
-use Rattle.session_text.specs.Requests.{Asks}
+use Rattle.session_text.specs.Items.{Item}
+use Rattle.session_text.specs.Replies.{not_store_text}
+use Rattle.store_model.specs.Laws.{Agrees}
+use Rattle.store_images.specs.Stored.{IsSoundImage}
+use Rattle.store_core.specs.Opening.{BeginsEmpty, StoreBreaks}
 use Rattle.session_meaning.specs.declared.ending.Ending.{Ending}
-use Rattle.session_meaning.specs.declared.ending.Ending.TheVariants.{Answered, BadWords, ReadFault, Refused, Spent, Starved, WriteFault}
-use Rattle.session_meaning.specs.History.{History, no_push}
-use Rattle.session_meaning.specs.Session.{Ends, EndsAlone, Session}
+use Rattle.session_meaning.specs.declared.ending.Ending.TheVariants.{Answered, BadWords, NotOpened, NotStore, ReadFault, Refused, Spent, Starved, WriteFault}
+use Rattle.session_meaning.specs.Asked.{AreAsked, AsksNext, IsNextMoment, after_lines, after_moment}
+use Rattle.session_meaning.specs.Session.{At, Ends, EndsAlone, Session}
 
--- What the source and the sink tell at a moment: the bytes that the source has left and those that the sink has taken,
--- where they tell them, and their counts of faults.
+-- What the outside tells at a moment: the bytes that the source has left and those that the sink has taken, the moments that
+-- the clock has to give, and the bytes that the disk holds, each where it tells them; and the counts of faults.
 pub record Edges : Type 0 where
   pub left : Option (List ℕ)
   pub taken : Option (List ℕ)
+  pub moments : Option (List ℕ)
+  pub held : Option Image
   pub source_faults : ℕ
   pub sink_faults : ℕ
+  pub disk_faults : ℕ
+
+-- the bytes that a disk holds, where it tells them
+abbrev pub told_bytes : {D : Type 0} → Ghosts D → D → Option Image
+told_bytes g disk = if g.tells disk then Some (g.held disk) else None
 
 -- They tell it by these functions.
-abbrev pub edges : {S K : Type 0} → (S → Option (List ℕ)) → (S → ℕ) → (K → Option (List ℕ)) → (K → ℕ) → S → K → Edges
-edges left source_faults taken sink_faults source sink = record {
+abbrev pub edges : {S K C D : Type 0} → (S → Option (List ℕ)) → (S → ℕ) → (K → Option (List ℕ)) → (K → ℕ) → (C → Option (List ℕ)) → Ghosts D
+    → S → K → C → D → Edges
+edges left source_faults taken sink_faults moments g source sink clock disk = record {
   left = left source;
   taken = taken sink;
+  moments = moments clock;
+  held = told_bytes g disk;
   source_faults = source_faults source;
   sink_faults = sink_faults sink;
+  disk_faults = g.faults disk;
 }
 
--- What happened in a run: how it ended, what was asked and answered from which history to which, and which texts the
--- maker of patterns refused, in order.
+-- What happened in a run: how it ended, whether the store was opened and the moment of that, what was asked and answered from
+-- which store to which, and which texts the maker of patterns refused, in order.
 pub record Outcome : Type 0 where
   pub ending : Ending
-  pub first : History
+  pub opened : Bool
+  pub moment : ℕ
+  pub first : At
   pub items : List Item
   pub refused : List (List ℕ)
   pub replies : List Reply
-  pub last : History
+  pub last : At
+
+-- ---- the opening
+
+-- The store was opened at the clock's next moment. It then writes, its head is empty, no file is loose and no pin is open, and
+-- its rows are those of its history. Its bytes were a store's. The disk's faults are counted on from those of the opening to
+-- the last ones.
+pub record HasOpened (o : Outcome) (old new : Edges) : Type 0 where
+  pub moment : IsNextMoment old.moments o.moment
+  pub begins : BeginsEmpty o.first.machine
+  pub agrees : Agrees o.first.machine
+  pub unbroken : IfSome old.held (λ image. (file at : ℕ) → StoreBreaks image file at → ⊥)
+  pub first_faults : old.disk_faults ≤ o.first.faults
+  pub last_faults : o.last.faults ≡ new.disk_faults
+
+-- The disk's bytes, where it tells them, break first at this place of this file, and so are no store's.
+abbrev pub IsNoStore : ℕ → ℕ → Option Image → Type 0
+IsNoStore file at held = IfSome held (λ image. StoreBreaks image file at × (IsSoundImage image → ⊥))
+
+-- What stands written where the store wasn't opened: which of its bytes are no store's, or a first part of that; or nothing.
+abbrev pub EndsUnopened : Ending → Edges → Option (List ℕ) → Type 0
+EndsUnopened NotOpened old taken = taken ≡ old.taken
+EndsUnopened (NotStore file at) old taken = Appends old.taken taken (not_store_text file at)
+EndsUnopened WriteFault old taken =
+    (file at : ℕ) × IsNoStore file at old.held × AppendsPrefix old.taken taken (not_store_text file at)
+EndsUnopened Starved old taken = taken ≡ old.taken
+EndsUnopened _ old taken = ⊥
+
+-- The store wasn't opened: nothing was taken of the source, and nothing was asked.
+pub record HasNotOpened (o : Outcome) (old new : Edges) : Type 0 where
+  pub no_items : o.items ≡ []
+  pub no_replies : o.replies ≡ []
+  pub no_refused : o.refused ≡ []
+  pub left : new.left ≡ old.left
+  pub ends : EndsUnopened o.ending old new.taken
 
 -- ---- what each command does
 
--- A session that read `text`: the lines of a prefix were answered in order from no push on, and their replies, and
--- nothing else, stand written as the ending says. What the maker refused is, in order, the text of the pattern that each
--- line refused for a pattern's size is refused for, and no other.
-pub record HasRun (text before : List ℕ) (o : Outcome) (new : Edges) : Type 0 where
+-- A session that read `text`: the lines of a prefix were asked in order, each read at the clock's next moment, and their
+-- replies, and nothing else, stand written as the ending says. What the maker refused is, in
+-- order, the text of the pattern that each line refused for a pattern's size is refused for, and no other.
+pub record HasRun (text before : List ℕ) (o : Outcome) (old new : Edges) : Type 0 where
   pub answered : List (List ℕ)
   pub later : List (List ℕ)
   pub lines_are : lines text ≡ answered ++ later
-  pub asked : AreAsked answered o.items o.refused
-  pub begins : o.first ≡ no_push
-  pub session : Session o.first o.items o.replies o.last
+  pub asked : AreAsked answered (after_moment old.moments) o.items o.refused
+  pub clock : new.moments ≡ after_lines answered (after_moment old.moments)
   pub ends : Ends o.ending text later new.left before o.replies new.taken
 
--- One line was answered alone, from no push on, and its reply stands written as the ending says. The maker refused just
--- the pattern that it is refused for, if it is for a pattern's size.
-pub record HasAnswered (line before : List ℕ) (o : Outcome) (new : Edges) : Type 0 where
+-- One line was asked alone, read at the clock's next moment, and its reply stands written as the ending says. The maker
+-- refused just the pattern that it is refused for, if it is for a pattern's size.
+pub record HasAnswered (line before : List ℕ) (o : Outcome) (old new : Edges) : Type 0 where
   pub item : Item
   pub reply : Reply
   pub items_are : o.items ≡ item ∷ []
   pub replies_are : o.replies ≡ reply ∷ []
-  pub asked : Asks line o.refused item
-  pub begins : o.first ≡ no_push
-  pub session : Session o.first o.items o.replies o.last
+  pub asked : AsksNext (after_moment old.moments) line o.refused item
+  pub clock : new.moments ≡ after_moment (after_moment old.moments)
   pub ends : EndsAlone o.ending before reply new.taken
+
+-- A run ends so in a store that was opened, if it does.
+abbrev pub IsPastOpening : Ending → Type 0
+IsPastOpening BadWords = ⊥
+IsPastOpening NotOpened = ⊥
+IsPastOpening (NotStore file at) = ⊥
+IsPastOpening _ = ⊤
 
 -- The source has no part in the ending.
 abbrev pub NeedsNoSource : Ending → Type 0
@@ -73,17 +132,27 @@ NeedsNoSource ReadFault = ⊥
 NeedsNoSource Spent = ⊥
 NeedsNoSource _ = ⊤
 
--- The command was done, as far as the source and the sink tell their bytes.
+-- In a store that was opened the command was done, as far as the source and the sink tell their bytes.
+abbrev pub DoesInStore : Command → Outcome → Edges → Edges → Type 0
+DoesInStore session o old new = IfSome old.left (λ text. IfSome old.taken (λ before. HasRun text before o old new))
+DoesInStore (Alone line) o old new =
+    NeedsNoSource o.ending × IfSome old.taken (λ before. HasAnswered line before o old new)
+
+-- The store was opened and the command done; or it wasn't, and nothing was asked.
 abbrev pub Does : Command → Outcome → Edges → Edges → Type 0
-Does session o old new = IfSome old.left (λ text. IfSome old.taken (λ before. HasRun text before o new))
-Does (Alone line) o old new = NeedsNoSource o.ending × IfSome old.taken (λ before. HasAnswered line before o new)
+Does c o old new =
+    (IsTrue o.opened × HasOpened o old new × IsPastOpening o.ending × DoesInStore c o old new)
+    ⊎ ((o.opened ≡ false) × HasNotOpened o old new)
 
 -- ---- how a run may end
 
--- The ending has its cause: a count of faults rose, or so many bytes were taken as a run takes.
+-- The ending has its cause: a count of faults rose, or the disk's bytes are no store's, or so many bytes were taken as a run
+-- takes.
 abbrev pub HasCause : Ending → Edges → Edges → Type 0
 HasCause WriteFault old new = Rose old.sink_faults new.sink_faults
 HasCause ReadFault old new = Rose old.source_faults new.source_faults
+HasCause NotOpened old new = Rose old.disk_faults new.disk_faults
+HasCause (NotStore file at) old new = IsNoStore file at old.held
 HasCause Spent old new = TakesBytes old.left new.left 0 taken_limit
 HasCause _ old new = ⊤
 
@@ -95,21 +164,27 @@ FitsWords (fault ∷ faults) ending = (ending ≡ BadWords) ⊎ (ending ≡ Star
 
 -- ---- a run
 
--- A run on these words between the edges as they were and as they are: what the words ask was done, and the ending has
--- its cause.
+-- A run on these words between the edges as they were and as they are: what the words ask was done, what was asked was answered
+-- in order from a store to a store, and the ending has its cause.
 pub record IsRunOf (words : List (List ℕ)) (o : Outcome) (old new : Edges) : Type 0 where
   pub words_fit : FitsWords (fault_of words_app words) o.ending
   pub does : (c : Command) → Spells words c → Does c o old new
+  pub session : Session o.first o.items o.replies o.last
   pub cause : HasCause o.ending old new
 
 -- ---- runs that come to their own end
 
--- No call failed that the command makes, and the source has fewer bytes than a run takes.
+-- The disk tells its bytes and they are a store's, and no call of it failed.
+abbrev pub HasItsStore : Edges → Edges → Type 0
+HasItsStore old new =
+    (image : Image) × (old.held ≡ Some image) × IsSoundImage image × (Rose old.disk_faults new.disk_faults → ⊥)
+
+-- No call failed that the command makes, the disk holds a store, and the source has fewer bytes than a run takes.
 abbrev pub GoesWell : Command → Edges → Edges → Type 0
 GoesWell session old new =
-    (text : List ℕ) × (old.left ≡ Some text) × (length text < taken_limit)
-    × (Rose old.source_faults new.source_faults → ⊥) × (Rose old.sink_faults new.sink_faults → ⊥)
-GoesWell (Alone line) old new = Rose old.sink_faults new.sink_faults → ⊥
+    HasItsStore old new × (Rose old.sink_faults new.sink_faults → ⊥) × (Rose old.source_faults new.source_faults → ⊥)
+    × (text : List ℕ) × (old.left ≡ Some text) × (length text < taken_limit)
+GoesWell (Alone line) old new = HasItsStore old new × (Rose old.sink_faults new.sink_faults → ⊥)
 
 -- All was answered, and nothing was refused or some of it.
 abbrev pub ComesToItsEnd : Ending → Type 0

@@ -1,29 +1,36 @@
--- What is asked in a session is answered in order, each at the history that what came before it left.
+-- What is asked in a session is answered in order, each at the store that what came before it left.
 use Rattle.std.specs.Prelude.{◌≡◌, ◌⊎◌, ℕ, ◌+◌, ◌<◌, ◌≤◌, Bool, true, false, List, [], ◌∷◌, ◌++◌, length, take, Option, Some, Result, Ok, Err, if◌then◌else◌}
+use Rattle.std.specs.List.{list_any}
 use Rattle.io_edges.specs.Lines.{lines, taken_limit}
 use Rattle.io_edges.specs.Reader.{HasNoFeed}
-use Rattle.std.specs.List.{list_any}
+use Rattle.span_types.specs.declared.ids.TraceId.{TraceId}
 use Rattle.span_types.specs.declared.spans.Row.{Row}
 use Rattle.span_types.specs.First.{IsFirstOf}
+use Rattle.rows_by_trace.specs.Traces.{rows_of_trace}
+use Rattle.spanset_eval.specs.declared.results.TraceResult.{TraceResult}
+use Rattle.search_answer.specs.Answers.{IsAnswer}
+use Rattle.search_text.specs.Fields.{printed_fields}
+use Rattle.traceql_syntax.specs.Trees.{query_tree}
+use Rattle.otlp_spans.specs.declared.read.Reading.{Reading}
 use Rattle.session_text.specs.declared.request.Request.{Request}
 use Rattle.session_text.specs.declared.request.Request.TheVariants.{Push, Trace}
 use Rattle.session_text.specs.declared.request.Request.TheVariants as request
 use Rattle.session_text.specs.declared.request.Search.{Search}
 use Rattle.session_text.specs.declared.reply.Reply.{Reply}
+use Rattle.session_text.specs.declared.reply.Reply.TheVariants.{Traced, Searched, Refused}
 use Rattle.session_text.specs.declared.refusal.Refusal.{Refusal}
 use Rattle.session_text.specs.declared.refusal.Refusal.TheVariants.{Memory}
-use Rattle.session_text.specs.declared.reply.Reply.TheVariants.{Pushed, Traced, Searched, Refused}
-use Rattle.session_meaning.specs.declared.ending.Ending.{Ending}
-use Rattle.session_meaning.specs.declared.ending.Ending.TheVariants.{Answered, BadWords, ReadFault, Spent, Starved, WriteFault}
-use Rattle.session_meaning.specs.declared.ending.Ending.TheVariants as ending
-use Rattle.session_meaning.specs.History.{History, length_of, rows_of, with_push}
-use Rattle.search_answer.specs.Answers.{IsAnswer}
-use Rattle.search_text.specs.Fields.{printed_fields}
 use Rattle.session_text.specs.Items.{Item}
-use Rattle.spanset_eval.specs.declared.results.TraceResult.{TraceResult}
-use Rattle.rows_by_trace.specs.Traces.{rows_of_trace}
-use Rattle.traceql_syntax.specs.Trees.{query_tree}
 use Rattle.session_text.specs.Replies.{reply_text}
+use Rattle.store_model.specs.History.{History, count_of, history_rows}
+use Rattle.store_model.specs.Event.{Event as event}
+use Rattle.store_model.specs.Step.{Machine, Step}
+use Rattle.store_state.specs.Replies.{push_reply}
+use Rattle.store_state.specs.declared.errors.PushError.{PushError}
+use Rattle.client_run.specs.Answers.{pushed_reply}
+use Rattle.session_meaning.specs.declared.ending.Ending.{Ending}
+use Rattle.session_meaning.specs.declared.ending.Ending.TheVariants.{Answered, ReadFault, Spent, Starved, WriteFault}
+use Rattle.session_meaning.specs.declared.ending.Ending.TheVariants as ending
 
 -- A refusal for another cause than memory.
 abbrev pub is_for_other : Refusal → Bool
@@ -53,40 +60,68 @@ abbrev pub reply_texts : List Reply → List ℕ
 reply_texts [] = []
 reply_texts (r ∷ rs) = reply_text r ++ reply_texts rs
 
+-- ---- the store between two lines
+
+-- Where a session stands between two lines: the store's machine, whose history is the pushes that were accepted so far, and
+-- how many faults its disk has counted.
+pub record At : Type 0 where
+  pub machine : Machine
+  pub faults : ℕ
+
+abbrev pub history_of : At → History
+history_of at = at.machine.history
+
+-- Nothing was pushed, and nothing else of the store changed.
+abbrev pub IsStill : At → At → Type 0
+IsStill before after = (after.machine ≡ before.machine) × (before.faults ≤ after.faults)
+
+-- ---- what is asked, and its answer
+
+-- What a look-up finds at a history: the first occurrences of the trace's spans in it.
+abbrev pub IsTraceIn : TraceId → History → List Row → Type 0
+IsTraceIn id history rows = IsFirstOf (rows_of_trace id (history_rows history)) rows
+
 -- What a search finds at a history: its answer over the first occurrences of all spans in it.
 pub record IsFound (s : Search) (history : History) (results : List TraceResult) : Type 0 where
   pub rows : List Row
-  pub firsts : IsFirstOf (rows_of history) rows
+  pub firsts : IsFirstOf (history_rows history) rows
   pub answer : IsAnswer s.checked.patterns (query_tree s.checked.query) s.range s.limit s.spans_per_set rows results
 
--- What is asked at a history is answered so, and leaves that history.
--- A push is told how many pushes came before it, how many of its spans are kept and were rejected, and how much was
--- skipped. Its spans are appended.
--- A look-up is told that number too, and the first occurrences of the trace's spans in the history.
--- A search is told that number, and what it finds.
--- A line that asks nothing is refused for its cause, and appends nothing.
-abbrev pub IsAnswered : Item → History → Reply → History → Type 0
+-- What is asked is answered so, and leaves that.
+-- A push is a step of the store. Accepted, it is told how many pushes came before it, how many of its spans are kept and were
+-- rejected, and how much was skipped, and its spans are appended to the history. Refused, it is told a cause that holds.
+-- A look-up is told how many pushes there were, and what it finds in all of them. So is a search. They change nothing.
+-- A line that asks nothing is refused for its cause, and changes nothing.
+abbrev pub IsAnswered : Item → At → Reply → At → Type 0
 IsAnswered (Ok (Push reading moment)) before reply after =
-    (reply ≡ Pushed (length_of before) (length reading.batch.spans) reading.rejected reading.skipped) × (after ≡ with_push before reading.batch.spans)
+    (answer : Result ℕ PushError) × (reply ≡ pushed_reply reading answer) × (before.faults ≤ after.faults)
+    × Step before.faults after.faults before.machine (event.Push reading.batch.spans moment) (push_reply answer) after.machine
 IsAnswered (Ok (Trace id)) before reply after =
-    (rows : List Row) × IsFirstOf (rows_of_trace id (rows_of before)) rows × (reply ≡ Traced (length_of before) rows) × (after ≡ before)
+    (rows : List Row) × IsTraceIn id (history_of before) rows
+    × (reply ≡ Traced (count_of (history_of before)) rows) × IsStill before after
 IsAnswered (Ok (request.Search s)) before reply after =
-    (results : List TraceResult) × IsFound s before results × (reply ≡ Searched (length_of before) (printed_fields (query_tree s.checked.query)) results) × (after ≡ before)
+    (results : List TraceResult) × IsFound s (history_of before) results
+    × (reply ≡ Searched (count_of (history_of before)) (printed_fields (query_tree s.checked.query)) results)
+    × IsStill before after
 IsAnswered (Err why) before reply after = (reply ≡ Refused why) × (after ≡ before)
 
--- The same, or memory was wanted for what is asked: it is refused for that, and nothing is appended. What was refused in
--- reading is refused for that cause.
-abbrev pub IsAnsweredOrStarved : Item → History → Reply → History → Type 0
-IsAnsweredOrStarved (Ok asked) before reply after =
-    IsAnswered (Ok asked) before reply after ⊎ ((reply ≡ Refused Memory) × (after ≡ before))
-IsAnsweredOrStarved (Err why) before reply after = IsAnswered (Err why) before reply after
+-- Memory was wanted for a query: it is refused for that, and changes nothing. When a push is, its step says.
+abbrev pub IsStarved : Item → At → Reply → At → Type 0
+IsStarved (Ok (Push reading moment)) before reply after = ⊥
+IsStarved (Ok query) before reply after = (reply ≡ Refused Memory) × IsStill before after
+IsStarved (Err why) before reply after = ⊥
 
--- What is asked is answered in order, from a history to a history.
-abbrev pub Session : History → List Item → List Reply → History → Type 0
+abbrev pub IsAnsweredOrStarved : Item → At → Reply → At → Type 0
+IsAnsweredOrStarved item before reply after = IsAnswered item before reply after ⊎ IsStarved item before reply after
+
+-- What is asked is answered in order, one reply each, from a store to a store.
+abbrev pub Session : At → List Item → List Reply → At → Type 0
 Session before [] replies after = (replies ≡ []) × (after ≡ before)
 Session before (item ∷ items) [] after = ⊥
 Session before (item ∷ items) (reply ∷ replies) after =
-    (between : History) × IsAnsweredOrStarved item before reply between × Session between items replies after
+    (between : At) × IsAnsweredOrStarved item before reply between × Session between items replies after
+
+-- ---- how a session ends, and what stands written
 
 -- How a session ends whose input was read to its end: with a refusal for another cause than memory among its replies,
 -- else with one for memory among them, else with none.
@@ -130,7 +165,7 @@ Ends Starved text later left before replies taken =
 Ends WriteFault text later left before replies taken = (count : ℕ) × IsCutOff before replies taken count
 Ends ReadFault text later left before replies taken = IsWritten before replies taken × IsAllEnded text later left
 Ends Spent text later left before replies taken = IsWritten before replies taken × IsAllEnded text later left × (taken_limit ≤ length text)
-Ends BadWords text later left before replies taken = ⊥
+Ends _ text later left before replies taken = ⊥
 
 -- How a run ends that answers one line alone, and what stands written: the reply; nothing or a first part of it, where
 -- memory was wanted or the sink failed.

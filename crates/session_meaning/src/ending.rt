@@ -14,8 +14,17 @@ pub enum Ending {
     BadWords,
     /// The source failed, once every line that it had ended was answered in writing.
     ReadFault,
-    /// Memory was wanted for more than one line's answer; or all was read and written, and the refusals among the
-    /// replies, of which there is one, are all for memory.
+    /// The disk failed as the store was opened. Nothing was taken, and nothing written.
+    NotOpened,
+    /// What the disk holds is no store: that was written, and nothing else.
+    NotStore {
+        /// The file that is malformed.
+        file: u32,
+        /// The byte at which it is.
+        at: u64,
+    },
+    /// Memory was wanted for more than one line's answer, as for opening the store; or all was read and written, and the
+    /// refusals among the replies, of which there is one, are all for memory.
     Starved,
     /// The input was read to its end and all replies were written, and one of them is a refusal for another cause than
     /// memory.
@@ -34,6 +43,8 @@ impl Ending {
             Ending::WriteFault => 1,
             Ending::BadWords => 2,
             Ending::ReadFault => 3,
+            Ending::NotOpened => 4,
+            Ending::NotStore { .. } => 5,
             Ending::Starved => 6,
             Ending::Refused => 7,
             Ending::Spent => 8,

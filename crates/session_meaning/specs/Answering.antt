@@ -1,0 +1,31 @@
+-- What is asked in a session is answered by calls of the store: how the program does it. A law says that this is what a session
+-- means.
+use Rattle.std.specs.Prelude.{◌≡◌, List, [], ◌∷◌, ◌++◌, Ok, Err}
+use Rattle.session_text.specs.declared.reply.Reply.{Reply}
+use Rattle.session_text.specs.declared.reply.Reply.TheVariants.{Refused}
+use Rattle.session_text.specs.Items.{Item}
+use Rattle.client_run.specs.Answers.{IsRequestAnswered}
+use Rattle.client_run.specs.Calls.{Call}
+use Rattle.client_run.specs.CoreRuns.{AreSteps}
+use Rattle.session_meaning.specs.Session.{At}
+
+-- What is asked is answered so by these calls. A line that asks nothing makes none.
+abbrev pub IsItemAnswered : Item → Reply → List Call → Type 0
+IsItemAnswered (Ok asked) reply calls = IsRequestAnswered asked reply calls
+IsItemAnswered (Err why) reply calls = (reply ≡ Refused why) × (calls ≡ [])
+
+-- Each is answered in order, one reply each, by these calls.
+abbrev pub AreItemsAnswered : List Item → List Reply → List Call → Type 0
+AreItemsAnswered [] replies calls = (replies ≡ []) × (calls ≡ [])
+AreItemsAnswered (item ∷ items) [] calls = ⊥
+AreItemsAnswered (item ∷ items) (reply ∷ replies) calls =
+    (now later : List Call) × (calls ≡ now ++ later) × IsItemAnswered item reply now × AreItemsAnswered items replies later
+
+-- The calls are steps of the store, and leave that.
+abbrev pub CallsLead : At → List Call → At → Type 0
+CallsLead before calls after = AreSteps before.faults before.machine calls after.faults after.machine
+
+-- What is asked is answered by calls that leave that.
+abbrev pub IsAnsweredByCalls : Item → At → Reply → At → Type 0
+IsAnsweredByCalls item before reply after =
+    (calls : List Call) × IsItemAnswered item reply calls × CallsLead before calls after

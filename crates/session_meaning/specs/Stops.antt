@@ -1,0 +1,57 @@
+-- What is stored, in what a run leaves and whenever it is stopped.
+use Rattle.std.specs.Prelude.{◌≡◌, ◌⊎◌, ℕ, List, [], ◌∷◌, Option, Some, None, IsTrue, Ok}
+use Rattle.span_types.specs.declared.spans.Span.{Span}
+use Rattle.disk_model.specs.Images.{Image}
+use Rattle.disk_model.specs.Crash.{Reached}
+use Rattle.disk_model.specs.declared.disk.Device.{Ghosts}
+use Rattle.session_text.specs.declared.request.Request.TheVariants.{Push}
+use Rattle.session_text.specs.declared.reply.Reply.{Reply}
+use Rattle.session_text.specs.declared.reply.Reply.TheVariants.{Refused}
+use Rattle.session_text.specs.declared.refusal.Refusal.TheVariants.{DiskFault}
+use Rattle.session_text.specs.Items.{Item}
+use Rattle.store_model.specs.History.{History, count_of}
+use Rattle.store_images.specs.Stored.{ImageStandsFor, KeepsStored, MayStandFor}
+use Rattle.store_core.specs.Opening.{BeginsAs}
+use Rattle.store_core.specs.Past.{StoodFor}
+use Rattle.session_meaning.specs.Session.{At, history_of}
+use Rattle.session_meaning.specs.Runs.{Outcome}
+
+-- The batch whose push was refused since the disk failed, where there was one: whether it is stored isn't sure. There is no
+-- second one, since from then on the store takes no push.
+abbrev pub unsure_batch : List Item → List Reply → Option (List Span)
+unsure_batch (Ok (Push reading moment) ∷ items) (Refused DiskFault ∷ replies) = Some reading.batch.spans
+unsure_batch (item ∷ items) (reply ∷ replies) = unsure_batch items replies
+unsure_batch _ _ = None
+
+abbrev pub unsure_spans : Outcome → Option (List Span)
+unsure_spans o = unsure_batch o.items o.replies
+
+-- The run begins with what was stored: its first history is a base that the disk's bytes stand for, and the store begins as
+-- one that was opened on these bytes at this moment.
+pub record Begins (held : Image) (moment : ℕ) (first : At) : Type 0 where
+  pub stored : ImageStandsFor held (history_of first)
+  pub base_alone : (history_of first).entries ≡ []
+  pub begins : BeginsAs held moment first.machine
+
+-- Each of these images stands for the last history, or for it and then the batch that isn't sure.
+abbrev pub Returns : (Image → Type 0) → Outcome → Type 0
+Returns may_leave o = (image : Image) → may_leave image → MayStandFor (history_of o.last) (unsure_spans o) image
+
+-- It stands for a history that holds the first one and that the last one holds, or for the last one and then the batch that
+-- isn't sure.
+abbrev pub StandsWithin : Outcome → Image → Type 0
+StandsWithin o image = StoodFor (count_of (history_of o.first)) (history_of o.last) (unsure_spans o) image
+
+-- Each of these images keeps what an image stored at the start; or, once the store was opened, it stands for a history in
+-- between.
+abbrev pub Leaves : (Image → Type 0) → (Image → Type 0) → Outcome → Type 0
+Leaves at_start since o =
+    (image : Image) → since image → Reached KeepsStored at_start image ⊎ (IsTrue o.opened × StandsWithin o image)
+
+-- A run over a disk that tells its bytes, which were a store's: where the store was opened it begins with what they store, and
+-- each image that a crash may leave of the disk that is handed back stands for all that was pushed; and so for what was pushed
+-- by then does each image that a crash may have left at any moment of the run.
+pub record Recovers {D : Type 0} (g : Ghosts D) (disk later : D) (o : Outcome) : Type 0 where
+  pub begins : IsTrue o.opened → Begins (g.held disk) o.moment o.first
+  pub returned : IsTrue o.opened → Returns (g.may_leave later) o
+  pub any_moment : Leaves (g.may_leave disk) (g.left_since later (g.moment disk)) o
