@@ -1,5 +1,3 @@
-pub mod RowLemmas
-pub mod SessionLemmas
 pub mod TurnLemmas
 pub mod AloneLemmas
 pub mod RunLemmas
