@@ -1,35 +1,27 @@
 -- What is stored, in what a run leaves and whenever it is stopped.
-use Rattle.std.specs.Prelude.{◌≡◌, ◌⊎◌, ℕ, List, [], ◌∷◌, Option, Some, None, IsTrue, Ok}
+use Rattle.std.specs.Prelude.{◌≡◌, ◌⊎◌, ℕ, List, [], Option, IsTrue}
 use Rattle.span_types.specs.declared.spans.Span.{Span}
+use Rattle.span_types.specs.First.{IsFirstOf}
 use Rattle.disk_model.specs.Images.{Image}
 use Rattle.disk_model.specs.Crash.{Reached}
 use Rattle.disk_model.specs.declared.disk.Device.{Ghosts}
-use Rattle.session_text.specs.declared.request.Request.TheVariants.{Push}
-use Rattle.session_text.specs.declared.reply.Reply.{Reply}
-use Rattle.session_text.specs.declared.reply.Reply.TheVariants.{Refused}
-use Rattle.session_text.specs.declared.refusal.Refusal.TheVariants.{DiskFault}
-use Rattle.session_text.specs.Items.{Item}
 use Rattle.store_model.specs.History.{History, count_of}
 use Rattle.store_images.specs.Stored.{ImageStandsFor, KeepsStored, MayStandFor}
 use Rattle.store_core.specs.Opening.{BeginsAs}
 use Rattle.store_core.specs.Past.{StoodFor}
 use Rattle.session_meaning.specs.Session.{At, history_of}
+use Rattle.session_meaning.specs.Pushes.{unsure_batch}
 use Rattle.session_meaning.specs.Runs.{Outcome}
 
--- The batch whose push was refused since the disk failed, where there was one: whether it is stored isn't sure. There is no
--- second one, since from then on the store takes no push.
-abbrev pub unsure_batch : List Item → List Reply → Option (List Span)
-unsure_batch (Ok (Push reading moment) ∷ items) (Refused DiskFault ∷ replies) = Some reading.batch.spans
-unsure_batch (item ∷ items) (reply ∷ replies) = unsure_batch items replies
-unsure_batch _ _ = None
-
+-- the batch that isn't sure, of a run
 abbrev pub unsure_spans : Outcome → Option (List Span)
 unsure_spans o = unsure_batch o.items o.replies
 
--- The run begins with what was stored: its first history is a base that the disk's bytes stand for, and the store begins as
--- one that was opened on these bytes at this moment.
+-- The run begins with what was stored: its first history is a base alone, each span of it once, that the disk's bytes stand for;
+-- and the store begins as one that was opened on these bytes at this moment.
 pub record Begins (held : Image) (moment : ℕ) (first : At) : Type 0 where
   pub stored : ImageStandsFor held (history_of first)
+  pub once : IsFirstOf (history_of first).base (history_of first).base
   pub base_alone : (history_of first).entries ≡ []
   pub begins : BeginsAs held moment first.machine
 
