@@ -22,6 +22,11 @@ pub holds_kept : {P : Type 0} (meaning : Meaning P) (old new : P) (calls : List 
 holds_kept {P} meaning old new [] made h = subst (λ (x : P). (held : List Hold) × meaning.holds x held) (sym made) h
 holds_kept meaning old new (c ∷ cs) made h = holds_kept meaning made.0 new cs made.2 (holds_after c.event c.reply h.0, made.1.holds h.0 h.1)
 
+-- and whether it tells its bytes stays as it is
+pub tells_kept : {P : Type 0} (meaning : Meaning P) (old new : P) (calls : List Call) → AreMade meaning old calls new → meaning.tells new ≡ meaning.tells old
+tells_kept meaning old new [] made = ap meaning.tells made
+tells_kept meaning old new (c ∷ cs) made = tells_kept meaning made.0 new cs made.2 ∙ made.1.telling
+
 pub answered-push : (looks : Looks) (events : List Event) (replies : List EventReply) (e : Event) (r : EventReply) (calls now : List Call)
     → AreEventsAnswered looks events replies calls → IsEventAnswered (after_calls calls looks) e r now
     → AreEventsAnswered looks (events ++ e ∷ []) (replies ++ r ∷ []) (calls ++ now)

@@ -10,7 +10,7 @@ mod NewCores
 mod PushEvents
 pub mod Past
 mod LookEvents
-mod PortEvents
+pub mod PortEvents
 pub mod LogSteps
 mod LooseFiles
 mod Revived

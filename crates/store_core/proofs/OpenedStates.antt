@@ -5,7 +5,9 @@ use Rattle.std.proofs.lemmas.List.{append-nil}
 use Rattle.std.proofs.lemmas.List.Elements.{All-contains, Contains-append_cases, Contains-append_left, Contains-append_right}
 use Rattle.span_types.specs.declared.spans.Span.{Span}
 use Rattle.span_types.specs.declared.spans.Row.{Row}
-use Rattle.span_types.specs.First.{first_at}
+use Rattle.span_types.specs.declared.ids.Key.{Key}
+use Rattle.span_types.specs.First.{IsFirstOf, first_at}
+use Rattle.span_types.proofs.FirstLaws.{first_at-firsts, firsts_alike}
 use Rattle.disk_model.specs.Images.{Image, bytes_of}
 use Rattle.block_list.specs.Body.{MeetsRules, files_of, successor}
 use Rattle.block_list.specs.declared.body.SegmentRef.{SegmentRef}
@@ -16,6 +18,7 @@ use Rattle.store_model.specs.RowSets.{OnePlace}
 use Rattle.store_model.specs.Laws.{AgreesOn}
 use Rattle.store_model.specs.Sound.{times, StateIsSound}
 use Rattle.store_model.specs.Step.{Machine}
+use Rattle.store_model.proofs.FirstsExist.{firsts_exist}
 use Rattle.store_model.proofs.HistoryLaws.{number_of, position_of}
 use Rattle.store_model.proofs.KeepsFirsts.{number_in}
 use Rattle.store_model.proofs.Numbers.{same_number, times-append}
@@ -111,15 +114,32 @@ module _ (list : ListBody) (rules : MeetsRules list) (batches : List (List Span)
     below = λ x hx. agrees.below x (waiting_in x hx);
   }
 
--- the history whose base are the rows that wait
-abbrev pub base_of : ListBody → List (List Span) → History
-base_of list batches = record { base = waiting_rows list batches; start = first_number list + length batches; entries = [] }
+-- ---- the history that is there at first
 
--- the floor is no further than the next number
+-- the first occurrences of the rows that wait
+abbrev pub base_rows : ListBody → List (List Span) → List Row
+base_rows list batches = (firsts_exist (waiting_rows list batches)).0
+
+-- it has them as its base, and as many entries as the log has
+abbrev pub base_of : ListBody → List (List Span) → History
+base_of list batches = record { base = base_rows list batches; start = first_number list + length batches; entries = [] }
+
+-- First occurrences are their own.
+pub firsts_own : (rows firsts : List Row) → IsFirstOf rows firsts → IsFirstOf firsts firsts
+firsts_own rows firsts is = firsts_alike rows firsts firsts (λ k. sym (first_at-firsts rows firsts is k)) is
+
+pub base_once : (list : ListBody) (batches : List (List Span)) → IsFirstOf (base_rows list batches) (base_rows list batches)
+base_once list batches = let is = firsts_exist (waiting_rows list batches) in firsts_own (waiting_rows list batches) is.0 is.1
+
+same_base : (list : ListBody) (batches : List (List Span)) (k : Key) → first_at k (waiting_rows list batches) ≡ first_at k (history_rows (base_of list batches))
+same_base list batches k =
+    let is = firsts_exist (waiting_rows list batches) in
+    sym (first_at-firsts (waiting_rows list batches) is.0 is.1 k) ∙ ap (first_at k) (sym (append-nil is.0))
+
 pub agrees_base : (list : ListBody) (batches : List (List Span)) → first_number list ≤ list.floor → list.floor ≤ first_number list + length batches
     → AgreesOn (waiting_rows list batches) (base_of list batches)
 agrees_base list batches low high = record {
-  firsts = λ k. ap (first_at k) (sym (append-nil (waiting_rows list batches)));
+  firsts = λ k. same_base list batches k;
   one = entry_one list.floor (drop (list.floor - first_number list) batches);
   below = λ x c.
       let number = (entry_numbers list.floor (drop (list.floor - first_number list) batches) x c).1 in
@@ -132,7 +152,7 @@ pub agrees_stored : (list : ListBody) (batches : List (List Span)) (h : History)
     → SameFirsts (stored_rows [] (first_number list) batches) (stored_rows [] list.floor (drop (list.floor - first_number list) batches))
     → count_of h ≡ first_number list + length batches → AgreesOn (stored_rows [] (first_number list) batches) (base_of list batches)
 agrees_stored list batches h agrees floored counts = record {
-  firsts = λ k. floored k ∙ ap (first_at k) (sym (append-nil (waiting_rows list batches)));
+  firsts = λ k. floored k ∙ same_base list batches k;
   one = agrees.one;
   below = λ x c. let number = agrees.below x c in omega (arith, number, counts);
 }

@@ -3,6 +3,7 @@ use Rattle.std.proofs.Common.{◌≡◌, ◌≢◌, ℕ, ◌+◌, ◌≤◌, Boo
 use Rattle.std.specs.List.{Contains}
 use Rattle.span_types.specs.declared.spans.Span.{Span}
 use Rattle.span_types.specs.declared.spans.Row.{Row}
+use Rattle.span_types.specs.First.{IsFirstOf}
 use Rattle.disk_model.specs.Images.{Image, bytes_of}
 use Rattle.disk_model.specs.Crash.{OnlyBytes, Within, LeavesOnly, Reached, Run}
 use Rattle.disk_model.specs.declared.disk.Device.{Ghosts}
@@ -36,7 +37,7 @@ use Rattle.store_core.proofs.NewCores.{no_history, no_history_is_empty}
 use Rattle.store_core.proofs.LogLaws.{one_log}
 use Rattle.store_core.proofs.LogSteps.{read_whole}
 use Rattle.store_core.proofs.LooseFiles.{stands_moved, used_low}
-use Rattle.store_core.proofs.OpenedStates.{opened_machine, opened_stands, base_of, low_floor, agrees_base, agrees_stored, agrees_waiting, waiting_rows}
+use Rattle.store_core.proofs.OpenedStates.{opened_machine, opened_stands, base_of, low_floor, agrees_base, agrees_stored, agrees_waiting, base_once, waiting_rows}
 use Rattle.store_core.proofs.OpeningSteps.{IsFound, found, segment_low}
 
 -- the same, where the disk may tell less
@@ -57,6 +58,13 @@ new_is_empty h = record { writes = refl; head = refl; loose = refl; pins = refl 
 
 opened_is_empty : (list : ListBody) (batches : List (List Span)) (moment : ℕ) (h : History) → BeginsEmpty (opened_machine list batches moment h)
 opened_is_empty list batches moment h = record { writes = refl; head = refl; loose = refl; pins = refl }
+
+none_once : IsFirstOf [] []
+none_once = record {
+  only = λ k d h. absurd (omega (arith, h));
+  whole = λ k r h. let bad : None ≡ Some r = h in cc;
+  ordered = λ n d h. absurd (omega (arith, h));
+}
 
 module _ {D : Type 0} (g : Ghosts D) where
   -- the list was loaded
@@ -95,6 +103,7 @@ module _ {D : Type 0} (g : Ghosts D) where
         shows = tells_less _ ⊥ (g.held core.disk) (g.may_leave core.disk) core.state (new_machine no_history) (λ bad. absurd bad) (stands no_history no_history_is_empty);
         empty = new_is_empty no_history;
         base_alone = refl;
+        once = none_once;
         no_blocks = refl;
         stands = λ sound. stands no_history no_history_is_empty;
         stored = λ told sound. (
@@ -173,6 +182,7 @@ module _ {D : Type 0} (g : Ghosts D) where
           shows = by_memory ⊥ (λ bad. bad);
           empty = opened_is_empty list batches moment (base_of list batches);
           base_alone = refl;
+          once = base_once list batches;
           no_blocks = refl;
           stands = λ sound. by_telling (g.tells disk) refl sound;
           stored = λ told sound. (stored_first told sound, begins told (base_of list batches));

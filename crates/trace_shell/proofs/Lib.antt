@@ -1,4 +1,5 @@
 pub mod TurnLemmas
 pub mod AloneLemmas
 pub mod RunLemmas
+pub mod StoreLemmas
 pub mod ArgumentLemmas

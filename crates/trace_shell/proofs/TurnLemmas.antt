@@ -19,8 +19,11 @@ use Rattle.session_meaning.specs.Session.{Ends, IsAllEnded, IsAllRead, IsCutOff,
 use Rattle.session_meaning.specs.Asked.{AsksNext, after_moment}
 use Rattle.session_meaning.specs.Progress.{HasAnsweredOne, HasAnsweredOver, Progress}
 use Rattle.session_meaning.proofs.EndLaws.{taken_within}
-use Rattle.session_meaning.proofs.SessionLaws.{over_begins, over_first, progress_begins, progress_empty, progress_line, reply_texts-push}
+use Rattle.session_meaning.proofs.SessionLaws.{over_begins, progress_begins, progress_empty, progress_line, reply_texts-push}
 use Rattle.store_state.specs.Meaning.{Meaning}
+use Rattle.client_run.specs.Calls.{Call}
+use Rattle.client_run.proofs.CallLemmas.{made-append}
+use Rattle.session_meaning.specs.Answering.{AreItemsAnswered}
 use Rattle.traceql_types.specs.Makers.{Makes, RefusesOnly}
 use Rattle.traceql_types.proofs.Calls.{refuses-none}
 use Rattle.trace_shell.specs.declared.session.Tally.{Tally}
@@ -155,6 +158,31 @@ passed_at told text before left_old left taken_old taken tell_old to_tell reader
   refused = ap (λ s. s.refused) same_seen ∙ at.refused;
   starved = ap (λ s. s.starved) same_seen ∙ at.starved;
   took = took_more text left_old left 0 reader_old.taken reader.taken at.took took;
+}
+
+-- ---- what was answered over a port
+
+pub over_first : {Q : Type 0} (meaning : Meaning Q) (before after : Q) (item : Item) (reply : Reply) → HasAnsweredOne meaning before item reply after
+    → HasAnsweredOver meaning before (item ∷ []) (reply ∷ []) after
+over_first meaning before after item reply one = record {
+  calls = one.calls;
+  by_calls = (one.calls, [], sym (append-nil one.calls), one.answered, (refl, refl));
+  made = one.made;
+}
+
+items_then : (front back : List Item) (first later : List Reply) (calls more : List Call) → AreItemsAnswered front first calls → AreItemsAnswered back later more
+    → AreItemsAnswered (front ++ back) (first ++ later) (calls ++ more)
+items_then [] back first later calls more h k = rw (h.0, h.1) k
+items_then (i ∷ is) back [] later calls more h k = absurd h
+items_then (i ∷ is) back (r ∷ rs) later calls more h k =
+    (h.0, h.1 ++ more, ap (λ (cs : List Call). cs ++ more) h.2 ∙ append_assoc h.0 h.1 more, h.3, items_then is back rs later h.1 more h.4 k)
+
+pub over_then : {Q : Type 0} (meaning : Meaning Q) (start mid port : Q) (items asked : List Item) (replies given : List Reply) → HasAnsweredOver meaning start items replies mid
+    → HasAnsweredOver meaning mid asked given port → HasAnsweredOver meaning start (items ++ asked) (replies ++ given) port
+over_then meaning start mid port items asked replies given first second = record {
+  calls = first.calls ++ second.calls;
+  by_calls = items_then items asked replies given first.calls second.calls first.by_calls second.by_calls;
+  made = made-append meaning start mid port first.calls second.calls first.made second.made;
 }
 
 -- What a turn does over a port: these were asked and answered so, and it leaves that.

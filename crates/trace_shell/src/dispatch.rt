@@ -51,8 +51,13 @@ pub(crate) fn dispatch<
     ensures ran { (o : Outcome) × (o.ending ≡ result.0) × RefusesOnly P.makes patterns.old patterns.new o.refused
         × IsRunOf (map string_bytes words.now) o
         (edges S.left S.faults K.taken K.faults C.moments D.Device.own source.old sink.old clock.old disk)
+        (edges S.left S.faults K.taken K.faults C.moments D.Device.own source.new sink.new clock.new result.1) }
+    ensures recovers { IsTrue (D.tells disk) → IsSoundImage (D.held disk)
+        → (o : Outcome) × (o.ending ≡ result.0) × RefusesOnly P.makes patterns.old patterns.new o.refused
+        × IsRunOf (map string_bytes words.now) o
+        (edges S.left S.faults K.taken K.faults C.moments D.Device.own source.old sink.old clock.old disk)
         (edges S.left S.faults K.taken K.faults C.moments D.Device.own source.new sink.new clock.new result.1)
-        × (IsTrue (D.tells disk) → IsSoundImage (D.held disk) → Recovers D.Device.own disk result.1 o) }
+        × Recovers D.Device.own disk result.1 o }
     ensures nothing_done { fault_of words_app (map string_bytes words.now) ≢ []
         → (source.new ≡ source.old) × (sink.new ≡ sink.old) × (result.1 ≡ disk) × (clock.new ≡ clock.old)
         × (patterns.new ≡ patterns.old) }
@@ -80,8 +85,13 @@ fn on_store<S: Source, K: Sink, D: Device, C: Clock, P: PatternMaker, G: Gate>(
     ensures ran { (o : Outcome) × (o.ending ≡ result.0) × RefusesOnly P.makes patterns.old patterns.new o.refused
         × HasDone (command_of asked) o
         (edges S.left S.faults K.taken K.faults C.moments D.Device.own source.old sink.old clock.old disk)
+        (edges S.left S.faults K.taken K.faults C.moments D.Device.own source.new sink.new clock.new result.1) }
+    ensures recovers { IsTrue (D.tells disk) → IsSoundImage (D.held disk)
+        → (o : Outcome) × (o.ending ≡ result.0) × RefusesOnly P.makes patterns.old patterns.new o.refused
+        × HasDone (command_of asked) o
+        (edges S.left S.faults K.taken K.faults C.moments D.Device.own source.old sink.old clock.old disk)
         (edges S.left S.faults K.taken K.faults C.moments D.Device.own source.new sink.new clock.new result.1)
-        × (IsTrue (D.tells disk) → IsSoundImage (D.held disk) → Recovers D.Device.own disk result.1 o) }
+        × Recovers D.Device.own disk result.1 o }
     ensures alone { (line : List ℕ) → command_of asked ≡ Alone line → source.new ≡ source.old }
 {
     let moment = clock.now();
