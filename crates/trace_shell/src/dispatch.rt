@@ -31,14 +31,7 @@ use store_state::LookPort;
 use traceql_types::PatternMaker;
 
 /// Does what the words say, and tells how it ended. The disk is handed back.
-pub(crate) fn dispatch<
-    S: Source,
-    K: Sink,
-    D: Device,
-    C: Clock,
-    P: PatternMaker,
-    G: Gate,
->(
+pub(crate) fn dispatch<S: Source, K: Sink, D: Device, C: Clock, P: PatternMaker, G: Gate>(
     alloc: Global,
     words: &[String],
     source: &mut S,

@@ -33,7 +33,10 @@ pub struct Ended<D> {
 pub fn exit_code<D: Drop>(ended: Ended<D>) -> ExitCode
     ensures { exit_status result ≡ ended.status }
 {
-    let Ended { status, disk: _disk } = ended;
+    let Ended {
+        status,
+        disk: _disk,
+    } = ended;
     ExitCode::from(status)
 }
 

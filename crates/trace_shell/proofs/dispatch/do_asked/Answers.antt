@@ -16,7 +16,7 @@ returns-in-Session-clause-came g c =
       ran.3,
       ran.4,
       subst (λ a. CameOver (command_of a) (g.S.Source.left c.args.source.now) (g.K.Sink.taken c.args.sink.now) (g.C.Clock.moments c.args.clock.now)
-      (g.S.Source.left c.session.new.source) (g.K.Sink.taken c.session.new.sink) (g.C.Clock.moments c.session.new.clock) c.session.result ran.0 ran.1 ran.2) (sym c.in-Session.is) ran.5,
+          (g.S.Source.left c.session.new.source) (g.K.Sink.taken c.session.new.sink) (g.C.Clock.moments c.session.new.clock) c.session.result ran.0 ran.1 ran.2) (sym c.in-Session.is) ran.5,
     )
 
 pub returns-in-Session-clause-alone : goal.returns-in-Session-clause-alone
@@ -34,17 +34,16 @@ returns-in-Alone-clause-came g c =
       told.3,
       over_first g.Q.LookPort.meaning c.args.port.now c.one_line.new.port told.0 told.1 told.4,
       subst (λ a. CameOver (command_of a) (g.S.Source.left c.args.source.now) (g.K.Sink.taken c.args.sink.now) old
-      (g.S.Source.left c.args.source.now) (g.K.Sink.taken c.one_line.new.sink) (g.C.Clock.moments c.one_line.new.clock) c.one_line.result (told.0 ∷ []) (told.1 ∷ []) told.2) (sym c.in-Alone.is)
-      (
-        told.0,
-        told.1,
-        refl,
-        refl,
-        (alone_ends c.one_line.result c.one_line.ensures.endings).2,
-        subst (λ (l : List ℕ). AsksNext old l told.2 told.0) same told.5,
-        c.one_line.ensures.clock,
-        told.6,
-      ),
+          (g.S.Source.left c.args.source.now) (g.K.Sink.taken c.one_line.new.sink) (g.C.Clock.moments c.one_line.new.clock) c.one_line.result (told.0 ∷ []) (told.1 ∷ []) told.2) (sym c.in-Alone.is) (
+            told.0,
+            told.1,
+            refl,
+            refl,
+            (alone_ends c.one_line.result c.one_line.ensures.endings).2,
+            subst (λ (l : List ℕ). AsksNext old l told.2 told.0) same told.5,
+            c.one_line.ensures.clock,
+            told.6,
+          ),
     )
 
 pub returns-in-Alone-clause-read_fault : goal.returns-in-Alone-clause-read_fault
