@@ -1,2 +1,9 @@
+mod Looks
+pub mod Firsts
+pub mod AnswerLaws
 pub mod SessionLaws
+pub mod Told
+mod Room
 pub mod EndLaws
+pub mod Openings
+pub mod Unsure

@@ -1,11 +1,14 @@
 -- What the replies of a session tell of its pushes.
-use Rattle.std.specs.Prelude.{ℕ, List, [], ◌∷◌, ◌++◌, length, Option, Some, None, Ok, Err}
+use Rattle.std.specs.Prelude.{◌≡◌, ℕ, ◌+◌, ◌≤◌, List, [], ◌∷◌, ◌++◌, length, Option, Some, None, Ok}
 use Rattle.span_types.specs.declared.spans.Span.{Span}
 use Rattle.session_text.specs.declared.request.Request.TheVariants.{Push}
 use Rattle.session_text.specs.declared.refusal.Refusal.TheVariants.{DiskFault}
 use Rattle.session_text.specs.declared.reply.Reply.{Reply}
 use Rattle.session_text.specs.declared.reply.Reply.TheVariants.{Pushed, Traced, Searched, Refused}
 use Rattle.session_text.specs.Items.{Item}
+use Rattle.store_model.specs.History.{count_of}
+use Rattle.store_model.specs.State.{held_of}
+use Rattle.store_model.specs.Step.{Machine}
 
 -- the batch of a push that was accepted
 abbrev pub accepted_batch : Item → Reply → List (List Span)
@@ -36,7 +39,17 @@ known_pushes (Traced as_of rows) = Some as_of
 known_pushes (Searched as_of fields results) = Some as_of
 known_pushes _ = None
 
--- how many spans are asked to be pushed
-abbrev pub spans_asked : Item → ℕ
-spans_asked (Ok (Push reading moment)) = length reading.batch.spans
-spans_asked _ = 0
+-- how many spans are to be pushed
+abbrev pub spans_in : Item → ℕ
+spans_in (Ok (Push reading moment)) = length reading.batch.spans
+spans_in _ = 0
+
+abbrev pub all_spans : List Item → ℕ
+all_spans [] = 0
+all_spans (item ∷ items) = spans_in item + all_spans items
+
+-- There is room in the store for all of this: it writes, and neither the history nor what is held in memory will be full.
+pub record HasRoomFor (items : List Item) (m : Machine) : Type 0 where
+  pub writes : m.read_only ≡ None
+  pub pushes : count_of m.history + length items ≤ 4294967295
+  pub rows : held_of m.state + all_spans items ≤ 262144

@@ -1,20 +1,69 @@
-//! What follows from the definition of a run.
+//! What follows from the definitions of a session and of a run.
 
-ghost use Rattle.std.specs.Prelude.{◌≡◌, ◌⊎◌, List, Some, false, ℕ};
-ghost use Rattle.std.specs.List.{list_any};
+ghost use Rattle.std.specs.Prelude.{◌≡◌, ◌⊎◌, ◌<◌, ◌++◌, List, [], ◌∷◌, Some, false, ℕ};
+ghost use Rattle.std.specs.List.{Contains, list_any};
 ghost use Rattle.command_words.specs.Commands.{Command, Spells};
+ghost use Rattle.disk_model.specs.Images.{Image};
+ghost use Rattle.span_types.specs.First.{IsFirstOf};
+ghost use Rattle.span_types.specs.declared.spans.Row.{Row};
+ghost use Rattle.session_text.specs.declared.reply.Reply.{Reply};
+ghost use Rattle.session_text.specs.declared.reply.Reply.TheVariants.{Pushed};
+ghost use Rattle.session_text.specs.Items.{Item};
+ghost use Rattle.store_model.specs.History.{History, count_of, grown};
+ghost use Rattle.store_model.specs.Laws.{Agrees};
+ghost use Rattle.store_images.specs.Stored.{ImageStandsFor};
+ghost use Rattle.client_run.specs.Calls.{Call};
+ghost use Rattle.session_meaning.specs.Answering.{AreItemsAnswered, CallsLead, IsAnsweredByCalls};
 ghost use Rattle.session_meaning.specs.declared.ending.Ending.TheVariants.{Answered, Starved};
+ghost use Rattle.session_meaning.specs.Pushes.{HasRoomFor, accepted_batches, known_pushes};
 ghost use Rattle.session_meaning.specs.Runs.{ComesToItsEnd, Edges, GoesWell, IsRunOf, Outcome};
-ghost use Rattle.session_meaning.specs.Session.{is_refused};
+ghost use Rattle.session_meaning.specs.Session.{At, IsAnsweredOrStarved, Session, history_of, is_refused};
 
-/// Laws of runs, for all commands at once: a run in which no call failed comes to its own end.
+/// What is answered by calls of a store that lists no block is answered as the history says: the machine of the store, with its
+/// blocks, logs and pins, tells no more than the pushes do. It lists no block then either.
+pub fn calls_answer_as_the_history_says()
+    ensures item { (item : Item) (before after : At) (reply : Reply) → Agrees before.machine
+        → before.machine.state.blocks ≡ [] → IsAnsweredByCalls item before reply after
+        → IsAnsweredOrStarved item before reply after }
+    ensures session { (items : List Item) (replies : List Reply) (calls : List Call) (first last : At)
+        → Agrees first.machine → first.machine.state.blocks ≡ [] → AreItemsAnswered items replies calls
+        → CallsLead first calls last → Session first items replies last }
+{}
+
+/// A session keeps that the rows of the store are those of its history, and lists no block where none was listed.
+pub fn sessions_keep_the_store()
+    ensures agrees { (items : List Item) (replies : List Reply) (first last : At) → Session first items replies last
+        → Agrees first.machine → Agrees last.machine }
+    ensures no_blocks { (items : List Item) (replies : List Reply) (first last : At) → Session first items replies last
+        → first.machine.state.blocks ≡ [] → last.machine.state.blocks ≡ [] }
+{}
+
+/// What the replies of a session tell of its pushes.
+pub fn replies_tell_the_history()
+    // The last history is the first one, and behind it the batches of the pushes that were accepted, in order.
+    ensures appended { (items : List Item) (replies : List Reply) (first last : At) → Session first items replies last
+        → history_of last ≡ grown (history_of first) (accepted_batches items replies) }
+    // What an accepted push is told, its number, is below the count of pushes that any later query knows of.
+    ensures known_later { (items : List Item) (earlier later : List Reply) (first last : At)
+        → (number kept rejected skipped : ℕ)
+        → Session first items (earlier ++ Pushed number kept rejected skipped ∷ later) last
+        → (reply : Reply) (known : ℕ) → Contains later reply → known_pushes reply ≡ Some known → number < known }
+{}
+
+/// Of the histories that an image stands for one is a base alone, in which each span stands once.
+pub fn what_is_stored_is_a_base()
+    ensures { (image : Image) (h : History) → ImageStandsFor image h → (base : List Row) × IsFirstOf base base
+        × ImageStandsFor image (record { base = base; start = count_of h; entries = [] }) }
+{}
+
+/// Laws of runs, for all commands at once: a run over a disk with a store, in which no call failed, comes to its own end.
 pub fn comes_to_an_end()
     // It answers all that it was asked.
     ensures ends { (words : List (List ℕ)) (c : Command) (o : Outcome) (old new : Edges) → Spells words c
         → IsRunOf words o old new → GoesWell c old new → ComesToItsEnd o.ending }
-    // And where nothing was refused in reading, nothing is refused but for memory.
+    // And where nothing was refused in reading, and the store had room, nothing is refused but for memory.
     ensures well { (words : List (List ℕ)) (c : Command) (o : Outcome) (old new : Edges) → Spells words c
         → IsRunOf words o old new → GoesWell c old new
         → (before : List ℕ) → old.taken ≡ Some before → list_any is_refused o.items ≡ false
-        → (o.ending ≡ Answered) ⊎ (o.ending ≡ Starved) }
+        → HasRoomFor o.items o.first.machine → (o.ending ≡ Answered) ⊎ (o.ending ≡ Starved) }
 {}

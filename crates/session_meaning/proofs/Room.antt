@@ -1,0 +1,194 @@
+-- A store that has room refuses nothing but for memory, as long as its disk doesn't fail.
+use Rattle.std.proofs.Common.{rules, ◌≡◌, ◌⊎◌, inl, inr, ◌∙◌, ℕ, ◌+◌, ◌-◌, ◌<◌, ◌≤◌, ◌^◌, ◌||◌, min, nat_le, nat_lt, Bool, true, false, List, [], ◌∷◌, ◌++◌, Option, Some, None, Result, Ok, Err, ap, arith, length, length-append, refl, sym, subst, le_trans}
+use Rattle.std.specs.List.{list_any}
+use Rattle.std.proofs.lemmas.List.{length-map}
+use Rattle.span_types.specs.Faults.{Rose}
+use Rattle.span_types.specs.declared.spans.Span.{Span}
+use Rattle.span_types.specs.declared.spans.Row.{Row}
+use Rattle.otlp_spans.specs.declared.read.Reading.{Reading}
+use Rattle.session_text.specs.declared.reply.Reply.{Reply}
+use Rattle.session_text.specs.declared.request.Request.TheVariants as request
+use Rattle.session_text.specs.Items.{Item}
+use Rattle.store_model.specs.After.{arrived}
+use Rattle.store_model.specs.Event.{Event as event, Reply as reply, Refusal as cause}
+use Rattle.store_model.specs.Event.Event.{Push}
+use Rattle.store_model.specs.Event.Reply.{Count, Refused}
+use Rattle.store_model.specs.Event.Refusal.{Fault, Memory}
+use Rattle.store_model.specs.History.{History, batch_rows, count_of, pushed, rows_at}
+use Rattle.store_model.specs.State.{LiveRow, State, flush_rows, held_of}
+use Rattle.store_model.specs.Step.{Machine, Step, early, if_full, if_read_only, if_test}
+use Rattle.store_model.specs.Step.Step.{Sure, Succeeds, Lacks, Unread, Breaks, Halts}
+use Rattle.store_images.proofs.Growing.{count_of-pushed}
+use Rattle.store_state.specs.Replies.{push_refusal, push_reply}
+use Rattle.store_state.specs.declared.errors.PushError.{PushError}
+use Rattle.store_state.specs.declared.errors.PushError.TheVariants as push
+use Rattle.client_run.specs.Answers.{pushed_reply}
+use Rattle.session_meaning.specs.Pushes.{HasRoomFor, all_spans}
+use Rattle.session_meaning.specs.Session.{At, IsAnsweredOrStarved, Session, is_refusal, is_refused}
+
+-- ---- counts of faults
+
+rose_to : (a b c : ℕ) → Rose a b → b ≤ c → Rose a c
+rose_to a b c rose later = le_trans rose later
+
+rose_from : (a b c : ℕ) → a ≤ b → Rose b c → Rose a c
+rose_from a b c earlier rose = omega (arith, earlier, rose)
+
+item_later : (item : Item) (before after : At) (r : Reply) → IsAnsweredOrStarved item before r after → before.faults ≤ after.faults
+item_later (Ok (request.Push reading moment)) before after r (inl (answer, told, later, step)) = later
+item_later (Ok (request.Push reading moment)) before after r (inr bad) = absurd bad
+item_later (Ok (request.Trace id)) before after r (inl (rows, found, told, still)) = still.1
+item_later (Ok (request.Trace id)) before after r (inr (memory, still)) = still.1
+item_later (Ok (request.Search s)) before after r (inl (results, found, told, still)) = still.1
+item_later (Ok (request.Search s)) before after r (inr (memory, still)) = still.1
+item_later (Err why) before after r (inl (told, same)) = let e = ap (λ (at : At). at.faults) same in omega (arith, e)
+item_later (Err why) before after r (inr bad) = absurd bad
+
+pub session_later : (items : List Item) (replies : List Reply) (first last : At) → Session first items replies last → first.faults ≤ last.faults
+session_later [] replies first last h = let e = ap (λ (at : At). at.faults) h.1 in omega (arith, e)
+session_later (i ∷ is) [] first last h = absurd h
+session_later (i ∷ is) (r ∷ rs) first last h =
+    let here = item_later i first h.0 r h.1 in
+    let rest = session_later is rs h.0 last h.2 in omega (arith, here, rest)
+
+-- ---- a push that has room
+
+test_no : (t : Bool) (r : reply) (later : Option reply) → t ≡ false → if_test t r later ≡ later
+test_no true r later e = let bad : ⊥ = cc in absurd bad
+test_no false r later e = refl
+
+not_above : (a b : ℕ) → b < a → nat_le a b ≡ false
+not_above a b h = search rules
+
+not_below : (a b : ℕ) → b ≤ a → nat_lt a b ≡ false
+not_below a b h = search rules
+
+-- its reply isn't sure
+unsure : (m : Machine) (spans : List Span) (moment : ℕ) → m.read_only ≡ None → count_of m.history + 1 ≤ 4294967295 → held_of m.state + length spans ≤ 262144
+    → early m (Push spans moment) ≡ None
+unsure m spans moment writes pushes rows =
+    ap (λ (o : Option ℕ). if_read_only o (if_full (count_of m.history) (held_of m.state) (length spans))) writes
+    ∙ test_no (nat_le 4294967295 (count_of m.history)) _ _ (not_above 4294967295 (count_of m.history) (omega (arith, pushes)))
+    ∙ test_no (nat_lt 262144 (held_of m.state + length spans)) _ _ (not_below 262144 (held_of m.state + length spans) rows)
+
+-- it is accepted, or memory is wanted
+data Taken (spans : List Span) (moment : ℕ) (m : Machine) (r : reply) (m' : Machine) : Type 0 where
+  kept : r ≡ Count (count_of m.history) → m'.history ≡ pushed m.history spans → m'.read_only ≡ m.read_only
+      → held_of m'.state ≡ held_of m.state + length spans → Taken spans moment m r m'
+  starved : r ≡ Refused Memory → m' ≡ m → Taken spans moment m r m'
+
+length_rows_at : (n p : ℕ) (spans : List Span) → length (rows_at n p spans) ≡ length spans
+length_rows_at n p [] = refl
+length_rows_at n p (s ∷ ss) = ap (λ (k : ℕ). k + 1) (length_rows_at n (p + 1) ss)
+
+more_held : (u : State) (n moment : ℕ) (spans : List Span)
+    → length (flush_rows u.flush) + length u.head + length (u.live ++ arrived moment (batch_rows n spans)) ≡ held_of u + length spans
+more_held u n moment spans =
+    let a = length-append u.live (arrived moment (batch_rows n spans)) in
+    let b : length (arrived moment (batch_rows n spans)) ≡ length (batch_rows n spans) = length-map (batch_rows n spans) (λ (row : Row). record { row = row; moment = moment }) in
+    let c = length_rows_at n 0 spans in omega (arith, a, b, c)
+
+taken : (f g : ℕ) (m m' : Machine) (spans : List Span) (moment : ℕ) (r : reply) → early m (Push spans moment) ≡ None → (Rose f g → ⊥)
+    → Step f g m (Push spans moment) r m' → Taken spans moment m r m'
+taken f g m m' spans moment r early well (Sure told same) = let bad : ⊥ = cc in absurd bad
+taken f g m m' spans moment r early well (Succeeds none done) =
+    kept done.0 (ap (λ (n : Machine). n.history) done.1) (ap (λ (n : Machine). n.read_only) done.1)
+    (ap (λ (n : Machine). held_of n.state) done.1 ∙ more_held m.state (count_of m.history) moment spans)
+taken f g m m' spans moment r early well (Lacks none takes told same) = starved told same
+taken f g m m' spans moment r early well (Unread reads told rose same) = absurd (well rose)
+taken f g m m' spans moment r early well (Breaks none writes told rose same) = absurd (well rose)
+taken f g m m' spans moment r early well (Halts none reclaims writes told rose emptied fewer same) = absurd (well rose)
+
+-- ---- an item that has room
+
+abbrev IsPlain : Reply → Type 0
+IsPlain r = is_refusal r ≡ false
+
+count_plain : (reading : Reading) (answer : Result ℕ PushError) (n : ℕ) → push_reply answer ≡ Count n → IsPlain (pushed_reply reading answer)
+count_plain reading (Ok number) n e = refl
+count_plain reading (Err why) n e = let bad : ⊥ = cc in absurd bad
+
+same_cause : (a b : cause) → Refused a ≡ Refused b → a ≡ b
+same_cause a b e = cc
+
+memory_plain : (reading : Reading) (why : PushError) → push_refusal why ≡ Memory → IsPlain (pushed_reply reading (Err why))
+memory_plain reading (push.LiveFull held) e = let bad : ⊥ = cc in absurd bad
+memory_plain reading (push.StoreFull pushes) e = let bad : ⊥ = cc in absurd bad
+memory_plain reading (push.ReadOnly faults) e = let bad : ⊥ = cc in absurd bad
+memory_plain reading push.Fault e = let bad : ⊥ = cc in absurd bad
+memory_plain reading push.Memory e = refl
+
+starved_plain : (reading : Reading) (answer : Result ℕ PushError) → push_reply answer ≡ Refused Memory → IsPlain (pushed_reply reading answer)
+starved_plain reading (Ok number) e = let bad : ⊥ = cc in absurd bad
+starved_plain reading (Err why) e = memory_plain reading why (same_cause (push_refusal why) Memory e)
+
+-- it is answered or starved, and leaves room for the others
+abbrev GoesOn : Reply → List Item → Machine → Type 0
+GoesOn r items m = IsPlain r × HasRoomFor items m
+
+room_less : (a b c d : ℕ) → a + (b + c) ≤ d → a + c ≤ d
+room_less a b c d h = omega (arith, h)
+
+still_room : (item : Item) (items : List Item) (m m' : Machine) → m' ≡ m → HasRoomFor (item ∷ items) m → HasRoomFor items m'
+still_room item items m m' same room = subst (HasRoomFor items) (sym same) (record {
+  writes = room.writes;
+  pushes = let all = room.pushes in omega (arith, all);
+  rows = let all = room.rows in omega (arith, all);
+})
+
+push_goes_on : (reading : Reading) (moment : ℕ) (items : List Item) (m m' : Machine) (answer : Result ℕ PushError) → HasRoomFor (Ok (request.Push reading moment) ∷ items) m
+    → Taken reading.batch.spans moment m (push_reply answer) m' → GoesOn (pushed_reply reading answer) items m'
+push_goes_on reading moment items m m' answer room (kept told history writes rows) =
+    (count_plain reading answer (count_of m.history) told, record {
+      writes = writes ∙ room.writes;
+      pushes = let all = room.pushes in let count = ap count_of history ∙ count_of-pushed m.history reading.batch.spans in omega (arith, all, count);
+      rows = let all = room.rows in omega (arith, all, rows);
+    })
+push_goes_on reading moment items m m' answer room (starved told same) =
+    (starved_plain reading answer told, still_room (Ok (request.Push reading moment)) items m m' same room)
+
+item_goes_on : (item : Item) (items : List Item) (before after : At) (r : Reply) → IsAnsweredOrStarved item before r after → (Rose before.faults after.faults → ⊥)
+    → is_refused item ≡ false → HasRoomFor (item ∷ items) before.machine → GoesOn r items after.machine
+item_goes_on (Ok (request.Push reading moment)) items before after r (inl (answer, told, later, step)) well none room =
+    let spans = reading.batch.spans in
+    let early = unsure before.machine spans moment room.writes (let all = room.pushes in omega (arith, all)) (let all = room.rows in omega (arith, all)) in
+    let on = push_goes_on reading moment items before.machine after.machine answer room
+    (taken before.faults after.faults before.machine after.machine spans moment (push_reply answer) early well step) in
+    (subst IsPlain (sym told) on.0, on.1)
+item_goes_on (Ok (request.Push reading moment)) items before after r (inr bad) well none room = absurd bad
+item_goes_on (Ok (request.Trace id)) items before after r (inl (rows, found, told, still)) well none room =
+    (ap is_refusal told, still_room (Ok (request.Trace id)) items before.machine after.machine still.0 room)
+item_goes_on (Ok (request.Trace id)) items before after r (inr (memory, still)) well none room =
+    (ap is_refusal memory, still_room (Ok (request.Trace id)) items before.machine after.machine still.0 room)
+item_goes_on (Ok (request.Search s)) items before after r (inl (results, found, told, still)) well none room =
+    (ap is_refusal told, still_room (Ok (request.Search s)) items before.machine after.machine still.0 room)
+item_goes_on (Ok (request.Search s)) items before after r (inr (memory, still)) well none room =
+    (ap is_refusal memory, still_room (Ok (request.Search s)) items before.machine after.machine still.0 room)
+item_goes_on (Err why) items before after r (inl (told, same)) well none room =
+    (ap is_refusal told ∙ none, still_room (Err why) items before.machine after.machine (ap (λ (at : At). at.machine) same) room)
+item_goes_on (Err why) items before after r (inr bad) well none room = absurd bad
+
+-- ---- a session that has room
+
+or_none : (a b : Bool) → (a || b) ≡ false → (a ≡ false) × (b ≡ false)
+or_none true b e = let bad : ⊥ = cc in absurd bad
+or_none false b e = (refl, e)
+
+plain_with_room : (first last : At) (items : List Item) (replies : List Reply) → Session first items replies last → (Rose first.faults last.faults → ⊥)
+    → HasRoomFor items first.machine → list_any is_refused items ≡ false → list_any is_refusal replies ≡ false
+plain_with_room first last [] replies h well room none = ap (list_any is_refusal) h.0
+plain_with_room first last (i ∷ is) [] h well room none = absurd h
+plain_with_room first last (i ∷ is) (r ∷ rs) h well room none =
+    let parts = or_none (is_refused i) (list_any is_refused is) none in
+    let here = item_later i first h.0 r h.1 in
+    let rest = session_later is rs h.0 last h.2 in
+    let on = item_goes_on i is first h.0 r h.1 (λ rose. well (rose_to first.faults h.0.faults last.faults rose rest)) parts.0 room in
+    let later : list_any is_refusal rs ≡ false = plain_with_room h.0 last is rs h.2 (λ rose. well (rose_from first.faults h.0.faults last.faults here rose)) on.1 parts.1 in
+    let plain : is_refusal r ≡ false = on.0 in
+    rw (plain, later) refl
+
+pub replies_plain : (first last : At) (items : List Item) (replies : List Reply) (old new : ℕ) → Session first items replies last → old ≤ first.faults → last.faults ≡ new
+    → (Rose old new → ⊥) → HasRoomFor items first.machine → list_any is_refused items ≡ false → list_any is_refusal replies ≡ false
+replies_plain first last items replies old new h earlier now well room none =
+    plain_with_room first last items replies h
+    (λ rose. well (rose_from old first.faults new earlier (subst (λ (n : ℕ). Rose first.faults n) now rose))) room none
