@@ -102,7 +102,9 @@ answered_at told text before left_old left taken_old taken tell_old to_tell read
     turned outcome given
   where
     progress : Progress told text next.rest (blamed ++ more) (items ++ item ∷ []) to_tell
-    progress = progress_line told text at.rest next.past next.rest blamed more items item tell_old to_tell b bs at.progress next.parts next.first a later
+    progress =
+        subst (λ (o : Option (List ℕ)). Progress told text next.rest (blamed ++ more) (items ++ item ∷ []) o) (sym later)
+        (progress_line told text at.rest next.past next.rest blamed more items tell_old b bs item at.progress next.parts next.first a)
 
     turned : (o : Option Ending) → HasGiven taken_old taken tally_old tally reply o →
         Turned told text before left taken to_tell reader tally (items ++ item ∷ []) (replies ++ reply ∷ []) (blamed ++ more) o
