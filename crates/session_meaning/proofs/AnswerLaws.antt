@@ -1,5 +1,5 @@
 -- What is answered by calls is answered as the history says.
-use Rattle.std.proofs.Common.{◌≡◌, ◌⊎◌, inl, inr, ℕ, ◌≤◌, List, [], ◌∷◌, ◌++◌, Result, Ok, Err, append-nil, arith, refl, sym, ◌∙◌, ap, subst}
+use Rattle.std.proofs.Common.{◌≡◌, ◌⊎◌, inl, inr, ℕ, ◌≤◌, List, [], ◌∷◌, ◌++◌, Ok, Err, append-nil, arith, refl, sym, ◌∙◌, ap, subst}
 use Rattle.span_types.specs.declared.ids.Key.{Key}
 use Rattle.span_types.specs.declared.ids.TraceId.{TraceId}
 use Rattle.span_types.specs.declared.spans.Row.{Row}
@@ -114,7 +114,7 @@ push_means reading moment before after r calls (answer, told, are) steps =
       told,
       subst (λ (n : ℕ). before.faults ≤ n) (sym s.4.0) s.2,
       subst (λ (n : ℕ). Step before.faults n before.machine (event.Push reading.batch.spans moment) (push_reply answer) after.machine) (sym s.4.0)
-      (subst (λ (m : Machine). Step before.faults s.0 before.machine (event.Push reading.batch.spans moment) (push_reply answer) m) (sym s.4.1) s.3),
+          (subst (λ (m : Machine). Step before.faults s.0 before.machine (event.Push reading.batch.spans moment) (push_reply answer) m) (sym s.4.1) s.3),
     )
 
 pub item_means : (item : Item) (before after : At) (r : Reply) (calls : List Call) → Agrees before.machine → before.machine.state.blocks ≡ []

@@ -1,10 +1,9 @@
 -- A run in which no call failed comes to its own end.
-use Rattle.std.proofs.Common.{◌≡◌, ◌⊎◌, inl, inr, ◌∙◌, ℕ, ◌+◌, ◌≤◌, ◌||◌, Bool, true, false, List, [], ◌∷◌, Option, Some, None, Ok, Err, ap, arith, length, length-append, refl, sym, subst, if◌then◌else◌}
+use Rattle.std.proofs.Common.{◌≡◌, ◌⊎◌, inl, inr, ◌∙◌, ℕ, ◌+◌, ◌≤◌, Bool, true, false, List, Option, Some, None, ap, arith, length, length-append, refl, subst, if◌then◌else◌}
 use Rattle.std.specs.Prelude.{IfSome}
 use Rattle.std.specs.List.{list_any}
-use Rattle.clap.specs.Words.{Kinds, fault_of}
+use Rattle.clap.specs.Words.{Kinds}
 use Rattle.command_words.specs.Commands.{Alone, Command, Session as session, Spells}
-use Rattle.command_words.specs.Table.{words_app}
 use Rattle.command_words.proofs.Spelled.{spelled_clean}
 use Rattle.disk_model.specs.Images.{Image}
 use Rattle.io_edges.specs.Lines.{taken_limit}
@@ -13,7 +12,7 @@ use Rattle.session_text.specs.declared.reply.Reply.{Reply}
 use Rattle.session_meaning.specs.declared.ending.Ending.{Ending}
 use Rattle.session_meaning.specs.declared.ending.Ending.TheVariants.{Answered, BadWords, NotOpened, NotStore, ReadFault, Refused, Spent, Starved, WriteFault}
 use Rattle.session_meaning.specs.Pushes.{HasRoomFor}
-use Rattle.session_meaning.specs.Runs.{ComesToItsEnd, DoesInStore, Edges, EndsUnopened, FitsWords, GoesWell, HasAnswered, HasCause, HasItsStore, HasNotOpened, HasOpened, HasRun, IsNoStore, IsRunOf, NeedsNoSource, Outcome}
+use Rattle.session_meaning.specs.Runs.{ComesToItsEnd, DoesInStore, Edges, EndsUnopened, FitsWords, GoesWell, HasAnswered, HasCause, HasItsStore, HasRun, IsNoStore, IsRunOf, NeedsNoSource, Outcome}
 use Rattle.session_meaning.specs.Session.{Ends, EndsAlone, end_of, is_for_memory, is_refusal, is_refused}
 use Rattle.session_meaning.proofs.Room.{replies_plain}
 

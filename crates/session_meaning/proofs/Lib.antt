@@ -3,7 +3,7 @@ pub mod Firsts
 pub mod AnswerLaws
 pub mod SessionLaws
 pub mod Told
+mod Kept
 mod Room
 pub mod EndLaws
-pub mod Openings
 pub mod Unsure

@@ -1,5 +1,5 @@
 -- A store that has room refuses nothing but for memory, as long as its disk doesn't fail.
-use Rattle.std.proofs.Common.{rules, ◌≡◌, ◌⊎◌, inl, inr, ◌∙◌, ℕ, ◌+◌, ◌-◌, ◌<◌, ◌≤◌, ◌^◌, ◌||◌, min, nat_le, nat_lt, Bool, true, false, List, [], ◌∷◌, ◌++◌, Option, Some, None, Result, Ok, Err, ap, arith, length, length-append, refl, sym, subst, le_trans}
+use Rattle.std.proofs.Common.{rules, ◌≡◌, inl, inr, ◌∙◌, ℕ, ◌+◌, ◌<◌, ◌≤◌, ◌||◌, suc, nat_le, nat_lt, Bool, true, false, List, [], ◌∷◌, ◌++◌, Option, None, Result, Ok, Err, ap, arith, length, length-append, refl, sym, subst, le_trans}
 use Rattle.std.specs.List.{list_any}
 use Rattle.std.proofs.lemmas.List.{length-map}
 use Rattle.span_types.specs.Faults.{Rose}
@@ -10,12 +10,12 @@ use Rattle.session_text.specs.declared.reply.Reply.{Reply}
 use Rattle.session_text.specs.declared.request.Request.TheVariants as request
 use Rattle.session_text.specs.Items.{Item}
 use Rattle.store_model.specs.After.{arrived}
-use Rattle.store_model.specs.Event.{Event as event, Reply as reply, Refusal as cause}
+use Rattle.store_model.specs.Event.{Reply as reply, Refusal as cause}
 use Rattle.store_model.specs.Event.Event.{Push}
 use Rattle.store_model.specs.Event.Reply.{Count, Refused}
-use Rattle.store_model.specs.Event.Refusal.{Fault, Memory}
-use Rattle.store_model.specs.History.{History, batch_rows, count_of, pushed, rows_at}
-use Rattle.store_model.specs.State.{LiveRow, State, flush_rows, held_of}
+use Rattle.store_model.specs.Event.Refusal.{Memory}
+use Rattle.store_model.specs.History.{batch_rows, count_of, pushed, rows_at}
+use Rattle.store_model.specs.State.{State, flush_rows, held_of}
 use Rattle.store_model.specs.Step.{Machine, Step, early, if_full, if_read_only, if_test}
 use Rattle.store_model.specs.Step.Step.{Sure, Succeeds, Lacks, Unread, Breaks, Halts}
 use Rattle.store_images.proofs.Growing.{count_of-pushed}
@@ -23,7 +23,7 @@ use Rattle.store_state.specs.Replies.{push_refusal, push_reply}
 use Rattle.store_state.specs.declared.errors.PushError.{PushError}
 use Rattle.store_state.specs.declared.errors.PushError.TheVariants as push
 use Rattle.client_run.specs.Answers.{pushed_reply}
-use Rattle.session_meaning.specs.Pushes.{HasRoomFor, all_spans}
+use Rattle.session_meaning.specs.Pushes.{HasRoomFor}
 use Rattle.session_meaning.specs.Session.{At, IsAnsweredOrStarved, Session, is_refusal, is_refused}
 
 -- ---- counts of faults
@@ -79,7 +79,7 @@ data Taken (spans : List Span) (moment : ℕ) (m : Machine) (r : reply) (m' : Ma
 
 length_rows_at : (n p : ℕ) (spans : List Span) → length (rows_at n p spans) ≡ length spans
 length_rows_at n p [] = refl
-length_rows_at n p (s ∷ ss) = ap (λ (k : ℕ). k + 1) (length_rows_at n (p + 1) ss)
+length_rows_at n p (s ∷ ss) = ap (λ (k : ℕ). suc k) (length_rows_at n (p + 1) ss)
 
 more_held : (u : State) (n moment : ℕ) (spans : List Span)
     → length (flush_rows u.flush) + length u.head + length (u.live ++ arrived moment (batch_rows n spans)) ≡ held_of u + length spans
@@ -138,12 +138,14 @@ still_room item items m m' same room = subst (HasRoomFor items) (sym same) (reco
 
 push_goes_on : (reading : Reading) (moment : ℕ) (items : List Item) (m m' : Machine) (answer : Result ℕ PushError) → HasRoomFor (Ok (request.Push reading moment) ∷ items) m
     → Taken reading.batch.spans moment m (push_reply answer) m' → GoesOn (pushed_reply reading answer) items m'
-push_goes_on reading moment items m m' answer room (kept told history writes rows) =
-    (count_plain reading answer (count_of m.history) told, record {
-      writes = writes ∙ room.writes;
-      pushes = let all = room.pushes in let count = ap count_of history ∙ count_of-pushed m.history reading.batch.spans in omega (arith, all, count);
-      rows = let all = room.rows in omega (arith, all, rows);
-    })
+push_goes_on reading moment items m m' answer room (kept told history writes rows) = (
+  count_plain reading answer (count_of m.history) told,
+  record {
+    writes = writes ∙ room.writes;
+    pushes = let all = room.pushes in let count = ap count_of history ∙ count_of-pushed m.history reading.batch.spans in omega (arith, all, count);
+    rows = let all = room.rows in omega (arith, all, rows);
+  },
+)
 push_goes_on reading moment items m m' answer room (starved told same) =
     (starved_plain reading answer told, still_room (Ok (request.Push reading moment)) items m m' same room)
 

@@ -1,10 +1,10 @@
 -- What the replies of a session tell of its history.
-use Rattle.std.proofs.Common.{◌≡◌, ◌⊎◌, inl, inr, ℕ, ◌+◌, ◌<◌, ◌≤◌, zero, suc, List, [], ◌∷◌, ◌++◌, Option, Some, None, Result, Ok, Err, append_assoc, append-nil, arith, length, length-append, refl, sym, ◌∙◌, ap, subst}
+use Rattle.std.proofs.Common.{◌≡◌, inl, inr, ℕ, ◌+◌, ◌<◌, ◌≤◌, zero, suc, List, [], ◌∷◌, ◌++◌, Some, None, Result, Ok, Err, append_assoc, append-nil, arith, length, length-append, refl, sym, ◌∙◌, ap, subst}
 use Rattle.std.specs.List.{Contains}
 use Rattle.span_types.specs.declared.spans.Span.{Span}
 use Rattle.otlp_spans.specs.declared.read.Reading.{Reading}
 use Rattle.session_text.specs.declared.reply.Reply.{Reply}
-use Rattle.session_text.specs.declared.reply.Reply.TheVariants.{Pushed, Refused, Searched, Traced}
+use Rattle.session_text.specs.declared.reply.Reply.TheVariants.{Pushed, Refused}
 use Rattle.session_text.specs.declared.request.Request.TheVariants as request
 use Rattle.session_text.specs.Items.{Item}
 use Rattle.store_model.specs.Event.{Event as event}
@@ -15,7 +15,7 @@ use Rattle.store_model.proofs.TellsHistory.{step_tells}
 use Rattle.store_images.proofs.Growing.{count_of-pushed}
 use Rattle.store_state.specs.Replies.{push_reply}
 use Rattle.store_state.specs.declared.errors.PushError.{PushError}
-use Rattle.client_run.specs.Answers.{pushed_reply, refusal_of}
+use Rattle.client_run.specs.Answers.{pushed_reply}
 use Rattle.session_meaning.specs.Pushes.{accepted_batch, accepted_batches, known_pushes}
 use Rattle.session_meaning.specs.Session.{At, IsAnsweredOrStarved, Session, history_of}
 

@@ -1,5 +1,5 @@
 -- What is asked in a session is answered in order, each at the store that what came before it left.
-use Rattle.std.specs.Prelude.{◌≡◌, ◌⊎◌, ℕ, ◌+◌, ◌<◌, ◌≤◌, Bool, true, false, List, [], ◌∷◌, ◌++◌, length, take, Option, Some, Result, Ok, Err, if◌then◌else◌}
+use Rattle.std.specs.Prelude.{◌≡◌, ◌⊎◌, ℕ, ◌<◌, ◌≤◌, Bool, true, false, List, [], ◌∷◌, ◌++◌, length, take, Option, Some, Result, Ok, Err, if◌then◌else◌}
 use Rattle.std.specs.List.{list_any}
 use Rattle.io_edges.specs.Lines.{lines, taken_limit}
 use Rattle.io_edges.specs.Reader.{HasNoFeed}
@@ -11,8 +11,6 @@ use Rattle.spanset_eval.specs.declared.results.TraceResult.{TraceResult}
 use Rattle.search_answer.specs.Answers.{IsAnswer}
 use Rattle.search_text.specs.Fields.{printed_fields}
 use Rattle.traceql_syntax.specs.Trees.{query_tree}
-use Rattle.otlp_spans.specs.declared.read.Reading.{Reading}
-use Rattle.session_text.specs.declared.request.Request.{Request}
 use Rattle.session_text.specs.declared.request.Request.TheVariants.{Push, Trace}
 use Rattle.session_text.specs.declared.request.Request.TheVariants as request
 use Rattle.session_text.specs.declared.request.Search.{Search}
@@ -31,34 +29,6 @@ use Rattle.client_run.specs.Answers.{pushed_reply}
 use Rattle.session_meaning.specs.declared.ending.Ending.{Ending}
 use Rattle.session_meaning.specs.declared.ending.Ending.TheVariants.{Answered, ReadFault, Spent, Starved, WriteFault}
 use Rattle.session_meaning.specs.declared.ending.Ending.TheVariants as ending
-
--- A refusal for another cause than memory.
-abbrev pub is_for_other : Refusal → Bool
-is_for_other Memory = false
-is_for_other _ = true
-
-abbrev pub is_refusal : Reply → Bool
-is_refusal (Refused why) = is_for_other why
-is_refusal _ = false
-
--- It was refused in reading for another cause than memory.
-abbrev pub is_refused : Item → Bool
-is_refused (Ok request) = false
-is_refused (Err why) = is_for_other why
-
--- A refusal for memory.
-abbrev pub is_memory : Refusal → Bool
-is_memory Memory = true
-is_memory _ = false
-
-abbrev pub is_for_memory : Reply → Bool
-is_for_memory (Refused why) = is_memory why
-is_for_memory _ = false
-
--- The texts of replies, in order.
-abbrev pub reply_texts : List Reply → List ℕ
-reply_texts [] = []
-reply_texts (r ∷ rs) = reply_text r ++ reply_texts rs
 
 -- ---- the store between two lines
 
@@ -122,6 +92,34 @@ Session before (item ∷ items) (reply ∷ replies) after =
     (between : At) × IsAnsweredOrStarved item before reply between × Session between items replies after
 
 -- ---- how a session ends, and what stands written
+
+-- A refusal for another cause than memory.
+abbrev pub is_for_other : Refusal → Bool
+is_for_other Memory = false
+is_for_other _ = true
+
+abbrev pub is_refusal : Reply → Bool
+is_refusal (Refused why) = is_for_other why
+is_refusal _ = false
+
+-- It was refused in reading for another cause than memory.
+abbrev pub is_refused : Item → Bool
+is_refused (Ok request) = false
+is_refused (Err why) = is_for_other why
+
+-- A refusal for memory.
+abbrev pub is_memory : Refusal → Bool
+is_memory Memory = true
+is_memory _ = false
+
+abbrev pub is_for_memory : Reply → Bool
+is_for_memory (Refused why) = is_memory why
+is_for_memory _ = false
+
+-- The texts of replies, in order.
+abbrev pub reply_texts : List Reply → List ℕ
+reply_texts [] = []
+reply_texts (r ∷ rs) = reply_text r ++ reply_texts rs
 
 -- How a session ends whose input was read to its end: with a refusal for another cause than memory among its replies,
 -- else with one for memory among them, else with none.

@@ -5,7 +5,7 @@ use Rattle.span_types.specs.First.{IsFirstOf}
 use Rattle.disk_model.specs.Images.{Image}
 use Rattle.disk_model.specs.Crash.{Reached}
 use Rattle.disk_model.specs.declared.disk.Device.{Ghosts}
-use Rattle.store_model.specs.History.{History, count_of}
+use Rattle.store_model.specs.History.{count_of}
 use Rattle.store_images.specs.Stored.{ImageStandsFor, KeepsStored, MayStandFor}
 use Rattle.store_core.specs.Opening.{BeginsAs}
 use Rattle.store_core.specs.Past.{StoodFor}
@@ -25,12 +25,16 @@ pub record Begins (held : Image) (moment : ℕ) (first : At) : Type 0 where
   pub base_alone : (history_of first).entries ≡ []
   pub begins : BeginsAs held moment first.machine
 
--- Each of these images stands for the last history, or for it and then the batch that isn't sure.
-abbrev pub Returns : (Image → Type 0) → Outcome → Type 0
-Returns may_leave o = (image : Image) → may_leave image → MayStandFor (history_of o.last) (unsure_spans o) image
+-- It stands for the last history, or for it and then the batch that isn't sure.
+abbrev pub StandsForLast : Outcome → Image → Type 0
+StandsForLast o image = MayStandFor (history_of o.last) (unsure_spans o) image
 
--- It stands for a history that holds the first one and that the last one holds, or for the last one and then the batch that
--- isn't sure.
+-- Each of these images does.
+abbrev pub Returns : (Image → Type 0) → Outcome → Type 0
+Returns may_leave o = (image : Image) → may_leave image → StandsForLast o image
+
+-- It stands for a history that begins with the first one and that the last one begins with, or for the last one and then the
+-- batch that isn't sure.
 abbrev pub StandsWithin : Outcome → Image → Type 0
 StandsWithin o image = StoodFor (count_of (history_of o.first)) (history_of o.last) (unsure_spans o) image
 
@@ -40,9 +44,10 @@ abbrev pub Leaves : (Image → Type 0) → (Image → Type 0) → Outcome → Ty
 Leaves at_start since o =
     (image : Image) → since image → Reached KeepsStored at_start image ⊎ (IsTrue o.opened × StandsWithin o image)
 
--- A run over a disk that tells its bytes, which were a store's: where the store was opened it begins with what they store, and
--- each image that a crash may leave of the disk that is handed back stands for all that was pushed; and so for what was pushed
--- by then does each image that a crash may have left at any moment of the run.
+-- A run over a disk that tells its bytes, which were a store's. Where the store was opened the run begins with what they store,
+-- and each image that a crash may leave of the disk that is handed back stands for that and all pushes that were accepted. Each
+-- image that a crash may have left at any moment of the run keeps what was stored at its start, or stands for that and the first
+-- few of these pushes.
 pub record Recovers {D : Type 0} (g : Ghosts D) (disk later : D) (o : Outcome) : Type 0 where
   pub begins : IsTrue o.opened → Begins (g.held disk) o.moment o.first
   pub returned : IsTrue o.opened → Returns (g.may_leave later) o

@@ -1,6 +1,6 @@
 //! What follows from the definitions of a session and of a run.
 
-ghost use Rattle.std.specs.Prelude.{◌≡◌, ◌⊎◌, ◌<◌, ◌++◌, List, [], ◌∷◌, Some, false, ℕ};
+ghost use Rattle.std.specs.Prelude.{◌≡◌, ◌⊎◌, ◌<◌, ◌++◌, List, [], ◌∷◌, Some, false, take, ℕ};
 ghost use Rattle.std.specs.List.{Contains, list_any};
 ghost use Rattle.command_words.specs.Commands.{Command, Spells};
 ghost use Rattle.disk_model.specs.Images.{Image};
@@ -11,13 +11,14 @@ ghost use Rattle.session_text.specs.declared.reply.Reply.TheVariants.{Pushed};
 ghost use Rattle.session_text.specs.Items.{Item};
 ghost use Rattle.store_model.specs.History.{History, count_of, grown};
 ghost use Rattle.store_model.specs.Laws.{Agrees};
-ghost use Rattle.store_images.specs.Stored.{ImageStandsFor};
+ghost use Rattle.store_images.specs.Stored.{ImageStandsFor, MayStandFor};
 ghost use Rattle.client_run.specs.Calls.{Call};
 ghost use Rattle.session_meaning.specs.Answering.{AreItemsAnswered, CallsLead, IsAnsweredByCalls};
 ghost use Rattle.session_meaning.specs.declared.ending.Ending.TheVariants.{Answered, Starved};
 ghost use Rattle.session_meaning.specs.Pushes.{HasRoomFor, accepted_batches, known_pushes};
 ghost use Rattle.session_meaning.specs.Runs.{ComesToItsEnd, Edges, GoesWell, IsRunOf, Outcome};
 ghost use Rattle.session_meaning.specs.Session.{At, IsAnsweredOrStarved, Session, history_of, is_refused};
+ghost use Rattle.session_meaning.specs.Stops.{StandsForLast, StandsWithin, unsure_spans};
 
 /// What is answered by calls of a store that lists no block is answered as the history says: the machine of the store, with its
 /// blocks, logs and pins, tells no more than the pushes do. It lists no block then either.
@@ -48,6 +49,18 @@ pub fn replies_tell_the_history()
         → (number kept rejected skipped : ℕ)
         → Session first items (earlier ++ Pushed number kept rejected skipped ∷ later) last
         → (reply : Reply) (known : ℕ) → Contains later reply → known_pushes reply ≡ Some known → number < known }
+{}
+
+/// What is stored, by the pushes that were accepted. A run that is stopped is one over a disk of which from some call on
+/// every call fails: what it hands back then has each push that was accepted before the stop.
+pub fn accepted_pushes_are_stored()
+    // An image of the disk that is handed back: what was stored at first and behind it all accepted batches, in order.
+    ensures returned { (o : Outcome) (image : Image) → Session o.first o.items o.replies o.last → StandsForLast o image
+        → MayStandFor (grown (history_of o.first) (accepted_batches o.items o.replies)) (unsure_spans o) image }
+    // One since the store was opened: the same with the first few of these batches.
+    ensures at_any_moment { (o : Outcome) (image : Image) → Session o.first o.items o.replies o.last → StandsWithin o image
+        → ((n : ℕ) × ImageStandsFor image (grown (history_of o.first) (take n (accepted_batches o.items o.replies))))
+        ⊎ MayStandFor (grown (history_of o.first) (accepted_batches o.items o.replies)) (unsure_spans o) image }
 {}
 
 /// Of the histories that an image stands for one is a base alone, in which each span stands once.

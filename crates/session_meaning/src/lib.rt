@@ -10,6 +10,6 @@ mod laws;
 
 pub use ending::Ending;
 pub use laws::{
-    calls_answer_as_the_history_says, comes_to_an_end, replies_tell_the_history, sessions_keep_the_store,
-    what_is_stored_is_a_base,
+    accepted_pushes_are_stored, calls_answer_as_the_history_says, comes_to_an_end,
+    replies_tell_the_history, sessions_keep_the_store, what_is_stored_is_a_base,
 };

@@ -1,0 +1,8 @@
+use Rattle.session_meaning.proofs.Kept.{kept_at_any_moment, kept_now}
+use Rattle.session_meaning.proofs.laws.accepted_pushes_are_stored.Goals as goal
+
+pub returns-clause-returned : goal.returns-clause-returned
+returns-clause-returned c = λ o image session stands. kept_now o image session stands
+
+pub returns-clause-at_any_moment : goal.returns-clause-at_any_moment
+returns-clause-at_any_moment c = λ o image session stands. kept_at_any_moment o image session stands
