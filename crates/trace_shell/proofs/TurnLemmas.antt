@@ -18,7 +18,6 @@ use Rattle.session_text.specs.Replies.{reply_text}
 use Rattle.session_meaning.specs.Session.{Ends, IsAllEnded, IsAllRead, IsCutOff, end_of, is_for_memory, is_refusal, reply_texts}
 use Rattle.session_meaning.specs.Asked.{AsksNext, after_moment}
 use Rattle.session_meaning.specs.Progress.{HasAnsweredOne, HasAnsweredOver, Progress}
-use Rattle.session_meaning.proofs.EndLaws.{taken_within}
 use Rattle.session_meaning.proofs.SessionLaws.{over_begins, progress_begins, progress_empty, progress_line, reply_texts-push}
 use Rattle.store_state.specs.Meaning.{Meaning}
 use Rattle.client_run.specs.Calls.{Call}
@@ -38,6 +37,13 @@ took_more text (Some xs) (Some ys) a b c first second = (
   first.1 ∙ ap (λ zs. first.0 ++ zs) second.1 ∙ sym (append_assoc first.0 second.0 ys),
   rw length-append (omega (arith, first.2, second.2)),
 )
+
+-- No more bytes were taken than are in the text.
+taken_within : (text : List ℕ) (left : Option (List ℕ)) (taken : ℕ) → TakesBytes (Some text) left 0 taken → taken ≤ length text
+taken_within text None taken took = absurd took.1
+taken_within text (Some xs) taken took =
+    let sizes : length text ≡ length took.0 + length xs = ap length took.1 ∙ length-append took.0 xs in
+    omega (arith, sizes, took.2)
 
 -- Where nothing is left they are just that many.
 pub taken_all : (text : List ℕ) (left : Option (List ℕ)) (taken : ℕ) → TakesBytes (Some text) left 0 taken → left ≡ Some [] → length text ≡ taken

@@ -23,13 +23,13 @@ returns-in-Ok-clause-ran g c =
     let d = g.D.Device in
     let disk = c.args.disk in
     let core = c.in-Ok.core in
-    let later = c.do_asked.new.port in
+    let later = c.do_asked-ending.new.port in
     let moment = c.now-moment.result in
     let begins = c.in-Ok.ensures.opened.begins in
     let came = c.do_asked-ending.ensures.came in
     let steps = shows_stepped d core later came.4.calls came.4.made begins.0 begins.1.shows in
     let old : Edges = edges g.S.Source.left g.S.Source.faults g.K.Sink.taken g.K.Sink.faults g.C.Clock.moments d c.args.source.now c.args.sink.now c.args.clock.now disk in
-    let new : Edges = edges g.S.Source.left g.S.Source.faults g.K.Sink.taken g.K.Sink.faults g.C.Clock.moments d c.do_asked.new.source c.do_asked.new.sink c.do_asked.new.clock c.close.result in (
+    let new : Edges = edges g.S.Source.left g.S.Source.faults g.K.Sink.taken g.K.Sink.faults g.C.Clock.moments d c.do_asked-ending.new.source c.do_asked-ending.new.sink c.do_asked-ending.new.clock c.close.result in (
       in_a_store d moment core later begins.0 steps.machine c.do_asked-ending.result came.0 came.1 came.2,
       refl,
       came.3,
@@ -46,14 +46,14 @@ returns-in-Ok-clause-recovers g c = λ told sound.
     let d = g.D.Device in
     let disk = c.args.disk in
     let core = c.in-Ok.core in
-    let later = c.do_asked.new.port in
+    let later = c.do_asked-ending.new.port in
     let moment = c.now-moment.result in
     let begins = c.in-Ok.ensures.opened.begins in
     let came = c.do_asked-ending.ensures.came in
     let since = stands_since_now d g.met.D.Device.only_now core begins.0 (begins.1.stands (λ t. sound)) in
     let steps = since_stepped d core later came.4.calls came.4.made begins.0 core.disk (count_of begins.0.history) since in
     let old : Edges = edges g.S.Source.left g.S.Source.faults g.K.Sink.taken g.K.Sink.faults g.C.Clock.moments d c.args.source.now c.args.sink.now c.args.clock.now disk in
-    let new : Edges = edges g.S.Source.left g.S.Source.faults g.K.Sink.taken g.K.Sink.faults g.C.Clock.moments d c.do_asked.new.source c.do_asked.new.sink c.do_asked.new.clock c.close.result in (
+    let new : Edges = edges g.S.Source.left g.S.Source.faults g.K.Sink.taken g.K.Sink.faults g.C.Clock.moments d c.do_asked-ending.new.source c.do_asked-ending.new.sink c.do_asked-ending.new.clock c.close.result in (
       in_a_store d moment core later begins.0 steps.machine c.do_asked-ending.result came.0 came.1 came.2,
       refl,
       came.3,
@@ -72,7 +72,7 @@ pub returns-in-Err-clause-ran : goal.returns-in-Err-clause-ran
 returns-in-Err-clause-ran g c =
     let d = g.D.Device in
     let old : Edges = edges g.S.Source.left g.S.Source.faults g.K.Sink.taken g.K.Sink.faults g.C.Clock.moments d c.args.source.now c.args.sink.now c.args.clock.now c.args.disk in
-    let new : Edges = edges g.S.Source.left g.S.Source.faults g.K.Sink.taken g.K.Sink.faults g.C.Clock.moments d c.args.source.now c.refuse_store.new.sink c.now.new.clock c.in-Err.disk in (
+    let new : Edges = edges g.S.Source.left g.S.Source.faults g.K.Sink.taken g.K.Sink.faults g.C.Clock.moments d c.args.source.now c.refuse_store.new.sink c.now-moment.new.clock c.in-Err.disk in (
       unopened c.refuse_store.result,
       refl,
       refuses-none g.P.PatternMaker.makes _ c.args.patterns.now c.args.patterns.now,
@@ -85,7 +85,7 @@ pub returns-in-Err-clause-recovers : goal.returns-in-Err-clause-recovers
 returns-in-Err-clause-recovers g c = λ told sound.
     let d = g.D.Device in
     let old : Edges = edges g.S.Source.left g.S.Source.faults g.K.Sink.taken g.K.Sink.faults g.C.Clock.moments d c.args.source.now c.args.sink.now c.args.clock.now c.args.disk in
-    let new : Edges = edges g.S.Source.left g.S.Source.faults g.K.Sink.taken g.K.Sink.faults g.C.Clock.moments d c.args.source.now c.refuse_store.new.sink c.now.new.clock c.in-Err.disk in (
+    let new : Edges = edges g.S.Source.left g.S.Source.faults g.K.Sink.taken g.K.Sink.faults g.C.Clock.moments d c.args.source.now c.refuse_store.new.sink c.now-moment.new.clock c.in-Err.disk in (
       unopened c.refuse_store.result,
       refl,
       refuses-none g.P.PatternMaker.makes _ c.args.patterns.now c.args.patterns.now,
