@@ -1,5 +1,6 @@
 -- How calls of a port follow one another.
 use Rattle.std.proofs.Common.{◌≡◌, List, [], ◌∷◌, ◌++◌, refl, sym, ◌∙◌, ap, subst, append-nil, append_assoc}
+use Rattle.store_model.specs.Holds.{Hold, holds_after}
 use Rattle.store_state.specs.Meaning.{Meaning}
 use Rattle.client_run.specs.declared.event.Event.{Event}
 use Rattle.client_run.specs.declared.event.EventReply.{EventReply}
@@ -14,6 +15,17 @@ pub made-append : {P : Type 0} (meaning : Meaning P) (old mid new : P) (front ba
     → AreMade meaning old (front ++ back) new
 made-append {P} meaning old mid new [] back h made = subst (λ (x : P). AreMade meaning x back new) h made
 made-append meaning old mid new (c ∷ cs) back h made = (h.0, h.1, made-append meaning h.0 mid new cs back h.2 made)
+
+-- a port says what is open in it, call after call
+pub holds_kept : {P : Type 0} (meaning : Meaning P) (old new : P) (calls : List Call) → AreMade meaning old calls new → ((held : List Hold) × meaning.holds old held)
+    → (held : List Hold) × meaning.holds new held
+holds_kept {P} meaning old new [] made h = subst (λ (x : P). (held : List Hold) × meaning.holds x held) (sym made) h
+holds_kept meaning old new (c ∷ cs) made h = holds_kept meaning made.0 new cs made.2 (holds_after c.event c.reply h.0, made.1.holds h.0 h.1)
+
+-- and whether it tells its bytes stays as it is
+pub tells_kept : {P : Type 0} (meaning : Meaning P) (old new : P) (calls : List Call) → AreMade meaning old calls new → meaning.tells new ≡ meaning.tells old
+tells_kept meaning old new [] made = ap meaning.tells made
+tells_kept meaning old new (c ∷ cs) made = tells_kept meaning made.0 new cs made.2 ∙ made.1.telling
 
 pub answered-push : (looks : Looks) (events : List Event) (replies : List EventReply) (e : Event) (r : EventReply) (calls now : List Call)
     → AreEventsAnswered looks events replies calls → IsEventAnswered (after_calls calls looks) e r now

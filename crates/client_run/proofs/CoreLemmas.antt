@@ -1,14 +1,16 @@
 -- Calls of a core, one after another.
-use Rattle.std.proofs.Common.{List, [], ◌∷◌, refl, sym, ap, subst}
+use Rattle.std.proofs.Common.{◌≡◌, ◌∙◌, ℕ, List, [], ◌∷◌, refl, sym, ap, subst}
 use Rattle.disk_model.specs.declared.disk.Device.{Ghosts}
 use Rattle.store_model.specs.Event.{Event, Reply}
 use Rattle.store_model.specs.Step.{Machine, Step}
-use Rattle.store_core.specs.Cores.{CoreStandsFor, CoreShows}
+use Rattle.store_core.specs.Cores.{CoreStandsFor, CoreShows, unsure_of}
 use Rattle.store_core.specs.Events.{Did}
+use Rattle.store_core.specs.Past.{StandsSince}
+use Rattle.store_core.proofs.Past.{stands_since}
 use Rattle.store_core.specs.Port.{port_of}
 use Rattle.store_core.specs.declared.store.Core.{Core}
 use Rattle.client_run.specs.Calls.{AreMade, Call}
-use Rattle.client_run.specs.CoreRuns.{HasStepped}
+use Rattle.client_run.specs.CoreRuns.{HasStepped, unsure_after_calls}
 
 -- each event keeps that a core is so with a machine, by a step
 abbrev KeepsSteps : {D : Type 0} → Ghosts D → (Core D → Machine → Type 0) → Type 0
@@ -38,3 +40,17 @@ stands_stepped g = stepped g (CoreStandsFor g) (λ old new event reply did m sta
 pub shows_stepped : {D : Type 0} (g : Ghosts D) (old new : Core D) (calls : List Call) → AreMade (port_of g) old calls new → (m : Machine) → CoreShows g old m
     → HasStepped g (CoreShows g) old calls new m
 shows_stepped g = stepped g (CoreShows g) (λ old new event reply did m shows. did.shown m shows)
+
+pub since_stepped : {D : Type 0} (g : Ghosts D) (old new : Core D) (calls : List Call) → AreMade (port_of g) old calls new → (m : Machine) (start : D) (least : ℕ)
+    → StandsSince g start least old m → HasStepped g (StandsSince g start least) old calls new m
+since_stepped g old new calls made m start least =
+    stepped g (StandsSince g start least) (λ old new event reply did m since.
+    let s = did.stepped m since.stands in (s.machine, stands_since g old new event reply m start least did since, s.step))
+    old new calls made m
+
+pub unsure_stepped : {D : Type 0} (g : Ghosts D) (old new : Core D) (calls : List Call) → AreMade (port_of g) old calls new → (m : Machine) → CoreStandsFor g old m
+    → unsure_of new.state ≡ unsure_after_calls calls (unsure_of old.state)
+unsure_stepped {D} g old new [] made m stands = ap (λ (core : Core D). unsure_of core.state) made
+unsure_stepped g old new (c ∷ cs) made m stands =
+    let one = made.1.did.stepped m stands in
+    unsure_stepped g made.0 new cs made.2 one.machine one.stands ∙ ap (unsure_after_calls cs) one.unsure

@@ -1,9 +1,11 @@
 -- Calls of a core are steps of the store's model.
-use Rattle.std.specs.Prelude.{◌≡◌, ℕ, ◌<◌, ◌≤◌, List, [], ◌∷◌, Some}
+use Rattle.std.specs.Prelude.{◌≡◌, ℕ, ◌<◌, ◌≤◌, List, [], ◌∷◌, Option, Some}
+use Rattle.span_types.specs.declared.spans.Span.{Span}
 use Rattle.disk_model.specs.declared.disk.Device.{Ghosts}
 use Rattle.store_model.specs.Fresh.{AreApart}
 use Rattle.store_model.specs.Holds.{Hold}
 use Rattle.store_model.specs.Step.{Machine, Step}
+use Rattle.store_core.specs.Events.{unsure_after}
 use Rattle.store_core.specs.declared.store.Core.{Core}
 use Rattle.client_run.specs.Calls.{Call, Looks, look_at}
 
@@ -20,6 +22,11 @@ pub record HasStepped {D : Type 0} (g : Ghosts D) (is_with : Core D → Machine 
   pub machine : Machine
   pub stands : is_with new machine
   pub steps : AreSteps (g.faults old.disk) m calls (g.faults new.disk) machine
+
+-- The batch that isn't sure after calls: that of the first push that answered a fault, where there was none before.
+abbrev pub unsure_after_calls : List Call → Option (List Span) → Option (List Span)
+unsure_after_calls [] unsure = unsure
+unsure_after_calls (c ∷ calls) unsure = unsure_after_calls calls (unsure_after c.event c.reply unsure)
 
 -- No look that is open shares its pin with one that was taken before it and is open too: so whoever ends a look ends no other.
 abbrev pub HaveOwnPins : Looks → Type 0

@@ -1,11 +1,12 @@
 //! What calls make of a core.
 
-ghost use Rattle.std.specs.Prelude.{List, []};
+ghost use Rattle.std.specs.Prelude.{◌≡◌, List, [], ℕ};
 ghost use Rattle.store_model.specs.Step.{Machine};
-ghost use Rattle.store_core.specs.Cores.{CoreShows, CoreStandsFor};
+ghost use Rattle.store_core.specs.Cores.{CoreShows, CoreStandsFor, unsure_of};
+ghost use Rattle.store_core.specs.Past.{StandsSince};
 ghost use Rattle.store_core.specs.Port.{port_of};
 ghost use Rattle.client_run.specs.Calls.{AreMade, Call, after_calls};
-ghost use Rattle.client_run.specs.CoreRuns.{HasStepped, HaveOwnPins};
+ghost use Rattle.client_run.specs.CoreRuns.{HasStepped, HaveOwnPins, unsure_after_calls};
 
 use disk_model::Device;
 use store_core::Core;
@@ -19,6 +20,13 @@ pub fn calls_are_steps<D: Device>(old: &Core<D>, new: &Core<D>)
     ensures shown { (calls : List Call) → AreMade (port_of D.Device.own) old.now calls new.now → (m : Machine)
         → CoreShows D.Device.own old.now m
         → HasStepped D.Device.own (CoreShows D.Device.own) old.now calls new.now m }
+    // What was left since an earlier disk goes on standing for the history at some length.
+    ensures since { (calls : List Call) → AreMade (port_of D.Device.own) old.now calls new.now → (m : Machine)
+        → (start : D) (least : ℕ) → StandsSince D.Device.own start least old.now m
+        → HasStepped D.Device.own (StandsSince D.Device.own start least) old.now calls new.now m }
+    ensures unsure { (calls : List Call) → AreMade (port_of D.Device.own) old.now calls new.now → (m : Machine)
+        → CoreStandsFor D.Device.own old.now m
+        → unsure_of new.now.state ≡ unsure_after_calls calls (unsure_of old.now.state) }
 {}
 
 /// On a core whose memory shows a machine no two looks that are open share a pin. So giving one back ends no other.

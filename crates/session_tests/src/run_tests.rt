@@ -1,5 +1,6 @@
 //! What no clause says: whole runs by example, with their exact bytes.
 
+use disk_model::MemDisk;
 use io_edges::{FixedClock, MemSink, MemSource, OpenGate, Sink, Source};
 use span_types::{Bytes, Calls, Failed, Memory, Moments};
 use std::alloc::Global;
@@ -10,25 +11,39 @@ use std::thread::Threads;
 use trace_shell::{Ended, StdinSource, StdoutSink, run, run_alone};
 use traceql_types::RegexMaker;
 
-const PUSH_X: &str =
+pub(crate) const PUSH_X: &str =
     r#"push {"resourceSpans":[{"scopeSpans":[{"spans":[{"traceId":"000000000000000000000000000000a1","spanId":"00000000000000b1","parentSpanId":"","name":"x","startTimeUnixNano":"1","endTimeUnixNano":"2"}]}]}]}"#;
 
-const PUSH_Y: &str =
+pub(crate) const PUSH_Y: &str =
     r#"push {"resourceSpans":[{"scopeSpans":[{"spans":[{"traceId":"000000000000000000000000000000a1","spanId":"00000000000000b1","parentSpanId":"","name":"y","startTimeUnixNano":"1","endTimeUnixNano":"2"}]}]}]}"#;
 
-const TRACE_X: &str =
+pub(crate) const TRACE_X: &str =
     r#"{"resourceSpans":[{"resource":{"attributes":[]},"scopeSpans":[{"scope":{"attributes":[],"name":"","version":""},"spans":[{"attributes":[],"endTimeUnixNano":"2","kind":0,"name":"x","parentSpanId":"","spanId":"00000000000000b1","startTimeUnixNano":"1","status":{"code":0,"message":""},"traceId":"000000000000000000000000000000a1"}]}]}]}"#;
 
-const LOOK_A1: &str = "trace 000000000000000000000000000000a1";
+pub(crate) const LOOK_A1: &str = "trace 000000000000000000000000000000a1";
 
 const LOOK_A2: &str = "trace 000000000000000000000000000000A2";
 
-fn calls(alloc: Global, numbers: &[u64]) -> Result<Calls, Memory> {
+pub(crate) fn calls(alloc: Global, numbers: &[u64]) -> Result<Calls, Memory> {
     Ok(Calls::of(Vec::from_slice(alloc, numbers)?))
 }
 
-// Runs the words over an input, with a source and a sink that fail at the listed calls, and asserts what is written and
-// the status.
+pub(crate) fn all_words(alloc: Global, words: &[&str]) -> Result<Vec<String>, Memory> {
+    let mut all = Vec::new(alloc);
+    for word in words {
+        all.push(String::from_str(alloc, word)?)?;
+    }
+    Ok(all)
+}
+
+// A source of these bytes, no call of which fails.
+pub(crate) fn source_of(alloc: Global, input: &str) -> Result<MemSource, Memory> {
+    let bytes = Bytes::of(Vec::from_slice(alloc, input.as_bytes())?);
+    Ok(MemSource::new(bytes, calls(alloc, &[])?))
+}
+
+// Runs the words over an input on an empty disk, with a source and a sink that fail at the listed calls, and asserts what is
+// written and the status.
 pub(crate) fn check<R: Threads + Wait + Sync + Abort>(
     rt: &R,
     alloc: Global,
@@ -38,10 +53,7 @@ pub(crate) fn check<R: Threads + Wait + Sync + Abort>(
     wanted: &str,
     wanted_status: u8,
 ) -> Result<(), Memory> {
-    let mut all = Vec::new(alloc);
-    for word in words {
-        all.push(String::from_str(alloc, word)?)?;
-    }
+    let all = all_words(alloc, words)?;
     let bytes = Bytes::of(Vec::from_slice(alloc, input.as_bytes())?);
     let mut source = MemSource::new(bytes, calls(alloc, failing.0)?);
     let mut sink = MemSink::new(alloc, calls(alloc, failing.1)?);
@@ -52,14 +64,14 @@ pub(crate) fn check<R: Threads + Wait + Sync + Abort>(
         all.as_slice(),
         &mut source,
         &mut sink,
-        7u8,
+        MemDisk::empty(alloc),
         &mut clock,
         &mut RegexMaker::new(alloc),
         &OpenGate,
     );
     assert!(rt; sink.taken() == wanted.as_bytes(), "at {input}");
     assert_eq!(rt; status, wanted_status);
-    assert_eq!(rt; disk, 7);
+    assert_eq!(rt; disk.starved(), 0);
     assert_eq!(rt; sink.starved(), 0);
     Ok(())
 }
@@ -253,13 +265,13 @@ fn no_command_needs_a_right_to_wait_yet(rt: HostRuntime) -> Result<(), Memory> {
     let mut source = MemSource::new(Bytes::of(Vec::new(alloc)), calls(alloc, &[])?);
     let mut sink = MemSink::new(alloc, calls(alloc, &[])?);
     let mut clock = FixedClock::new(Moments::of(Vec::new(alloc)));
-    let Ended { status, disk: () } = run_alone(
+    let Ended { status, disk: _ } = run_alone(
         &rt,
         alloc,
         &[],
         &mut source,
         &mut sink,
-        (),
+        MemDisk::empty(alloc),
         &mut clock,
         &mut RegexMaker::new(alloc),
         &OpenGate,
@@ -295,18 +307,17 @@ fn reads_of<R: Threads + Wait + Sync>(
     alloc: Global,
     failing: &[u64],
 ) -> Result<(u64, u8), Memory> {
-    let mut words = Vec::new(alloc);
-    words.push(String::from_str(alloc, "session")?)?;
+    let words = all_words(alloc, &["session"])?;
     let mut reader = LineByLine { left: 2, calls: 0 };
     let mut sink = MemSink::new(alloc, calls(alloc, failing)?);
     let mut clock = FixedClock::new(Moments::of(Vec::new(alloc)));
-    let Ended { status, disk: () } = run(
+    let Ended { status, disk: _ } = run(
         rt,
         alloc,
         words.as_slice(),
         &mut StdinSource::new(&mut reader),
         &mut sink,
-        (),
+        MemDisk::empty(alloc),
         &mut clock,
         &mut RegexMaker::new(alloc),
         &OpenGate,

@@ -1,6 +1,7 @@
 //! Whole sessions with searches, with their exact bytes.
 
 use crate::run_tests::check;
+use disk_model::MemDisk;
 use io_edges::{FixedClock, MemSink, MemSource, OpenGate};
 use span_types::{Bytes, Calls, Memory, Moments};
 use trace_shell::{Ended, run};
@@ -232,13 +233,13 @@ fn a_pattern_that_the_maker_refuses_is_too_big(rt: HostRuntime) -> Result<(), Me
     let mut sink = MemSink::new(alloc, Calls::of(Vec::new(alloc)));
     let mut clock = FixedClock::new(Moments::of(Vec::new(alloc)));
     let mut patterns = ScriptedMaker::new(alloc, Calls::of(Vec::from_slice(alloc, &[1])?));
-    let Ended { status, disk: () } = run(
+    let Ended { status, disk: _ } = run(
         &rt,
         alloc,
         words.as_slice(),
         &mut source,
         &mut sink,
-        (),
+        MemDisk::empty(alloc),
         &mut clock,
         &mut patterns,
         &OpenGate,

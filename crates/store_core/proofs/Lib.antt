@@ -9,9 +9,9 @@ mod Showing
 mod Founding
 mod NewCores
 mod PushEvents
-mod Past
+pub mod Past
 mod LookEvents
-mod CutEvents
+pub mod CutEvents
 mod PortEvents
 pub mod LogSteps
 mod LooseFiles

@@ -5,6 +5,9 @@ use Rattle.std.proofs.lemmas.List.{append-nil}
 use Rattle.std.proofs.lemmas.List.Elements.{All-contains, Contains-append_cases, Contains-append_left, Contains-append_right}
 use Rattle.span_types.specs.declared.spans.Span.{Span}
 use Rattle.span_types.specs.declared.spans.Row.{Row}
+use Rattle.span_types.specs.declared.ids.Key.{Key}
+use Rattle.span_types.specs.First.{IsFirstOf, first_at}
+use Rattle.span_types.proofs.FirstLaws.{first_at-firsts, firsts_alike}
 use Rattle.disk_model.specs.Images.{Image, bytes_of}
 use Rattle.block_list.specs.Body.{MeetsRules, files_of, successor}
 use Rattle.block_list.specs.declared.body.SegmentRef.{SegmentRef}
@@ -15,6 +18,7 @@ use Rattle.store_model.specs.RowSets.{OnePlace}
 use Rattle.store_model.specs.Laws.{AgreesOn}
 use Rattle.store_model.specs.Sound.{times, StateIsSound}
 use Rattle.store_model.specs.Step.{Machine}
+use Rattle.store_model.proofs.FirstsExist.{firsts_exist}
 use Rattle.store_model.proofs.HistoryLaws.{number_of, position_of}
 use Rattle.store_model.proofs.KeepsFirsts.{number_in}
 use Rattle.store_model.proofs.Numbers.{same_number, times-append}
@@ -111,15 +115,47 @@ module _ (list : ListBody) (rules : MeetsRules list) (batches : List (List Span)
     below = λ x hx. agrees.below x (waiting_in x hx);
   }
 
--- the history that begins at the floor
-abbrev pub from_floor : ListBody → List (List Span) → History
-from_floor list batches = record { base = []; start = list.floor; entries = drop (list.floor - first_number list) batches }
+-- ---- the history that is there at first
 
-pub agrees_from_floor : (list : ListBody) (batches : List (List Span)) → AgreesOn (waiting_rows list batches) (from_floor list batches)
-agrees_from_floor list batches = record {
-  firsts = λ k. refl;
+-- the first occurrences of the rows that wait
+abbrev pub base_rows : ListBody → List (List Span) → List Row
+base_rows list batches = (firsts_exist (waiting_rows list batches)).0
+
+-- it has them as its base, and as many entries as the log has
+abbrev pub base_of : ListBody → List (List Span) → History
+base_of list batches = record { base = base_rows list batches; start = first_number list + length batches; entries = [] }
+
+-- First occurrences are their own.
+pub firsts_own : (rows firsts : List Row) → IsFirstOf rows firsts → IsFirstOf firsts firsts
+firsts_own rows firsts is = firsts_alike rows firsts firsts (λ k. sym (first_at-firsts rows firsts is k)) is
+
+pub base_once : (list : ListBody) (batches : List (List Span)) → IsFirstOf (base_rows list batches) (base_rows list batches)
+base_once list batches = let is = firsts_exist (waiting_rows list batches) in firsts_own (waiting_rows list batches) is.0 is.1
+
+same_base : (list : ListBody) (batches : List (List Span)) (k : Key) → first_at k (waiting_rows list batches) ≡ first_at k (history_rows (base_of list batches))
+same_base list batches k =
+    let is = firsts_exist (waiting_rows list batches) in
+    sym (first_at-firsts (waiting_rows list batches) is.0 is.1 k) ∙ ap (first_at k) (sym (append-nil is.0))
+
+pub agrees_base : (list : ListBody) (batches : List (List Span)) → first_number list ≤ list.floor → list.floor ≤ first_number list + length batches
+    → AgreesOn (waiting_rows list batches) (base_of list batches)
+agrees_base list batches low high = record {
+  firsts = λ k. same_base list batches k;
   one = entry_one list.floor (drop (list.floor - first_number list) batches);
-  below = λ x c. (entry_numbers list.floor (drop (list.floor - first_number list) batches) x c).1;
+  below = λ x c.
+      let number = (entry_numbers list.floor (drop (list.floor - first_number list) batches) x c).1 in
+      let rest = length-drop (list.floor - first_number list) batches in
+      omega (arith, low, high, number, rest);
+}
+
+-- It has the first occurrences of all rows of the log, where the records below the floor bring none.
+pub agrees_stored : (list : ListBody) (batches : List (List Span)) (h : History) → AgreesOn (stored_rows [] (first_number list) batches) h
+    → SameFirsts (stored_rows [] (first_number list) batches) (stored_rows [] list.floor (drop (list.floor - first_number list) batches))
+    → count_of h ≡ first_number list + length batches → AgreesOn (stored_rows [] (first_number list) batches) (base_of list batches)
+agrees_stored list batches h agrees floored counts = record {
+  firsts = λ k. floored k ∙ same_base list batches k;
+  one = agrees.one;
+  below = λ x c. let number = agrees.below x c in omega (arith, number, counts);
 }
 
 -- ---- files are told apart
@@ -193,19 +229,12 @@ opened_machine list batches moment h = record { state = opened_state list batche
 
 module _ (told : Type 0) (image : Image) (list : ListBody) (rules : MeetsRules list) (none : list.blocks ≡ []) (batches : List (List Span)) (core : CoreState)
     (read : LogRead told image list.segments (first_number list) batches (tail_of core.segment)) where
-  low_floor : list.floor ≤ first_number list + length batches
+  pub low_floor : list.floor ≤ first_number list + length batches
   low_floor =
       let top = last_first list read.front (record { file = core.segment.file; first = core.segment.first }) rules read.last in
       let size = read_size told image list.segments (first_number list) batches (tail_of core.segment) read in
       let most = rules.to_floor in
       omega (arith, top, size, most)
-
-  pub from_floor_counts : count_of (from_floor list batches) ≡ first_number list + length batches
-  from_floor_counts =
-      let low = rules.from_floor in
-      let high = low_floor in
-      let rest = length-drop (list.floor - first_number list) batches in
-      omega (arith, low, high, rest)
 
   module _ (moment : ℕ) (state : IsOpenedState list batches moment core) (h : History) (agrees : AgreesOn (waiting_rows list batches) h) (counts : count_of h ≡ first_number list + length batches) where
     pub opened_has : HasState core (opened_machine list batches moment h)

@@ -1,8 +1,9 @@
 -- How an opening ends.
-use Rattle.std.proofs.Common.{◌≡◌, ◌≢◌, ℕ, ◌+◌, ◌≤◌, Bool, true, false, IsTrue, List, [], Some, None, Option, Result, Ok, Err, IfOk, IfErr, refl, sym, ◌∙◌, ap, subst, arith}
+use Rattle.std.proofs.Common.{◌≡◌, ◌≢◌, ℕ, ◌+◌, ◌≤◌, Bool, true, false, IsTrue, List, [], length, Some, None, Option, Result, Ok, Err, IfOk, IfErr, refl, sym, ◌∙◌, ap, subst, arith}
 use Rattle.std.specs.List.{Contains}
 use Rattle.span_types.specs.declared.spans.Span.{Span}
 use Rattle.span_types.specs.declared.spans.Row.{Row}
+use Rattle.span_types.specs.First.{IsFirstOf}
 use Rattle.disk_model.specs.Images.{Image, bytes_of}
 use Rattle.disk_model.specs.Crash.{OnlyBytes, Within, LeavesOnly, Reached, Run}
 use Rattle.disk_model.specs.declared.disk.Device.{Ghosts}
@@ -19,7 +20,7 @@ use Rattle.store_model.specs.State.{State}
 use Rattle.store_model.specs.Laws.{AgreesOn}
 use Rattle.store_model.specs.Step.{Machine}
 use Rattle.store_images.specs.Log.{LogHolds}
-use Rattle.store_images.specs.Stored.{ImageStores, ImageStandsFor, IsSoundImage, KeepsStored, first_number}
+use Rattle.store_images.specs.Stored.{ImageStores, ImageStandsFor, IsSoundImage, KeepsStored, first_number, stored_rows}
 use Rattle.store_images.specs.Stored.ImageStores.{vacant, filled}
 use Rattle.store_images.specs.Settled.{Tail, IsSettled}
 use Rattle.store_images.proofs.Logs.{log_same}
@@ -30,13 +31,13 @@ use Rattle.store_core.specs.Cores.{StandsFor, CoreStandsFor, tail_of}
 use Rattle.store_core.specs.LogReading.{LogRead}
 use Rattle.store_core.specs.New.{IsEmptyHistory, StoresNothing}
 use Rattle.store_core.specs.NewCore.{new_machine}
-use Rattle.store_core.specs.Opening.{KeepsDisk, opened_state, BeginsAs, BeginsEmpty, Opened, IsOpenedState}
+use Rattle.store_core.specs.Opening.{KeepsDisk, opened_state, BeginsAs, BeginsEmpty, Opened, OpensAs, IsOpenedState}
 use Rattle.store_core.proofs.Founding.{empty_history, nothing_keeps}
 use Rattle.store_core.proofs.NewCores.{no_history, no_history_is_empty}
 use Rattle.store_core.proofs.LogLaws.{one_log}
 use Rattle.store_core.proofs.LogSteps.{read_whole}
 use Rattle.store_core.proofs.LooseFiles.{stands_moved, used_low}
-use Rattle.store_core.proofs.OpenedStates.{opened_machine, opened_stands, from_floor, from_floor_counts, agrees_from_floor, agrees_waiting}
+use Rattle.store_core.proofs.OpenedStates.{opened_machine, opened_stands, base_of, low_floor, agrees_base, agrees_stored, agrees_waiting, base_once, waiting_rows}
 use Rattle.store_core.proofs.OpeningSteps.{IsFound, found, segment_low}
 
 -- the same, where the disk may tell less
@@ -57,6 +58,13 @@ new_is_empty h = record { writes = refl; head = refl; loose = refl; pins = refl 
 
 opened_is_empty : (list : ListBody) (batches : List (List Span)) (moment : ℕ) (h : History) → BeginsEmpty (opened_machine list batches moment h)
 opened_is_empty list batches moment h = record { writes = refl; head = refl; loose = refl; pins = refl }
+
+none_once : IsFirstOf [] []
+none_once = record {
+  only = λ k d h. absurd (omega (arith, h));
+  whole = λ k r h. let bad : None ≡ Some r = h in cc;
+  ordered = λ n d h. absurd (omega (arith, h));
+}
 
 module _ {D : Type 0} (g : Ghosts D) where
   -- the list was loaded
@@ -87,15 +95,31 @@ module _ {D : Type 0} (g : Ghosts D) where
       new_machine h,
       stands h (empty_history (g.held disk) h (none told) s),
       refl,
+      begins_new told h,
+    );
+    begins = (
+      new_machine no_history,
       record {
+        shows = tells_less _ ⊥ (g.held core.disk) (g.may_leave core.disk) core.state (new_machine no_history) (λ bad. absurd bad) (stands no_history no_history_is_empty);
+        empty = new_is_empty no_history;
+        base_alone = refl;
+        once = none_once;
+        no_blocks = refl;
+        stands = λ sound. stands no_history no_history_is_empty;
+        stored = λ told sound. (
+          record { rows = []; stores = vacant (none told) refl refl; agrees = no_history_is_empty.no_rows },
+          begins_new told no_history,
+        );
+      },
+    );
+  }
+    where
+      begins_new : IsTrue (g.tells disk) → (h : History) → BeginsAs (g.held disk) moment (new_machine h)
+      begins_new told h = record {
         new = λ vacant. refl;
         found = λ list batches there logged. absurd (let bad : None ≡ Some list = one_list (g.held disk) None (Some list) (none told) there in cc);
         writes = refl;
-      },
-    );
-    some = λ sound. (new_machine no_history, stands no_history no_history_is_empty, new_is_empty no_history);
-    shows = (new_machine no_history, tells_less _ ⊥ (g.held core.disk) (g.may_leave core.disk) core.state (new_machine no_history) (λ bad. absurd bad) (stands no_history no_history_is_empty), new_is_empty no_history);
-  }
+      }
 
   -- a store was read: `mid` is the disk once its list was loaded
   module _ (disk mid : D) (moment : ℕ) (core : Core D) (list : ListBody) (rules : MeetsRules list) (none : list.blocks ≡ []) (batches : List (List Span))
@@ -132,21 +156,43 @@ module _ {D : Type 0} (g : Ghosts D) where
         opened_stands (IsTrue (g.tells mid)) (g.held mid) list rules none batches core.state read moment state h (agrees_waiting list rules batches h f.agrees f.store.floored) f.counts
         (IsTrue (g.tells core.disk)) (g.held core.disk) (g.may_leave core.disk) (λ t. settled (told_mid told) h (stands_mid told h s))
 
-    -- where nothing is told, the history begins at the floor
-    by_memory : (told : Type 0) → (told → ⊥) → StandsFor told (g.held core.disk) (g.may_leave core.disk) core.state (opened_machine list batches moment (from_floor list batches))
-    by_memory told never = opened_stands (IsTrue (g.tells mid)) (g.held mid) list rules none batches core.state read moment state (from_floor list batches) (agrees_from_floor list batches)
-        (from_floor_counts (IsTrue (g.tells mid)) (g.held mid) list rules none batches core.state read) told (g.held core.disk) (g.may_leave core.disk) (λ t. absurd (never t))
+    agrees_first : AgreesOn (waiting_rows list batches) (base_of list batches)
+    agrees_first = agrees_base list batches rules.from_floor (low_floor (IsTrue (g.tells mid)) (g.held mid) list rules none batches core.state read)
+
+    -- where nothing is told
+    by_memory : (told : Type 0) → (told → ⊥) → StandsFor told (g.held core.disk) (g.may_leave core.disk) core.state (opened_machine list batches moment (base_of list batches))
+    by_memory told never = opened_stands (IsTrue (g.tells mid)) (g.held mid) list rules none batches core.state read moment state (base_of list batches) agrees_first
+        (let count : count_of (base_of list batches) ≡ first_number list + length batches = omega arith in count)
+        told (g.held core.disk) (g.may_leave core.disk) (λ t. absurd (never t))
+
+    stored_first : IsTrue (g.tells disk) → IsSoundImage (g.held disk) → ImageStandsFor (g.held disk) (base_of list batches)
+    stored_first told sound =
+        let f : IsFound (g.held disk) list batches sound.0 = found (g.held disk) list batches sound.0 none (there told) (logged_before told) sound.1 in record {
+          rows = stored_rows [] (first_number list) batches;
+          stores = filled list [] batches f.store refl (let count : count_of (base_of list batches) ≡ first_number list + length batches = omega arith in count);
+          agrees = agrees_stored list batches sound.0 f.agrees f.store.floored f.counts;
+        }
 
     pub opened_existing : Opened g disk moment core
     opened_existing = record {
       stands = λ told h s. (opened_machine list batches moment h, stands_for told h s, refl, begins told h);
-      some = λ sound. by_telling (g.tells disk) refl sound;
-      shows = (opened_machine list batches moment (from_floor list batches), by_memory ⊥ (λ bad. bad), opened_is_empty list batches moment (from_floor list batches));
+      begins = (
+        opened_machine list batches moment (base_of list batches),
+        record {
+          shows = by_memory ⊥ (λ bad. bad);
+          empty = opened_is_empty list batches moment (base_of list batches);
+          base_alone = refl;
+          once = base_once list batches;
+          no_blocks = refl;
+          stands = λ sound. by_telling (g.tells disk) refl sound;
+          stored = λ told sound. (stored_first told sound, begins told (base_of list batches));
+        },
+      );
     }
       where
-        by_telling : (t : Bool) → g.tells disk ≡ t → (IsTrue (g.tells disk) → IsSoundImage (g.held disk)) → (m : Machine) × CoreStandsFor g core m × BeginsEmpty m
-        by_telling true e sound = let told : IsTrue (g.tells disk) = e in let s = sound told in (opened_machine list batches moment s.0, stands_for told s.0 s.1, opened_is_empty list batches moment s.0)
-        by_telling false e sound = (opened_machine list batches moment (from_floor list batches), by_memory (IsTrue (g.tells core.disk)) (λ t. let bad : true ≡ false = sym t ∙ telling_core ∙ e in absurd cc), opened_is_empty list batches moment (from_floor list batches))
+        by_telling : (t : Bool) → g.tells disk ≡ t → (IsTrue (g.tells disk) → IsSoundImage (g.held disk)) → CoreStandsFor g core (opened_machine list batches moment (base_of list batches))
+        by_telling true e sound = let told : IsTrue (g.tells disk) = e in stands_for told (base_of list batches) (stored_first told (sound told))
+        by_telling false e sound = by_memory (IsTrue (g.tells core.disk)) (λ t. let bad : true ≡ false = sym t ∙ telling_core ∙ e in absurd cc)
 
 -- ---- answers that are handed on
 

@@ -4,6 +4,7 @@ use Rattle.std.proofs.lemmas.List.{take_all}
 use Rattle.span_types.specs.declared.spans.Span.{Span}
 use Rattle.disk_model.specs.Images.{Image}
 use Rattle.disk_model.specs.declared.disk.Device.{Ghosts}
+use Rattle.disk_model.proofs.Moments.{joined, started, widened}
 use Rattle.store_model.specs.History.{History, count_of, pushed, up_to}
 use Rattle.store_model.specs.Event.{Event, Reply}
 use Rattle.store_model.specs.Event.Event.{Push}
@@ -16,8 +17,9 @@ use Rattle.store_model.proofs.TellsHistory.{step_tells}
 use Rattle.store_images.specs.Stored.{MayStandFor, ImageStandsFor}
 use Rattle.store_images.proofs.Growing.{count_of-pushed}
 use Rattle.store_core.specs.Cores.{CoreStandsFor, unsure_of}
-use Rattle.store_core.specs.Events.{Stepped, Between, unsure_after}
-use Rattle.store_core.specs.Past.{StoodFor, KeepsPast}
+use Rattle.store_core.specs.Events.{Did, Between, unsure_after}
+use Rattle.store_core.specs.Past.{StandsSince, StoodFor}
+use Rattle.store_core.proofs.PushEvents.{OnlyNow}
 use Rattle.store_core.specs.declared.store.Core.{Core}
 
 now_is : (h : History) → up_to (count_of h) h ≡ h
@@ -64,11 +66,34 @@ module _ (e : Event) (r : Reply) (h h' : History) (unsure unsure' : Option (List
   between : (image : Image) → Between h unsure h' unsure' image → StoodFor least h' unsure' image
   between image was = elim was [ inl old ↦ before image old | inr new ↦ inr new ]
 
-pub keeps_past : {D : Type 0} (g : Ghosts D) (old new : Core D) (e : Event) (r : Reply) (m : Machine) (did : Stepped g old e r new m) (start least : ℕ)
-    → IsTrue (g.tells old.disk) → start ≤ g.moment old.disk → least ≤ count_of m.history → KeepsPast g old m start least → KeepsPast g new did.machine start least
-keeps_past g old new e r m did start least told earlier low past image left =
-    let after = (step_tells (g.faults old.disk) (g.faults new.disk) m did.machine e r did.step).0 in
-    elim ((did.images told).before start image earlier left) [
-      | inl was ↦ stood e r m.history did.machine.history (unsure_of old.state) (unsure_of new.state) least after low did.unsure did.ended image (past image was)
-      | inr here ↦ between e r m.history did.machine.history (unsure_of old.state) (unsure_of new.state) least after low did.unsure did.ended image here
-    ]
+-- As a core is opened nothing was left but what its disk may leave.
+pub stands_since_now : {D : Type 0} (g : Ghosts D) (only_now : OnlyNow g) (core : Core D) (m : Machine) → CoreStandsFor g core m
+    → StandsSince g core.disk (count_of m.history) core m
+stands_since_now g only_now core m stands = record {
+  stands = stands;
+  reached = omega arith;
+  past = λ told. started g.moment g.left_since core.disk (StoodFor (count_of m.history) m.history (unsure_of core.state))
+      (λ image left. inr (stands.now told image (only_now core.disk image left)));
+}
+
+pub stands_since : {D : Type 0} (g : Ghosts D) (old new : Core D) (e : Event) (r : Reply) (m : Machine) (start : D) (least : ℕ) (did : Did g old e r new)
+    (since : StandsSince g start least old m) → StandsSince g start least new (did.stepped m since.stands).machine
+stands_since g old new e r m start least did since =
+    let one = did.stepped m since.stands in
+    let after = (step_tells (g.faults old.disk) (g.faults new.disk) m one.machine e r one.step).0 in
+    let now : Image → Type 0 = StoodFor least one.machine.history (unsure_of new.state) in record {
+      stands = one.stands;
+      reached = reached after;
+      past = λ told.
+          let tells = subst IsTrue did.telling told in
+          joined g.moment g.left_since start old.disk new.disk now
+          (widened g.moment g.left_since start old.disk (StoodFor least m.history (unsure_of old.state)) now (since.past tells)
+          (stood e r m.history one.machine.history (unsure_of old.state) (unsure_of new.state) least after since.reached one.unsure one.ended))
+          (widened g.moment g.left_since old.disk new.disk (Between m.history (unsure_of old.state) one.machine.history (unsure_of new.state)) now (one.images tells)
+          (between e r m.history one.machine.history (unsure_of old.state) (unsure_of new.state) least after since.reached one.unsure one.ended));
+    }
+  where
+    reached : {h : History} → h ≡ history_after e r m.history → least ≤ count_of h
+    reached after =
+        let longer = (past_in e r m.history (count_of m.history) (omega arith)).1 in
+        subst (λ (x : History). least ≤ count_of x) (sym after) (omega (arith, since.reached, longer))

@@ -2,6 +2,7 @@
 use Rattle.std.specs.Prelude.{◌≡◌, ℕ, ◌+◌, ◌-◌, ◌≤◌, List, [], ◌∷◌, ◌++◌, map, drop, nat_le, if◌then◌else◌, Option, Some, None, Ok, Err, IsTrue}
 use Rattle.span_types.specs.declared.spans.Span.{Span}
 use Rattle.span_types.specs.declared.spans.Row.{Row}
+use Rattle.span_types.specs.First.{IsFirstOf}
 use Rattle.disk_model.specs.Images.{Image, bytes_of}
 use Rattle.disk_model.specs.Crash.{Run}
 use Rattle.disk_model.specs.declared.disk.Device.{Ghosts}
@@ -82,15 +83,25 @@ pub record BeginsEmpty (m : Machine) : Type 0 where
   pub loose : m.state.loose ≡ []
   pub pins : m.state.pins ≡ []
 
+-- A machine with which a core begins: over whatever bytes its memory shows it, and its history is a base alone, each span of it once. Where the
+-- disk doesn't tell its bytes or they were a store's the core stands for it; and it is then the one that they stood for.
+pub record OpensAs {D : Type 0} (g : Ghosts D) (disk : D) (moment : ℕ) (core : Core D) (m : Machine) : Type 0 where
+  pub shows : CoreShows g core m
+  pub empty : BeginsEmpty m
+  pub base_alone : m.history.entries ≡ []
+  pub once : IsFirstOf m.history.base m.history.base
+  pub no_blocks : m.state.blocks ≡ []
+  pub stands : (IsTrue (g.tells disk) → IsSoundImage (g.held disk)) → CoreStandsFor g core m
+  pub stored : IsTrue (g.tells disk) → IsSoundImage (g.held disk)
+      → ImageStandsFor (g.held disk) m.history × BeginsAs (g.held disk) moment m
+
 -- A core that was opened on a disk.
 pub record Opened {D : Type 0} (g : Ghosts D) (disk : D) (moment : ℕ) (core : Core D) : Type 0 where
   -- it stands for each history that the bytes stood for which the disk held
   pub stands : IsTrue (g.tells disk) → (h : History) → ImageStandsFor (g.held disk) h
       → (m : Machine) × CoreStandsFor g core m × (m.history ≡ h) × BeginsAs (g.held disk) moment m
-  -- and for some machine, where those bytes are sound or the disk doesn't tell them
-  pub some : (IsTrue (g.tells disk) → IsSoundImage (g.held disk)) → (m : Machine) × CoreStandsFor g core m × BeginsEmpty m
-  -- its memory in any case shows some machine
-  pub shows : (m : Machine) × CoreShows g core m × BeginsEmpty m
+  -- and, whatever the bytes, it begins with some machine
+  pub begins : (m : Machine) × OpensAs g disk moment core m
 
 -- What its memory has then.
 pub record IsOpenedState (list : ListBody) (batches : List (List Span)) (moment : ℕ) (state : CoreState) : Type 0 where

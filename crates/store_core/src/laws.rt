@@ -1,19 +1,24 @@
 //! Laws of cores.
 
-ghost use Rattle.std.specs.Prelude.{◌≤◌, ℕ, IsTrue};
 ghost use Rattle.store_model.specs.History.{count_of};
 ghost use Rattle.store_model.specs.Event.{Event, Reply};
 ghost use Rattle.store_model.specs.Step.{Machine};
-ghost use Rattle.store_core.specs.Events.{Stepped};
-ghost use Rattle.store_core.specs.Past.{KeepsPast};
+ghost use Rattle.store_core.specs.Cores.{CoreStandsFor};
+ghost use Rattle.store_core.specs.Events.{Did};
+ghost use Rattle.store_core.specs.Past.{StandsSince};
+ghost use Rattle.std.specs.Prelude.{ℕ};
 
 use crate::store::Core;
 use disk_model::Device;
 
 /// Whenever a crash came since a core was opened, the image that it left stands for the history at some length from that of the
-/// opening on, or for it and then the batch whose push failed: each event keeps this.
+/// opening on, or for it and then the batch whose push failed.
 pub fn images_since_opening<D: Device>(old: &Core<D>, new: &Core<D>)
-    ensures { (e : Event) (r : Reply) (m : Machine) (did : Stepped D.Device.own old.now e r new.now m) (start least : ℕ) →
-        IsTrue (D.tells old.now.disk) → start ≤ D.moment old.now.disk → least ≤ count_of m.history →
-        KeepsPast D.Device.own old.now m start least → KeepsPast D.Device.own new.now did.machine start least }
+    // It is so as the core is opened.
+    ensures begins { (m : Machine) → CoreStandsFor D.Device.own old.now m
+        → StandsSince D.Device.own old.now.disk (count_of m.history) old.now m }
+    // Each event keeps it.
+    ensures goes_on { (e : Event) (r : Reply) (m : Machine) (start : D) (least : ℕ)
+        → (did : Did D.Device.own old.now e r new.now) → (since : StandsSince D.Device.own start least old.now m)
+        → StandsSince D.Device.own start least new.now (did.stepped m since.stands).machine }
 {}

@@ -1,23 +1,15 @@
--- What a run leaves that answers one line alone.
-use Rattle.std.proofs.Common.{◌≡◌, inl, inr, ℕ, List, [], ◌∷◌, ◌++◌, Bool, true, false, Option, Some, None, Err, take, refl, sym, ap, ◌∙◌, subst, append-nil, arith, if◌then◌else◌}
+-- How a run ends that answers one line alone.
+use Rattle.std.proofs.Common.{◌≡◌, ◌≢◌, ◌⊎◌, inl, inr, ℕ, List, [], ◌∷◌, ◌++◌, Bool, true, false, Option, Some, None, take, refl, sym, ap, ◌∙◌, subst, append-nil, if◌then◌else◌}
+use Rattle.std.specs.Prelude.{IfSome}
 use Rattle.std.specs.Io.KnownBytes.{Appends}
 use Rattle.session_meaning.specs.declared.ending.Ending.{Ending}
-use Rattle.session_meaning.specs.declared.ending.Ending.TheVariants.{Answered, BadWords, ReadFault, Refused, Spent, Starved, WriteFault}
-use Rattle.session_meaning.specs.History.{no_push}
+use Rattle.session_meaning.specs.declared.ending.Ending.TheVariants.{Answered, BadWords, NotOpened, NotStore, ReadFault, Refused, Spent, Starved, WriteFault}
+use Rattle.session_meaning.specs.Runs.{IsPastOpening, NeedsNoSource}
 use Rattle.session_meaning.specs.Session.{EndsAlone, IsWritten, is_for_memory, is_refusal}
-use Rattle.session_text.specs.declared.refusal.Refusal.TheVariants as refusal
 use Rattle.session_text.specs.declared.reply.Reply.{Reply}
-use Rattle.session_text.specs.declared.reply.Reply.TheVariants as reply
 use Rattle.session_text.specs.Replies.{reply_text}
-use Rattle.session_text.specs.Requests.{Answers, Line, line_of, plain, searched}
-use Rattle.traceql_syntax.specs.declared.errors.ParseError.TheVariants as parse
 use Rattle.trace_shell.specs.declared.session.Tally.{Tally}
-use Rattle.trace_shell.specs.Holding.{Holding, Holds}
-use Rattle.trace_shell.specs.Turn.{CameAlone, HasGiven, ending_of}
-
--- nothing is held of no push
-pub holds_nothing : (held : Holding) → held ≡ record { rows = []; pushes = 0 } → Holds held no_push
-holds_nothing held is = subst (λ h. Holds h no_push) (sym is) (record { rows_are = refl; count = refl })
+use Rattle.trace_shell.specs.Turn.{HasGiven, ending_of}
 
 -- no reply was seen
 abbrev pub empty_tally : Tally
@@ -41,6 +33,8 @@ stopped_alone before old new tally r BadWords is given = absurd given
 stopped_alone before old new tally r ReadFault is given = absurd given
 stopped_alone before old new tally r Refused is given = absurd given
 stopped_alone before old new tally r Spent is given = absurd given
+stopped_alone before old new tally r NotOpened is given = absurd given
+stopped_alone before old new tally r (NotStore file at) is given = absurd given
 
 by_refusal : (before : List ℕ) (r : Reply) (new : Option (List ℕ)) (a b : Bool) → is_refusal r ≡ a → is_for_memory r ≡ b → IsWritten before (r ∷ []) new
     → EndsAlone (if a then Refused else if b then Starved else Answered) before r new
@@ -56,12 +50,24 @@ written_alone before old new tally r is given =
     put_behind before (reply_text r) old new is given.0 ∙ ap (λ zs. Some (before ++ zs)) (sym (append-nil (reply_text r))) in
     subst (λ s. EndsAlone (ending_of s) before r new) (sym given.1) (by_refusal before r new (is_refusal r) (is_for_memory r) refl refl written)
 
--- want of memory may be the answer to any line
-memory_answers : (l : Line) → Answers l [] (Err refusal.Memory)
-memory_answers (searched line) = inl (record { why = parse.Memory; is = refl; right = tt }, refl)
-memory_answers (plain answer) = (inr refl, refl)
+-- what a line alone may end with
+pub alone_ends : (e : Ending) → (e ≡ WriteFault) ⊎ ((e ≡ Answered) ⊎ ((e ≡ Refused) ⊎ (e ≡ Starved)))
+    → (e ≢ ReadFault) × (e ≢ Spent) × NeedsNoSource e × IsPastOpening e
+alone_ends e (inl is) = (λ a. let bad : ⊥ = cc in bad, λ a. let bad : ⊥ = cc in bad, subst NeedsNoSource (sym is) tt, subst IsPastOpening (sym is) tt)
+alone_ends e (inr (inl is)) = (λ a. let bad : ⊥ = cc in bad, λ a. let bad : ⊥ = cc in bad, subst NeedsNoSource (sym is) tt, subst IsPastOpening (sym is) tt)
+alone_ends e (inr (inr (inl is))) = (λ a. let bad : ⊥ = cc in bad, λ a. let bad : ⊥ = cc in bad, subst NeedsNoSource (sym is) tt, subst IsPastOpening (sym is) tt)
+alone_ends e (inr (inr (inr is))) = (λ a. let bad : ⊥ = cc in bad, λ a. let bad : ⊥ = cc in bad, subst NeedsNoSource (sym is) tt, subst IsPastOpening (sym is) tt)
 
--- nothing was written, since memory was wanted
-pub starved_alone : (line before : List ℕ) (taken : Option (List ℕ)) → taken ≡ Some before → CameAlone line before taken Starved []
-starved_alone line before taken is =
-    (reply.Refused refusal.Memory, no_push, (Err refusal.Memory, (0, memory_answers (line_of 0 line)), (refl, refl)), inr is)
+-- what a line among others may end a session with
+pub line_ends : (o : Option Ending) → IfSome o (λ e. (e ≡ WriteFault) ⊎ (e ≡ Starved)) → IfSome o IsPastOpening
+line_ends None ends = tt
+line_ends (Some e) (inl is) = subst IsPastOpening (sym is) tt
+line_ends (Some e) (inr is) = subst IsPastOpening (sym is) tt
+
+pub tally_ends : (tally : Tally) → IsPastOpening (ending_of tally)
+tally_ends tally = go tally.refused tally.starved
+  where
+    go : (a b : Bool) → IsPastOpening (if a then Refused else if b then Starved else Answered)
+    go true b = tt
+    go false true = tt
+    go false false = tt

@@ -1,6 +1,5 @@
-pub mod RowLemmas
-pub mod SessionLemmas
 pub mod TurnLemmas
 pub mod AloneLemmas
 pub mod RunLemmas
+pub mod StoreLemmas
 pub mod ArgumentLemmas

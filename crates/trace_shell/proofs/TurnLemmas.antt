@@ -2,26 +2,30 @@
 use Rattle.std.proofs.Common.{◌≡◌, inl, inr, ℕ, ◌+◌, ◌<◌, ◌≤◌, List, [], ◌∷◌, ◌++◌, Option, Some, None, Err, Bool, true, false, ◌||◌, nat_le, length, take, refl, sym, ◌∙◌, ap, subst, arith, length-append, append_assoc, append-nil, if◌then◌else◌}
 use Rattle.std.specs.List.{list_any}
 use Rattle.std.specs.Io.KnownBytes.{Appends, Consumes}
+use Rattle.io_edges.specs.Devices.{first_moment}
 use Rattle.io_edges.specs.Lines.{lines, line_limit, taken_limit}
 use Rattle.io_edges.specs.declared.begun.Begun.{Begun}
 use Rattle.io_edges.specs.declared.begun.Begun.TheVariants.{Kept, Dropped}
 use Rattle.io_edges.specs.Reader.{Reader, HoldsNoFeed, IsBegun, IsNextLine, IsToRead, TakesBytes, begun_len, to_come}
 use Rattle.session_meaning.specs.declared.ending.Ending.{Ending}
-use Rattle.session_meaning.specs.declared.ending.Ending.TheVariants.{Answered, BadWords, ReadFault, Refused, Spent, Starved, WriteFault}
+use Rattle.session_meaning.specs.declared.ending.Ending.TheVariants.{Answered, BadWords, NotOpened, NotStore, ReadFault, Refused, Spent, Starved, WriteFault}
 use Rattle.session_text.specs.declared.reply.Reply.{Reply}
 use Rattle.session_text.specs.declared.refusal.Refusal.TheVariants as refusal
 use Rattle.session_text.specs.declared.reply.Reply.TheVariants as reply
-use Rattle.session_meaning.specs.History.{History, no_push}
-use Rattle.session_text.specs.Requests.{Asks, line_of, plain}
+use Rattle.session_text.specs.Items.{Item}
+use Rattle.session_text.specs.Requests.{line_of, plain}
 use Rattle.session_text.specs.Replies.{reply_text}
 use Rattle.session_meaning.specs.Session.{Ends, IsAllEnded, IsAllRead, IsCutOff, end_of, is_for_memory, is_refusal, reply_texts}
-use Rattle.session_meaning.specs.Progress.{IsLineAnswered, Progress}
-use Rattle.session_meaning.proofs.EndLaws.{taken_within}
-use Rattle.session_meaning.proofs.SessionLaws.{progress_begins, progress_empty, progress_line, reply_texts-push}
+use Rattle.session_meaning.specs.Asked.{AsksNext, after_moment}
+use Rattle.session_meaning.specs.Progress.{HasAnsweredOne, HasAnsweredOver, Progress}
+use Rattle.session_meaning.proofs.SessionLaws.{over_begins, progress_begins, progress_empty, progress_line, reply_texts-push}
+use Rattle.store_state.specs.Meaning.{Meaning}
+use Rattle.client_run.specs.Calls.{Call}
+use Rattle.client_run.proofs.CallLemmas.{made-append}
+use Rattle.session_meaning.specs.Answering.{AreItemsAnswered}
 use Rattle.traceql_types.specs.Makers.{Makes, RefusesOnly}
 use Rattle.traceql_types.proofs.Calls.{refuses-none}
 use Rattle.trace_shell.specs.declared.session.Tally.{Tally}
-use Rattle.trace_shell.specs.Holding.{Holding, Holds}
 use Rattle.trace_shell.specs.Turn.{Came, HasGiven, IsAt, Turned, ending_of, tally_with}
 
 -- Bytes taken in two steps.
@@ -33,6 +37,13 @@ took_more text (Some xs) (Some ys) a b c first second = (
   first.1 ∙ ap (λ zs. first.0 ++ zs) second.1 ∙ sym (append_assoc first.0 second.0 ys),
   rw length-append (omega (arith, first.2, second.2)),
 )
+
+-- No more bytes were taken than are in the text.
+taken_within : (text : List ℕ) (left : Option (List ℕ)) (taken : ℕ) → TakesBytes (Some text) left 0 taken → taken ≤ length text
+taken_within text None taken took = absurd took.1
+taken_within text (Some xs) taken took =
+    let sizes : length text ≡ length took.0 + length xs = ap length took.1 ∙ length-append took.0 xs in
+    omega (arith, sizes, took.2)
 
 -- Where nothing is left they are just that many.
 pub taken_all : (text : List ℕ) (left : Option (List ℕ)) (taken : ℕ) → TakesBytes (Some text) left 0 taken → left ≡ Some [] → length text ≡ taken
@@ -85,118 +96,161 @@ seen_of : (p : Reply → Bool) (now : Bool) (replies : List Reply) (reply : Repl
     next ≡ list_any p (replies ++ reply ∷ [])
 seen_of p now replies reply next h step = step ∙ ap (λ b. b || p reply) h ∙ sym (list_any-push p replies reply)
 
--- A line was answered at a history, and its reply given.
-pub answered_at : (text before : List ℕ) (left_old left taken_old taken : Option (List ℕ)) (reader_old reader : Reader) (held_old held : Holding) (tally_old tally : Tally)
-    (line : List ℕ) (reply : Reply) (after : History) (outcome : Option Ending) (blamed more : List (List ℕ)) (at : IsAt text before left_old taken_old reader_old held_old tally_old blamed) →
-    IsNextLine at.rest line (IsToRead reader left) → 0 < length line → IsLineAnswered line more at.history reply after → Holds held after →
+-- A line was answered, and its reply given.
+pub answered_at : (told : Option (List ℕ)) (text before : List ℕ) (left_old left taken_old taken tell_old to_tell : Option (List ℕ)) (reader_old reader : Reader) (tally_old tally : Tally)
+    (line : List ℕ) (item : Item) (reply : Reply) (outcome : Option Ending) (items : List Item) (replies : List Reply) (blamed more : List (List ℕ))
+    (at : IsAt told text before left_old taken_old tell_old reader_old tally_old items replies blamed) →
+    IsNextLine at.rest line (IsToRead reader left) → 0 < length line → AsksNext tell_old line more item → to_tell ≡ after_moment tell_old →
     TakesBytes left_old left reader_old.taken reader.taken → HasGiven taken_old taken tally_old tally reply outcome →
-    Turned text before left taken reader held tally (blamed ++ more) outcome
-answered_at text before left_old left taken_old taken reader_old reader held_old held tally_old tally [] reply after outcome blamed more at next some a h took given = absurd (omega arith)
-answered_at text before left_old left taken_old taken reader_old reader held_old held tally_old tally (b ∷ bs) reply after outcome blamed more at next some a h took given =
+    Turned told text before left taken to_tell reader tally (items ++ item ∷ []) (replies ++ reply ∷ []) (blamed ++ more) outcome
+answered_at told text before left_old left taken_old taken tell_old to_tell reader_old reader tally_old tally [] item reply outcome items replies blamed more at next some a later took given = absurd (omega arith)
+answered_at told text before left_old left taken_old taken tell_old to_tell reader_old reader tally_old tally (b ∷ bs) item reply outcome items replies blamed more at next some a later took given =
     turned outcome given
   where
-    progress : Progress text next.rest (blamed ++ more) (at.replies ++ reply ∷ []) after
-    progress = progress_line text at.rest next.past next.rest blamed more at.replies at.history after b bs reply at.progress next.parts next.first a
+    progress : Progress told text next.rest (blamed ++ more) (items ++ item ∷ []) to_tell
+    progress =
+        subst (λ (o : Option (List ℕ)). Progress told text next.rest (blamed ++ more) (items ++ item ∷ []) o) (sym later)
+        (progress_line told text at.rest next.past next.rest blamed more items tell_old b bs item at.progress next.parts next.first a)
 
-    turned : (o : Option Ending) → HasGiven taken_old taken tally_old tally reply o → Turned text before left taken reader held tally (blamed ++ more) o
+    turned : (o : Option Ending) → HasGiven taken_old taken tally_old tally reply o →
+        Turned told text before left taken to_tell reader tally (items ++ item ∷ []) (replies ++ reply ∷ []) (blamed ++ more) o
     turned None g = record {
       rest = next.rest;
-      replies = at.replies ++ reply ∷ [];
-      history = after;
       to_read = next.after;
       progress = progress;
-      holds = h;
-      written = appended before at.replies reply taken_old taken at.written g.0;
-      refused = ap (λ s. s.refused) g.1 ∙ seen_of is_refusal tally_old.refused at.replies reply (tally_with tally_old reply).refused at.refused refl;
-      starved = ap (λ s. s.starved) g.1 ∙ seen_of is_for_memory tally_old.starved at.replies reply (tally_with tally_old reply).starved at.starved refl;
+      written = appended before replies reply taken_old taken at.written g.0;
+      refused = ap (λ s. s.refused) g.1 ∙ seen_of is_refusal tally_old.refused replies reply (tally_with tally_old reply).refused at.refused refl;
+      starved = ap (λ s. s.starved) g.1 ∙ seen_of is_for_memory tally_old.starved replies reply (tally_with tally_old reply).starved at.starved refl;
       took = took_more text left_old left 0 reader_old.taken reader.taken at.took took;
     }
     turned (Some Starved) g = record {
       answered = progress.answered;
       later = lines next.rest;
-      items = progress.items;
-      replies = at.replies ++ reply ∷ [];
-      last = after;
       lines_are = progress.lines_are;
       asked = progress.asked;
-      session = progress.session;
+      clock = progress.clock;
       ends = inr (inr (record {
-        whole = at.replies;
+        whole = replies;
         last = reply;
         replies_are = refl;
-        taken_is = g ∙ at.written ∙ ap Some (sym (append-nil (before ++ reply_texts at.replies)));
+        taken_is = g ∙ at.written ∙ ap Some (sym (append-nil (before ++ reply_texts replies)));
       }));
     }
     turned (Some WriteFault) g = record {
       answered = progress.answered;
       later = lines next.rest;
-      items = progress.items;
-      replies = at.replies ++ reply ∷ [];
-      last = after;
       lines_are = progress.lines_are;
       asked = progress.asked;
-      session = progress.session;
-      ends = (g.0, cut_off before at.replies reply taken_old taken g.0 at.written g.1);
+      clock = progress.clock;
+      ends = (g.0, cut_off before replies reply taken_old taken g.0 at.written g.1);
     }
     turned (Some Answered) g = absurd g
     turned (Some BadWords) g = absurd g
     turned (Some ReadFault) g = absurd g
     turned (Some Refused) g = absurd g
     turned (Some Spent) g = absurd g
+    turned (Some NotOpened) g = absurd g
+    turned (Some (NotStore file at)) g = absurd g
 
 -- A line without bytes was passed over.
-pub passed_at : (text before : List ℕ) (left_old left taken_old taken : Option (List ℕ)) (reader_old reader : Reader) (held_old held : Holding) (tally_old tally : Tally)
-    (blamed : List (List ℕ)) (at : IsAt text before left_old taken_old reader_old held_old tally_old blamed) →
-    IsNextLine at.rest [] (IsToRead reader left) → held ≡ held_old → tally ≡ tally_old → taken ≡ taken_old →
-    TakesBytes left_old left reader_old.taken reader.taken → IsAt text before left taken reader held tally blamed
-passed_at text before left_old left taken_old taken reader_old reader held_old held tally_old tally blamed at next same_held same_seen same_taken took = record {
+pub passed_at : (told : Option (List ℕ)) (text before : List ℕ) (left_old left taken_old taken tell_old to_tell : Option (List ℕ)) (reader_old reader : Reader) (tally_old tally : Tally)
+    (items : List Item) (replies : List Reply) (blamed : List (List ℕ)) (at : IsAt told text before left_old taken_old tell_old reader_old tally_old items replies blamed) →
+    IsNextLine at.rest [] (IsToRead reader left) → tally ≡ tally_old → taken ≡ taken_old → to_tell ≡ tell_old →
+    TakesBytes left_old left reader_old.taken reader.taken → IsAt told text before left taken to_tell reader tally items replies blamed
+passed_at told text before left_old left taken_old taken tell_old to_tell reader_old reader tally_old tally items replies blamed at next same_seen same_taken same_clock took = record {
   rest = next.rest;
-  replies = at.replies;
-  history = at.history;
   to_read = next.after;
-  progress = progress_empty text at.rest next.past next.rest blamed at.replies at.history at.progress next.parts next.first;
-  holds = subst (λ h. Holds h at.history) (sym same_held) at.holds;
+  progress = subst (λ (o : Option (List ℕ)). Progress told text next.rest blamed items o) (sym same_clock)
+      (progress_empty told text at.rest next.past next.rest blamed items tell_old at.progress next.parts next.first);
   written = same_taken ∙ at.written;
   refused = ap (λ s. s.refused) same_seen ∙ at.refused;
   starved = ap (λ s. s.starved) same_seen ∙ at.starved;
   took = took_more text left_old left 0 reader_old.taken reader.taken at.took took;
 }
 
--- Where nothing is asked for, no text more is refused.
-pub unasked : (text before : List ℕ) (left taken : Option (List ℕ)) (reader : Reader) (held : Holding) (tally : Tally) (outcome : Option Ending) (blamed : List (List ℕ)) →
-    Turned text before left taken reader held tally blamed outcome → Turned text before left taken reader held tally (blamed ++ []) outcome
-unasked text before left taken reader held tally outcome blamed t =
-    subst (λ (ts : List (List ℕ)). Turned text before left taken reader held tally ts outcome) (sym (append-nil blamed)) t
+-- ---- what was answered over a port
 
-pub unasked_end : (text before : List ℕ) (left taken : Option (List ℕ)) (ending : Ending) (blamed : List (List ℕ)) →
-    Came text before left taken ending blamed → Came text before left taken ending (blamed ++ [])
-unasked_end text before left taken ending blamed t =
-    subst (λ (ts : List (List ℕ)). Came text before left taken ending ts) (sym (append-nil blamed)) t
+pub over_first : {Q : Type 0} (meaning : Meaning Q) (before after : Q) (item : Item) (reply : Reply) → HasAnsweredOne meaning before item reply after
+    → HasAnsweredOver meaning before (item ∷ []) (reply ∷ []) after
+over_first meaning before after item reply one = record {
+  calls = one.calls;
+  by_calls = (one.calls, [], sym (append-nil one.calls), one.answered, (refl, refl));
+  made = one.made;
+}
+
+items_then : (front back : List Item) (first later : List Reply) (calls more : List Call) → AreItemsAnswered front first calls → AreItemsAnswered back later more
+    → AreItemsAnswered (front ++ back) (first ++ later) (calls ++ more)
+items_then [] back first later calls more h k = rw (h.0, h.1) k
+items_then (i ∷ is) back [] later calls more h k = absurd h
+items_then (i ∷ is) back (r ∷ rs) later calls more h k =
+    (h.0, h.1 ++ more, ap (λ (cs : List Call). cs ++ more) h.2 ∙ append_assoc h.0 h.1 more, h.3, items_then is back rs later h.1 more h.4 k)
+
+pub over_then : {Q : Type 0} (meaning : Meaning Q) (start mid port : Q) (items asked : List Item) (replies given : List Reply) → HasAnsweredOver meaning start items replies mid
+    → HasAnsweredOver meaning mid asked given port → HasAnsweredOver meaning start (items ++ asked) (replies ++ given) port
+over_then meaning start mid port items asked replies given first second = record {
+  calls = first.calls ++ second.calls;
+  by_calls = items_then items asked replies given first.calls second.calls first.by_calls second.by_calls;
+  made = made-append meaning start mid port first.calls second.calls first.made second.made;
+}
+
+-- What a turn does over a port: these were asked and answered so, and it leaves that.
+abbrev pub TurnsOver : {M Q : Type 0} → Makes M → Meaning Q → M → M → Q → Q → (left_old left taken_old taken tell_old to_tell : Option (List ℕ)) → (reader_old reader : Reader) → (tally_old tally : Tally)
+    → Option Ending → Type 0
+TurnsOver makes meaning a b port_old port left_old left taken_old taken tell_old to_tell reader_old reader tally_old tally outcome =
+    (more : List (List ℕ)) × RefusesOnly makes a b more × (asked : List Item) × (given : List Reply) × HasAnsweredOver meaning port_old asked given port
+    × ((told : Option (List ℕ)) (text before : List ℕ) (items : List Item) (replies : List Reply) (blamed : List (List ℕ))
+    → IsAt told text before left_old taken_old tell_old reader_old tally_old items replies blamed
+    → Turned told text before left taken to_tell reader tally (items ++ asked) (replies ++ given) (blamed ++ more) outcome)
+
+-- Where nothing is asked, nothing is answered, and no text more is refused.
+unasked : (told : Option (List ℕ)) (text before : List ℕ) (left taken to_tell : Option (List ℕ)) (reader : Reader) (tally : Tally) (outcome : Option Ending)
+    (items : List Item) (replies : List Reply) (blamed : List (List ℕ)) → Turned told text before left taken to_tell reader tally items replies blamed outcome
+    → Turned told text before left taken to_tell reader tally (items ++ []) (replies ++ []) (blamed ++ []) outcome
+unasked told text before left taken to_tell reader tally outcome items replies blamed t =
+    subst (λ (is : List Item). Turned told text before left taken to_tell reader tally is (replies ++ []) (blamed ++ []) outcome) (sym (append-nil items))
+    (subst (λ (rs : List Reply). Turned told text before left taken to_tell reader tally items rs (blamed ++ []) outcome) (sym (append-nil replies))
+    (subst (λ (ts : List (List ℕ)). Turned told text before left taken to_tell reader tally items replies ts outcome) (sym (append-nil blamed)) t))
+
+-- A turn in which nothing is asked.
+pub turns_idle : {M Q : Type 0} (makes : Makes M) (meaning : Meaning Q) (a : M) (port : Q) (left_old left taken_old taken tell_old to_tell : Option (List ℕ)) (reader_old reader : Reader) (tally_old tally : Tally)
+    (outcome : Option Ending) → ((told : Option (List ℕ)) (text before : List ℕ) (items : List Item) (replies : List Reply) (blamed : List (List ℕ))
+    → IsAt told text before left_old taken_old tell_old reader_old tally_old items replies blamed → Turned told text before left taken to_tell reader tally items replies blamed outcome)
+    → TurnsOver makes meaning a a port port left_old left taken_old taken tell_old to_tell reader_old reader tally_old tally outcome
+turns_idle makes meaning a port left_old left taken_old taken tell_old to_tell reader_old reader tally_old tally outcome turned = (
+  [],
+  refuses-none makes a a a,
+  [],
+  [],
+  over_begins meaning port,
+  λ told text before items replies blamed at. unasked told text before left taken to_tell reader tally outcome items replies blamed (turned told text before items replies blamed at),
+)
 
 -- A whole line was read, and answered where it has bytes.
-pub whole_at : {M : Type 0} (makes : Makes M) (a b : M) (left_old left taken_old taken : Option (List ℕ)) (reader_old reader : Reader) (held_old held : Holding) (tally_old tally : Tally)
+pub whole_at : {M Q : Type 0} (makes : Makes M) (meaning : Meaning Q) (a b : M) (port_old port : Q) (left_old left taken_old taken tell_old to_tell : Option (List ℕ)) (reader_old reader : Reader) (tally_old tally : Tally)
     (line : List ℕ) (outcome : Option Ending) → ((rest : List ℕ) → IsToRead reader_old left_old rest → IsNextLine rest line (IsToRead reader left)) →
     TakesBytes left_old left reader_old.taken reader.taken →
-    (line ≡ [] → (outcome ≡ None) × (held ≡ held_old) × (tally ≡ tally_old) × (taken ≡ taken_old) × (b ≡ a)) →
-    (0 < length line → (more : List (List ℕ)) × RefusesOnly makes a b more × ((history : History) → Holds held_old history → (reply : Reply) × (after : History)
-    × IsLineAnswered line more history reply after × Holds held after × HasGiven taken_old taken tally_old tally reply outcome)) →
-    (more : List (List ℕ)) × RefusesOnly makes a b more × ((text before : List ℕ) (blamed : List (List ℕ)) → IsAt text before left_old taken_old reader_old held_old tally_old blamed →
-    Turned text before left taken reader held tally (blamed ++ more) outcome)
-whole_at {M} makes a b left_old left taken_old taken reader_old reader held_old held tally_old tally [] outcome next took none some =
-    let same = none refl in (
-      [],
-      subst (λ (m : M). RefusesOnly makes a m []) (sym same.4) (refuses-none makes a a a),
-      λ text before blamed at. unasked text before left taken reader held tally outcome blamed
-          (rw same.0 (passed_at text before left_old left taken_old taken reader_old reader held_old held tally_old tally blamed at (next at.rest at.to_read) same.1 same.2 same.3 took)),
-    )
-whole_at {M} makes a b left_old left taken_old taken reader_old reader held_old held tally_old tally (c ∷ cs) outcome next took none some =
-    let given = some (omega arith) in (
-      given.0,
-      given.1,
-      λ text before blamed at.
-          let told = given.2 at.history at.holds in
-          answered_at text before left_old left taken_old taken reader_old reader held_old held tally_old tally (c ∷ cs) told.0 told.1 outcome blamed given.0 at (next at.rest at.to_read) (omega arith)
-          told.2 told.3 took told.4,
+    (line ≡ [] → (outcome ≡ None) × (port ≡ port_old) × (tally ≡ tally_old) × (taken ≡ taken_old) × (to_tell ≡ tell_old) × (b ≡ a)) →
+    (0 < length line → (more : List (List ℕ)) × RefusesOnly makes a b more × (item : Item) × (reply : Reply) × HasAnsweredOne meaning port_old item reply port
+    × AsksNext tell_old line more item × (to_tell ≡ after_moment tell_old) × HasGiven taken_old taken tally_old tally reply outcome) →
+    TurnsOver makes meaning a b port_old port left_old left taken_old taken tell_old to_tell reader_old reader tally_old tally outcome
+whole_at {M} {Q} makes meaning a b port_old port left_old left taken_old taken tell_old to_tell reader_old reader tally_old tally [] outcome next took empty answered =
+    let same = empty refl in
+    subst (λ (x : M). TurnsOver makes meaning a x port_old port left_old left taken_old taken tell_old to_tell reader_old reader tally_old tally outcome) (sym same.5)
+    (subst (λ (x : Q). TurnsOver makes meaning a a port_old x left_old left taken_old taken tell_old to_tell reader_old reader tally_old tally outcome) (sym same.1)
+    (turns_idle makes meaning a port_old left_old left taken_old taken tell_old to_tell reader_old reader tally_old tally outcome
+    (λ told text before items replies blamed at.
+    subst (λ (o : Option Ending). Turned told text before left taken to_tell reader tally items replies blamed o) (sym same.0)
+    (passed_at told text before left_old left taken_old taken tell_old to_tell reader_old reader tally_old tally items replies blamed at (next at.rest at.to_read) same.2 same.3 same.4 took))))
+whole_at makes meaning a b port_old port left_old left taken_old taken tell_old to_tell reader_old reader tally_old tally (c ∷ cs) outcome next took empty answered =
+    let one = answered (omega arith) in (
+      one.0,
+      one.1,
+      one.2 ∷ [],
+      one.3 ∷ [],
+      over_first meaning port_old port one.2 one.3 one.4,
+      λ told text before items replies blamed at.
+          answered_at told text before left_old left taken_old taken tell_old to_tell reader_old reader tally_old tally (c ∷ cs) one.2 one.3 outcome items replies blamed one.0 at
+          (next at.rest at.to_read) (omega arith) one.5 one.6 took one.7,
     )
 
 -- A line of too many bytes asks nothing.
@@ -207,33 +261,41 @@ too_long_line moment line long = rw (not_within (length line) long) refl
     not_within : (n : ℕ) → line_limit < n → nat_le n line_limit ≡ false
     not_within n h = grind arith
 
-too_long_asks : (line : List ℕ) → line_limit < length line → Asks line [] (Err (refusal.TooLong (length line)))
-too_long_asks line long = (0, rw (too_long_line 0 line long) (inl refl, refl))
+-- It is refused, whatever the moment.
+too_long_asks : (tell : Option (List ℕ)) (line : List ℕ) → line_limit < length line → AsksNext tell line [] (Err (refusal.TooLong (length line)))
+too_long_asks None line long = (0, tt, rw (too_long_line 0 line long) (inl refl, refl))
+too_long_asks (Some moments) line long = (first_moment moments, refl, rw (too_long_line (first_moment moments) line long) (inl refl, refl))
 
 -- A line of too many bytes was read, and refused.
-pub too_long_at : (text before : List ℕ) (left_old left taken_old taken : Option (List ℕ)) (reader_old reader : Reader) (held : Holding) (tally_old tally : Tally)
-    (size : ℕ) (outcome : Option Ending) (blamed : List (List ℕ)) (at : IsAt text before left_old taken_old reader_old held tally_old blamed) →
-    (line : List ℕ) × IsNextLine at.rest line (IsToRead reader left) × (size ≡ length line) → line_limit < size →
+pub too_long_at : {M Q : Type 0} (makes : Makes M) (meaning : Meaning Q) (a : M) (port : Q) (left_old left taken_old taken tell_old to_tell : Option (List ℕ)) (reader_old reader : Reader) (tally_old tally : Tally)
+    (size : ℕ) (outcome : Option Ending) → ((rest : List ℕ) → IsToRead reader_old left_old rest → (line : List ℕ) × IsNextLine rest line (IsToRead reader left) × (size ≡ length line)) →
+    line_limit < size → to_tell ≡ after_moment tell_old →
     TakesBytes left_old left reader_old.taken reader.taken → HasGiven taken_old taken tally_old tally (reply.Refused (refusal.TooLong size)) outcome →
-    Turned text before left taken reader held tally (blamed ++ []) outcome
-too_long_at text before left_old left taken_old taken reader_old reader held tally_old tally size outcome blamed at (line, next, is) long took given =
-    let over : line_limit < length line = omega (arith, is, long) in
-    answered_at text before left_old left taken_old taken reader_old reader held held tally_old tally line (reply.Refused (refusal.TooLong size)) at.history outcome blamed [] at next (omega (arith, over))
-    (Err (refusal.TooLong (length line)), too_long_asks line over, (ap (λ n. reply.Refused (refusal.TooLong n)) is, refl)) at.holds took given
+    TurnsOver makes meaning a a port port left_old left taken_old taken tell_old to_tell reader_old reader tally_old tally outcome
+too_long_at makes meaning a port left_old left taken_old taken tell_old to_tell reader_old reader tally_old tally size outcome next long later took given = (
+  [],
+  refuses-none makes a a a,
+  Err (refusal.TooLong size) ∷ [],
+  reply.Refused (refusal.TooLong size) ∷ [],
+  over_first meaning port port (Err (refusal.TooLong size)) (reply.Refused (refusal.TooLong size)) (record { calls = []; answered = (refl, refl); made = refl }),
+  λ told text before items replies blamed at.
+      let line = next at.rest at.to_read in
+      let over : line_limit < length line.0 = omega (arith, line.2, long) in
+      answered_at told text before left_old left taken_old taken tell_old to_tell reader_old reader tally_old tally line.0 (Err (refusal.TooLong size)) (reply.Refused (refusal.TooLong size)) outcome
+      items replies blamed [] at line.1 (omega (arith, over))
+      (subst (λ (n : ℕ). AsksNext tell_old line.0 [] (Err (refusal.TooLong n))) (sym line.2) (too_long_asks tell_old line.0 over)) later took given,
+)
 
 -- The lines that weren't answered are those of what is to be read.
-stops : (text before : List ℕ) (left taken : Option (List ℕ)) (reader : Reader) (held : Holding) (tally : Tally) (ending : Ending)
-    (new : Option (List ℕ)) (blamed : List (List ℕ)) (at : IsAt text before left taken reader held tally blamed) → Ends ending text (lines at.rest) new before at.replies taken →
-    Came text before new taken ending blamed
-stops text before left taken reader held tally ending new blamed at ends = record {
+stops : (told : Option (List ℕ)) (text before : List ℕ) (left taken to_tell : Option (List ℕ)) (reader : Reader) (tally : Tally) (ending : Ending)
+    (new : Option (List ℕ)) (items : List Item) (replies : List Reply) (blamed : List (List ℕ)) (at : IsAt told text before left taken to_tell reader tally items replies blamed)
+    → Ends ending text (lines at.rest) new before replies taken → Came told text before new taken to_tell ending items replies blamed
+stops told text before left taken to_tell reader tally ending new items replies blamed at ends = record {
   answered = at.progress.answered;
   later = lines at.rest;
-  items = at.progress.items;
-  replies = at.replies;
-  last = at.history;
   lines_are = at.progress.lines_are;
   asked = at.progress.asked;
-  session = at.progress.session;
+  clock = at.progress.clock;
   ends = ends;
 }
 
@@ -249,17 +311,18 @@ ends_all_read text later left before replies taken all =
     ] refl
 
 -- All was read.
-pub ended_at : (text before : List ℕ) (left_old left taken : Option (List ℕ)) (reader_old reader : Reader) (held : Holding) (tally : Tally)
-    (blamed : List (List ℕ)) (at : IsAt text before left_old taken reader_old held tally blamed) → (at.rest ≡ []) × IsToRead reader left [] → reader.taken < taken_limit →
-    TakesBytes left_old left reader_old.taken reader.taken → Came text before left taken (ending_of tally) blamed
-ended_at text before left_old left taken reader_old reader held tally blamed at (none, to_read) fewer took =
+pub ended_at : (told : Option (List ℕ)) (text before : List ℕ) (left_old left taken to_tell : Option (List ℕ)) (reader_old reader : Reader) (tally : Tally)
+    (items : List Item) (replies : List Reply) (blamed : List (List ℕ)) (at : IsAt told text before left_old taken to_tell reader_old tally items replies blamed) →
+    (at.rest ≡ []) × IsToRead reader left [] → reader.taken < taken_limit →
+    TakesBytes left_old left reader_old.taken reader.taken → Came told text before left taken to_tell (ending_of tally) items replies blamed
+ended_at told text before left_old left taken to_tell reader_old reader tally items replies blamed at (none, to_read) fewer took =
     let read = took_more text left_old left 0 reader_old.taken reader.taken at.took took in
     let no_more : left ≡ Some [] = nothing_left reader left to_read in
     let size : length text ≡ reader.taken = taken_all text left reader.taken read no_more in
-    let all : IsAllRead text (lines at.rest) before at.replies taken = (ap lines none, subst (λ n. n < taken_limit) (sym size) fewer, at.written) in
-    stops text before left_old taken reader_old held tally (ending_of tally) left blamed at
-    (subst (λ e. Ends e text (lines at.rest) left before at.replies taken) (sym (same_ending tally at.replies at.refused at.starved))
-    (ends_all_read text (lines at.rest) left before at.replies taken all))
+    let all : IsAllRead text (lines at.rest) before replies taken = (ap lines none, subst (λ n. n < taken_limit) (sym size) fewer, at.written) in
+    stops told text before left_old taken to_tell reader_old tally (ending_of tally) left items replies blamed at
+    (subst (λ e. Ends e text (lines at.rest) left before replies taken) (sym (same_ending tally replies at.refused at.starved))
+    (ends_all_read text (lines at.rest) left before replies taken all))
   where
     same_ending : (tally : Tally) (replies : List Reply) → tally.refused ≡ list_any is_refusal replies → tally.starved ≡ list_any is_for_memory replies →
         ending_of tally ≡ end_of replies
@@ -286,26 +349,30 @@ all_ended text front reader left rest is to_read waiting = record {
 }
 
 -- As many bytes were taken as are ever taken.
-pub spent_at : (text before : List ℕ) (left_old left taken : Option (List ℕ)) (reader_old reader : Reader) (held : Holding) (tally : Tally)
-    (blamed : List (List ℕ)) (at : IsAt text before left_old taken reader_old held tally blamed) → reader.taken ≡ taken_limit →
-    TakesBytes left_old left reader_old.taken reader.taken → IsToRead reader left at.rest → HoldsNoFeed reader → Came text before left taken Spent blamed
-spent_at text before left_old left taken reader_old reader held tally blamed at all took to_read waiting =
-    stops text before left_old taken reader_old held tally Spent left blamed at (
+pub spent_at : (told : Option (List ℕ)) (text before : List ℕ) (left_old left taken to_tell : Option (List ℕ)) (reader_old reader : Reader) (tally : Tally)
+    (items : List Item) (replies : List Reply) (blamed : List (List ℕ)) (at : IsAt told text before left_old taken to_tell reader_old tally items replies blamed) → reader.taken ≡ taken_limit →
+    TakesBytes left_old left reader_old.taken reader.taken → IsToRead reader left at.rest → HoldsNoFeed reader → Came told text before left taken to_tell Spent items replies blamed
+spent_at told text before left_old left taken to_tell reader_old reader tally items replies blamed at all took to_read waiting =
+    stops told text before left_old taken to_tell reader_old tally Spent left items replies blamed at (
       at.written,
       all_ended text at.progress.front reader left at.rest at.progress.text_is to_read waiting,
       subst (λ n. n ≤ length text) all (taken_within text left reader.taken (took_more text left_old left 0 reader_old.taken reader.taken at.took took)),
     )
 
 -- The source failed.
-pub failed_at : (text before : List ℕ) (left_old left taken : Option (List ℕ)) (reader_old reader : Reader) (held : Holding) (tally : Tally)
-    (blamed : List (List ℕ)) (at : IsAt text before left_old taken reader_old held tally blamed) → IsToRead reader left at.rest → HoldsNoFeed reader → Came text before left taken ReadFault blamed
-failed_at text before left_old left taken reader_old reader held tally blamed at to_read waiting =
-    stops text before left_old taken reader_old held tally ReadFault left blamed at (at.written, all_ended text at.progress.front reader left at.rest at.progress.text_is to_read waiting)
+pub failed_at : (told : Option (List ℕ)) (text before : List ℕ) (left_old left taken to_tell : Option (List ℕ)) (reader_old reader : Reader) (tally : Tally)
+    (items : List Item) (replies : List Reply) (blamed : List (List ℕ)) (at : IsAt told text before left_old taken to_tell reader_old tally items replies blamed)
+    → IsToRead reader left at.rest → HoldsNoFeed reader → Came told text before left taken to_tell ReadFault items replies blamed
+failed_at told text before left_old left taken to_tell reader_old reader tally items replies blamed at to_read waiting =
+    stops told text before left_old taken to_tell reader_old tally ReadFault left items replies blamed at
+    (at.written, all_ended text at.progress.front reader left at.rest at.progress.text_is to_read waiting)
 
 -- Memory was wanted for a line.
-pub starved_at : (text before : List ℕ) (left_old left taken : Option (List ℕ)) (reader : Reader) (held : Holding) (tally : Tally) (blamed : List (List ℕ)) →
-    IsAt text before left_old taken reader held tally blamed → Came text before left taken Starved blamed
-starved_at text before left_old left taken reader held tally blamed at = stops text before left_old taken reader held tally Starved left blamed at (inr (inl at.written))
+pub starved_at : (told : Option (List ℕ)) (text before : List ℕ) (left_old left taken to_tell : Option (List ℕ)) (reader : Reader) (tally : Tally)
+    (items : List Item) (replies : List Reply) (blamed : List (List ℕ)) → IsAt told text before left_old taken to_tell reader tally items replies blamed
+    → Came told text before left taken to_tell Starved items replies blamed
+starved_at told text before left_old left taken to_tell reader tally items replies blamed at =
+    stops told text before left_old taken to_tell reader tally Starved left items replies blamed at (inr (inl at.written))
 
 -- Bytes taken in two steps, wherever they came from.
 pub took_on : (start left new : Option (List ℕ)) (a b c : ℕ) → TakesBytes start left a b → TakesBytes left new b c → TakesBytes start new a c
@@ -335,20 +402,17 @@ nothing_to_come reader h = omega (arith, held_none reader.begun h.holds.piece re
     held_none (Dropped size r) (x ∷ xs) pending b e = cc
 
 -- A session begins.
-pub begins_at : (text before : List ℕ) (left taken : Option (List ℕ)) (reader : Reader) (held : Holding) (tally : Tally) →
-    left ≡ Some text → taken ≡ Some before → IsToRead reader (Some text) text → reader.taken ≡ 0 → held ≡ record { rows = []; pushes = 0 } →
-    tally.refused ≡ false → tally.starved ≡ false → IsAt text before left taken reader held tally []
-begins_at text before left taken reader held tally told gave to_read none_taken nothing no_refusal no_hunger = record {
+pub begins_at : (told : Option (List ℕ)) (text before : List ℕ) (left taken : Option (List ℕ)) (reader : Reader) (tally : Tally) →
+    left ≡ Some text → taken ≡ Some before → IsToRead reader (Some text) text → reader.taken ≡ 0 →
+    tally.refused ≡ false → tally.starved ≡ false → IsAt told text before left taken told reader tally [] [] []
+begins_at told text before left taken reader tally held gave to_read none_taken no_refusal no_hunger = record {
   rest = text;
-  replies = [];
-  history = no_push;
-  to_read = subst (λ l. IsToRead reader l text) (sym told) to_read;
-  progress = progress_begins text;
-  holds = subst (λ h. Holds h no_push) (sym nothing) (record { rows_are = refl; count = refl });
+  to_read = subst (λ l. IsToRead reader l text) (sym held) to_read;
+  progress = progress_begins told text;
   written = gave ∙ ap Some (sym (append-nil before));
   refused = no_refusal;
   starved = no_hunger;
-  took = ([], subst (λ l. Consumes (Some text) l []) (sym told) refl, none_taken ∙ refl);
+  took = ([], subst (λ l. Consumes (Some text) l []) (sym held) refl, none_taken ∙ refl);
 }
 
 -- Nothing was taken.

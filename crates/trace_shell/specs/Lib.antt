@@ -1,4 +1,3 @@
-pub mod Holding
 pub mod Turn
 pub mod Real
 pub mod Arguments

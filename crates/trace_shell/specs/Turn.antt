@@ -1,21 +1,24 @@
 -- Private mechanism of a session: what a turn does, in which one line is read and answered, and its reply written; and
 -- what a session, and a line alone, come to. A run is specified in session_meaning.
-use Rattle.std.specs.Prelude.{◌≡◌, ℕ, List, [], ◌∷◌, ◌++◌, ◌||◌, Option, Some, None, if◌then◌else◌}
+use Rattle.std.specs.Prelude.{◌≡◌, ◌≢◌, ◌⊎◌, ℕ, List, [], ◌∷◌, ◌++◌, ◌||◌, Option, Some, None, if◌then◌else◌}
 use Rattle.std.specs.List.{list_any}
 use Rattle.std.specs.Io.KnownBytes.{Appends}
 use Rattle.io_edges.specs.Devices.{AppendsPrefix}
 use Rattle.io_edges.specs.Lines.{lines}
 use Rattle.io_edges.specs.Reader.{Reader, IsToRead, TakesBytes}
-use Rattle.session_meaning.specs.declared.ending.Ending.{Ending}
-use Rattle.session_meaning.specs.declared.ending.Ending.TheVariants.{Answered, Refused, Starved, WriteFault}
+use Rattle.command_words.specs.Commands.{Alone, Command, Session as session}
+use Rattle.store_core.specs.declared.error.OpenError.{OpenError}
+use Rattle.store_core.specs.declared.error.OpenError.TheVariants as open_errors
 use Rattle.session_text.specs.declared.reply.Reply.{Reply}
-use Rattle.session_meaning.specs.History.{History, no_push}
-use Rattle.session_text.specs.Items.{AreAsked, Item}
-use Rattle.session_text.specs.Replies.{reply_text}
-use Rattle.session_meaning.specs.Progress.{IsLineAnswered, Progress}
+use Rattle.session_text.specs.Items.{Item}
+use Rattle.session_text.specs.Replies.{not_store_text, reply_text}
+use Rattle.session_meaning.specs.declared.ending.Ending.{Ending}
+use Rattle.session_meaning.specs.declared.ending.Ending.TheVariants.{Answered, BadWords, NotOpened, NotStore, Refused, Starved, WriteFault}
+use Rattle.session_meaning.specs.Asked.{AreAsked, AsksNext, after_lines, after_moment}
+use Rattle.session_meaning.specs.Progress.{Progress}
+use Rattle.session_meaning.specs.Runs.{Does, Edges, HasCause, NeedsNoSource, Outcome}
 use Rattle.session_meaning.specs.Session.{Ends, EndsAlone, Session, is_for_memory, is_refusal, reply_texts}
 use Rattle.trace_shell.specs.declared.session.Tally.{Tally}
-use Rattle.trace_shell.specs.Holding.{Holding, Holds}
 
 -- Which refusals are among the replies, after one more.
 abbrev pub tally_with : Tally → Reply → Tally
@@ -33,38 +36,58 @@ HasGiven old new tally_old tally_new reply (Some Starved) = new ≡ old
 HasGiven old new tally_old tally_new reply (Some WriteFault) = AppendsPrefix old new (reply_text reply)
 HasGiven old new tally_old tally_new reply (Some _) = ⊥
 
--- Where a session is between two lines: what is to be read, how far it came in `text`, what is held, what stands written
--- after `before`, and which texts the maker refused so far.
-pub record IsAt (text before : List ℕ) (left taken : Option (List ℕ)) (reader : Reader) (held : Holding) (tally : Tally) (blamed : List (List ℕ)) : Type 0 where
+-- Where a session is between two lines: what is to be read, how far it came in `text` and with the moments that the clock told
+-- at first, and what stands written after `before`.
+pub record IsAt (told : Option (List ℕ)) (text before : List ℕ) (left taken to_tell : Option (List ℕ)) (reader : Reader) (tally : Tally)
+    (items : List Item) (replies : List Reply) (blamed : List (List ℕ)) : Type 0 where
   pub rest : List ℕ
-  pub replies : List Reply
-  pub history : History
   pub to_read : IsToRead reader left rest
-  pub progress : Progress text rest blamed replies history
-  pub holds : Holds held history
+  pub progress : Progress told text rest blamed items to_tell
   pub written : taken ≡ Some (before ++ reply_texts replies)
   pub refused : tally.refused ≡ list_any is_refusal replies
   pub starved : tally.starved ≡ list_any is_for_memory replies
   pub took : TakesBytes (Some text) left 0 reader.taken
 
 -- What a session came to that read `text` and ended so, where the maker refused these texts.
-pub record Came (text before : List ℕ) (left taken : Option (List ℕ)) (ending : Ending) (blamed : List (List ℕ)) : Type 0 where
+pub record Came (told : Option (List ℕ)) (text before : List ℕ) (left taken to_tell : Option (List ℕ)) (ending : Ending)
+    (items : List Item) (replies : List Reply) (blamed : List (List ℕ)) : Type 0 where
   pub answered : List (List ℕ)
   pub later : List (List ℕ)
-  pub items : List Item
-  pub replies : List Reply
-  pub last : History
   pub lines_are : lines text ≡ answered ++ later
-  pub asked : AreAsked answered items blamed
-  pub session : Session no_push items replies last
+  pub asked : AreAsked answered told items blamed
+  pub clock : to_tell ≡ after_lines answered told
   pub ends : Ends ending text later left before replies taken
 
--- What a line came to that was answered alone, where the maker refused these texts.
-abbrev pub CameAlone : List ℕ → List ℕ → Option (List ℕ) → Ending → List (List ℕ) → Type 0
-CameAlone line before taken ending blamed =
-    (reply : Reply) × (after : History) × IsLineAnswered line blamed no_push reply after × EndsAlone ending before reply taken
-
 -- What a turn leaves: the session is at its next line, or it ended.
-abbrev pub Turned : List ℕ → List ℕ → Option (List ℕ) → Option (List ℕ) → Reader → Holding → Tally → List (List ℕ) → Option Ending → Type 0
-Turned text before left taken reader held tally blamed None = IsAt text before left taken reader held tally blamed
-Turned text before left taken reader held tally blamed (Some ending) = Came text before left taken ending blamed
+abbrev pub Turned : Option (List ℕ) → List ℕ → List ℕ → Option (List ℕ) → Option (List ℕ) → Option (List ℕ) → Reader → Tally
+    → List Item → List Reply → List (List ℕ) → Option Ending → Type 0
+Turned told text before left taken to_tell reader tally items replies blamed None =
+    IsAt told text before left taken to_tell reader tally items replies blamed
+Turned told text before left taken to_tell reader tally items replies blamed (Some ending) =
+    Came told text before left taken to_tell ending items replies blamed
+
+-- What a command came to over a store that was opened.
+abbrev pub CameOver : Command → (old_left old_taken told left taken to_tell : Option (List ℕ)) → Ending → List Item → List Reply → List (List ℕ) → Type 0
+CameOver session old_left old_taken told left taken to_tell ending items replies blamed =
+    (text before : List ℕ) → old_left ≡ Some text → old_taken ≡ Some before
+    → Came told text before left taken to_tell ending items replies blamed
+CameOver (Alone line) old_left old_taken told left taken to_tell ending items replies blamed =
+    (item : Item) × (reply : Reply) × (items ≡ item ∷ []) × (replies ≡ reply ∷ []) × NeedsNoSource ending
+    × AsksNext told line blamed item × (to_tell ≡ after_moment told)
+    × ((before : List ℕ) → old_taken ≡ Some before → EndsAlone ending before reply taken)
+
+-- How a run ends whose store wasn't opened, and what it wrote: which bytes are no store's, or a first part of that where the sink
+-- failed; or nothing.
+abbrev pub IsRefusedStore : OpenError → Ending → Option (List ℕ) → Option (List ℕ) → Type 0
+IsRefusedStore open_errors.Fault ending old new = (ending ≡ NotOpened) × (new ≡ old)
+IsRefusedStore open_errors.Memory ending old new = (ending ≡ Starved) × (new ≡ old)
+IsRefusedStore (open_errors.NotStore file at) ending old new =
+    ((ending ≡ NotStore file at) × Appends old new (not_store_text file at))
+    ⊎ (((ending ≡ Starved) × (new ≡ old)) ⊎ ((ending ≡ WriteFault) × AppendsPrefix old new (not_store_text file at)))
+
+-- What words ask was done. It is a run, where the words ask this.
+pub record HasDone (c : Command) (o : Outcome) (old new : Edges) : Type 0 where
+  pub does : Does c o old new
+  pub session : Session o.first o.items o.replies o.last
+  pub cause : HasCause o.ending old new
+  pub asked : o.ending ≢ BadWords

@@ -1,39 +1,156 @@
-//! What the words of the command line say is done.
+//! What the words of the command line say is done, on the store of a disk.
 
-ghost use Rattle.std.specs.Prelude.{◌≡◌, ◌≢◌, List, [], map, string_bytes, ℕ};
+ghost use Rattle.std.specs.Prelude.{◌≡◌, ◌≢◌, List, Option, [], map, string_bytes, ℕ, IsTrue};
 ghost use Rattle.clap.specs.Words.{fault_of};
-ghost use Rattle.command_words.specs.Commands.{Alone, Spells};
+ghost use Rattle.command_words.specs.Commands.{Alone, Spells, command_of};
 ghost use Rattle.command_words.specs.Table.{words_app};
-ghost use Rattle.session_meaning.specs.Runs.{IsRunOf, Outcome, edges};
+ghost use Rattle.io_edges.specs.Lines.{taken_limit};
+ghost use Rattle.io_edges.specs.Reader.{TakesBytes};
+ghost use Rattle.span_types.specs.Faults.{Rose};
+ghost use Rattle.store_images.specs.Stored.{IsSoundImage};
+ghost use Rattle.store_model.specs.Holds.{Hold};
+ghost use Rattle.session_text.specs.declared.reply.Reply.{Reply};
+ghost use Rattle.session_text.specs.Items.{Item};
+ghost use Rattle.session_meaning.specs.declared.ending.Ending.TheVariants.{ReadFault, Spent, WriteFault};
+ghost use Rattle.session_meaning.specs.Progress.{HasAnsweredOver};
+ghost use Rattle.session_meaning.specs.Runs.{IsPastOpening, IsRunOf, Outcome, edges};
+ghost use Rattle.session_meaning.specs.Stops.{Recovers};
 ghost use Rattle.traceql_types.specs.Makers.{RefusesOnly};
+ghost use Rattle.trace_shell.specs.Turn.{CameOver, HasDone, IsRefusedStore};
 
 use crate::session::{one_line, session};
 use command_words::{Asked, WordsError, read_words};
-use io_edges::{Sink, Source};
+use disk_model::Device;
+use io_edges::{Clock, Gate, Sink, Source};
 use session_meaning::Ending;
+use session_text::{Refusal, Reply, write_reply};
+use span_types::{Failed, Memory};
 use std::alloc::Global;
+use store_core::{Core, OpenError};
+use store_state::LookPort;
 use traceql_types::PatternMaker;
 
-/// Does what the words say, and tells how it ended.
-pub(crate) fn dispatch<S: Source, K: Sink, P: PatternMaker>(
+/// Does what the words say, and tells how it ended. The disk is handed back.
+pub(crate) fn dispatch<S: Source, K: Sink, D: Device, C: Clock, P: PatternMaker, G: Gate>(
     alloc: Global,
     words: &[String],
     source: &mut S,
     sink: &mut K,
+    disk: D,
+    clock: &mut C,
     patterns: &mut P,
-) -> Ending
-    ensures ran { (o : Outcome) × (o.ending ≡ result) × RefusesOnly P.makes patterns.old patterns.new o.refused
-        × IsRunOf (map string_bytes words.now) o (edges S.left S.faults K.taken K.faults source.old sink.old)
-        (edges S.left S.faults K.taken K.faults source.new sink.new) }
+    gate: &G,
+) -> (Ending, D)
+    ensures ran { (o : Outcome) × (o.ending ≡ result.0) × RefusesOnly P.makes patterns.old patterns.new o.refused
+        × IsRunOf (map string_bytes words.now) o
+        (edges S.left S.faults K.taken K.faults C.moments D.Device.own source.old sink.old clock.old disk)
+        (edges S.left S.faults K.taken K.faults C.moments D.Device.own source.new sink.new clock.new result.1) }
+    ensures recovers { IsTrue (D.tells disk) → IsSoundImage (D.held disk)
+        → (o : Outcome) × (o.ending ≡ result.0) × RefusesOnly P.makes patterns.old patterns.new o.refused
+        × IsRunOf (map string_bytes words.now) o
+        (edges S.left S.faults K.taken K.faults C.moments D.Device.own source.old sink.old clock.old disk)
+        (edges S.left S.faults K.taken K.faults C.moments D.Device.own source.new sink.new clock.new result.1)
+        × Recovers D.Device.own disk result.1 o }
     ensures nothing_done { fault_of words_app (map string_bytes words.now) ≢ []
-        → (source.new ≡ source.old) × (sink.new ≡ sink.old) × (patterns.new ≡ patterns.old) }
+        → (source.new ≡ source.old) × (sink.new ≡ sink.old) × (result.1 ≡ disk) × (clock.new ≡ clock.old)
+        × (patterns.new ≡ patterns.old) }
     ensures alone { (line : List ℕ) → Spells (map string_bytes words.now) (Alone line)
         → source.new ≡ source.old }
 {
     match read_words(alloc, words) {
-        Ok(Asked::Session) => session(alloc, source, sink, patterns),
-        Ok(Asked::Alone { line }) => one_line(alloc, sink, patterns, line.as_str().as_bytes()),
-        Err(WordsError::Refused) => Ending::BadWords,
-        Err(WordsError::Memory) => Ending::Starved,
+        Ok(asked) => on_store(alloc, asked, source, sink, disk, clock, patterns, gate),
+        Err(WordsError::Refused) => (Ending::BadWords, disk),
+        Err(WordsError::Memory) => (Ending::Starved, disk),
+    }
+}
+
+// Opens the store of the disk, does what is asked, and closes it.
+fn on_store<S: Source, K: Sink, D: Device, C: Clock, P: PatternMaker, G: Gate>(
+    alloc: Global,
+    asked: Asked,
+    source: &mut S,
+    sink: &mut K,
+    disk: D,
+    clock: &mut C,
+    patterns: &mut P,
+    gate: &G,
+) -> (Ending, D)
+    ensures ran { (o : Outcome) × (o.ending ≡ result.0) × RefusesOnly P.makes patterns.old patterns.new o.refused
+        × HasDone (command_of asked) o
+        (edges S.left S.faults K.taken K.faults C.moments D.Device.own source.old sink.old clock.old disk)
+        (edges S.left S.faults K.taken K.faults C.moments D.Device.own source.new sink.new clock.new result.1) }
+    ensures recovers { IsTrue (D.tells disk) → IsSoundImage (D.held disk)
+        → (o : Outcome) × (o.ending ≡ result.0) × RefusesOnly P.makes patterns.old patterns.new o.refused
+        × HasDone (command_of asked) o
+        (edges S.left S.faults K.taken K.faults C.moments D.Device.own source.old sink.old clock.old disk)
+        (edges S.left S.faults K.taken K.faults C.moments D.Device.own source.new sink.new clock.new result.1)
+        × Recovers D.Device.own disk result.1 o }
+    ensures alone { (line : List ℕ) → command_of asked ≡ Alone line → source.new ≡ source.old }
+{
+    let moment = clock.now();
+    match Core::open_store(alloc, disk, moment) {
+        Ok(core) => {
+            let mut core = core;
+            let ending = do_asked(alloc, asked, source, sink, &mut core, clock, patterns, gate);
+            (ending, core.close())
+        }
+        Err((error, disk)) => (refuse_store(alloc, sink, error), disk),
+    }
+}
+
+// Does what is asked over the port of a store that was opened.
+fn do_asked<S: Source, K: Sink, Q: LookPort, C: Clock, P: PatternMaker, G: Gate>(
+    alloc: Global,
+    asked: Asked,
+    source: &mut S,
+    sink: &mut K,
+    port: &mut Q,
+    clock: &mut C,
+    patterns: &mut P,
+    gate: &G,
+) -> Ending
+    requires { (held : List Hold) × Q.meaning.holds port.old held }
+    ensures came { (items : List Item) × (replies : List Reply) × (blamed : List (List ℕ))
+        × RefusesOnly P.makes patterns.old patterns.new blamed
+        × HasAnsweredOver Q.meaning port.old items replies port.new
+        × CameOver (command_of asked) (S.left source.old) (K.taken sink.old) (C.moments clock.old)
+        (S.left source.new) (K.taken sink.new) (C.moments clock.new) result items replies blamed }
+    ensures write_fault { result ≡ WriteFault → Rose (K.faults sink.old) (K.faults sink.new) }
+    ensures read_fault { result ≡ ReadFault → Rose (S.faults source.old) (S.faults source.new) }
+    ensures spent { result ≡ Spent → TakesBytes (S.left source.old) (S.left source.new) 0 taken_limit }
+    ensures endings { IsPastOpening result }
+    ensures alone { (line : List ℕ) → command_of asked ≡ Alone line → source.new ≡ source.old }
+{
+    match asked {
+        Asked::Session => session(alloc, source, sink, port, clock, patterns, gate),
+        Asked::Alone { line } => one_line(
+            alloc,
+            sink,
+            port,
+            clock,
+            patterns,
+            gate,
+            line.as_str().as_bytes(),
+        ),
+    }
+}
+
+// Tells why the store wasn't opened where its bytes are no store's, and how the run ends.
+fn refuse_store<K: Sink>(alloc: Global, sink: &mut K, error: OpenError) -> Ending
+    ensures told { IsRefusedStore error result (K.taken sink.old) (K.taken sink.new) }
+    ensures write_fault { result ≡ WriteFault → Rose (K.faults sink.old) (K.faults sink.new) }
+{
+    let (file, at) = match error {
+        OpenError::Fault => return Ending::NotOpened,
+        OpenError::Memory => return Ending::Starved,
+        OpenError::NotStore { file, at } => (file, at),
+    };
+    let text = match write_reply(alloc, &Reply::Refused(Refusal::NotStore { file, at })) {
+        Ok(text) => text,
+        Err(Memory) => return Ending::Starved,
+    };
+    match sink.put(text.as_str().as_bytes()) {
+        Ok(()) => Ending::NotStore { file, at },
+        Err(Failed) => Ending::WriteFault,
     }
 }

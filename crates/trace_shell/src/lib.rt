@@ -1,13 +1,12 @@
-//! The top call: a run of the program over a source, a sink and a disk, and the adapters over the real ones.
+//! The top call: a run of the program over a source, a sink and a disk, and the adapters over the real streams.
 #![tactic(auto)]
 
 mod dispatch;
-mod held;
 mod program;
 mod real;
 mod session;
 mod top;
 
-pub use program::{Unread, all_arguments, run_program};
+pub use program::{Given, Unread, all_arguments, folder_and_words};
 pub use real::{StdinSource, StdoutSink};
 pub use top::{Ended, exit_code, run, run_alone};

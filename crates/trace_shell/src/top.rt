@@ -1,15 +1,18 @@
 //! The top call.
 
-ghost use Rattle.std.specs.Prelude.{◌≡◌, ◌≢◌, List, [], map, string_bytes, ℕ};
+ghost use Rattle.std.specs.Prelude.{◌≡◌, ◌≢◌, List, [], map, string_bytes, ℕ, IsTrue};
 ghost use Rattle.std.specs.Process.{exit_status};
 ghost use Rattle.clap.specs.Words.{fault_of};
 ghost use Rattle.command_words.specs.Commands.{Alone, Spells};
 ghost use Rattle.command_words.specs.Table.{words_app};
 ghost use Rattle.session_meaning.specs.Runs.{IsRunOf, Outcome, edges};
 ghost use Rattle.session_meaning.specs.Statuses.{status_of};
+ghost use Rattle.session_meaning.specs.Stops.{Recovers};
+ghost use Rattle.store_images.specs.Stored.{IsSoundImage};
 ghost use Rattle.traceql_types.specs.Makers.{RefusesOnly};
 
 use crate::dispatch::dispatch;
+use disk_model::Device;
 use io_edges::{Clock, Gate, Sink, Source};
 use std::alloc::Global;
 use std::process::ExitCode;
@@ -26,18 +29,30 @@ pub struct Ended<D> {
     pub disk: D,
 }
 
-/// The exit code of a program that ended so.
-pub fn exit_code(ended: Ended<()>) -> ExitCode
+/// The exit code of a program that ended so. The disk is let go.
+pub fn exit_code<D: Drop>(ended: Ended<D>) -> ExitCode
     ensures { exit_status result ≡ ended.status }
 {
-    let Ended { status, disk: () } = ended;
+    let Ended {
+        status,
+        disk: _disk,
+    } = ended;
     ExitCode::from(status)
 }
 
-/// Does what the words of the command line say: `session` answers each line of the source, `trace ID` the one line
-/// `trace ID`, and `search QUERY` with its options the one line that these make. It needs no right to wait. The disk is
-/// handed back as it came, and the clock and the gate aren't used yet.
-pub fn run_alone<R: Threads + Sync, S: Source, K: Sink, D, C: Clock, P: PatternMaker, G: Gate>(
+/// Does what the words of the command line say on the store of the disk: `session` answers each line of the source, `trace ID`
+/// the one line `trace ID`, and `search QUERY` with its options the one line that these make. The store is opened at the
+/// clock's first moment, in nanoseconds, and a new one is made on a disk that has none; the clock is then asked once for each
+/// line. The disk is handed back as the store left it. No right to wait is needed.
+pub fn run_alone<
+    R: Threads + Sync,
+    S: Source,
+    K: Sink,
+    D: Device,
+    C: Clock,
+    P: PatternMaker,
+    G: Gate,
+>(
     _rt: &R,
     alloc: Global,
     words: &[String],
@@ -46,23 +61,31 @@ pub fn run_alone<R: Threads + Sync, S: Source, K: Sink, D, C: Clock, P: PatternM
     disk: D,
     clock: &mut C,
     patterns: &mut P,
-    _gate: &G,
+    gate: &G,
 ) -> Ended<D>
     // What the words ask was done, the maker refused what the outcome says, and the status tells how it ended.
     ensures ran { (o : Outcome) × RefusesOnly P.makes patterns.old patterns.new o.refused
-        × IsRunOf (map string_bytes words.now) o (edges S.left S.faults K.taken K.faults source.old sink.old)
-        (edges S.left S.faults K.taken K.faults source.new sink.new) × (result.status ≡ status_of o.ending) }
+        × IsRunOf (map string_bytes words.now) o
+        (edges S.left S.faults K.taken K.faults C.moments D.Device.own source.old sink.old clock.old disk)
+        (edges S.left S.faults K.taken K.faults C.moments D.Device.own source.new sink.new clock.new result.disk)
+        × (result.status ≡ status_of o.ending) }
+    // Over a disk whose bytes are told and are a store's: it was done from what they store on, and what is stored as the disk is
+    // handed back, or whenever the run is stopped, holds every push that was accepted by then.
+    ensures recovers { IsTrue (D.tells disk) → IsSoundImage (D.held disk)
+        → (o : Outcome) × RefusesOnly P.makes patterns.old patterns.new o.refused
+        × IsRunOf (map string_bytes words.now) o
+        (edges S.left S.faults K.taken K.faults C.moments D.Device.own source.old sink.old clock.old disk)
+        (edges S.left S.faults K.taken K.faults C.moments D.Device.own source.new sink.new clock.new result.disk)
+        × (result.status ≡ status_of o.ending) × Recovers D.Device.own disk result.disk o }
     // Nothing is done for words at which `clap` finds a fault.
     ensures nothing_done { fault_of words_app (map string_bytes words.now) ≢ []
-        → (source.new ≡ source.old) × (sink.new ≡ sink.old) × (patterns.new ≡ patterns.old) }
+        → (source.new ≡ source.old) × (sink.new ≡ sink.old) × (result.disk ≡ disk) × (clock.new ≡ clock.old)
+        × (patterns.new ≡ patterns.old) }
     // A command that answers one line alone takes nothing of the source.
     ensures alone { (line : List ℕ) → Spells (map string_bytes words.now) (Alone line)
         → source.new ≡ source.old }
-    // The disk is handed back as it came, and the clock isn't used.
-    ensures untouched { (result.disk ≡ disk) × (clock.new ≡ clock.old) }
 {
-    let _ = clock;
-    let ending = dispatch(alloc, words, source, sink, patterns);
+    let (ending, disk) = dispatch(alloc, words, source, sink, disk, clock, patterns, gate);
     Ended {
         status: ending.status(),
         disk,
@@ -70,7 +93,15 @@ pub fn run_alone<R: Threads + Sync, S: Source, K: Sink, D, C: Clock, P: PatternM
 }
 
 /// The top call: as `run_alone`, and from the first command on that needs threads it will wait for them.
-pub fn run<R: Threads + Wait + Sync, S: Source, K: Sink, D, C: Clock, P: PatternMaker, G: Gate>(
+pub fn run<
+    R: Threads + Wait + Sync,
+    S: Source,
+    K: Sink,
+    D: Device,
+    C: Clock,
+    P: PatternMaker,
+    G: Gate,
+>(
     rt: &R,
     alloc: Global,
     words: &[String],
@@ -83,16 +114,25 @@ pub fn run<R: Threads + Wait + Sync, S: Source, K: Sink, D, C: Clock, P: Pattern
 ) -> Ended<D>
     // What the words ask was done, the maker refused what the outcome says, and the status tells how it ended.
     ensures ran { (o : Outcome) × RefusesOnly P.makes patterns.old patterns.new o.refused
-        × IsRunOf (map string_bytes words.now) o (edges S.left S.faults K.taken K.faults source.old sink.old)
-        (edges S.left S.faults K.taken K.faults source.new sink.new) × (result.status ≡ status_of o.ending) }
+        × IsRunOf (map string_bytes words.now) o
+        (edges S.left S.faults K.taken K.faults C.moments D.Device.own source.old sink.old clock.old disk)
+        (edges S.left S.faults K.taken K.faults C.moments D.Device.own source.new sink.new clock.new result.disk)
+        × (result.status ≡ status_of o.ending) }
+    // Over a disk whose bytes are told and are a store's: it was done from what they store on, and what is stored as the disk is
+    // handed back, or whenever the run is stopped, holds every push that was accepted by then.
+    ensures recovers { IsTrue (D.tells disk) → IsSoundImage (D.held disk)
+        → (o : Outcome) × RefusesOnly P.makes patterns.old patterns.new o.refused
+        × IsRunOf (map string_bytes words.now) o
+        (edges S.left S.faults K.taken K.faults C.moments D.Device.own source.old sink.old clock.old disk)
+        (edges S.left S.faults K.taken K.faults C.moments D.Device.own source.new sink.new clock.new result.disk)
+        × (result.status ≡ status_of o.ending) × Recovers D.Device.own disk result.disk o }
     // Nothing is done for words at which `clap` finds a fault.
     ensures nothing_done { fault_of words_app (map string_bytes words.now) ≢ []
-        → (source.new ≡ source.old) × (sink.new ≡ sink.old) × (patterns.new ≡ patterns.old) }
+        → (source.new ≡ source.old) × (sink.new ≡ sink.old) × (result.disk ≡ disk) × (clock.new ≡ clock.old)
+        × (patterns.new ≡ patterns.old) }
     // A command that answers one line alone takes nothing of the source.
     ensures alone { (line : List ℕ) → Spells (map string_bytes words.now) (Alone line)
         → source.new ≡ source.old }
-    // The disk is handed back as it came, and the clock isn't used.
-    ensures untouched { (result.disk ≡ disk) × (clock.new ≡ clock.old) }
 {
     run_alone(rt, alloc, words, source, sink, disk, clock, patterns, gate)
 }

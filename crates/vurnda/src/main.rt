@@ -1,21 +1,28 @@
-//! The program: `vurnda FOLDER WORD ..` is one call over the real objects, and ends with its status.
+//! The program: `vurnda FOLDER WORD ..` is one call over the real objects, on the store that lies in the folder, and ends with
+//! its status.
 #![tactic(auto)]
 
-use io_edges::{FixedClock, OpenGate};
-use span_types::Moments;
+use folder_disk::{FolderDisk, SystemClock};
+use io_edges::OpenGate;
 use std::process::ExitCode;
-use trace_shell::{StdinSource, StdoutSink, all_arguments, exit_code, run_program};
+use trace_shell::{
+    Given, StdinSource, StdoutSink, all_arguments, exit_code, folder_and_words, run,
+};
 use traceql_types::RegexMaker;
 
 fn main(rt: HostRuntime) -> ExitCode {
-    exit_code(run_program(
+    let Given { folder, words } = match folder_and_words(all_arguments(&rt)) {
+        Ok(given) => given,
+        Err(ending) => return ExitCode::from(ending.status()),
+    };
+    exit_code(run(
         &rt,
         rt.alloc(),
-        all_arguments(&rt),
+        words.as_slice(),
         &mut StdinSource::new(rt.stdin()),
         &mut StdoutSink::new(rt.stdout()),
-        (),
-        &mut FixedClock::new(Moments::of(Vec::new(rt.alloc()))),
+        FolderDisk::new(rt, rt.alloc(), folder),
+        &mut SystemClock::new(rt),
         &mut RegexMaker::new(rt.alloc()),
         &OpenGate,
     ))

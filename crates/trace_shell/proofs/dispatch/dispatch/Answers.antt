@@ -1,65 +1,67 @@
-use Rattle.std.proofs.Common.{◌≡◌, Err, Ok, List, ap, map, string_bytes, subst, ◌∙◌, ℕ}
+use Rattle.std.proofs.Common.{◌≡◌, Err, Ok, List, ap, map, refl, string_bytes, subst, ◌∙◌, ℕ}
 use Rattle.std.specs.Prelude.{IfOk}
-use Rattle.command_words.specs.Commands.{Alone, Session as session, Spells, command_of}
-use Rattle.command_words.proofs.Spelled.{spelled_clean, strings_are_text}
+use Rattle.command_words.specs.Commands.{Spells, command_of}
+use Rattle.command_words.proofs.Spelled.{spelled_clean, spelled_one}
+use Rattle.session_meaning.specs.declared.ending.Ending.TheVariants.{BadWords, Starved}
 use Rattle.session_meaning.specs.Runs.{Edges, edges}
-use Rattle.trace_shell.specs.Turn.{CameAlone}
-use Rattle.trace_shell.proofs.RunLemmas.{alone_ends, alone_runs, cause_of, no_line_of_session, refused_runs, session_runs, starved_runs}
+use Rattle.traceql_types.proofs.Calls.{refuses-none}
+use Rattle.trace_shell.proofs.RunLemmas.{is_run, refused_runs, starved_runs, unopened, untouched_recovers}
 use Rattle.trace_shell.proofs.dispatch.dispatch.Goals as goal
 
-pub returns-in-Ok-Session-clause-ran : goal.returns-in-Ok-Session-clause-ran
-returns-in-Ok-Session-clause-ran g c =
+pub returns-in-Ok-clause-ran : goal.returns-in-Ok-clause-ran
+returns-in-Ok-clause-ran g c =
     let words = map string_bytes c.args.words.now in
-    let asks : Spells words session = subst (λ r. IfOk r (λ a. Spells words (command_of a))) (c.in-Ok-Session.is ∙ ap Ok c.in-Ok-Session.field-0-is) c.read_words.ensures.asked in
-    let old : Edges = edges g.S.Source.left g.S.Source.faults g.K.Sink.taken g.K.Sink.faults c.args.source.now c.args.sink.now in
-    let new : Edges = edges g.S.Source.left g.S.Source.faults g.K.Sink.taken g.K.Sink.faults c.session.new.source c.session.new.sink in
-    let ran = c.session.ensures.ran in
-    session_runs g.P.PatternMaker.makes _ _ ran.0 ran.1 words c.session.result old new asks ran.2
-    (cause_of c.session.result old new c.session.ensures.write_fault c.session.ensures.read_fault c.session.ensures.spent)
-    c.session.ensures.words
+    let asks : Spells words (command_of c.in-Ok.asked) = c.in-Ok.ensures.asked in
+    let ran = c.on_store.ensures.ran in
+    (ran.0, ran.1, ran.2, is_run words (command_of c.in-Ok.asked) ran.0 _ _ asks ran.3)
 
-pub returns-in-Ok-Session-clause-nothing_done : goal.returns-in-Ok-Session-clause-nothing_done
-returns-in-Ok-Session-clause-nothing_done g c = λ faulty.
+pub returns-in-Ok-clause-recovers : goal.returns-in-Ok-clause-recovers
+returns-in-Ok-clause-recovers g c = λ told sound.
     let words = map string_bytes c.args.words.now in
-    let asks : Spells words session = subst (λ r. IfOk r (λ a. Spells words (command_of a))) (c.in-Ok-Session.is ∙ ap Ok c.in-Ok-Session.field-0-is) c.read_words.ensures.asked in
-    absurd (faulty (spelled_clean words session asks))
+    let asks : Spells words (command_of c.in-Ok.asked) = c.in-Ok.ensures.asked in
+    let ran = c.on_store.ensures.recovers told sound in
+    (ran.0, ran.1, ran.2, is_run words (command_of c.in-Ok.asked) ran.0 _ _ asks ran.3, ran.4)
 
-pub returns-in-Ok-Session-clause-alone : goal.returns-in-Ok-Session-clause-alone
-returns-in-Ok-Session-clause-alone g c = λ line alone.
+pub returns-in-Ok-clause-nothing_done : goal.returns-in-Ok-clause-nothing_done
+returns-in-Ok-clause-nothing_done g c = λ faulty.
     let words = map string_bytes c.args.words.now in
-    let asks : Spells words session = subst (λ r. IfOk r (λ a. Spells words (command_of a))) (c.in-Ok-Session.is ∙ ap Ok c.in-Ok-Session.field-0-is) c.read_words.ensures.asked in
-    absurd (no_line_of_session words line asks alone)
+    absurd (faulty (spelled_clean words (command_of c.in-Ok.asked) c.in-Ok.ensures.asked))
 
-pub returns-in-Ok-Alone-clause-ran : goal.returns-in-Ok-Alone-clause-ran
-returns-in-Ok-Alone-clause-ran g c =
+pub returns-in-Ok-clause-alone : goal.returns-in-Ok-clause-alone
+returns-in-Ok-clause-alone g c = λ line alone.
     let words = map string_bytes c.args.words.now in
-    let line : List ℕ = string_bytes c.in-Ok-Alone.line in
-    let asks : Spells words (Alone line) = subst (λ r. IfOk r (λ a. Spells words (command_of a))) (c.in-Ok-Alone.is ∙ ap Ok c.in-Ok-Alone.field-0-is) c.read_words.ensures.asked in
-    let old : Edges = edges g.S.Source.left g.S.Source.faults g.K.Sink.taken g.K.Sink.faults c.args.source.now c.args.sink.now in
-    let new : Edges = edges g.S.Source.left g.S.Source.faults g.K.Sink.taken g.K.Sink.faults c.args.source.now c.one_line.new.sink in
-    let same : c.as_bytes.result.now ≡ line = c.as_bytes.ensures.value ∙ c.as_str.ensures.value in
-    let ends = alone_ends c.one_line.result c.one_line.ensures.endings in
-    let told = c.one_line.ensures.told in
-    alone_runs g.P.PatternMaker.makes _ _ told.0 told.1 words line c.one_line.result old new asks
-    (λ before took. subst (λ (l : List ℕ). CameAlone l before new.taken c.one_line.result told.0) same (told.2 before took))
-    (cause_of c.one_line.result old new c.one_line.ensures.write_fault (λ e. absurd (ends.1 e)) (λ e. absurd (ends.2 e)))
-    ends.0 ends.3
-
-pub returns-in-Ok-Alone-clause-nothing_done : goal.returns-in-Ok-Alone-clause-nothing_done
-returns-in-Ok-Alone-clause-nothing_done g c = λ faulty.
-    let words = map string_bytes c.args.words.now in
-    let line : List ℕ = string_bytes c.in-Ok-Alone.line in
-    let asks : Spells words (Alone line) = subst (λ r. IfOk r (λ a. Spells words (command_of a))) (c.in-Ok-Alone.is ∙ ap Ok c.in-Ok-Alone.field-0-is) c.read_words.ensures.asked in
-    absurd (faulty (spelled_clean words (Alone line) asks))
+    c.on_store.ensures.alone line (spelled_one words (command_of c.in-Ok.asked) _ c.in-Ok.ensures.asked alone)
 
 pub returns-in-Err-Refused-clause-ran : goal.returns-in-Err-Refused-clause-ran
-returns-in-Err-Refused-clause-ran g c =
-    let words = map string_bytes c.args.words.now in
-    refused_runs g.P.PatternMaker.makes c.args.patterns.now words (edges g.S.Source.left g.S.Source.faults g.K.Sink.taken g.K.Sink.faults c.args.source.now c.args.sink.now)
-    (c.read_words.ensures.refused (c.in-Err-Refused.is ∙ ap Err c.in-Err-Refused.field-0-is))
+returns-in-Err-Refused-clause-ran g c = (
+  unopened BadWords,
+  refl,
+  refuses-none g.P.PatternMaker.makes _ c.args.patterns.now c.args.patterns.now,
+  refused_runs (map string_bytes c.args.words.now) _ (c.read_words.ensures.refused (c.in-Err-Refused.is ∙ ap Err c.in-Err-Refused.field-0-is)),
+)
+
+pub returns-in-Err-Refused-clause-recovers : goal.returns-in-Err-Refused-clause-recovers
+returns-in-Err-Refused-clause-recovers g c = λ told sound. (
+  unopened BadWords,
+  refl,
+  refuses-none g.P.PatternMaker.makes _ c.args.patterns.now c.args.patterns.now,
+  refused_runs (map string_bytes c.args.words.now) _ (c.read_words.ensures.refused (c.in-Err-Refused.is ∙ ap Err c.in-Err-Refused.field-0-is)),
+  untouched_recovers g.D.Device g.met.D.Device.only_now c.args.disk BadWords,
+)
 
 pub returns-in-Err-Memory-clause-ran : goal.returns-in-Err-Memory-clause-ran
-returns-in-Err-Memory-clause-ran g c =
-    starved_runs g.P.PatternMaker.makes c.args.patterns.now (map string_bytes c.args.words.now)
-    (edges g.S.Source.left g.S.Source.faults g.K.Sink.taken g.K.Sink.faults c.args.source.now c.args.sink.now)
-    (strings_are_text c.args.words.now)
+returns-in-Err-Memory-clause-ran g c = (
+  unopened Starved,
+  refl,
+  refuses-none g.P.PatternMaker.makes _ c.args.patterns.now c.args.patterns.now,
+  starved_runs (map string_bytes c.args.words.now) _,
+)
+
+pub returns-in-Err-Memory-clause-recovers : goal.returns-in-Err-Memory-clause-recovers
+returns-in-Err-Memory-clause-recovers g c = λ told sound. (
+  unopened Starved,
+  refl,
+  refuses-none g.P.PatternMaker.makes _ c.args.patterns.now c.args.patterns.now,
+  starved_runs (map string_bytes c.args.words.now) _,
+  untouched_recovers g.D.Device g.met.D.Device.only_now c.args.disk Starved,
+)

@@ -1,0 +1,96 @@
+use Rattle.std.proofs.Common.{◌≡◌, Err, List, Option, [], ap, refl, subst, sym, ◌∙◌, ℕ}
+use Rattle.command_words.specs.Commands.{command_of}
+use Rattle.disk_model.specs.Images.{Image}
+use Rattle.session_meaning.specs.Runs.{Edges, edges}
+use Rattle.session_meaning.specs.Stops.{Recovers}
+use Rattle.store_core.proofs.Past.{stands_since_now}
+use Rattle.store_core.proofs.PortEvents.{holds_nothing}
+use Rattle.store_core.specs.Opening.{StoreBreaks}
+use Rattle.store_images.specs.Stored.{IsSoundImage}
+use Rattle.store_model.specs.History.{count_of}
+use Rattle.client_run.proofs.CoreLemmas.{shows_stepped, since_stepped}
+use Rattle.traceql_types.proofs.Calls.{refuses-none}
+use Rattle.trace_shell.specs.Turn.{CameOver}
+use Rattle.trace_shell.proofs.RunLemmas.{cause_of, if_told, unopened, unopened_done, unopened_recovers}
+use Rattle.trace_shell.proofs.StoreLemmas.{in_a_store, opened_done, opened_recovers}
+use Rattle.trace_shell.proofs.dispatch.on_store.Goals as goal
+
+pub do_asked-requires : goal.do_asked-requires
+do_asked-requires g c = let begins = c.in-Ok.ensures.opened.begins in ([], holds_nothing g.D.Device c.in-Ok.core begins.0 begins.1.shows)
+
+pub returns-in-Ok-clause-ran : goal.returns-in-Ok-clause-ran
+returns-in-Ok-clause-ran g c =
+    let d = g.D.Device in
+    let disk = c.args.disk in
+    let core = c.in-Ok.core in
+    let later = c.do_asked-ending.new.port in
+    let moment = c.now-moment.result in
+    let begins = c.in-Ok.ensures.opened.begins in
+    let came = c.do_asked-ending.ensures.came in
+    let steps = shows_stepped d core later came.4.calls came.4.made begins.0 begins.1.shows in
+    let old : Edges = edges g.S.Source.left g.S.Source.faults g.K.Sink.taken g.K.Sink.faults g.C.Clock.moments d c.args.source.now c.args.sink.now c.args.clock.now disk in
+    let new : Edges = edges g.S.Source.left g.S.Source.faults g.K.Sink.taken g.K.Sink.faults g.C.Clock.moments d c.do_asked-ending.new.source c.do_asked-ending.new.sink c.do_asked-ending.new.clock c.close.result in (
+      in_a_store d moment core later begins.0 steps.machine c.do_asked-ending.result came.0 came.1 came.2,
+      refl,
+      came.3,
+      opened_done d disk moment core later begins.0 steps.machine c.do_asked-ending.result came.0 came.1 came.2 begins.1 came.4 (command_of c.args.asked) old new
+          refl refl (ap d.faults c.close.ensures) c.now-moment.ensures.moment c.in-Ok.ensures.unbroken c.in-Ok.ensures.later steps.steps
+          (subst (λ (o : Option (List ℕ)). CameOver (command_of c.args.asked) old.left old.taken o new.left new.taken new.moments c.do_asked-ending.result came.0 came.1 came.2)
+          c.now-moment.ensures.later came.5)
+          c.do_asked-ending.ensures.endings
+          (cause_of c.do_asked-ending.result old new c.do_asked-ending.ensures.endings c.do_asked-ending.ensures.write_fault c.do_asked-ending.ensures.read_fault c.do_asked-ending.ensures.spent),
+    )
+
+pub returns-in-Ok-clause-recovers : goal.returns-in-Ok-clause-recovers
+returns-in-Ok-clause-recovers g c = λ told sound.
+    let d = g.D.Device in
+    let disk = c.args.disk in
+    let core = c.in-Ok.core in
+    let later = c.do_asked-ending.new.port in
+    let moment = c.now-moment.result in
+    let begins = c.in-Ok.ensures.opened.begins in
+    let came = c.do_asked-ending.ensures.came in
+    let since = stands_since_now d g.met.D.Device.only_now core begins.0 (begins.1.stands (λ t. sound)) in
+    let steps = since_stepped d core later came.4.calls came.4.made begins.0 core.disk (count_of begins.0.history) since in
+    let old : Edges = edges g.S.Source.left g.S.Source.faults g.K.Sink.taken g.K.Sink.faults g.C.Clock.moments d c.args.source.now c.args.sink.now c.args.clock.now disk in
+    let new : Edges = edges g.S.Source.left g.S.Source.faults g.K.Sink.taken g.K.Sink.faults g.C.Clock.moments d c.do_asked-ending.new.source c.do_asked-ending.new.sink c.do_asked-ending.new.clock c.close.result in (
+      in_a_store d moment core later begins.0 steps.machine c.do_asked-ending.result came.0 came.1 came.2,
+      refl,
+      came.3,
+      opened_done d disk moment core later begins.0 steps.machine c.do_asked-ending.result came.0 came.1 came.2 begins.1 came.4 (command_of c.args.asked) old new
+          refl refl (ap d.faults c.close.ensures) c.now-moment.ensures.moment c.in-Ok.ensures.unbroken c.in-Ok.ensures.later steps.steps
+          (subst (λ (o : Option (List ℕ)). CameOver (command_of c.args.asked) old.left old.taken o new.left new.taken new.moments c.do_asked-ending.result came.0 came.1 came.2)
+          c.now-moment.ensures.later came.5)
+          c.do_asked-ending.ensures.endings
+          (cause_of c.do_asked-ending.result old new c.do_asked-ending.ensures.endings c.do_asked-ending.ensures.write_fault c.do_asked-ending.ensures.read_fault c.do_asked-ending.ensures.spent),
+      subst (λ x. Recovers d disk x (in_a_store d moment core later begins.0 steps.machine c.do_asked-ending.result came.0 came.1 came.2)) (sym c.close.ensures)
+          (opened_recovers d disk moment core later begins.0 steps.machine c.do_asked-ending.result came.0 came.1 came.2 begins.1 came.4 told sound
+          c.in-Ok.ensures.kept c.in-Ok.ensures.telling steps.stands),
+    )
+
+pub returns-in-Err-clause-ran : goal.returns-in-Err-clause-ran
+returns-in-Err-clause-ran g c =
+    let d = g.D.Device in
+    let old : Edges = edges g.S.Source.left g.S.Source.faults g.K.Sink.taken g.K.Sink.faults g.C.Clock.moments d c.args.source.now c.args.sink.now c.args.clock.now c.args.disk in
+    let new : Edges = edges g.S.Source.left g.S.Source.faults g.K.Sink.taken g.K.Sink.faults g.C.Clock.moments d c.args.source.now c.refuse_store.new.sink c.now-moment.new.clock c.in-Err.disk in (
+      unopened c.refuse_store.result,
+      refl,
+      refuses-none g.P.PatternMaker.makes _ c.args.patterns.now c.args.patterns.now,
+      unopened_done (command_of c.args.asked) c.in-Err.error c.refuse_store.result old new refl c.refuse_store.ensures.told c.refuse_store.ensures.write_fault c.in-Err.ensures.fault
+          (λ file at is. if_told d c.args.disk (λ image. StoreBreaks image file at × (IsSoundImage image → ⊥))
+          (λ told. (c.in-Err.ensures.not_store told file at is, λ sound. c.in-Err.ensures.sound told sound file at is))),
+    )
+
+pub returns-in-Err-clause-recovers : goal.returns-in-Err-clause-recovers
+returns-in-Err-clause-recovers g c = λ told sound.
+    let d = g.D.Device in
+    let old : Edges = edges g.S.Source.left g.S.Source.faults g.K.Sink.taken g.K.Sink.faults g.C.Clock.moments d c.args.source.now c.args.sink.now c.args.clock.now c.args.disk in
+    let new : Edges = edges g.S.Source.left g.S.Source.faults g.K.Sink.taken g.K.Sink.faults g.C.Clock.moments d c.args.source.now c.refuse_store.new.sink c.now-moment.new.clock c.in-Err.disk in (
+      unopened c.refuse_store.result,
+      refl,
+      refuses-none g.P.PatternMaker.makes _ c.args.patterns.now c.args.patterns.now,
+      unopened_done (command_of c.args.asked) c.in-Err.error c.refuse_store.result old new refl c.refuse_store.ensures.told c.refuse_store.ensures.write_fault c.in-Err.ensures.fault
+          (λ file at is. if_told d c.args.disk (λ image. StoreBreaks image file at × (IsSoundImage image → ⊥))
+          (λ told. (c.in-Err.ensures.not_store told file at is, λ sound. c.in-Err.ensures.sound told sound file at is))),
+      unopened_recovers d c.args.disk c.in-Err.disk c.refuse_store.result (λ image left. (c.in-Err.ensures.kept_refused told).since.each image left),
+    )
