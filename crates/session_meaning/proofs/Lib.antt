@@ -4,6 +4,7 @@ pub mod AnswerLaws
 pub mod SessionLaws
 pub mod Told
 mod Kept
+mod PushCauses
 mod Room
 pub mod EndLaws
 pub mod Unsure

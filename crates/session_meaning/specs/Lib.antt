@@ -2,6 +2,7 @@ pub mod Asked
 pub mod Statuses
 pub mod Session
 pub mod Pushes
+pub mod Causes
 pub mod Answering
 pub mod Runs
 pub mod Stops

@@ -1,27 +1,31 @@
 //! What follows from the definitions of a session and of a run.
 
-ghost use Rattle.std.specs.Prelude.{◌≡◌, ◌⊎◌, ◌<◌, ◌++◌, List, [], ◌∷◌, Some, false, take, ℕ};
+ghost use Rattle.std.specs.Prelude.{◌≡◌, ◌⊎◌, ◌<◌, ◌++◌, List, [], ◌∷◌, Some, Ok, false, length, take, ℕ};
 ghost use Rattle.std.specs.List.{Contains, list_any};
 ghost use Rattle.command_words.specs.Commands.{Command, Spells};
 ghost use Rattle.disk_model.specs.Images.{Image};
 ghost use Rattle.span_types.specs.First.{IsFirstOf};
 ghost use Rattle.span_types.specs.declared.spans.Row.{Row};
+ghost use Rattle.otlp_spans.specs.declared.read.Reading.{Reading};
+ghost use Rattle.session_text.specs.declared.refusal.Refusal.{Refusal};
 ghost use Rattle.session_text.specs.declared.reply.Reply.{Reply};
-ghost use Rattle.session_text.specs.declared.reply.Reply.TheVariants.{Pushed};
+ghost use Rattle.session_text.specs.declared.reply.Reply.TheVariants.{Pushed, Refused};
+ghost use Rattle.session_text.specs.declared.request.Request.TheVariants.{Push};
 ghost use Rattle.session_text.specs.Items.{Item};
 ghost use Rattle.store_model.specs.History.{History, count_of, grown};
 ghost use Rattle.store_model.specs.Laws.{Agrees};
 ghost use Rattle.store_images.specs.Stored.{ImageStandsFor, MayStandFor};
 ghost use Rattle.client_run.specs.Calls.{Call};
 ghost use Rattle.session_meaning.specs.Answering.{AreItemsAnswered, CallsLead, IsAnsweredByCalls};
+ghost use Rattle.session_meaning.specs.Causes.{HasPushCause};
 ghost use Rattle.session_meaning.specs.declared.ending.Ending.TheVariants.{Answered, Starved};
 ghost use Rattle.session_meaning.specs.Pushes.{HasRoomFor, accepted_batches, known_pushes};
 ghost use Rattle.session_meaning.specs.Runs.{ComesToItsEnd, Edges, GoesWell, IsRunOf, Outcome};
-ghost use Rattle.session_meaning.specs.Session.{At, IsAnsweredOrStarved, Session, history_of, is_refused};
+ghost use Rattle.session_meaning.specs.Session.{At, IsAnswered, IsAnsweredOrStarved, Session, history_of, is_refused};
 ghost use Rattle.session_meaning.specs.Stops.{StandsForLast, StandsWithin, unsure_spans};
 
-/// What is answered by calls of a store that lists no block is answered as the history says: the machine of the store, with its
-/// blocks, logs and pins, tells no more than the pushes do. It lists no block then either.
+/// What is answered by calls of a store that lists no block is answered as the history says: the machine of the store,
+/// with its blocks, logs and pins, tells no more than the pushes do.
 pub fn calls_answer_as_the_history_says()
     ensures item { (item : Item) (before after : At) (reply : Reply) → Agrees before.machine
         → before.machine.state.blocks ≡ [] → IsAnsweredByCalls item before reply after
@@ -51,14 +55,29 @@ pub fn replies_tell_the_history()
         → (reply : Reply) (known : ℕ) → Contains later reply → known_pushes reply ≡ Some known → number < known }
 {}
 
-/// What is stored, by the pushes that were accepted. A run that is stopped is one over a disk of which from some call on
-/// every call fails: what it hands back then has each push that was accepted before the stop.
+/// Which pushes are refused, and which are accepted.
+pub fn pushes_have_their_causes()
+    // Refused, it has the cause that it is told, and the history stays.
+    ensures refused { (reading : Reading) (moment : ℕ) (before after : At) (why : Refusal)
+        → IsAnswered (Ok (Push reading moment)) before (Refused why) after
+        → HasPushCause why (length reading.batch.spans) before after
+        × (history_of after ≡ history_of before) }
+    // Accepted, it had room in a store that writes, and is told how many came before it.
+    ensures accepted { (reading : Reading) (moment : ℕ) (before after : At) (number kept rejected skipped : ℕ)
+        → IsAnswered (Ok (Push reading moment)) before (Pushed number kept rejected skipped) after
+        → HasRoomFor (Ok (Push reading moment) ∷ []) before.machine × (number ≡ count_of (history_of before)) }
+{}
+
+/// What is stored, by the pushes that were accepted. A run that is stopped is one over a disk of which from some call
+/// on every call fails: what it hands back then has each push that was accepted before the stop.
 pub fn accepted_pushes_are_stored()
     // An image of the disk that is handed back: what was stored at first and behind it all accepted batches, in order.
-    ensures returned { (o : Outcome) (image : Image) → Session o.first o.items o.replies o.last → StandsForLast o image
+    ensures returned { (o : Outcome) (image : Image) → Session o.first o.items o.replies o.last
+        → StandsForLast o image
         → MayStandFor (grown (history_of o.first) (accepted_batches o.items o.replies)) (unsure_spans o) image }
     // One since the store was opened: the same with the first few of these batches.
-    ensures at_any_moment { (o : Outcome) (image : Image) → Session o.first o.items o.replies o.last → StandsWithin o image
+    ensures at_any_moment { (o : Outcome) (image : Image) → Session o.first o.items o.replies o.last
+        → StandsWithin o image
         → ((n : ℕ) × ImageStandsFor image (grown (history_of o.first) (take n (accepted_batches o.items o.replies))))
         ⊎ MayStandFor (grown (history_of o.first) (accepted_batches o.items o.replies)) (unsure_spans o) image }
 {}
@@ -69,7 +88,8 @@ pub fn what_is_stored_is_a_base()
         × ImageStandsFor image (record { base = base; start = count_of h; entries = [] }) }
 {}
 
-/// Laws of runs, for all commands at once: a run over a disk with a store, in which no call failed, comes to its own end.
+/// Laws of runs, for all commands at once: a run over a disk with a store, in which no call failed, comes to its own
+/// end.
 pub fn comes_to_an_end()
     // It answers all that it was asked.
     ensures ends { (words : List (List ℕ)) (c : Command) (o : Outcome) (old new : Edges) → Spells words c

@@ -1,6 +1,6 @@
 //! What a session means: what its lines ask, what they are answered, and how the history of pushes grows by them
-//! (`specs/Session.antt`); what a run of the program does (`specs/Runs.antt`); and what is stored whenever it is stopped
-//! (`specs/Stops.antt`).
+//! (`specs/Session.antt`); what a run of the program does (`specs/Runs.antt`); and what is stored whenever it is
+//! stopped (`specs/Stops.antt`).
 //!
 //! The crate has definitions in `specs/`, and what they have of code. It reads, writes and keeps nothing.
 #![tactic(auto)]
@@ -11,5 +11,6 @@ mod laws;
 pub use ending::Ending;
 pub use laws::{
     accepted_pushes_are_stored, calls_answer_as_the_history_says, comes_to_an_end,
-    replies_tell_the_history, sessions_keep_the_store, what_is_stored_is_a_base,
+    pushes_have_their_causes, replies_tell_the_history, sessions_keep_the_store,
+    what_is_stored_is_a_base,
 };
