@@ -1,5 +1,5 @@
 -- How a round goes on, step by step.
-use Rattle.std.proofs.Common.{◌≡◌, List, [], ◌∷◌, ◌++◌, refl, sym, ◌∙◌, ap, subst, append-nil, append_assoc}
+use Rattle.std.proofs.Common.{◌≡◌, List, [], ◌∷◌, ◌++◌, refl, sym, subst, append-nil, append_assoc}
 use Rattle.store_state.specs.Made.{AreMade, Call}
 use Rattle.store_state.specs.Meaning.{Meaning, Called}
 use Rattle.store_state.specs.declared.rounds.Round.{Round}

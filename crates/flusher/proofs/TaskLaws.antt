@@ -1,12 +1,12 @@
 -- How a flush's task goes on.
-use Rattle.std.proofs.Common.{rules, ◌≡◌, ℕ, ◌+◌, ◌-◌, ◌<◌, ◌≤◌, ◌==◌, zero, suc, List, [], ◌∷◌, ◌++◌, Bool, true, false, refl, sym, ◌∙◌, ap, subst, arith, length, take, drop, if◌then◌else◌}
+use Rattle.std.proofs.Common.{rules, ◌≡◌, ℕ, ◌+◌, ◌≤◌, ◌==◌, zero, suc, List, [], ◌∷◌, ◌++◌, true, false, refl, sym, ◌∙◌, ap, subst, arith, length, take, drop, if◌then◌else◌}
 use Rattle.std.specs.Prelude.{IsTrue, ◌||◌}
 use Rattle.span_types.specs.declared.spans.Row.{Row}
 use Rattle.span_types.specs.First.{IsFirstOf}
 use Rattle.span_types.proofs.FirstLaws.{first_at-firsts, firsts_alike}
 use Rattle.block_info.specs.InfoParts.{InfoParts}
 use Rattle.block_build.proofs.Firsts.{can_be_block}
-use Rattle.store_model.specs.Event.Event.{WritePiece, CommitFlush, DropFlush}
+use Rattle.store_model.specs.Event.Event.{WritePiece, CommitFlush}
 use Rattle.store_model.specs.Event.{Reply as reply}
 use Rattle.store_model.specs.Event.Reply.{Fine}
 use Rattle.store_state.specs.Given.{flush_of}
@@ -18,13 +18,12 @@ use Rattle.store_state.specs.Written.{IsBlockOf}
 use Rattle.store_state.specs.declared.errors.WriteError.{WriteError}
 use Rattle.store_state.specs.declared.jobs.FlushJob.{FlushJob}
 use Rattle.store_state.specs.declared.jobs.JobFile.{JobFile}
-use Rattle.store_state.specs.declared.rounds.Refusal.{Refusal}
 use Rattle.store_state.specs.declared.rounds.Round.{Round}
 use Rattle.store_state.specs.declared.rounds.Round.TheVariants.{Did, Refused}
 use Rattle.store_state.proofs.HoldLaws.{stays_open}
 use Rattle.flusher.specs.Rounds.{IsFlushBlock, Leads, Stage}
 use Rattle.flusher.specs.Rounds.{Stage as stage}
-use Rattle.flusher.specs.Rounds.Leads.{starved, built, written, unwritten, listed, unlisted, dropped, over}
+use Rattle.flusher.specs.Rounds.Leads.{built, written, unwritten, listed, unlisted, over}
 use Rattle.flusher.specs.Tasks.{IsWriting, OneEvent, Task}
 use Rattle.flusher.specs.Tasks.Task.{Begun, Writing}
 

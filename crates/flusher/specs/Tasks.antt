@@ -1,6 +1,5 @@
 -- A flush as a task: how far it is, what it stands on, and what one step does.
-use Rattle.std.specs.Prelude.{◌≡◌, ℕ, ◌+◌, ◌-◌, ◌^◌, ◌<◌, ◌≤◌, List, [], ◌∷◌, length, take, drop, IsTrue}
-use Rattle.span_types.specs.declared.spans.Row.{Row}
+use Rattle.std.specs.Prelude.{◌≡◌, ℕ, ◌+◌, ◌-◌, ◌^◌, ◌≤◌, List, [], ◌∷◌, length, take, drop, IsTrue}
 use Rattle.block_info.specs.InfoParts.{InfoParts}
 use Rattle.store_model.specs.Holds.{Hold}
 use Rattle.store_state.specs.Given.{flush_of}

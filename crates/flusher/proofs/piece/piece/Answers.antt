@@ -1,5 +1,5 @@
-use Rattle.std.proofs.Common.{rules, ◌-◌, ◌≡◌, ◌<◌, ◌≤◌, ◌^◌, ◌+◌, length, take, drop, ℕ, zero, suc, List, [], ◌∷◌, sym, ◌∙◌, ap, subst, arith, length-drop, refl, min}
-use Rattle.std.proofs.lemmas.List.{take_all, length-take-le}
+use Rattle.std.proofs.Common.{◌-◌, ◌≡◌, ◌+◌, length, take, drop, ℕ, zero, suc, List, [], ◌∷◌, sym, ◌∙◌, ap, arith, length-drop, refl, min}
+use Rattle.std.proofs.lemmas.List.{length-take-le}
 use Rattle.flusher.proofs.piece.piece.Goals as goal
 
 short : (n m : ℕ) (xs : List ℕ) → n ≡ min (length xs) m → take n xs ≡ take m xs

@@ -1,4 +1,4 @@
-use Rattle.std.proofs.Common.{◌≡◌, ℕ, [], ◌∷◌, sym, subst, drop}
+use Rattle.std.proofs.Common.{ℕ, [], ◌∷◌, sym, subst, drop}
 use Rattle.store_model.specs.Event.Event.{CommitFlush}
 use Rattle.store_model.specs.Event.{Reply as reply}
 use Rattle.store_model.specs.Event.Reply.{Fine}
@@ -25,8 +25,8 @@ returns-in-Ok-clause-steps g c =
     record {
       made = made;
       called = c.in-Ok.ensures;
-      leads = ends_in at made (Did 1 c.rows_of.result)
-          (subst (λ (n : ℕ). Leads at (made ∷ []) (Did 1 n)) (sym c.rows_of.ensures)
+      leads = ends_in at made (Did 1 c.rows_of-rows.result)
+          (subst (λ (n : ℕ). Leads at (made ∷ []) (Did 1 n)) (sym c.rows_of-rows.ensures)
           (leads_listed c.args.job.out.number c.args.job.out.file c.args.block.info.rows rest (drop_all c.args.job.out.written c.args.block.bytes c.requires.whole)));
     }
 

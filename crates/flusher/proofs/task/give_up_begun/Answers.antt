@@ -1,4 +1,3 @@
-use Rattle.std.proofs.Common.{[], ◌∷◌}
 use Rattle.store_model.specs.Event.Event.{DropFlush}
 use Rattle.store_model.specs.Event.Reply.{Fine}
 use Rattle.store_state.specs.Made.{call}

@@ -1,4 +1,4 @@
-use Rattle.std.proofs.Common.{◌≡◌, ℕ, ◌≤◌, length, take, sym, ◌∙◌, ap, arith}
+use Rattle.std.proofs.Common.{ℕ, take, sym, ◌∙◌, ap, arith}
 use Rattle.flusher.proofs.task.open.Goals as goal
 
 pub start-requires-clause-is_writing : goal.start-requires-clause-is_writing
