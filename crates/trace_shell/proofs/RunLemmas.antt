@@ -77,7 +77,7 @@ is_run words c o old new s done = record {
   cause = done.cause;
 }
 
-session_is_not_alone : (line : List ℕ) → session ≡ Alone line → ⊥
+pub session_is_not_alone : (line : List ℕ) → session ≡ Alone line → ⊥
 session_is_not_alone line e = cc
 
 -- Words that ask for a session ask for no line alone.

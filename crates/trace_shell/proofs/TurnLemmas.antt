@@ -263,8 +263,12 @@ too_long_line moment line long = rw (not_within (length line) long) refl
 
 -- It is refused, whatever the moment.
 too_long_asks : (tell : Option (List ℕ)) (line : List ℕ) → line_limit < length line → AsksNext tell line [] (Err (refusal.TooLong (length line)))
-too_long_asks None line long = (0, tt, rw (too_long_line 0 line long) (inl refl, refl))
-too_long_asks (Some moments) line long = (first_moment moments, refl, rw (too_long_line (first_moment moments) line long) (inl refl, refl))
+too_long_asks None line long = (0, λ moments e. absurd (let bad : None ≡ Some moments = e in cc), rw (too_long_line 0 line long) (inl refl, refl))
+too_long_asks (Some told) line long =
+    (first_moment told, λ moments e. ap first_moment (same told moments e), rw (too_long_line (first_moment told) line long) (inl refl, refl))
+  where
+    same : (a b : List ℕ) → Some a ≡ Some b → a ≡ b
+    same a b e = cc
 
 -- A line of too many bytes was read, and refused.
 pub too_long_at : {M Q : Type 0} (makes : Makes M) (meaning : Meaning Q) (a : M) (port : Q) (left_old left taken_old taken tell_old to_tell : Option (List ℕ)) (reader_old reader : Reader) (tally_old tally : Tally)

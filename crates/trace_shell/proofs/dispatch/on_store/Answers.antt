@@ -15,8 +15,8 @@ use Rattle.trace_shell.proofs.RunLemmas.{cause_of, if_told, unopened, unopened_d
 use Rattle.trace_shell.proofs.StoreLemmas.{in_a_store, opened_done, opened_recovers}
 use Rattle.trace_shell.proofs.dispatch.on_store.Goals as goal
 
-pub do_asked-requires : goal.do_asked-requires
-do_asked-requires g c = let begins = c.in-Ok.ensures.opened.begins in ([], holds_nothing g.D.Device c.in-Ok.core begins.0 begins.1.shows)
+pub do_asked-ending-requires-after_bounds : goal.do_asked-ending-requires-after_bounds
+do_asked-ending-requires-after_bounds g c = let begins = c.in-Ok.ensures.opened.begins in ([], holds_nothing g.D.Device c.in-Ok.core begins.0 begins.1.shows)
 
 pub returns-in-Ok-clause-ran : goal.returns-in-Ok-clause-ran
 returns-in-Ok-clause-ran g c =
@@ -72,7 +72,7 @@ pub returns-in-Err-clause-ran : goal.returns-in-Err-clause-ran
 returns-in-Err-clause-ran g c =
     let d = g.D.Device in
     let old : Edges = edges g.S.Source.left g.S.Source.faults g.K.Sink.taken g.K.Sink.faults g.C.Clock.moments d c.args.source.now c.args.sink.now c.args.clock.now c.args.disk in
-    let new : Edges = edges g.S.Source.left g.S.Source.faults g.K.Sink.taken g.K.Sink.faults g.C.Clock.moments d c.args.source.now c.refuse_store.new.sink c.now-moment.new.clock c.in-Err.disk in (
+    let new : Edges = edges g.S.Source.left g.S.Source.faults g.K.Sink.taken g.K.Sink.faults g.C.Clock.moments d c.args.source.now c.refuse_store.new.sink c.now-moment.new.self c.in-Err.disk in (
       unopened c.refuse_store.result,
       refl,
       refuses-none g.P.PatternMaker.makes _ c.args.patterns.now c.args.patterns.now,
@@ -85,7 +85,7 @@ pub returns-in-Err-clause-recovers : goal.returns-in-Err-clause-recovers
 returns-in-Err-clause-recovers g c = λ told sound.
     let d = g.D.Device in
     let old : Edges = edges g.S.Source.left g.S.Source.faults g.K.Sink.taken g.K.Sink.faults g.C.Clock.moments d c.args.source.now c.args.sink.now c.args.clock.now c.args.disk in
-    let new : Edges = edges g.S.Source.left g.S.Source.faults g.K.Sink.taken g.K.Sink.faults g.C.Clock.moments d c.args.source.now c.refuse_store.new.sink c.now-moment.new.clock c.in-Err.disk in (
+    let new : Edges = edges g.S.Source.left g.S.Source.faults g.K.Sink.taken g.K.Sink.faults g.C.Clock.moments d c.args.source.now c.refuse_store.new.sink c.now-moment.new.self c.in-Err.disk in (
       unopened c.refuse_store.result,
       refl,
       refuses-none g.P.PatternMaker.makes _ c.args.patterns.now c.args.patterns.now,

@@ -33,7 +33,7 @@ returns-in-TooLong-clause-endings g c = line_ends c.refuse_line.result c.refuse_
 
 pub returns-in-End-clause-turned : goal.returns-in-End-clause-turned
 returns-in-End-clause-turned g c =
-    turns_idle g.P.PatternMaker.makes g.Q.LookPort.meaning _ _ _ _ _ _ _ _ _ _ _ _ (Some c.ending.result)
+    turns_idle g.P.PatternMaker.makes g.Q.LookPort.meaning _ _ _ _ _ _ _ _ _ c.next.new.self _ c.args.tally.now (Some c.ending.result)
     (λ told text before items replies blamed at.
     let answers = subst (λ l. Answers l at.rest (IsToRead c.next.new.self (g.S.Source.left c.next.new.source))) c.in-End.is
     (c.in-Ok.ensures.line at.rest at.to_read) in
@@ -46,18 +46,18 @@ returns-in-End-clause-endings g c = subst IsPastOpening (sym c.ending.ensures) (
 
 pub returns-in-Err-Fault-clause-turned : goal.returns-in-Err-Fault-clause-turned
 returns-in-Err-Fault-clause-turned g c =
-    turns_idle g.P.PatternMaker.makes g.Q.LookPort.meaning _ _ _ _ _ _ _ _ _ _ _ _ (Some ReadFault)
+    turns_idle g.P.PatternMaker.makes g.Q.LookPort.meaning _ _ _ _ _ _ _ _ _ c.next.new.self _ c.args.tally.now (Some ReadFault)
     (λ told text before items replies blamed at.
     failed_at told text before _ _ _ _ _ _ _ items replies blamed at (c.in-Err-Fault.ensures.stands at.rest at.to_read) (c.in-Err-Fault.ensures.waiting (ap Err c.in-Err-Fault.field-0-is)))
 
 pub returns-in-Err-Memory-clause-turned : goal.returns-in-Err-Memory-clause-turned
 returns-in-Err-Memory-clause-turned g c =
-    turns_idle g.P.PatternMaker.makes g.Q.LookPort.meaning _ _ _ _ _ _ _ _ _ _ _ _ (Some Starved)
+    turns_idle g.P.PatternMaker.makes g.Q.LookPort.meaning _ _ _ _ _ _ _ _ _ c.next.new.self _ c.args.tally.now (Some Starved)
     (λ told text before items replies blamed at. starved_at told text before _ _ _ _ _ _ items replies blamed at)
 
 pub returns-in-Spent-clause-turned : goal.returns-in-Spent-clause-turned
 returns-in-Spent-clause-turned g c =
-    turns_idle g.P.PatternMaker.makes g.Q.LookPort.meaning _ _ _ _ _ _ _ _ _ _ _ _ (Some Spent)
+    turns_idle g.P.PatternMaker.makes g.Q.LookPort.meaning _ _ _ _ _ _ _ _ _ c.next.new.self _ c.args.tally.now (Some Spent)
     (λ told text before items replies blamed at.
     let answers = subst (λ l. Answers l at.rest (IsToRead c.next.new.self (g.S.Source.left c.next.new.source))) c.in-Spent.is
     (c.in-Ok.ensures.line at.rest at.to_read) in

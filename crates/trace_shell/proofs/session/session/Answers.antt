@@ -23,8 +23,8 @@ lines-init g c = record {
   took = took_none _ _ c.new-reader.ensures.taken;
 }
 
-pub next_line-requires : goal.next_line-requires
-next_line-requires g c = c.lines.invariant.holds
+pub next_line-requires-after_bounds : goal.next_line-requires-after_bounds
+next_line-requires-after_bounds g c = c.lines.invariant.holds
 
 pub lines-preserved : goal.lines-preserved
 lines-preserved g c =

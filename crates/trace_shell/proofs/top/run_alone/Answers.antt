@@ -4,10 +4,10 @@ use Rattle.trace_shell.proofs.top.run_alone.Goals as goal
 
 pub returns-clause-ran : goal.returns-clause-ran
 returns-clause-ran g c =
-    let ran = c.dispatch.ensures.ran in
+    let ran = c.dispatch-ending.ensures.ran in
     (ran.0, ran.2, ran.3, c.status.ensures ∙ ap status_of (sym ran.1))
 
 pub returns-clause-recovers : goal.returns-clause-recovers
 returns-clause-recovers g c = λ told sound.
-    let ran = c.dispatch.ensures.recovers told sound in
+    let ran = c.dispatch-ending.ensures.recovers told sound in
     (ran.0, ran.2, ran.3, c.status.ensures ∙ ap status_of (sym ran.1), ran.4)
