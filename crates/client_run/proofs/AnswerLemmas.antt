@@ -17,7 +17,7 @@ use Rattle.store_state.specs.Replies.{push_reply}
 use Rattle.store_state.specs.declared.errors.PushError.{PushError}
 use Rattle.store_state.specs.declared.jobs.Look.{Look}
 use Rattle.client_run.specs.Answers.{HasReplied, HasTold, IsSearchOf, IsTraceOf, pushed_reply}
-use Rattle.client_run.specs.Calls.{call}
+use Rattle.store_state.specs.Made.{call}
 
 -- what a look gives
 abbrev pub given : Look → reply

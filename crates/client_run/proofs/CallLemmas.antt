@@ -4,7 +4,8 @@ use Rattle.store_model.specs.Holds.{Hold, holds_after}
 use Rattle.store_state.specs.Meaning.{Meaning}
 use Rattle.client_run.specs.declared.event.Event.{Event}
 use Rattle.client_run.specs.declared.event.EventReply.{EventReply}
-use Rattle.client_run.specs.Calls.{Call, Looks, AreMade, after_call, after_calls}
+use Rattle.store_state.specs.Made.{Call, AreMade}
+use Rattle.client_run.specs.Calls.{Looks, after_call, after_calls}
 use Rattle.client_run.specs.EventRuns.{AreEventsAnswered, IsEventAnswered}
 
 pub after-append : (front back : List Call) (looks : Looks) → after_calls (front ++ back) looks ≡ after_calls back (after_calls front looks)

@@ -9,7 +9,7 @@ use Rattle.store_core.specs.Past.{StandsSince}
 use Rattle.store_core.proofs.Past.{stands_since}
 use Rattle.store_core.specs.Port.{port_of}
 use Rattle.store_core.specs.declared.store.Core.{Core}
-use Rattle.client_run.specs.Calls.{AreMade, Call}
+use Rattle.store_state.specs.Made.{AreMade, Call}
 use Rattle.client_run.specs.CoreRuns.{HasStepped, unsure_after_calls}
 
 -- each event keeps that a core is so with a machine, by a step

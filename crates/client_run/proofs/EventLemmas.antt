@@ -13,7 +13,8 @@ use Rattle.store_state.specs.declared.errors.PushError.{PushError}
 use Rattle.store_state.specs.declared.jobs.Look.{Look as Given}
 use Rattle.client_run.specs.declared.event.Event.TheVariants.{Push, Look, Done}
 use Rattle.client_run.specs.declared.event.EventReply.TheVariants.{Idle, Pushed, Looked, Ended}
-use Rattle.client_run.specs.Calls.{Looks, after_call, call, look_at, unless_ended}
+use Rattle.store_state.specs.Made.{call}
+use Rattle.client_run.specs.Calls.{Looks, after_call, look_at, unless_ended}
 use Rattle.client_run.specs.EventRuns.{IsEndAnswered}
 use Rattle.client_run.specs.Taken.{HasAnswered, MayHaveAnswered}
 use Rattle.client_run.proofs.LookLemmas.{none_ended}

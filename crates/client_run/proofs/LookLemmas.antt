@@ -12,7 +12,8 @@ use Rattle.store_state.specs.Given.{look_of}
 use Rattle.store_state.specs.Meaning.{Meaning, Called, IsOpen}
 use Rattle.store_state.proofs.HoldLaws.{stays_open, opens_new}
 use Rattle.store_state.specs.declared.jobs.Look.{Look}
-use Rattle.client_run.specs.Calls.{Call, Looks, AreMade, after_call, after_calls, call, look_at, taken, unless_ended}
+use Rattle.store_state.specs.Made.{Call, AreMade, call}
+use Rattle.client_run.specs.Calls.{Looks, after_call, after_calls, look_at, taken, unless_ended}
 use Rattle.client_run.specs.Taken.{AreOpen, IsReady, looks_of}
 use Rattle.client_run.specs.Walked.{Walked}
 

@@ -16,7 +16,8 @@ use Rattle.store_model.proofs.TellsHistory.{step_opens}
 use Rattle.store_core.specs.Cores.{CoreShows}
 use Rattle.store_core.specs.Port.{port_of}
 use Rattle.store_core.specs.declared.store.Core.{Core}
-use Rattle.client_run.specs.Calls.{AreMade, Call, Looks, after_call, after_calls, call, look_at, taken, unless_ended}
+use Rattle.store_state.specs.Made.{AreMade, Call, call}
+use Rattle.client_run.specs.Calls.{Looks, after_call, after_calls, look_at, taken, unless_ended}
 use Rattle.client_run.specs.CoreRuns.{HaveOwnPins}
 
 -- all later looks are apart from this one

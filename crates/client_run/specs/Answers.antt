@@ -21,7 +21,7 @@ use Rattle.store_state.specs.Meaning.{Meaning}
 use Rattle.store_state.specs.declared.errors.PushError.{PushError}
 use Rattle.store_state.specs.declared.errors.PushError.TheVariants as push
 use Rattle.traceql_syntax.specs.Trees.{query_tree}
-use Rattle.client_run.specs.Calls.{Call, AreMade, call}
+use Rattle.store_state.specs.Made.{Call, AreMade, call}
 
 -- ---- a push
 

@@ -1,24 +1,10 @@
--- Calls of a port, one after another, and which of its looks they leave open.
-use Rattle.std.specs.Prelude.{◌≡◌, ℕ, List, [], ◌∷◌, ◌++◌, map, Option, Some, None, if◌then◌else◌, get_or}
-use Rattle.store_model.specs.Event.{Event, Reply}
+-- Which looks of a port calls leave open.
+use Rattle.std.specs.Prelude.{ℕ, List, [], ◌∷◌, ◌++◌, map, Option, Some, None, if◌then◌else◌, get_or}
+use Rattle.store_model.specs.Event.{Reply}
 use Rattle.store_model.specs.Event.Reply.{Looked}
 use Rattle.store_model.specs.Holds.{Hold, ends}
 use Rattle.store_model.specs.Holds.Hold.{OpenLook}
-use Rattle.store_state.specs.Meaning.{Meaning, Called}
-
--- a call and its reply
-pub record Call : Type 0 where
-  pub event : Event
-  pub reply : Reply
-
-abbrev pub call : Event → Reply → Call
-call event reply = record { event = event; reply = reply }
-
--- These calls, and no others, were made on a port, one after another.
-abbrev pub AreMade : {P : Type 0} → Meaning P → P → List Call → P → Type 0
-AreMade meaning old [] new = new ≡ old
-AreMade {P} meaning old (c ∷ calls) new =
-    (between : P) × Called meaning old c.event c.reply between × AreMade meaning between calls new
+use Rattle.store_state.specs.Made.{Call}
 
 -- Looks in the order in which they were taken: a look is here as long as it is open, and nothing is in its place once a call
 -- ended it.

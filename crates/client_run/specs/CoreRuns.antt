@@ -7,7 +7,8 @@ use Rattle.store_model.specs.Holds.{Hold}
 use Rattle.store_model.specs.Step.{Machine, Step}
 use Rattle.store_core.specs.Events.{unsure_after}
 use Rattle.store_core.specs.declared.store.Core.{Core}
-use Rattle.client_run.specs.Calls.{Call, Looks, look_at}
+use Rattle.store_state.specs.Made.{Call}
+use Rattle.client_run.specs.Calls.{Looks, look_at}
 
 -- These calls are legal from a machine on: each is a step from what the one before it left. The numbers are the counts of
 -- faults before and after the calls; each call begins with the count that the one before it left.

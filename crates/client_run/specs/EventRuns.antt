@@ -12,7 +12,8 @@ use Rattle.client_run.specs.declared.event.Event.TheVariants.{Push, Look, Done}
 use Rattle.client_run.specs.declared.event.EventReply.{EventReply}
 use Rattle.client_run.specs.declared.event.EventReply.TheVariants.{Idle, Pushed, Looked, Ended}
 use Rattle.client_run.specs.declared.event.Seen.{Seen}
-use Rattle.client_run.specs.Calls.{Call, Looks, AreMade, after_calls, call, look_at}
+use Rattle.store_state.specs.Made.{Call, AreMade, call}
+use Rattle.client_run.specs.Calls.{Looks, after_calls, look_at}
 
 -- A look is taken, and what it sees is told; or there is no memory for it.
 abbrev pub IsLookAnswered : Result Seen Memory → List Call → Type 0

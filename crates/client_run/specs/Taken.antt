@@ -6,7 +6,8 @@ use Rattle.store_state.specs.Given.{look_of}
 use Rattle.store_state.specs.declared.jobs.Look.{Look}
 use Rattle.client_run.specs.declared.event.Event.{Event}
 use Rattle.client_run.specs.declared.event.EventReply.{EventReply}
-use Rattle.client_run.specs.Calls.{Call, Looks, AreMade, after_calls}
+use Rattle.store_state.specs.Made.{Call, AreMade}
+use Rattle.client_run.specs.Calls.{Looks, after_calls}
 use Rattle.client_run.specs.EventRuns.{AreEventsAnswered, IsEventAnswered}
 
 abbrev pub looks_of : List (Option Look) → Looks

@@ -5,7 +5,8 @@ ghost use Rattle.store_model.specs.Step.{Machine};
 ghost use Rattle.store_core.specs.Cores.{CoreShows, CoreStandsFor, unsure_of};
 ghost use Rattle.store_core.specs.Past.{StandsSince};
 ghost use Rattle.store_core.specs.Port.{port_of};
-ghost use Rattle.client_run.specs.Calls.{AreMade, Call, after_calls};
+ghost use Rattle.store_state.specs.Made.{AreMade, Call};
+ghost use Rattle.client_run.specs.Calls.{after_calls};
 ghost use Rattle.client_run.specs.CoreRuns.{HasStepped, HaveOwnPins, unsure_after_calls};
 
 use disk_model::Device;

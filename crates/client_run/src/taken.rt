@@ -4,7 +4,8 @@ ghost use Rattle.std.specs.Prelude.{◌≡◌, ◌++◌, ◌∷◌, [], Some, No
 ghost use Rattle.store_model.specs.Event.Event.{Done};
 ghost use Rattle.store_model.specs.Event.Reply.{Fine};
 ghost use Rattle.store_state.specs.Given.{look_of};
-ghost use Rattle.client_run.specs.Calls.{call, look_at, unless_ended};
+ghost use Rattle.store_state.specs.Made.{call};
+ghost use Rattle.client_run.specs.Calls.{look_at, unless_ended};
 ghost use Rattle.client_run.specs.Taken.{looks_of};
 
 use span_types::Memory;

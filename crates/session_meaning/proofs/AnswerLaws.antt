@@ -23,7 +23,7 @@ use Rattle.store_images.specs.Stored.{SameFirsts}
 use Rattle.otlp_spans.specs.declared.read.Reading.{Reading}
 use Rattle.store_state.specs.Replies.{push_reply}
 use Rattle.client_run.specs.Answers.{IsQueryAnswered, IsRequestAnswered, IsSearchOf, IsTraceOf}
-use Rattle.client_run.specs.Calls.{Call}
+use Rattle.store_state.specs.Made.{Call}
 use Rattle.client_run.specs.CoreRuns.{AreSteps}
 use Rattle.session_meaning.specs.Answering.{AreItemsAnswered, CallsLead, IsItemAnswered}
 use Rattle.session_meaning.specs.Session.{At, IsAnswered, IsAnsweredOrStarved, Session}

@@ -9,7 +9,7 @@ use Rattle.session_text.specs.Items.{Item}
 use Rattle.session_text.specs.Replies.{reply_text}
 use Rattle.store_state.specs.Meaning.{Meaning}
 use Rattle.client_run.specs.Answers.{HasReplied}
-use Rattle.client_run.specs.Calls.{Call}
+use Rattle.store_state.specs.Made.{Call}
 use Rattle.client_run.proofs.CallLemmas.{made-append}
 use Rattle.session_meaning.specs.Answering.{AreItemsAnswered, IsItemAnswered}
 use Rattle.session_meaning.specs.Asked.{AreAsked, AsksNext, after_lines, after_moment}

@@ -17,7 +17,7 @@ use Rattle.store_state.specs.declared.errors.PushError.{PushError}
 use Rattle.store_state.specs.declared.errors.PushError.TheVariants as push
 use Rattle.store_core.specs.Events.{unsure_after}
 use Rattle.client_run.specs.Answers.{IsQueryAnswered, IsSearchOf, IsTraceOf, pushed_reply}
-use Rattle.client_run.specs.Calls.{Call, call}
+use Rattle.store_state.specs.Made.{Call, call}
 use Rattle.session_meaning.specs.Answering.{AreItemsAnswered, IsItemAnswered}
 use Rattle.session_meaning.specs.Pushes.{unsure_batch, unsure_or}
 

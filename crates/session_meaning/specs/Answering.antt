@@ -5,7 +5,7 @@ use Rattle.session_text.specs.declared.reply.Reply.{Reply}
 use Rattle.session_text.specs.declared.reply.Reply.TheVariants.{Refused}
 use Rattle.session_text.specs.Items.{Item}
 use Rattle.client_run.specs.Answers.{IsRequestAnswered}
-use Rattle.client_run.specs.Calls.{Call}
+use Rattle.store_state.specs.Made.{Call}
 use Rattle.client_run.specs.CoreRuns.{AreSteps}
 use Rattle.session_meaning.specs.Session.{At}
 

@@ -4,7 +4,7 @@ use Rattle.io_edges.specs.Lines.{lines}
 use Rattle.session_text.specs.declared.reply.Reply.{Reply}
 use Rattle.session_text.specs.Items.{Item}
 use Rattle.store_state.specs.Meaning.{Meaning}
-use Rattle.client_run.specs.Calls.{AreMade, Call}
+use Rattle.store_state.specs.Made.{AreMade, Call}
 use Rattle.session_meaning.specs.Asked.{AreAsked, after_lines}
 use Rattle.session_meaning.specs.Answering.{AreItemsAnswered, IsItemAnswered}
 

@@ -15,7 +15,7 @@ ghost use Rattle.session_text.specs.Items.{Item};
 ghost use Rattle.store_model.specs.History.{History, count_of, grown};
 ghost use Rattle.store_model.specs.Laws.{Agrees};
 ghost use Rattle.store_images.specs.Stored.{ImageStandsFor, MayStandFor};
-ghost use Rattle.client_run.specs.Calls.{Call};
+ghost use Rattle.store_state.specs.Made.{Call};
 ghost use Rattle.session_meaning.specs.Answering.{AreItemsAnswered, CallsLead, IsAnsweredByCalls};
 ghost use Rattle.session_meaning.specs.Causes.{HasPushCause};
 ghost use Rattle.session_meaning.specs.declared.ending.Ending.TheVariants.{Answered, Starved};

@@ -20,7 +20,7 @@ use Rattle.session_meaning.specs.Asked.{AsksNext, after_moment}
 use Rattle.session_meaning.specs.Progress.{HasAnsweredOne, HasAnsweredOver, Progress}
 use Rattle.session_meaning.proofs.SessionLaws.{over_begins, progress_begins, progress_empty, progress_line, reply_texts-push}
 use Rattle.store_state.specs.Meaning.{Meaning}
-use Rattle.client_run.specs.Calls.{Call}
+use Rattle.store_state.specs.Made.{Call}
 use Rattle.client_run.proofs.CallLemmas.{made-append}
 use Rattle.session_meaning.specs.Answering.{AreItemsAnswered}
 use Rattle.traceql_types.specs.Makers.{Makes, RefusesOnly}

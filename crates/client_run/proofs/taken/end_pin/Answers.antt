@@ -1,7 +1,8 @@
 use Rattle.std.proofs.Common.{rules, arith}
 use Rattle.store_model.specs.Event.Event.{Done}
 use Rattle.store_model.specs.Event.Reply.{Fine}
-use Rattle.client_run.specs.Calls.{call, unless_ended}
+use Rattle.store_state.specs.Made.{call}
+use Rattle.client_run.specs.Calls.{unless_ended}
 use Rattle.client_run.proofs.LookLemmas.{pin_step}
 use Rattle.client_run.proofs.taken.end_pin.Goals as goal
 

@@ -1,7 +1,8 @@
 -- The looks before were walked over.
 use Rattle.store_model.specs.Event.Event.{Done}
 use Rattle.store_model.specs.Event.Reply.{Fine}
-use Rattle.client_run.specs.Calls.{call, unless_ended}
+use Rattle.store_state.specs.Made.{call}
+use Rattle.client_run.specs.Calls.{unless_ended}
 use Rattle.client_run.specs.Taken.{looks_of}
 use Rattle.client_run.specs.Walked.{Walked}
 use Rattle.client_run.proofs.taken.end_pin.Given as goal
