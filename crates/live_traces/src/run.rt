@@ -48,9 +48,10 @@ impl Run {
         self.to - self.from
     }
 
-    /// Its rows.
+    /// Its rows, which are in order of trace.
     pub fn as_slice(&self) -> &[SharedRow]
-        ensures { result.now ≡ self.now }
+        ensures rows { result.now ≡ self.now }
+        ensures by_trace { AreByTrace self.now }
     {
         &self.rows.get().as_slice()[self.from..self.to]
     }
