@@ -1,6 +1,7 @@
 pub mod ChunkRows
 pub mod CutOrder
 pub mod TraceRows
+pub mod Groups
 pub mod LiveRows
 pub mod Least
 pub mod Ranges

@@ -16,7 +16,7 @@ use Rattle.live_traces.specs.declared.live.Arrival.{Arrival}
 use Rattle.std.specs.BTreeMap.{BTreeMap, get}
 use Rattle.live_traces.specs.Going.{goes_with}
 use Rattle.live_traces.proofs.ChunkRows.{length_chunk_rows}
-use Rattle.live_traces.proofs.TraceRows.{filter_append}
+use Rattle.live_traces.proofs.TraceRows.{filter_append, filter_same}
 
 length_append : {X : Type 0} (xs ys : List X) → length (xs ++ ys) ≡ length xs + length ys
 length_append [] ys = omega arith
@@ -200,13 +200,6 @@ counted_all es xs a =
     let two = length_append (live_of es) (arrivals_of xs) in
     let three = counted-more xs a in
     omega (arith, one, two, three)
-
-filter_same : {X : Type 0} (p q : X → Bool) (xs : List X) → ((x : X) → p x ≡ q x) → filter p xs ≡ filter q xs
-filter_same p q [] h = refl
-filter_same p q (x ∷ xs) h = by_test (p x) (q x) (h x) (filter_same p q xs h)
-  where
-    by_test : (s t : Bool) → s ≡ t → filter p xs ≡ filter q xs → (if s then x ∷ filter p xs else filter p xs) ≡ (if t then x ∷ filter q xs else filter q xs)
-    by_test s t e ih = ap (λ b. if b then x ∷ filter p xs else filter p xs) e ∙ ap (λ ys. if t then x ∷ ys else ys) ih
 
 -- the map of last moments tells what goes
 abbrev Tells : BTreeMap TraceId ℕ → List LiveRow → Type 0

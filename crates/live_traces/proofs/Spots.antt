@@ -1,6 +1,7 @@
 -- Where the rows of parts stand.
-use Rattle.std.proofs.Common.{add-one, ◌≡◌, ℕ, ◌+◌, ◌<◌, ◌≤◌, zero, suc, Bool, true, false, List, [], ◌∷◌, ◌++◌, Option, None, Some, refl, sym, ◌∙◌, ap, subst, arith, append_assoc, length, map, filter, take, drop, length-take, IsSome, if◌then◌else◌, slice_get, slice_index_or}
+use Rattle.std.proofs.Common.{add-one, ◌≡◌, ℕ, ◌+◌, ◌<◌, ◌≤◌, zero, suc, Bool, true, false, List, [], ◌∷◌, ◌++◌, Option, Some, refl, sym, ◌∙◌, ap, subst, arith, append_assoc, length, map, take, drop, length-take, IsSome, if◌then◌else◌, slice_get, slice_index_or}
 use Rattle.std.proofs.lemmas.List.{append-nil, map-append}
+use Rattle.std.specs.List.Sorted.{IsSortedByKey}
 use Rattle.std.specs.Ordering.{is_eq}
 use Rattle.span_types.specs.declared.ids.TraceId.{TraceId}
 use Rattle.span_types.specs.declared.spans.Row.{Row}
@@ -8,9 +9,9 @@ use Rattle.span_types.specs.Orders.{trace_cmp}
 use Rattle.rows_by_trace.specs.Traces.{rows_of_trace}
 use Rattle.store_model.specs.State.{live_rows}
 use Rattle.store_model.specs.After.{arrived}
-use Rattle.live_traces.specs.Rows.{chunk_rows, run_rows}
+use Rattle.live_traces.specs.Rows.{ChunkParts, chunk_rows, run_rows}
 use Rattle.live_traces.specs.Parts.{live_of, arrivals_of}
-use Rattle.live_traces.specs.Index.{AreSpotsOf, IndexesTraces, IsSpotOf, row_at, spots_of}
+use Rattle.live_traces.specs.Index.{AreSpotsOf, IndexesTraces, IsOrderOf, IsSpotOf, row_at, spots_of}
 use Rattle.live_traces.specs.Whole.{AreWhole, parts_of}
 use Rattle.live_traces.specs.declared.index.Spot.{Spot}
 use Rattle.live_traces.specs.declared.live.Entry.{Entry}
@@ -258,3 +259,46 @@ pub whole_same : (es : List Entry) (xs ys : List Arrival) (count : ℕ) (kept : 
     AreWhole es xs count kept kept_rows flushing flush_rows spots → AreWhole es ys count kept kept_rows flushing flush_rows more
 whole_same es xs ys count kept kept_rows flushing flush_rows spots more x s h =
     subst (λ q. AreWhole es q count kept kept_rows flushing flush_rows more) (sym x) (subst (AreWhole es xs count kept kept_rows flushing flush_rows) (sym s) h)
+
+-- the spots of one list of rows, by trace
+one_part : (rows : List Row) (part at : ℕ) (row : Row) → row_at (rows ∷ []) part at ≡ Some row → row_at (rows ∷ []) part at ≡ slice_get rows at
+one_part rows zero at row e = refl
+one_part rows (suc part) at row e = cc
+
+within_one : (rows : List Row) (part at : ℕ) (row : Row) → row_at (rows ∷ []) part at ≡ Some row → at < length rows
+within_one rows part at row e = some_within rows at (subst (λ (o : Option Row). IsSome o) (sym e ∙ one_part rows part at row e) refl)
+
+pub only_at : (rows : List Row) (spots : List Spot) (wanted : List Row) (i : ℕ) (spot : Spot) → AreSpotsOf (rows ∷ []) spots wanted → i < length spots → slice_index_or spots i spot ≡ spot →
+    spot.at < length rows
+only_at rows spots wanted i spot h l is =
+    let found : (row : Row) × (row_at (rows ∷ []) spot.part spot.at ≡ Some row) = has_row (rows ∷ []) spots wanted i spot h l is in
+    within_one rows spot.part spot.at found.0 found.1
+
+pub group_more : (rows : List Row) (spots : List Spot) (wanted : List Row) (i : ℕ) (spot : Spot) (base old new : List Row) (row : Row) → AreSpotsOf (rows ∷ []) spots wanted →
+    i < length spots → slice_index_or spots i spot ≡ spot → slice_get rows spot.at ≡ Some row → new ≡ old ++ row ∷ [] → old ≡ base ++ take i wanted → new ≡ base ++ take (i + 1) wanted
+group_more rows spots wanted i spot base old new row h l is g n o =
+    let found : (r : Row) × (row_at (rows ∷ []) spot.part spot.at ≡ Some r) = has_row (rows ∷ []) spots wanted i spot h l is in
+    let here : row_at (rows ∷ []) spot.part spot.at ≡ Some row = one_part rows spot.part spot.at found.0 found.1 ∙ g in
+    n ∙ ap (λ q. q ++ row ∷ []) o ∙ append_assoc base (take i wanted) (row ∷ [])
+    ∙ ap (λ q. base ++ q) (sym (row_of_spot (rows ∷ []) spots wanted i spot row h l is here)) ∙ ap (λ n. base ++ take n wanted) (sym (add-one i))
+
+pub group_all : (rows : List Row) (spots : List Spot) (wanted : List Row) (i : ℕ) (base new : List Row) → AreSpotsOf (rows ∷ []) spots wanted → i ≡ length spots →
+    new ≡ base ++ take i wanted → new ≡ base ++ wanted
+group_all rows spots wanted i base new h e n = n ∙ ap (λ q. base ++ q) (take_whole wanted i (e ∙ same_length (rows ∷ []) spots wanted h))
+
+pub spots_begin : (parts : List (List Row)) (spots : List Spot) → spots ≡ [] → AreSpotsOf parts spots []
+spots_begin parts spots e = subst (λ q. AreSpotsOf parts q []) (sym e) tt
+
+pub order_groups : (all order : List Spot) (rows : List Row) → AreSpotsOf (rows ∷ []) all rows → IsSortedByKey (λ (s : Spot). s.trace) trace_cmp order →
+    ((t : TraceId) → spots_of t order ≡ spots_of t all) → IsOrderOf order rows
+order_groups all order rows h sorted kept = record {
+  sorted = sorted;
+  groups = λ t. subst (λ q. AreSpotsOf (rows ∷ []) q (rows_of_trace t rows)) (sym (kept t)) (spots_of_rows (rows ∷ []) t all rows h);
+}
+
+-- the spots of a trace in a push, said of other names
+pub group_at : (trace : TraceId) (order own group : List Spot) (c d : ChunkParts) → IsOrderOf order (chunk_rows c) → c ≡ d → own ≡ order → group ≡ spots_of trace own →
+    AreSpotsOf (chunk_rows d ∷ []) group (rows_of_trace trace (chunk_rows d))
+group_at trace order own group c d h e o g =
+    subst (λ q. AreSpotsOf (chunk_rows d ∷ []) q (rows_of_trace trace (chunk_rows d))) (sym (g ∙ ap (spots_of trace) o))
+    (subst (λ (p : ChunkParts). AreSpotsOf (chunk_rows p ∷ []) (spots_of trace order) (rows_of_trace trace (chunk_rows p))) e (h.groups trace))

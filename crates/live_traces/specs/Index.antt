@@ -1,10 +1,12 @@
 -- Where live rows stand, by trace. (Private: no contract of a public call cites it.)
 use Rattle.std.specs.Prelude.{◌≡◌, ℕ, ◌+◌, ◌<◌, ◌≤◌, zero, suc, nat_eq, Bool, List, [], ◌∷◌, Option, None, Some, length, map, filter, take, slice_get, slice_index_or}
 use Rattle.std.specs.Cmp.Lexicographic.{pointwise}
+use Rattle.std.specs.List.Sorted.{IsSortedByKey}
 use Rattle.std.specs.Ordering.{is_eq}
 use Rattle.span_types.specs.declared.ids.TraceId.{TraceId}
 use Rattle.span_types.specs.declared.spans.Row.{Row}
 use Rattle.span_types.specs.Orders.{trace_cmp}
+use Rattle.rows_by_trace.specs.Traces.{rows_of_trace}
 use Rattle.live_traces.specs.Rows.{run_rows}
 use Rattle.live_traces.specs.declared.index.Spot.{Spot}
 use Rattle.live_traces.specs.declared.index.Link.{Link}
@@ -60,3 +62,8 @@ AreSpotsOf parts (spot ∷ spots) (row ∷ rows) = IsSpotOf parts spot row × Ar
 -- the spots of all rows of the parts, in their order
 abbrev pub IndexesTraces : List Spot → List (List Row) → Type 0
 IndexesTraces spots parts = AreSpotsOf parts spots (run_rows parts)
+
+-- spots by trace of one list of rows: of each trace those of its rows, in their order
+pub record IsOrderOf (order : List Spot) (rows : List Row) : Type 0 where
+  pub sorted : IsSortedByKey (λ spot. spot.trace) trace_cmp order
+  pub groups : (trace : TraceId) → AreSpotsOf (rows ∷ []) (spots_of trace order) (rows_of_trace trace rows)

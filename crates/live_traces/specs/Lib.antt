@@ -1,4 +1,5 @@
 pub mod Rows
+pub mod ByTrace
 pub mod Parts
 pub mod Index
 pub mod Whole

@@ -1,27 +1,42 @@
 //! Chunks: the spans of one push, which looks and flushes share, and single rows of them.
 
-ghost use Rattle.std.specs.Prelude.{◌≡◌, ◌<◌, ◌++◌, ◌∷◌, [], IfOk, IfErr, OnOk, length};
+ghost use Rattle.std.specs.Prelude.{◌≡◌, ◌<◌, ◌++◌, Some, IfOk, IfErr, OnOk, length, slice_get};
 ghost use Rattle.rows_by_trace.specs.Traces.{rows_of_trace};
 ghost use Rattle.live_traces.specs.Rows.{chunk_rows, row_of};
 
+use crate::group::{OfTrace, group_of};
+use crate::index::Spot;
+use crate::order::order_of;
+use crate::runs::HasRows;
 use span_types::{Batch, Memory, Place, Row, TraceId, TryCopy};
 use std::alloc::Global;
 use std::marker::Model;
 use std::sync::Arc;
 
+// The spans of one push, and where those of each trace stand, in order of trace.
+#[derive(Drop)]
+pub(crate) struct Body {
+    batch: Batch,
+    order: Vec<Spot>,
+}
+
 /// The spans of one push with its number. A chunk is unchanged once made, and has several holders.
 #[derive(Drop)]
 pub struct Chunk {
     number: u64,
-    batch: Arc<Batch>,
+    body: Arc<Body>,
 }
 
 impl Model for Chunk {
-    ghost use Rattle.live_traces.specs.Rows.{ChunkParts};
+    ghost use Rattle.live_traces.specs.Rows.{ChunkParts, chunk_rows};
+    ghost use Rattle.live_traces.specs.Index.{IsOrderOf};
 
     ghost Value = { ChunkParts };
 
-    ghost view = { λ c. record { number = c.number; spans = c.batch.value.spans } };
+    ghost view = { λ c. record { number = c.number; spans = c.body.value.batch.spans } };
+
+    ghost invariant = { λ c. IsOrderOf c.body.value.order.items
+        (chunk_rows (record { number = c.number; spans = c.body.value.batch.spans })) };
 }
 
 impl Chunk {
@@ -30,9 +45,13 @@ impl Chunk {
         ensures ok { IfOk result (λ c. (c.number ≡ number) × (c.spans ≡ batch.spans)) }
         ensures err { IfErr result (λ b. b ≡ batch) }
     {
-        match Arc::new(alloc, batch) {
-            Ok(batch) => Ok(Chunk { number, batch }),
-            Err(failed) => Err(failed.value),
+        let order = match order_of(alloc, &batch) {
+            Ok(order) => order,
+            Err(_) => return Err(batch),
+        };
+        match Arc::new(alloc, Body { batch, order }) {
+            Ok(body) => Ok(Chunk { number, body }),
+            Err(failed) => Err(failed.value.batch),
         }
     }
 
@@ -40,8 +59,8 @@ impl Chunk {
     pub fn len(&self) -> u32
         ensures { result ≡ length self.now.spans }
     {
-        let batch: &Batch = &self.batch;
-        batch.spans.len() as u32
+        let body: &Body = &self.body;
+        body.batch.spans.len() as u32
     }
 
     /// The trace of a span.
@@ -49,8 +68,8 @@ impl Chunk {
         requires { at < length self.now.spans }
         ensures { result ≡ (row_of self.now at).span.trace }
     {
-        let batch: &Batch = &self.batch;
-        let spans = batch.spans.as_slice();
+        let body: &Body = &self.body;
+        let spans = body.batch.spans.as_slice();
         let span = &spans[at as usize];
         span.trace
     }
@@ -70,8 +89,8 @@ impl Chunk {
         requires { at < length self.now.spans }
         ensures { IfOk result (λ row. row ≡ row_of self.now at) }
     {
-        let batch: &Batch = &self.batch;
-        let spans = batch.spans.as_slice();
+        let body: &Body = &self.body;
+        let spans = body.batch.spans.as_slice();
         let span = spans[at as usize].copy()?;
         let place = self.place(at);
         Ok(Row { place, span })
@@ -85,11 +104,14 @@ impl Chunk {
         let chunk = self.copy()?;
         Ok(SharedRow { chunk, at })
     }
+}
 
-    /// Adds copies of its rows to a list.
-    pub fn copy_rows(&self, rows: &mut Vec<Row>) -> Result<(), Memory>
-        ensures { OnOk result (rows.new.items ≡ rows.old.items ++ chunk_rows self.now) }
-    {
+impl HasRows for Chunk {
+    ghost use Rattle.live_traces.specs.Rows.{chunk_rows};
+
+    ghost listed = { chunk_rows };
+
+    fn copy_rows(&self, rows: &mut Vec<Row>) -> Result<(), Memory> {
         let count = self.len();
         for at in 0..count {
             let row = self.copy_row(at)?;
@@ -98,37 +120,34 @@ impl Chunk {
         Ok(())
     }
 
-    /// Adds copies of its rows of a trace to a list.
-    pub fn copy_rows_of(&self, trace: TraceId, rows: &mut Vec<Row>) -> Result<(), Memory>
-        ensures { OnOk result (rows.new.items ≡ rows.old.items ++ rows_of_trace trace (chunk_rows self.now)) }
-    {
-        let count = self.len();
-        for at in 0..count {
-            copy_if_of(self, at, trace, rows)?;
+    fn copy_rows_of(&self, trace: TraceId, rows: &mut Vec<Row>) -> Result<(), Memory> {
+        let body: &Body = &self.body;
+        let group = group_of(body.order.as_slice(), trace);
+        for spot in group {
+            let row = copy_pushed(self, spot.at)?;
+            rows.push(row)?;
         }
         Ok(())
     }
 }
 
-// A copy of the row, if it is of the trace.
-fn copy_if_of(chunk: &Chunk, at: u32, trace: TraceId, rows: &mut Vec<Row>) -> Result<(), Memory>
+// A copy of the row at a position of a push.
+pub(crate) fn copy_pushed(chunk: &Chunk, at: usize) -> Result<Row, Memory>
     requires { at < length chunk.now.spans }
-    ensures { OnOk result (rows.new.items ≡ rows.old.items ++ rows_of_trace trace (row_of chunk.now at ∷ [])) }
+    ensures { IfOk result (λ row. slice_get (chunk_rows chunk.now) at ≡ Some row) }
 {
-    if chunk.trace(at).cmp(&trace).is_eq() {
-        let row = chunk.copy_row(at)?;
-        rows.push(row)?;
-    }
-    Ok(())
+    prove!(at < chunk.len() as usize);
+    let copy = chunk.copy_row(at as u32)?;
+    Ok(copy)
 }
 
 impl TryCopy for Chunk {
     /// The spans are shared and not copied.
     fn copy(&self) -> Result<Chunk, Memory> {
-        let batch = Arc::try_clone(&self.batch)?;
+        let body = Arc::try_clone(&self.body)?;
         Ok(Chunk {
             number: self.number,
-            batch,
+            body,
         })
     }
 }
@@ -152,14 +171,15 @@ impl Model for SharedRow {
     ghost invariant = { λ r. r.at < length r.chunk.spans };
 }
 
-impl SharedRow {
-    /// Its trace.
-    pub fn trace(&self) -> TraceId
-        ensures { result ≡ self.now.span.trace }
-    {
+impl OfTrace for SharedRow {
+    ghost trace_of = { λ row. row.span.trace };
+
+    fn trace(&self) -> TraceId {
         self.chunk.trace(self.at)
     }
+}
 
+impl SharedRow {
     /// Its place.
     pub fn place(&self) -> Place
         ensures { result ≡ self.now.place }
@@ -182,4 +202,30 @@ impl TryCopy for SharedRow {
         let chunk = self.chunk.copy()?;
         Ok(SharedRow { chunk, at: self.at })
     }
+}
+
+// Adds copies of rows to a list.
+pub(crate) fn copy_all(shared: &[SharedRow], rows: &mut Vec<Row>) -> Result<(), Memory>
+    ensures { OnOk result (rows.new.items ≡ rows.old.items ++ shared.now) }
+{
+    for row in shared {
+        rows.push(row.copy_row()?)?;
+    }
+    Ok(())
+}
+
+// The same of those of a trace, by a walk over all of them.
+pub(crate) fn copy_those_of(
+    shared: &[SharedRow],
+    trace: TraceId,
+    rows: &mut Vec<Row>,
+) -> Result<(), Memory>
+    ensures { OnOk result (rows.new.items ≡ rows.old.items ++ rows_of_trace trace shared.now) }
+{
+    for row in shared {
+        if row.trace().cmp(&trace).is_eq() {
+            rows.push(row.copy_row()?)?;
+        }
+    }
+    Ok(())
 }

@@ -10,11 +10,14 @@ ghost use Rattle.store_model.specs.State.{live_rows};
 ghost use Rattle.store_model.specs.Cut.{cut_order, last_moment};
 ghost use Rattle.store_model.specs.After.{arrived};
 ghost use Rattle.live_traces.specs.Rows.{chunk_rows, run_rows};
+ghost use Rattle.live_traces.specs.ByTrace.{AreByTrace};
 ghost use Rattle.live_traces.specs.Parts.{arrivals_of, goes, goes_by, live_of};
 ghost use Rattle.live_traces.specs.Going.{goes_with, row_goes};
 
 use crate::chunk::{Chunk, SharedRow};
+use crate::group::OfTrace;
 use crate::live::{Arrival, Entry};
+use crate::rest::Rest;
 use crate::run::Run;
 use span_types::{Memory, TraceId, TryCopy};
 use std::alloc::Global;
@@ -66,8 +69,8 @@ fn explode(all: &mut Vec<Entry>, arrivals: &[Arrival]) -> Result<(), Memory>
     Ok(())
 }
 
-// The rows of a chunk as a run.
-fn run_of(alloc: Global, chunk: &Chunk) -> Result<Run, Memory>
+// The rows of a chunk, to be gone over.
+fn run_of(alloc: Global, chunk: &Chunk) -> Result<Rest, Memory>
     ensures { IfOk result (λ run. run ≡ chunk_rows chunk.now) }
 {
     let mut rows = Vec::new(alloc);
@@ -76,7 +79,7 @@ fn run_of(alloc: Global, chunk: &Chunk) -> Result<Run, Memory>
         let row = chunk.row(at)?;
         rows.push(row)?;
     }
-    let run = Run::of(alloc, rows)?;
+    let run = Rest::of(alloc, rows)?;
     Ok(run)
 }
 
@@ -192,7 +195,7 @@ fn add_entry(stay: &mut Vec<Entry>, rows: Vec<SharedRow>, moment: u64) -> Result
     if rows.len() == 0 {
         return Ok(());
     }
-    let run = Run::of(*stay.allocator(), rows)?;
+    let run = Rest::searchable(*stay.allocator(), rows)?;
     stay.push(Entry { run, moment })?;
     Ok(())
 }
@@ -214,12 +217,13 @@ pub(crate) fn in_order(rows: Vec<SharedRow>) -> Vec<SharedRow>
     rows
 }
 
-// Adds rows as a run, if there are any.
+// Adds rows by trace as a run, if there are any.
 pub(crate) fn add_run(
     alloc: Global,
     kept: &mut Vec<Run>,
     rows: Vec<SharedRow>,
 ) -> Result<(), Memory>
+    requires { AreByTrace rows.items }
     ensures others { OnOk result ((n : ℕ) → n ≤ length kept.old.items →
         run_rows (drop n kept.new.items) ≡ run_rows (drop n kept.old.items) ++ rows.items) }
     ensures first { OnOk result ((n : ℕ) → n ≤ length kept.old.items →

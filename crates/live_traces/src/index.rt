@@ -5,6 +5,7 @@ ghost use Rattle.std.specs.HashMap.{get, spare};
 ghost use Rattle.span_types.specs.declared.ids.TraceId.{TraceId};
 ghost use Rattle.live_traces.specs.Index.{AreChained, IsLastOf, linked, spots_of, trace_eq};
 
+use crate::group::OfTrace;
 use span_types::{Memory, TraceId};
 use std::alloc::Global;
 use std::collections::HashMap;
@@ -16,6 +17,14 @@ pub(crate) struct Spot {
     pub(crate) trace: TraceId,
     pub(crate) part: usize,
     pub(crate) at: usize,
+}
+
+impl OfTrace for Spot {
+    ghost trace_of = { λ spot. spot.trace };
+
+    fn trace(&self) -> TraceId {
+        self.trace
+    }
 }
 
 // A spot, and the number of the one before it of the same trace, counted from 1: 0 where there is none.

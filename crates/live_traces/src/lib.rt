@@ -5,13 +5,17 @@
 
 mod chunk;
 mod cut;
+mod group;
 mod index;
 mod live;
 mod lookup;
+mod order;
+mod rest;
 mod run;
 mod runs;
 
 pub use chunk::{Chunk, SharedRow};
 pub use live::{Live, Ready};
+pub use rest::Rest;
 pub use run::Run;
 pub use runs::Runs;

@@ -14,8 +14,9 @@ use crate::chunk::{Chunk, SharedRow};
 use crate::cut::{add_run, in_order, parts};
 use crate::index::TraceIndex;
 use crate::lookup::{add_rows_of, index_of, note_push};
+use crate::rest::Rest;
 use crate::run::Run;
-use crate::runs::{Runs, add_rows_of_runs};
+use crate::runs::{Runs, add_those_of};
 use span_types::{Batch, Memory, Rows, TraceId, TryCopy};
 use std::alloc::Global;
 use std::marker::Model;
@@ -24,7 +25,7 @@ use std::mem;
 // Rows of a push that remained live after a cut, with its moment.
 #[derive(Drop)]
 pub(crate) struct Entry {
-    pub(crate) run: Run,
+    pub(crate) run: Rest,
     pub(crate) moment: u64,
 }
 
@@ -194,7 +195,7 @@ impl Live {
         self.kept = joined(front, back)?;
         self.flushing = size;
         self.flush_rows = self.kept_rows.min(most);
-        Ok(Runs::of(runs, Vec::new(alloc)))
+        Ok(Runs::of(runs, Vec::new(alloc), Vec::new(alloc)))
     }
 
     /// Moves all live rows to the head, by trace and then place, and answers how many.
@@ -251,10 +252,10 @@ impl Live {
         ensures { IfOk result (λ runs. runs ≡ self.now.flushing ++ self.now.head ++ live_rows self.now.live) }
     {
         let alloc = *self.kept.allocator();
-        let mut runs = copies_of_runs(alloc, self.kept.as_slice())?;
-        add_entries(&mut runs, self.entries.as_slice())?;
+        let runs = copies_of_runs(alloc, self.kept.as_slice())?;
+        let rests = rests_of(alloc, self.entries.as_slice())?;
         let pushes = pushes_of(alloc, self.arrivals.as_slice())?;
-        Ok(Runs::of(runs, pushes))
+        Ok(Runs::of(runs, rests, pushes))
     }
 
     /// Copies of all rows.
@@ -265,13 +266,14 @@ impl Live {
         Ok(rows)
     }
 
-    /// Copies of the rows of a trace. It costs the live rows of the trace, and all rows of the head and the flush.
+    /// Copies of the rows of a trace. It costs their number, and of each run of the head and the flush the logarithm of its
+    /// length.
     pub fn rows_of(&self, trace: TraceId) -> Result<Rows, Memory>
         ensures { IfOk result (λ rows. rows
             ≡ rows_of_trace trace (self.now.flushing ++ self.now.head ++ live_rows self.now.live)) }
     {
         let mut rows = Vec::new(*self.kept.allocator());
-        add_rows_of_runs(self.kept.as_slice(), trace, &mut rows)?;
+        add_those_of(self.kept.as_slice(), trace, &mut rows)?;
         let entries = self.entries.as_slice();
         add_rows_of(
             &self.index,
@@ -344,15 +346,16 @@ fn copies_of_runs(alloc: Global, runs: &[Run]) -> Result<Vec<Run>, Memory>
     Ok(all)
 }
 
-// Adds the runs of entries.
-fn add_entries(runs: &mut Vec<Run>, entries: &[Entry]) -> Result<(), Memory>
-    ensures { OnOk result (run_rows runs.new.items ≡ run_rows runs.old.items ++ live_rows (live_of entries.now)) }
+// The rows of entries.
+fn rests_of(alloc: Global, entries: &[Entry]) -> Result<Vec<Rest>, Memory>
+    ensures { IfOk result (λ rests. run_rows rests.items ≡ live_rows (live_of entries.now)) }
 {
+    let mut rests = Vec::new(alloc);
     for entry in entries {
         let run = entry.run.copy()?;
-        runs.push(run)?;
+        rests.push(run)?;
     }
-    Ok(())
+    Ok(rests)
 }
 
 // The pushes of arrivals.

@@ -7,7 +7,8 @@ ghost use Rattle.live_traces.specs.Rows.{chunk_rows, run_rows};
 ghost use Rattle.live_traces.specs.Index.{IndexesTraces, row_at};
 ghost use Rattle.live_traces.specs.Whole.{parts_of};
 
-use crate::chunk::{Chunk, SharedRow};
+use crate::chunk::{Chunk, SharedRow, copy_pushed};
+use crate::group::OfTrace;
 use crate::index::{Spot, TraceIndex};
 use crate::live::{Arrival, Entry};
 use span_types::{Memory, Row, TraceId};
@@ -102,15 +103,5 @@ fn copy_of(rows: &[SharedRow], at: usize) -> Result<Row, Memory>
 {
     let row = &rows[at];
     let copy = row.copy_row()?;
-    Ok(copy)
-}
-
-// A copy of the row at a position of a push.
-fn copy_pushed(chunk: &Chunk, at: usize) -> Result<Row, Memory>
-    requires { at < length chunk.now.spans }
-    ensures { IfOk result (λ row. slice_get (chunk_rows chunk.now) at ≡ Some row) }
-{
-    prove!(at < chunk.len() as usize);
-    let copy = chunk.copy_row(at as u32)?;
     Ok(copy)
 }

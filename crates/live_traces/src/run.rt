@@ -1,14 +1,16 @@
-//! Runs of rows: parts of shared lists of rows.
+//! Runs of rows: parts of shared lists of rows by trace.
 
-ghost use Rattle.std.specs.Prelude.{◌≡◌, ◌≤◌, ◌-◌, ◌++◌, IfOk, OnOk, length, take, drop};
-ghost use Rattle.rows_by_trace.specs.Traces.{rows_of_trace};
+ghost use Rattle.std.specs.Prelude.{◌≡◌, ◌≤◌, ◌-◌, IfOk, length, take, drop};
+ghost use Rattle.live_traces.specs.ByTrace.{AreByTrace};
 
-use crate::chunk::SharedRow;
+use crate::chunk::{SharedRow, copy_all};
+use crate::group::group_of;
+use crate::runs::HasRows;
 use span_types::{Memory, Row, Shared, TraceId, TryCopy};
 use std::alloc::Global;
 use std::marker::Model;
 
-/// Neighbours in a list of rows that is unchanged once made and has several holders. Contracts see the list of them.
+/// Neighbours in a list of rows by trace that is unchanged once made and has several holders. Contracts see the list of them.
 #[derive(Drop)]
 pub struct Run {
     rows: Shared<Vec<SharedRow>>,
@@ -19,17 +21,19 @@ pub struct Run {
 impl Model for Run {
     ghost use Rattle.std.specs.Prelude.{List, length, take, drop, ◌-◌, ◌≤◌};
     ghost use Rattle.span_types.specs.declared.spans.Row.{Row};
+    ghost use Rattle.live_traces.specs.ByTrace.{AreByTrace};
 
     ghost Value = { List Row };
 
     ghost view = { λ r. take (r.to - r.from) (drop r.from r.rows.items) };
 
-    ghost invariant = { λ r. (r.from ≤ r.to) × (r.to ≤ length r.rows.items) };
+    ghost invariant = { λ r. (r.from ≤ r.to) × (r.to ≤ length r.rows.items) × AreByTrace r.rows.items };
 }
 
 impl Run {
-    /// A run of these rows, which are moved and not copied.
+    /// A run of these rows, which are in order of trace. They are moved and not copied.
     pub fn of(alloc: Global, rows: Vec<SharedRow>) -> Result<Run, Memory>
+        requires { AreByTrace rows.items }
         ensures { IfOk result (λ run. run ≡ rows.items) }
     {
         let to = rows.len();
@@ -44,9 +48,10 @@ impl Run {
         self.to - self.from
     }
 
-    /// Its rows.
+    /// Its rows, which are in order of trace.
     pub fn as_slice(&self) -> &[SharedRow]
-        ensures { result.now ≡ self.now }
+        ensures rows { result.now ≡ self.now }
+        ensures by_trace { AreByTrace self.now }
     {
         &self.rows.get().as_slice()[self.from..self.to]
     }
@@ -73,29 +78,18 @@ impl Run {
             to: self.from + high,
         })
     }
+}
 
-    /// Adds copies of its rows to a list.
-    pub fn copy_rows(&self, rows: &mut Vec<Row>) -> Result<(), Memory>
-        ensures { OnOk result (rows.new.items ≡ rows.old.items ++ self.now) }
-    {
-        let own = self.as_slice();
-        for row in own {
-            rows.push(row.copy_row()?)?;
-        }
-        Ok(())
+impl HasRows for Run {
+    ghost listed = { λ run. run };
+
+    fn copy_rows(&self, rows: &mut Vec<Row>) -> Result<(), Memory> {
+        copy_all(self.as_slice(), rows)
     }
 
-    /// Adds copies of its rows of a trace to a list.
-    pub fn copy_rows_of(&self, trace: TraceId, rows: &mut Vec<Row>) -> Result<(), Memory>
-        ensures { OnOk result (rows.new.items ≡ rows.old.items ++ rows_of_trace trace self.now) }
-    {
-        let own = self.as_slice();
-        for row in own {
-            if row.trace().cmp(&trace).is_eq() {
-                rows.push(row.copy_row()?)?;
-            }
-        }
-        Ok(())
+    fn copy_rows_of(&self, trace: TraceId, rows: &mut Vec<Row>) -> Result<(), Memory> {
+        let group = group_of(self.as_slice(), trace);
+        copy_all(group, rows)
     }
 }
 

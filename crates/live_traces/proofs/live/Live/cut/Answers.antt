@@ -1,9 +1,13 @@
 use Rattle.std.proofs.Common.{◌≡◌, [], ◌++◌, ◌∙◌, ap, sym, arith, length, length-append, append-nil, drop}
 use Rattle.live_traces.specs.Rows.{run_rows}
 use Rattle.live_traces.specs.Parts.{LiveParts, arrivals_of, goes, live_of}
+use Rattle.live_traces.proofs.Groups.{cut_by_trace}
 use Rattle.live_traces.proofs.Kept.{cut_counts, cut_moves, cut_stays, on_err}
 use Rattle.live_traces.proofs.Spots.{indexed_at}
 use Rattle.live_traces.proofs.live.Live.cut.Goals as goal
+
+pub add_run-requires : goal.add_run-requires
+add_run-requires c = cut_by_trace c.in_order-moved.result.items c.in_order-moved.ensures.order
 
 pub returns-in_err-add_run-clause-refused : goal.returns-in_err-add_run-clause-refused
 returns-in_err-add_run-clause-refused c = on_err c.from_residual-in_err-add_run.result _ (

@@ -7,7 +7,8 @@ use Rattle.live_traces.proofs.live.Live.take_head.Goals as goal
 pub returns-clause-taken : goal.returns-clause-taken
 returns-clause-taken c =
     let rows : c.of.result ≡ run_rows c.in_ok-front.front.items =
-    c.of.ensures ∙ ap (λ pushes. run_rows c.in_ok-runs.runs.items ++ push_rows pushes) c.new.ensures.items ∙ append-nil (run_rows c.in_ok-runs.runs.items)
+    c.of.ensures ∙ ap (λ pushes. (run_rows c.in_ok-runs.runs.items ++ run_rows c.new.result.items) ++ push_rows pushes) c.new-2.ensures.items
+    ∙ append-nil (run_rows c.in_ok-runs.runs.items ++ run_rows c.new.result.items) ∙ ap (λ rests. run_rows c.in_ok-runs.runs.items ++ run_rows rests) c.new.ensures.items ∙ append-nil (run_rows c.in_ok-runs.runs.items)
     ∙ ap run_rows (c.in_ok-runs.ensures ∙ c.as_slice-2.ensures.value) in
     let front : run_rows c.in_ok-front.front.items ≡ take c.args.most (run_rows c.self.inside.kept.items) =
     c.in_ok-front.ensures.0 ∙ ap (λ runs. take c.args.most (run_rows runs)) c.as_slice.ensures.value in

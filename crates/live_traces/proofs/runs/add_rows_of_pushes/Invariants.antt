@@ -1,8 +1,0 @@
--- So far the rows of the trace in the pushes that were gone over were added.
-use Rattle.std.proofs.Common.{◌≡◌, ◌++◌, take}
-use Rattle.rows_by_trace.specs.Traces.{rows_of_trace}
-use Rattle.live_traces.specs.Rows.{push_rows}
-use Rattle.live_traces.proofs.runs.add_rows_of_pushes.Given as goal
-
-abbrev pub invariant-loop-push : goal.invariant-loop-push
-invariant-loop-push l = l.rows.items ≡ l.fn.rows.items ++ rows_of_trace l.trace (push_rows (take l.push-index l.pushes))
