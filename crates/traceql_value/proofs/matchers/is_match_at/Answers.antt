@@ -1,4 +1,4 @@
-use Rattle.std.proofs.Common.{◌≡◌, ◌<◌, ◌≤◌, length, rules, ap, sym, arith, refl}
+use Rattle.std.proofs.Common.{◌<◌, ◌≤◌, length, rules, sym, arith, refl}
 use Rattle.std.proofs.lemmas.Option.{slice_get_past, slice_get_read}
 use Rattle.regex.specs.Strings.{matcher_pattern}
 use Rattle.traceql_value.proofs.Searching.{found_nowhere, known_kept, same_known}

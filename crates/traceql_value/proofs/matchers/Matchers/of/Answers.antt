@@ -1,11 +1,11 @@
-use Rattle.std.proofs.Common.{◌≡◌, ◌+◌, ◌++◌, ◌∷◌, [], take, subst, sym, ap, ◌∙◌, rules}
+use Rattle.std.proofs.Common.{◌≡◌, ◌+◌, ◌++◌, ◌∷◌, [], take, subst, sym, ap, ◌∙◌}
 use Rattle.std.proofs.lemmas.List.{take_all, take_more}
 use Rattle.traceql_syntax.specs.Trees.{query_tree}
 use Rattle.traceql_types.specs.Asked.{asked_patterns}
 use Rattle.traceql_types.specs.Checks.{AreMade}
 use Rattle.traceql_value.specs.Matchers.{AreSearches, all_known}
 use Rattle.traceql_value.proofs.Placing.{found_by_place}
-use Rattle.traceql_value.proofs.Searching.{EachSearchesFor-first, SearchFor-first, no_searches}
+use Rattle.traceql_value.proofs.Searching.{EachSearchesFor-first, SearchFor-first}
 use Rattle.traceql_value.proofs.matchers.Matchers.of.Goals as goal
 
 pub loop-pattern-preserved : goal.loop-pattern-preserved
