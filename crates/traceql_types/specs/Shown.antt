@@ -1,4 +1,4 @@
--- Private mechanism. What clauses see of the patterns that were found in a query.
+-- What clauses see of the patterns that were found in a query.
 use Rattle.std.specs.Prelude.{List, map}
 use Rattle.traceql_types.specs.declared.asked.Asked.{Asked}
 use Rattle.traceql_types.specs.Asked.{PlacedText}

@@ -12,11 +12,13 @@ use span_types::{Memory, Text};
 use std::alloc::Global;
 use traceql_syntax::{Aggregate, FieldExpr, Operand, Query, SpansetExpr, Stage, Stages, Threshold};
 
-// A pattern's text in a query, and the place of its string.
+/// A pattern that a query asks for.
 #[derive(Clone, Copy, Debug)]
-pub(crate) struct Asked<'a> {
-    pub(crate) at: u64,
-    pub(crate) text: &'a Text,
+pub struct Asked<'a> {
+    /// The place of its string: how many bytes of the query's text stand before it.
+    pub at: u64,
+    /// Its string.
+    pub text: &'a Text,
 }
 
 // Adds the patterns of an expression.
@@ -114,8 +116,8 @@ fn add_stages<'a>(stages: &'a Stages, found: &mut Vec<Asked<'a>>) -> Result<(), 
     Ok(())
 }
 
-// The patterns that a query asks for, in the text's order.
-pub(crate) fn patterns_of(alloc: Global, query: &Query) -> Result<Vec<Asked<'_>>, Memory>
+/// The patterns that a query asks for, one for each `=~` and `!~`, in the text's order. The one error is want of memory.
+pub fn patterns_of(alloc: Global, query: &Query) -> Result<Vec<Asked<'_>>, Memory>
     ensures { IfOk result (λ found. shown_all found.items ≡ asked_patterns (query_tree query.now)) }
 {
     let mut found = Vec::new(alloc);

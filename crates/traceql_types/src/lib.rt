@@ -14,7 +14,7 @@ mod pattern;
 mod queries;
 mod shared;
 
-pub use asked::patterns_in_order;
+pub use asked::{Asked, patterns_in_order, patterns_of};
 pub use checked::{Checked, check};
 pub use errors::{MakeError, TypeError};
 pub use kinds::Kind;

@@ -5,6 +5,7 @@ pub mod Answered
 pub mod Searched
 pub mod Earliest
 pub mod Searching
+pub mod Placing
 pub mod Orders
 pub mod Undivided
 pub mod Answering

@@ -97,11 +97,12 @@ pub(crate) fn evaluate<'s>(
         FieldExpr::Match {
             negated,
             left,
+            pattern_at,
             pattern,
             ..
         } => {
             let value = evaluate(alloc, trace, matchers, &left.expr, span, recursion)?;
-            let truth = matchers.matched(pattern.as_str(), *negated, &value);
+            let truth = matchers.matched(*pattern_at, pattern.as_str(), *negated, &value);
             Ok(ValueRef::Truth(truth))
         }
     }

@@ -11,7 +11,7 @@ pub returns : goal.returns
 returns c =
     let q = query_tree c.args.checked.now.query in
     let context = c.of-context.result in
-    let patterns : context_patterns context ≡ c.args.checked.now.patterns = c.of-context.ensures.patterns ∙ c.in_ok-matchers.ensures in
+    let patterns : context_patterns context ≡ c.args.checked.now.patterns = c.of-context.ensures.patterns ∙ c.in_ok-matchers.ensures.patterns in
     let rows : context_rows context ≡ c.args.trace.now = c.of-context.ensures.rows ∙ c.as_slice.ensures in
     if_ok c.outcome.result (IsCutOutcome None (context_patterns context) (context_rows context) q) (IsOutcome c.args.checked.now.patterns c.args.trace.now q)
     (λ o h. subst (λ ps. IsOutcome ps c.args.trace.now q o) patterns
