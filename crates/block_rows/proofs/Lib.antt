@@ -1,2 +1,2 @@
-mod IndexSizes
+pub mod IndexSizes
 mod Pages

@@ -2,3 +2,4 @@ pub mod StripeRows
 pub mod StripeEncodings
 pub mod StripeReadings
 pub mod Stripes
+pub mod StripeStarts

@@ -8,11 +8,13 @@ mod kinds;
 mod laws;
 mod row_puts;
 mod rows;
+mod starts;
 mod stripe_reading;
 mod stripe_writing;
 
 pub use error::FormatError;
 pub use fill::{put_fill, unfilled};
 pub use laws::{held_is_read, no_rows_have_no_bytes, one_meaning, read_is_held};
+pub use starts::{read_size, read_starts};
 pub use stripe_reading::read_stripe;
 pub use stripe_writing::{can_be_stripe, write_stripe};

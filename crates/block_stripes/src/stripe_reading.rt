@@ -55,7 +55,7 @@ fn stripe(alloc: Global, bytes: &[u8], extended: bool) -> Result<Vec<Row>, Break
 }
 
 /// The bytes up to the end of a content of so many bytes, or all.
-fn front(bytes: &[u8], size: u64) -> &[u8]
+pub fn front(bytes: &[u8], size: u64) -> &[u8]
     requires { 8 ≤ length bytes.now }
     ensures part { result.now ≡ take (8 + size) bytes.now }
     ensures long { 8 ≤ length result.now }
@@ -206,7 +206,7 @@ fn shared<T: Eq + Hash + Drop>(alloc: Global, table: IndexSet<T>) -> Result<Vec<
 
 /// How many rows a stripe has.
 #[tactic(auto, unfolding(crate::specs::StripeReadings::size_at))]
-fn size(fields: &mut Fields) -> Result<u64, Break>
+pub fn size(fields: &mut Fields) -> Result<u64, Break>
     ensures { Finds (λ x. x) result fields.new (size_at fields.old) }
 {
     let count = fields.number()?;

@@ -1,0 +1,7 @@
+mod StripesAgree
+mod StripesBoth
+pub mod BlockBoth
+mod BlockFiles
+mod StripesWalk
+mod Parts
+mod PageReads

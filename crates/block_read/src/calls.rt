@@ -1,0 +1,118 @@
+//! The calls that read a block.
+
+ghost use Rattle.std.specs.Prelude.{◌*◌, ◌≤◌, IfOk, IsTrue};
+ghost use Rattle.std.specs.Int.{div_ceil};
+ghost use Rattle.disk_model.specs.Counts.{MakesCalls};
+ghost use Rattle.rows_by_trace.specs.Traces.{rows_of_trace};
+ghost use Rattle.block_format.specs.Headers.{CanBeHeader};
+ghost use Rattle.block_read.specs.Answers.{AnswersOf, FailsByFault, StaysSame, made_of};
+ghost use Rattle.block_read.specs.BlockReadings.{block_at, info_read, listed_at};
+ghost use Rattle.block_read.specs.Files.{first_bytes};
+
+use crate::block::{Block, block_of};
+use crate::file::{Unread, file_bytes};
+use crate::{Pages, ReadError};
+use block_info::BlockInfo;
+use block_rows::info_of;
+use rows_by_trace::rows_of;
+use span_fields::Break;
+use span_types::{Rows, TraceId};
+use std::alloc::Global;
+
+const PAGE_BYTES: u64 = 4096;
+
+/// The block that the first `length` bytes of a file are.
+fn read_block<P: Pages>(
+    alloc: Global,
+    pages: &mut P,
+    block: u32,
+    length: u64,
+) -> Result<Block, ReadError>
+    ensures answers { IsTrue (P.tells pages.old) → AnswersOf (λ x. x) block result (block_at (first_bytes length (P.held pages.old block))) }
+    ensures rules { IfOk result (λ found. CanBeHeader found.header) }
+    ensures stays { StaysSame P.tells P.held pages.old pages.new }
+    ensures later { P.faults pages.old ≤ P.faults pages.new }
+    ensures cause { FailsByFault (P.faults pages.old) (P.faults pages.new) result }
+    ensures reads { MakesCalls (div_ceil length 4096) (P.reads pages.old) (P.reads pages.new) result }
+{
+    match file_bytes(alloc, pages, block, length) {
+        Ok(bytes) => match block_of(alloc, bytes.as_slice()) {
+            Ok(found) => Ok(found),
+            Err(Break::At(at)) => Err(ReadError::NotBlock { file: block, at }),
+            Err(Break::Memory) => Err(ReadError::Memory),
+        },
+        Err(Unread::Fault) => Err(ReadError::Fault),
+        Err(Unread::Memory) => Err(ReadError::Memory),
+    }
+}
+
+/// All rows of a block, in block order. It has as many pages as its information says, and as many reads are made.
+///
+/// [`ReadError::NotBlock`] comes exactly where these pages are no block, at the first byte of the file where they are malformed.
+pub fn all_rows<P: Pages>(
+    alloc: Global,
+    pages: &mut P,
+    block: u32,
+    info: &BlockInfo,
+) -> Result<Rows, ReadError>
+    ensures answers { IsTrue (P.tells pages.old) → AnswersOf (λ x. x) block result
+        (made_of (λ b. b.rows) (block_at (first_bytes (4096 * info.now.pages) (P.held pages.old block)))) }
+    ensures stays { StaysSame P.tells P.held pages.old pages.new }
+    ensures later { P.faults pages.old ≤ P.faults pages.new }
+    ensures cause { FailsByFault (P.faults pages.old) (P.faults pages.new) result }
+    ensures reads { MakesCalls info.now.pages (P.reads pages.old) (P.reads pages.new) result }
+{
+    let found = read_block(alloc, pages, block, PAGE_BYTES * info.pages)?;
+    Ok(found.rows)
+}
+
+/// The rows of a trace in a block, in block order. As many reads are made as it has pages.
+///
+/// [`ReadError::NotBlock`] comes as in [`all_rows`].
+pub fn trace_rows<P: Pages>(
+    alloc: Global,
+    pages: &mut P,
+    block: u32,
+    info: &BlockInfo,
+    id: TraceId,
+) -> Result<Rows, ReadError>
+    ensures answers { IsTrue (P.tells pages.old) → AnswersOf (λ x. x) block result
+        (made_of (λ b. rows_of_trace id b.rows) (block_at (first_bytes (4096 * info.now.pages) (P.held pages.old block)))) }
+    ensures stays { StaysSame P.tells P.held pages.old pages.new }
+    ensures later { P.faults pages.old ≤ P.faults pages.new }
+    ensures cause { FailsByFault (P.faults pages.old) (P.faults pages.new) result }
+    ensures reads { MakesCalls info.now.pages (P.reads pages.old) (P.reads pages.new) result }
+{
+    let found = read_block(alloc, pages, block, PAGE_BYTES * info.pages)?;
+    match rows_of(alloc, found.rows.as_slice(), id) {
+        Ok(rows) => Ok(Rows::of(rows)),
+        Err(_) => Err(ReadError::Memory),
+    }
+}
+
+/// The information of the block that the first `length` bytes of a file are, by its level, where its list entry says so many
+/// rows. As many reads are made as these bytes have pages.
+///
+/// [`ReadError::NotBlock`] comes exactly where these bytes are no such block, at the first byte where they are malformed.
+#[tactic(auto, unfolding(crate::specs::BlockReadings::listed_at))]
+pub fn check_block<P: Pages>(
+    alloc: Global,
+    pages: &mut P,
+    block: u32,
+    level: u8,
+    rows: u32,
+    length: u64,
+) -> Result<BlockInfo, ReadError>
+    ensures answers { IsTrue (P.tells pages.old) → AnswersOf (λ x. x) block result
+        (made_of (info_read block level) (listed_at rows (first_bytes length (P.held pages.old block)))) }
+    ensures stays { StaysSame P.tells P.held pages.old pages.new }
+    ensures later { P.faults pages.old ≤ P.faults pages.new }
+    ensures cause { FailsByFault (P.faults pages.old) (P.faults pages.new) result }
+    ensures reads { MakesCalls (div_ceil length 4096) (P.reads pages.old) (P.reads pages.new) result }
+{
+    let found = read_block(alloc, pages, block, length)?;
+    if found.rows.len() != rows as usize {
+        return Err(ReadError::NotBlock { file: block, at: 0 });
+    }
+    Ok(info_of(block, level, found.header, rows))
+}

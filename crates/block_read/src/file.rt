@@ -1,0 +1,86 @@
+//! The bytes of a block's file.
+
+ghost use Rattle.std.specs.Prelude.{◌≡◌, ◌-◌, ◌*◌, ◌≤◌, ◌++◌, IfOk, IsTrue, OnOk, length, take};
+ghost use Rattle.std.specs.Int.{div_ceil};
+ghost use Rattle.byte_fields.specs.Reading.{AreBytes};
+ghost use Rattle.disk_model.specs.Counts.{MakesCalls, RoseBy};
+ghost use Rattle.block_read.specs.Answers.{StaysSame, UnreadByFault};
+ghost use Rattle.block_read.specs.Files.{first_bytes, page_of, part_of};
+
+use crate::Pages;
+use std::alloc::Global;
+
+const PAGE_BYTES: u64 = 4096;
+
+/// Why the bytes of a file could not be read.
+#[derive(Clone, Copy, Debug, PartialEq, Eq)]
+pub enum Unread {
+    /// A page could not be read.
+    Fault,
+    /// Memory was wanted and not given.
+    Memory,
+}
+
+/// The first `length` bytes of a file, page by page: no more memory is taken than pages were read.
+pub fn file_bytes<P: Pages>(
+    alloc: Global,
+    pages: &mut P,
+    block: u32,
+    length: u64,
+) -> Result<Vec<u8>, Unread>
+    ensures bytes { IsTrue (P.tells pages.old) → IfOk result (λ bytes. bytes.items ≡ first_bytes length (P.held pages.old block)) }
+    ensures stays { StaysSame P.tells P.held pages.old pages.new }
+    ensures later { P.faults pages.old ≤ P.faults pages.new }
+    ensures cause { UnreadByFault (P.faults pages.old) (P.faults pages.new) result }
+    ensures reads { MakesCalls (div_ceil length 4096) (P.reads pages.old) (P.reads pages.new) result }
+{
+    let mut bytes = Vec::new(alloc);
+    for page in 0..length.div_ceil(PAGE_BYTES) {
+        let wanted = (length - page * PAGE_BYTES).min(PAGE_BYTES);
+        add_page(pages, block, page, wanted, &mut bytes)?;
+    }
+    Ok(bytes)
+}
+
+/// Adds the first so many bytes of a page.
+fn add_page<P: Pages>(
+    pages: &mut P,
+    block: u32,
+    page: u64,
+    wanted: u64,
+    bytes: &mut Vec<u8>,
+) -> Result<(), Unread>
+    requires { wanted ≤ 4096 }
+    ensures bytes { IsTrue (P.tells pages.old) → OnOk result (bytes.new.items ≡ bytes.old.items ++ take wanted (page_of (P.held pages.old block) page)) }
+    ensures stays { StaysSame P.tells P.held pages.old pages.new }
+    ensures later { P.faults pages.old ≤ P.faults pages.new }
+    ensures cause { UnreadByFault (P.faults pages.old) (P.faults pages.new) result }
+    ensures one_read { RoseBy 1 (P.reads pages.old) (P.reads pages.new) }
+{
+    let mut buf = [0; 4096];
+    match pages.page(block, page, &mut buf) {
+        Ok(()) => match bytes.extend_from_slice(&buf[..wanted as usize]) {
+            Ok(()) => Ok(()),
+            Err(_) => Err(Unread::Memory),
+        },
+        Err(_) => Err(Unread::Fault),
+    }
+}
+
+/// So many pages of these bytes from that page on, or what is there of them.
+pub fn part(bytes: &[u8], page: u64, pages: u64) -> &[u8]
+    ensures part { result.now ≡ part_of page pages bytes.now }
+    ensures fits { length result.now ≤ length bytes.now - 4096 * page }
+{
+    let first = page.saturating_mul(PAGE_BYTES).min(bytes.len() as u64) as usize;
+    let rest = &bytes[first..];
+    let size = pages.saturating_mul(PAGE_BYTES).min(rest.len() as u64) as usize;
+    &rest[..size]
+}
+
+/// What bytes promise, for the proof of the caller: each is below 256. It does nothing.
+pub fn each_fits(bytes: &[u8])
+    ensures { AreBytes bytes.now }
+{
+    let _ = bytes;
+}

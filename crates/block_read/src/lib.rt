@@ -1,0 +1,22 @@
+//! Reading a whole block from the pages of its file: its rows, those of one trace, or whether it is one.
+//!
+//! `docs/BLOCK-FORMAT.md` has the bytes and where they are malformed; the definition of reading is in
+//! `specs/BlockReadings.antt`.
+#![tactic(auto)]
+
+mod block;
+mod calls;
+mod error;
+mod file;
+mod header;
+mod indexed;
+mod laws;
+mod memory;
+mod pages;
+mod stripes;
+
+pub use calls::{all_rows, check_block, trace_rows};
+pub use error::ReadError;
+pub use laws::{described_block_is_read, held_block_is_read, read_block_is_held};
+pub use memory::MemPages;
+pub use pages::Pages;
