@@ -86,12 +86,12 @@ fn above_streams(file: File) -> io::Result<File> {
     }
 }
 
-/// Makes a folder, and answers whether it wasn't there. The folder above it has to be there.
-pub fn make_folder(files: &impl Files<File = File>, path: &str) -> io::Result<bool> {
+/// Makes a folder where it isn't there. The folder above it has to be there.
+pub fn make_folder(files: &impl Files<File = File>, path: &str) -> io::Result<()> {
     match fs::create_dir(files, path) {
-        Ok(()) => Ok(true),
+        Ok(()) => Ok(()),
         Err(e) => match fs::metadata(files, path) {
-            Ok(found) if found.is_dir() => Ok(false),
+            Ok(found) if found.is_dir() => Ok(()),
             _ => Err(e),
         },
     }
@@ -102,11 +102,20 @@ pub fn sync_folder(files: &impl Files<File = File>, path: &str) -> io::Result<()
     File::open(files, path)?.sync_all()
 }
 
-/// Makes last that a folder has its name.
+/// Makes last that a folder has its name. A folder above it that this program may not read, or that can't be synced, is
+/// passed over: whoever gave the program its folder there has seen to that.
 pub fn sync_name(files: &impl Files<File = File>, path: &str) -> io::Result<()> {
-    match Path::new(path).parent() {
+    let synced = match Path::new(path).parent() {
         Some(above) if !above.as_str().is_empty() => sync_folder(files, above.as_str()),
         Some(_) => sync_folder(files, "."),
         None => Ok(()),
+    };
+    match synced {
+        Err(e) if can_be_passed_over(e.kind()) => Ok(()),
+        other => other,
     }
+}
+
+fn can_be_passed_over(kind: ErrorKind) -> bool {
+    matches!(kind, ErrorKind::PermissionDenied | ErrorKind::InvalidInput)
 }

@@ -30,7 +30,7 @@ enum Unsynced {
     Nothing,
     /// Those of files that were made or removed.
     Files,
-    /// These, and that of the folder itself.
+    /// These, and that of the folder itself: what an earlier program made, and was killed before it synced, too.
     Folder,
 }
 
@@ -49,14 +49,15 @@ pub struct Folder<R> {
 impl<R: Files<File = File> + Drop> Folder<R> {
     /// The folder of this path. The system isn't asked yet.
     ///
-    /// What an earlier program left of names may not last either, so the first sync syncs the folder.
+    /// An earlier program may have been killed between making a name and syncing it, the folder's own among them. So the
+    /// first sync makes them all last.
     pub fn new(rt: R, alloc: Global, path: String) -> Folder<R> {
         Folder {
             rt,
             alloc,
             path,
             lock: None,
-            unsynced: Unsynced::Files,
+            unsynced: Unsynced::Folder,
             handles: BTreeMap::new(alloc),
             close_at: MOST_OPEN,
         }
@@ -139,9 +140,7 @@ impl<R: Files<File = File> + Drop> Folder<R> {
         if self.lock.is_some() {
             return Ok(());
         }
-        if make_folder(&self.rt, self.path.as_str())? {
-            self.unsynced = Unsynced::Folder;
-        }
+        make_folder(&self.rt, self.path.as_str())?;
         let path = format!(in self.alloc; "{}/lock", self.path)?;
         self.lock = Some(lock(&self.rt, path.as_str())?);
         Ok(())
