@@ -11,7 +11,7 @@ use std::test::Fail;
 use store_state::{FlushFiles, Listing, choose, reclaim};
 
 #[derive(Clone, Copy)]
-enum Event {
+pub(crate) enum Event {
     // A push of a span of each of two traces, at a second.
     Both(u64),
     // A push of another span of the former trace.
@@ -40,10 +40,10 @@ struct Flush {
 
 // What a store keeps beside its disk.
 #[derive(Drop)]
-struct Table {
+pub(crate) struct Table {
     alloc: Global,
-    live: Live,
-    list: Listing,
+    pub(crate) live: Live,
+    pub(crate) list: Listing,
     // The length of the history.
     count: u64,
     flush: Option<Flush>,
@@ -55,7 +55,7 @@ struct Table {
 }
 
 impl Table {
-    fn new(alloc: Global) -> Result<Table, Memory> {
+    pub(crate) fn new(alloc: Global) -> Result<Table, Memory> {
         Ok(Table {
             alloc,
             live: Live::new(alloc),
@@ -177,8 +177,8 @@ impl Table {
         0
     }
 
-    // How many loose files are emptied.
-    fn reclaim(&mut self) -> Result<u64, Memory> {
+    // The loose files that are emptied.
+    pub(crate) fn reclaim(&mut self) -> Result<Vec<u32>, Memory> {
         let mut pinned = Vec::new(self.alloc);
         pinned.extend_from_slice(self.joined.as_slice())?;
         for files in self.pins.as_slice() {
@@ -188,10 +188,10 @@ impl Table {
         let mut free = Vec::with_capacity(self.alloc, self.list.loose.len())?;
         reclaim(&self.list, &mut next, pinned.as_slice(), &mut free);
         self.list = next;
-        Ok(free.len() as u64)
+        Ok(free)
     }
 
-    fn play(&mut self, event: Event) -> Result<u64, Memory> {
+    pub(crate) fn play(&mut self, event: Event) -> Result<u64, Memory> {
         match event {
             Event::Both(second) => self.push(both(self.alloc), second),
             Event::Another(second) => self.push(another(self.alloc), second),
@@ -205,7 +205,7 @@ impl Table {
             Event::DropCompact => self.drop_compact(),
             Event::Look => self.look(),
             Event::Done(pin) => Ok(self.done(pin)),
-            Event::Reclaim => self.reclaim(),
+            Event::Reclaim => Ok(self.reclaim()?.len() as u64),
         }
     }
 

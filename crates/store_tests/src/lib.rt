@@ -8,6 +8,10 @@ mod live;
 #[cfg(test)]
 mod opening;
 #[cfg(test)]
+mod pages;
+#[cfg(test)]
+mod pushes;
+#[cfg(test)]
 mod store;
 #[cfg(test)]
 mod upkeep;

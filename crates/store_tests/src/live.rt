@@ -1,12 +1,12 @@
 //! What waits in memory, played against lists that were worked out by hand.
 
-ghost use Rattle.std.specs.Prelude.{◌≡◌, [], None};
+ghost use Rattle.std.specs.Prelude.{None};
 ghost use Rattle.span_types.specs.Promises.{AreNames};
 
 use live_traces::Live;
 use span_types::{
-    Attrs, Batch, Key, Memory, Resource, Rows, Scope, Seq, SharedResource, SharedScope, Span,
-    SpanId, SpanKind, Spans, StatusCode, Text, TraceId,
+    Attrs, Batch, Key, MOST_SPANS, Memory, Resource, Rows, Scope, Seq, SharedResource, SharedScope,
+    Span, SpanId, SpanKind, Spans, StatusCode, Text, TraceId, TryCopy,
 };
 use std::alloc::Global;
 
@@ -80,9 +80,39 @@ pub(crate) fn another(alloc: Global) -> Result<Batch, Memory> {
     })
 }
 
-pub(crate) fn push(live: &mut Live, number: u64, batch: Batch, moment: u64) -> Result<(), Memory>
-    ensures { (live.old.flushing ≡ []) → live.new.flushing ≡ [] }
-{
+// Adds a copy of the span.
+fn add_copy(one: &Span, spans: &mut Vec<Span>) -> Result<(), Memory> {
+    let copy = one.copy()?;
+    spans.push(copy)?;
+    Ok(())
+}
+
+fn copies(alloc: Global, one: &Span, count: usize) -> Result<Vec<Span>, Memory> {
+    let mut spans = Vec::new(alloc);
+    for _ in 0..count {
+        add_copy(one, &mut spans)?;
+    }
+    Ok(spans)
+}
+
+// The spans as a batch; more than a batch may have are refused.
+fn batch_of(spans: Vec<Span>) -> Result<Batch, Memory> {
+    if spans.len() as u64 > MOST_SPANS {
+        return Err(Memory);
+    }
+    Ok(Batch {
+        spans: Spans::of(spans),
+    })
+}
+
+// A batch of so many spans, all of which have one key.
+pub(crate) fn many(alloc: Global, count: usize) -> Result<Batch, Memory> {
+    let one = span(alloc, ONE)?;
+    let spans = copies(alloc, &one, count)?;
+    batch_of(spans)
+}
+
+pub(crate) fn push(live: &mut Live, number: u64, batch: Batch, moment: u64) -> Result<(), Memory> {
     match live.reserve(number, batch) {
         Ok(ready) => {
             live.add(ready, moment);
@@ -100,42 +130,68 @@ pub(crate) fn are_at(rows: &Rows, places: &[(u64, u32)]) -> bool {
     same
 }
 
+fn has_rows(rows: Result<Rows, Memory>, places: &[(u64, u32)]) -> bool {
+    match rows {
+        Ok(rows) => are_at(&rows, places),
+        Err(_) => false,
+    }
+}
+
+// Whether a cut at this moment moves so many rows.
+fn moves(live: &mut Live, moment: u64, count: u64) -> bool {
+    live.cut_idle(moment) == Ok(count)
+}
+
+fn moves_all(live: &mut Live, count: u64) -> bool {
+    live.cut_all() == Ok(count)
+}
+
+fn cuts(alloc: Global, live: &mut Live) -> Result<bool, Memory> {
+    push(live, 0, both(alloc)?, 10 * SECOND)?;
+    push(live, 1, another(alloc)?, 15 * SECOND)?;
+    let mut same = moves(live, 20 * SECOND - 1, 0);
+    same &= moves(live, 20 * SECOND, 1);
+    same &= has_rows(live.rows(), &[(0, 0), (0, 1), (1, 0)]);
+    push(live, 2, both(alloc)?, 16 * SECOND)?;
+    same &= moves(live, 26 * SECOND - 1, 0);
+    same &= moves_all(live, 4);
+    same &= has_rows(live.rows(), &[(0, 0), (0, 1), (1, 0), (2, 1), (2, 0)]);
+    same &= has_rows(live.rows_of(LATTER.trace), &[(0, 0), (2, 0)]);
+    Ok(same && live.held() == 5)
+}
+
 #[test]
 fn a_cut_moves_idle_traces_and_then_all(rt: HostRuntime) -> Result<(), Memory> {
-    let alloc = rt.alloc();
-    let mut live = Live::new(alloc);
-    push(&mut live, 0, both(alloc)?, 10 * SECOND)?;
-    push(&mut live, 1, another(alloc)?, 15 * SECOND)?;
-    assert_eq!(rt; live.cut_idle(20 * SECOND - 1)?, 0);
-    assert_eq!(rt; live.cut_idle(20 * SECOND)?, 1);
-    assert!(rt; are_at(&live.rows()?, &[(0, 0), (0, 1), (1, 0)]));
-    push(&mut live, 2, both(alloc)?, 16 * SECOND)?;
-    assert_eq!(rt; live.cut_idle(26 * SECOND - 1)?, 0);
-    assert_eq!(rt; live.cut_all()?, 4);
-    assert!(rt; are_at(&live.rows()?, &[(0, 0), (0, 1), (1, 0), (2, 1), (2, 0)]));
-    assert!(rt; are_at(&live.rows_of(LATTER.trace)?, &[(0, 0), (2, 0)]));
-    assert_eq!(rt; live.held(), 5);
+    let mut live = Live::new(rt.alloc());
+    assert!(rt; cuts(rt.alloc(), &mut live)?);
     Ok(())
+}
+
+// Whether a flush takes these rows, and this is then the least number that waits. One that is open is given up before.
+fn takes(live: &mut Live, most: u32, places: &[(u64, u32)], least: u64) -> bool {
+    live.undo_flush();
+    match live.take_head(most) {
+        Ok(taken) => has_rows(taken.copy_rows(), places) && live.least_number() == Some(least),
+        Err(_) => false,
+    }
+}
+
+fn flushes(alloc: Global, live: &mut Live) -> Result<bool, Memory> {
+    push(live, 3, both(alloc)?, 0)?;
+    let mut same = moves_all(live, 2);
+    same &= takes(live, 1, &[(3, 1)], 3);
+    live.undo_flush();
+    same &= has_rows(live.rows(), &[(3, 1), (3, 0)]);
+    push(live, 4, another(alloc)?, 0)?;
+    same &= takes(live, 2, &[(3, 1), (3, 0)], 4);
+    live.end_flush();
+    same &= has_rows(live.rows(), &[(4, 0)]);
+    Ok(same && live.held() == 1)
 }
 
 #[test]
 fn a_flush_ends_or_its_rows_go_back(rt: HostRuntime) -> Result<(), Memory> {
-    let alloc = rt.alloc();
-    let mut live = Live::new(alloc);
-    push(&mut live, 3, both(alloc)?, 0)?;
-    let moved = live.cut_all()?;
-    assert_eq!(rt; moved, 2);
-    let taken = live.take_head(1)?;
-    assert!(rt; are_at(&taken.copy_rows()?, &[(3, 1)]));
-    assert_eq!(rt; live.least_number(), Some(3));
-    live.undo_flush();
-    assert!(rt; are_at(&live.rows()?, &[(3, 1), (3, 0)]));
-    push(&mut live, 4, another(alloc)?, 0)?;
-    let taken = live.take_head(2)?;
-    assert!(rt; are_at(&taken.copy_rows()?, &[(3, 1), (3, 0)]));
-    assert_eq!(rt; live.least_number(), Some(4));
-    live.end_flush();
-    assert!(rt; are_at(&live.rows()?, &[(4, 0)]));
-    assert_eq!(rt; live.held(), 1);
+    let mut live = Live::new(rt.alloc());
+    assert!(rt; flushes(rt.alloc(), &mut live)?);
     Ok(())
 }

@@ -1,14 +1,14 @@
 //! Stores that are opened on bytes which were worked out by hand: lists whose numbers are spent, closed gates, loose files, and new
 //! stores that are stopped.
 
-use crate::store::{Answer, opened, pushes_in, pushes_of};
+use crate::store::{Answer, Step, counted, first_answer, played, pushes_in};
 use block_list::load;
 use disk_model::{Device, MemDisk, write_through};
-use span_types::{Batch, Failed, Spans};
+use span_types::Failed;
 use std::alloc::Global;
 use std::test::Fail;
-use store_core::{Core, OpenError};
-use store_state::{LookPort, PushError};
+use store_core::OpenError;
+use store_state::PushError;
 
 // The slot 0 of a new store: the next file is 3 (byte 6), the floor 0 (byte 10), and the segment in file 2 begins with the number
 // 0 (byte 34).
@@ -26,20 +26,6 @@ fn disk_of(alloc: Global, slot: &[u8], segment: &[u8]) -> Result<MemDisk, Failed
     write_through(&mut disk, 0, 0, slot)?;
     write_through(&mut disk, 2, 0, segment)?;
     Ok(disk)
-}
-
-// Whether the disk is opened, and a push of a batch without spans is then answered so, or is refused so.
-fn answers(alloc: Global, disk: MemDisk, wanted: Result<Answer, OpenError>) -> bool {
-    match Core::open_store(alloc, disk, 7) {
-        Ok(core) => {
-            let mut core = core;
-            let batch = Batch {
-                spans: Spans::none(alloc),
-            };
-            wanted == Ok(core.push(batch, 8))
-        }
-        Err((error, _)) => wanted == Err(error),
-    }
 }
 
 // The slot of a new store with another next file, floor and first number of its segment.
@@ -80,7 +66,10 @@ fn lists_whose_numbers_are_spent(rt: HostRuntime) -> Result<(), Fail> {
     for (next_file, floor, first, wanted) in rows {
         let slot = numbered(next_file, floor, first);
         let disk = disk_of(alloc, &slot, &NO_RECORD)?;
-        assert!(rt; answers(alloc, disk, wanted), "{next_file} {floor} {first}");
+        assert!(rt;
+            first_answer(alloc, disk).0 == wanted,
+            "{next_file} {floor} {first}"
+        );
     }
     Ok(())
 }
@@ -90,21 +79,11 @@ fn the_last_number_is_given_once(rt: HostRuntime) -> Result<(), Fail> {
     let alloc = rt.alloc();
     let last = 4_294_967_294;
     let disk = disk_of(alloc, &numbered(3, last, last), &NO_RECORD)?;
-    let Some(mut core) = opened(alloc, disk) else {
-        panic!(rt; "a store with one number left");
-    };
     let full = Err(PushError::StoreFull {
         pushes: 4_294_967_295,
     });
-    let empty = Batch {
-        spans: Spans::none(alloc),
-    };
-    assert_eq!(rt; core.push(empty, 8), Ok(last));
-    let empty = Batch {
-        spans: Spans::none(alloc),
-    };
-    assert_eq!(rt; core.push(empty, 9), full);
-    assert!(rt; answers(alloc, core.close(), Ok(full)));
+    let (given, disk) = played(alloc, disk, &[Step::Empty(Ok(last)), Step::Empty(full)]);
+    assert!(rt; given && played(alloc, disk, &[Step::Empty(full)]).0);
     Ok(())
 }
 
@@ -132,7 +111,7 @@ fn records_count_up_to_the_first_closed_gate(rt: HostRuntime) -> Result<(), Fail
     for (gates, wanted) in rows {
         let disk = disk_of(alloc, &NEW_STORE, &gated(gates))?;
         assert!(rt;
-            answers(alloc, disk, wanted),
+            first_answer(alloc, disk).0 == wanted,
             "{} {} {}",
             gates[0],
             gates[1],
@@ -151,7 +130,7 @@ fn a_malformed_record_is_told_with_its_place(rt: HostRuntime) -> Result<(), Fail
     ];
     let disk = disk_of(alloc, &NEW_STORE, &segment)?;
     let wanted = Err(OpenError::NotStore { file: 2, at: 18 });
-    assert!(rt; answers(alloc, disk, wanted));
+    assert!(rt; first_answer(alloc, disk).0 == wanted);
     Ok(())
 }
 
@@ -176,11 +155,9 @@ fn loose_file(alloc: Global) -> Result<MemDisk, Failed> {
 #[test]
 fn loose_files_are_emptied(rt: HostRuntime) -> Result<(), Fail> {
     let alloc = rt.alloc();
-    let Some(mut core) = opened(alloc, loose_file(alloc)?) else {
-        panic!(rt; "a store with one push");
-    };
-    assert_eq!(rt; pushes_of(&mut core)?, 1);
-    let mut disk = core.close();
+    let (found, next) = counted(alloc, loose_file(alloc)?);
+    assert_eq!(rt; found, Some(1));
+    let mut disk = next;
     assert_eq!(rt; disk.len(3)?, 0);
     let mut slot = [9u8; 64];
     let count = disk.read(1, 0, &mut slot)?;
@@ -192,10 +169,7 @@ fn loose_files_are_emptied(rt: HostRuntime) -> Result<(), Fail> {
 fn stopped_opening(alloc: Global, disk: MemDisk, calls: u64) -> MemDisk {
     let mut disk = disk;
     disk.stop_after(calls);
-    match Core::open_store(alloc, disk, 7) {
-        Ok(core) => core.close(),
-        Err((_, disk)) => disk,
-    }
+    counted(alloc, disk).1
 }
 
 // Whether file 3 is empty in an image, or is named as loose there.

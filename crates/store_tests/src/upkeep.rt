@@ -2,7 +2,7 @@
 
 ghost use Rattle.store_state.specs.Listed.{HasRoomFor};
 
-use block_list::{BlockRef, SegmentRef};
+use block_list::{BlockRef, ListBody, SegmentRef};
 use span_types::Memory;
 use std::alloc::Global;
 use store_state::{
@@ -138,43 +138,49 @@ fn a_segment_goes_once_its_follower_begins_at_the_floor(rt: HostRuntime) -> Resu
     Ok(())
 }
 
-#[test]
-fn a_compaction_takes_the_place_of_its_blocks(rt: HostRuntime) -> Result<(), Memory> {
-    let alloc = rt.alloc();
+// A list of three blocks, of which the first and the last are to be joined.
+fn three_blocks(alloc: Global) -> Result<Listing, Memory> {
     let mut list = new_store(alloc)?;
     list.blocks.push(block(3, 0, 7))?;
     list.blocks.push(block(5, 1, 9))?;
     list.blocks.push(block(7, 0, 8))?;
     list.next_file = 9;
+    Ok(list)
+}
+
+// The list with the file 9 in the place of both. A flush begins before the commit, and its files are in the list that is committed.
+fn joined(alloc: Global, list: &mut Listing) -> Result<(Listing, FlushFiles), Memory> {
+    let file = begin_compact(list)?;
+    let files = begin_flush(list)?;
+    let next = compacted(alloc, list, &[3, 7], block(file, 1, 12))?;
+    Ok((next, files))
+}
+
+fn is_joined(list: &Listing) -> bool {
+    let blocks = [block(5, 1, 9), block(9, 1, 12)];
+    is_list(list, &blocks, &[(2, 0)], &[3, 7]) && list.next_file == 12
+}
+
+// The body of the list beside an open flush.
+fn body_of(list: Listing, files: FlushFiles) -> Result<ListBody, Memory> {
+    let mut list = list;
+    list.loose.reserve(3)?;
+    Ok(list_body(list, 1, Some(files), None))
+}
+
+#[test]
+fn a_compaction_takes_the_place_of_its_blocks(rt: HostRuntime) -> Result<(), Memory> {
+    let alloc = rt.alloc();
+    let mut list = three_blocks(alloc)?;
     let chosen = choose(alloc, list.blocks.as_slice())?;
     assert_eq!(rt; chosen.as_slice(), [0, 2].as_slice());
-    let file = begin_compact(&mut list)?;
-    // A flush begins before the commit, and its files are in the list that is committed.
-    let files = begin_flush(&mut list)?;
-    let mut list = compacted(alloc, &list, &[3, 7], block(file, 1, 12))?;
-    assert!(rt;
-        is_list(
-            &list,
-            &[block(5, 1, 9), block(9, 1, 12)],
-            &[(2, 0)],
-            &[3, 7]
-        )
-    );
-    assert_eq!(rt; list.next_file, 12);
-    list.loose.reserve(3)?;
-    let body = list_body(list, 1, Some(files), None);
+    let (next, files) = joined(alloc, &mut list)?;
+    assert!(rt; is_joined(&next));
+    let body = body_of(next, files)?;
     assert_eq!(rt; body.loose.as_slice(), [3, 7, 10, 11].as_slice());
     assert_eq!(rt; (body.generation, body.next_file, body.floor), (1, 12, 0));
     // The listing comes back without the files of the flush.
-    let list = listing_of(body, Some(files), None);
-    assert!(rt;
-        is_list(
-            &list,
-            &[block(5, 1, 9), block(9, 1, 12)],
-            &[(2, 0)],
-            &[3, 7]
-        )
-    );
+    assert!(rt; is_joined(&listing_of(body, Some(files), None)));
     Ok(())
 }
 
