@@ -16,7 +16,8 @@ use Rattle.trace_shell.proofs.StoreLemmas.{in_a_store, opened_done, opened_recov
 use Rattle.trace_shell.proofs.dispatch.on_store.Goals as goal
 
 pub do_asked-ending-requires-after_bounds : goal.do_asked-ending-requires-after_bounds
-do_asked-ending-requires-after_bounds g c = let begins = c.in-Ok.ensures.opened.begins in ([], holds_nothing g.D.Device c.in-Ok.core begins.0 begins.1.shows)
+do_asked-ending-requires-after_bounds g c = λ κs outlives.
+    let begins = c.in-Ok.ensures.opened.begins in ([], holds_nothing g.D.Device c.in-Ok.core begins.0 begins.1.shows)
 
 pub returns-in-Ok-clause-ran : goal.returns-in-Ok-clause-ran
 returns-in-Ok-clause-ran g c =
