@@ -1,5 +1,4 @@
-use Rattle.std.proofs.Common.{◌≡◌, Err, Ok, List, ap, map, refl, string_bytes, subst, ◌∙◌, ℕ}
-use Rattle.std.specs.Prelude.{IfOk}
+use Rattle.std.proofs.Common.{Err, ap, map, refl, string_bytes, ◌∙◌}
 use Rattle.command_words.specs.Commands.{Spells, command_of}
 use Rattle.command_words.proofs.Spelled.{spelled_clean, spelled_one}
 use Rattle.session_meaning.specs.declared.ending.Ending.TheVariants.{BadWords, Starved}
@@ -44,7 +43,7 @@ returns-in-Err-Refused-clause-ran g c = (
   refl,
   refuses-none g.P.PatternMaker.makes _ c.args.patterns.now c.args.patterns.now,
   refused_runs (map string_bytes c.args.words.now) (edges g.S.Source.left g.S.Source.faults g.K.Sink.taken g.K.Sink.faults g.C.Clock.moments g.D.Device c.args.source.now c.args.sink.now c.args.clock.now c.args.disk)
-  (c.read_words.ensures.refused (c.in-Err-Refused.is ∙ ap Err c.in-Err-Refused.field-0-is)),
+      (c.read_words.ensures.refused (c.in-Err-Refused.is ∙ ap Err c.in-Err-Refused.field-0-is)),
 )
 
 pub returns-in-Err-Refused-clause-recovers : goal.returns-in-Err-Refused-clause-recovers
@@ -53,7 +52,7 @@ returns-in-Err-Refused-clause-recovers g c = λ told sound. (
   refl,
   refuses-none g.P.PatternMaker.makes _ c.args.patterns.now c.args.patterns.now,
   refused_runs (map string_bytes c.args.words.now) (edges g.S.Source.left g.S.Source.faults g.K.Sink.taken g.K.Sink.faults g.C.Clock.moments g.D.Device c.args.source.now c.args.sink.now c.args.clock.now c.args.disk)
-  (c.read_words.ensures.refused (c.in-Err-Refused.is ∙ ap Err c.in-Err-Refused.field-0-is)),
+      (c.read_words.ensures.refused (c.in-Err-Refused.is ∙ ap Err c.in-Err-Refused.field-0-is)),
   untouched_recovers g.D.Device g.met.D.Device.only_now c.args.disk BadWords,
 )
 

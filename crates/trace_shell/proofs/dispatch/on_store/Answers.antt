@@ -1,6 +1,5 @@
-use Rattle.std.proofs.Common.{◌≡◌, Err, List, Option, [], ap, refl, subst, sym, ◌∙◌, ℕ}
+use Rattle.std.proofs.Common.{List, Option, [], ap, refl, subst, sym, ℕ}
 use Rattle.command_words.specs.Commands.{command_of}
-use Rattle.disk_model.specs.Images.{Image}
 use Rattle.session_meaning.specs.Runs.{Edges, edges}
 use Rattle.session_meaning.specs.Stops.{Recovers}
 use Rattle.store_core.proofs.Past.{stands_since_now}
