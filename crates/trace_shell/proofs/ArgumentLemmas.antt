@@ -1,5 +1,5 @@
 -- The folder and the words among the arguments.
-use Rattle.std.proofs.Common.{◌≡◌, ℕ, ◌≤◌, List, [], ◌∷◌, Some, None, Result, Ok, ap, arith, drop, length, map, refl, string_bytes, sym, ◌∙◌, slice_index_or}
+use Rattle.std.proofs.Common.{◌≡◌, ◌≤◌, List, [], ◌∷◌, Some, Result, Ok, ap, arith, drop, length, map, refl, string_bytes, sym, ◌∙◌, slice_index_or}
 use Rattle.std.specs.Prelude.{String, Vec}
 use Rattle.std.specs.List.{remove}
 use Rattle.std.specs.declared.alloc.Global.{Global}
@@ -26,12 +26,3 @@ pub given_there : (r : Result (Vec (String Global) Global) Unread) (arguments fi
     → given_by r ≡ Some (string_bytes folder, map string_bytes later.items)
 given_there r arguments first later folder is some one named two =
     ap given_by is ∙ behind_two arguments.items first.items later.items folder some one named two
-
--- With fewer there are none.
-pub none_given : (r : Result (Vec (String Global) Global) Unread) (arguments : Vec (String Global) Global) → r ≡ Ok arguments → (2 ≤ length arguments.items → ⊥) → given_by r ≡ None
-none_given r arguments is few = ap given_by is ∙ short arguments.items few
-  where
-    short : (xs : List (String Global)) → (2 ≤ length xs → ⊥) → parted (map string_bytes xs) ≡ None
-    short [] few = refl
-    short (x ∷ []) few = refl
-    short (x ∷ y ∷ xs) few = absurd (few (omega arith))

@@ -1,30 +1,26 @@
 -- What was done by a run, from what its command came to.
-use Rattle.std.proofs.Common.{◌≡◌, ◌≢◌, ◌⊎◌, inl, inr, ℕ, List, [], ◌∷◌, Option, Some, None, true, false, IsTrue, if◌then◌else◌, refl, subst, sym, ◌∙◌, ap}
-use Rattle.std.specs.Prelude.{All, IfSome}
-use Rattle.std.specs.Str.{IsUtf8}
+use Rattle.std.proofs.Common.{◌≡◌, ◌≢◌, inl, inr, ℕ, List, [], ◌∷◌, Option, Some, None, true, false, IsTrue, if◌then◌else◌, refl, subst, sym}
+use Rattle.std.specs.Prelude.{IfSome}
 use Rattle.clap.specs.Words.{Kinds, fault_of}
 use Rattle.command_words.specs.Commands.{Alone, Command, Session as session, Spells}
 use Rattle.command_words.specs.Table.{words_app}
 use Rattle.command_words.proofs.Spelled.{spelled_clean, spelled_one}
 use Rattle.disk_model.specs.Images.{Image}
-use Rattle.disk_model.specs.Crash.{Reached, Run}
+use Rattle.disk_model.specs.Crash.{Reached}
 use Rattle.disk_model.specs.declared.disk.Device.{Ghosts}
 use Rattle.io_edges.specs.Lines.{taken_limit}
 use Rattle.io_edges.specs.Reader.{TakesBytes}
 use Rattle.span_types.specs.Faults.{Rose}
-use Rattle.session_text.specs.declared.reply.Reply.{Reply}
-use Rattle.session_text.specs.Items.{Item}
 use Rattle.store_core.specs.NewCore.{new_machine}
-use Rattle.store_core.specs.Opening.{KeepsDisk, StoreBreaks}
 use Rattle.store_core.specs.declared.error.OpenError.{OpenError}
 use Rattle.store_core.specs.declared.error.OpenError.TheVariants as open_errors
-use Rattle.store_images.specs.Stored.{IsSoundImage, KeepsStored}
+use Rattle.store_images.specs.Stored.{KeepsStored}
 use Rattle.store_images.proofs.Keeping.{keeps_same}
 use Rattle.session_meaning.specs.declared.ending.Ending.{Ending}
 use Rattle.session_meaning.specs.declared.ending.Ending.TheVariants.{Answered, BadWords, NotOpened, NotStore, ReadFault, Refused, Spent, Starved, WriteFault}
 use Rattle.session_meaning.specs.Asked.{after_moment}
-use Rattle.session_meaning.specs.Runs.{Does, DoesInStore, Edges, FitsWords, HasAnswered, HasCause, HasNotOpened, HasRun, IsNoStore, IsPastOpening, IsRunOf, Outcome, told_bytes}
-use Rattle.session_meaning.specs.Session.{At, Session}
+use Rattle.session_meaning.specs.Runs.{Does, DoesInStore, Edges, FitsWords, HasAnswered, HasCause, HasRun, IsNoStore, IsPastOpening, IsRunOf, Outcome, told_bytes}
+use Rattle.session_meaning.specs.Session.{At}
 use Rattle.session_meaning.specs.Stops.{Recovers}
 use Rattle.trace_shell.specs.Turn.{CameOver, HasDone, IsRefusedStore}
 

@@ -1,5 +1,4 @@
-use Rattle.std.proofs.Common.{◌≡◌, Err, Ok, List, ap, map, refl, string_bytes, subst, ◌∙◌, ℕ}
-use Rattle.std.specs.Prelude.{IfOk}
+use Rattle.std.proofs.Common.{Err, ap, map, refl, string_bytes, ◌∙◌}
 use Rattle.command_words.specs.Commands.{Spells, command_of}
 use Rattle.command_words.proofs.Spelled.{spelled_clean, spelled_one}
 use Rattle.session_meaning.specs.declared.ending.Ending.TheVariants.{BadWords, Starved}

@@ -1,6 +1,5 @@
-use Rattle.std.proofs.Common.{◌≡◌, Err, List, Option, [], ap, refl, subst, sym, ◌∙◌, ℕ}
+use Rattle.std.proofs.Common.{List, Option, [], ap, refl, subst, sym, ℕ}
 use Rattle.command_words.specs.Commands.{command_of}
-use Rattle.disk_model.specs.Images.{Image}
 use Rattle.session_meaning.specs.Runs.{Edges, edges}
 use Rattle.session_meaning.specs.Stops.{Recovers}
 use Rattle.store_core.proofs.Past.{stands_since_now}
@@ -16,7 +15,8 @@ use Rattle.trace_shell.proofs.StoreLemmas.{in_a_store, opened_done, opened_recov
 use Rattle.trace_shell.proofs.dispatch.on_store.Goals as goal
 
 pub do_asked-ending-requires-after_bounds : goal.do_asked-ending-requires-after_bounds
-do_asked-ending-requires-after_bounds g c = let begins = c.in-Ok.ensures.opened.begins in ([], holds_nothing g.D.Device c.in-Ok.core begins.0 begins.1.shows)
+do_asked-ending-requires-after_bounds g c = λ κs outlives.
+    let begins = c.in-Ok.ensures.opened.begins in ([], holds_nothing g.D.Device c.in-Ok.core begins.0 begins.1.shows)
 
 pub returns-in-Ok-clause-ran : goal.returns-in-Ok-clause-ran
 returns-in-Ok-clause-ran g c =

@@ -1,5 +1,5 @@
-use Rattle.std.proofs.Common.{◌≤◌, arith, length}
-use Rattle.trace_shell.proofs.ArgumentLemmas.{given_there, none_given}
+use Rattle.std.proofs.Common.{arith}
+use Rattle.trace_shell.proofs.ArgumentLemmas.{given_there}
 use Rattle.trace_shell.proofs.program.folder_and_words.Goals as goal
 
 pub returns-clause-given : goal.returns-clause-given

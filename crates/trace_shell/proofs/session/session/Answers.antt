@@ -23,9 +23,6 @@ lines-init g c = record {
   took = took_none _ _ c.new-reader.ensures.taken;
 }
 
-pub next_line-requires-after_bounds : goal.next_line-requires-after_bounds
-next_line-requires-after_bounds g c = c.lines.invariant.holds
-
 pub lines-preserved : goal.lines-preserved
 lines-preserved g c =
     let at = c.lines.invariant.at in
