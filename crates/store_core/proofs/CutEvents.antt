@@ -51,6 +51,7 @@ has_cut core live m goes moved has head stay flushing = record {
   loose = has.loose;
   next_file = has.next_file;
   begun = has.begun;
+  jobs = has.jobs;
   pins = has.pins;
   read_only = has.read_only;
 }

@@ -26,7 +26,7 @@ use Rattle.store_core.proofs.Looking.{stands_stepped, step_looked, taken_more, l
 
 held_is : (core : CoreState) (m : Machine) → HasState core m → length core.live.flushing + length core.live.head + length core.live.live ≡ held_of m.state
 held_is core m has =
-    ap (λ (r : List Row). length r + length core.live.head + length core.live.live) (has.flushing ∙ sym (ap flush_rows has.flush))
+    ap (λ (r : List Row). length r + length core.live.head + length core.live.live) has.flushing
     ∙ ap (λ (r : List Row). length (flush_rows m.state.flush) + length r + length core.live.live) (sym has.head)
     ∙ ap (λ (l : List LiveRow). length (flush_rows m.state.flush) + length m.state.head + length l) (sym has.live)
 

@@ -50,6 +50,7 @@ tells_less told told' held may_leave core m known s = record {
   now = λ t image left. s.now (known t) image left;
   settled = λ t writes. s.settled (known t) writes;
   sure = s.sure;
+  fresh = λ t writes. s.fresh (known t) writes;
 }
 
 new_is_empty : (h : History) → BeginsEmpty (new_machine h)
