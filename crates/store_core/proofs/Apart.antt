@@ -1,9 +1,8 @@
 -- Changes of files that the list which counts doesn't name yet.
-use Rattle.std.proofs.Common.{◌≡◌, ◌≢◌, ◌⊎◌, inl, inr, ℕ, ◌+◌, ◌<◌, ◌≤◌, List, [], ◌∷◌, ◌++◌, map, length, Some, None, Option, Result, Ok, Err, OnOk, refl, sym, ◌∙◌, ap, subst, arith}
+use Rattle.std.proofs.Common.{◌≡◌, inl, inr, ℕ, ◌<◌, ◌≤◌, List, [], ◌∷◌, ◌++◌, length, Some, Option, Result, Ok, Err, OnOk, refl, sym, ◌∙◌, ap, subst, arith}
 use Rattle.std.specs.List.{Contains}
 use Rattle.std.proofs.lemmas.Bool.{cases_eq}
 use Rattle.std.proofs.lemmas.List.Elements.{Contains-append_left, Contains-append_right}
-use Rattle.span_types.specs.declared.spans.Span.{Span}
 use Rattle.disk_model.specs.Images.{Image, bytes_of, OnFile}
 use Rattle.disk_model.specs.Crash.{OnlyBytes, Within, Reached, RunInFile, ButFor, Run}
 use Rattle.disk_model.proofs.Moments.{widened}
@@ -14,9 +13,9 @@ use Rattle.block_list.specs.Loading.{IsReady, IsFree}
 use Rattle.block_list.proofs.SlotLemmas.{same_some}
 use Rattle.block_list.specs.declared.body.SegmentRef.{SegmentRef}
 use Rattle.block_list.specs.declared.body.ListBody.{ListBody}
-use Rattle.store_model.specs.History.{History, pushed}
+use Rattle.store_model.specs.History.{History}
 use Rattle.store_model.specs.State.{Block}
-use Rattle.store_images.specs.Stored.{ImageStandsFor, MayStandFor, IsTidy, KeepsStored, first_number, named_files, next_file_of}
+use Rattle.store_images.specs.Stored.{KeepsStored, first_number, next_file_of}
 use Rattle.store_images.specs.Settled.{Tail, IsSettled}
 use Rattle.store_images.proofs.Lists.{at_front}
 use Rattle.store_images.proofs.Logs.{log_same}

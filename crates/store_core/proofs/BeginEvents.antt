@@ -1,21 +1,21 @@
 -- A flush that begins, as an event of a core.
-use Rattle.std.proofs.Common.{◌≡◌, ◌≢◌, ◌⊎◌, inl, inr, ℕ, ◌+◌, ◌-◌, ◌^◌, ◌<◌, ◌≤◌, ◌==◌, min, List, [], ◌∷◌, ◌++◌, length, take, drop, Some, None, Option, IfSome, IsTrue, Bool, true, false, refl, sym, ◌∙◌, ap, subst, arith, eq-eqb}
+use Rattle.std.proofs.Common.{◌≡◌, ◌≢◌, ℕ, ◌+◌, ◌-◌, ◌^◌, ◌<◌, ◌≤◌, ◌==◌, min, List, [], ◌∷◌, ◌++◌, length, take, drop, Some, None, Option, IfSome, IsTrue, Bool, true, false, refl, sym, ◌∙◌, ap, subst, arith}
 use Rattle.std.specs.Prelude.{nat_le}
 use Rattle.std.proofs.lemmas.Bool.{le-leb, lt-leb, ne_eqb}
 use Rattle.std.proofs.lemmas.List.{take-append-drop}
 use Rattle.std.specs.Vec.{vec_len, vec_capacity}
 use Rattle.span_types.specs.Faults.{Rose}
 use Rattle.span_types.specs.declared.spans.Row.{Row}
-use Rattle.disk_model.specs.Images.{Image, bytes_of}
+use Rattle.disk_model.specs.Images.{bytes_of}
 use Rattle.disk_model.specs.Crash.{OnlyBytes, Run}
 use Rattle.disk_model.specs.declared.disk.Device.{Ghosts}
 use Rattle.disk_model.proofs.Runs.{run_more}
 use Rattle.head_log.specs.Stands.{SegmentHolds}
 use Rattle.live_traces.specs.Parts.{LiveParts}
-use Rattle.store_model.specs.State.{State, Flush, flush_rows, is_among}
+use Rattle.store_model.specs.State.{Flush, flush_rows, is_among}
 use Rattle.store_model.specs.Choice.{most_rows}
 use Rattle.store_model.specs.After.{after_begin_flush, taken}
-use Rattle.store_model.specs.Event.{Event, Reply, Refusal}
+use Rattle.store_model.specs.Event.{Reply, Refusal}
 use Rattle.store_model.specs.Event.Event.{BeginFlush}
 use Rattle.store_model.specs.Event.Reply.{Nothing, Flushing, Refused}
 use Rattle.store_model.specs.Event.Refusal.{ReadOnly, Busy, FilesSpent, Fault, Memory}
@@ -28,12 +28,12 @@ use Rattle.store_state.specs.declared.listing.FlushFiles.{FlushFiles}
 use Rattle.store_images.specs.Stored.{KeepsStored}
 use Rattle.store_images.proofs.Keeping.{keeps_same}
 use Rattle.store_core.specs.Files.{SameBelow}
-use Rattle.store_core.specs.Jobs.{ShowsFlush, JobsFit, HasFreshSegment}
+use Rattle.store_core.specs.Jobs.{ShowsFlush, HasFreshSegment}
 use Rattle.store_core.specs.declared.jobs.Jobs.{Jobs}
 use Rattle.store_core.specs.declared.jobs.OpenFlush.{OpenFlush}
 use Rattle.store_core.specs.declared.state.CoreState.{CoreState}
 use Rattle.store_core.specs.declared.store.Core.{Core}
-use Rattle.store_core.specs.Cores.{HasState, StandsFor, CoreStandsFor, CoreShows, tail_of, unsure_of}
+use Rattle.store_core.specs.Cores.{HasState, StandsFor, CoreStandsFor, CoreShows, tail_of}
 use Rattle.store_core.specs.Events.{Did}
 use Rattle.store_core.specs.Beginning.{unless_rows}
 use Rattle.store_core.proofs.Apart.{keeps_below, settled_below}

@@ -1,27 +1,22 @@
 -- A flush that is given up, as an event of a core.
-use Rattle.std.proofs.Common.{◌≡◌, ◌≢◌, ℕ, ◌+◌, ◌≤◌, List, [], ◌∷◌, ◌++◌, Some, None, Option, IfSome, refl, sym, ◌∙◌, ap, subst, arith}
-use Rattle.std.specs.Vec.{vec_len, vec_capacity}
+use Rattle.std.proofs.Common.{◌≡◌, ℕ, ◌≤◌, List, [], ◌∷◌, ◌++◌, None, Option, refl, sym, ◌∙◌, ap, subst}
 use Rattle.span_types.specs.declared.spans.Row.{Row}
-use Rattle.disk_model.specs.Images.{bytes_of}
-use Rattle.disk_model.specs.Crash.{OnlyBytes}
 use Rattle.disk_model.specs.declared.disk.Device.{Ghosts}
-use Rattle.head_log.specs.Stands.{SegmentHolds}
 use Rattle.live_traces.specs.Parts.{LiveParts}
-use Rattle.store_model.specs.State.{State, Flush, flush_rows}
+use Rattle.store_model.specs.State.{flush_rows}
 use Rattle.store_model.specs.After.{after_drop_flush}
-use Rattle.store_model.specs.Event.{Event, Reply}
 use Rattle.store_model.specs.Event.Event.{DropFlush}
 use Rattle.store_model.specs.Event.Reply.{Fine, Refused}
 use Rattle.store_model.specs.Event.Refusal.{Fault}
 use Rattle.store_model.specs.Step.{Machine, Step, with_state}
 use Rattle.store_model.specs.Step.Step.{Succeeds}
 use Rattle.store_images.proofs.Keeping.{keeps_same}
-use Rattle.store_core.specs.Jobs.{ShowsFlush, JobsFit, files_of_flush}
+use Rattle.store_core.specs.Jobs.{ShowsFlush, files_of_flush}
 use Rattle.store_core.specs.declared.jobs.Jobs.{Jobs}
 use Rattle.store_core.specs.declared.jobs.OpenFlush.{OpenFlush}
 use Rattle.store_core.specs.declared.state.CoreState.{CoreState}
 use Rattle.store_core.specs.declared.store.Core.{Core}
-use Rattle.store_core.specs.Cores.{HasState, StandsFor}
+use Rattle.store_core.specs.Cores.{HasState}
 use Rattle.store_core.specs.Events.{Did}
 use Rattle.store_core.proofs.Kept.{stands_kept}
 use Rattle.store_core.proofs.NoJobs.{no_segment, none_fit}

@@ -1,13 +1,11 @@
 -- A file of what is held open is no segment's.
-use Rattle.std.proofs.Common.{◌≡◌, ℕ, ◌+◌, ◌≤◌, ◌==◌, Bool, true, false, List, [], ◌∷◌, ◌++◌, Option, Some, None, refl, sym, ◌∙◌, ap, subst, arith, if◌then◌else◌}
-use Rattle.std.proofs.lemmas.Grind.{flat_map-append}
+use Rattle.std.proofs.Common.{◌≡◌, ℕ, ◌≤◌, ◌==◌, Bool, true, false, List, [], ◌∷◌, ◌++◌, Option, Some, refl, sym, ◌∙◌, ap, subst, arith, if◌then◌else◌}
 use Rattle.store_model.specs.State.{State, Pinned, Flush, Compaction, is_among, segment_files, block_files, flush_files, compaction_files, pinned_files, pinned_blocks}
 use Rattle.store_model.specs.Sound.{times, uses, StateIsSound}
 use Rattle.store_model.specs.Holds.{Hold, OpenIn, files_of}
 use Rattle.store_model.specs.Holds.Hold.{OpenLook, OpenFlush, OpenCompact}
 use Rattle.store_model.specs.Step.{Machine}
-use Rattle.store_model.proofs.Numbers.{times-append, times_itself, named}
-use Rattle.store_model.proofs.KeepsFirsts.{map_append}
+use Rattle.store_model.proofs.Numbers.{times-append, named}
 
 pinned_within : (file n : ℕ) (pins : List Pinned) → times file (block_files (pinned_blocks n pins)) ≤ times file (pinned_files pins)
 pinned_within file n [] = omega arith

@@ -1,15 +1,13 @@
 -- Events that write to a disk and leave the history as it is.
-use Rattle.std.proofs.Common.{◌≡◌, ◌≢◌, ◌⊎◌, inl, inr, ℕ, ◌+◌, ◌<◌, ◌≤◌, List, [], ◌∷◌, Some, None, Option, IsTrue, true, false, refl, sym, ◌∙◌, ap, subst, arith}
-use Rattle.std.specs.List.{Contains}
+use Rattle.std.proofs.Common.{◌≡◌, inl, inr, ℕ, ◌≤◌, List, [], Some, None, Option, IsTrue, true, false, sym, ◌∙◌, subst}
 use Rattle.span_types.specs.Faults.{Rose}
 use Rattle.span_types.specs.declared.spans.Span.{Span}
 use Rattle.disk_model.specs.Images.{Image, bytes_of}
-use Rattle.disk_model.specs.Crash.{OnlyBytes, Within, Reached, LeavesOnly, Run}
+use Rattle.disk_model.specs.Crash.{Within, Reached, Run}
 use Rattle.disk_model.specs.declared.disk.Device.{Ghosts}
 use Rattle.disk_model.proofs.Moments.{widened}
-use Rattle.block_list.specs.declared.body.BlockRef.{BlockRef}
 use Rattle.store_model.specs.History.{History, pushed}
-use Rattle.store_model.specs.State.{State, Block, is_among}
+use Rattle.store_model.specs.State.{is_among}
 use Rattle.store_model.specs.Event.{Event, Reply}
 use Rattle.store_model.specs.Event.Reply.{Refused}
 use Rattle.store_model.specs.Event.Refusal.{Fault}
@@ -20,7 +18,7 @@ use Rattle.store_model.proofs.KeepsSound.{step_keeps as keeps_sound}
 use Rattle.store_model.proofs.KeepsFloor.{step_keeps as keeps_floor}
 use Rattle.store_state.specs.Meaning.{Rewritten, reads_of}
 use Rattle.store_state.specs.Calls.{MadeCalls, RoseAtMost}
-use Rattle.store_images.specs.Stored.{MayStandFor, IsTidy, KeepsStored, ref_of}
+use Rattle.store_images.specs.Stored.{MayStandFor, IsTidy, KeepsStored}
 use Rattle.store_images.specs.Settled.{IsSettled}
 use Rattle.store_images.proofs.Keeping.{block_named, given_out}
 use Rattle.store_core.specs.Files.{SameBelow}

@@ -1,14 +1,13 @@
 -- Looks as events of a core.
-use Rattle.std.proofs.Common.{◌≡◌, ◌≢◌, ℕ, ◌+◌, ◌≤◌, ◌==◌, Bool, false, not, List, [], ◌∷◌, ◌++◌, length, map, Some, None, Option, IsTrue, refl, sym, ◌∙◌, ap, subst, arith}
+use Rattle.std.proofs.Common.{◌≡◌, ℕ, ◌+◌, ◌≤◌, ◌==◌, Bool, false, not, List, ◌++◌, length, refl, sym, ◌∙◌, ap}
 use Rattle.std.specs.Prelude.{◌||◌, ◌&&◌}
 use Rattle.std.specs.Prelude.{Vec}
 use Rattle.std.specs.declared.alloc.Global.{Global}
 use Rattle.span_types.specs.declared.spans.Row.{Row}
 use Rattle.disk_model.specs.declared.disk.Device.{Ghosts}
-use Rattle.store_model.specs.State.{State, Flush, LiveRow, flush_rows, live_rows, block_files, held_of}
+use Rattle.store_model.specs.State.{LiveRow, flush_rows, live_rows, held_of}
 use Rattle.store_model.specs.History.{count_of}
 use Rattle.store_model.specs.After.{after_look, after_done}
-use Rattle.store_model.specs.Event.{Event, Reply}
 use Rattle.store_model.specs.Event.Event.{Look, Held, Done}
 use Rattle.store_model.specs.Event.Reply.{Looked, Count, Fine, Refused}
 use Rattle.store_model.specs.Event.Refusal.{Fault, Memory}

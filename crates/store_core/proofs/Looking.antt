@@ -1,5 +1,5 @@
 -- What a look and its end make of a core.
-use Rattle.std.proofs.Common.{◌≡◌, ℕ, ◌≤◌, ◌==◌, Bool, true, false, not, List, [], ◌∷◌, ◌++◌, Some, None, Option, map, refl, sym, ◌∙◌, ap, subst}
+use Rattle.std.proofs.Common.{◌≡◌, ℕ, ◌≤◌, ◌==◌, Bool, false, not, List, ◌++◌, Option, map, refl, sym, ◌∙◌, ap, subst}
 use Rattle.std.specs.Prelude.{◌||◌, ◌&&◌}
 use Rattle.std.specs.Prelude.{Vec}
 use Rattle.std.specs.declared.alloc.Global.{Global}
@@ -7,7 +7,7 @@ use Rattle.std.specs.List.Sorted.{IsPermutation}
 use Rattle.std.proofs.lemmas.List.Sorted.{IsPermutation-refl}
 use Rattle.span_types.specs.declared.spans.Row.{Row}
 use Rattle.disk_model.specs.Images.{Image}
-use Rattle.store_model.specs.State.{State, Flush, Compaction, LiveRow, is_among, pin_numbers, compaction_pins, block_files, flush_rows, live_rows, IsFreeNumber}
+use Rattle.store_model.specs.State.{State, Flush, Compaction, LiveRow, is_among, pin_numbers, compaction_pins, block_files, flush_rows, live_rows}
 use Rattle.store_model.specs.History.{count_of}
 use Rattle.store_model.specs.After.{after_look, after_done}
 use Rattle.store_model.specs.Event.{Event, Reply}

@@ -1,13 +1,11 @@
 -- What the core of a new store stands for.
-use Rattle.std.proofs.Common.{◌≡◌, ◌⊎◌, inl, inr, ℕ, ◌+◌, ◌<◌, ◌≤◌, ◌==◌, List, [], ◌∷◌, map, Some, None, Option, refl, sym, ◌∙◌, ap, subst, arith}
-use Rattle.std.specs.List.{Contains}
+use Rattle.std.proofs.Common.{◌≡◌, inl, inr, ℕ, List, [], ◌∷◌, map, Some, None, Option, refl, sym, ◌∙◌, ap, subst, arith}
 use Rattle.span_types.specs.declared.spans.Span.{Span}
 use Rattle.disk_model.specs.Images.{Image}
 use Rattle.block_list.specs.Body.{MeetsRules}
 use Rattle.block_list.specs.declared.body.ListBody.{ListBody}
 use Rattle.store_model.specs.History.{History}
-use Rattle.store_model.specs.State.{State, Compaction}
-use Rattle.store_model.specs.Sound.{times, StateIsSound}
+use Rattle.store_model.specs.Sound.{StateIsSound}
 use Rattle.store_model.proofs.Numbers.{times_one, times_not}
 use Rattle.store_images.specs.Stored.{MayStandFor}
 use Rattle.store_images.specs.Settled.{Tail, IsSettled}
@@ -16,7 +14,7 @@ use Rattle.store_images.proofs.Storing.{settled_now}
 use Rattle.store_core.specs.declared.state.CoreState.{CoreState}
 use Rattle.store_state.specs.Given.{info_files}
 use Rattle.store_core.specs.Pins.{is_taken}
-use Rattle.store_core.specs.Cores.{HasState, StandsFor, listed_as, segment_of, tail_of, unsure_of}
+use Rattle.store_core.specs.Cores.{StandsFor, listed_as, segment_of, tail_of, unsure_of}
 use Rattle.store_core.specs.Jobs.{ShowsFlush, HasNoJobs}
 use Rattle.store_core.specs.declared.jobs.OpenFlush.{OpenFlush}
 use Rattle.store_core.specs.New.{new_list, new_tail, IsEmptyHistory, IsNewStore}

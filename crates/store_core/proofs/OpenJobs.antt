@@ -1,19 +1,19 @@
 -- The open flush, as each machine has it that a core's memory shows.
-use Rattle.std.proofs.Common.{◌≡◌, ◌≢◌, ◌⊎◌, inl, inr, ℕ, ◌+◌, ◌<◌, ◌≤◌, ◌==◌, List, [], ◌∷◌, ◌++◌, Some, None, Option, IfSome, true, false, refl, sym, ◌∙◌, ap, subst, arith}
+use Rattle.std.proofs.Common.{◌≡◌, ◌≢◌, inl, inr, ℕ, ◌<◌, ◌≤◌, List, [], ◌∷◌, Some, None, Option, IfSome, true, refl, sym, ◌∙◌, subst, arith}
 use Rattle.std.proofs.lemmas.Bool.{cases_lt}
 use Rattle.disk_model.specs.Images.{Image, bytes_of}
 use Rattle.disk_model.specs.Crash.{OnlyBytes}
 use Rattle.head_log.specs.Stands.{SegmentHolds}
-use Rattle.store_model.specs.State.{State, Flush, Compaction, flush_files, is_among}
-use Rattle.store_model.specs.Sound.{times, uses, StateIsSound}
-use Rattle.store_model.specs.Holds.{Hold, OpenIn, IsOpenFlush, files_of}
+use Rattle.store_model.specs.State.{Flush, flush_files, is_among}
+use Rattle.store_model.specs.Sound.{times, StateIsSound}
+use Rattle.store_model.specs.Holds.{Hold, OpenIn, files_of}
 use Rattle.store_model.specs.Step.{Machine}
 use Rattle.store_model.proofs.Numbers.{times-append, times_itself}
 use Rattle.store_state.specs.Given.{IsJobOf}
 use Rattle.store_state.specs.Given.IsJobOf.{OfFlush, OfCompact}
 use Rattle.store_state.specs.Loose.{AreFilesOf}
 use Rattle.store_state.specs.declared.jobs.JobFile.{JobFile}
-use Rattle.store_core.specs.Jobs.{ShowsFlush, JobsFit, HasFreshSegment}
+use Rattle.store_core.specs.Jobs.{ShowsFlush}
 use Rattle.store_core.specs.declared.jobs.OpenFlush.{OpenFlush}
 use Rattle.store_core.specs.declared.state.CoreState.{CoreState}
 use Rattle.store_core.specs.Cores.{HasState}

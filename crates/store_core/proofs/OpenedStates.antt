@@ -1,31 +1,30 @@
 -- What the core of an opened store stands for.
-use Rattle.std.proofs.Common.{◌≡◌, ◌≢◌, ◌⊎◌, inl, inr, ℕ, ◌+◌, ◌-◌, ◌<◌, ◌≤◌, ◌==◌, zero, suc, Bool, true, false, List, [], ◌∷◌, ◌++◌, map, length, take, drop, get_or, nat_eq, slice_index_or, Some, None, Option, refl, sym, ◌∙◌, ap, subst, arith, eq-eqb, append_assoc, length-append, length-drop, length-take, if◌then◌else◌}
-use Rattle.std.specs.List.{Contains, All, IsDistinct, AllByRecursion}
-use Rattle.std.proofs.lemmas.List.{append-nil}
+use Rattle.std.proofs.Common.{◌≡◌, ◌⊎◌, inl, inr, ℕ, ◌+◌, ◌-◌, ◌<◌, ◌≤◌, ◌==◌, zero, suc, true, false, List, [], ◌∷◌, map, length, drop, nat_eq, slice_index_or, Some, None, Option, refl, sym, ◌∙◌, ap, subst, arith, eq-eqb, length-drop, if◌then◌else◌}
+use Rattle.std.specs.List.{Contains, IsDistinct, AllByRecursion}
 use Rattle.std.proofs.lemmas.List.Elements.{All-contains, Contains-append_cases, Contains-append_left, Contains-append_right}
 use Rattle.span_types.specs.declared.spans.Span.{Span}
 use Rattle.span_types.specs.declared.spans.Row.{Row}
-use Rattle.disk_model.specs.Images.{Image, bytes_of}
+use Rattle.disk_model.specs.Images.{Image}
 use Rattle.block_list.specs.Body.{MeetsRules, files_of, successor}
 use Rattle.block_list.specs.declared.body.SegmentRef.{SegmentRef}
 use Rattle.block_list.specs.declared.body.ListBody.{ListBody}
-use Rattle.store_model.specs.History.{History, batch_rows, entry_rows, history_rows, count_of}
-use Rattle.store_model.specs.State.{State, Compaction, Segment as ModelSegment, segment_files, block_rows, is_among}
+use Rattle.store_model.specs.History.{History, batch_rows, entry_rows, count_of}
+use Rattle.store_model.specs.State.{segment_files}
 use Rattle.store_model.specs.RowSets.{OnePlace}
 use Rattle.store_model.specs.Laws.{AgreesOn}
 use Rattle.store_model.specs.Sound.{times, StateIsSound}
 use Rattle.store_model.specs.Step.{Machine}
-use Rattle.store_model.proofs.HistoryLaws.{number_of, position_of}
+use Rattle.store_model.proofs.HistoryLaws.{position_of}
 use Rattle.store_model.proofs.KeepsFirsts.{number_in}
-use Rattle.store_model.proofs.Numbers.{same_number, times-append}
+use Rattle.store_model.proofs.Numbers.{same_number}
 use Rattle.store_images.specs.Stored.{MayStandFor, SameFirsts, stored_rows, first_number}
-use Rattle.store_images.specs.Settled.{Tail, IsSettled}
-use Rattle.store_images.proofs.Lists.{not_in_nil, in_cons, in_map}
+use Rattle.store_images.specs.Settled.{IsSettled}
+use Rattle.store_images.proofs.Lists.{not_in_nil}
 use Rattle.store_images.proofs.Storing.{settled_now, last_first}
 use Rattle.store_core.specs.declared.state.CoreState.{CoreState}
 use Rattle.store_state.specs.Given.{info_files}
 use Rattle.store_core.specs.Pins.{is_taken}
-use Rattle.store_core.specs.Cores.{HasState, StandsFor, listed_as, segment_of, tail_of, unsure_of}
+use Rattle.store_core.specs.Cores.{HasState, StandsFor, listed_as, segment_of, tail_of}
 use Rattle.store_core.specs.Jobs.{ShowsFlush}
 use Rattle.store_core.specs.declared.jobs.OpenFlush.{OpenFlush}
 use Rattle.store_core.specs.Loose.{without_loose, list_after}

@@ -1,10 +1,8 @@
 -- How an opening ends.
-use Rattle.std.proofs.Common.{◌≡◌, ◌≢◌, ℕ, ◌+◌, ◌≤◌, Bool, true, false, IsTrue, List, [], Some, None, Option, Result, Ok, Err, IfOk, IfErr, refl, sym, ◌∙◌, ap, subst, arith}
-use Rattle.std.specs.List.{Contains}
+use Rattle.std.proofs.Common.{◌≡◌, ℕ, ◌≤◌, Bool, true, false, IsTrue, List, [], Some, None, Result, Ok, Err, IfOk, IfErr, refl, sym, ◌∙◌, ap, subst}
 use Rattle.span_types.specs.declared.spans.Span.{Span}
-use Rattle.span_types.specs.declared.spans.Row.{Row}
 use Rattle.disk_model.specs.Images.{Image, bytes_of}
-use Rattle.disk_model.specs.Crash.{OnlyBytes, Within, LeavesOnly, Reached, Run}
+use Rattle.disk_model.specs.Crash.{LeavesOnly, Reached, Run}
 use Rattle.disk_model.specs.declared.disk.Device.{Ghosts}
 use Rattle.disk_model.proofs.Runs.{run_more, run_on}
 use Rattle.disk_model.proofs.Moments.{widened}
@@ -12,16 +10,12 @@ use Rattle.block_list.specs.Body.{MeetsRules}
 use Rattle.block_list.specs.Slots.{ImageHoldsList}
 use Rattle.block_list.specs.Loading.{KeepsList, IsReady}
 use Rattle.block_list.proofs.SlotLemmas.{same_some}
-use Rattle.block_list.specs.declared.body.SegmentRef.{SegmentRef}
 use Rattle.block_list.specs.declared.body.ListBody.{ListBody}
-use Rattle.store_model.specs.History.{History, count_of}
-use Rattle.store_model.specs.State.{State}
-use Rattle.store_model.specs.Laws.{AgreesOn}
+use Rattle.store_model.specs.History.{History}
 use Rattle.store_model.specs.Step.{Machine}
 use Rattle.store_images.specs.Log.{LogHolds}
-use Rattle.store_images.specs.Stored.{ImageStores, ImageStandsFor, IsSoundImage, KeepsStored, first_number}
-use Rattle.store_images.specs.Stored.ImageStores.{vacant, filled}
-use Rattle.store_images.specs.Settled.{Tail, IsSettled}
+use Rattle.store_images.specs.Stored.{ImageStandsFor, IsSoundImage, KeepsStored, first_number}
+use Rattle.store_images.specs.Settled.{IsSettled}
 use Rattle.store_images.proofs.Logs.{log_same}
 use Rattle.store_images.proofs.Keeping.{one_list, loaded, keeps_then}
 use Rattle.store_core.specs.declared.state.CoreState.{CoreState}

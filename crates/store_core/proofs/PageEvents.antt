@@ -1,16 +1,15 @@
 -- A page that is read, as an event of a core.
-use Rattle.std.proofs.Common.{◌≡◌, ◌≢◌, ◌⊎◌, inl, inr, ℕ, ◌+◌, ◌*◌, ◌-◌, ◌^◌, ◌<◌, ◌≤◌, min, List, [], ◌∷◌, ◌++◌, length, take, drop, Some, None, Option, Result, Ok, Err, IsErr, IsTrue, refl, sym, ◌∙◌, ap, subst, arith, length-drop}
+use Rattle.std.proofs.Common.{◌≡◌, inl, inr, ℕ, ◌+◌, ◌-◌, ◌^◌, ◌<◌, ◌≤◌, min, List, [], ◌∷◌, ◌++◌, length, take, drop, Result, Ok, Err, IsErr, IsTrue, refl, sym, ◌∙◌, ap, subst, arith, length-drop}
 use Rattle.std.specs.Prelude.{replicate}
 use Rattle.std.proofs.Math.Seq.{take-append-add, take-length}
 use Rattle.std.proofs.lemmas.Bool.{cases_lt}
 use Rattle.std.proofs.lemmas.List.{append-nil, take-append-le, drop-replicate, take-replicate, length-replicate}
 use Rattle.span_types.specs.Faults.{Rose}
 use Rattle.span_types.specs.declared.errors.Failed.{Failed}
-use Rattle.disk_model.specs.Images.{Image, bytes_of}
-use Rattle.disk_model.specs.Crash.{OnlyBytes, Untouched, Run, HasCause}
+use Rattle.disk_model.specs.Crash.{Untouched, Run}
 use Rattle.disk_model.specs.declared.disk.Device.{Ghosts}
 use Rattle.disk_model.proofs.Runs.{run_untouched}
-use Rattle.store_model.specs.Event.{Event, Reply}
+use Rattle.store_model.specs.Event.{Reply}
 use Rattle.store_model.specs.Event.Event.{ReadPage}
 use Rattle.store_model.specs.Event.Reply.{Page, Refused}
 use Rattle.store_model.specs.Event.Refusal.{Fault}
@@ -21,7 +20,7 @@ use Rattle.store_state.specs.Replies.{page_reply}
 use Rattle.store_images.specs.Stored.{KeepsStored}
 use Rattle.store_images.proofs.Keeping.{keeps_same}
 use Rattle.store_core.specs.declared.store.Core.{Core}
-use Rattle.store_core.specs.Cores.{StandsFor, CoreStandsFor, CoreShows, tail_of}
+use Rattle.store_core.specs.Cores.{StandsFor, CoreStandsFor, tail_of}
 use Rattle.store_core.specs.Events.{Did}
 use Rattle.store_core.specs.Files.{read_over}
 use Rattle.store_core.proofs.Apart.{below_same, settled_below}

@@ -1,30 +1,26 @@
 -- A piece that is written to a job's file, as an event of a core.
-use Rattle.std.proofs.Common.{◌≡◌, ◌≢◌, ◌⊎◌, inl, inr, ℕ, ◌+◌, ◌<◌, ◌≤◌, ◌==◌, List, [], ◌∷◌, ◌++◌, length, Some, None, Option, IsTrue, true, false, if◌then◌else◌, refl, sym, ◌∙◌, ap, subst, arith, eq-eqb}
+use Rattle.std.proofs.Common.{◌≡◌, ◌≢◌, ℕ, ◌≤◌, ◌==◌, List, ◌++◌, length, Some, None, Option, IsTrue, true, false, if◌then◌else◌, refl, sym, ◌∙◌, ap, subst, arith, eq-eqb}
 use Rattle.span_types.specs.Faults.{Rose}
-use Rattle.disk_model.specs.Images.{Image, bytes_of, Besides, OnFile}
+use Rattle.disk_model.specs.Images.{bytes_of, Besides, OnFile}
 use Rattle.disk_model.specs.Bytes.{overwritten, Torn}
 use Rattle.disk_model.specs.Counts.{RoseBy}
-use Rattle.disk_model.specs.Crash.{OnlyBytes, Within, Reached, Elapses, Run}
+use Rattle.disk_model.specs.Crash.{Within, Reached, Elapses, Run}
 use Rattle.disk_model.specs.declared.disk.Device.{Ghosts}
 use Rattle.disk_model.proofs.BytesLemmas.{overwritten_end}
 use Rattle.disk_model.proofs.Passing.{torn_same, other_stays}
 use Rattle.disk_model.proofs.Runs.{run_more, run_change}
-use Rattle.store_model.specs.History.{History}
-use Rattle.store_model.specs.Event.{Event, Reply, Refusal}
 use Rattle.store_model.specs.Event.Event.{WritePiece}
 use Rattle.store_model.specs.Event.Reply.{Fine, Refused}
 use Rattle.store_model.specs.Event.Refusal.{ReadOnly, Fault}
-use Rattle.store_model.specs.Step.{Machine, Step, early, broken, if_read_only}
+use Rattle.store_model.specs.Step.{Machine, early, broken, if_read_only}
 use Rattle.store_model.specs.Step.Step.{Sure, Succeeds, Breaks}
 use Rattle.store_model.proofs.Numbers.{same_number}
 use Rattle.store_images.specs.Stored.{KeepsStored}
-use Rattle.store_images.specs.Settled.{IsSettled}
 use Rattle.store_core.specs.Files.{SameBelow}
 use Rattle.store_core.specs.Jobs.{HasFreshSegment}
 use Rattle.store_core.specs.declared.jobs.OpenFlush.{OpenFlush}
-use Rattle.store_core.specs.declared.state.CoreState.{CoreState}
 use Rattle.store_core.specs.declared.store.Core.{Core}
-use Rattle.store_core.specs.Cores.{HasState, StandsFor, CoreStandsFor, CoreShows, AreDescribed, tail_of, unsure_of}
+use Rattle.store_core.specs.Cores.{HasState, CoreStandsFor, tail_of}
 use Rattle.store_core.specs.Events.{Did}
 use Rattle.store_core.proofs.Apart.{below_change, keeps_below, settled_below}
 use Rattle.store_core.proofs.Kept.{stands_kept, did_kept, described_below}

@@ -1,5 +1,5 @@
 -- A push as an event of a core, by its outcomes.
-use Rattle.std.proofs.Common.{◌≡◌, ◌≢◌, ◌⊎◌, inl, inr, ℕ, ◌+◌, ◌<◌, ◌≤◌, List, [], ◌∷◌, ◌++◌, length, Some, None, Option, IsTrue, refl, sym, ◌∙◌, ap, subst, arith}
+use Rattle.std.proofs.Common.{◌≡◌, ◌≢◌, inl, inr, ℕ, ◌+◌, ◌<◌, ◌≤◌, List, [], ◌∷◌, ◌++◌, length, Some, None, Option, IsTrue, refl, sym, ◌∙◌, ap, subst, arith}
 use Rattle.span_types.specs.Faults.{Rose}
 use Rattle.span_types.specs.declared.spans.Span.{Span}
 use Rattle.disk_model.specs.Images.{Image, bytes_of, Besides}
@@ -13,18 +13,17 @@ use Rattle.live_traces.specs.Parts.{LiveParts}
 use Rattle.live_traces.specs.Rows.{ChunkParts}
 use Rattle.store_model.specs.History.{History, batch_rows, count_of, pushed}
 use Rattle.store_model.specs.After.{arrived}
-use Rattle.store_model.specs.Event.{Event, Reply, Refusal}
+use Rattle.store_model.specs.Event.{Reply, Refusal}
 use Rattle.store_model.specs.Event.Event.{Push}
 use Rattle.store_model.specs.Event.Reply.{Count, Refused}
 use Rattle.store_model.specs.Event.Refusal.{Fault, Memory}
-use Rattle.store_model.specs.Step.{Machine, Step, early, broken}
+use Rattle.store_model.specs.Step.{Machine, early, broken}
 use Rattle.store_model.specs.Step.Step.{Sure, Lacks, Breaks}
 use Rattle.store_images.specs.Stored.{MayStandFor, IsTidy}
 use Rattle.store_images.specs.Settled.{Tail, IsSettled}
 use Rattle.store_images.proofs.Storing.{only_tail, settled_after}
-use Rattle.store_core.specs.declared.state.CoreState.{CoreState}
 use Rattle.store_core.specs.declared.store.Core.{Core}
-use Rattle.store_core.specs.Cores.{HasState, StandsFor, CoreStandsFor, tail_of, unsure_of}
+use Rattle.store_core.specs.Cores.{HasState, CoreStandsFor, tail_of, unsure_of}
 use Rattle.store_state.specs.Calls.{MadeCalls}
 use Rattle.store_core.specs.Events.{Did, Between, unsure_after}
 use Rattle.store_core.proofs.Quiet.{quiet, none_begun}

@@ -1,28 +1,26 @@
 -- What a crash within a push leaves.
-use Rattle.std.proofs.Common.{◌≡◌, ◌≢◌, ◌⊎◌, inl, inr, ℕ, ◌+◌, ◌≤◌, List, [], ◌∷◌, ◌++◌, Some, None, Option, length, map, false, true, refl, sym, ◌∙◌, ap, subst, arith}
+use Rattle.std.proofs.Common.{◌≡◌, ◌≢◌, inl, inr, ℕ, ◌≤◌, List, [], ◌∷◌, ◌++◌, Some, None, map, true, sym, ◌∙◌, ap, subst, arith}
 use Rattle.std.specs.List.{Contains}
-use Rattle.std.proofs.lemmas.List.{map-append}
 use Rattle.span_types.specs.declared.spans.Span.{Span}
 use Rattle.disk_model.specs.Images.{Image, bytes_of, Besides}
-use Rattle.disk_model.specs.Crash.{LeavesOnly, RunInFile, ButFor, OnlyBytes, Within}
+use Rattle.disk_model.specs.Crash.{LeavesOnly, RunInFile, ButFor, Within}
 use Rattle.disk_model.proofs.Passing.{other_stays_run}
 use Rattle.disk_model.proofs.Moments.{widened}
-use Rattle.head_log.specs.declared.segment.Segment.{Segment}
-use Rattle.head_log.specs.Stands.{SegmentHolds, SegmentKeepsEither}
+use Rattle.head_log.specs.Stands.{SegmentKeepsEither}
 use Rattle.block_list.specs.declared.body.SegmentRef.{SegmentRef}
 use Rattle.block_list.specs.declared.body.ListBody.{ListBody}
-use Rattle.store_model.specs.History.{History, pushed}
+use Rattle.store_model.specs.History.{History}
 use Rattle.store_model.specs.State.{Block, is_among, block_files, segment_files}
 use Rattle.store_model.specs.Sound.{times, StateIsSound}
 use Rattle.store_model.specs.Holds.{Hold, OpenIn, files_of}
 use Rattle.store_model.specs.Step.{Machine}
-use Rattle.store_model.proofs.Numbers.{times-append, times_itself}
-use Rattle.store_images.specs.Stored.{MayStandFor, ImageStandsFor, IsTidy}
+use Rattle.store_model.proofs.Numbers.{times_itself}
+use Rattle.store_images.specs.Stored.{MayStandFor, IsTidy}
 use Rattle.store_images.specs.Settled.{Tail, IsSettled}
 use Rattle.store_images.proofs.Lists.{not_in_nil, in_cons}
-use Rattle.store_images.proofs.Storing.{settled_either, settled_tidy, only_tail}
+use Rattle.store_images.proofs.Storing.{settled_either, settled_tidy}
 use Rattle.store_core.specs.declared.state.CoreState.{CoreState}
-use Rattle.store_core.specs.Cores.{HasState, StandsFor, AreDescribed, tail_of, segment_of}
+use Rattle.store_core.specs.Cores.{HasState, StandsFor, AreDescribed, segment_of}
 use Rattle.store_core.proofs.Described.{described_same}
 use Rattle.store_core.specs.Jobs.{HasFreshSegment}
 use Rattle.store_core.specs.declared.jobs.OpenFlush.{OpenFlush}

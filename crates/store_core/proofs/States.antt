@@ -1,12 +1,12 @@
 -- What a core stands for after a change of its memory.
-use Rattle.std.proofs.Common.{◌≡◌, ◌≢◌, ℕ, ◌+◌, ◌<◌, ◌≤◌, List, [], ◌∷◌, ◌++◌, Bool, Some, None, Option, refl, sym, ◌∙◌, ap, subst, arith}
+use Rattle.std.proofs.Common.{◌≡◌, ℕ, ◌+◌, ◌<◌, ◌≤◌, List, [], ◌∷◌, ◌++◌, Some, None, Option, refl, sym, ◌∙◌, ap, subst, arith}
 use Rattle.span_types.specs.declared.spans.Span.{Span}
 use Rattle.disk_model.specs.Images.{Image}
 use Rattle.head_log.specs.declared.segment.Segment.{Segment}
 use Rattle.block_list.specs.declared.body.SegmentRef.{SegmentRef}
 use Rattle.live_traces.specs.Parts.{LiveParts}
 use Rattle.live_traces.specs.Rows.{ChunkParts}
-use Rattle.store_model.specs.History.{History, batch_rows, count_of, pushed}
+use Rattle.store_model.specs.History.{batch_rows, count_of, pushed}
 use Rattle.store_model.specs.State.{State, Block, LiveRow}
 use Rattle.store_model.specs.After.{arrived, after_push}
 use Rattle.store_model.specs.Event.{Event, Reply}
@@ -17,13 +17,13 @@ use Rattle.store_model.specs.Step.Step.{Succeeds}
 use Rattle.store_model.proofs.KeepsFirsts.{step_keeps as keeps_firsts}
 use Rattle.store_model.proofs.KeepsSound.{step_keeps as keeps_sound}
 use Rattle.store_model.proofs.KeepsFloor.{step_keeps as keeps_floor}
-use Rattle.store_images.specs.Stored.{MayStandFor, ImageStandsFor}
-use Rattle.store_images.specs.Settled.{Tail, IsSettled}
+use Rattle.store_images.specs.Stored.{MayStandFor}
+use Rattle.store_images.specs.Settled.{IsSettled}
 use Rattle.store_images.proofs.Growing.{count_of-pushed}
 use Rattle.store_images.proofs.Storing.{settled_now}
 use Rattle.store_core.specs.declared.state.CoreState.{CoreState}
 use Rattle.store_core.specs.Jobs.{HasFreshSegment}
-use Rattle.store_core.specs.Cores.{HasState, StandsFor, AreDescribed, tail_of, unsure_of}
+use Rattle.store_core.specs.Cores.{HasState, StandsFor, AreDescribed, tail_of}
 
 abbrev pub ref_to : ℕ → ℕ → SegmentRef
 ref_to file first = record { file = file; first = first }

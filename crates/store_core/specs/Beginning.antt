@@ -1,5 +1,5 @@
 -- Whether a flush may begin. (Private: no contract of a public call cites it.)
-use Rattle.std.specs.Prelude.{◌≡◌, ℕ, ◌<◌, ◌≤◌, Bool, true, false, length, Option, None, Some}
+use Rattle.std.specs.Prelude.{◌≡◌, ◌<◌, ◌≤◌, Bool, true, false, length, Option, None, Some}
 use Rattle.store_model.specs.Event.{Reply}
 use Rattle.store_model.specs.Event.Reply.{Nothing}
 use Rattle.store_core.specs.declared.state.CoreState.{CoreState}

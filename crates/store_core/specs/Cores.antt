@@ -1,5 +1,5 @@
 -- What a core stands for: a machine of the store's model, which its memory shows in part, and a history that its disk holds.
-use Rattle.std.specs.Prelude.{◌≡◌, ◌⊎◌, ℕ, ◌+◌, ◌≤◌, List, [], ◌∷◌, ◌++◌, map, Option, None, IsTrue}
+use Rattle.std.specs.Prelude.{◌≡◌, ℕ, ◌+◌, ◌≤◌, List, [], ◌∷◌, ◌++◌, map, Option, None, IsTrue}
 use Rattle.std.specs.Option.{option_map}
 use Rattle.span_types.specs.declared.spans.Span.{Span}
 use Rattle.span_types.specs.declared.spans.Row.{Row}
@@ -10,8 +10,8 @@ use Rattle.block_info.specs.InfoParts.{InfoParts}
 use Rattle.block_list.specs.Body.{MeetsRules}
 use Rattle.block_list.specs.declared.body.BlockRef.{BlockRef}
 use Rattle.block_list.specs.declared.body.SegmentRef.{SegmentRef}
-use Rattle.store_model.specs.History.{History, count_of}
-use Rattle.store_model.specs.State.{State, Block, Segment as ModelSegment, pin_numbers, block_files, flush_rows, is_among}
+use Rattle.store_model.specs.History.{count_of}
+use Rattle.store_model.specs.State.{Block, Segment as ModelSegment, pin_numbers, block_files, flush_rows, is_among}
 use Rattle.store_model.specs.Step.{Machine}
 use Rattle.store_model.specs.Laws.{Agrees}
 use Rattle.store_model.specs.Sound.{StateIsSound}

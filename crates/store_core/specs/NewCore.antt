@@ -1,7 +1,6 @@
 -- The core of a new store.
-use Rattle.std.specs.Prelude.{◌≡◌, ℕ, List, [], ◌∷◌, None}
+use Rattle.std.specs.Prelude.{◌≡◌, [], ◌∷◌, None}
 use Rattle.store_model.specs.History.{History}
-use Rattle.store_model.specs.State.{State}
 use Rattle.store_model.specs.Step.{Machine}
 use Rattle.store_core.specs.Jobs.{HasNoJobs}
 use Rattle.store_core.specs.New.{new_list, new_tail, IsEmptyHistory}

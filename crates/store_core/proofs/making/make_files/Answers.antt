@@ -1,7 +1,6 @@
-use Rattle.std.proofs.Common.{◌≡◌, ◌≢◌, ◌≤◌, ℕ, List, [], IsTrue, take, refl, sym, ◌∙◌, subst}
-use Rattle.disk_model.specs.Images.{Image, bytes_of, OnFile}
+use Rattle.std.proofs.Common.{IsTrue, sym, ◌∙◌, subst}
+use Rattle.disk_model.specs.Images.{OnFile}
 use Rattle.disk_model.specs.Bytes.{HalfCut}
-use Rattle.disk_model.specs.Crash.{Run}
 use Rattle.disk_model.proofs.Runs.{run_more, run_on}
 use Rattle.store_core.specs.Files.{SameBelow}
 use Rattle.store_core.proofs.Apart.{below_change, below_in_file, below_then, ok_anyway, ok_each}

@@ -1,4 +1,4 @@
-use Rattle.std.proofs.Common.{◌≡◌, ◌<◌, ◌≤◌, ◌*◌, ℕ, List, ◌++◌, take, drop, IsTrue, OnOk, refl, sym, ◌∙◌, ap}
+use Rattle.std.proofs.Common.{◌*◌, ℕ, List, ◌++◌, take, drop, refl, ◌∙◌, ap}
 use Rattle.std.specs.Prelude.{replicate}
 use Rattle.disk_model.specs.Images.{bytes_of}
 use Rattle.store_core.proofs.Apart.{ok_then}

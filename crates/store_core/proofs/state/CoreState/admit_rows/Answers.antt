@@ -1,4 +1,4 @@
-use Rattle.std.proofs.Common.{◌≡◌, ◌<◌, ◌≤◌, length, true, false, refl, sym, ◌∙◌, arith}
+use Rattle.std.proofs.Common.{◌≤◌, length, sym, ◌∙◌, arith}
 use Rattle.store_core.proofs.BeginEvents.{begin_idle, begin_spent, begin_free}
 use Rattle.store_core.proofs.state.CoreState.admit_rows.Goals as goal
 

@@ -1,4 +1,3 @@
-use Rattle.std.proofs.Common.{◌≡◌, Some, Option, IfSome, subst}
 use Rattle.store_core.proofs.DropEvents.{did_dropped}
 use Rattle.store_core.proofs.OpenJobs.{open_here}
 use Rattle.store_core.proofs.store.Core.drop_flush.Goals as goal

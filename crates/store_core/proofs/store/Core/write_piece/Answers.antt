@@ -1,4 +1,4 @@
-use Rattle.std.proofs.Common.{◌≡◌, ◌≢◌, ◌+◌, ℕ, List, Some, IsTrue, length, refl, sym, ◌∙◌, ap, subst, arith, length-append}
+use Rattle.std.proofs.Common.{ℕ, List, length, refl, ◌∙◌, ap, arith, length-append}
 use Rattle.disk_model.specs.Images.{bytes_of}
 use Rattle.disk_model.proofs.BytesLemmas.{overwritten_end}
 use Rattle.store_core.proofs.OpenJobs.{job_here}
