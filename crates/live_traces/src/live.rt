@@ -179,6 +179,14 @@ impl Live {
         (self.count + self.kept_rows) as u64
     }
 
+    /// How many rows the head has.
+    #[tactic(auto, using(crate::proofs::LiveRows::both_lengths))]
+    pub fn head_len(&self) -> u64
+        ensures { result ≡ length self.now.head }
+    {
+        (self.kept_rows - self.flush_rows) as u64
+    }
+
     /// Takes the first rows of the head for a flush.
     pub fn take_head(&mut self, most: u32) -> Result<Runs, Memory>
         requires { self.now.flushing ≡ [] }

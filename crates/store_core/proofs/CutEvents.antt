@@ -1,5 +1,5 @@
 -- Cuts as events of a core.
-use Rattle.std.proofs.Common.{◌≡◌, ℕ, Bool, true, not, List, [], ◌++◌, length, filter, None, Result, Ok, Err, IfOk, OnErr, refl, sym, ◌∙◌, ap, subst}
+use Rattle.std.proofs.Common.{◌≡◌, ℕ, Bool, true, not, List, ◌++◌, length, filter, None, Result, Ok, Err, IfOk, OnErr, refl, sym, ◌∙◌, ap, subst}
 use Rattle.span_types.specs.declared.spans.Row.{Row}
 use Rattle.span_types.specs.declared.errors.Memory.{Memory}
 use Rattle.disk_model.specs.declared.disk.Device.{Ghosts}
@@ -22,7 +22,7 @@ use Rattle.store_core.specs.Cores.{HasState}
 use Rattle.store_core.specs.Events.{Did}
 use Rattle.store_core.proofs.Quiet.{quiet}
 use Rattle.store_core.proofs.PushEvents.{OnlyNow, refused_is}
-use Rattle.store_core.proofs.States.{SameParts, stands_lacking, stands_by_rows}
+use Rattle.store_core.proofs.States.{stands_lacking, stands_by_rows}
 
 -- what a cut of the live rows that go makes of the parts in memory, and how many rows it moved
 abbrev pub Moves : (List LiveRow → LiveRow → Bool) → List LiveRow → LiveParts → LiveParts → ℕ → Type 0
@@ -51,6 +51,7 @@ has_cut core live m goes moved has head stay flushing = record {
   loose = has.loose;
   next_file = has.next_file;
   begun = has.begun;
+  jobs = has.jobs;
   pins = has.pins;
   read_only = has.read_only;
 }

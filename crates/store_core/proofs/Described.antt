@@ -1,5 +1,5 @@
 -- Blocks that stay described by their information.
-use Rattle.std.proofs.Common.{◌≡◌, ℕ, List, [], ◌∷◌, sym, ap, subst, arith}
+use Rattle.std.proofs.Common.{◌≡◌, ℕ, List, [], ◌∷◌, sym, ap, subst}
 use Rattle.std.specs.Prelude.{drop}
 use Rattle.std.specs.List.{Contains}
 use Rattle.disk_model.specs.Images.{Image, bytes_of}

@@ -1,13 +1,11 @@
 -- A file of what is held open is no segment's.
-use Rattle.std.proofs.Common.{◌≡◌, ℕ, ◌+◌, ◌≤◌, ◌==◌, Bool, true, false, List, [], ◌∷◌, ◌++◌, Option, Some, None, refl, sym, ◌∙◌, ap, subst, arith, if◌then◌else◌}
-use Rattle.std.proofs.lemmas.Grind.{flat_map-append}
+use Rattle.std.proofs.Common.{◌≡◌, ℕ, ◌≤◌, ◌==◌, Bool, true, false, List, [], ◌∷◌, ◌++◌, Option, Some, refl, sym, ◌∙◌, ap, subst, arith, if◌then◌else◌}
 use Rattle.store_model.specs.State.{State, Pinned, Flush, Compaction, is_among, segment_files, block_files, flush_files, compaction_files, pinned_files, pinned_blocks}
 use Rattle.store_model.specs.Sound.{times, uses, StateIsSound}
 use Rattle.store_model.specs.Holds.{Hold, OpenIn, files_of}
 use Rattle.store_model.specs.Holds.Hold.{OpenLook, OpenFlush, OpenCompact}
 use Rattle.store_model.specs.Step.{Machine}
-use Rattle.store_model.proofs.Numbers.{times-append, times_itself, named}
-use Rattle.store_model.proofs.KeepsFirsts.{map_append}
+use Rattle.store_model.proofs.Numbers.{times-append, named}
 
 pinned_within : (file n : ℕ) (pins : List Pinned) → times file (block_files (pinned_blocks n pins)) ≤ times file (pinned_files pins)
 pinned_within file n [] = omega arith
@@ -28,6 +26,14 @@ pinned_apart u sound pin file files its among =
     let used = sound.files.pinned file (omega (arith, one, same, within)) in
     let once = sound.files.once file in
     omega (arith, used, once)
+
+pinned_used : (u : State) → StateIsSound u → (pin file : ℕ) (files : List ℕ) → block_files (pinned_blocks pin u.pins) ≡ files → is_among file files ≡ true → 1 ≤ uses file u
+pinned_used u sound pin file files its among =
+    let one : 1 ≤ times file files = named file files among in
+    let same : times file (block_files (pinned_blocks pin u.pins)) ≡ times file files = ap (times file) its in
+    let within = pinned_within file pin u.pins in
+    let used = sound.files.pinned file (omega (arith, one, same, within)) in
+    omega (arith, used)
 
 -- a job's file has its use there
 flush_apart : (u : State) → StateIsSound u → (file : ℕ) → 1 ≤ times file (flush_files u.flush) → times file (segment_files u.segments) ≡ 0
@@ -62,3 +68,13 @@ held_apart m (OpenCompact number own level pin files) sound is file among =
     by_head file own files (times file (segment_files m.state.segments) ≡ 0) among
     (λ here. compact_apart m.state sound file (in_compaction file m.state.compaction is.job is.is_open (subst (λ (f : ℕ). 1 ≤ times file (f ∷ [])) (sym is.its_file) (one_of file own here))))
     (λ there. pinned_apart m.state sound pin file files is.its_files there)
+
+-- what is held is used
+pub held_used : (m : Machine) (hold : Hold) → StateIsSound m.state → OpenIn m hold → (file : ℕ) → is_among file (files_of hold) ≡ true → 1 ≤ uses file m.state
+held_used m (OpenLook pin files as_of rows) sound is file among = pinned_used m.state sound pin file files is.its_files among
+held_used m (OpenFlush number own rows) sound is file among =
+    let used = in_flush file m.state.flush is.job is.is_open (subst (λ (f : ℕ). 1 ≤ times file (f ∷ [])) (sym is.its_file) (one_of file own among)) in omega (arith, used)
+held_used m (OpenCompact number own level pin files) sound is file among =
+    by_head file own files (1 ≤ uses file m.state) among
+    (λ here. let used = in_compaction file m.state.compaction is.job is.is_open (subst (λ (f : ℕ). 1 ≤ times file (f ∷ [])) (sym is.its_file) (one_of file own here)) in omega (arith, used))
+    (λ there. pinned_used m.state sound pin file files is.its_files there)

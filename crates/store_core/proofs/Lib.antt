@@ -1,7 +1,9 @@
 mod Quiet
 mod Described
+mod NoJobs
 mod States
 mod HeldFiles
+mod OpenJobs
 mod Pushing
 mod PinNumbers
 mod Looking
@@ -12,6 +14,12 @@ mod PushEvents
 pub mod Past
 mod LookEvents
 pub mod CutEvents
+mod Apart
+mod Kept
+mod PageEvents
+mod PieceEvents
+mod DropEvents
+mod BeginEvents
 mod PortEvents
 pub mod LogSteps
 mod LooseFiles

@@ -1,14 +1,13 @@
 -- Looks as events of a core.
-use Rattle.std.proofs.Common.{◌≡◌, ◌≢◌, ℕ, ◌+◌, ◌≤◌, ◌==◌, Bool, false, not, List, [], ◌∷◌, ◌++◌, length, map, Some, None, Option, IsTrue, refl, sym, ◌∙◌, ap, subst, arith}
+use Rattle.std.proofs.Common.{◌≡◌, ℕ, ◌+◌, ◌≤◌, ◌==◌, Bool, false, not, List, ◌++◌, length, refl, sym, ◌∙◌, ap}
 use Rattle.std.specs.Prelude.{◌||◌, ◌&&◌}
 use Rattle.std.specs.Prelude.{Vec}
 use Rattle.std.specs.declared.alloc.Global.{Global}
 use Rattle.span_types.specs.declared.spans.Row.{Row}
 use Rattle.disk_model.specs.declared.disk.Device.{Ghosts}
-use Rattle.store_model.specs.State.{State, Flush, LiveRow, flush_rows, live_rows, block_files, held_of}
+use Rattle.store_model.specs.State.{LiveRow, flush_rows, live_rows, held_of}
 use Rattle.store_model.specs.History.{count_of}
 use Rattle.store_model.specs.After.{after_look, after_done}
-use Rattle.store_model.specs.Event.{Event, Reply}
 use Rattle.store_model.specs.Event.Event.{Look, Held, Done}
 use Rattle.store_model.specs.Event.Reply.{Looked, Count, Fine, Refused}
 use Rattle.store_model.specs.Event.Refusal.{Fault, Memory}
@@ -26,7 +25,7 @@ use Rattle.store_core.proofs.Looking.{stands_stepped, step_looked, taken_more, l
 
 held_is : (core : CoreState) (m : Machine) → HasState core m → length core.live.flushing + length core.live.head + length core.live.live ≡ held_of m.state
 held_is core m has =
-    ap (λ (r : List Row). length r + length core.live.head + length core.live.live) (has.flushing ∙ sym (ap flush_rows has.flush))
+    ap (λ (r : List Row). length r + length core.live.head + length core.live.live) has.flushing
     ∙ ap (λ (r : List Row). length (flush_rows m.state.flush) + length r + length core.live.live) (sym has.head)
     ∙ ap (λ (l : List LiveRow). length (flush_rows m.state.flush) + length m.state.head + length l) (sym has.live)
 

@@ -1,5 +1,5 @@
 -- What a look and its end make of a core.
-use Rattle.std.proofs.Common.{◌≡◌, ℕ, ◌≤◌, ◌==◌, Bool, true, false, not, List, [], ◌∷◌, ◌++◌, Some, None, Option, map, refl, sym, ◌∙◌, ap, subst}
+use Rattle.std.proofs.Common.{◌≡◌, ℕ, ◌≤◌, ◌==◌, Bool, false, not, List, ◌++◌, Option, map, refl, sym, ◌∙◌, ap, subst}
 use Rattle.std.specs.Prelude.{◌||◌, ◌&&◌}
 use Rattle.std.specs.Prelude.{Vec}
 use Rattle.std.specs.declared.alloc.Global.{Global}
@@ -7,7 +7,7 @@ use Rattle.std.specs.List.Sorted.{IsPermutation}
 use Rattle.std.proofs.lemmas.List.Sorted.{IsPermutation-refl}
 use Rattle.span_types.specs.declared.spans.Row.{Row}
 use Rattle.disk_model.specs.Images.{Image}
-use Rattle.store_model.specs.State.{State, Flush, Compaction, LiveRow, is_among, pin_numbers, compaction_pins, block_files, flush_rows, live_rows, IsFreeNumber}
+use Rattle.store_model.specs.State.{State, Flush, Compaction, LiveRow, is_among, pin_numbers, compaction_pins, block_files, flush_rows, live_rows}
 use Rattle.store_model.specs.History.{count_of}
 use Rattle.store_model.specs.After.{after_look, after_done}
 use Rattle.store_model.specs.Event.{Event, Reply}
@@ -22,6 +22,7 @@ use Rattle.store_core.specs.Pins.{is_taken}
 use Rattle.store_core.specs.declared.state.CoreState.{CoreState}
 use Rattle.store_images.specs.Stored.{ref_of}
 use Rattle.store_images.specs.Settled.{IsSettled}
+use Rattle.store_core.specs.Jobs.{ShowsFlush}
 use Rattle.store_core.specs.Cores.{HasState, StandsFor, AreDescribed, tail_of}
 use Rattle.store_core.proofs.PinNumbers.{among-more, among-less}
 
@@ -34,8 +35,8 @@ has_pins core pins m m' has history read_only state taken = record {
   few = has.few;
   live = ap (λ (u : State). u.live) state ∙ has.live;
   head = ap (λ (u : State). u.head) state ∙ has.head;
-  flushing = has.flushing;
-  flush = ap (λ (u : State). u.flush) state ∙ has.flush;
+  flushing = has.flushing ∙ ap (λ (u : State). flush_rows u.flush) (sym state);
+  flush = subst (λ (f : Option Flush). ShowsFlush core.jobs.flush f) (sym (ap (λ (u : State). u.flush) state)) has.flush;
   compaction = ap (λ (u : State). u.compaction) state ∙ has.compaction;
   blocks = has.blocks ∙ ap (λ (u : State). map ref_of u.blocks) (sym state);
   infos = has.infos ∙ ap (λ (u : State). block_files u.blocks) (sym state);
@@ -47,6 +48,7 @@ has_pins core pins m m' has history read_only state taken = record {
   loose = ap (λ (u : State). u.loose) state ∙ has.loose;
   next_file = ap (λ (u : State). u.next_file) state ∙ has.next_file;
   begun = ap (λ (u : State). u.begun) state ∙ has.begun;
+  jobs = has.jobs;
   pins = taken;
   read_only = read_only ∙ has.read_only;
 }
@@ -65,6 +67,7 @@ stands_stepped told held may_leave core pins m u before faults e r s state step 
   built = λ t. subst (AreDescribed held core.infos) (sym (ap (λ (v : State). v.blocks) state)) (s.built t);
   settled = λ t free. subst (λ (b : _). IsSettled held may_leave core.list b (tail_of core.segment) m.history) (sym (ap (λ (v : State). v.blocks) state)) (s.settled t free);
   sure = s.sure;
+  fresh = s.fresh;
 }
 
 -- ---- a look
@@ -74,7 +77,7 @@ pub waiting_in : (core : CoreState) (m : Machine) (rows : List Row) → HasState
     → IsPermutation (flush_rows m.state.flush ++ m.state.head ++ live_rows m.state.live) rows
 waiting_in core m rows has is =
     let all : rows ≡ flush_rows m.state.flush ++ m.state.head ++ live_rows m.state.live =
-    is ∙ ap (λ (r : List Row). r ++ core.live.head ++ live_rows core.live.live) (has.flushing ∙ sym (ap flush_rows has.flush))
+    is ∙ ap (λ (r : List Row). r ++ core.live.head ++ live_rows core.live.live) has.flushing
     ∙ ap (λ (r : List Row). flush_rows m.state.flush ++ r ++ live_rows core.live.live) (sym has.head)
     ∙ ap (λ (l : List LiveRow). flush_rows m.state.flush ++ m.state.head ++ live_rows l) (sym has.live) in
     subst (λ (r : List Row). IsPermutation r rows) all (IsPermutation-refl rows)

@@ -1,13 +1,11 @@
 -- What the core of a new store stands for.
-use Rattle.std.proofs.Common.{◌≡◌, ◌⊎◌, inl, inr, ℕ, ◌+◌, ◌<◌, ◌≤◌, ◌==◌, List, [], ◌∷◌, map, Some, None, Option, refl, sym, ◌∙◌, ap, subst, arith}
-use Rattle.std.specs.List.{Contains}
+use Rattle.std.proofs.Common.{◌≡◌, inl, inr, ℕ, List, [], ◌∷◌, map, Some, None, Option, refl, sym, ◌∙◌, ap, subst, arith}
 use Rattle.span_types.specs.declared.spans.Span.{Span}
 use Rattle.disk_model.specs.Images.{Image}
 use Rattle.block_list.specs.Body.{MeetsRules}
 use Rattle.block_list.specs.declared.body.ListBody.{ListBody}
 use Rattle.store_model.specs.History.{History}
-use Rattle.store_model.specs.State.{State, Compaction}
-use Rattle.store_model.specs.Sound.{times, StateIsSound}
+use Rattle.store_model.specs.Sound.{StateIsSound}
 use Rattle.store_model.proofs.Numbers.{times_one, times_not}
 use Rattle.store_images.specs.Stored.{MayStandFor}
 use Rattle.store_images.specs.Settled.{Tail, IsSettled}
@@ -16,10 +14,13 @@ use Rattle.store_images.proofs.Storing.{settled_now}
 use Rattle.store_core.specs.declared.state.CoreState.{CoreState}
 use Rattle.store_state.specs.Given.{info_files}
 use Rattle.store_core.specs.Pins.{is_taken}
-use Rattle.store_core.specs.Cores.{HasState, StandsFor, listed_as, segment_of, tail_of, unsure_of}
+use Rattle.store_core.specs.Cores.{StandsFor, listed_as, segment_of, tail_of, unsure_of}
+use Rattle.store_core.specs.Jobs.{ShowsFlush, HasNoJobs}
+use Rattle.store_core.specs.declared.jobs.OpenFlush.{OpenFlush}
 use Rattle.store_core.specs.New.{new_list, new_tail, IsEmptyHistory, IsNewStore}
 use Rattle.store_core.specs.NewCore.{new_machine, IsNewState}
 use Rattle.store_core.proofs.Described.{none_described}
+use Rattle.store_core.proofs.NoJobs.{no_segment, none_fit}
 use Rattle.store_core.proofs.States.{ref_to}
 use Rattle.store_core.proofs.Founding.{rules_new}
 
@@ -66,18 +67,19 @@ new_stands told held may_leave core h new made empty = record {
   now = λ t image left. subst (λ (u : Option (List Span)). MayStandFor h u image) (sym new.sure) (settled_now held may_leave new_list [] new_tail h (made t h empty) image left);
   settled = λ t free. subst (λ (l : ListBody). IsSettled held may_leave l [] (tail_of core.segment) h) (sym new.list) (subst (λ (x : Tail). IsSettled held may_leave new_list [] x h) (sym new.tail) (made t h empty));
   sure = λ free. new.sure;
+  fresh = λ t free. no_segment held may_leave core.jobs new.jobs.flush;
 }
 
 pub new_state_is : (core : CoreState) → core.list ≡ new_list → core.live.live ≡ [] → core.live.head ≡ [] → core.live.flushing ≡ [] → core.infos ≡ []
-    → core.segment.file ≡ 2 → core.segment.first ≡ 0 → core.segment.count ≡ 0 → core.segment.gate ≡ 1 → core.pins.items ≡ [] → core.read_only ≡ None → unsure_of core ≡ None → IsNewState core
-new_state_is core list live head flushing infos file first count gate pins writes sure = record {
+    → core.segment.file ≡ 2 → core.segment.first ≡ 0 → core.segment.count ≡ 0 → core.segment.gate ≡ 1 → core.pins.items ≡ [] → core.read_only ≡ None → unsure_of core ≡ None → HasNoJobs core.jobs core.list.next_file → IsNewState core
+new_state_is core list live head flushing infos file first count gate pins writes sure jobs = record {
   has = λ h empty. record {
     count = (let none = empty.no_entries in omega (arith, none, first, count));
     few = omega (arith, first, count);
     live = sym live;
     head = sym head;
     flushing = flushing;
-    flush = refl;
+    flush = subst (λ (k : Option OpenFlush). ShowsFlush k None) (sym jobs.flush) refl;
     compaction = refl;
     blocks = ap (λ (l : ListBody). l.blocks) list;
     infos = ap info_files infos;
@@ -86,9 +88,10 @@ new_state_is core list live head flushing infos file first count gate pins write
     segments = sym (ap (λ (l : ListBody). map segment_of l.segments) list);
     last = ([], ap (λ (l : ListBody). l.segments) list ∙ ap (λ (n : ℕ). ref_to n 0 ∷ []) (sym file) ∙ ap (λ (n : ℕ). ref_to core.segment.file n ∷ []) (sym first));
     floor = sym (ap (λ (l : ListBody). l.floor) list);
-    loose = sym (ap (λ (l : ListBody). l.loose) list);
-    next_file = sym (ap (λ (l : ListBody). l.next_file) list);
-    begun = refl;
+    loose = sym jobs.loose;
+    next_file = sym (jobs.next_file_is ∙ ap (λ (l : ListBody). l.next_file) list);
+    begun = sym jobs.begun;
+    jobs = none_fit core.jobs core.list (let same = jobs.next_file_is in omega (arith, same)) jobs.flush;
     pins = λ n. sym (ap (is_taken n) pins);
     read_only = sym writes;
   };
@@ -99,4 +102,5 @@ new_state_is core list live head flushing infos file first count gate pins write
       ∙ ap (λ (n : ℕ). record { file = 2; first = 0; count = 0; gate = n }) gate;
   writes = writes;
   sure = sure;
+  jobs = jobs;
 }

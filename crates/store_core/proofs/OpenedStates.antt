@@ -37,6 +37,9 @@ use Rattle.store_core.proofs.LooseFiles.{used_files, distinct_front, rules_witho
 use Rattle.store_core.proofs.Described.{none_described}
 use Rattle.store_core.proofs.LogSteps.{read_size}
 use Rattle.store_core.proofs.Revived.{live_of_arrived}
+use Rattle.store_core.specs.Jobs.{ShowsFlush}
+use Rattle.store_core.specs.declared.jobs.OpenFlush.{OpenFlush}
+use Rattle.store_core.proofs.NoJobs.{no_segment, none_fit}
 
 -- ---- the list that is left has the same segments, blocks and numbers
 
@@ -244,7 +247,7 @@ module _ (told : Type 0) (image : Image) (list : ListBody) (rules : MeetsRules l
       live = sym state.live;
       head = sym state.head;
       flushing = state.flushing;
-      flush = refl;
+      flush = subst (λ (k : Option OpenFlush). ShowsFlush k None) (sym state.jobs.flush) refl;
       compaction = refl;
       blocks = ap (λ (l : ListBody). l.blocks) state.listing ∙ without_by list (λ (l : ListBody). l.blocks ≡ []) (λ generation loose. none);
       infos = ap info_files state.infos;
@@ -253,19 +256,13 @@ module _ (told : Type 0) (image : Image) (list : ListBody) (rules : MeetsRules l
       segments = without_by list (λ (l : ListBody). map segment_of list.segments ≡ map segment_of l.segments) (λ generation loose. refl) ∙ sym (ap (λ (l : ListBody). map segment_of l.segments) state.listing);
       last = (read.front, ap (λ (l : ListBody). l.segments) state.listing ∙ without_by list (λ (l : ListBody). l.segments ≡ list.segments) (λ generation loose. refl) ∙ read.last);
       floor = without_by list (λ (l : ListBody). list.floor ≡ l.floor) (λ generation loose. refl) ∙ sym (ap (λ (l : ListBody). l.floor) state.listing);
-      loose = no_loose ∙ sym (ap (λ (l : ListBody). l.loose) state.listing);
-      next_file = without_by list (λ (l : ListBody). list.next_file ≡ l.next_file) (λ generation loose. refl) ∙ sym (ap (λ (l : ListBody). l.next_file) state.listing);
-      begun = refl;
+      loose = sym state.jobs.loose;
+      next_file = without_by list (λ (l : ListBody). list.next_file ≡ l.next_file) (λ generation loose. refl) ∙ sym (ap (λ (l : ListBody). l.next_file) state.listing) ∙ sym state.jobs.next_file_is;
+      begun = sym state.jobs.begun;
+      jobs = none_fit core.jobs core.list (let same = state.jobs.next_file_is in omega (arith, same)) state.jobs.flush;
       pins = λ n. sym (ap (is_taken n) state.pins);
       read_only = sym state.writes;
     }
-      where
-        no_loose : [] ≡ (without_loose list).loose
-        no_loose = by_list list.loose refl
-          where
-            by_list : (files : List ℕ) → list.loose ≡ files → [] ≡ (list_after files list).loose
-            by_list [] e = sym e
-            by_list (f ∷ fs) e = refl
 
     pub opened_stands : (told' : Type 0) (held : Image) (may_leave : Image → Type 0) → (told' → IsSettled held may_leave core.list [] (tail_of core.segment) h)
         → StandsFor told' held may_leave core (opened_machine list batches moment h)
@@ -283,4 +280,5 @@ module _ (told : Type 0) (image : Image) (list : ListBody) (rules : MeetsRules l
           now = λ t image left. subst (λ (u : Option (List Span)). MayStandFor h u image) (sym state.sure) (settled_now held may_leave core.list [] (tail_of core.segment) h (settled t) image left);
           settled = λ t free. settled t;
           sure = λ free. state.sure;
+          fresh = λ t free. no_segment held may_leave core.jobs state.jobs.flush;
         }

@@ -1,5 +1,5 @@
 -- What an opening keeps of its disk, and that it ends settled.
-use Rattle.std.proofs.Common.{◌≡◌, ◌≢◌, ◌⊎◌, inl, inr, ℕ, ◌+◌, ◌-◌, ◌<◌, ◌≤◌, List, [], ◌∷◌, ◌++◌, map, length, drop, get_or, Some, None, Option, Result, Ok, Err, refl, sym, ◌∙◌, ap, subst, arith, length-append}
+use Rattle.std.proofs.Common.{◌≡◌, ℕ, ◌+◌, ◌-◌, ◌<◌, ◌≤◌, List, [], ◌∷◌, ◌++◌, map, length, drop, get_or, Some, None, Result, Ok, Err, refl, sym, ◌∙◌, ap, subst, arith}
 use Rattle.std.specs.List.{Contains}
 use Rattle.std.proofs.lemmas.List.Elements.{Contains-append_left, Contains-append_right}
 use Rattle.span_types.specs.declared.spans.Span.{Span}
@@ -24,11 +24,11 @@ use Rattle.store_model.specs.Laws.{AgreesOn}
 use Rattle.store_images.specs.Log.{LogHolds}
 use Rattle.store_images.specs.Stored.{StoreHolds, ImageStores, ImageStandsFor, SameFirsts, stored_rows, first_number, ref_of}
 use Rattle.store_images.specs.Stored.ImageStores.{vacant, filled}
-use Rattle.store_images.specs.Settled.{Tail, IsTail, ListLies, IsSettled}
+use Rattle.store_images.specs.Settled.{Tail, IsSettled}
 use Rattle.store_images.proofs.Lists.{not_in_nil, at_front}
 use Rattle.store_images.proofs.Logs.{log_same}
 use Rattle.store_images.proofs.Keeping.{one_list, given_out, segment_named}
-use Rattle.store_core.specs.Loose.{without_loose, OthersStay}
+use Rattle.store_core.specs.Loose.{without_loose}
 use Rattle.store_core.specs.LogReading.{LogRead, SegmentBreaks, LogBreaks}
 use Rattle.store_core.specs.declared.error.OpenError.{OpenError}
 use Rattle.store_core.specs.declared.error.OpenError.TheVariants.{NotStore, Fault}

@@ -1,5 +1,5 @@
 -- A push as an event of a core, by its outcomes.
-use Rattle.std.proofs.Common.{◌≡◌, ◌≢◌, ◌⊎◌, inl, inr, ℕ, ◌+◌, ◌<◌, ◌≤◌, List, [], ◌∷◌, ◌++◌, length, Some, None, Option, IsTrue, refl, sym, ◌∙◌, ap, subst, arith}
+use Rattle.std.proofs.Common.{◌≡◌, ◌≢◌, inl, inr, ℕ, ◌+◌, ◌<◌, ◌≤◌, List, [], ◌∷◌, ◌++◌, length, Some, None, Option, IsTrue, refl, sym, ◌∙◌, ap, subst, arith}
 use Rattle.span_types.specs.Faults.{Rose}
 use Rattle.span_types.specs.declared.spans.Span.{Span}
 use Rattle.disk_model.specs.Images.{Image, bytes_of, Besides}
@@ -13,23 +13,22 @@ use Rattle.live_traces.specs.Parts.{LiveParts}
 use Rattle.live_traces.specs.Rows.{ChunkParts}
 use Rattle.store_model.specs.History.{History, batch_rows, count_of, pushed}
 use Rattle.store_model.specs.After.{arrived}
-use Rattle.store_model.specs.Event.{Event, Reply, Refusal}
+use Rattle.store_model.specs.Event.{Reply, Refusal}
 use Rattle.store_model.specs.Event.Event.{Push}
 use Rattle.store_model.specs.Event.Reply.{Count, Refused}
 use Rattle.store_model.specs.Event.Refusal.{Fault, Memory}
-use Rattle.store_model.specs.Step.{Machine, Step, early, broken}
+use Rattle.store_model.specs.Step.{Machine, early, broken}
 use Rattle.store_model.specs.Step.Step.{Sure, Lacks, Breaks}
 use Rattle.store_images.specs.Stored.{MayStandFor, IsTidy}
 use Rattle.store_images.specs.Settled.{Tail, IsSettled}
 use Rattle.store_images.proofs.Storing.{only_tail, settled_after}
-use Rattle.store_core.specs.declared.state.CoreState.{CoreState}
 use Rattle.store_core.specs.declared.store.Core.{Core}
-use Rattle.store_core.specs.Cores.{HasState, StandsFor, CoreStandsFor, tail_of, unsure_of}
+use Rattle.store_core.specs.Cores.{HasState, CoreStandsFor, tail_of, unsure_of}
 use Rattle.store_state.specs.Calls.{MadeCalls}
 use Rattle.store_core.specs.Events.{Did, Between, unsure_after}
 use Rattle.store_core.proofs.Quiet.{quiet, none_begun}
 use Rattle.store_core.proofs.States.{SameParts, stands_lacking, after_pushed, step_pushed, has_pushed, stands_pushed, stands_broken}
-use Rattle.store_core.proofs.Pushing.{pushing, tidy_push, held_stays, blocks_stay}
+use Rattle.store_core.proofs.Pushing.{pushing, tidy_push, held_stays, blocks_stay, fresh_push}
 
 why_of : Reply → Refusal
 why_of (Refused why) = why
@@ -142,7 +141,8 @@ module _ {D : Type 0} (g : Ghosts D) (old : Core D) (disk : D) (spans : List Spa
               let run = (appends told).any_moment s.mine only s.written.current s.written.counted in
               let done = acknowledged told s.mine only s.written.current s.written.counted in
               settled_after (g.held old.disk) (g.may_leave old.disk) old.state.list m.state.blocks (tail_of old.state.segment) m.history s spans (g.held disk) (g.may_leave disk) segment.gate _ (appends told).besides run.now (stays told) done.0 done.1))
-              (λ told. blocks_stay old.state m (IsTrue (g.tells old.disk)) (g.held old.disk) (g.held disk) (g.may_leave old.disk) told writes stands (appends told).besides);
+              (λ told. blocks_stay old.state m (IsTrue (g.tells old.disk)) (g.held old.disk) (g.held disk) (g.may_leave old.disk) told writes stands (appends told).besides)
+              (λ told. fresh_push old.state m (g.held old.disk) (g.held disk) (g.may_leave old.disk) (g.may_leave disk) _ stands.has stands.sound (appends told).besides (run_in told m stands).now (stands.fresh told writes));
           step = taken;
           images = λ told. images_in told m stands (pushed m.history spans) (unsure_of old.state) (λ image either. pushed_between m.history (unsure_of old.state) image (stands.sure writes) either);
           unsure = refl;
@@ -153,7 +153,7 @@ module _ {D : Type 0} (g : Ghosts D) (old : Core D) (disk : D) (spans : List Spa
         let has = has_pushed old.state live segment m spans moment number shows.has added head flushing is below file first count in (
           after_pushed spans moment m,
           stands_pushed ⊥ ⊥ (g.held old.disk) (g.held disk) (g.may_leave old.disk) (g.may_leave disk) old.state live segment m spans moment number
-              (g.faults old.disk) (g.faults disk) shows (λ bad. bad) writes taken has (λ bad. absurd bad) (λ bad. absurd bad),
+              (g.faults old.disk) (g.faults disk) shows (λ bad. bad) writes taken has (λ bad. absurd bad) (λ bad. absurd bad) (λ bad. absurd bad),
           taken,
         );
     tidy = tidy_in;

@@ -1,29 +1,31 @@
 -- What a crash within a push leaves.
-use Rattle.std.proofs.Common.{◌≡◌, ◌≢◌, ◌⊎◌, inl, inr, ℕ, ◌+◌, ◌≤◌, List, [], ◌∷◌, ◌++◌, Some, None, Option, length, map, false, true, refl, sym, ◌∙◌, ap, subst, arith}
+use Rattle.std.proofs.Common.{◌≡◌, ◌≢◌, inl, inr, ℕ, ◌≤◌, List, [], ◌∷◌, ◌++◌, Some, None, map, true, sym, ◌∙◌, ap, subst, arith}
 use Rattle.std.specs.List.{Contains}
-use Rattle.std.proofs.lemmas.List.{map-append}
 use Rattle.span_types.specs.declared.spans.Span.{Span}
 use Rattle.disk_model.specs.Images.{Image, bytes_of, Besides}
-use Rattle.disk_model.specs.Crash.{LeavesOnly, RunInFile, ButFor, OnlyBytes}
+use Rattle.disk_model.specs.Crash.{LeavesOnly, RunInFile, ButFor, Within}
+use Rattle.disk_model.proofs.Passing.{other_stays_run}
 use Rattle.disk_model.proofs.Moments.{widened}
-use Rattle.head_log.specs.declared.segment.Segment.{Segment}
-use Rattle.head_log.specs.Stands.{SegmentHolds, SegmentKeepsEither}
+use Rattle.head_log.specs.Stands.{SegmentKeepsEither}
 use Rattle.block_list.specs.declared.body.SegmentRef.{SegmentRef}
 use Rattle.block_list.specs.declared.body.ListBody.{ListBody}
-use Rattle.store_model.specs.History.{History, pushed}
+use Rattle.store_model.specs.History.{History}
 use Rattle.store_model.specs.State.{Block, is_among, block_files, segment_files}
 use Rattle.store_model.specs.Sound.{times, StateIsSound}
 use Rattle.store_model.specs.Holds.{Hold, OpenIn, files_of}
 use Rattle.store_model.specs.Step.{Machine}
-use Rattle.store_model.proofs.Numbers.{times-append, times_itself}
-use Rattle.store_images.specs.Stored.{MayStandFor, ImageStandsFor, IsTidy}
+use Rattle.store_model.proofs.Numbers.{times_itself}
+use Rattle.store_images.specs.Stored.{MayStandFor, IsTidy}
 use Rattle.store_images.specs.Settled.{Tail, IsSettled}
 use Rattle.store_images.proofs.Lists.{not_in_nil, in_cons}
-use Rattle.store_images.proofs.Storing.{settled_either, settled_tidy, only_tail}
+use Rattle.store_images.proofs.Storing.{settled_either, settled_tidy}
 use Rattle.store_core.specs.declared.state.CoreState.{CoreState}
-use Rattle.store_core.specs.Cores.{HasState, StandsFor, AreDescribed, tail_of, segment_of}
+use Rattle.store_core.specs.Cores.{HasState, StandsFor, AreDescribed, segment_of}
 use Rattle.store_core.proofs.Described.{described_same}
+use Rattle.store_core.specs.Jobs.{HasFreshSegment}
+use Rattle.store_core.specs.declared.jobs.OpenFlush.{OpenFlush}
 use Rattle.store_core.proofs.HeldFiles.{held_apart}
+use Rattle.store_core.proofs.OpenJobs.{fresh_moved, segment_of_known}
 
 module _ {D : Type 0} (moment : D → ℕ) (left_since : D → ℕ → Image → Type 0) (may_leave : D → Image → Type 0) (held : Image) (body : ListBody) (blocks : List Block) (tail : Tail) (h : History) (old new : D)
     (s : IsSettled held (may_leave old) body blocks tail h) where
@@ -76,3 +78,16 @@ blocks_stay core m told held later may_leave t writes s besides = described_same
         let once = s.sound.files.once b.file in
         let none : times b.file (segment_files m.state.segments) ≡ 0 = omega (arith, used, once) in
         besides b.file (tail_apart core m s.has b.file none)
+
+-- the new segment of an open flush is another file
+pub fresh_push : (core : CoreState) (m : Machine) (held later : Image) (may_leave may_later : Image → Type 0) (P : List ℕ → Type 0) → HasState core m → StateIsSound m.state → Besides core.segment.file held later
+    → Within (ButFor core.segment.file P may_leave) may_later → HasFreshSegment held may_leave core.jobs → HasFreshSegment later may_later core.jobs
+fresh_push core m held later may_leave may_later P has sound besides within =
+    fresh_moved core.jobs.flush held later may_leave may_later (λ mine known. besides mine.files.segment (differs mine known))
+    (λ mine known b only. other_stays_run core.segment.file mine.files.segment P b may_leave may_later (differs mine known) only within)
+  where
+    differs : (mine : OpenFlush) → core.jobs.flush ≡ Some mine → mine.files.segment ≢ core.segment.file
+    differs mine known =
+        let used = segment_of_known core m mine has known in
+        let once = sound.files.once mine.files.segment in
+        tail_apart core m has mine.files.segment (omega (arith, used, once))

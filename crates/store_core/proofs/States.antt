@@ -1,12 +1,12 @@
 -- What a core stands for after a change of its memory.
-use Rattle.std.proofs.Common.{◌≡◌, ◌≢◌, ℕ, ◌+◌, ◌<◌, ◌≤◌, List, [], ◌∷◌, ◌++◌, Bool, Some, None, Option, refl, sym, ◌∙◌, ap, subst, arith}
+use Rattle.std.proofs.Common.{◌≡◌, ℕ, ◌+◌, ◌<◌, ◌≤◌, List, [], ◌∷◌, ◌++◌, Some, None, Option, refl, sym, ◌∙◌, ap, subst, arith}
 use Rattle.span_types.specs.declared.spans.Span.{Span}
 use Rattle.disk_model.specs.Images.{Image}
 use Rattle.head_log.specs.declared.segment.Segment.{Segment}
 use Rattle.block_list.specs.declared.body.SegmentRef.{SegmentRef}
 use Rattle.live_traces.specs.Parts.{LiveParts}
 use Rattle.live_traces.specs.Rows.{ChunkParts}
-use Rattle.store_model.specs.History.{History, batch_rows, count_of, pushed}
+use Rattle.store_model.specs.History.{batch_rows, count_of, pushed}
 use Rattle.store_model.specs.State.{State, Block, LiveRow}
 use Rattle.store_model.specs.After.{arrived, after_push}
 use Rattle.store_model.specs.Event.{Event, Reply}
@@ -17,12 +17,13 @@ use Rattle.store_model.specs.Step.Step.{Succeeds}
 use Rattle.store_model.proofs.KeepsFirsts.{step_keeps as keeps_firsts}
 use Rattle.store_model.proofs.KeepsSound.{step_keeps as keeps_sound}
 use Rattle.store_model.proofs.KeepsFloor.{step_keeps as keeps_floor}
-use Rattle.store_images.specs.Stored.{MayStandFor, ImageStandsFor}
-use Rattle.store_images.specs.Settled.{Tail, IsSettled}
+use Rattle.store_images.specs.Stored.{MayStandFor}
+use Rattle.store_images.specs.Settled.{IsSettled}
 use Rattle.store_images.proofs.Growing.{count_of-pushed}
 use Rattle.store_images.proofs.Storing.{settled_now}
 use Rattle.store_core.specs.declared.state.CoreState.{CoreState}
-use Rattle.store_core.specs.Cores.{HasState, StandsFor, AreDescribed, tail_of, unsure_of}
+use Rattle.store_core.specs.Jobs.{HasFreshSegment}
+use Rattle.store_core.specs.Cores.{HasState, StandsFor, AreDescribed, tail_of}
 
 abbrev pub ref_to : ℕ → ℕ → SegmentRef
 ref_to file first = record { file = file; first = first }
@@ -54,6 +55,7 @@ has_same core live m same has = record {
   loose = has.loose;
   next_file = has.next_file;
   begun = has.begun;
+  jobs = has.jobs;
   pins = has.pins;
   read_only = has.read_only;
 }
@@ -69,6 +71,7 @@ stands_lacking told held may_leave core live m same s = record {
   now = s.now;
   settled = s.settled;
   sure = s.sure;
+  fresh = s.fresh;
 }
 
 -- ---- a push was added
@@ -114,6 +117,7 @@ has_pushed core live segment m spans moment number has added head flushing is be
       loose = has.loose;
       next_file = has.next_file;
       begun = has.begun;
+      jobs = has.jobs;
       pins = has.pins;
       read_only = has.read_only;
     }
@@ -124,9 +128,9 @@ pub stands_pushed : (told told' : Type 0) (held held' : Image) (may_leave may_le
     → HasState (record core { live = live; segment = segment }) (after_pushed spans moment m)
     → (told → IsSettled held may_leave core.list m.state.blocks (tail_of core.segment) m.history
     → IsSettled held' may_leave' core.list m.state.blocks (tail_of segment) (pushed m.history spans))
-    → (told → AreDescribed held' core.infos m.state.blocks)
+    → (told → AreDescribed held' core.infos m.state.blocks) → (told → HasFreshSegment held' may_leave' core.jobs)
     → StandsFor told' held' may_leave' (record core { live = live; segment = segment }) (after_pushed spans moment m)
-stands_pushed told told' held held' may_leave may_leave' core live segment m spans moment number before faults s known writes step has settles built = record {
+stands_pushed told told' held held' may_leave may_leave' core live segment m spans moment number before faults s known writes step has settles built fresh = record {
   has = has;
   agrees = keeps_firsts before faults m _ _ _ s.agrees step;
   sound = keeps_sound before faults m _ _ _ s.sound step;
@@ -136,6 +140,7 @@ stands_pushed told told' held held' may_leave may_leave' core live segment m spa
       (settled_now held' may_leave' core.list m.state.blocks (tail_of segment) (pushed m.history spans) (settles (known t) (s.settled (known t) writes)) image left);
   settled = λ t free. settles (known t) (s.settled (known t) writes);
   sure = s.sure;
+  fresh = λ t free. fresh (known t);
 }
 
 -- ---- a push answered a fault
@@ -160,6 +165,7 @@ has_broken core live segment ready faults m same still has = record {
   loose = has.loose;
   next_file = has.next_file;
   begun = has.begun;
+  jobs = has.jobs;
   pins = has.pins;
   read_only = refl;
 }
@@ -178,6 +184,33 @@ stands_broken told told' held held' may_leave may_leave' core live segment ready
   now = λ t image left. now (known t) image left;
   settled = λ t none. absurd (let bad : Some faults ≡ None = none in cc);
   sure = λ none. absurd (let bad : Some faults ≡ None = none in cc);
+  fresh = λ t none. absurd (let bad : Some faults ≡ None = none in cc);
+}
+
+-- ---- a write failed
+
+pub has_stopped : (core : CoreState) (faults : ℕ) (m : Machine) → HasState core m → HasState (record core { read_only = Some faults }) (broken faults m)
+has_stopped core faults m has = record {
+  count = has.count;
+  few = has.few;
+  live = has.live;
+  head = has.head;
+  flushing = has.flushing;
+  flush = has.flush;
+  compaction = has.compaction;
+  blocks = has.blocks;
+  infos = has.infos;
+  listed = has.listed;
+  rules = has.rules;
+  segments = has.segments;
+  last = has.last;
+  floor = has.floor;
+  loose = has.loose;
+  next_file = has.next_file;
+  begun = has.begun;
+  jobs = has.jobs;
+  pins = has.pins;
+  read_only = refl;
 }
 
 -- ---- a change of the rows in memory
@@ -194,6 +227,7 @@ stands_by_rows told held may_leave core live m u before faults e r s has blocks 
   now = s.now;
   settled = λ t free. subst (λ (b : List Block). IsSettled held may_leave core.list b (tail_of core.segment) m.history) (sym blocks) (s.settled t free);
   sure = s.sure;
+  fresh = s.fresh;
 }
 
 pub none_of : {A : Type 0} (o : Option A) → ((x : A) → o ≡ Some x → ⊥) → o ≡ None

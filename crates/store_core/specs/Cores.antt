@@ -1,5 +1,5 @@
 -- What a core stands for: a machine of the store's model, which its memory shows in part, and a history that its disk holds.
-use Rattle.std.specs.Prelude.{◌≡◌, ◌⊎◌, ℕ, ◌+◌, ◌≤◌, List, [], ◌∷◌, ◌++◌, map, Option, None, IsTrue}
+use Rattle.std.specs.Prelude.{◌≡◌, ℕ, ◌+◌, ◌≤◌, List, [], ◌∷◌, ◌++◌, map, Option, None, IsTrue}
 use Rattle.std.specs.Option.{option_map}
 use Rattle.span_types.specs.declared.spans.Span.{Span}
 use Rattle.span_types.specs.declared.spans.Row.{Row}
@@ -10,8 +10,8 @@ use Rattle.block_info.specs.InfoParts.{InfoParts}
 use Rattle.block_list.specs.Body.{MeetsRules}
 use Rattle.block_list.specs.declared.body.BlockRef.{BlockRef}
 use Rattle.block_list.specs.declared.body.SegmentRef.{SegmentRef}
-use Rattle.store_model.specs.History.{History, count_of}
-use Rattle.store_model.specs.State.{State, Block, Segment as ModelSegment, pin_numbers, block_files, is_among}
+use Rattle.store_model.specs.History.{count_of}
+use Rattle.store_model.specs.State.{Block, Segment as ModelSegment, pin_numbers, block_files, flush_rows, is_among}
 use Rattle.store_model.specs.Step.{Machine}
 use Rattle.store_model.specs.Laws.{Agrees}
 use Rattle.store_model.specs.Sound.{StateIsSound}
@@ -21,6 +21,7 @@ use Rattle.store_state.specs.Written.{AreBlocksOf}
 use Rattle.store_images.specs.Stored.{MayStandFor, ref_of}
 use Rattle.store_images.specs.Settled.{Tail, IsSettled}
 use Rattle.store_core.specs.Pins.{is_taken}
+use Rattle.store_core.specs.Jobs.{ShowsFlush, JobsFit, HasFreshSegment}
 use Rattle.store_core.specs.declared.state.CoreState.{CoreState}
 use Rattle.store_core.specs.declared.store.Core.{Core}
 
@@ -45,14 +46,14 @@ rows_by_block blocks = map (λ block. block.rows) blocks
 abbrev pub AreDescribed : Image → List InfoParts → List Block → Type 0
 AreDescribed held infos blocks = AreBlocksOf (λ file. bytes_of held file) infos (rows_by_block blocks)
 
--- What the core's memory shows of the machine. No job is open as long as there are no calls that begin one.
+-- What the core's memory shows of the machine. No compaction is open as long as there is no call that begins one.
 pub record HasState (core : CoreState) (m : Machine) : Type 0 where
   pub count : count_of m.history ≡ core.segment.first + core.segment.count
   pub few : core.segment.first + core.segment.count ≤ 4294967295
   pub live : m.state.live ≡ core.live.live
   pub head : m.state.head ≡ core.live.head
-  pub flushing : core.live.flushing ≡ []
-  pub flush : m.state.flush ≡ None
+  pub flushing : core.live.flushing ≡ flush_rows m.state.flush
+  pub flush : ShowsFlush core.jobs.flush m.state.flush
   pub compaction : m.state.compaction ≡ None
   pub blocks : core.list.blocks ≡ map ref_of m.state.blocks
   pub infos : info_files core.infos ≡ block_files m.state.blocks
@@ -61,15 +62,16 @@ pub record HasState (core : CoreState) (m : Machine) : Type 0 where
   pub segments : m.state.segments ≡ map segment_of core.list.segments
   pub last : (front : List SegmentRef) × (core.list.segments ≡ front ++ record { file = core.segment.file; first = core.segment.first } ∷ [])
   pub floor : m.state.floor ≡ core.list.floor
-  pub loose : m.state.loose ≡ core.list.loose
-  pub next_file : m.state.next_file ≡ core.list.next_file
-  pub begun : m.state.begun ≡ 0
+  pub loose : m.state.loose ≡ core.jobs.loose.items
+  pub next_file : m.state.next_file ≡ core.jobs.next_file
+  pub begun : m.state.begun ≡ core.jobs.begun
+  pub jobs : JobsFit core.jobs core.list
   pub pins : (n : ℕ) → is_among n (pin_numbers m.state.pins) ≡ is_taken n core.pins.items
   pub read_only : m.read_only ≡ core.read_only
 
 -- A core with this memory, over a disk that holds this and may leave that, stands for the machine: what it keeps has the
 -- history's first occurrences, and so has every image that a crash may leave now, or it has besides the batch whose push
--- failed. While the store writes, the disk is settled. `told` says that the disk tells its bytes.
+-- failed. While the store writes, the disk is settled, and an open flush has its segment. `told` says that the disk tells its bytes.
 pub record StandsFor (told : Type 0) (held : Image) (may_leave : Image → Type 0) (core : CoreState) (m : Machine) : Type 0 where
   pub has : HasState core m
   pub agrees : Agrees m
@@ -80,6 +82,7 @@ pub record StandsFor (told : Type 0) (held : Image) (may_leave : Image → Type 
   pub now : told → (image : Image) → may_leave image → MayStandFor m.history (unsure_of core) image
   pub settled : told → core.read_only ≡ None → IsSettled held may_leave core.list m.state.blocks (tail_of core.segment) m.history
   pub sure : core.read_only ≡ None → unsure_of core ≡ None
+  pub fresh : told → core.read_only ≡ None → HasFreshSegment held may_leave core.jobs
 
 -- the core stands for the machine
 abbrev pub CoreStandsFor : {D : Type 0} (g : Ghosts D) → Core D → Machine → Type 0

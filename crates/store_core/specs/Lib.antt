@@ -1,5 +1,8 @@
 pub mod Pins
+pub mod Files
+pub mod Jobs
 pub mod Cores
+pub mod Beginning
 pub mod Events
 pub mod Past
 pub mod New

@@ -1,8 +1,8 @@
 -- The core of a new store.
-use Rattle.std.specs.Prelude.{◌≡◌, ℕ, List, [], ◌∷◌, None}
+use Rattle.std.specs.Prelude.{◌≡◌, [], ◌∷◌, None}
 use Rattle.store_model.specs.History.{History}
-use Rattle.store_model.specs.State.{State}
 use Rattle.store_model.specs.Step.{Machine}
+use Rattle.store_core.specs.Jobs.{HasNoJobs}
 use Rattle.store_core.specs.New.{new_list, new_tail, IsEmptyHistory}
 use Rattle.store_core.specs.Cores.{HasState, tail_of, unsure_of}
 use Rattle.store_core.specs.declared.state.CoreState.{CoreState}
@@ -33,3 +33,4 @@ pub record IsNewState (state : CoreState) : Type 0 where
   pub tail : tail_of state.segment ≡ new_tail
   pub writes : state.read_only ≡ None
   pub sure : unsure_of state ≡ None
+  pub jobs : HasNoJobs state.jobs state.list.next_file

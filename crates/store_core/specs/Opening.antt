@@ -21,6 +21,7 @@ use Rattle.store_model.specs.Step.{Machine}
 use Rattle.store_images.specs.Log.{LogHolds}
 use Rattle.store_images.specs.Stored.{ImageStandsFor, IsSoundImage, KeepsStored, first_number}
 use Rattle.store_core.specs.Cores.{CoreStandsFor, CoreShows, segment_of, unsure_of}
+use Rattle.store_core.specs.Jobs.{HasNoJobs}
 use Rattle.store_core.specs.LogReading.{LogBreaks}
 use Rattle.store_core.specs.Loose.{without_loose}
 use Rattle.store_core.specs.New.{new_list}
@@ -114,6 +115,7 @@ pub record IsOpenedState (list : ListBody) (batches : List (List Span)) (moment 
   pub few : state.segment.first + state.segment.count ≤ 4294967295
   pub writes : state.read_only ≡ None
   pub sure : unsure_of state ≡ None
+  pub jobs : HasNoJobs state.jobs state.list.next_file
 
 -- ---- where bytes aren't a store's
 

@@ -11,6 +11,7 @@ ghost use Rattle.store_core.specs.Cores.{CoreStandsFor};
 ghost use Rattle.store_core.specs.declared.error.OpenError.TheVariants.{Fault, NotStore};
 
 use crate::error::OpenError;
+use crate::jobs::Jobs;
 use crate::state::CoreState;
 use crate::store::Core;
 use block_info::Infos;
@@ -58,11 +59,13 @@ fn new_state(alloc: Global, list: ListBody) -> CoreState
     requires { list ≡ new_list }
     ensures { IsNewState result }
 {
+    let jobs = Jobs::idle(alloc, list.next_file);
     CoreState {
         live: Live::new(alloc),
         list,
         infos: Infos::none(alloc),
         segment: Segment::fresh(2, 0),
+        jobs,
         pins: Vec::new(alloc),
         read_only: None,
         unsure: None,

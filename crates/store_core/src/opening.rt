@@ -20,6 +20,7 @@ ghost use Rattle.store_core.specs.Opening.{KeepsDisk, LeavesAlone, opened_list, 
 ghost use Rattle.store_core.specs.declared.error.OpenError.TheVariants.{Fault, NotStore};
 
 use crate::error::OpenError;
+use crate::jobs::Jobs;
 use crate::loose::empty_loose;
 use crate::new_store::open_new;
 use crate::reading::read_log;
@@ -116,15 +117,19 @@ fn read_store<D: Device>(
         Err(error) => return Err(error),
     };
     match empty_loose(alloc, disk, list) {
-        Ok(list) => Ok(CoreState {
-            live,
-            list,
-            infos: Infos::none(alloc),
-            segment,
-            pins: Vec::new(alloc),
-            read_only: None,
-            unsure: None,
-        }),
+        Ok(list) => {
+            let jobs = Jobs::idle(alloc, list.next_file);
+            Ok(CoreState {
+                live,
+                list,
+                infos: Infos::none(alloc),
+                segment,
+                jobs,
+                pins: Vec::new(alloc),
+                read_only: None,
+                unsure: None,
+            })
+        }
         Err(error) => Err(error),
     }
 }

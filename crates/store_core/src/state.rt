@@ -1,5 +1,6 @@
 //! What a store keeps in memory.
 
+use crate::jobs::Jobs;
 use block_info::Infos;
 use block_list::ListBody;
 use head_log::Segment;
@@ -16,6 +17,8 @@ pub struct CoreState {
     pub infos: Infos,
     /// The last segment of the list, which is written on.
     pub segment: Segment,
+    /// The jobs that were begun, and the files that were given out.
+    pub jobs: Jobs,
     /// For each number of a pin whether a pin has it.
     pub pins: Vec<bool>,
     /// The disk's count of faults after the first write, cut or sync that failed since opening.

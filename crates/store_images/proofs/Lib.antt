@@ -3,3 +3,4 @@ pub mod Growing
 pub mod Logs
 pub mod Keeping
 pub mod Storing
+pub mod Between

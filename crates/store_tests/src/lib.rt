@@ -4,6 +4,8 @@
 #[cfg(test)]
 mod events;
 #[cfg(test)]
+mod flushing;
+#[cfg(test)]
 mod live;
 #[cfg(test)]
 mod opening;

@@ -1,0 +1,134 @@
+-- A piece that is written to a job's file, as an event of a core.
+use Rattle.std.proofs.Common.{◌≡◌, ◌≢◌, ℕ, ◌≤◌, ◌==◌, List, ◌++◌, length, Some, None, Option, IsTrue, true, false, if◌then◌else◌, refl, sym, ◌∙◌, ap, subst, arith, eq-eqb}
+use Rattle.span_types.specs.Faults.{Rose}
+use Rattle.disk_model.specs.Images.{bytes_of, Besides, OnFile}
+use Rattle.disk_model.specs.Bytes.{overwritten, Torn}
+use Rattle.disk_model.specs.Counts.{RoseBy}
+use Rattle.disk_model.specs.Crash.{Within, Reached, Elapses, Run}
+use Rattle.disk_model.specs.declared.disk.Device.{Ghosts}
+use Rattle.disk_model.proofs.BytesLemmas.{overwritten_end}
+use Rattle.disk_model.proofs.Passing.{torn_same, other_stays}
+use Rattle.disk_model.proofs.Runs.{run_more, run_change}
+use Rattle.store_model.specs.Event.Event.{WritePiece}
+use Rattle.store_model.specs.Event.Reply.{Fine, Refused}
+use Rattle.store_model.specs.Event.Refusal.{ReadOnly, Fault}
+use Rattle.store_model.specs.Step.{Machine, early, broken, if_read_only}
+use Rattle.store_model.specs.Step.Step.{Sure, Succeeds, Breaks}
+use Rattle.store_model.proofs.Numbers.{same_number}
+use Rattle.store_images.specs.Stored.{KeepsStored}
+use Rattle.store_core.specs.Files.{SameBelow}
+use Rattle.store_core.specs.Jobs.{HasFreshSegment}
+use Rattle.store_core.specs.declared.jobs.OpenFlush.{OpenFlush}
+use Rattle.store_core.specs.declared.store.Core.{Core}
+use Rattle.store_core.specs.Cores.{HasState, CoreStandsFor, tail_of}
+use Rattle.store_core.specs.Events.{Did}
+use Rattle.store_core.proofs.Apart.{below_change, keeps_below, settled_below}
+use Rattle.store_core.proofs.Kept.{stands_kept, did_kept, described_below}
+use Rattle.store_core.proofs.OpenJobs.{IsOpenHere, above_list, files_apart, fresh_moved}
+use Rattle.store_core.proofs.PushEvents.{OnlyNow, refused_is}
+use Rattle.store_core.proofs.Quiet.{quiet, none_begun}
+use Rattle.store_core.proofs.States.{has_stopped}
+
+pub no_piece : {D : Type 0} (g : Ghosts D) (only_now : OnlyNow g) (old : Core D) (number file : ℕ) (bytes : List ℕ) (faults : ℕ) → old.state.read_only ≡ Some faults
+    → Did g old (WritePiece number file bytes) (Refused (ReadOnly faults)) (record old { state = old.state })
+no_piece g only_now old number file bytes faults is =
+    quiet g only_now old old.state (WritePiece number file bytes) (Refused (ReadOnly faults)) (λ f b. refl) (λ e. let bad = refused_is (ReadOnly faults) Fault e in cc) (λ n. refl) refl refl
+    (λ told m stands. (m, stands, refl, Sure (ap (λ (r : Option ℕ). if_read_only r None) (stands.has.read_only ∙ is)) refl))
+
+module _ {D : Type 0} (g : Ghosts D) (only_now : OnlyNow g) (old : Core D) (disk : D) (number file at : ℕ) (bytes : List ℕ) (writes : old.state.read_only ≡ None)
+    (here : (m : Machine) → HasState old.state m → IsOpenHere old.state m number file)
+    (telling : g.tells disk ≡ g.tells old.disk) (besides : IsTrue (g.tells old.disk) → Besides file (g.held old.disk) (g.held disk))
+    (crash : Within (Reached (OnFile file (Torn at (length bytes))) (g.may_leave old.disk)) (g.may_leave disk))
+    (time : Elapses (g.moment old.disk) (g.moment disk) (g.left_since old.disk) (g.left_since disk) (g.may_leave disk))
+    (later : g.faults old.disk ≤ g.faults disk) (calls : RoseBy 1 (g.calls old.disk) (g.calls disk)) (reads : g.reads disk ≡ g.reads old.disk) where
+  abbrev limit : ℕ
+  limit = old.state.list.next_file
+
+  above : (m : Machine) → HasState old.state m → limit ≤ file
+  above m has = above_list old.state m number file has (here m has)
+
+  run_below : (m : Machine) → HasState old.state m → Run (SameBelow limit) g.moment g.left_since g.may_leave old.disk disk
+  run_below m has =
+      run_more g.moment g.left_since g.may_leave (OnFile file (Torn at (length bytes))) (SameBelow limit) old.disk disk
+      (run_change g.moment g.left_since g.may_leave file (Torn at (length bytes)) (torn_same at (length bytes)) old.disk disk (only_now old.disk) crash time)
+      (λ origin image possible change. below_change limit file (Torn at (length bytes)) origin image (above m has) change)
+
+  run_keeps : IsTrue (g.tells old.disk) → (m : Machine) → CoreStandsFor g old m → Run KeepsStored g.moment g.left_since g.may_leave old.disk disk
+  run_keeps told m s =
+      run_more g.moment g.left_since g.may_leave (SameBelow limit) KeepsStored old.disk disk (run_below m s.has)
+      (λ origin image possible same. keeps_below (g.held old.disk) (g.may_leave old.disk) old.state.list (s.settled told writes).lies.ready origin image possible same)
+
+  same_held : IsTrue (g.tells old.disk) → (m : Machine) → HasState old.state m → SameBelow limit (g.held old.disk) (g.held disk)
+  same_held told m has = λ f below. besides told f (λ is. let up = above m has in omega (arith, is, up, below))
+
+  free : (m : Machine) → HasState old.state m → early m (WritePiece number file bytes) ≡ None
+  free m has = ap (λ (r : Option ℕ). if_read_only r None) (has.read_only ∙ writes)
+
+  fresh_after : IsTrue (g.tells old.disk) → (m : Machine) → CoreStandsFor g old m → HasFreshSegment (g.held disk) (g.may_leave disk) old.state.jobs
+  fresh_after told m s =
+      let mine_of = here m s.has in
+      let differs : (mine : OpenFlush) → old.state.jobs.flush ≡ Some mine → mine.files.segment ≢ file =
+      λ mine known is. files_apart old.state m number file s.sound mine_of
+      (subst (λ (k : OpenFlush). k.files.segment ≡ file) (let both : Some mine ≡ Some mine_of.mine = sym known ∙ mine_of.known in let e : mine ≡ mine_of.mine = cc in e) is) in
+      fresh_moved old.state.jobs.flush (g.held old.disk) (g.held disk) (g.may_leave old.disk) (g.may_leave disk)
+      (λ mine known. besides told mine.files.segment (differs mine known))
+      (λ mine known b only. other_stays file mine.files.segment (Torn at (length bytes)) b (g.may_leave old.disk) (g.may_leave disk) (differs mine known) only crash)
+      (s.fresh told writes)
+
+  pub did_piece : (IsTrue (g.tells old.disk) → bytes_of (g.held disk) file ≡ overwritten (bytes_of (g.held old.disk) file) at bytes) → (IsTrue (g.tells old.disk) → at ≡ length (bytes_of (g.held old.disk) file))
+      → Did g old (WritePiece number file bytes) Fine (record old { disk = disk })
+  did_piece written whole =
+      did_kept g old disk old.state (WritePiece number file bytes) Fine telling run_keeps refl refl
+      (λ m s. (
+        m,
+        stands_kept (IsTrue (g.tells old.disk)) (IsTrue (g.tells disk)) (g.held old.disk) (g.held disk) (g.may_leave old.disk) (g.may_leave disk) old.state old.state m m (g.faults old.disk) (g.faults disk) (WritePiece number file bytes) Fine
+            (λ t. subst IsTrue telling t) s (Succeeds (free m s.has) (refl, refl)) refl s.has refl
+            (λ told. (run_keeps told m s).now)
+            (λ told. described_below (g.held old.disk) (g.held disk) old.state m s.has (same_held told m s.has) (s.built told))
+            (λ told writes'. settled_below (g.held old.disk) (g.may_leave old.disk) old.state.list (s.settled told writes).lies.ready (g.held disk) (g.may_leave disk) (same_held told m s.has) (run_below m s.has).now
+            m.state.blocks (tail_of old.state.segment) m.history (s.settled told writes))
+            (λ is. is) (λ told writes'. fresh_after told m s),
+        refl,
+        Succeeds (free m s.has) (refl, refl),
+      ))
+      (λ m s. (
+        m,
+        stands_kept ⊥ ⊥ (g.held old.disk) (g.held disk) (g.may_leave old.disk) (g.may_leave disk) old.state old.state m m (g.faults old.disk) (g.faults disk) (WritePiece number file bytes) Fine
+            (λ bad. bad) s (Succeeds (free m s.has) (refl, refl)) refl s.has refl (λ bad. absurd bad) (λ bad. absurd bad) (λ bad. absurd bad) (λ is. is) (λ bad. absurd bad),
+        Succeeds (free m s.has) (refl, refl),
+      ))
+      (λ told m s hold is_open stays f among. appended told f)
+      (λ told f among. none_begun Fine f _ refl among)
+      later (λ is. let bad : Fine ≡ Refused Fault = is in absurd cc) calls (omega (arith, reads), omega (arith, reads))
+    where
+      appended : IsTrue (g.tells old.disk) → (f : ℕ) → bytes_of (g.held disk) f ≡ (if file == f then bytes_of (g.held old.disk) f ++ bytes else bytes_of (g.held old.disk) f)
+      appended told f = elim (file == f) as (λ t. (file == f) ≡ t → bytes_of (g.held disk) f ≡ (if t then bytes_of (g.held old.disk) f ++ bytes else bytes_of (g.held old.disk) f)) [
+        | true ↦ λ e. subst (λ (n : ℕ). bytes_of (g.held disk) n ≡ bytes_of (g.held old.disk) n ++ bytes) (same_number file f e) (written told ∙ overwritten_end (bytes_of (g.held old.disk) file) at bytes (whole told))
+        | false ↦ λ e. besides told f (λ is. let bad = eq-eqb file f (sym is) in absurd cc)
+      ] refl
+
+  pub did_piece_fail : (faults : ℕ) → faults ≡ g.faults disk → Rose (g.faults old.disk) (g.faults disk)
+      → Did g old (WritePiece number file bytes) (Refused Fault) (record old { disk = disk; state = record old.state { read_only = Some faults } })
+  did_piece_fail faults counted rose =
+      subst (λ (n : ℕ). Did g old (WritePiece number file bytes) (Refused Fault) (record old { disk = disk; state = record old.state { read_only = Some n } })) (sym counted)
+      (did_kept g old disk (record old.state { read_only = Some (g.faults disk) }) (WritePiece number file bytes) (Refused Fault) telling run_keeps refl refl
+      (λ m s. (
+        broken (g.faults disk) m,
+        stands_kept (IsTrue (g.tells old.disk)) (IsTrue (g.tells disk)) (g.held old.disk) (g.held disk) (g.may_leave old.disk) (g.may_leave disk) old.state (record old.state { read_only = Some (g.faults disk) }) m (broken (g.faults disk) m)
+            (g.faults old.disk) (g.faults disk) (WritePiece number file bytes) (Refused Fault) (λ t. subst IsTrue telling t) s (Breaks (free m s.has) refl refl rose refl) refl (has_stopped old.state (g.faults disk) m s.has) refl
+            (λ told. (run_keeps told m s).now)
+            (λ told. described_below (g.held old.disk) (g.held disk) old.state m s.has (same_held told m s.has) (s.built told))
+            (λ told none. absurd (let bad : Some (g.faults disk) ≡ None = none in cc)) (λ none. absurd (let bad : Some (g.faults disk) ≡ None = none in cc)) (λ told none. absurd (let bad : Some (g.faults disk) ≡ None = none in cc)),
+        refl,
+        Breaks (free m s.has) refl refl rose refl,
+      ))
+      (λ m s. (
+        broken (g.faults disk) m,
+        stands_kept ⊥ ⊥ (g.held old.disk) (g.held disk) (g.may_leave old.disk) (g.may_leave disk) old.state (record old.state { read_only = Some (g.faults disk) }) m (broken (g.faults disk) m)
+            (g.faults old.disk) (g.faults disk) (WritePiece number file bytes) (Refused Fault) (λ bad. bad) s (Breaks (free m s.has) refl refl rose refl) refl (has_stopped old.state (g.faults disk) m s.has) refl
+            (λ bad. absurd bad) (λ bad. absurd bad) (λ bad. absurd bad) (λ none. absurd (let bad : Some (g.faults disk) ≡ None = none in cc)) (λ bad. absurd bad),
+        Breaks (free m s.has) refl refl rose refl,
+      ))
+      (λ told m s hold is_open stays f among differs. besides told f (λ is. let bad = eq-eqb file f (sym is) in absurd cc))
+      (λ told f among. none_begun (Refused Fault) f _ refl among)
+      later (λ is. rose) (calls.later, calls.at_most) (omega (arith, reads), omega (arith, reads)))

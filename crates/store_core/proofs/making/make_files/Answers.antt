@@ -1,0 +1,38 @@
+use Rattle.std.proofs.Common.{IsTrue, sym, ◌∙◌, subst}
+use Rattle.disk_model.specs.Images.{OnFile}
+use Rattle.disk_model.specs.Bytes.{HalfCut}
+use Rattle.disk_model.proofs.Runs.{run_more, run_on}
+use Rattle.store_core.specs.Files.{SameBelow}
+use Rattle.store_core.proofs.Apart.{below_change, below_in_file, below_then, ok_anyway, ok_each}
+use Rattle.store_core.proofs.making.make_files.Goals as goal
+
+pub returns-in_err-cut_through-clause-any_moment : goal.returns-in_err-cut_through-clause-any_moment
+returns-in_err-cut_through-clause-any_moment g c = λ limit low high.
+    let d = g.D.Device in
+    run_more d.moment d.left_since d.may_leave (OnFile c.args.files.block (HalfCut 0)) (SameBelow limit) c.args.disk.now c.cut_through.new.disk
+    (record { since = c.cut_through.ensures.any_moment; now = c.cut_through.ensures.crash })
+    (λ origin image possible change. below_change limit c.args.files.block (HalfCut 0) origin image low change)
+
+pub returns-clause-any_moment : goal.returns-clause-any_moment
+returns-clause-any_moment g c = λ limit low high.
+    let d = g.D.Device in
+    let first = run_more d.moment d.left_since d.may_leave (OnFile c.args.files.block (HalfCut 0)) (SameBelow limit) c.args.disk.now c.cut_through.new.disk
+    (record { since = c.cut_through.ensures.any_moment; now = c.cut_through.ensures.crash })
+    (λ origin image possible change. below_change limit c.args.files.block (HalfCut 0) origin image low change) in
+    run_on d.moment d.left_since d.may_leave (SameBelow limit) c.args.disk.now c.cut_through.new.disk c.create.new.disk (below_then limit) first
+    (below_in_file d.moment d.left_since d.may_leave limit c.args.files.segment _ _ c.cut_through.new.disk c.create.new.disk high c.create.ensures.any_moment)
+
+pub returns-in_err-cut_through-clause-others : goal.returns-in_err-cut_through-clause-others
+returns-in_err-cut_through-clause-others g c = λ told file first second. c.cut_through.ensures.besides told file first
+
+pub returns-clause-others : goal.returns-clause-others
+returns-clause-others g c = λ told file first second.
+    c.create.ensures.besides (subst IsTrue (sym c.cut_through.ensures.telling) told) file second ∙ c.cut_through.ensures.besides told file first
+
+pub returns-clause-empty : goal.returns-clause-empty
+returns-clause-empty g c = λ told.
+    ok_anyway c.create.result _ (c.create.ensures.besides (subst IsTrue (sym c.cut_through.ensures.telling) told) c.args.files.block c.requires ∙ c.in_ok-cut_through.ensures.shortened told)
+
+pub returns-clause-segment : goal.returns-clause-segment
+returns-clause-segment g c = λ told.
+    ok_each c.create.result _ _ (λ first. c.create.ensures.empty first (subst IsTrue (sym c.cut_through.ensures.telling) told))

@@ -1,0 +1,40 @@
+use Rattle.std.proofs.Common.{ℕ, List, length, refl, ◌∙◌, ap, arith, length-append}
+use Rattle.disk_model.specs.Images.{bytes_of}
+use Rattle.disk_model.proofs.BytesLemmas.{overwritten_end}
+use Rattle.store_core.proofs.OpenJobs.{job_here}
+use Rattle.store_core.proofs.PieceEvents.{no_piece, did_piece, did_piece_fail}
+use Rattle.store_core.proofs.States.{none_of}
+use Rattle.store_core.proofs.store.Core.write_piece.Goals as goal
+
+pub returns-in-Some-clause-did : goal.returns-in-Some-clause-did
+returns-in-Some-clause-did g c = no_piece g.D.Device g.met.D.Device.only_now c.args.self.now c.args.out.now.number c.args.out.now.file c.args.bytes.now c.in-Some.faults c.in-Some.is
+
+pub returns-in-Some-clause-whole : goal.returns-in-Some-clause-whole
+returns-in-Some-clause-whole g c = λ told other. c.requires.whole told
+
+pub returns-in-Ok-clause-did : goal.returns-in-Ok-clause-did
+returns-in-Ok-clause-did g c =
+    let core = c.args.self.now in
+    let known = c.requires.job in
+    did_piece g.D.Device g.met.D.Device.only_now core c.write.new.self c.args.out.now.number c.args.out.now.file c.args.out.now.written c.args.bytes.now (none_of core.state.read_only c.in_default.not-Some)
+    (λ m has. job_here core.state known.0 m c.args.out.now known.1.has known.2 has)
+    c.write.ensures.telling c.write.ensures.besides c.write.ensures.crash c.write.ensures.time c.write.ensures.cause.later c.write.ensures.one_call c.write.ensures.no_read
+    c.in-Ok.ensures.written c.requires.whole
+
+pub returns-in-Ok-clause-whole : goal.returns-in-Ok-clause-whole
+returns-in-Ok-clause-whole g c = λ told other.
+    let old = bytes_of (g.D.Device.held c.args.self.now.disk) c.args.out.now.file in
+    let new = c.in-Ok.ensures.written told ∙ overwritten_end old c.args.out.now.written c.args.bytes.now (c.requires.whole told) in
+    let size = length-append old c.args.bytes.now in
+    let whole = c.requires.whole told in
+    let same = ap (λ (b : List ℕ). length b) new in
+    omega (arith, size, whole, same)
+
+pub returns-in-Err-clause-did : goal.returns-in-Err-clause-did
+returns-in-Err-clause-did g c =
+    let core = c.args.self.now in
+    let known = c.requires.job in
+    did_piece_fail g.D.Device g.met.D.Device.only_now core c.write.new.self c.args.out.now.number c.args.out.now.file c.args.out.now.written c.args.bytes.now (none_of core.state.read_only c.in_default.not-Some)
+    (λ m has. job_here core.state known.0 m c.args.out.now known.1.has known.2 has)
+    c.write.ensures.telling c.write.ensures.besides c.write.ensures.crash c.write.ensures.time c.write.ensures.cause.later c.write.ensures.one_call c.write.ensures.no_read
+    c.faults-faults.result c.faults-faults.ensures (c.in-Err.ensures.cause.rose refl)

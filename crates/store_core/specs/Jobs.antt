@@ -1,0 +1,40 @@
+-- What a core keeps of jobs: the open flush, and which files were given out.
+use Rattle.std.specs.Prelude.{◌≡◌, ℕ, ◌+◌, ◌≤◌, List, [], ◌∷◌, Option, Some, None, IfSome}
+use Rattle.std.specs.Vec.{vec_len, vec_capacity}
+use Rattle.disk_model.specs.Images.{Image, bytes_of}
+use Rattle.disk_model.specs.Crash.{OnlyBytes}
+use Rattle.head_log.specs.Stands.{SegmentHolds}
+use Rattle.block_list.specs.declared.body.ListBody.{ListBody}
+use Rattle.store_model.specs.State.{Flush}
+use Rattle.store_state.specs.Loose.{AreFilesOf}
+use Rattle.store_core.specs.declared.jobs.Jobs.{Jobs}
+use Rattle.store_core.specs.declared.jobs.OpenFlush.{OpenFlush}
+
+-- the flush that is known is the one that is open
+abbrev pub ShowsFlush : Option OpenFlush → Option Flush → Type 0
+ShowsFlush None flush = flush ≡ None
+ShowsFlush (Some known) flush = (job : Flush) × (flush ≡ Some job) × (job.number ≡ known.number) × AreFilesOf known.files job
+
+-- No file that was given out since the list was committed is named in it, and the files of an open flush are such. There is room
+-- for them among the loose files.
+pub record JobsFit (jobs : Jobs) (list : ListBody) : Type 0 where
+  pub given : list.next_file ≤ jobs.next_file
+  pub files : IfSome jobs.flush (λ known. (list.next_file ≤ known.files.block) × (list.next_file ≤ known.files.segment))
+  pub room : IfSome jobs.flush (λ known. vec_len jobs.loose + 2 ≤ vec_capacity jobs.loose)
+
+-- the new segment of an open flush has no record, and one image
+abbrev pub HasFreshSegment : Image → (Image → Type 0) → Jobs → Type 0
+HasFreshSegment held may_leave jobs = IfSome jobs.flush (λ known. ((first : ℕ) → SegmentHolds first [] 1 (bytes_of held known.files.segment))
+    × OnlyBytes known.files.segment (bytes_of held known.files.segment) may_leave)
+
+-- the files of a flush that is known
+abbrev pub files_of_flush : Option OpenFlush → List ℕ
+files_of_flush None = []
+files_of_flush (Some known) = known.files.block ∷ known.files.segment ∷ []
+
+-- no job was begun, no file is loose, and this is the next file number
+pub record HasNoJobs (jobs : Jobs) (next_file : ℕ) : Type 0 where
+  pub begun : jobs.begun ≡ 0
+  pub next_file_is : jobs.next_file ≡ next_file
+  pub loose : jobs.loose.items ≡ []
+  pub flush : jobs.flush ≡ None
