@@ -4,3 +4,4 @@ pub mod Logs
 pub mod Keeping
 pub mod Storing
 pub mod Between
+pub mod Committed

@@ -1,3 +1,4 @@
 pub mod Log
 pub mod Stored
 pub mod Settled
+pub mod Committed

@@ -6,4 +6,7 @@
 
 mod laws;
 
-pub use laws::{a_committed_flush_agrees, loaded_keeps_stored, one_stored_list, steps_that_keep};
+pub use laws::{
+    a_committed_flush_agrees, a_committed_flush_stands, loaded_keeps_stored, one_stored_list,
+    steps_that_keep,
+};
