@@ -39,6 +39,16 @@ known_pushes (Traced as_of rows) = Some as_of
 known_pushes (Searched as_of fields results) = Some as_of
 known_pushes _ = None
 
+-- whether it is a push, as a number
+abbrev pub pushes_in : Item → ℕ
+pushes_in (Ok (Push reading moment)) = 1
+pushes_in _ = 0
+
+-- how many of these are pushes
+abbrev pub all_pushes : List Item → ℕ
+all_pushes [] = 0
+all_pushes (item ∷ items) = pushes_in item + all_pushes items
+
 -- how many spans are to be pushed
 abbrev pub spans_in : Item → ℕ
 spans_in (Ok (Push reading moment)) = length reading.batch.spans
@@ -51,5 +61,5 @@ all_spans (item ∷ items) = spans_in item + all_spans items
 -- There is room in the store for all of this: it writes, and neither the history nor what is held in memory will be full.
 pub record HasRoomFor (items : List Item) (m : Machine) : Type 0 where
   pub writes : m.read_only ≡ None
-  pub pushes : count_of m.history + length items ≤ 4294967295
+  pub pushes : count_of m.history + all_pushes items ≤ 4294967295
   pub rows : held_of m.state + all_spans items ≤ 262144

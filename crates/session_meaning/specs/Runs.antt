@@ -13,13 +13,14 @@ use Rattle.command_words.specs.Table.{words_app}
 use Rattle.session_text.specs.declared.reply.Reply.{Reply}
 use Rattle.session_text.specs.Items.{Item}
 use Rattle.session_text.specs.Replies.{not_store_text}
+use Rattle.store_model.specs.History.{count_of}
 use Rattle.store_model.specs.Laws.{Agrees}
 use Rattle.store_images.specs.Stored.{IsSoundImage}
-use Rattle.store_core.specs.Opening.{BeginsEmpty, StoreBreaks}
+use Rattle.store_core.specs.Opening.{BeginsEmpty, NamesNoBlock, StoreBreaks}
 use Rattle.session_meaning.specs.declared.ending.Ending.{Ending}
 use Rattle.session_meaning.specs.declared.ending.Ending.TheVariants.{Answered, BadWords, NotOpened, NotStore, ReadFault, Refused, Spent, Starved, WriteFault}
 use Rattle.session_meaning.specs.Asked.{AreAsked, AsksNext, IsNextMoment, after_lines, after_moment}
-use Rattle.session_meaning.specs.Session.{At, Ends, EndsAlone, Session}
+use Rattle.session_meaning.specs.Session.{At, Ends, EndsAlone, Session, history_of}
 
 -- What the outside tells at a moment: the bytes that the source has left and those that the sink has taken, the moments that
 -- the clock has to give, and the bytes that the disk holds, each where it tells them; and the counts of faults.
@@ -63,20 +64,22 @@ pub record Outcome : Type 0 where
 
 -- ---- the opening
 
--- The store was opened at the clock's next moment. It then writes, its head is empty, no file is loose and no pin is open, and
--- its rows are those of its history. Its bytes were a store's. The disk's faults are counted on from those of the opening to
--- the last ones.
+-- The store was opened at the clock's next moment. It then writes, its head is empty, no file is loose and no pin is open, its
+-- rows are those of its history, and that has no more pushes than a store takes. Its bytes don't break. The disk's faults are
+-- counted on from those of the opening to the last ones.
 pub record HasOpened (o : Outcome) (old new : Edges) : Type 0 where
   pub moment : IsNextMoment old.moments o.moment
   pub begins : BeginsEmpty o.first.machine
   pub agrees : Agrees o.first.machine
+  pub few : count_of (history_of o.first) ≤ 4294967295
   pub unbroken : IfSome old.held (λ image. (file at : ℕ) → StoreBreaks image file at → ⊥)
   pub first_faults : old.disk_faults ≤ o.first.faults
   pub last_faults : o.last.faults ≡ new.disk_faults
 
--- The disk's bytes, where it tells them, break first at this place of this file, and so are no store's.
+-- The disk's bytes, where it tells them, break first at this place of this file, and so are no store's; or they are one that
+-- lists a block, and that is the first byte of the first one, since no block is read yet.
 abbrev pub IsNoStore : ℕ → ℕ → Option Image → Type 0
-IsNoStore file at held = IfSome held (λ image. StoreBreaks image file at × (IsSoundImage image → ⊥))
+IsNoStore file at held = IfSome held (λ image. StoreBreaks image file at × (IsSoundImage image → NamesNoBlock image → ⊥))
 
 -- What stands written where the store wasn't opened: which of its bytes are no store's, or a first part of that; or nothing.
 abbrev pub EndsUnopened : Ending → Edges → Option (List ℕ) → Type 0
@@ -87,12 +90,18 @@ EndsUnopened WriteFault old taken =
 EndsUnopened Starved old taken = taken ≡ old.taken
 EndsUnopened _ old taken = ⊥
 
--- The store wasn't opened: nothing was taken of the source, and nothing was asked.
+-- The clock gave the moment of the opening; or none, where memory was wanted for the words.
+abbrev pub GaveOpening : Ending → Option (List ℕ) → Option (List ℕ) → Type 0
+GaveOpening Starved old new = (new ≡ after_moment old) ⊎ (new ≡ old)
+GaveOpening _ old new = new ≡ after_moment old
+
+-- The store wasn't opened: nothing was taken of the source, nothing was asked, and the clock gave no moment but the opening's.
 pub record HasNotOpened (o : Outcome) (old new : Edges) : Type 0 where
   pub no_items : o.items ≡ []
   pub no_replies : o.replies ≡ []
   pub no_refused : o.refused ≡ []
   pub left : new.left ≡ old.left
+  pub clock : GaveOpening o.ending old.moments new.moments
   pub ends : EndsUnopened o.ending old new.taken
 
 -- ---- what each command does
@@ -174,12 +183,14 @@ pub record IsRunOf (words : List (List ℕ)) (o : Outcome) (old new : Edges) : T
 
 -- ---- runs that come to their own end
 
--- The disk tells its bytes and they are a store's, and no call of it failed.
+-- The disk tells its bytes and they are those of a store that lists no block, and no call of it failed.
 abbrev pub HasItsStore : Edges → Edges → Type 0
 HasItsStore old new =
-    (image : Image) × (old.held ≡ Some image) × IsSoundImage image × (Rose old.disk_faults new.disk_faults → ⊥)
+    (image : Image) × (old.held ≡ Some image) × IsSoundImage image × NamesNoBlock image
+    × (Rose old.disk_faults new.disk_faults → ⊥)
 
--- No call failed that the command makes, the disk holds a store, and the source has fewer bytes than a run takes.
+-- No call failed that the command makes, the disk holds a store that lists no block, and the source has fewer bytes than a run
+-- takes.
 abbrev pub GoesWell : Command → Edges → Edges → Type 0
 GoesWell session old new =
     HasItsStore old new × (Rose old.sink_faults new.sink_faults → ⊥) × (Rose old.source_faults new.source_faults → ⊥)

@@ -1,5 +1,5 @@
 -- What was done by a run, from what its command came to.
-use Rattle.std.proofs.Common.{◌≡◌, ◌≢◌, inl, inr, ℕ, List, [], ◌∷◌, Option, Some, None, true, false, IsTrue, if◌then◌else◌, refl, subst, sym}
+use Rattle.std.proofs.Common.{◌≡◌, ◌≢◌, ◌⊎◌, ◌∙◌, inl, inr, ℕ, List, [], ◌∷◌, Option, Some, None, true, false, IsTrue, arith, if◌then◌else◌, refl, subst, sym}
 use Rattle.std.specs.Prelude.{IfSome}
 use Rattle.clap.specs.Words.{Kinds, fault_of}
 use Rattle.command_words.specs.Commands.{Alone, Command, Session as session, Spells}
@@ -8,10 +8,14 @@ use Rattle.command_words.proofs.Spelled.{spelled_clean, spelled_one}
 use Rattle.disk_model.specs.Images.{Image}
 use Rattle.disk_model.specs.Crash.{Reached}
 use Rattle.disk_model.specs.declared.disk.Device.{Ghosts}
+use Rattle.disk_model.proofs.Runs.{run_same}
+use Rattle.block_list.specs.Loading.{KeepsList}
+use Rattle.block_list.proofs.LoadLemmas.{keeps_same as list_same}
 use Rattle.io_edges.specs.Lines.{taken_limit}
 use Rattle.io_edges.specs.Reader.{TakesBytes}
 use Rattle.span_types.specs.Faults.{Rose}
 use Rattle.store_core.specs.NewCore.{new_machine}
+use Rattle.store_core.specs.Opening.{LeavesAlone}
 use Rattle.store_core.specs.declared.error.OpenError.{OpenError}
 use Rattle.store_core.specs.declared.error.OpenError.TheVariants as open_errors
 use Rattle.store_images.specs.Stored.{KeepsStored}
@@ -21,6 +25,7 @@ use Rattle.session_meaning.specs.declared.ending.Ending.TheVariants.{Answered, B
 use Rattle.session_meaning.specs.Asked.{after_moment}
 use Rattle.session_meaning.specs.Runs.{Does, DoesInStore, Edges, FitsWords, HasAnswered, HasCause, HasRun, IsNoStore, IsPastOpening, IsRunOf, Outcome, told_bytes}
 use Rattle.session_meaning.specs.Session.{At}
+use Rattle.session_meaning.specs.Statuses.{status_of}
 use Rattle.session_meaning.specs.Stops.{Recovers}
 use Rattle.trace_shell.specs.Turn.{CameOver, HasDone, IsRefusedStore}
 
@@ -130,6 +135,13 @@ unopened_recovers g disk later e kept = record {
   any_moment = λ image left. inl (kept image left);
 }
 
+-- a disk that wasn't touched is left alone
+pub left_same : {D : Type 0} (g : Ghosts D) (only_now : (disk : D) (image : Image) → g.left_since disk (g.moment disk) image → g.may_leave disk image) (disk : D) → LeavesAlone g disk disk
+left_same g only_now disk = record {
+  images = run_same g.moment g.left_since g.may_leave KeepsList disk list_same (only_now disk);
+  bytes = list_same (g.held disk);
+}
+
 -- a disk that wasn't touched
 pub untouched_recovers : {D : Type 0} (g : Ghosts D) (only_now : (disk : D) (image : Image) → g.left_since disk (g.moment disk) image → g.may_leave disk image) (disk : D) (e : Ending)
     → Recovers g disk disk (unopened e)
@@ -139,7 +151,7 @@ untouched_recovers g only_now disk e = unopened_recovers g disk disk e (λ image
 pub starved_runs : (words : List (List ℕ)) (old : Edges) → IsRunOf words (unopened Starved) old old
 starved_runs words old = record {
   words_fit = fits (fault_of words_app words);
-  does = λ c s. inr (refl, record { no_items = refl; no_replies = refl; no_refused = refl; left = refl; ends = refl });
+  does = λ c s. inr (refl, record { no_items = refl; no_replies = refl; no_refused = refl; left = refl; clock = inr refl; ends = refl });
   session = (refl, refl);
   cause = tt;
 }
@@ -164,41 +176,65 @@ refused_runs words old faulty = record {
 -- ---- where the store wasn't opened
 
 -- It wasn't opened for a cause, and the run ended so.
-pub unopened_done : (c : Command) (error : OpenError) (e : Ending) (old new : Edges) → new.left ≡ old.left → IsRefusedStore error e old.taken new.taken
+pub unopened_done : (c : Command) (error : OpenError) (e : Ending) (old new : Edges) → new.left ≡ old.left → new.moments ≡ after_moment old.moments → IsRefusedStore error e old.taken new.taken
     → (e ≡ WriteFault → Rose old.sink_faults new.sink_faults) → (error ≡ open_errors.Fault → Rose old.disk_faults new.disk_faults)
     → ((file at : ℕ) → error ≡ open_errors.NotStore file at → IsNoStore file at old.held) → HasDone c (unopened e) old new
-unopened_done c open_errors.Fault e old new left (is, taken) write fault broken =
+unopened_done c open_errors.Fault e old new left moment (is, taken) write fault broken =
     subst (λ (k : Ending). HasDone c (unopened k) old new) (sym is) (record {
-      does = inr (refl, record { no_items = refl; no_replies = refl; no_refused = refl; left = left; ends = taken });
+      does = inr (refl, record { no_items = refl; no_replies = refl; no_refused = refl; left = left; clock = moment; ends = taken });
       session = (refl, refl);
       cause = fault refl;
       asked = λ e. let bad : ⊥ = cc in bad;
     })
-unopened_done c open_errors.Memory e old new left (is, taken) write fault broken =
+unopened_done c open_errors.Memory e old new left moment (is, taken) write fault broken =
     subst (λ (k : Ending). HasDone c (unopened k) old new) (sym is) (record {
-      does = inr (refl, record { no_items = refl; no_replies = refl; no_refused = refl; left = left; ends = taken });
+      does = inr (refl, record { no_items = refl; no_replies = refl; no_refused = refl; left = left; clock = inl moment; ends = taken });
       session = (refl, refl);
       cause = tt;
       asked = λ e. let bad : ⊥ = cc in bad;
     })
-unopened_done c (open_errors.NotStore file at) e old new left (inl (is, taken)) write fault broken =
+unopened_done c (open_errors.NotStore file at) e old new left moment (inl (is, taken)) write fault broken =
     subst (λ (k : Ending). HasDone c (unopened k) old new) (sym is) (record {
-      does = inr (refl, record { no_items = refl; no_replies = refl; no_refused = refl; left = left; ends = taken });
+      does = inr (refl, record { no_items = refl; no_replies = refl; no_refused = refl; left = left; clock = moment; ends = taken });
       session = (refl, refl);
       cause = broken file at refl;
       asked = λ e. let bad : ⊥ = cc in bad;
     })
-unopened_done c (open_errors.NotStore file at) e old new left (inr (inl (is, taken))) write fault broken =
+unopened_done c (open_errors.NotStore file at) e old new left moment (inr (inl (is, taken))) write fault broken =
     subst (λ (k : Ending). HasDone c (unopened k) old new) (sym is) (record {
-      does = inr (refl, record { no_items = refl; no_replies = refl; no_refused = refl; left = left; ends = taken });
+      does = inr (refl, record { no_items = refl; no_replies = refl; no_refused = refl; left = left; clock = inl moment; ends = taken });
       session = (refl, refl);
       cause = tt;
       asked = λ e. let bad : ⊥ = cc in bad;
     })
-unopened_done c (open_errors.NotStore file at) e old new left (inr (inr (is, taken))) write fault broken =
+unopened_done c (open_errors.NotStore file at) e old new left moment (inr (inr (is, taken))) write fault broken =
     subst (λ (k : Ending). HasDone c (unopened k) old new) (sym is) (record {
-      does = inr (refl, record { no_items = refl; no_replies = refl; no_refused = refl; left = left; ends = (file, at, broken file at refl, taken) });
+      does = inr (refl, record { no_items = refl; no_replies = refl; no_refused = refl; left = left; clock = moment; ends = (file, at, broken file at refl, taken) });
       session = (refl, refl);
       cause = write is;
       asked = λ e. let bad : ⊥ = cc in bad;
     })
+
+-- ---- where the store wasn't opened
+
+-- An ending other than that of a fault had another cause.
+pub no_fault : (error : OpenError) (e : Ending) (old new : Option (List ℕ)) → IsRefusedStore error e old new → e ≢ NotOpened → error ≢ open_errors.Fault
+no_fault open_errors.Fault e old new told not = λ is. not told.0
+no_fault open_errors.Memory e old new told not = λ is. let bad : ⊥ = cc in bad
+no_fault (open_errors.NotStore file at) e old new told not = λ is. let bad : ⊥ = cc in bad
+
+neither : (n s : ℕ) → s ≡ n → n ≢ 4 → n ≢ 5 → (s ≡ 4) ⊎ (s ≡ 5) → ⊥
+neither n s is four five (inl e) = four (sym is ∙ e)
+neither n s is four five (inr e) = five (sym is ∙ e)
+
+-- These statuses are those of a store that wasn't opened.
+pub ended_before : (e : Ending) (s : ℕ) → s ≡ status_of e → (s ≡ 4) ⊎ (s ≡ 5) → IsPastOpening e → ⊥
+ended_before Answered s is early past = neither 0 s is (λ e. omega (arith, e)) (λ e. omega (arith, e)) early
+ended_before WriteFault s is early past = neither 1 s is (λ e. omega (arith, e)) (λ e. omega (arith, e)) early
+ended_before BadWords s is early past = past
+ended_before ReadFault s is early past = neither 3 s is (λ e. omega (arith, e)) (λ e. omega (arith, e)) early
+ended_before NotOpened s is early past = past
+ended_before (NotStore file at) s is early past = past
+ended_before Starved s is early past = neither 6 s is (λ e. omega (arith, e)) (λ e. omega (arith, e)) early
+ended_before Refused s is early past = neither 7 s is (λ e. omega (arith, e)) (λ e. omega (arith, e)) early
+ended_before Spent s is early past = neither 8 s is (λ e. omega (arith, e)) (λ e. omega (arith, e)) early

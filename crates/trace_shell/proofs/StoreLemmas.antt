@@ -1,5 +1,5 @@
 -- What a run came to in a store that was opened, and what it left of it.
-use Rattle.std.proofs.Common.{◌≡◌, inl, inr, ⊎_elim, ℕ, ◌≤◌, List, Option, None, true, IsTrue, refl, sym, ◌∙◌, ap, subst}
+use Rattle.std.proofs.Common.{◌≡◌, inl, inr, ⊎_elim, ℕ, ◌≤◌, List, [], Option, None, true, IsTrue, refl, sym, ◌∙◌, ap, subst}
 use Rattle.std.specs.Prelude.{IfSome}
 use Rattle.span_types.specs.declared.spans.Span.{Span}
 use Rattle.command_words.specs.Commands.{Command}
@@ -9,11 +9,13 @@ use Rattle.session_text.specs.declared.reply.Reply.{Reply}
 use Rattle.session_text.specs.Items.{Item}
 use Rattle.store_model.specs.History.{count_of}
 use Rattle.store_model.specs.Step.{Machine}
+use Rattle.store_state.specs.Cores.{CoreHolds}
 use Rattle.store_images.specs.Stored.{IsSoundImage, MayStandFor}
-use Rattle.store_core.specs.Cores.{CoreStandsFor, unsure_of}
+use Rattle.store_images.proofs.Lists.{not_in_nil}
+use Rattle.store_core.specs.Cores.{CoreShows, CoreStandsFor, unsure_of}
 use Rattle.store_core.specs.Opening.{KeepsDisk, OpensAs, StoreBreaks}
 use Rattle.store_core.specs.Past.{StandsSince, StoodFor}
-use Rattle.store_core.specs.Port.{port_of}
+use Rattle.store_core.specs.Port.{port_of, shown_by}
 use Rattle.store_core.specs.declared.store.Core.{Core}
 use Rattle.client_run.specs.CoreRuns.{AreSteps, unsure_after_calls}
 use Rattle.client_run.proofs.CallLemmas.{tells_kept}
@@ -28,6 +30,16 @@ use Rattle.session_meaning.proofs.AnswerLaws.{session_means}
 use Rattle.session_meaning.proofs.Unsure.{items_unsure}
 use Rattle.trace_shell.specs.Turn.{CameOver, HasDone}
 use Rattle.trace_shell.proofs.RunLemmas.{if_told, in_store, past_is_no_fault}
+
+-- nothing is open in a core whose memory shows a machine
+pub holds_nothing : {D : Type 0} (g : Ghosts D) (core : Core D) (m : Machine) → CoreShows g core m → CoreHolds (shown_by g) core []
+holds_nothing g core m shown = record {
+  machine = m;
+  shown = shown;
+  agrees = shown.agrees;
+  sound = shown.sound;
+  open_holds = λ hold inside. absurd (not_in_nil hold inside);
+}
 
 -- a run in a store that was opened
 abbrev pub in_a_store : {D : Type 0} → Ghosts D → ℕ → Core D → Core D → Machine → Machine → Ending → List Item → List Reply → List (List ℕ) → Outcome
@@ -59,6 +71,7 @@ module _ {D : Type 0} (g : Ghosts D) (disk : D) (moment : ℕ) (core later : Cor
         moment = next;
         begins = opens.empty;
         agrees = opens.shows.agrees;
+        few = subst (λ (n : ℕ). n ≤ 4294967295) (sym opens.shows.has.count) opens.shows.has.few;
         unbroken = subst (λ (o : Option Image). IfSome o (λ image. (file at : ℕ) → StoreBreaks image file at → ⊥)) (sym held)
             (if_told g disk (λ image. (file at : ℕ) → StoreBreaks image file at → ⊥) unbroken);
         first_faults = subst (λ (n : ℕ). n ≤ g.faults core.disk) (sym old_faults) counted;

@@ -7,11 +7,12 @@ ghost use Rattle.command_words.specs.Table.{words_app};
 ghost use Rattle.io_edges.specs.Lines.{taken_limit};
 ghost use Rattle.io_edges.specs.Reader.{TakesBytes};
 ghost use Rattle.span_types.specs.Faults.{Rose};
+ghost use Rattle.store_core.specs.Opening.{LeavesAlone, StoreBreaks};
 ghost use Rattle.store_images.specs.Stored.{IsSoundImage};
 ghost use Rattle.store_model.specs.Holds.{Hold};
 ghost use Rattle.session_text.specs.declared.reply.Reply.{Reply};
 ghost use Rattle.session_text.specs.Items.{Item};
-ghost use Rattle.session_meaning.specs.declared.ending.Ending.TheVariants.{ReadFault, Spent, WriteFault};
+ghost use Rattle.session_meaning.specs.declared.ending.Ending.TheVariants.{NotOpened, ReadFault, Spent, WriteFault};
 ghost use Rattle.session_meaning.specs.Progress.{HasAnsweredOver};
 ghost use Rattle.session_meaning.specs.Runs.{IsPastOpening, IsRunOf, Outcome, edges};
 ghost use Rattle.session_meaning.specs.Stops.{Recovers};
@@ -54,6 +55,9 @@ pub(crate) fn dispatch<S: Source, K: Sink, D: Device, C: Clock, P: PatternMaker,
     ensures nothing_done { fault_of words_app (map string_bytes words.now) ≢ []
         → (source.new ≡ source.old) × (sink.new ≡ sink.old) × (result.1 ≡ disk) × (clock.new ≡ clock.old)
         × (patterns.new ≡ patterns.old) }
+    ensures left { IsTrue (D.tells disk) → (file at : ℕ) → StoreBreaks (D.held disk) file at → result.0 ≢ NotOpened
+        → LeavesAlone D.Device.own disk result.1 }
+    ensures unread { (IsPastOpening result.0 → ⊥) → source.new ≡ source.old }
     ensures alone { (line : List ℕ) → Spells (map string_bytes words.now) (Alone line)
         → source.new ≡ source.old }
 {
@@ -85,6 +89,9 @@ fn on_store<S: Source, K: Sink, D: Device, C: Clock, P: PatternMaker, G: Gate>(
         (edges S.left S.faults K.taken K.faults C.moments D.Device.own source.old sink.old clock.old disk)
         (edges S.left S.faults K.taken K.faults C.moments D.Device.own source.new sink.new clock.new result.1)
         × Recovers D.Device.own disk result.1 o }
+    ensures left { IsTrue (D.tells disk) → (file at : ℕ) → StoreBreaks (D.held disk) file at → result.0 ≢ NotOpened
+        → LeavesAlone D.Device.own disk result.1 }
+    ensures unread { (IsPastOpening result.0 → ⊥) → source.new ≡ source.old }
     ensures alone { (line : List ℕ) → command_of asked ≡ Alone line → source.new ≡ source.old }
 {
     let moment = clock.now();

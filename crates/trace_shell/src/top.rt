@@ -1,6 +1,6 @@
 //! The top call.
 
-ghost use Rattle.std.specs.Prelude.{◌≡◌, ◌≢◌, List, [], map, string_bytes, ℕ, IsTrue};
+ghost use Rattle.std.specs.Prelude.{◌≡◌, ◌≢◌, ◌⊎◌, List, [], map, string_bytes, ℕ, IsTrue};
 ghost use Rattle.std.specs.Process.{exit_status};
 ghost use Rattle.clap.specs.Words.{fault_of};
 ghost use Rattle.command_words.specs.Commands.{Alone, Spells};
@@ -8,6 +8,7 @@ ghost use Rattle.command_words.specs.Table.{words_app};
 ghost use Rattle.session_meaning.specs.Runs.{IsRunOf, Outcome, edges};
 ghost use Rattle.session_meaning.specs.Statuses.{status_of};
 ghost use Rattle.session_meaning.specs.Stops.{Recovers};
+ghost use Rattle.store_core.specs.Opening.{LeavesAlone, StoreBreaks};
 ghost use Rattle.store_images.specs.Stored.{IsSoundImage};
 ghost use Rattle.traceql_types.specs.Makers.{RefusesOnly};
 
@@ -81,6 +82,12 @@ pub fn run_alone<
     ensures nothing_done { fault_of words_app (map string_bytes words.now) ≢ []
         → (source.new ≡ source.old) × (sink.new ≡ sink.old) × (result.disk ≡ disk) × (clock.new ≡ clock.old)
         × (patterns.new ≡ patterns.old) }
+    // Bytes that break, and so aren't opened, are left alone unless a call of the disk failed as they were read: at most a
+    // vacant slot of the list is cut to its first byte.
+    ensures left { IsTrue (D.tells disk) → (file at : ℕ) → StoreBreaks (D.held disk) file at → result.status ≢ 4
+        → LeavesAlone D.Device.own disk result.disk }
+    // Where the disk failed as the store was opened, or its bytes broke, nothing was taken of the source.
+    ensures unread { (result.status ≡ 4) ⊎ (result.status ≡ 5) → source.new ≡ source.old }
     // A command that answers one line alone takes nothing of the source.
     ensures alone { (line : List ℕ) → Spells (map string_bytes words.now) (Alone line)
         → source.new ≡ source.old }
@@ -130,6 +137,12 @@ pub fn run<
     ensures nothing_done { fault_of words_app (map string_bytes words.now) ≢ []
         → (source.new ≡ source.old) × (sink.new ≡ sink.old) × (result.disk ≡ disk) × (clock.new ≡ clock.old)
         × (patterns.new ≡ patterns.old) }
+    // Bytes that break, and so aren't opened, are left alone unless a call of the disk failed as they were read: at most a
+    // vacant slot of the list is cut to its first byte.
+    ensures left { IsTrue (D.tells disk) → (file at : ℕ) → StoreBreaks (D.held disk) file at → result.status ≢ 4
+        → LeavesAlone D.Device.own disk result.disk }
+    // Where the disk failed as the store was opened, or its bytes broke, nothing was taken of the source.
+    ensures unread { (result.status ≡ 4) ⊎ (result.status ≡ 5) → source.new ≡ source.old }
     // A command that answers one line alone takes nothing of the source.
     ensures alone { (line : List ℕ) → Spells (map string_bytes words.now) (Alone line)
         → source.new ≡ source.old }

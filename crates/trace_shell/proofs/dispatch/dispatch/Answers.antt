@@ -4,7 +4,7 @@ use Rattle.command_words.proofs.Spelled.{spelled_clean, spelled_one}
 use Rattle.session_meaning.specs.declared.ending.Ending.TheVariants.{BadWords, Starved}
 use Rattle.session_meaning.specs.Runs.{Edges, edges}
 use Rattle.traceql_types.proofs.Calls.{refuses-none}
-use Rattle.trace_shell.proofs.RunLemmas.{is_run, refused_runs, starved_runs, unopened, untouched_recovers}
+use Rattle.trace_shell.proofs.RunLemmas.{is_run, left_same, refused_runs, starved_runs, unopened, untouched_recovers}
 use Rattle.trace_shell.proofs.dispatch.dispatch.Goals as goal
 
 pub returns-in-Ok-clause-ran : goal.returns-in-Ok-clause-ran
@@ -72,3 +72,9 @@ returns-in-Err-Memory-clause-recovers g c = λ told sound. (
   starved_runs (map string_bytes c.args.words.now) (edges g.S.Source.left g.S.Source.faults g.K.Sink.taken g.K.Sink.faults g.C.Clock.moments g.D.Device c.args.source.now c.args.sink.now c.args.clock.now c.args.disk),
   untouched_recovers g.D.Device g.met.D.Device.only_now c.args.disk Starved,
 )
+
+pub returns-in-Err-Refused-clause-left : goal.returns-in-Err-Refused-clause-left
+returns-in-Err-Refused-clause-left g c = λ told file at breaks other. left_same g.D.Device g.met.D.Device.only_now c.args.disk
+
+pub returns-in-Err-Memory-clause-left : goal.returns-in-Err-Memory-clause-left
+returns-in-Err-Memory-clause-left g c = λ told file at breaks other. left_same g.D.Device g.met.D.Device.only_now c.args.disk

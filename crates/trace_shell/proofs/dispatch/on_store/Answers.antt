@@ -3,15 +3,14 @@ use Rattle.command_words.specs.Commands.{command_of}
 use Rattle.session_meaning.specs.Runs.{Edges, edges}
 use Rattle.session_meaning.specs.Stops.{Recovers}
 use Rattle.store_core.proofs.Past.{stands_since_now}
-use Rattle.store_core.proofs.PortEvents.{holds_nothing}
-use Rattle.store_core.specs.Opening.{StoreBreaks}
+use Rattle.store_core.specs.Opening.{NamesNoBlock, StoreBreaks}
 use Rattle.store_images.specs.Stored.{IsSoundImage}
 use Rattle.store_model.specs.History.{count_of}
 use Rattle.client_run.proofs.CoreLemmas.{shows_stepped, since_stepped}
 use Rattle.traceql_types.proofs.Calls.{refuses-none}
 use Rattle.trace_shell.specs.Turn.{CameOver}
-use Rattle.trace_shell.proofs.RunLemmas.{cause_of, if_told, unopened, unopened_done, unopened_recovers}
-use Rattle.trace_shell.proofs.StoreLemmas.{in_a_store, opened_done, opened_recovers}
+use Rattle.trace_shell.proofs.RunLemmas.{cause_of, if_told, no_fault, unopened, unopened_done, unopened_recovers}
+use Rattle.trace_shell.proofs.StoreLemmas.{holds_nothing, in_a_store, opened_done, opened_recovers}
 use Rattle.trace_shell.proofs.dispatch.on_store.Goals as goal
 
 pub do_asked-ending-requires-after_bounds : goal.do_asked-ending-requires-after_bounds
@@ -76,9 +75,9 @@ returns-in-Err-clause-ran g c =
       unopened c.refuse_store.result,
       refl,
       refuses-none g.P.PatternMaker.makes _ c.args.patterns.now c.args.patterns.now,
-      unopened_done (command_of c.args.asked) c.in-Err.error c.refuse_store.result old new refl c.refuse_store.ensures.told c.refuse_store.ensures.write_fault c.in-Err.ensures.fault
-          (λ file at is. if_told d c.args.disk (λ image. StoreBreaks image file at × (IsSoundImage image → ⊥))
-          (λ told. (c.in-Err.ensures.not_store told file at is, λ sound. c.in-Err.ensures.sound told sound file at is))),
+      unopened_done (command_of c.args.asked) c.in-Err.error c.refuse_store.result old new refl c.now-moment.ensures.later c.refuse_store.ensures.told c.refuse_store.ensures.write_fault c.in-Err.ensures.fault
+          (λ file at is. if_told d c.args.disk (λ image. StoreBreaks image file at × (IsSoundImage image → NamesNoBlock image → ⊥))
+          (λ told. (c.in-Err.ensures.not_store told file at is, λ sound plain. c.in-Err.ensures.sound told sound plain file at is))),
     )
 
 pub returns-in-Err-clause-recovers : goal.returns-in-Err-clause-recovers
@@ -89,8 +88,18 @@ returns-in-Err-clause-recovers g c = λ told sound.
       unopened c.refuse_store.result,
       refl,
       refuses-none g.P.PatternMaker.makes _ c.args.patterns.now c.args.patterns.now,
-      unopened_done (command_of c.args.asked) c.in-Err.error c.refuse_store.result old new refl c.refuse_store.ensures.told c.refuse_store.ensures.write_fault c.in-Err.ensures.fault
-          (λ file at is. if_told d c.args.disk (λ image. StoreBreaks image file at × (IsSoundImage image → ⊥))
-          (λ told. (c.in-Err.ensures.not_store told file at is, λ sound. c.in-Err.ensures.sound told sound file at is))),
+      unopened_done (command_of c.args.asked) c.in-Err.error c.refuse_store.result old new refl c.now-moment.ensures.later c.refuse_store.ensures.told c.refuse_store.ensures.write_fault c.in-Err.ensures.fault
+          (λ file at is. if_told d c.args.disk (λ image. StoreBreaks image file at × (IsSoundImage image → NamesNoBlock image → ⊥))
+          (λ told. (c.in-Err.ensures.not_store told file at is, λ sound plain. c.in-Err.ensures.sound told sound plain file at is))),
       unopened_recovers d c.args.disk c.in-Err.disk c.refuse_store.result (λ image left. (c.in-Err.ensures.kept_refused told).since.each image left),
     )
+
+pub returns-in-Ok-clause-left : goal.returns-in-Ok-clause-left
+returns-in-Ok-clause-left g c = λ told file at breaks other. absurd (c.in-Ok.ensures.unbroken told file at breaks)
+
+pub returns-in-Err-clause-left : goal.returns-in-Err-clause-left
+returns-in-Err-clause-left g c = λ told file at breaks other.
+    c.in-Err.ensures.left told (no_fault c.in-Err.error c.refuse_store.result _ _ c.refuse_store.ensures.told other)
+
+pub returns-in-Ok-clause-unread : goal.returns-in-Ok-clause-unread
+returns-in-Ok-clause-unread g c = λ early. absurd (early c.do_asked-ending.ensures.endings)
