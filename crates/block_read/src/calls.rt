@@ -28,7 +28,8 @@ fn read_block<P: Pages>(
     block: u32,
     length: u64,
 ) -> Result<Block, ReadError>
-    ensures answers { IsTrue (P.tells pages.old) → AnswersOf (λ x. x) block result (block_at (first_bytes length (P.held pages.old block))) }
+    ensures answers { IsTrue (P.tells pages.old) → AnswersOf (λ x. x) block result
+        (block_at (first_bytes length (P.held pages.old block))) }
     ensures rules { IfOk result (λ found. CanBeHeader found.header) }
     ensures stays { StaysSame P.tells P.held pages.old pages.new }
     ensures later { P.faults pages.old ≤ P.faults pages.new }
@@ -48,7 +49,8 @@ fn read_block<P: Pages>(
 
 /// All rows of a block, in block order. It has as many pages as its information says, and as many reads are made.
 ///
-/// [`ReadError::NotBlock`] comes exactly where these pages are no block, at the first byte of the file where they are malformed.
+/// [`ReadError::NotBlock`] comes exactly where these pages are no block, at the first byte of the file where they are
+/// malformed.
 pub fn all_rows<P: Pages>(
     alloc: Global,
     pages: &mut P,
@@ -77,7 +79,8 @@ pub fn trace_rows<P: Pages>(
     id: TraceId,
 ) -> Result<Rows, ReadError>
     ensures answers { IsTrue (P.tells pages.old) → AnswersOf (λ x. x) block result
-        (made_of (λ b. rows_of_trace id b.rows) (block_at (first_bytes (4096 * info.now.pages) (P.held pages.old block)))) }
+        (made_of (λ b. rows_of_trace id b.rows)
+        (block_at (first_bytes (4096 * info.now.pages) (P.held pages.old block)))) }
     ensures stays { StaysSame P.tells P.held pages.old pages.new }
     ensures later { P.faults pages.old ≤ P.faults pages.new }
     ensures cause { FailsByFault (P.faults pages.old) (P.faults pages.new) result }
@@ -90,10 +93,11 @@ pub fn trace_rows<P: Pages>(
     }
 }
 
-/// The information of the block that the first `length` bytes of a file are, by its level, where its list entry says so many
-/// rows. As many reads are made as these bytes have pages.
+/// The information of the block that the first `length` bytes of a file are, by its level, where its list entry says so
+/// many rows. As many reads are made as these bytes have pages.
 ///
-/// [`ReadError::NotBlock`] comes exactly where these bytes are no such block, at the first byte where they are malformed.
+/// [`ReadError::NotBlock`] comes exactly where these bytes are no such block, at the first byte where they are
+/// malformed.
 #[tactic(auto, unfolding(crate::specs::BlockReadings::listed_at))]
 pub fn check_block<P: Pages>(
     alloc: Global,

@@ -28,7 +28,8 @@ pub fn file_bytes<P: Pages>(
     block: u32,
     length: u64,
 ) -> Result<Vec<u8>, Unread>
-    ensures bytes { IsTrue (P.tells pages.old) → IfOk result (λ bytes. bytes.items ≡ first_bytes length (P.held pages.old block)) }
+    ensures bytes { IsTrue (P.tells pages.old)
+        → IfOk result (λ bytes. bytes.items ≡ first_bytes length (P.held pages.old block)) }
     ensures stays { StaysSame P.tells P.held pages.old pages.new }
     ensures later { P.faults pages.old ≤ P.faults pages.new }
     ensures cause { UnreadByFault (P.faults pages.old) (P.faults pages.new) result }
@@ -51,7 +52,8 @@ fn add_page<P: Pages>(
     bytes: &mut Vec<u8>,
 ) -> Result<(), Unread>
     requires { wanted ≤ 4096 }
-    ensures bytes { IsTrue (P.tells pages.old) → OnOk result (bytes.new.items ≡ bytes.old.items ++ take wanted (page_of (P.held pages.old block) page)) }
+    ensures bytes { IsTrue (P.tells pages.old)
+        → OnOk result (bytes.new.items ≡ bytes.old.items ++ take wanted (page_of (P.held pages.old block) page)) }
     ensures stays { StaysSame P.tells P.held pages.old pages.new }
     ensures later { P.faults pages.old ≤ P.faults pages.new }
     ensures cause { UnreadByFault (P.faults pages.old) (P.faults pages.new) result }

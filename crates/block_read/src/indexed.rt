@@ -14,8 +14,8 @@ use std::alloc::Global;
 
 const PAGE_BYTES: u64 = 4096;
 
-/// Whether the header counts the pages of the index and of the Bloom filters of rows with these trace ids right, and whether these
-/// come after the stripes, up to the end of the bytes.
+/// Whether the header counts the pages of the index and of the Bloom filters of rows with these trace ids right, and
+/// whether these come after the stripes, up to the end of the bytes.
 #[tactic(auto, unfolding(crate::specs::BlockReadings::indexed))]
 pub fn indexed(alloc: Global, bytes: &[u8], header: &Header, ids: &Ids) -> Result<(), Break>
     requires few { length ids.now < 2 ^ 32 }

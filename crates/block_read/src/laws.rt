@@ -25,15 +25,17 @@ pub fn read_block_is_held()
         → AreBytes bytes → block_at bytes ≡ Ok block → BlockHasHeader block.header bytes block.rows }
 {}
 
-/// A file of a block's bytes, which this information describes: it has so many pages, and what reading gives of it is its rows,
-/// and this information where the list entry says so many rows.
+/// A file of a block's bytes, which this information describes: it has so many pages, and what reading gives of it is its
+/// rows, and this information where the list entry says so many rows.
 pub fn described_block_is_read()
     ensures size { (bytes : List ℕ) (rows : List Row) (info : InfoParts)
         → BlockHasInfo info bytes rows → length bytes ≡ 4096 * info.pages }
     ensures rows { (bytes : List ℕ) (rows : List Row) (info : InfoParts)
-        → BlockHasInfo info bytes rows → made_of (λ b. b.rows) (block_at (first_bytes (4096 * info.pages) bytes)) ≡ Ok rows }
+        → BlockHasInfo info bytes rows
+        → made_of (λ b. b.rows) (block_at (first_bytes (4096 * info.pages) bytes)) ≡ Ok rows }
     ensures info { (bytes : List ℕ) (rows : List Row) (info : InfoParts)
-        → BlockHasInfo info bytes rows → made_of (info_read info.file info.level) (listed_at info.rows (first_bytes (length bytes) bytes)) ≡ Ok info }
+        → BlockHasInfo info bytes rows
+        → made_of (info_read info.file info.level) (listed_at info.rows (first_bytes (length bytes) bytes)) ≡ Ok info }
 {
     filters_hold_their_traces();
 }

@@ -9,7 +9,8 @@ use crate::file::part;
 use span_types::{Bytes, Calls, Failed};
 use std::marker::Model;
 
-/// One file in memory, whose bytes are told; all other files are empty. Reads whose numbers are listed fail, counted from 1.
+/// One file in memory, whose bytes are told; all other files are empty. Reads whose numbers are listed fail, counted
+/// from 1.
 #[derive(Debug, Drop)]
 pub struct MemPages {
     file: u32,

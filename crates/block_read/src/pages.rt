@@ -21,8 +21,8 @@ pub trait Pages {
     /// How many pages were asked for.
     ghost reads: { Self → ℕ };
 
-    /// Reads a page of 4,096 bytes, counted from 0. Past the file's end there are zeros. What an `Err` leaves in the buffer is
-    /// open.
+    /// Reads a page of 4,096 bytes, counted from 0. Past the file's end there are zeros. What an `Err` leaves in the
+    /// buffer is open.
     fn page(&mut self, block: u32, page: u64, buf: &mut [u8; 4096]) -> Result<(), Failed>
         ensures page { IsTrue (tells self.old) → OnOk result (buf.new ≡ page_of (held self.old block) page) }
         ensures same_files { IsTrue (tells self.old) → SameFiles (held self.old) (held self.new) }

@@ -68,7 +68,8 @@ fn placed_stripe(
     last: &Option<Row>,
 ) -> Result<Vec<Row>, Break>
     requires { entry.now.page ≤ 2 ^ 51 }
-    ensures answers { Answers (λ x. x.items) result (in_file (4096 * entry.now.page) (part_of entry.now.page entry.now.pages bytes.now)
+    ensures answers { Answers (λ x. x.items) result
+        (in_file (4096 * entry.now.page) (part_of entry.now.page entry.now.pages bytes.now)
         (stripe_of form entry.now last.now (part_of entry.now.page entry.now.pages bytes.now))) }
     ensures few { IfOk result (λ rows. length rows.items ≤ 256) }
 {
@@ -113,7 +114,8 @@ fn has_pages(size: u64, pages: u64) -> bool
 
 /// The rows of a stripe, which agree with its entry.
 fn agreeing(alloc: Global, part: &[u8], form: u8, entry: &StripeInfo) -> Result<Vec<Row>, Break>
-    ensures answers { Answers (λ x. x.items) result (agreeing entry.now part.now (within part.now (stripe_at (is_extended form) part.now))) }
+    ensures answers { Answers (λ x. x.items) result
+        (agreeing entry.now part.now (within part.now (stripe_at (is_extended form) part.now))) }
     ensures few { IfOk result (λ rows. length rows.items ≤ 256) }
 {
     match rows_of(alloc, part, form) {
@@ -143,7 +145,8 @@ fn rows_of(alloc: Global, part: &[u8], form: u8) -> Result<Vec<Row>, Break>
     }
 }
 
-/// Where a stripe is malformed that by itself is malformed at this offset: at its first byte where it disagrees with its entry.
+/// Where a stripe is malformed that by itself is malformed at this offset: at its first byte where it disagrees with its
+/// entry.
 fn first_break(alloc: Global, part: &[u8], entry: &StripeInfo, at: u64) -> Break
     ensures { Fails result (agreeing entry.now part.now (Err at)) }
 {

@@ -4,8 +4,6 @@
 #[cfg(test)]
 mod events;
 #[cfg(test)]
-mod flushing;
-#[cfg(test)]
 mod live;
 #[cfg(test)]
 mod opening;
