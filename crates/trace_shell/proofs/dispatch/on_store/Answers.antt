@@ -99,7 +99,7 @@ returns-in-Ok-clause-left g c = λ told file at breaks other. absurd (c.in-Ok.en
 
 pub returns-in-Err-clause-left : goal.returns-in-Err-clause-left
 returns-in-Err-clause-left g c = λ told file at breaks other.
-    c.in-Err.ensures.left told (no_fault c.in-Err.error c.refuse_store.result _ _ c.refuse_store.ensures.told other)
+    c.in-Err.ensures.left told (no_fault c.in-Err.error c.refuse_store.result (g.K.Sink.taken c.args.sink.now) (g.K.Sink.taken c.refuse_store.new.sink) c.refuse_store.ensures.told other)
 
 pub returns-in-Ok-clause-unread : goal.returns-in-Ok-clause-unread
 returns-in-Ok-clause-unread g c = λ early. absurd (early c.do_asked-ending.ensures.endings)

@@ -18,4 +18,4 @@ returns-clause-left g c = λ told file at breaks other.
     c.dispatch-ending.ensures.left told file at breaks (λ is. other (c.status.ensures ∙ ap status_of is))
 
 pub returns-clause-unread : goal.returns-clause-unread
-returns-clause-unread g c = λ early. c.dispatch-ending.ensures.unread (ended_before _ _ c.status.ensures early)
+returns-clause-unread g c = λ early. c.dispatch-ending.ensures.unread (ended_before c.dispatch-ending.result.0 c.status.result c.status.ensures early)
