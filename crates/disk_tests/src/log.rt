@@ -525,10 +525,13 @@ fn add_second(
 fn count_in(alloc: Global, disk: &MemDisk, pick: u64, batches: &[&Batch]) -> Result<usize, Fail> {
     let mut image = disk.image(pick)?;
     let (_, found) = scan(alloc, &mut image, 2, 0)?;
-    match batches.get(..found.len()) {
-        Some(first) if are_found(&found, 0, first) && image.starved() == 0 => Ok(found.len()),
-        _ => Err(Fail::from("other batches, or no memory")),
+    if found.len() > batches.len() || image.starved() > 0 {
+        return Err(Fail::from("more batches, or no memory"));
     }
+    if !are_found(&found, 0, &batches[..found.len()]) {
+        return Err(Fail::from("other batches"));
+    }
+    Ok(found.len())
 }
 
 /// Whether the second of two records is added to a disk that stops after so many calls, and how many of them each of 16
