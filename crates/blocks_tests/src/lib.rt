@@ -2,10 +2,16 @@
 #![tactic(auto)]
 
 #[cfg(test)]
+mod built;
+#[cfg(test)]
 mod given;
 #[cfg(test)]
 mod headers;
 #[cfg(test)]
+mod indexed;
+#[cfg(test)]
 mod malformed;
 #[cfg(test)]
 mod stripes;
+#[cfg(test)]
+mod whole;

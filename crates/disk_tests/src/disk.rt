@@ -53,122 +53,127 @@ fn holding(alloc: Global, bytes: &[u8]) -> Result<MemDisk, Failed> {
     Ok(disk)
 }
 
-#[test]
-fn pending_changes_may_be_torn(rt: HostRuntime) -> Result<(), Fail> {
-    let alloc = rt.alloc();
+/// What file 0 holds, synced; the steps behind that; and its bytes in the images 0 to 3.
+type Case = (&'static [u8], &'static [Step<'static>], [&'static [u8]; 4]);
+
+static TORN: [Case; 6] = [
     // Two writes that overlap.
-    let mut disk = holding(alloc, &[5, 6, 7, 8])?;
-    run(
-        &mut disk,
+    (
+        &[5, 6, 7, 8],
         &[Step::Write(0, 1, &[9, 9]), Step::Write(0, 2, &[10, 10, 10])],
-    );
-    expect(
-        &rt,
-        &disk,
-        0,
         [
             &[5, 6, 7, 8],
             &[5, 9, 10, 10, 10],
             &[5, 1, 1, 1, 1],
             &[5, 0, 0, 0],
         ],
-    )?;
+    ),
     // A cut below an earlier write, and a write behind the cut.
-    let mut disk = holding(alloc, &[5, 6, 7, 8, 9])?;
-    run(
-        &mut disk,
+    (
+        &[5, 6, 7, 8, 9],
         &[
             Step::Write(0, 3, &[10]),
             Step::Cut(0, 2),
             Step::Write(0, 2, &[11]),
         ],
-    );
-    expect(
-        &rt,
-        &disk,
-        0,
         [&[5, 6, 7, 8, 9], &[5, 6, 11], &[5, 6, 1, 1, 1], &[5, 6]],
-    )?;
+    ),
     // A cut above an earlier write.
-    let mut disk = holding(alloc, &[5, 6, 7, 8, 9])?;
-    run(&mut disk, &[Step::Write(0, 1, &[10]), Step::Cut(0, 3)]);
-    expect(
-        &rt,
-        &disk,
-        0,
+    (
+        &[5, 6, 7, 8, 9],
+        &[Step::Write(0, 1, &[10]), Step::Cut(0, 3)],
         [&[5, 6, 7, 8, 9], &[5, 10, 7], &[5, 1, 7, 1, 1], &[5, 0, 7]],
-    )?;
+    ),
     // A write past the end, whose gap becomes zeros, and an empty one, which changes nothing.
-    let mut disk = holding(alloc, &[5, 6])?;
-    run(
-        &mut disk,
+    (
+        &[5, 6],
         &[Step::Write(0, 4, &[7, 8]), Step::Write(0, 9, &[])],
-    );
-    expect(
-        &rt,
-        &disk,
-        0,
         [&[5, 6], &[5, 6, 0, 0, 7, 8], &[5, 6, 1, 1, 1, 1], &[5, 6]],
-    )?;
+    ),
     // A cut of a file that isn't longer: its length counts.
-    let mut disk = holding(alloc, &[5, 6])?;
-    run(&mut disk, &[Step::Cut(0, 4)]);
-    expect(&rt, &disk, 0, [&[5, 6], &[5, 6], &[5, 6, 1, 1], &[5, 6]])?;
+    (
+        &[5, 6],
+        &[Step::Cut(0, 4)],
+        [&[5, 6], &[5, 6], &[5, 6, 1, 1], &[5, 6]],
+    ),
     // After a sync there is one image.
-    run(&mut disk, &[Step::Write(0, 0, &[3]), Step::Sync(0)]);
-    expect(&rt, &disk, 0, [&[3, 6], &[3, 6], &[3, 6], &[3, 6]])?;
+    (
+        &[5, 6],
+        &[Step::Cut(0, 4), Step::Write(0, 0, &[3]), Step::Sync(0)],
+        [&[3, 6], &[3, 6], &[3, 6], &[3, 6]],
+    ),
+];
+
+/// Takes the steps, and compares the images.
+fn check_case<R: Abort>(rt: &R, alloc: Global, case: &Case) -> Result<(), Fail> {
+    let (held, steps, images) = case;
+    let mut disk = holding(alloc, held)?;
+    run(&mut disk, steps);
+    expect(rt, &disk, 0, *images)?;
     assert_eq!(rt; disk.starved(), 0);
     Ok(())
 }
 
 #[test]
-fn failed_calls_leave_their_change_pending(rt: HostRuntime) -> Result<(), Fail> {
-    let alloc = rt.alloc();
-    let mut disk = holding(alloc, &[5, 6, 7])?;
-    disk.fail_at(Calls::of(vec![in alloc; 1, 2, 3, 4]?));
-    let failed = run(
-        &mut disk,
+fn pending_changes_may_be_torn(rt: HostRuntime) -> Result<(), Fail> {
+    for case in &TORN {
+        check_case(&rt, rt.alloc(), case)?;
+    }
+    Ok(())
+}
+
+/// Where a write ends too far.
+const FAR: u64 = (1 << 63) - 1;
+
+/// Steps of one disk, whose first four calls fail, and which stops after one call of the last steps: how many of the steps'
+/// calls fail, and how many have failed by then; and the bytes of file 0 in the images 0 to 3.
+static FAILED: [(&[Step<'static>], usize, u64, [&[u8]; 4]); 4] = [
+    (
         &[
             Step::Write(0, 1, &[9]),
             Step::Cut(0, 2),
             Step::Sync(0),
             Step::Write(0, 5, &[9]),
         ],
-    );
-    assert_eq!(rt; (failed, disk.faults()), (4, 4));
-    expect(&rt, &disk, 0, [&[5, 6, 7], &[5, 6, 7], &[5, 1, 1], &[5, 0]])?;
+        4,
+        4,
+        [&[5, 6, 7], &[5, 6, 7], &[5, 1, 1], &[5, 0]],
+    ),
     // The next sync passes, and then they are no longer pending.
-    assert_eq!(rt; run(&mut disk, &[Step::Sync(0)]), 0);
-    expect(
-        &rt,
-        &disk,
+    (
+        &[Step::Sync(0)],
         0,
+        4,
         [&[5, 6, 7], &[5, 6, 7], &[5, 6, 7], &[5, 6, 7]],
-    )?;
-    // A write that ends too far and a stopped call leave nothing pending.
-    let far = (1u64 << 63) - 1;
-    assert_eq!(rt;
-        run(
-            &mut disk,
-            &[Step::Write(0, far, &[1]), Step::Write(0, far, &[])]
-        ),
-        1
-    );
-    disk.stop_after(1);
-    assert_eq!(rt;
-        run(
-            &mut disk,
-            &[Step::Write(0, 2, &[8]), Step::Cut(0, 0), Step::Sync(0)]
-        ),
-        2
-    );
-    assert_eq!(rt; disk.faults(), 7);
-    expect(
-        &rt,
-        &disk,
-        0,
+    ),
+    // A write that ends too far leaves nothing pending.
+    (
+        &[Step::Write(0, FAR, &[1]), Step::Write(0, FAR, &[])],
+        1,
+        5,
+        [&[5, 6, 7], &[5, 6, 7], &[5, 6, 7], &[5, 6, 7]],
+    ),
+    // And neither does a call that is stopped.
+    (
+        &[Step::Write(0, 2, &[8]), Step::Cut(0, 0), Step::Sync(0)],
+        2,
+        7,
         [&[5, 6, 7], &[5, 6, 8], &[5, 6, 1], &[5, 6, 0]],
-    )?;
+    ),
+];
+
+#[test]
+fn failed_calls_leave_their_change_pending(rt: HostRuntime) -> Result<(), Fail> {
+    let mut disk = holding(rt.alloc(), &[5, 6, 7])?;
+    disk.fail_at(Calls::of(vec![in rt.alloc(); 1, 2, 3, 4]?));
+    for (i, (steps, failed, faults, images)) in FAILED.iter().enumerate() {
+        if i == 3 {
+            disk.stop_after(1);
+        }
+        assert_eq!(rt; run(&mut disk, steps), *failed);
+        assert_eq!(rt; disk.faults(), *faults);
+        expect(&rt, &disk, 0, *images)?;
+    }
     assert_eq!(rt; disk.starved(), 0);
     Ok(())
 }
@@ -184,9 +189,14 @@ fn files_are_apart(rt: HostRuntime) -> Result<(), Fail> {
             Step::Sync(3),
         ],
     );
-    expect(&rt, &disk, 0, [&[5], &[8], &[1], &[0]])?;
-    expect(&rt, &disk, 3, [&[6, 7], &[6, 7], &[6, 7], &[6, 7]])?;
-    expect(&rt, &disk, 4, [&[], &[], &[], &[]])?;
+    let images: [(u32, [&[u8]; 4]); 3] = [
+        (0, [&[5], &[8], &[1], &[0]]),
+        (3, [&[6, 7], &[6, 7], &[6, 7], &[6, 7]]),
+        (4, [&[], &[], &[], &[]]),
+    ];
+    for (file, images) in images {
+        expect(&rt, &disk, file, images)?;
+    }
     cut_through(&mut disk, 3, 1)?;
     expect(&rt, &disk, 3, [&[6], &[6], &[6], &[6]])?;
     assert_eq!(rt; (disk.faults(), disk.starved()), (0, 0));

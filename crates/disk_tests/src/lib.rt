@@ -8,6 +8,8 @@ mod disk;
 #[cfg(test)]
 mod fields;
 #[cfg(test)]
+mod folder;
+#[cfg(test)]
 mod list;
 #[cfg(test)]
 mod log;

@@ -33,53 +33,107 @@ fn loaded(alloc: Global, first: &[u8], second: &[u8]) -> Result<Option<ListBody>
     load(alloc, &mut disk)
 }
 
-#[test]
-fn lists_are_read(rt: HostRuntime) -> Result<(), Fail> {
-    let alloc = rt.alloc();
-    assert!(rt; loaded(alloc, &[], &[])?.is_none());
-    // A closed gate, and an open one on too few bytes.
-    assert!(rt; loaded(alloc, &[0; 40], &SECOND[..29])?.is_none());
-    let Some(list) = loaded(alloc, &NEW_STORE, &[])? else {
-        panic!(rt; "the list of a new store");
-    };
-    assert_eq!(rt; (list.generation, list.next_file, list.floor), (0, 3, 0));
-    assert_eq!(rt;
-        list.segments.as_slice(),
-        [SegmentRef { file: 2, first: 0 }].as_slice()
-    );
-    // The second slot is the successor.
-    let Some(list) = loaded(alloc, &NEW_STORE, &SECOND)? else {
-        panic!(rt; "the second list");
-    };
-    assert_eq!(rt; (list.generation, list.next_file, list.floor), (1, 6, 9));
-    let segments = [
+/// The fields of a list.
+struct Fields {
+    generation: u8,
+    next_file: u32,
+    floor: u64,
+    segments: &'static [SegmentRef],
+    blocks: &'static [BlockRef],
+    loose: &'static [u32],
+}
+
+/// Those of `NEW_STORE`.
+const NEW_FIELDS: Fields = Fields {
+    generation: 0,
+    next_file: 3,
+    floor: 0,
+    segments: &[SegmentRef { file: 2, first: 0 }],
+    blocks: &[],
+    loose: &[],
+};
+
+/// Those of `SECOND`.
+const SECOND_FIELDS: Fields = Fields {
+    generation: 1,
+    next_file: 6,
+    floor: 9,
+    segments: &[
         SegmentRef { file: 4, first: 2 },
         SegmentRef { file: 5, first: 9 },
+    ],
+    blocks: &[BlockRef {
+        file: 3,
+        level: 1,
+        rows: 7,
+    }],
+    loose: &[2],
+};
+
+fn has(list: &ListBody, fields: &Fields) -> bool {
+    (list.generation, list.next_file, list.floor)
+        == (fields.generation, fields.next_file, fields.floor)
+        && list.segments.as_slice() == fields.segments
+        && list.blocks.as_slice() == fields.blocks
+        && list.loose.as_slice() == fields.loose
+}
+
+/// Whether slots are loaded as a list with these fields, or as none.
+fn is_loaded_as(
+    alloc: Global,
+    first: &[u8],
+    second: &[u8],
+    fields: Option<&Fields>,
+) -> Result<bool, ListError> {
+    Ok(match (loaded(alloc, first, second)?, fields) {
+        (Some(list), Some(fields)) => has(&list, fields),
+        (None, None) => true,
+        _ => false,
+    })
+}
+
+/// The next file of the list that slots are loaded as, where `NEW_STORE` is in slot 0 and `SECOND` in slot 1 with these
+/// generations; 0 where there is none.
+fn next_file_at(alloc: Global, first: u8, second: u8) -> Result<u32, ListError> {
+    let mut zero = NEW_STORE;
+    zero[5] = first;
+    let mut one = SECOND;
+    one[5] = second;
+    Ok(match loaded(alloc, &zero, &one)? {
+        Some(list) => list.next_file,
+        None => 0,
+    })
+}
+
+#[test]
+fn lists_are_read(rt: HostRuntime) -> Result<(), Fail> {
+    let cases: [(&[u8], &[u8], Option<&Fields>); 4] = [
+        (&[], &[], None),
+        // A closed gate, and an open one on too few bytes.
+        (&[0; 40], &SECOND[..29], None),
+        (&NEW_STORE, &[], Some(&NEW_FIELDS)),
+        // The second slot is the successor.
+        (&NEW_STORE, &SECOND, Some(&SECOND_FIELDS)),
     ];
-    assert_eq!(rt; list.segments.as_slice(), segments.as_slice());
-    assert_eq!(rt;
-        list.blocks.as_slice(),
-        [BlockRef {
-            file: 3,
-            level: 1,
-            rows: 7
-        }]
-        .as_slice()
-    );
-    assert_eq!(rt; list.loose.as_slice(), [2].as_slice());
-    // The first slot is the successor, also of the last generation.
-    for (first, second) in [(2u8, 1u8), (0, 255)] {
-        let mut newer = NEW_STORE;
-        newer[5] = first;
-        let mut older = SECOND;
-        older[5] = second;
-        let list = loaded(alloc, &newer, &older)?;
+    for (i, (first, second, fields)) in cases.into_iter().enumerate() {
         assert!(rt;
-            matches!(&list, Some(list) if list.next_file == 3),
-            "{first}"
+            is_loaded_as(rt.alloc(), first, second, fields)?,
+            "case {i}"
         );
     }
+    // The first slot is the successor, also of the last generation.
+    for (first, second) in [(2, 1), (0, 255)] {
+        assert_eq!(rt; next_file_at(rt.alloc(), first, second), Ok(3));
+    }
     Ok(())
+}
+
+/// The slot and the offset at which slots are told to be malformed.
+fn break_of(alloc: Global, first: &[u8], second: &[u8]) -> Option<(u32, u64)> {
+    match loaded(alloc, first, second) {
+        Err(ListError::NotList { slot, at }) => Some((slot, at)),
+        _ => None,
+    }
 }
 
 #[test]
@@ -112,19 +166,14 @@ fn each_rule_breaks_at_its_field(rt: HostRuntime) -> Result<(), Fail> {
         assert!(rt; place < 67);
         let mut second = SECOND;
         second[place] = byte;
-        let result = loaded(alloc, &NEW_STORE, &second);
-        assert!(rt;
-            matches!(result, Err(ListError::NotList { slot: 1, at: found }) if found == at),
-            "{place} {byte}"
-        );
+        let told = break_of(alloc, &NEW_STORE, &second);
+        assert_eq!(rt; told, Some((1, at)), "{place} {byte}");
     }
     // Bytes are missing, and the slots are no neighbours.
-    let result = loaded(alloc, &NEW_STORE[..41], &[]);
-    assert!(rt; matches!(result, Err(ListError::NotList { slot: 0, at: 41 })));
+    assert_eq!(rt; break_of(alloc, &NEW_STORE[..41], &[]), Some((0, 41)));
     let mut first = NEW_STORE;
     first[5] = 1;
-    let result = loaded(alloc, &first, &[]);
-    assert!(rt; matches!(result, Err(ListError::NotList { slot: 0, at: 5 })));
+    assert_eq!(rt; break_of(alloc, &first, &[]), Some((0, 5)));
     Ok(())
 }
 
@@ -212,20 +261,59 @@ fn next_file_of(alloc: Global, disk: &MemDisk, pick: u64) -> Result<u32, Fail> {
     })
 }
 
+/// A disk with the list of a new store.
+fn with_new_store(alloc: Global) -> Result<MemDisk, Fail> {
+    let mut disk = MemDisk::empty(alloc);
+    if !write_list(alloc, &mut disk, &new_store(alloc)?, 0)? {
+        return Err(Fail::from("the disk and the memory suffice"));
+    }
+    Ok(disk)
+}
+
 #[test]
 fn a_new_store_has_42_bytes(rt: HostRuntime) -> Result<(), Fail> {
-    let alloc = rt.alloc();
-    let mut disk = MemDisk::empty(alloc);
-    assert!(rt; write_list(alloc, &mut disk, &new_store(alloc)?, 0)?);
     let mut bytes = [9u8; 64];
+    let mut disk = with_new_store(rt.alloc())?;
     let count = disk.read(0, 0, &mut bytes)?;
     assert!(rt; bytes.get(..count) == Some(NEW_STORE.as_slice()));
     Ok(())
 }
 
+/// How the writing of the next list is disturbed.
+#[derive(Clone, Copy)]
+enum Trouble {
+    /// The call of that number fails.
+    Fails(u64),
+    /// So many calls pass, and the others change nothing.
+    Stops(u64),
+}
+
+fn write_next(alloc: Global, disk: &mut MemDisk, trouble: Trouble) -> Result<bool, Fail> {
+    let next = next_list(alloc)?;
+    match trouble {
+        Trouble::Fails(call) => write_list(alloc, disk, &next, call),
+        Trouble::Stops(calls) => write_until(alloc, disk, &next, calls),
+    }
+}
+
+/// Whether the next list is written after that of a new store, and the next file of the list that each of 16 images is
+/// loaded as.
+fn next_list_in(alloc: Global, trouble: Trouble) -> Result<(bool, [u32; 16]), Fail> {
+    let mut disk = with_new_store(alloc)?;
+    let written = write_next(alloc, &mut disk, trouble)?;
+    Ok((written, next_files(alloc, &disk)?))
+}
+
+fn next_files(alloc: Global, disk: &MemDisk) -> Result<[u32; 16], Fail> {
+    let mut files = [0; 16];
+    for (pick, file) in (0u64..16).zip(files.iter_mut()) {
+        *file = next_file_of(alloc, disk, pick)?;
+    }
+    Ok(files)
+}
+
 #[test]
 fn a_writing_that_fails_leaves_one_list(rt: HostRuntime) -> Result<(), Fail> {
-    let alloc = rt.alloc();
     // The call that fails, and the next file in the images 0 to 3: what was synced, what is held, ones and zeros.
     let rows: [(u64, [u32; 4]); 7] = [
         (1, [3, 3, 3, 3]),
@@ -237,22 +325,13 @@ fn a_writing_that_fails_leaves_one_list(rt: HostRuntime) -> Result<(), Fail> {
         (7, [5, 5, 5, 5]),
     ];
     for (failing, images) in rows {
-        let mut disk = MemDisk::empty(alloc);
-        assert!(rt; write_list(alloc, &mut disk, &new_store(alloc)?, 0)?);
-        let written = write_list(alloc, &mut disk, &next_list(alloc)?, failing)?;
+        let (written, files) = next_list_in(rt.alloc(), Trouble::Fails(failing))?;
         assert_eq!(rt; written, failing == 7);
-        for (pick, next_file) in (0u64..4).zip(images) {
-            assert_eq!(rt;
-                next_file_of(alloc, &disk, pick)?,
-                next_file,
-                "call {failing}, pick {pick}"
-            );
-        }
-        for pick in 4u64..16 {
-            let next_file = next_file_of(alloc, &disk, pick)?;
+        assert_eq!(rt; files[..4], images[..], "call {failing}");
+        for next_file in files {
             assert!(rt;
                 next_file == 3 && failing < 7 || next_file == 5 && 4 < failing,
-                "call {failing}, pick {pick}"
+                "call {failing}"
             );
         }
     }
@@ -261,17 +340,13 @@ fn a_writing_that_fails_leaves_one_list(rt: HostRuntime) -> Result<(), Fail> {
 
 #[test]
 fn a_writing_that_is_stopped_leaves_one_list(rt: HostRuntime) -> Result<(), Fail> {
-    let alloc = rt.alloc();
     for calls in 0..8 {
-        let mut disk = MemDisk::empty(alloc);
-        assert!(rt; write_list(alloc, &mut disk, &new_store(alloc)?, 0)?);
-        let written = write_until(alloc, &mut disk, &next_list(alloc)?, calls)?;
+        let (written, files) = next_list_in(rt.alloc(), Trouble::Stops(calls))?;
         assert_eq!(rt; written, calls > 5);
-        for pick in 0..16 {
-            let next_file = next_file_of(alloc, &disk, pick)?;
+        for next_file in files {
             assert!(rt;
                 next_file == 3 && calls < 6 || next_file == 5 && calls > 4,
-                "{calls} calls, pick {pick}"
+                "{calls} calls"
             );
         }
     }

@@ -5,11 +5,11 @@ ghost use Rattle.span_types.specs.Promises.{AreNames};
 use disk_model::{Device, MemDisk};
 use head_log::{LogError, Numbered, Prepared, Segment, append, create, scan};
 use span_types::{
-    Attr, AttrValue, Attrs, Batch, Calls, Events, Links, Memory, Resource, Scope, SharedResource,
-    SharedScope, Span, SpanEvent, SpanId, SpanKind, SpanLink, Spans, StatusCode, Text, TraceId,
+    Attr, AttrValue, Attrs, Batch, Calls, Events, Failed, Links, Memory, Resource, Scope,
+    SharedResource, SharedScope, Span, SpanEvent, SpanId, SpanKind, SpanLink, Spans, StatusCode,
+    Text, TraceId,
 };
 use std::alloc::Global;
-use std::process::Abort;
 use std::test::Fail;
 
 /// A segment after one batch without spans.
@@ -211,6 +211,13 @@ const EXTENDED: [u8; 104] = [
     1, 8, 8, 8, 8, 8, 8, 8, 8, 8, 8, 8, 8, 8, 8, 8, 8, 3, 3, 3, 3, 3, 3, 3, 3, 0,
 ];
 
+/// The same without the link: the body ends with the count of links.
+const UNLINKED: [u8; 79] = [
+    7, 0, 0, 0, 0, 0, 0, 1, 1, 1, 1, b'r', 1, 2, 1, 0, 0, 0, 1, 9, 9, 9, 9, 9, 9, 9, 9, 9, 9, 9, 9,
+    9, 9, 9, 9, 1, 1, 1, 1, 1, 1, 1, 1, 0, 1, b'x', 2, 5, 0, 0, 0, 0, 0, 0, 0, 6, 0, 0, 0, 0, 0, 0,
+    0, 1, 0, 0, 1, 5, 0, 0, 0, 0, 0, 0, 0, 1, b'e', 0, 0,
+];
+
 /// The body of a span without events and links, which says that it has the form 1.
 const NOTHING_MORE: [u8; 68] = [
     7, 0, 0, 0, 0, 0, 0, 1, 1, 1, 1, b'r', 1, 2, 1, 0, 0, 0, 1, 9, 9, 9, 9, 9, 9, 9, 9, 9, 9, 9, 9,
@@ -307,28 +314,16 @@ fn are_found(found: &Numbered, first: u64, batches: &[&Batch]) -> bool {
     found.len() == batches.len()
 }
 
-/// The bytes of file 2.
-fn bytes_of_file(alloc: Global, disk: &mut MemDisk) -> Result<Vec<u8>, Fail> {
+/// Whether file 2 has just these bytes, fewer than 512.
+fn has_bytes(disk: &mut MemDisk, bytes: &[u8]) -> Result<bool, Failed> {
     let mut block = [0; 512];
     let count = Device::read(disk, 2, 0, &mut block)?;
-    let mut bytes = Vec::new(alloc);
-    if count <= 512 {
-        bytes.extend_from_slice(&block[..count])?;
-    }
-    Ok(bytes)
+    Ok(block.get(..count) == Some(bytes))
 }
 
-/// A disk with a segment in file 2 that has one batch without spans, and the segment.
-fn one_record(alloc: Global) -> Result<(MemDisk, Segment), Fail> {
-    let mut disk = MemDisk::empty(alloc);
-    create(&mut disk, 2)?;
-    let mut segment = Segment::fresh(2, 0);
-    let entry = Prepared::of(alloc, 0, &no_spans(alloc))?;
-    let appended = append_next(&mut disk, &mut segment, &entry);
-    if !appended {
-        return Err(Fail::from("the disk and the memory suffice"));
-    }
-    Ok((disk, segment))
+/// A segment's file, the number of its first record, how many it has, and where its last commit byte stands.
+fn fields_of(segment: &Segment) -> (u32, u64, u64, u64) {
+    (segment.file, segment.first, segment.count, segment.gate)
 }
 
 /// Whether a record that has the segment's next number was appended.
@@ -358,24 +353,49 @@ fn outcome(alloc: Global, bytes: &[u8], first: u64) -> Result<Result<usize, u64>
     }
 }
 
+/// Begins a segment in file 2 at this number with this batch.
+fn write_first(
+    alloc: Global,
+    disk: &mut MemDisk,
+    number: u64,
+    batch: &Batch,
+) -> Result<Segment, Fail> {
+    create(disk, 2)?;
+    let mut segment = Segment::fresh(2, number);
+    let entry = Prepared::of(alloc, number, batch)?;
+    if append_next(disk, &mut segment, &entry) {
+        Ok(segment)
+    } else {
+        Err(Fail::from("the disk and the memory suffice"))
+    }
+}
+
+/// Whether a scan from this number on finds the segment, and of it just these batches.
+fn finds(
+    alloc: Global,
+    disk: &mut MemDisk,
+    segment: &Segment,
+    batches: &[&Batch],
+) -> Result<bool, LogError> {
+    let (found, entries) = scan(alloc, disk, 2, segment.first)?;
+    Ok(fields_of(&found) == fields_of(segment) && are_found(&entries, segment.first, batches))
+}
+
 #[test]
 fn one_batch_without_spans(rt: HostRuntime) -> Result<(), Fail> {
-    let (mut disk, segment) = one_record(rt.alloc())?;
-    let bytes = bytes_of_file(rt.alloc(), &mut disk)?;
-    assert_eq!(rt; bytes.as_slice(), ONE_EMPTY.as_slice());
-    assert_eq!(rt; segment.gate, 19);
-    let (found, batches) = scan(rt.alloc(), &mut disk, 2, 0)?;
-    assert_eq!(rt;
-        (found.file, found.first, found.count, found.gate),
-        (2, 0, 1, 19)
-    );
-    assert_eq!(rt; batches.len(), 1);
+    let batch = no_spans(rt.alloc());
+    let mut disk = MemDisk::empty(rt.alloc());
+    let segment = write_first(rt.alloc(), &mut disk, 0, &batch)?;
+    assert!(rt; has_bytes(&mut disk, &ONE_EMPTY)?);
+    assert_eq!(rt; fields_of(&segment), (2, 0, 1, 19));
+    assert!(rt; finds(rt.alloc(), &mut disk, &segment, &[&batch])?);
     assert_eq!(rt; disk.starved(), 0);
     Ok(())
 }
 
-/// A segment of one record, whose body has so many bytes.
-fn segment_of(alloc: Global, len: u8, body: &[u8]) -> Result<Vec<u8>, Fail> {
+/// A segment of one record that has this body, of fewer than 256 bytes.
+fn segment_of(alloc: Global, body: &[u8]) -> Result<Vec<u8>, Fail> {
+    let len = u8::try_from(body.len())?;
     let mut bytes = Vec::new(alloc);
     bytes.extend_from_slice(&[1, 1, len, 0, 0, 0, 0, 0, 0, 0])?;
     bytes.extend_from_slice(body)?;
@@ -383,54 +403,67 @@ fn segment_of(alloc: Global, len: u8, body: &[u8]) -> Result<Vec<u8>, Fail> {
     Ok(bytes)
 }
 
-/// The batch is written under the number 7 as this body, of so many bytes, and read as it was.
-fn expect_both_ways<R: Abort>(
-    rt: &R,
-    alloc: Global,
-    batch: &Batch,
-    len: u8,
-    body: &[u8],
-) -> Result<(), Fail> {
+/// Whether the batch is written under the number 7 as this body, and read as it was.
+fn goes_both_ways(alloc: Global, batch: &Batch, body: &[u8]) -> Result<bool, Fail> {
     let mut disk = MemDisk::empty(alloc);
-    create(&mut disk, 2)?;
-    let mut segment = Segment::fresh(2, 7);
-    let entry = Prepared::of(alloc, 7, batch)?;
-    assert!(rt; append_next(&mut disk, &mut segment, &entry));
-    let expected = segment_of(alloc, len, body)?;
-    let bytes = bytes_of_file(alloc, &mut disk)?;
-    assert_eq!(rt; bytes.as_slice(), expected.as_slice());
-    let (found, batches) = scan(alloc, &mut disk, 2, 7)?;
-    assert_eq!(rt; (found.count, found.gate), (segment.count, segment.gate));
-    assert!(rt; are_found(&batches, 7, &[batch]));
-    assert_eq!(rt; disk.starved(), 0);
-    Ok(())
+    let segment = write_first(alloc, &mut disk, 7, batch)?;
+    let bytes = segment_of(alloc, body)?;
+    Ok(
+        has_bytes(&mut disk, bytes.as_slice())?
+            && finds(alloc, &mut disk, &segment, &[batch])?
+            && disk.starved() == 0,
+    )
 }
 
 #[test]
 fn runs_of_spans_both_ways(rt: HostRuntime) -> Result<(), Fail> {
-    let alloc = rt.alloc();
-    expect_both_ways(&rt, alloc, &two_spans(alloc)?, 129, &TWO_SPANS)?;
-    expect_both_ways(&rt, alloc, &two_resources(alloc)?, 144, &TWO_RESOURCES)
+    let batch = two_spans(rt.alloc())?;
+    assert!(rt; goes_both_ways(rt.alloc(), &batch, &TWO_SPANS)?);
+    let batch = two_resources(rt.alloc())?;
+    assert!(rt; goes_both_ways(rt.alloc(), &batch, &TWO_RESOURCES)?);
+    Ok(())
 }
 
 #[test]
 fn events_and_links_both_ways(rt: HostRuntime) -> Result<(), Fail> {
-    let alloc = rt.alloc();
-    expect_both_ways(&rt, alloc, &extended(alloc, true)?, 104, &EXTENDED)?;
-    // Without the link the body ends with its count, which is 0.
-    let mut bytes = EXTENDED[..79].to_vec(alloc)?;
-    if let Some(count) = bytes.get_mut(78) {
-        *count = 0;
+    let batch = extended(rt.alloc(), true)?;
+    assert!(rt; goes_both_ways(rt.alloc(), &batch, &EXTENDED)?);
+    let batch = extended(rt.alloc(), false)?;
+    assert!(rt; goes_both_ways(rt.alloc(), &batch, &UNLINKED)?);
+    Ok(())
+}
+
+/// What a scan of a record with this body under the number 7 says, once so many bytes of the segment from a place on are
+/// this one.
+fn outcome_with(
+    alloc: Global,
+    body: &[u8],
+    place: usize,
+    count: usize,
+    byte: u8,
+) -> Result<Result<usize, u64>, Fail> {
+    let mut bytes = segment_of(alloc, body)?;
+    for old in bytes.iter_mut().skip(place).take(count) {
+        *old = byte;
     }
-    expect_both_ways(&rt, alloc, &extended(alloc, false)?, 79, bytes.as_slice())
+    outcome(alloc, bytes.as_slice(), 7)
+}
+
+/// What is said of a body of the form 1 without event and link, whose length is one more than it is, and which lacks its
+/// last byte.
+fn outcome_of_cut(alloc: Global) -> Result<Result<usize, u64>, Fail> {
+    let mut bytes = segment_of(alloc, &NOTHING_MORE)?;
+    if let Some(length) = bytes.get_mut(2) {
+        *length = 69;
+    }
+    bytes.truncate(77);
+    outcome(alloc, bytes.as_slice(), 7)
 }
 
 #[test]
 fn extended_bodies_that_are_malformed(rt: HostRuntime) -> Result<(), Fail> {
-    let alloc = rt.alloc();
-    let segment = segment_of(alloc, 104, &EXTENDED)?;
-    assert_eq!(rt; outcome(alloc, segment.as_slice(), 7)?, Ok(1));
-    for (offset, count, byte, told) in [
+    for (place, count, byte, told) in [
+        (0, 0, 0, Ok(1)),
         // A form that there is not, and bits between the number and the form.
         (17, 1, 2, Err(10)),
         (17, 1, 255, Err(10)),
@@ -448,18 +481,16 @@ fn extended_bodies_that_are_malformed(rt: HostRuntime) -> Result<(), Fail> {
         (88, 1, 0, Err(89)),
         (113, 1, 1, Err(114)),
     ] {
-        let found = outcome_with(alloc, segment.as_slice(), offset, count, byte)?;
-        assert_eq!(rt; found, told, "at {offset}");
+        let found = outcome_with(rt.alloc(), &EXTENDED, place, count, byte)?;
+        assert_eq!(rt; found, told, "at {place}");
     }
     // The form 1 without event and link, also where bytes follow its last field, and where the file ends within it.
-    let mut segment = segment_of(alloc, 68, &NOTHING_MORE)?;
-    assert_eq!(rt; outcome(alloc, segment.as_slice(), 7)?, Err(10));
-    if let Some(length) = segment.get_mut(2) {
-        *length = 69;
-    }
-    assert_eq!(rt; outcome(alloc, segment.as_slice(), 7)?, Err(10));
-    segment.truncate(77);
-    assert_eq!(rt; outcome(alloc, segment.as_slice(), 7)?, Err(77));
+    let found = outcome_with(rt.alloc(), &NOTHING_MORE, 0, 0, 0)?;
+    assert_eq!(rt; found, Err(10));
+    let found = outcome_with(rt.alloc(), &NOTHING_MORE, 2, 1, 69)?;
+    assert_eq!(rt; found, Err(10));
+    let found = outcome_of_cut(rt.alloc())?;
+    assert_eq!(rt; found, Err(77));
     Ok(())
 }
 
@@ -477,33 +508,65 @@ fn may_have(calls: u64, pick: u64, count: usize) -> bool {
     }
 }
 
+/// Adds a record of the number 1 to a disk that stops after so many calls, and says whether that succeeds.
+fn add_second(
+    alloc: Global,
+    disk: &mut MemDisk,
+    segment: &mut Segment,
+    batch: &Batch,
+    calls: u64,
+) -> Result<bool, Fail> {
+    let entry = Prepared::of(alloc, 1, batch)?;
+    disk.stop_after(calls);
+    Ok(append_next(disk, segment, &entry))
+}
+
+/// How many of these batches an image has, the first ones.
+fn count_in(alloc: Global, disk: &MemDisk, pick: u64, batches: &[&Batch]) -> Result<usize, Fail> {
+    let mut image = disk.image(pick)?;
+    let (_, found) = scan(alloc, &mut image, 2, 0)?;
+    if found.len() > batches.len() || image.starved() > 0 {
+        return Err(Fail::from("more batches, or no memory"));
+    }
+    if !are_found(&found, 0, &batches[..found.len()]) {
+        return Err(Fail::from("other batches"));
+    }
+    Ok(found.len())
+}
+
+/// Whether the second of two records is added to a disk that stops after so many calls, and how many of them each of 16
+/// images has.
+fn counts_after(
+    alloc: Global,
+    batches: &[&Batch; 2],
+    calls: u64,
+) -> Result<(bool, [usize; 16]), Fail> {
+    let mut disk = MemDisk::empty(alloc);
+    let mut segment = write_first(alloc, &mut disk, 0, batches[0])?;
+    let added = add_second(alloc, &mut disk, &mut segment, batches[1], calls)?;
+    let mut counts = [0; 16];
+    for (pick, count) in (0u64..16).zip(counts.iter_mut()) {
+        *count = count_in(alloc, &disk, pick, batches)?;
+    }
+    if disk.starved() > 0 {
+        return Err(Fail::from("no memory"));
+    }
+    Ok((added, counts))
+}
+
 #[test]
 fn stopped_after_each_call(rt: HostRuntime) -> Result<(), Fail> {
-    let alloc = rt.alloc();
-    let old = two_spans(alloc)?;
-    let new = two_resources(alloc)?;
+    let old = two_spans(rt.alloc())?;
+    let new = two_resources(rt.alloc())?;
     for calls in 0..5 {
-        let mut disk = MemDisk::empty(alloc);
-        create(&mut disk, 2)?;
-        let mut segment = Segment::fresh(2, 0);
-        let entry = Prepared::of(alloc, 0, &old)?;
-        assert!(rt; append_next(&mut disk, &mut segment, &entry));
-        let entry = Prepared::of(alloc, 1, &new)?;
-        disk.stop_after(calls);
-        let appended = append_next(&mut disk, &mut segment, &entry);
-        assert_eq!(rt; appended, calls == 4);
-        for pick in 0..16 {
-            let mut image = disk.image(pick)?;
-            let (_, batches) = scan(alloc, &mut image, 2, 0)?;
-            let count = batches.len();
+        let (added, counts) = counts_after(rt.alloc(), &[&old, &new], calls)?;
+        assert_eq!(rt; added, calls == 4);
+        for (pick, count) in (0u64..16).zip(counts) {
             assert!(rt;
                 may_have(calls, pick, count),
                 "after {calls}, pick {pick}: {count}"
             );
-            assert!(rt; count > 2 || are_found(&batches, 0, &[&old, &new][..count]));
-            assert_eq!(rt; image.starved(), 0);
         }
-        assert_eq!(rt; disk.starved(), 0);
     }
     Ok(())
 }
@@ -525,27 +588,10 @@ fn a_fault_of_the_disk_is_told(rt: HostRuntime) -> Result<(), Fail> {
     Ok(())
 }
 
-/// What a scan of these bytes from the number 7 on says, once so many of them from a place on are this one.
-fn outcome_with(
-    alloc: Global,
-    bytes: &[u8],
-    place: usize,
-    count: usize,
-    byte: u8,
-) -> Result<Result<usize, u64>, Fail> {
-    let mut bytes = bytes.to_vec(alloc)?;
-    for old in bytes.iter_mut().skip(place).take(count) {
-        *old = byte;
-    }
-    outcome(alloc, bytes.as_slice(), 7)
-}
-
 #[test]
 fn broken_in_one_place(rt: HostRuntime) -> Result<(), Fail> {
-    let alloc = rt.alloc();
-    let segment = segment_of(alloc, 144, &TWO_RESOURCES)?;
-    assert_eq!(rt; outcome(alloc, segment.as_slice(), 7)?, Ok(1));
     for (place, count, byte, told) in [
+        (0, 0, 0, Ok(1)),
         // A gate that is not 1 ends the segment.
         (1, 1, 2, Ok(0)),
         (1, 1, 255, Ok(0)),
@@ -574,15 +620,12 @@ fn broken_in_one_place(rt: HostRuntime) -> Result<(), Fail> {
         (18, 1, 3, Err(154)),
         (18, 1, 1, Err(85)),
     ] {
-        let found = outcome_with(alloc, segment.as_slice(), place, count, byte)?;
+        let found = outcome_with(rt.alloc(), &TWO_RESOURCES, place, count, byte)?;
         assert_eq!(rt; found, told, "at {place}");
     }
     // The second scope equal to the first, which breaks at the length of its name.
-    let segment = segment_of(alloc, 129, &TWO_SPANS)?;
-    assert_eq!(rt;
-        outcome_with(alloc, segment.as_slice(), 80, 1, b'a')?,
-        Err(79)
-    );
+    let found = outcome_with(rt.alloc(), &TWO_SPANS, 80, 1, b'a')?;
+    assert_eq!(rt; found, Err(79));
     Ok(())
 }
 
@@ -673,40 +716,63 @@ fn other_bit_of_spans(place: u8) -> Result<usize, u64> {
     }
 }
 
-/// The bytes of a segment that is written anew from what was scanned.
-fn written_again(alloc: Global, bytes: &[u8]) -> Result<Vec<u8>, Fail> {
-    let mut disk = holding(alloc, bytes)?;
-    let (_, batches) = scan(alloc, &mut disk, 2, 7)?;
-    let mut copy = MemDisk::empty(alloc);
-    create(&mut copy, 2)?;
-    let mut segment = Segment::fresh(2, 7);
-    for entry in batches.as_slice() {
-        let entry = Prepared::of(alloc, entry.number, &entry.batch)?;
-        append_next(&mut copy, &mut segment, &entry);
+/// What a scan of the first so many bytes of two records says.
+fn cut_outcome(alloc: Global, len: usize) -> Result<Result<usize, u64>, Fail> {
+    let mut bytes = two_records(alloc)?;
+    bytes.truncate(len);
+    outcome(alloc, bytes.as_slice(), 7)
+}
+
+/// Two records where the lowest bit of the byte at the place is another one.
+fn with_other_bit(alloc: Global, place: usize) -> Result<Vec<u8>, Fail> {
+    let mut bytes = two_records(alloc)?;
+    if let Some(byte) = bytes.get_mut(place) {
+        *byte ^= 1;
     }
-    bytes_of_file(alloc, &mut copy)
+    Ok(bytes)
+}
+
+fn found_in(alloc: Global, bytes: &[u8]) -> Result<Numbered, Fail> {
+    let mut disk = holding(alloc, bytes)?;
+    let (_, found) = scan(alloc, &mut disk, 2, 7)?;
+    Ok(found)
+}
+
+/// Writes the records into a segment that is empty.
+fn write_all(alloc: Global, disk: &mut MemDisk, found: &Numbered) -> Result<(), Fail> {
+    create(disk, 2)?;
+    let mut segment = Segment::fresh(2, 7);
+    for entry in found.as_slice() {
+        let entry = Prepared::of(alloc, entry.number, &entry.batch)?;
+        append_next(disk, &mut segment, &entry);
+    }
+    Ok(())
+}
+
+/// Whether a segment has these bytes again where it is written anew from what was scanned.
+fn is_written_again(alloc: Global, bytes: &[u8]) -> Result<bool, Fail> {
+    let found = found_in(alloc, bytes)?;
+    let mut copy = MemDisk::empty(alloc);
+    write_all(alloc, &mut copy, &found)?;
+    Ok(has_bytes(&mut copy, bytes)?)
+}
+
+/// Whether a scan of two records says what it has to, where the lowest bit of the byte at the place is another one; and
+/// whether they are written again so, where it finds both.
+fn is_told(alloc: Global, place: u8) -> Result<bool, Fail> {
+    let bytes = with_other_bit(alloc, usize::from(place))?;
+    let told = outcome(alloc, bytes.as_slice(), 7)?;
+    Ok(told == other_bit(place) && (told != Ok(2) || is_written_again(alloc, bytes.as_slice())?))
 }
 
 #[test]
 fn cut_at_each_length_and_changed_at_each_byte(rt: HostRuntime) -> Result<(), Fail> {
-    let alloc = rt.alloc();
-    let records = two_records(alloc)?;
-    assert_eq!(rt; outcome(alloc, records.as_slice(), 7)?, Ok(2));
-    for len in 0..records.len() {
-        let cut = &records.as_slice()[..len];
-        assert_eq!(rt; outcome(alloc, cut, 7)?, Err(len as u64));
+    assert_eq!(rt; cut_outcome(rt.alloc(), 158)?, Ok(2));
+    for len in 0..158 {
+        assert_eq!(rt; cut_outcome(rt.alloc(), len)?, Err(len as u64));
     }
-    for place in 0u8..158 {
-        let mut bytes = two_records(alloc)?;
-        if let Some(byte) = bytes.get_mut(usize::from(place)) {
-            *byte ^= 1;
-        }
-        let told = outcome(alloc, bytes.as_slice(), 7)?;
-        assert_eq!(rt; told, other_bit(place), "at {place}");
-        if told == Ok(2) {
-            let again = written_again(alloc, bytes.as_slice())?;
-            assert_eq!(rt; again.as_slice(), bytes.as_slice(), "at {place}");
-        }
+    for place in 0..158 {
+        assert!(rt; is_told(rt.alloc(), place)?, "at {place}");
     }
     Ok(())
 }
