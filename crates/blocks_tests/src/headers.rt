@@ -11,7 +11,7 @@ use std::alloc::Global;
 use std::test::Fail;
 
 /// The header of a block of one row that starts at 1, up to the fill. Each part has a page.
-const ONE: &str = "
+pub(crate) const ONE: &str = "
     TSB1 54 53 42 31
     pages 01 00 00 00
     stripes 01 00 00 00

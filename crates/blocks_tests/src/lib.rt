@@ -2,6 +2,8 @@
 #![tactic(auto)]
 
 #[cfg(test)]
+mod built;
+#[cfg(test)]
 mod given;
 #[cfg(test)]
 mod headers;
@@ -9,3 +11,5 @@ mod headers;
 mod malformed;
 #[cfg(test)]
 mod stripes;
+#[cfg(test)]
+mod whole;
