@@ -54,6 +54,17 @@ pub(crate) fn overwritten(
     Ok(bytes)
 }
 
+/// A page that has these bytes at these places, and else zeros.
+pub(crate) fn with_bytes(alloc: Global, bytes: &[(usize, u8)]) -> Result<Vec<u8>, Memory> {
+    let mut page = page(alloc, "")?;
+    for (place, byte) in bytes {
+        if let Some(old) = page.get_mut(*place) {
+            *old = *byte;
+        }
+    }
+    Ok(page)
+}
+
 /// The offsets that stand in a text as words; each other word is [`SOUND`].
 pub(crate) fn offsets(alloc: Global, words: &str) -> Result<Vec<u64>, Memory> {
     let mut offsets = Vec::new(alloc);

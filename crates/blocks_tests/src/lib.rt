@@ -8,6 +8,8 @@ mod given;
 #[cfg(test)]
 mod headers;
 #[cfg(test)]
+mod indexed;
+#[cfg(test)]
 mod malformed;
 #[cfg(test)]
 mod stripes;

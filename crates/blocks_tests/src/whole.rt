@@ -1,8 +1,10 @@
 //! A whole block of one row by its bytes, worked out by hand: where it is malformed, and what is read of it.
 
-use crate::given::{SOUND, bytes_of, offsets, page};
+use crate::given::{SOUND, bytes_of, offsets, page, with_bytes};
 use crate::headers::ONE;
+use crate::indexed::BLOOM;
 use block_build::build;
+use block_info::{BlockInfo, StripeInfo};
 use block_read::{MemPages, Pages, ReadError, all_rows, check_block};
 use span_types::{Bytes, Calls, Failed, Memory, Rows};
 use std::alloc::Global;
@@ -27,9 +29,6 @@ const INDEX: &str = "
     trace: 00 00 00 00 00 00 00 00 00 00 00 00 00 00 00 a1
     first: 00 00 00 00
     rows: 01 00 00 00";
-
-/// The bytes of the Bloom filters that aren't zero, by their place in the page.
-const BLOOM: [(usize, u8); 4] = [(217, 0x02), (1279, 0x80), (2454, 0x01), (2587, 0x80)];
 
 /// What is told where a byte of the header is one more than it is, byte by byte; behind these the byte itself.
 const HEADER_CHANGES: &str = "
@@ -66,13 +65,7 @@ fn block(alloc: Global) -> Result<Vec<u8>, Memory> {
     for words in [ROW, INDEX] {
         bytes.extend_from_slice(page(alloc, words)?.as_slice())?;
     }
-    let mut bloom = page(alloc, "")?;
-    for (place, byte) in BLOOM {
-        if let Some(old) = bloom.get_mut(place) {
-            *old = byte;
-        }
-    }
-    bytes.extend_from_slice(bloom.as_slice())?;
+    bytes.extend_from_slice(with_bytes(alloc, &BLOOM)?.as_slice())?;
     Ok(bytes)
 }
 
@@ -234,19 +227,43 @@ fn rows_of(alloc: Global, bytes: &[u8]) -> Result<Option<Rows>, Memory> {
     }
 }
 
-/// Whether rows have been built to these bytes.
+/// Whether rows have been built to these bytes, and to what is known of them.
 fn is_built(alloc: Global, rows: Rows, bytes: &[u8]) -> Result<bool, Memory> {
     if rows.len() != 1 {
         return Ok(false);
     }
     let built = build(alloc, rows)?;
-    Ok(built.bytes.as_slice() == bytes)
+    Ok(built.bytes.as_slice() == bytes && is_known(&built.info))
+}
+
+/// Whether this is known of the block: it has four pages, of which the one at 1 is its stripe, the one at 2 its index, and the
+/// one at 3 has its Bloom filters.
+fn is_known(info: &BlockInfo) -> bool {
+    let stripe = StripeInfo {
+        page: 1,
+        pages: 1,
+        rows: 1,
+        earliest: 1,
+        latest: 1,
+    };
+    let parts = info.index_page == 2 && info.bloom_page == 3 && info.pages == 4;
+    parts && info.stripes.as_slice() == [stripe].as_slice()
+}
+
+/// Whether that is read of these bytes.
+fn is_read(alloc: Global, bytes: &[u8]) -> Result<bool, Memory> {
+    let mut pages = file(alloc, bytes, &[])?;
+    match check_block(alloc, &mut pages, FILE, 3, 1, 16384) {
+        Ok(info) => Ok(info.level == 3 && info.file == FILE && is_known(&info)),
+        Err(_) => Ok(false),
+    }
 }
 
 #[test]
 fn read_and_built_again(rt: HostRuntime) -> Result<(), Fail> {
     let alloc = rt.alloc();
     let bytes = block(alloc)?;
+    assert!(rt; is_read(alloc, bytes.as_slice())?);
     match rows_of(alloc, bytes.as_slice())? {
         Some(rows) => assert!(rt; is_built(alloc, rows, bytes.as_slice())?),
         None => return Err(Fail::from("the bytes are to be a block")),

@@ -1,0 +1,87 @@
+//! The index and the Bloom filters of a block of one trace, by the examples of the format's page.
+
+use crate::given::{page, with_bytes};
+use block_index::{Found, bloom_pages, find_in_page, index_pages, may_hold};
+use span_types::{Bytes, Ids, Memory, TraceId};
+use std::alloc::Global;
+use std::test::Fail;
+
+/// The index of 257 rows of the trace `a1`, up to its fill.
+const INDEX: &str = "
+    trace: 00 00 00 00 00 00 00 00 00 00 00 00 00 00 00 a1
+    first: 00 00 00 00
+    rows: 01 01 00 00";
+
+/// The bytes of the Bloom filters of the trace `a1` that aren't zero, by their place in the page.
+pub(crate) const BLOOM: [(usize, u8); 4] = [(217, 0x02), (1279, 0x80), (2454, 0x01), (2587, 0x80)];
+
+/// The trace whose id ends so, behind zeros.
+fn trace(last: u8) -> TraceId {
+    TraceId([0, 0, 0, 0, 0, 0, 0, 0, 0, 0, 0, 0, 0, 0, 0, last])
+}
+
+/// The trace ids of 257 rows of one trace.
+fn ids(alloc: Global) -> Result<Ids, Memory> {
+    let mut ids = Vec::new(alloc);
+    for _ in 0..257 {
+        ids.push(trace(0xa1))?;
+    }
+    Ok(Ids::of(ids))
+}
+
+/// The index of these rows, of which there are few.
+fn index(alloc: Global, ids: &Ids) -> Result<Bytes, Memory> {
+    if ids.len() > 257 {
+        return Err(Memory);
+    }
+    index_pages(alloc, ids)
+}
+
+/// The Bloom filters of these rows, of which there are few.
+fn filters(alloc: Global, ids: &Ids) -> Result<Bytes, Memory> {
+    if ids.len() > 257 {
+        return Err(Memory);
+    }
+    bloom_pages(alloc, ids)
+}
+
+/// The first page of these bytes.
+fn first_page(bytes: &[u8]) -> [u8; 4096] {
+    let mut page = [0; 4096];
+    for (new, byte) in page.iter_mut().zip(bytes.iter()) {
+        *new = *byte;
+    }
+    page
+}
+
+#[test]
+fn the_index(rt: HostRuntime) -> Result<(), Fail> {
+    let alloc = rt.alloc();
+    let ids = ids(alloc)?;
+    let written = index(alloc, &ids)?;
+    let wanted = page(alloc, INDEX)?;
+    assert_eq!(rt; written.as_slice(), wanted.as_slice());
+    let page = first_page(written.as_slice());
+    let here = Found::Here {
+        first_row: 0,
+        rows: 257,
+    };
+    for (last, found) in [(0xa0, Found::Before), (0xa1, here), (0xa2, Found::After)] {
+        assert_eq!(rt; find_in_page(&page, trace(last)), found);
+    }
+    Ok(())
+}
+
+#[test]
+fn the_filters(rt: HostRuntime) -> Result<(), Fail> {
+    let alloc = rt.alloc();
+    let ids = ids(alloc)?;
+    let written = filters(alloc, &ids)?;
+    let wanted = with_bytes(alloc, &BLOOM)?;
+    assert_eq!(rt; written.as_slice(), wanted.as_slice());
+    let page = first_page(written.as_slice());
+    for (last, holds) in [(0xa0, false), (0xa1, true), (0xa2, false)] {
+        assert_eq!(rt; may_hold(&page, trace(last)), holds);
+    }
+    Ok(())
+}
