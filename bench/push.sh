@@ -39,6 +39,9 @@ for size in "1 ${PUSHES:-2000}" "500 ${LARGE:-100}"; do
             printf "  two syncs %9.0f %9.0f, of which the session has %.2f\n", rate["floor"], spans * rate["floor"], rate["session"] / rate["floor"]
             printf "  SQLite    %9.0f %9.0f, of which the session has %.2f\n", rate["sqlite"], spans * rate["sqlite"], rate["session"] / rate["sqlite"]
             own = least["opening"] - least["empty"]
-            printf "  opening %d spans takes %.3f s, for a million %.2f s\n", spans * lines, own, own / (spans * lines) * 1e6
+            printf "  opening %d spans takes %.3f s", spans * lines, own
+            # Of fewer spans an opening is mostly its beginning.
+            if (spans * lines >= 10000) printf ", for a million %.2f s", own / (spans * lines) * 1e6
+            printf "\n"
         }'
 done
