@@ -3,7 +3,8 @@
 # syncs a push and nothing else (push/floor.rs), and beside SQLite, which inserts the same spans in one transaction a push
 # (push/sqlite.py); all three on one disk, in turns. Then how long it takes to open that folder, less the time to open an
 # empty one. `push.sh PROGRAM` takes a built program, else the one that `./vurnda` builds. Each number is the best of
-# ROUNDS runs. The folder is in TMPDIR, which should lie on the disk that is meant and not in memory. `PUSHES=N` and
+# ROUNDS runs; beside the rates stand those at which the quickest tenth of the pushes went, which other work on the disk changes
+# less. The folder is in TMPDIR, which should lie on the disk that is meant and not in memory. `PUSHES=N` and
 # `LARGE=N` push another count of lines of one span and of 500.
 set -eo pipefail
 here=$(cd "$(dirname "$0")" && pwd)
@@ -32,13 +33,18 @@ for size in "1 ${PUSHES:-2000}" "500 ${LARGE:-100}"; do
             next
         }
         $2 / $3 > rate[$1] { rate[$1] = $2 / $3 }
-        $1 == "session" { bytes = $4 }
+        1 / $4 > quick[$1] { quick[$1] = 1 / $4 }
+        $1 == "session" { bytes = $5 }
         END {
             printf "lines of %d spans, %d bytes each in the log, in lines and in spans a second:\n", spans, bytes
             printf "  session   %9.0f %9.0f\n", rate["session"], spans * rate["session"]
             printf "  two syncs %9.0f %9.0f, of which the session has %.2f\n", rate["floor"], spans * rate["floor"], rate["session"] / rate["floor"]
             printf "  SQLite    %9.0f %9.0f, of which the session has %.2f\n", rate["sqlite"], spans * rate["sqlite"], rate["session"] / rate["sqlite"]
+            printf "  of the quickest tenth of pushes: session %.0f, two syncs %.0f (%.2f), SQLite %.0f (%.2f)\n", quick["session"], quick["floor"], quick["session"] / quick["floor"], quick["sqlite"], quick["session"] / quick["sqlite"]
             own = least["opening"] - least["empty"]
-            printf "  opening %d spans takes %.3f s, for a million %.2f s\n", spans * lines, own, own / (spans * lines) * 1e6
+            printf "  opening %d spans takes %.3f s", spans * lines, own
+            # Of fewer spans an opening is mostly its beginning.
+            if (spans * lines >= 10000) printf ", for a million %.2f s", own / (spans * lines) * 1e6
+            printf "\n"
         }'
 done

@@ -1,6 +1,7 @@
 //! What a push costs at the least: `floor FILE PUSHES BYTES` appends so many records of so many bytes to a new file, as the
 //! log does it and with nothing else. Of each the body and the next closed commit byte are written and synced, then its
-//! commit byte is opened and synced. It prints how many pushes came after the first, and the seconds that they took.
+//! commit byte is opened and synced. It prints how many pushes came after the first, the seconds that they took,
+//! and those of which only a tenth of the pushes took less.
 use std::env::args;
 use std::fs::File;
 use std::io::{Error, Result};
@@ -33,10 +34,13 @@ fn main() -> Result<()> {
     let file = File::create_new(path)?;
     file.write_all_at(&[1, CLOSED], 0)?;
     let mut gate = append(&file, 1, &body)?;
-    let begun = Instant::now();
+    let mut taken = Vec::new();
     for _ in 1..pushes {
+        let begun = Instant::now();
         gate = append(&file, gate, &body)?;
+        taken.push(begun.elapsed().as_secs_f64());
     }
-    println!("{} {:.6}", pushes - 1, begun.elapsed().as_secs_f64());
+    taken.sort_by(f64::total_cmp);
+    println!("{} {:.6} {:.6}", taken.len(), taken.iter().sum::<f64>(), taken[taken.len() / 10]);
     Ok(())
 }
