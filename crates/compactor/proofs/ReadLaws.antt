@@ -5,7 +5,8 @@ use Rattle.std.specs.List.{flat_map}
 use Rattle.std.proofs.lemmas.List.{length_push, take_all, take_more, drop_all}
 use Rattle.span_types.specs.declared.spans.Row.{Row}
 use Rattle.block_info.specs.InfoParts.{InfoParts}
-use Rattle.block_format.specs.Blocks.{BlockHasInfo}
+use Rattle.block_format.specs.declared.header.Header.{Header}
+use Rattle.block_format.specs.Blocks.{BlockHasHeader, BlockHasInfo, BlockHolds}
 use Rattle.store_model.specs.Event.Event.{BeginCompact, ReadPage}
 use Rattle.store_model.specs.Event.{Reply as reply}
 use Rattle.store_model.specs.Event.Reply.{Compacting, Page}
@@ -67,7 +68,7 @@ reads_out job parts pages bytes info infos left has calls round h =
 -- ---- steps that are left
 
 pub turned_left : (job : CompactJob) (parts : List (List Row)) (pages : ℕ) (bytes : List ℕ) (after : Task) → Turned job parts (pages + 1) bytes after → pages < 2 ^ 64 → length parts < length job.pin.blocks
-    → steps_left after ≤ (length job.pin.blocks - length parts + 1) * 2 ^ 64 + 3 - pages
+    → steps_left after ≤ (length job.pin.blocks - length parts) * 2 ^ 64 + (2 ^ 64 - pages) + 2 ^ 64 + 3
 turned_left job parts pages bytes after (MorePages info infos left more) near low = omega arith
 turned_left job parts pages bytes after Starved near low = omega arith
 turned_left job parts pages bytes after (Malformed info infos at left all e) near low = omega arith
@@ -253,3 +254,9 @@ first_holds infos info rest Holds is h = subst (λ (l : List InfoParts). OfFirst
 
 pub page_low : (infos : List InfoParts) (info : InfoParts) (rest : List InfoParts) (pages : ℕ) → infos ≡ info ∷ rest → HasPage infos pages → pages < pages_of info
 page_low infos info rest pages is h = subst (λ (l : List InfoParts). HasPage l pages) is h
+
+-- ---- rows that were read
+
+pub has_rows : (header : Header) (bytes : List ℕ) (rows : List Row) → BlockHasHeader header bytes rows → (BlockHolds bytes [] → ⊥) → 1 ≤ length rows
+has_rows header bytes [] has none = absurd (none (record { header = header; parts = has }))
+has_rows header bytes (row ∷ rows) has none = omega arith

@@ -1,13 +1,14 @@
 -- How a round goes on, step by step.
-use Rattle.std.proofs.Common.{◌≡◌, List, [], ◌∷◌, ◌++◌, refl, sym, ◌∙◌, subst, append-nil, append_assoc}
+use Rattle.std.proofs.Common.{◌≡◌, ◌-◌, ◌<◌, ◌≤◌, arith, List, [], ◌∷◌, ◌++◌, refl, sym, ◌∙◌, subst, append-nil, append_assoc}
 use Rattle.std.specs.Prelude.{IsTrue}
 use Rattle.store_state.specs.Made.{AreMade, Call}
 use Rattle.store_state.specs.Meaning.{Meaning, Called}
 use Rattle.store_state.specs.declared.rounds.Round.{Round}
+use Rattle.store_state.specs.declared.rounds.Step.TheVariants.{More}
 use Rattle.compactor.specs.Rounds.{FoundBlocks, IsCompactRound, Leads}
 use Rattle.compactor.specs.Rounds.{Stage as stage}
 use Rattle.compactor.specs.Rounds.Leads.{over}
-use Rattle.compactor.specs.Tasks.{Fits, OneEvent, Steps, Task, stage_of}
+use Rattle.compactor.specs.Tasks.{Answers, Fits, OneEvent, Steps, Task, stage_of, steps_left}
 use Rattle.compactor.specs.Tasks.Task.{Fresh, Reading, Writing, Failing, Ended}
 use Rattle.compactor.specs.Phases.{IsUnderWay}
 
@@ -51,3 +52,12 @@ all_made meaning start new task round under ended = (
 pub none_found : {P : Type 0} (meaning : Meaning P) (start new : P) (task : Task) (round : Round) → IsUnderWay meaning start task new → task ≡ Ended round → IsTrue (meaning.tells start) → FoundBlocks round
 none_found meaning start new task round under ended tells =
     (subst (λ (t : Task). Fits meaning t new) ended under.fits) (subst IsTrue (sym under.telling) tells)
+
+-- a step behind which the round goes on leaves fewer
+pub leaves_fewer : {P : Type 0} (meaning : Meaning P) (old new : P) (task after : Task) → Steps meaning task old after new → Answers More after → steps_left after ≤ steps_left task - 1
+    → steps_left after < steps_left task
+leaves_fewer meaning old new Fresh after one answers left = omega (arith, left)
+leaves_fewer meaning old new (Reading job parts pages bytes) after one answers left = omega (arith, left)
+leaves_fewer meaning old new (Writing job bytes info) after one answers left = omega (arith, left)
+leaves_fewer meaning old new (Failing job why) after one answers left = omega (arith, left)
+leaves_fewer meaning old new (Ended round) after one answers left = absurd (subst (λ (t : Task). Answers More t) one.0 answers)

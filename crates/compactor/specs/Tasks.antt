@@ -141,8 +141,8 @@ Answers More (Ended round) = ⊥
 
 -- How many steps are left at most: each block has fewer than 2^64 pages, as the new one has bytes, and four are joined at most.
 abbrev pub steps_left : Task → ℕ
-steps_left Fresh = 5 * 2 ^ 64 + 5
-steps_left (Reading job parts pages bytes) = (length job.pin.blocks - length parts + 1) * 2 ^ 64 + 4 - pages
+steps_left Fresh = 6 * 2 ^ 64 + 5
+steps_left (Reading job parts pages bytes) = (length job.pin.blocks - length parts) * 2 ^ 64 + (2 ^ 64 - pages) + 2 ^ 64 + 4
 steps_left (Writing job bytes info) = length bytes - job.out.written + 2
 steps_left (Failing job why) = 1
 steps_left (Ended round) = 0

@@ -20,7 +20,7 @@ use store_state::{CompactJob, Refusal};
 
 // A job with the rows of each block that is read, and the pages of the next one that are read.
 #[derive(Drop)]
-pub(crate) struct Reading {
+pub(crate) struct Progress {
     pub(crate) job: CompactJob,
     pub(crate) parts: Vec<Rows>,
     pub(crate) pages: u64,
@@ -28,7 +28,7 @@ pub(crate) struct Reading {
 }
 
 // The block of which pages are to be read.
-pub(crate) fn current(reading: &Reading) -> &BlockInfo
+pub(crate) fn current(reading: &Progress) -> &BlockInfo
     requires { length reading.now.parts.items < length reading.now.job.pin.blocks }
     ensures { blocks_left reading.now.job reading.now.parts.items
         ≡ result.now ∷ drop (length reading.now.parts.items + 1) reading.now.job.pin.blocks }
@@ -37,18 +37,25 @@ pub(crate) fn current(reading: &Reading) -> &BlockInfo
 }
 
 // How many pages are read of the block of which pages are to be read.
-fn wanted_pages(reading: &Reading) -> u64
+fn wanted_pages(reading: &Progress) -> u64
     requires more { length reading.now.parts.items < length reading.now.job.pin.blocks }
     requires page { HasPage (blocks_left reading.now.job reading.now.parts.items) reading.now.pages }
     ensures wanted { OfFirst (blocks_left reading.now.job reading.now.parts.items) (λ info. pages_of info ≡ result) }
     ensures more { reading.now.pages < result }
 {
     let block = current(reading);
-    block.pages.max(1)
+    pages_of(block)
+}
+
+// How many pages of a block are read.
+fn pages_of(info: &BlockInfo) -> u64
+    ensures { result ≡ pages_of info.now }
+{
+    info.pages.max(1)
 }
 
 // Takes a page of the block that is read, and behind its last page the block's rows.
-pub(crate) fn turn(alloc: Global, reading: Reading, page: &[u8; 4096]) -> Phase
+pub(crate) fn turn(alloc: Global, reading: Progress, page: &[u8; 4096]) -> Phase
     requires more { length reading.parts.items < length reading.job.pin.blocks }
     requires page { HasPage (blocks_left reading.job reading.parts.items) reading.pages }
     ensures turned { Turned reading.job reading.parts.items (reading.pages + 1) (reading.bytes.items ++ page.now)
@@ -65,7 +72,7 @@ pub(crate) fn turn(alloc: Global, reading: Reading, page: &[u8; 4096]) -> Phase
 }
 
 // Goes on to the next page of a block that has so many, or to its rows.
-fn settle(alloc: Global, reading: Reading, wanted: u64) -> Phase
+fn settle(alloc: Global, reading: Progress, wanted: u64) -> Phase
     requires more { length reading.parts.items < length reading.job.pin.blocks }
     requires wanted { OfFirst (blocks_left reading.job reading.parts.items) (λ info. pages_of info ≡ wanted) }
     ensures { Turned reading.job reading.parts.items reading.pages reading.bytes.items (task_of result) }
@@ -78,7 +85,7 @@ fn settle(alloc: Global, reading: Reading, wanted: u64) -> Phase
 }
 
 // Reads the rows of a block of which all pages are read.
-fn close(alloc: Global, reading: Reading) -> Phase
+fn close(alloc: Global, reading: Progress) -> Phase
     requires more { length reading.parts.items < length reading.job.pin.blocks }
     requires whole { OfFirst (blocks_left reading.job reading.parts.items) (λ info. pages_of info ≤ reading.pages) }
     ensures { Turned reading.job reading.parts.items reading.pages reading.bytes.items (task_of result) }
@@ -117,13 +124,13 @@ fn each_fits(bytes: &[u8])
 }
 
 // Keeps the rows of a block, behind those of the blocks before it.
-fn keep(alloc: Global, reading: Reading, rows: Rows) -> Phase
+fn keep(alloc: Global, reading: Progress, rows: Rows) -> Phase
     ensures { (task_of result ≡ Reading reading.job (reading.parts.items ++ rows ∷ []) 0 [])
         ⊎ (task_of result ≡ Failing reading.job Memory) }
 {
-    let Reading { job, mut parts, .. } = reading;
+    let Progress { job, mut parts, .. } = reading;
     match parts.push(rows) {
-        Ok(()) => Phase::Reading(Reading {
+        Ok(()) => Phase::Reading(Progress {
             job,
             parts,
             pages: 0,
@@ -134,9 +141,9 @@ fn keep(alloc: Global, reading: Reading, rows: Rows) -> Phase
 }
 
 // Gives up what was read.
-pub(crate) fn fail(reading: Reading, why: Refusal) -> Phase
+pub(crate) fn fail(reading: Progress, why: Refusal) -> Phase
     ensures { task_of result ≡ Failing reading.job why }
 {
-    let Reading { job, .. } = reading;
+    let Progress { job, .. } = reading;
     Phase::Failing(job, why)
 }

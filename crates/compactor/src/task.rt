@@ -10,7 +10,7 @@ ghost use Rattle.compactor.specs.Tasks.{Answers, Fits, IsFailing, IsReading, IsW
 ghost use Rattle.compactor.specs.Tasks.Task.{Ended, Failing, Fresh, Reading, Writing};
 
 use crate::building::{Block, build_block};
-use crate::reading::{Reading, current, fail, turn};
+use crate::reading::{Progress, current, fail, turn};
 use block_info::SharedInfo;
 use block_read::described_block_is_read;
 use flusher::piece;
@@ -25,7 +25,7 @@ use store_state::{
 #[derive(Drop)]
 pub(crate) enum Phase {
     Fresh,
-    Reading(Reading),
+    Reading(Progress),
     Writing(CompactJob, Block),
     Failing(CompactJob, Refusal),
     Ended(Round),
@@ -97,7 +97,7 @@ fn begin<P: Port>(alloc: Global, port: &mut P) -> Phase
     requires { (held : List Hold) × P.meaning.holds port.old held }
     ensures steps { OneEvent P.meaning Fresh port.old (task_of result) port.new }
     ensures fits { Fits P.meaning (task_of result) port.new }
-    ensures left { steps_left (task_of result) ≤ 5 * 2 ^ 64 + 4 }
+    ensures left { steps_left (task_of result) ≤ 6 * 2 ^ 64 + 4 }
 {
     a_choice_is_few();
     match port.begin_compact() {
@@ -111,7 +111,7 @@ fn begin<P: Port>(alloc: Global, port: &mut P) -> Phase
 fn unread(alloc: Global, job: CompactJob) -> Phase
     ensures { task_of result ≡ Reading job [] 0 [] }
 {
-    Phase::Reading(Reading {
+    Phase::Reading(Progress {
         job,
         parts: Vec::new(alloc),
         pages: 0,
@@ -120,14 +120,14 @@ fn unread(alloc: Global, job: CompactJob) -> Phase
 }
 
 // Reads a page of a block, or makes the first event of the new block once all are read.
-fn read_or_join<P: Port>(alloc: Global, reading: Reading, port: &mut P) -> Phase
+fn read_or_join<P: Port>(alloc: Global, reading: Progress, port: &mut P) -> Phase
     requires { IsReading P.meaning reading.job reading.parts.items reading.pages reading.bytes.items
         port.old }
     ensures steps { OneEvent P.meaning (Reading reading.job reading.parts.items reading.pages reading.bytes.items) port.old
         (task_of result) port.new }
     ensures fits { Fits P.meaning (task_of result) port.new }
     ensures left { steps_left (task_of result)
-        ≤ (length reading.job.pin.blocks - length reading.parts.items + 1) * 2 ^ 64 + 3 - reading.pages }
+        ≤ (length reading.job.pin.blocks - length reading.parts.items) * 2 ^ 64 + (2 ^ 64 - reading.pages) + 2 ^ 64 + 3 }
 {
     if reading.parts.len() < reading.job.pin.blocks.len() {
         read(alloc, reading, port)
@@ -137,7 +137,7 @@ fn read_or_join<P: Port>(alloc: Global, reading: Reading, port: &mut P) -> Phase
 }
 
 // Reads the next page of a block.
-fn read<P: Port>(alloc: Global, reading: Reading, port: &mut P) -> Phase
+fn read<P: Port>(alloc: Global, reading: Progress, port: &mut P) -> Phase
     requires is_reading { IsReading P.meaning reading.job reading.parts.items reading.pages reading.bytes.items
         port.old }
     requires more { length reading.parts.items < length reading.job.pin.blocks }
@@ -145,7 +145,7 @@ fn read<P: Port>(alloc: Global, reading: Reading, port: &mut P) -> Phase
         (task_of result) port.new }
     ensures fits { Fits P.meaning (task_of result) port.new }
     ensures left { steps_left (task_of result)
-        ≤ (length reading.job.pin.blocks - length reading.parts.items + 1) * 2 ^ 64 + 3 - reading.pages }
+        ≤ (length reading.job.pin.blocks - length reading.parts.items) * 2 ^ 64 + (2 ^ 64 - reading.pages) + 2 ^ 64 + 3 }
 {
     described_block_is_read();
     let mut page = [0; 4096];
@@ -158,18 +158,17 @@ fn read<P: Port>(alloc: Global, reading: Reading, port: &mut P) -> Phase
 }
 
 // Builds the new block and writes its first piece, or gives the job up.
-fn join<P: Port>(alloc: Global, reading: Reading, port: &mut P) -> Phase
+fn join<P: Port>(alloc: Global, reading: Progress, port: &mut P) -> Phase
     requires is_reading { IsReading P.meaning reading.job reading.parts.items reading.pages reading.bytes.items
         port.old }
     requires whole { length reading.job.pin.blocks ≤ length reading.parts.items }
     ensures steps { OneEvent P.meaning (Reading reading.job reading.parts.items reading.pages reading.bytes.items) port.old
         (task_of result) port.new }
     ensures fits { Fits P.meaning (task_of result) port.new }
-    ensures left { steps_left (task_of result)
-        ≤ (length reading.job.pin.blocks - length reading.parts.items + 1) * 2 ^ 64 + 3 - reading.pages }
+    ensures left { steps_left (task_of result) ≤ 2 ^ 64 + 3 }
 {
     described_block_is_read();
-    let Reading { job, parts, .. } = reading;
+    let Progress { job, parts, .. } = reading;
     match build_block(alloc, parts, job.out.file, job.level) {
         Ok(block) => go_on(job, block, port),
         Err(_) => give_up(job, Refusal::Memory, port),

@@ -1,4 +1,4 @@
-use Rattle.std.proofs.Common.{◌≡◌, [], ◌∷◌, zero, refl, sym, subst, ap, false, Bool, arith}
+use Rattle.std.proofs.Common.{◌≡◌, ◌+◌, ◌*◌, ◌^◌, ◌≤◌, length, [], ◌∷◌, zero, refl, sym, subst, ap, false, Bool, arith}
 use Rattle.std.specs.Prelude.{IsTrue, ◌||◌, Option, Some, None, Ok, IfSome}
 use Rattle.store_model.specs.Event.Event.{BeginCompact}
 use Rattle.store_model.specs.Event.{Reply as reply}
@@ -15,7 +15,7 @@ use Rattle.flusher.proofs.TaskLaws.{itself}
 use Rattle.compactor.specs.Rounds.{FoundBlocks, Leads}
 use Rattle.compactor.specs.Rounds.{Stage as stage}
 use Rattle.compactor.specs.Rounds.Leads.{nothing, no_job}
-use Rattle.compactor.specs.Tasks.{Fits, OneEvent, Task}
+use Rattle.compactor.specs.Tasks.{Fits, OneEvent, Task, steps_left}
 use Rattle.compactor.specs.Tasks.Task.{Fresh}
 use Rattle.compactor.proofs.ReadLaws.{begun_event, fits_first}
 use Rattle.compactor.proofs.WriteLaws.{begin_found, ends_in}
@@ -70,3 +70,12 @@ returns-in-Err-clause-steps g c = record {
 
 pub returns-in-Err-clause-fits : goal.returns-in-Err-clause-fits
 returns-in-Err-clause-fits g c = λ tells. subst (λ (why : Refusal). FoundBlocks (Refused why)) (sym c.begin_cause.ensures) (begin_found c.in-Err.error)
+
+pub returns-in-Ok-Some-clause-left : goal.returns-in-Ok-Some-clause-left
+returns-in-Ok-Some-clause-left g c =
+    let meaning = g.P.LookPort.meaning in
+    let j : CompactJob = c.in-Ok-Some.job in
+    let joins : JoinsChoice (meaning.lists c.args.port.now) j.level j.pin.blocks =
+    known c.in-Ok-Some.field-0 j (λ (job : CompactJob). JoinsChoice (meaning.lists c.args.port.now) job.level job.pin.blocks) c.in-Ok-Some.field-0-is c.in-Ok-Some.ensures.joins in
+    let four : length j.pin.blocks ≤ 4 = (c.a_choice_is_few.ensures joins.0 j.level j.pin.blocks joins.1 joins.2).four in
+    subst (λ (t : Task). steps_left t ≤ 6 * 2 ^ 64 + 4) (sym c.unread.ensures) (omega (arith, four))

@@ -1,4 +1,4 @@
-use Rattle.compactor.proofs.RoundLaws.{all_made, by_step, none_found}
+use Rattle.compactor.proofs.RoundLaws.{all_made, by_step, leaves_fewer, none_found}
 use Rattle.compactor.proofs.task.compact_round.Goals as goal
 
 pub returns-in-Ended-clause-made : goal.returns-in-Ended-clause-made
@@ -14,3 +14,7 @@ returns-in-Ended-clause-told g c = none_found g.P.LookPort.meaning c.args.port.n
 pub loop-round-preserved : goal.loop-round-preserved
 loop-round-preserved g c =
     by_step g.P.LookPort.meaning c.args.port.now c.loop-round.port c.step.new.port c.loop-round.task c.step.new.self c.loop-round.invariant c.step.ensures.steps c.step.ensures.fits
+
+pub loop-round-smaller : goal.loop-round-smaller
+loop-round-smaller g c =
+    leaves_fewer g.P.LookPort.meaning c.loop-round.port c.step.new.port c.loop-round.task c.step.new.self c.step.ensures.steps c.in-More.ensures.answers c.step.ensures.left

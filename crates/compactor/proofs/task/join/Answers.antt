@@ -24,17 +24,9 @@ returns-in-Ok-clause-steps g c =
     from_built g.P.LookPort.meaning c.args.port.now c.go_on.new.port c.args.reading.job c.args.reading.parts.items c.args.reading.pages c.args.reading.bytes.items c.in-Ok.block.bytes c.in-Ok.block.info (task_of c.go_on.result)
     c.requires.whole c.in-Ok.ensures c.requires.is_reading.at_start c.go_on.ensures.steps
 
-pub returns-in-Ok-clause-left : goal.returns-in-Ok-clause-left
-returns-in-Ok-clause-left g c =
-    let none : blocks_left c.args.reading.job c.args.reading.parts.items ≡ [] = drop_all (length c.args.reading.parts.items) c.args.reading.job.pin.blocks c.requires.whole in
-    let first : c.args.reading.pages ≡ 0 = subst (λ (l : List InfoParts). HasPage l c.args.reading.pages) none c.requires.is_reading.page in
-    let left = c.go_on.ensures.left in
-    let near = c.go_on.ensures.near in
-    omega (arith, first, left, near)
-
 pub give_up-requires : goal.give_up-requires
 give_up-requires g c = record { is_open = c.requires.is_reading.is_open; told = λ tells. tt }
 
-pub returns-in-Err-clause-steps : goal.returns-in-Err-clause-steps
-returns-in-Err-clause-steps g c =
+pub returns-clause-steps : goal.returns-clause-steps
+returns-clause-steps g c =
     from_starved g.P.LookPort.meaning c.args.port.now c.give_up.new.port c.args.reading.job c.args.reading.parts.items c.args.reading.pages c.args.reading.bytes.items (task_of c.give_up.result) c.give_up.ensures.steps
