@@ -2,6 +2,7 @@ mod Quiet
 mod Described
 mod NoJobs
 mod States
+mod Logged
 mod HeldFiles
 mod OpenJobs
 mod Pushing

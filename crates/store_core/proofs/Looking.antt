@@ -24,6 +24,7 @@ use Rattle.store_images.specs.Stored.{ref_of}
 use Rattle.store_images.specs.Settled.{IsSettled}
 use Rattle.store_core.specs.Jobs.{ShowsFlush}
 use Rattle.store_core.specs.Cores.{HasState, StandsFor, AreDescribed, tail_of}
+use Rattle.store_core.proofs.Logged.{logged_still}
 use Rattle.store_core.proofs.PinNumbers.{among-more, among-less}
 
 -- a change of the pins alone
@@ -68,6 +69,7 @@ stands_stepped told held may_leave core pins m u before faults e r s state step 
   settled = λ t free. subst (λ (b : _). IsSettled held may_leave core.list b (tail_of core.segment) m.history) (sym (ap (λ (v : State). v.blocks) state)) (s.settled t free);
   sure = s.sure;
   fresh = s.fresh;
+  logged = λ t free. logged_still held core.list before faults m (with_state u m) e r step refl (s.logged t free);
 }
 
 -- ---- a look

@@ -68,6 +68,7 @@ new_stands told held may_leave core h new made empty = record {
   settled = λ t free. subst (λ (l : ListBody). IsSettled held may_leave l [] (tail_of core.segment) h) (sym new.list) (subst (λ (x : Tail). IsSettled held may_leave new_list [] x h) (sym new.tail) (made t h empty));
   sure = λ free. new.sure;
   fresh = λ t free. no_segment held may_leave core.jobs new.jobs.flush;
+  logged = λ t free batches holds x c. absurd (not_in_nil x c);
 }
 
 pub new_state_is : (core : CoreState) → core.list ≡ new_list → core.live.live ≡ [] → core.live.head ≡ [] → core.live.flushing ≡ [] → core.infos ≡ []

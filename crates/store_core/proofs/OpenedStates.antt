@@ -22,6 +22,7 @@ use Rattle.store_model.proofs.FirstsExist.{firsts_exist}
 use Rattle.store_model.proofs.HistoryLaws.{number_of, position_of}
 use Rattle.store_model.proofs.KeepsFirsts.{number_in}
 use Rattle.store_model.proofs.Numbers.{same_number, times-append}
+use Rattle.store_images.specs.Log.{LogHolds}
 use Rattle.store_images.specs.Stored.{MayStandFor, SameFirsts, stored_rows, first_number}
 use Rattle.store_images.specs.Settled.{Tail, IsSettled}
 use Rattle.store_images.proofs.Lists.{not_in_nil, in_cons, in_map}
@@ -30,11 +31,13 @@ use Rattle.store_core.specs.declared.state.CoreState.{CoreState}
 use Rattle.store_state.specs.Given.{info_files}
 use Rattle.store_core.specs.Pins.{is_taken}
 use Rattle.store_core.specs.Cores.{HasState, StandsFor, listed_as, segment_of, tail_of, unsure_of}
+use Rattle.store_core.specs.Waiting.{rows_outside, AreLogged}
 use Rattle.store_core.specs.Loose.{without_loose, list_after}
 use Rattle.store_core.specs.LogReading.{LogRead}
 use Rattle.store_core.specs.Opening.{opened_state, IsOpenedState}
 use Rattle.store_core.proofs.LooseFiles.{used_files, distinct_front, rules_without}
 use Rattle.store_core.proofs.Described.{none_described}
+use Rattle.store_core.proofs.LogLaws.{one_log}
 use Rattle.store_core.proofs.LogSteps.{read_size}
 use Rattle.store_core.proofs.Revived.{live_of_arrived}
 use Rattle.store_core.specs.Jobs.{ShowsFlush}
@@ -264,9 +267,18 @@ module _ (told : Type 0) (image : Image) (list : ListBody) (rules : MeetsRules l
       read_only = sym state.writes;
     }
 
+    -- the rows that wait stand in the log, where the list's segments still stand for these batches
+    opened_logged : (held : Image) → LogHolds held list.segments (first_number list) batches → AreLogged held core.list (rows_outside (opened_state list batches moment))
+    opened_logged held logged =
+        subst (λ (l : ListBody). AreLogged held l (rows_outside (opened_state list batches moment))) (sym state.listing)
+        (without_by list (λ (l : ListBody). AreLogged held l (rows_outside (opened_state list batches moment)))
+        (λ generation loose others holds x c.
+        subst (λ (b : List (List Span)). Contains (entry_rows (first_number list) b) x) (one_log held list.segments (first_number list) batches others logged holds)
+        (waiting_in list rules batches x (subst (λ (r : List Row). Contains r x) (live_of_arrived moment (waiting_rows list batches)) c))))
+
     pub opened_stands : (told' : Type 0) (held : Image) (may_leave : Image → Type 0) → (told' → IsSettled held may_leave core.list [] (tail_of core.segment) h)
-        → StandsFor told' held may_leave core (opened_machine list batches moment h)
-    opened_stands told' held may_leave settled =
+        → (told' → LogHolds held list.segments (first_number list) batches) → StandsFor told' held may_leave core (opened_machine list batches moment h)
+    opened_stands told' held may_leave settled logged =
         let rows : List Row = waiting_rows list batches in
         record {
           has = opened_has;
@@ -281,4 +293,5 @@ module _ (told : Type 0) (image : Image) (list : ListBody) (rules : MeetsRules l
           settled = λ t free. settled t;
           sure = λ free. state.sure;
           fresh = λ t free. no_segment held may_leave core.jobs state.jobs.flush;
+          logged = λ t free. opened_logged held (logged t);
         }
