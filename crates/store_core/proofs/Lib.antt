@@ -21,6 +21,7 @@ mod PageEvents
 mod PieceEvents
 mod DropEvents
 mod BeginEvents
+mod NextLists
 mod PortEvents
 pub mod LogSteps
 mod LooseFiles
