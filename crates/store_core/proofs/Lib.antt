@@ -22,6 +22,7 @@ mod PieceEvents
 mod DropEvents
 mod BeginEvents
 mod NextLists
+mod CommitImages
 mod PortEvents
 pub mod LogSteps
 mod LooseFiles

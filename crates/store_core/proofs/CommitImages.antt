@@ -1,0 +1,168 @@
+-- What a crash within a flush's commit leaves, and the disk once it was made.
+use Rattle.std.proofs.Common.{◌≡◌, inl, inr, ℕ, ◌+◌, ◌<◌, ◌≤◌, List, [], ◌∷◌, ◌++◌, length, Some, refl, sym, ◌∙◌, ap, subst, arith, length-append}
+use Rattle.std.specs.List.{Contains}
+use Rattle.std.proofs.lemmas.List.{append-nil}
+use Rattle.std.proofs.lemmas.List.Elements.{All-contains, Contains-append_right, Contains-push_cases}
+use Rattle.span_types.specs.declared.spans.Span.{Span}
+use Rattle.span_types.specs.declared.spans.Row.{Row}
+use Rattle.span_types.specs.First.{IsFirstOf, first_at}
+use Rattle.span_types.specs.Keys.{row_key}
+use Rattle.disk_model.specs.Images.{Image, bytes_of, Besides}
+use Rattle.disk_model.specs.Crash.{OnlyBytes, Within, Reached}
+use Rattle.head_log.specs.Stands.{SegmentHolds}
+use Rattle.block_list.specs.Body.{MeetsRules}
+use Rattle.block_list.specs.Slots.{ImageHoldsList}
+use Rattle.block_list.specs.Commit.{ImageHoldsEither, WritesSlot}
+use Rattle.block_list.specs.Loading.{IsReady}
+use Rattle.block_list.specs.declared.body.SegmentRef.{SegmentRef}
+use Rattle.block_list.specs.declared.body.ListBody.{ListBody}
+use Rattle.block_info.specs.InfoParts.{InfoParts}
+use Rattle.block_format.specs.Blocks.{BlockHolds, BlockHasInfo}
+use Rattle.store_model.specs.History.{History, entry_rows, count_of}
+use Rattle.store_model.specs.Laws.{AgreesOn}
+use Rattle.store_model.specs.State.{Block, block_rows}
+use Rattle.store_model.proofs.RowSetLaws.{first_is_in}
+use Rattle.store_images.specs.Log.{LogHolds}
+use Rattle.store_images.specs.Committed.{CommitsFlush}
+use Rattle.store_images.specs.Stored.{BlockStands, StoreHolds, ImageStandsFor, first_number, stored_rows, ref_of}
+use Rattle.store_images.specs.Stored.ImageStores.{filled}
+use Rattle.store_images.specs.Settled.{Tail, IsSettled}
+use Rattle.store_images.proofs.Committed.{committed, left_logged}
+use Rattle.store_images.proofs.Keeping.{segment_named, block_named, rules_in, given_out, blocks_same}
+use Rattle.store_images.proofs.Logs.{log_same}
+use Rattle.store_core.specs.Cores.{AreDescribed}
+use Rattle.store_core.specs.Waiting.{AreLogged}
+use Rattle.store_core.proofs.NextLists.{Parting}
+
+-- first occurrences are among the rows
+pub firsts_in : (rows firsts : List Row) → IsFirstOf rows firsts → (x : Row) → Contains firsts x → Contains rows x
+firsts_in rows firsts is x c = first_is_in (row_key x) rows x (All-contains (λ (r : Row). first_at (row_key r) rows ≡ Some r) firsts x is.only c)
+
+-- one block more, with its information
+pub described_more : (held : Image) (infos : List InfoParts) (info : InfoParts) (blocks : List Block) (block : Block) → AreDescribed held infos blocks → BlockHasInfo info (bytes_of held info.file) block.rows
+    → AreDescribed held (infos ++ info ∷ []) (blocks ++ block ∷ [])
+described_more held [] info [] block was has = (has, tt)
+described_more held [] info (x ∷ xs) block was has = absurd was
+described_more held (i ∷ is) info [] block was has = absurd was
+described_more held (i ∷ is) info (x ∷ xs) block was has = (was.0, described_more held is info xs block was.1 has)
+
+abbrev pub empty_tail : SegmentRef → Tail
+empty_tail last = record { file = last.file; first = last.first; count = 0; gate = 1 }
+
+-- The disk once the block was synced: it is settled by the old list, and the block's file and the new segment's have one image each.
+-- The rows of the block and those that wait stand in the log, and those that wait are at the new floor or above it.
+module _ (held : Image) (may_leave : Image → Type 0) (body new : ListBody) (blocks : List Block) (block : Block) (tail : Tail) (h : History) (s : IsSettled held may_leave body blocks tail h)
+    (last : SegmentRef) (waiting : List Row) (p : Parting new.floor body.segments last) (segments : new.segments ≡ p.kept ++ last ∷ []) (blocks_are : new.blocks ≡ body.blocks ++ ref_of block ∷ [])
+    (low : 2 ≤ block.file) (low_segment : 2 ≤ last.file) (first : last.first ≡ count_of h)
+    (fresh : SegmentHolds last.first [] 1 (bytes_of held last.file)) (fresh_only : OnlyBytes last.file (bytes_of held last.file) may_leave)
+    (own : BlockStands held block) (own_only : OnlyBytes block.file (bytes_of held block.file) may_leave)
+    (rest : AgreesOn (block_rows (blocks ++ block ∷ []) ++ waiting) h) (logged : AreLogged held body (block.rows ++ waiting))
+    (above : (row : Row) → Contains waiting row → new.floor ≤ row.place.number) where
+  rules : MeetsRules body
+  rules = rules_in held body s.holds.listed
+
+  abbrev all : List (List Span)
+  all = s.before ++ s.mine
+
+  counted : count_of h ≡ first_number body + length all
+  counted = let size = length-append s.before s.mine in omega (arith, size, s.written.follows, s.written.counted, s.counts)
+
+  -- an image that differs from one that might be left in a slot alone
+  module _ (slot : ℕ) (below : slot < 2) (origin image : Image) (possible : may_leave origin) (besides : Besides slot origin image) where
+    same : (file : ℕ) → 2 ≤ file → OnlyBytes file (bytes_of held file) may_leave → bytes_of image file ≡ bytes_of held file
+    same file least only = besides file (λ is. omega (arith, least, is, below)) ∙ only origin possible
+
+    segment_same : (x : SegmentRef) → Contains body.segments x → bytes_of image x.file ≡ bytes_of held x.file
+    segment_same x c = same x.file (given_out body x.file rules (segment_named body x c)).0 (s.lies.segments x c)
+
+    block_same : (b : Block) → Contains blocks b → bytes_of image b.file ≡ bytes_of held b.file
+    block_same b c = same b.file (given_out body b.file rules (block_named body blocks b s.holds.its_blocks c)).0 (s.lies.built b c)
+
+    logs : LogHolds image body.segments (first_number body) all
+    logs = log_same held image body.segments (first_number body) all segment_same s.holds.logged
+
+    abbrev new_list : ImageHoldsList image (Some new) → CommitsFlush image body new blocks block all waiting h
+    new_list holds = record {
+      gone = p.gone;
+      kept = p.kept;
+      segment = last;
+      split = p.split;
+      segments = segments;
+      old_blocks = s.holds.its_blocks;
+      blocks_are = blocks_are;
+      listed = holds;
+      logged = logs;
+      built = blocks_same held image blocks block_same s.holds.built;
+      own = record { holds = subst (λ (b : List ℕ). BlockHolds b block.rows) (sym (same block.file low own_only)) own.holds; counted = own.counted };
+      empty = (1, subst (λ (b : List ℕ). SegmentHolds last.first [] 1 b) (sym (same last.file low_segment fresh_only)) fresh);
+      next = first ∙ counted;
+      counts = counted;
+      agrees = s.agrees;
+      rest = rest;
+      within = λ x c. Contains-append_right (block_rows blocks) (entry_rows (first_number body) all) x (logged all s.holds.logged x c);
+      above = above;
+    }
+
+    old_list : ImageHoldsList image (Some body) → ImageStandsFor image h
+    old_list holds = record {
+      rows = stored_rows blocks (first_number body) all;
+      stores = filled body blocks all (record {
+        listed = holds;
+        its_blocks = s.holds.its_blocks;
+        built = blocks_same held image blocks block_same s.holds.built;
+        logged = logs;
+        floored = s.holds.floored;
+      }) refl counted;
+      agrees = s.agrees;
+    }
+
+    either : ImageHoldsEither (Some body) new image → ImageStandsFor image h
+    either holds = elim holds [ inl old ↦ old_list old | inr next ↦ committed image body new blocks block all waiting h (new_list next) ]
+
+  -- whenever a crash comes within the commit
+  pub image_stands : (slot : ℕ) → slot < 2 → (origin image : Image) → may_leave origin → WritesSlot slot (ImageHoldsEither (Some body) new) origin image → ImageStandsFor image h
+  image_stands slot below origin image possible writes = either slot below origin image possible writes.besides writes.list
+
+  -- once it was made
+  module _ (slot : ℕ) (below : slot < 2) (later : Image) (may_later : Image → Type 0) (stays : may_leave held) (besides : Besides slot held later) (ready : IsReady later may_later (Some new))
+      (now : Within (Reached (WritesSlot slot (ImageHoldsEither (Some body) new)) may_leave) may_later) where
+    still : (file : ℕ) → 2 ≤ file → OnlyBytes file (bytes_of held file) may_leave → OnlyBytes file (bytes_of later file) may_later
+    still file least only = λ image left.
+        let r = now image left in
+        r.2.besides file (λ is. omega (arith, least, is, below)) ∙ only r.0 r.1 ∙ sym (besides file (λ is. omega (arith, least, is, below)))
+
+    in_old : (x : SegmentRef) → Contains p.kept x → Contains body.segments x
+    in_old x c = subst (λ (l : List SegmentRef). Contains l x) (sym p.split) (Contains-append_right p.gone p.kept x c)
+
+    segments_lie : (x : SegmentRef) → Contains new.segments x → OnlyBytes x.file (bytes_of later x.file) may_later
+    segments_lie x c = elim (Contains-push_cases p.kept last x (subst (λ (l : List SegmentRef). Contains l x) segments c)) [
+      | inl old ↦ still x.file (given_out body x.file rules (segment_named body x (in_old x old))).0 (s.lies.segments x (in_old x old))
+      | inr is ↦ subst (λ (y : SegmentRef). OnlyBytes y.file (bytes_of later y.file) may_later) is (still last.file low_segment fresh_only)
+    ]
+
+    blocks_lie : (b : Block) → Contains (blocks ++ block ∷ []) b → OnlyBytes b.file (bytes_of later b.file) may_later
+    blocks_lie b c = elim (Contains-push_cases blocks block b c) [
+      | inl old ↦ still b.file (given_out body b.file rules (block_named body blocks b s.holds.its_blocks old)).0 (s.lies.built b old)
+      | inr is ↦ subst (λ (y : Block). OnlyBytes y.file (bytes_of later y.file) may_later) is (still block.file low own_only)
+    ]
+
+    pub settled_committed : IsSettled later may_later new (blocks ++ block ∷ []) (empty_tail last) h
+    settled_committed =
+        let l = left_logged later body new blocks block all waiting h (new_list slot below held later stays besides ready.stands) in
+        let none : l.before ++ [] ≡ l.before = append-nil l.before in
+        record {
+          before = l.before;
+          mine = [];
+          holds = subst (λ (b : List (List Span)). StoreHolds later new (blocks ++ block ∷ []) b) (sym none) l.store;
+          written = record {
+            front = p.kept;
+            last = segments;
+            earlier = l.earlier;
+            current = subst (λ (b : List ℕ). SegmentHolds last.first [] 1 b) (sym (same slot below held later stays besides last.file low_segment fresh_only)) fresh;
+            counted = refl;
+            follows = l.follows;
+          };
+          lies = record { ready = ready; segments = segments_lie; built = blocks_lie };
+          agrees = subst (λ (b : List (List Span)). AgreesOn (stored_rows (blocks ++ block ∷ []) (first_number new) b) h) (sym none) l.agrees;
+          counts = (let is = first in omega (arith, is));
+        }
