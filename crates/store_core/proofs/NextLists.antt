@@ -54,7 +54,7 @@ tail_order (x ∷ gone) rest order = tail_order gone rest (λ i j d le inside. o
 
 -- ---- which segments stay: those from one on, and a last one behind them
 
-abbrev first_in : List SegmentRef → SegmentRef → ℕ
+abbrev pub first_in : List SegmentRef → SegmentRef → ℕ
 first_in [] last = last.first
 first_in (x ∷ xs) last = x.first
 
@@ -99,12 +99,15 @@ parting floor (a ∷ b ∷ rest) last order low = elim (cases_lt floor b.first) 
 ]
 
 -- segments are known by what a state has of them
-same_back : (xs : List SegmentRef) → map (λ (s : Segment). record { file = s.file; first = s.first }) (map segment_of xs) ≡ xs
+abbrev ref_back : Segment → SegmentRef
+ref_back s = record { file = s.file; first = s.first }
+
+same_back : (xs : List SegmentRef) → map ref_back (map segment_of xs) ≡ xs
 same_back [] = refl
 same_back (x ∷ xs) = ap (λ (l : List SegmentRef). x ∷ l) (same_back xs)
 
 pub same_segments : (xs ys : List SegmentRef) → map segment_of xs ≡ map segment_of ys → xs ≡ ys
-same_segments xs ys is = sym (same_back xs) ∙ ap (map (λ (s : Segment). record { file = s.file; first = s.first })) is ∙ same_back ys
+same_segments xs ys is = sym (same_back xs) ∙ ap (map ref_back) is ∙ same_back ys
 
 -- ---- files
 
@@ -124,7 +127,7 @@ blk_files : (blocks : List Block) → map (λ (b : BlockRef). b.file) (map ref_o
 blk_files [] = refl
 blk_files (x ∷ xs) = ap (λ (l : List ℕ). x.file ∷ l) (blk_files xs)
 
-uses_are : (body : ListBody) (u : State) → NamesState body u → (file : ℕ) → times file (files_of body) ≡ uses file u
+pub uses_are : (body : ListBody) (u : State) → NamesState body u → (file : ℕ) → times file (files_of body) ≡ uses file u
 uses_are body u names file =
     let segments : List ℕ = map file_in body.segments in
     let blocks : List ℕ = map (λ (b : BlockRef). b.file) body.blocks in
