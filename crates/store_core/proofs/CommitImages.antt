@@ -1,6 +1,7 @@
 -- What a crash within a flush's commit leaves, and the disk once it was made.
-use Rattle.std.proofs.Common.{◌≡◌, inl, inr, ℕ, ◌+◌, ◌<◌, ◌≤◌, List, [], ◌∷◌, ◌++◌, length, Some, refl, sym, ◌∙◌, ap, subst, arith, length-append}
+use Rattle.std.proofs.Common.{◌≡◌, ◌⊎◌, inl, inr, ℕ, ◌+◌, ◌<◌, ◌≤◌, List, [], ◌∷◌, ◌++◌, length, Some, Option, refl, sym, ◌∙◌, ap, subst, arith, length-append}
 use Rattle.std.specs.List.{Contains}
+use Rattle.std.proofs.lemmas.Bool.{cases_eq, cases_lt}
 use Rattle.std.proofs.lemmas.List.{append-nil}
 use Rattle.std.proofs.lemmas.List.Elements.{All-contains, Contains-append_right, Contains-push_cases}
 use Rattle.span_types.specs.declared.spans.Span.{Span}
@@ -10,7 +11,7 @@ use Rattle.span_types.specs.Keys.{row_key}
 use Rattle.disk_model.specs.Images.{Image, bytes_of, Besides}
 use Rattle.disk_model.specs.Crash.{OnlyBytes, Within, Reached}
 use Rattle.head_log.specs.Stands.{SegmentHolds}
-use Rattle.block_list.specs.Body.{MeetsRules}
+use Rattle.block_list.specs.Body.{MeetsRules, files_of}
 use Rattle.block_list.specs.Slots.{ImageHoldsList}
 use Rattle.block_list.specs.Commit.{ImageHoldsEither, WritesSlot}
 use Rattle.block_list.specs.Loading.{IsReady}
@@ -24,14 +25,15 @@ use Rattle.store_model.specs.State.{Block, block_rows}
 use Rattle.store_model.proofs.RowSetLaws.{first_is_in}
 use Rattle.store_images.specs.Log.{LogHolds}
 use Rattle.store_images.specs.Committed.{CommitsFlush}
-use Rattle.store_images.specs.Stored.{BlockStands, StoreHolds, ImageStandsFor, first_number, stored_rows, ref_of}
+use Rattle.store_images.specs.Stored.{BlockStands, StoreHolds, ImageStandsFor, IsTidy, first_number, stored_rows, ref_of, next_file_of, named_files}
 use Rattle.store_images.specs.Stored.ImageStores.{filled}
 use Rattle.store_images.specs.Settled.{Tail, IsSettled}
 use Rattle.store_images.proofs.Committed.{committed, left_logged}
-use Rattle.store_images.proofs.Keeping.{segment_named, block_named, rules_in, given_out, blocks_same}
+use Rattle.store_images.proofs.Keeping.{segment_named, block_named, rules_in, given_out, blocks_same, slots_same, one_list}
 use Rattle.store_images.proofs.Logs.{log_same}
 use Rattle.store_core.specs.Cores.{AreDescribed}
 use Rattle.store_core.specs.Waiting.{AreLogged}
+use Rattle.store_core.proofs.LogLaws.{one_log}
 use Rattle.store_core.proofs.NextLists.{Parting}
 
 -- first occurrences are among the rows
@@ -166,3 +168,48 @@ module _ (held : Image) (may_leave : Image → Type 0) (body new : ListBody) (bl
           agrees = subst (λ (b : List (List Span)). AgreesOn (stored_rows (blocks ++ block ∷ []) (first_number new) b) h) (sym none) l.agrees;
           counts = (let is = first in omega (arith, is));
         }
+
+    -- what still waits stands in the log that is left
+    pub logged_committed : AreLogged later new waiting
+    logged_committed = λ batches holds x c.
+        let l = left_logged later body new blocks block all waiting h (new_list slot below held later stays besides ready.stands) in
+        let is : l.before ≡ batches = one_log later new.segments (first_number new) l.before batches l.store.logged holds in
+        let low = (rules_in later new ready.stands).from_floor in
+        let high = above x c in
+        subst (λ (b : List (List Span)). Contains (entry_rows (first_number new) b) x) is
+        (l.later x (logged all s.holds.logged x (Contains-append_right block.rows waiting x c)) (omega (arith, low, high)))
+
+  -- ---- tidiness
+
+  origin_holds : (origin : Image) → may_leave origin → ImageHoldsList origin (Some body)
+  origin_holds origin possible = slots_same held origin (Some body) in_slot s.lies.ready.stands
+    where
+      in_slot : (slot : ℕ) → slot < 2 → bytes_of origin slot ≡ bytes_of held slot
+      in_slot slot below = elim (cases_eq slot 0) [
+        | inl is ↦ subst (λ (n : ℕ). bytes_of origin n ≡ bytes_of held n) (sym is) (s.lies.ready.slot_0 origin possible)
+        | inr other ↦ subst (λ (n : ℕ). bytes_of origin n ≡ bytes_of held n) (omega (arith, below, other)) (s.lies.ready.slot_1 origin possible)
+      ]
+
+  -- where the new list names each file that the old one named, and each one that was given out since
+  pub tidy_stands : ((file : ℕ) → Contains (files_of body) file ⊎ ((body.next_file ≤ file) × (file < new.next_file)) → Contains (files_of new) file)
+      → (slot : ℕ) → slot < 2 → (origin image : Image) → may_leave origin → WritesSlot slot (ImageHoldsEither (Some body) new) origin image → IsTidy origin → IsTidy image
+  tidy_stands named slot below origin image possible writes t =
+      let its : t.list ≡ Some body = one_list origin t.list (Some body) t.counts (origin_holds origin possible) in
+      let files : (file : ℕ) → 2 ≤ file → file < body.next_file → (bytes_of origin file ≡ []) ⊎ Contains (files_of body) file =
+      subst (λ (l : Option ListBody). (file : ℕ) → 2 ≤ file → file < next_file_of l → (bytes_of origin file ≡ []) ⊎ Contains (named_files l) file) its t.files in
+      let same : (file : ℕ) → 2 ≤ file → bytes_of image file ≡ bytes_of origin file = λ file least. writes.besides file (λ is. omega (arith, least, is, below)) in
+      elim writes.list [
+        | inl old ↦ record {
+          list = Some body;
+          counts = old;
+          files = λ file least given. elim (files file least given) [ inl empty ↦ inl (same file least ∙ empty) | inr is ↦ inr is ];
+        }
+        | inr next ↦ record {
+          list = Some new;
+          counts = next;
+          files = λ file least given. elim (cases_lt file body.next_file) [
+            | inl under ↦ elim (files file least under) [ inl empty ↦ inl (same file least ∙ empty) | inr is ↦ inr (named file (inl is)) ]
+            | inr over ↦ inr (named file (inr (over, given)))
+          ];
+        }
+      ]

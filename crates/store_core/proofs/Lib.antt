@@ -22,7 +22,9 @@ mod PieceEvents
 mod DropEvents
 mod BeginEvents
 mod NextLists
+mod InUse
 mod CommitImages
+mod CommitStates
 mod PortEvents
 pub mod LogSteps
 mod LooseFiles

@@ -54,7 +54,7 @@ tail_order (x ∷ gone) rest order = tail_order gone rest (λ i j d le inside. o
 
 -- ---- which segments stay: those from one on, and a last one behind them
 
-abbrev first_in : List SegmentRef → SegmentRef → ℕ
+abbrev pub first_in : List SegmentRef → SegmentRef → ℕ
 first_in [] last = last.first
 first_in (x ∷ xs) last = x.first
 
@@ -124,7 +124,7 @@ blk_files : (blocks : List Block) → map (λ (b : BlockRef). b.file) (map ref_o
 blk_files [] = refl
 blk_files (x ∷ xs) = ap (λ (l : List ℕ). x.file ∷ l) (blk_files xs)
 
-uses_are : (body : ListBody) (u : State) → NamesState body u → (file : ℕ) → times file (files_of body) ≡ uses file u
+pub uses_are : (body : ListBody) (u : State) → NamesState body u → (file : ℕ) → times file (files_of body) ≡ uses file u
 uses_are body u names file =
     let segments : List ℕ = map file_in body.segments in
     let blocks : List ℕ = map (λ (b : BlockRef). b.file) body.blocks in

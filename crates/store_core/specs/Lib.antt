@@ -2,6 +2,7 @@ pub mod Pins
 pub mod Files
 pub mod Jobs
 pub mod Waiting
+pub mod InUse
 pub mod Cores
 pub mod Beginning
 pub mod Events

@@ -11,7 +11,7 @@ use Rattle.block_list.specs.Body.{MeetsRules}
 use Rattle.block_list.specs.declared.body.BlockRef.{BlockRef}
 use Rattle.block_list.specs.declared.body.SegmentRef.{SegmentRef}
 use Rattle.block_list.specs.declared.body.ListBody.{ListBody}
-use Rattle.store_model.specs.History.{History, count_of}
+use Rattle.store_model.specs.History.{History, count_of, entry_rows}
 use Rattle.store_model.specs.Laws.{AgreesOn}
 use Rattle.store_model.specs.State.{Block}
 use Rattle.store_images.specs.Committed.{CommitsFlush}
@@ -22,7 +22,7 @@ use Rattle.store_images.specs.Stored.ImageStores.{filled}
 use Rattle.store_images.proofs.Lists.{not_in_nil, in_cons}
 use Rattle.store_images.proofs.Logs.{log_with}
 use Rattle.store_images.proofs.Keeping.{rules_in}
-use Rattle.store_images.proofs.Between.{flushed}
+use Rattle.store_images.proofs.Between.{flushed, in_later}
 
 -- ---- a log without its first segments
 
@@ -68,13 +68,15 @@ drop_more (suc a) b (x ∷ xs) = drop_more a b xs ∙ ap (λ (n : ℕ). drop n (
 -- ---- the image
 
 -- The log of the new list, but for its last segment, stands for these batches, and the image stores what the list names.
-pub record LeftLogged (image : Image) (new : ListBody) (kept : List SegmentRef) (segment : SegmentRef) (blocks : List Block) (h : History) : Type 0 where
+pub record LeftLogged (image : Image) (body new : ListBody) (kept : List SegmentRef) (segment : SegmentRef) (blocks : List Block) (batches : List (List Span)) (h : History) : Type 0 where
   pub before : List (List Span)
   pub earlier : LogHolds image kept (first_number new) before
   pub follows : segment.first ≡ first_number new + length before
   pub store : StoreHolds image new blocks before
   pub agrees : AgreesOn (stored_rows blocks (first_number new) before) h
   pub counts : count_of h ≡ first_number new + length before
+  -- of the rows of the whole log those from the first number on
+  pub later : (x : Row) → Contains (entry_rows (first_number body) batches) x → first_number new ≤ x.place.number → Contains (entry_rows (first_number new) before) x
 
 module _ (image : Image) (body new : ListBody) (blocks : List Block) (block : Block) (batches : List (List Span)) (waiting : List Row) (h : History)
     (c : CommitsFlush image body new blocks block batches waiting h) where
@@ -84,7 +86,7 @@ module _ (image : Image) (body new : ListBody) (blocks : List Block) (block : Bl
     | inr other ↦ elim (in_cons b block [] other) [ inl is ↦ subst (λ (x : Block). BlockStands image x) is c.own | inr none ↦ absurd (not_in_nil b none) ]
   ]
 
-  with_rest : Rest image c.kept (first_number body) batches → LeftLogged image new c.kept c.segment (blocks ++ block ∷ []) h
+  with_rest : Rest image c.kept (first_number body) batches → LeftLogged image body new c.kept c.segment (blocks ++ block ∷ []) batches h
   with_rest r =
       let first : ℕ = first_number body in
       let left : List (List Span) = drop r.dropped batches in
@@ -123,9 +125,10 @@ module _ (image : Image) (body new : ListBody) (blocks : List Block) (block : Bl
         };
         agrees = agrees;
         counts = omega (arith, counts, is, size, few);
+        later = λ x inside high. subst (λ (n : ℕ). Contains (entry_rows n left) x) (sym is) (in_later first r.dropped batches x inside (omega (arith, high, is)));
       }
 
-  pub left_logged : LeftLogged image new c.kept c.segment (blocks ++ block ∷ []) h
+  pub left_logged : LeftLogged image body new c.kept c.segment (blocks ++ block ∷ []) batches h
   left_logged = with_rest (rest_of image c.gone c.kept (first_number body) batches (subst (λ (l : List SegmentRef). LogHolds image l (first_number body) batches) c.split c.logged))
 
   pub committed : ImageStandsFor image h
