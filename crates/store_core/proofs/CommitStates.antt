@@ -105,14 +105,11 @@ module _ (core : CoreState) (m : Machine) (has : HasState core m) where
         ∙ ap (λ (f : ℕ). core.list.blocks ++ record { file = f; level = 0; rows = size } ∷ []) (sym own.block) ∙ sym blocks;
     segments = ap (staying (floor_after (count_of m.history) m.state)) (with_is files job own) ∙ sym segments;
     floor = sym floor;
-    loose = ap (λ (c : Option Compaction). (u.loose ++ []) ++ compaction_files c) has.compaction ∙ append-nil (u.loose ++ []) ∙ append-nil u.loose
+    loose = ap (λ (c : Option Compaction). ((committed_state m job size firsts).loose ++ []) ++ compaction_files c) has.compaction ∙ append-nil ((committed_state m job size firsts).loose ++ []) ∙ append-nil (committed_state m job size firsts).loose
         ∙ ap (λ (l : List ℕ). l ++ released (floor_after (count_of m.history) m.state) (with_segment (count_of m.history) job m.state)) has.loose
         ∙ ap (λ (l : List ModelSegment). core.jobs.loose.items ++ released (floor_after (count_of m.history) m.state) l) (with_is files job own) ∙ sym loose;
     next_file = has.next_file ∙ sym next_file;
   }
-    where
-      u : State
-      u = committed_state m job size firsts
 
   -- and it meets the rules
   pub next_meets : (files : FlushFiles) (job : Flush) (size : ℕ) (firsts : List Row) (list : ListBody) (above : IsAboveFloor m) → NamesState list (committed_state m job size firsts)
@@ -141,7 +138,7 @@ pub record TookOver (core : CoreState) (list : ListBody) (segment : Segment) (jo
   pub none : jobs.flush ≡ None
   pub gone : live.flushing ≡ []
   pub head : live.head ≡ core.live.head
-  pub live : live.live ≡ core.live.live
+  pub rows : live.live ≡ core.live.live
 
 -- the information is that of the job's block
 pub record IsItsInfo (info : InfoParts) (job : Flush) (size : ℕ) : Type 0 where
@@ -156,7 +153,7 @@ pub has_committed : (core : CoreState) (list : ListBody) (infos : List InfoParts
 has_committed core list infos segment jobs live m job size firsts info kept has took its names rules segments first infos_are = record {
   count = (let none = took.count in omega (arith, first, none));
   few = (let none = took.count in let was = has.count in let few = has.few in omega (arith, first, none, was, few));
-  live = has.live ∙ sym took.live;
+  live = has.live ∙ sym took.rows;
   head = has.head ∙ sym took.head;
   flushing = took.gone;
   flush = subst (λ (k : Option OpenFlush). ShowsFlush k None) (sym took.none) refl;
@@ -170,7 +167,7 @@ has_committed core list infos segment jobs live m job size firsts info kept has 
   segments = names.segments;
   last = (kept, segments);
   floor = names.floor;
-  loose = sym (append-nil u.loose) ∙ sym (append-nil (u.loose ++ [])) ∙ ap (λ (c : Option Compaction). (u.loose ++ []) ++ compaction_files c) (sym has.compaction) ∙ names.loose ∙ sym took.loose;
+  loose = sym (append-nil (committed_state m job size firsts).loose) ∙ sym (append-nil ((committed_state m job size firsts).loose ++ [])) ∙ ap (λ (c : Option Compaction). ((committed_state m job size firsts).loose ++ []) ++ compaction_files c) (sym has.compaction) ∙ names.loose ∙ sym took.loose;
   next_file = has.next_file ∙ sym took.next_file;
   begun = has.begun ∙ sym took.begun;
   jobs = none_fit jobs list (let a = names.next_file in let b = has.next_file in let c = took.next_file in omega (arith, a, b, c)) took.none;
@@ -178,9 +175,6 @@ has_committed core list infos segment jobs live m job size firsts info kept has 
   read_only = has.read_only;
 }
   where
-    u : State
-    u = committed_state m job size firsts
-
     block : Block
     block = new_block job size firsts
 

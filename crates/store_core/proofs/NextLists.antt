@@ -99,12 +99,15 @@ parting floor (a ∷ b ∷ rest) last order low = elim (cases_lt floor b.first) 
 ]
 
 -- segments are known by what a state has of them
-same_back : (xs : List SegmentRef) → map (λ (s : Segment). record { file = s.file; first = s.first }) (map segment_of xs) ≡ xs
+abbrev ref_back : Segment → SegmentRef
+ref_back s = record { file = s.file; first = s.first }
+
+same_back : (xs : List SegmentRef) → map ref_back (map segment_of xs) ≡ xs
 same_back [] = refl
 same_back (x ∷ xs) = ap (λ (l : List SegmentRef). x ∷ l) (same_back xs)
 
 pub same_segments : (xs ys : List SegmentRef) → map segment_of xs ≡ map segment_of ys → xs ≡ ys
-same_segments xs ys is = sym (same_back xs) ∙ ap (map (λ (s : Segment). record { file = s.file; first = s.first })) is ∙ same_back ys
+same_segments xs ys is = sym (same_back xs) ∙ ap (map ref_back) is ∙ same_back ys
 
 -- ---- files
 
