@@ -38,6 +38,7 @@ use Rattle.store_core.specs.Events.{Did}
 use Rattle.store_core.specs.Beginning.{unless_rows}
 use Rattle.store_core.proofs.Apart.{keeps_below, settled_below}
 use Rattle.store_core.proofs.Kept.{stands_kept, did_kept, described_below}
+use Rattle.store_core.proofs.InUse.{used_begun}
 use Rattle.store_core.proofs.Logged.{logged_kept}
 use Rattle.store_core.proofs.NoJobs.{no_segment, none_fit}
 use Rattle.store_core.proofs.OpenJobs.{held_low}
@@ -155,6 +156,7 @@ has_memory core live jobs m none same rows has = record {
   next_file = has.next_file ∙ sym same.next_file;
   begun = has.begun ∙ sym same.begun;
   jobs = none_fit jobs core.list (subst (λ (n : ℕ). core.list.next_file ≤ n) (sym same.next_file) has.jobs.given) (same.flush ∙ none);
+  used = has.used;
   pins = has.pins;
   read_only = has.read_only;
 }
@@ -226,6 +228,7 @@ has_begun core live jobs m files rows none below block segment fits begun takes 
             (let was = has.jobs.given in (omega (arith, was, block), omega (arith, was, segment)));
         room = subst (λ (k : Option OpenFlush). IfSome k (λ mine. vec_len jobs.loose + 2 ≤ vec_capacity jobs.loose)) (sym begun.flush) begun.room;
       };
+      used = used_begun core.list m.state (no_flush core m has none) has.used;
       pins = has.pins;
       read_only = has.read_only;
     }

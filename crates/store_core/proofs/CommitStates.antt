@@ -27,6 +27,7 @@ use Rattle.store_core.specs.Cores.{HasState, listed_as, segment_of}
 use Rattle.store_core.specs.declared.jobs.Jobs.{Jobs}
 use Rattle.store_core.specs.declared.jobs.OpenFlush.{OpenFlush}
 use Rattle.store_core.specs.declared.state.CoreState.{CoreState}
+use Rattle.store_core.proofs.InUse.{used_listed}
 use Rattle.store_core.proofs.Logged.{head_outside, live_outside}
 use Rattle.store_core.proofs.NextLists.{Parting, NamesState, first_in, parting, order_with, next_rules, same_segments}
 use Rattle.store_core.proofs.NoJobs.{none_fit}
@@ -171,6 +172,7 @@ has_committed core list infos segment jobs live m job size firsts info kept has 
   next_file = has.next_file ∙ sym took.next_file;
   begun = has.begun ∙ sym took.begun;
   jobs = none_fit jobs list (let a = names.next_file in let b = has.next_file in let c = took.next_file in omega (arith, a, b, c)) took.none;
+  used = used_listed list (committed_state m job size firsts) names;
   pins = has.pins;
   read_only = has.read_only;
 }

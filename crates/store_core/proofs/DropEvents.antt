@@ -19,6 +19,7 @@ use Rattle.store_core.specs.declared.store.Core.{Core}
 use Rattle.store_core.specs.Cores.{HasState}
 use Rattle.store_core.specs.Events.{Did}
 use Rattle.store_core.proofs.Kept.{stands_kept}
+use Rattle.store_core.proofs.InUse.{used_dropped}
 use Rattle.store_core.proofs.Logged.{logged_still}
 use Rattle.store_core.proofs.NoJobs.{no_segment, none_fit}
 use Rattle.store_core.proofs.OpenJobs.{IsOpenHere}
@@ -57,6 +58,7 @@ has_dropped core live jobs m number file here has dropped gone back same = recor
   next_file = has.next_file ∙ sym dropped.next_file;
   begun = has.begun ∙ sym dropped.begun;
   jobs = none_fit jobs core.list (subst (λ (n : ℕ). core.list.next_file ≤ n) (sym dropped.next_file) has.jobs.given) dropped.gone;
+  used = used_dropped core.list m.state here.job here.is_open has.used;
   pins = has.pins;
   read_only = has.read_only;
 }

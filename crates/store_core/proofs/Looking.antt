@@ -24,6 +24,7 @@ use Rattle.store_images.specs.Stored.{ref_of}
 use Rattle.store_images.specs.Settled.{IsSettled}
 use Rattle.store_core.specs.Jobs.{ShowsFlush}
 use Rattle.store_core.specs.Cores.{HasState, StandsFor, AreDescribed, tail_of}
+use Rattle.store_core.specs.InUse.{AreInUse}
 use Rattle.store_core.proofs.Logged.{logged_still}
 use Rattle.store_core.proofs.PinNumbers.{among-more, among-less}
 
@@ -50,6 +51,7 @@ has_pins core pins m m' has history read_only state taken = record {
   next_file = ap (λ (u : State). u.next_file) state ∙ has.next_file;
   begun = ap (λ (u : State). u.begun) state ∙ has.begun;
   jobs = has.jobs;
+  used = subst (λ (v : State). AreInUse core.list v) (sym state) has.used;
   pins = taken;
   read_only = read_only ∙ has.read_only;
 }

@@ -37,7 +37,10 @@ use Rattle.store_core.specs.LogReading.{LogRead}
 use Rattle.store_core.specs.Opening.{opened_state, IsOpenedState}
 use Rattle.store_core.proofs.LooseFiles.{used_files, distinct_front, rules_without}
 use Rattle.store_core.proofs.Described.{none_described}
+use Rattle.store_core.specs.InUse.{AreInUse}
+use Rattle.store_core.proofs.InUse.{used_listed}
 use Rattle.store_core.proofs.LogLaws.{one_log}
+use Rattle.store_core.proofs.NextLists.{NamesState}
 use Rattle.store_core.proofs.LogSteps.{read_size}
 use Rattle.store_core.proofs.Revived.{live_of_arrived}
 use Rattle.store_core.specs.Jobs.{ShowsFlush}
@@ -52,6 +55,13 @@ without_by list P each = by_list list.loose
     by_list : (files : List ℕ) → P (list_after files list)
     by_list [] = each list.generation list.loose
     by_list (f ∷ fs) = each (successor list.generation) []
+
+no_loose : (list : ListBody) → (without_loose list).loose ≡ []
+no_loose list = by_list list.loose refl
+  where
+    by_list : (files : List ℕ) → list.loose ≡ files → (list_after files list).loose ≡ []
+    by_list [] is = is
+    by_list (f ∷ fs) is = refl
 
 rules_after : (list : ListBody) → MeetsRules list → (files : List ℕ) → MeetsRules (list_after files list)
 rules_after list rules [] = rules
@@ -243,6 +253,15 @@ module _ (told : Type 0) (image : Image) (list : ListBody) (rules : MeetsRules l
       omega (arith, top, size, most)
 
   module _ (moment : ℕ) (state : IsOpenedState list batches moment core) (h : History) (agrees : AgreesOn (waiting_rows list batches) h) (counts : count_of h ≡ first_number list + length batches) where
+    names : NamesState (without_loose list) (opened_state list batches moment)
+    names = record {
+      blocks = without_by list (λ (l : ListBody). [] ≡ l.blocks) (λ generation loose. sym none);
+      segments = without_by list (λ (l : ListBody). map segment_of list.segments ≡ map segment_of l.segments) (λ generation loose. refl);
+      floor = without_by list (λ (l : ListBody). list.floor ≡ l.floor) (λ generation loose. refl);
+      loose = sym (no_loose list);
+      next_file = without_by list (λ (l : ListBody). list.next_file ≡ l.next_file) (λ generation loose. refl);
+    }
+
     pub opened_has : HasState core (opened_machine list batches moment h)
     opened_has = record {
       count = counts ∙ sym (read_size told image list.segments (first_number list) batches (tail_of core.segment) read);
@@ -263,6 +282,7 @@ module _ (told : Type 0) (image : Image) (list : ListBody) (rules : MeetsRules l
       next_file = without_by list (λ (l : ListBody). list.next_file ≡ l.next_file) (λ generation loose. refl) ∙ sym (ap (λ (l : ListBody). l.next_file) state.listing) ∙ sym state.jobs.next_file_is;
       begun = sym state.jobs.begun;
       jobs = none_fit core.jobs core.list (let same = state.jobs.next_file_is in omega (arith, same)) state.jobs.flush;
+      used = subst (λ (l : ListBody). AreInUse l (opened_state list batches moment)) (sym state.listing) (used_listed (without_loose list) (opened_state list batches moment) names);
       pins = λ n. sym (ap (is_taken n) state.pins);
       read_only = sym state.writes;
     }

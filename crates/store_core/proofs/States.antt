@@ -58,6 +58,7 @@ has_same core live m same has = record {
   next_file = has.next_file;
   begun = has.begun;
   jobs = has.jobs;
+  used = has.used;
   pins = has.pins;
   read_only = has.read_only;
 }
@@ -121,6 +122,7 @@ has_pushed core live segment m spans moment number has added head flushing is be
       next_file = has.next_file;
       begun = has.begun;
       jobs = has.jobs;
+      used = has.used;
       pins = has.pins;
       read_only = has.read_only;
     }
@@ -172,6 +174,7 @@ has_broken core live segment ready faults m same still has = record {
   next_file = has.next_file;
   begun = has.begun;
   jobs = has.jobs;
+  used = has.used;
   pins = has.pins;
   read_only = refl;
 }
@@ -216,6 +219,7 @@ has_stopped core faults m has = record {
   next_file = has.next_file;
   begun = has.begun;
   jobs = has.jobs;
+  used = has.used;
   pins = has.pins;
   read_only = refl;
 }

@@ -23,6 +23,7 @@ use Rattle.store_images.specs.Settled.{Tail, IsSettled}
 use Rattle.store_core.specs.Pins.{is_taken}
 use Rattle.store_core.specs.Jobs.{ShowsFlush, JobsFit, HasFreshSegment}
 use Rattle.store_core.specs.Waiting.{rows_outside, AreLogged}
+use Rattle.store_core.specs.InUse.{AreInUse}
 use Rattle.store_core.specs.declared.state.CoreState.{CoreState}
 use Rattle.store_core.specs.declared.store.Core.{Core}
 
@@ -67,6 +68,7 @@ pub record HasState (core : CoreState) (m : Machine) : Type 0 where
   pub next_file : m.state.next_file ≡ core.jobs.next_file
   pub begun : m.state.begun ≡ core.jobs.begun
   pub jobs : JobsFit core.jobs core.list
+  pub used : AreInUse core.list m.state
   pub pins : (n : ℕ) → is_among n (pin_numbers m.state.pins) ≡ is_taken n core.pins.items
   pub read_only : m.read_only ≡ core.read_only
 
