@@ -25,6 +25,7 @@ mod NextLists
 mod InUse
 mod CommitImages
 mod CommitStates
+mod CommitEvents
 mod PortEvents
 pub mod LogSteps
 mod LooseFiles
