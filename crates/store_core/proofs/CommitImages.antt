@@ -53,13 +53,31 @@ empty_tail last = record { file = last.file; first = last.first; count = 0; gate
 
 -- The disk once the block was synced: it is settled by the old list, and the block's file and the new segment's have one image each.
 -- The rows of the block and those that wait stand in the log, and those that wait are at the new floor or above it.
-module _ (held : Image) (may_leave : Image → Type 0) (body new : ListBody) (blocks : List Block) (block : Block) (tail : Tail) (h : History) (s : IsSettled held may_leave body blocks tail h)
-    (last : SegmentRef) (waiting : List Row) (p : Parting new.floor body.segments last) (segments : new.segments ≡ p.kept ++ last ∷ []) (blocks_are : new.blocks ≡ body.blocks ++ ref_of block ∷ [])
-    (low : 2 ≤ block.file) (low_segment : 2 ≤ last.file) (first : last.first ≡ count_of h)
-    (fresh : SegmentHolds last.first [] 1 (bytes_of held last.file)) (fresh_only : OnlyBytes last.file (bytes_of held last.file) may_leave)
-    (own : BlockStands held block) (own_only : OnlyBytes block.file (bytes_of held block.file) may_leave)
-    (rest : AgreesOn (block_rows (blocks ++ block ∷ []) ++ waiting) h) (logged : AreLogged held body (block.rows ++ waiting))
-    (above : (row : Row) → Contains waiting row → new.floor ≤ row.place.number) where
+pub record MayCommit (held : Image) (may_leave : Image → Type 0) (body new : ListBody) (blocks : List Block) (block : Block) (tail : Tail) (h : History) (last : SegmentRef) (waiting : List Row) : Type 0 where
+  pub settled : IsSettled held may_leave body blocks tail h
+  pub floor : ℕ
+  pub parting : Parting floor body.segments last
+  pub segments : new.segments ≡ parting.kept ++ last ∷ []
+  pub blocks_are : new.blocks ≡ body.blocks ++ ref_of block ∷ []
+  pub low : 2 ≤ block.file
+  pub low_segment : 2 ≤ last.file
+  pub first : last.first ≡ count_of h
+  pub fresh : SegmentHolds last.first [] 1 (bytes_of held last.file)
+  pub fresh_only : OnlyBytes last.file (bytes_of held last.file) may_leave
+  pub own : BlockStands held block
+  pub own_only : OnlyBytes block.file (bytes_of held block.file) may_leave
+  pub rest : AgreesOn (block_rows (blocks ++ block ∷ []) ++ waiting) h
+  pub logged : AreLogged held body (block.rows ++ waiting)
+  pub above : (row : Row) → Contains waiting row → new.floor ≤ row.place.number
+
+module _ (held : Image) (may_leave : Image → Type 0) (body new : ListBody) (blocks : List Block) (block : Block) (tail : Tail) (h : History) (last : SegmentRef) (waiting : List Row)
+    (c : MayCommit held may_leave body new blocks block tail h last waiting) where
+  abbrev s : IsSettled held may_leave body blocks tail h
+  s = c.settled
+
+  abbrev p : Parting c.floor body.segments last
+  p = c.parting
+
   rules : MeetsRules body
   rules = rules_in held body s.holds.listed
 
@@ -75,10 +93,10 @@ module _ (held : Image) (may_leave : Image → Type 0) (body new : ListBody) (bl
     same file least only = besides file (λ is. omega (arith, least, is, below)) ∙ only origin possible
 
     segment_same : (x : SegmentRef) → Contains body.segments x → bytes_of image x.file ≡ bytes_of held x.file
-    segment_same x c = same x.file (given_out body x.file rules (segment_named body x c)).0 (s.lies.segments x c)
+    segment_same x inside = same x.file (given_out body x.file rules (segment_named body x inside)).0 (s.lies.segments x inside)
 
     block_same : (b : Block) → Contains blocks b → bytes_of image b.file ≡ bytes_of held b.file
-    block_same b c = same b.file (given_out body b.file rules (block_named body blocks b s.holds.its_blocks c)).0 (s.lies.built b c)
+    block_same b inside = same b.file (given_out body b.file rules (block_named body blocks b s.holds.its_blocks inside)).0 (s.lies.built b inside)
 
     logs : LogHolds image body.segments (first_number body) all
     logs = log_same held image body.segments (first_number body) all segment_same s.holds.logged
@@ -89,20 +107,20 @@ module _ (held : Image) (may_leave : Image → Type 0) (body new : ListBody) (bl
       kept = p.kept;
       segment = last;
       split = p.split;
-      segments = segments;
+      segments = c.segments;
       old_blocks = s.holds.its_blocks;
-      blocks_are = blocks_are;
+      blocks_are = c.blocks_are;
       listed = holds;
       logged = logs;
       built = blocks_same held image blocks block_same s.holds.built;
-      own = record { holds = subst (λ (b : List ℕ). BlockHolds b block.rows) (sym (same block.file low own_only)) own.holds; counted = own.counted };
-      empty = (1, subst (λ (b : List ℕ). SegmentHolds last.first [] 1 b) (sym (same last.file low_segment fresh_only)) fresh);
-      next = first ∙ counted;
+      own = record { holds = subst (λ (b : List ℕ). BlockHolds b block.rows) (sym (same block.file c.low c.own_only)) c.own.holds; counted = c.own.counted };
+      empty = (1, subst (λ (b : List ℕ). SegmentHolds last.first [] 1 b) (sym (same last.file c.low_segment c.fresh_only)) c.fresh);
+      next = c.first ∙ counted;
       counts = counted;
       agrees = s.agrees;
-      rest = rest;
-      within = λ x c. Contains-append_right (block_rows blocks) (entry_rows (first_number body) all) x (logged all s.holds.logged x c);
-      above = above;
+      rest = c.rest;
+      within = λ x inside. Contains-append_right (block_rows blocks) (entry_rows (first_number body) all) x (c.logged all s.holds.logged x inside);
+      above = c.above;
     }
 
     old_list : ImageHoldsList image (Some body) → ImageStandsFor image h
@@ -134,18 +152,18 @@ module _ (held : Image) (may_leave : Image → Type 0) (body new : ListBody) (bl
         r.2.besides file (λ is. omega (arith, least, is, below)) ∙ only r.0 r.1 ∙ sym (besides file (λ is. omega (arith, least, is, below)))
 
     in_old : (x : SegmentRef) → Contains p.kept x → Contains body.segments x
-    in_old x c = subst (λ (l : List SegmentRef). Contains l x) (sym p.split) (Contains-append_right p.gone p.kept x c)
+    in_old x inside = subst (λ (l : List SegmentRef). Contains l x) (sym p.split) (Contains-append_right p.gone p.kept x inside)
 
     segments_lie : (x : SegmentRef) → Contains new.segments x → OnlyBytes x.file (bytes_of later x.file) may_later
-    segments_lie x c = elim (Contains-push_cases p.kept last x (subst (λ (l : List SegmentRef). Contains l x) segments c)) [
+    segments_lie x inside = elim (Contains-push_cases p.kept last x (subst (λ (l : List SegmentRef). Contains l x) c.segments inside)) [
       | inl old ↦ still x.file (given_out body x.file rules (segment_named body x (in_old x old))).0 (s.lies.segments x (in_old x old))
-      | inr is ↦ subst (λ (y : SegmentRef). OnlyBytes y.file (bytes_of later y.file) may_later) is (still last.file low_segment fresh_only)
+      | inr is ↦ subst (λ (y : SegmentRef). OnlyBytes y.file (bytes_of later y.file) may_later) is (still last.file c.low_segment c.fresh_only)
     ]
 
     blocks_lie : (b : Block) → Contains (blocks ++ block ∷ []) b → OnlyBytes b.file (bytes_of later b.file) may_later
-    blocks_lie b c = elim (Contains-push_cases blocks block b c) [
+    blocks_lie b inside = elim (Contains-push_cases blocks block b inside) [
       | inl old ↦ still b.file (given_out body b.file rules (block_named body blocks b s.holds.its_blocks old)).0 (s.lies.built b old)
-      | inr is ↦ subst (λ (y : Block). OnlyBytes y.file (bytes_of later y.file) may_later) is (still block.file low own_only)
+      | inr is ↦ subst (λ (y : Block). OnlyBytes y.file (bytes_of later y.file) may_later) is (still block.file c.low c.own_only)
     ]
 
     pub settled_committed : IsSettled later may_later new (blocks ++ block ∷ []) (empty_tail last) h
@@ -158,26 +176,26 @@ module _ (held : Image) (may_leave : Image → Type 0) (body new : ListBody) (bl
           holds = subst (λ (b : List (List Span)). StoreHolds later new (blocks ++ block ∷ []) b) (sym none) l.store;
           written = record {
             front = p.kept;
-            last = segments;
+            last = c.segments;
             earlier = l.earlier;
-            current = subst (λ (b : List ℕ). SegmentHolds last.first [] 1 b) (sym (same slot below held later stays besides last.file low_segment fresh_only)) fresh;
+            current = subst (λ (b : List ℕ). SegmentHolds last.first [] 1 b) (sym (same slot below held later stays besides last.file c.low_segment c.fresh_only)) c.fresh;
             counted = refl;
             follows = l.follows;
           };
           lies = record { ready = ready; segments = segments_lie; built = blocks_lie };
           agrees = subst (λ (b : List (List Span)). AgreesOn (stored_rows (blocks ++ block ∷ []) (first_number new) b) h) (sym none) l.agrees;
-          counts = (let is = first in omega (arith, is));
+          counts = (let is = c.first in omega (arith, is));
         }
 
     -- what still waits stands in the log that is left
     pub logged_committed : AreLogged later new waiting
-    logged_committed = λ batches holds x c.
+    logged_committed = λ batches holds x inside.
         let l = left_logged later body new blocks block all waiting h (new_list slot below held later stays besides ready.stands) in
         let is : l.before ≡ batches = one_log later new.segments (first_number new) l.before batches l.store.logged holds in
         let low = (rules_in later new ready.stands).from_floor in
-        let high = above x c in
+        let high = c.above x inside in
         subst (λ (b : List (List Span)). Contains (entry_rows (first_number new) b) x) is
-        (l.later x (logged all s.holds.logged x (Contains-append_right block.rows waiting x c)) (omega (arith, low, high)))
+        (l.later x (c.logged all s.holds.logged x (Contains-append_right block.rows waiting x inside)) (omega (arith, low, high)))
 
   -- ---- tidiness
 

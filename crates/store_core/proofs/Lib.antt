@@ -25,6 +25,7 @@ mod NextLists
 mod InUse
 mod CommitImages
 mod CommitStates
+mod CommitFacts
 mod CommitEvents
 mod PortEvents
 pub mod LogSteps
