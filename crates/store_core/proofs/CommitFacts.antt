@@ -74,7 +74,7 @@ module _ (told : Type 0) (known : told) (held mid : Image) (may_leave may_mid : 
     rest = subst (λ (r : List Row). AgreesOn r m.history) joined (keeps_firsts before faults m (with_state (committed_state m here.job size firsts) m) (CommitFlush number size) Fine s.agrees step);
     logged = logged_same held mid core.list (flush_rows m.state.flush ++ m.state.head ++ live_rows m.state.live) (firsts ++ (m.state.head ++ live_rows m.state.live)) (λ x inside. same x.file)
         (λ x c. its_rows x c firsts_are) (s.logged known writes);
-    above = λ row c. let high = (keeps_floor before faults m (with_state (committed_state m here.job size firsts) m) (CommitFlush number size) Fine s.above step).waiting row c in omega (arith, high, floor);
+    above = λ row c. let high : floor_after (count_of m.history) m.state ≤ row.place.number = (keeps_floor before faults m (with_state (committed_state m here.job size firsts) m) (CommitFlush number size) Fine s.above step).waiting row c in omega (arith, high, floor);
   }
     where
       listed : List Row
