@@ -26,6 +26,7 @@ mod InUse
 mod CommitImages
 mod CommitStates
 mod CommitFacts
+mod CommitRuns
 mod CommitEvents
 mod PortEvents
 pub mod LogSteps
