@@ -151,13 +151,13 @@ pushed_rows number spans moment u =
 
 module _ (held : Image) (may_leave : Image → Type 0) (body : ListBody) (blocks : List Block) (tail : Tail) (h : History) (s : IsSettled held may_leave body blocks tail h)
     (later : Image) (spans : List Span) (gate : ℕ) (besides : Besides tail.file held later) (current : SegmentHolds tail.first (s.mine ++ spans ∷ []) gate (bytes_of later tail.file)) where
-  first : ℕ
+  abbrev first : ℕ
   first = first_number body
 
-  last : SegmentRef
+  abbrev last : SegmentRef
   last = record { file = tail.file; first = tail.first }
 
-  all : List (List Span)
+  abbrev all : List (List Span)
   all = s.before ++ s.mine
 
   earlier : LogHolds later s.written.front first s.before

@@ -37,7 +37,7 @@ use Rattle.store_core.proofs.NewCores.{no_history, no_history_is_empty}
 use Rattle.store_core.proofs.LogLaws.{one_log}
 use Rattle.store_core.proofs.LogSteps.{read_whole}
 use Rattle.store_core.proofs.LooseFiles.{stands_moved, used_low}
-use Rattle.store_core.proofs.OpenedStates.{opened_machine, opened_stands, base_of, low_floor, agrees_base, agrees_stored, agrees_waiting, base_once, waiting_rows, from_floor, from_floor_counts, agrees_from_floor}
+use Rattle.store_core.proofs.OpenedStates.{opened_machine, opened_stands, base_of, low_floor, agrees_base, agrees_stored, agrees_waiting, base_once, waiting_rows}
 use Rattle.store_core.proofs.OpeningSteps.{IsFound, found, segment_low}
 
 -- the same, where the disk may tell less
