@@ -178,27 +178,39 @@ fn failed_calls_leave_their_change_pending(rt: HostRuntime) -> Result<(), Fail> 
     Ok(())
 }
 
+/// Files, and the bytes of each in the images 0 to 3.
+static APART: [(u32, [&[u8]; 4]); 3] = [
+    (0, [&[5], &[8], &[1], &[0]]),
+    (3, [&[6, 7], &[6, 7], &[6, 7], &[6, 7]]),
+    (4, [&[], &[], &[], &[]]),
+];
+
+/// Writes into file 3, which is synced, and file 0, which is not.
+const TWO_FILES: &[Step<'static>] = &[
+    Step::Write(3, 0, &[6, 7]),
+    Step::Write(0, 0, &[8]),
+    Step::Sync(3),
+];
+
+fn expect_apart<R: Abort>(rt: &R, disk: &MemDisk) -> Result<(), Fail> {
+    for (file, images) in &APART {
+        expect(rt, disk, *file, *images)?;
+    }
+    Ok(())
+}
+
+/// Cuts file 3, and compares its images.
+fn expect_cut<R: Abort>(rt: &R, disk: &mut MemDisk) -> Result<(), Fail> {
+    cut_through(disk, 3, 1)?;
+    expect(rt, disk, 3, [&[6], &[6], &[6], &[6]])
+}
+
 #[test]
 fn files_are_apart(rt: HostRuntime) -> Result<(), Fail> {
     let mut disk = holding(rt.alloc(), &[5])?;
-    run(
-        &mut disk,
-        &[
-            Step::Write(3, 0, &[6, 7]),
-            Step::Write(0, 0, &[8]),
-            Step::Sync(3),
-        ],
-    );
-    let images: [(u32, [&[u8]; 4]); 3] = [
-        (0, [&[5], &[8], &[1], &[0]]),
-        (3, [&[6, 7], &[6, 7], &[6, 7], &[6, 7]]),
-        (4, [&[], &[], &[], &[]]),
-    ];
-    for (file, images) in images {
-        expect(&rt, &disk, file, images)?;
-    }
-    cut_through(&mut disk, 3, 1)?;
-    expect(&rt, &disk, 3, [&[6], &[6], &[6], &[6]])?;
+    run(&mut disk, TWO_FILES);
+    expect_apart(&rt, &disk)?;
+    expect_cut(&rt, &mut disk)?;
     assert_eq!(rt; (disk.faults(), disk.starved()), (0, 0));
     Ok(())
 }
@@ -212,26 +224,44 @@ fn file_of_image(disk: &MemDisk, pick: u64) -> Result<(u64, [u8; 16]), Fail> {
     Ok((len, bytes))
 }
 
-#[test]
-fn each_other_pick_is_a_mixture_of_its_own(rt: HostRuntime) -> Result<(), Fail> {
-    let alloc = rt.alloc();
+/// The same in the images 0 to 15.
+fn files_of_images(disk: &MemDisk) -> Result<[(u64, [u8; 16]); 16], Fail> {
+    let mut files = [(0, [0; 16]); 16];
+    for (pick, file) in (0u64..16).zip(files.iter_mut()) {
+        *file = file_of_image(disk, pick)?;
+    }
+    Ok(files)
+}
+
+/// The same after a write and a cut, where it is so again when it is asked for anew.
+fn mixtures(alloc: Global) -> Result<[(u64, [u8; 16]); 16], Fail> {
     let mut disk = holding(alloc, &[5, 6, 7, 8, 9, 10, 11, 12])?;
     run(
         &mut disk,
         &[Step::Write(0, 2, &[20, 21, 22, 23]), Step::Cut(0, 4)],
     );
-    let mut seen = Vec::new(alloc);
-    let mut others = 0u8;
-    for pick in 0..16 {
-        let file = file_of_image(&disk, pick)?;
-        assert_eq!(rt; file_of_image(&disk, pick)?, file, "pick {pick} again");
-        if !seen.contains(&file) {
-            seen.push(file)?;
-            others = others.saturating_add(u8::from(pick >= 4));
+    let files = files_of_images(&disk)?;
+    if files_of_images(&disk)? != files || disk.starved() > 0 {
+        return Err(Fail::from("other images, or no memory"));
+    }
+    Ok(files)
+}
+
+/// How many of them from the fifth on are like none before.
+fn others_of(files: &[(u64, [u8; 16]); 16]) -> usize {
+    let mut count = 0usize;
+    for (i, file) in files.iter().enumerate().skip(4) {
+        if !files.iter().take(i).any(|old| old == file) {
+            count = count.saturating_add(1);
         }
     }
+    count
+}
+
+#[test]
+fn each_other_pick_is_a_mixture_of_its_own(rt: HostRuntime) -> Result<(), Fail> {
+    let files = mixtures(rt.alloc())?;
     // Of the picks from 4 on more than three differ from one another and from the first four.
-    assert!(rt; others > 3, "{others}");
-    assert_eq!(rt; disk.starved(), 0);
+    assert!(rt; others_of(&files) > 3);
     Ok(())
 }

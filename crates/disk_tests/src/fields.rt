@@ -1,10 +1,11 @@
 //! Numbers and texts as bytes, worked out by hand.
 
 use byte_fields::{FieldError, Reader, Writer};
+use std::alloc::{AllocError, Global};
 use std::test::Fail;
 
 /// Numbers and their groups of seven bits, worked out by hand.
-const NUMBERS: [(u64, &[u8]); 8] = [
+static NUMBERS: [(u64, &[u8]); 8] = [
     (0, &[0x00]),
     (127, &[0x7f]),
     (128, &[0x80, 0x01]),
@@ -21,7 +22,7 @@ const NUMBERS: [(u64, &[u8]); 8] = [
     ),
 ];
 
-const SIGNED: [(i64, &[u8]); 6] = [
+static SIGNED: [(i64, &[u8]); 6] = [
     (0, &[0x00]),
     (-1, &[0x01]),
     (1, &[0x02]),
@@ -37,7 +38,7 @@ const SIGNED: [(i64, &[u8]); 6] = [
 ];
 
 /// Bytes that are no number, and what is said of them.
-const NO_NUMBERS: [(&[u8], FieldError); 6] = [
+static NO_NUMBERS: [(&[u8], FieldError); 6] = [
     (&[], FieldError::Short { at: 0 }),
     (&[0x80], FieldError::Short { at: 1 }),
     (&[0x80, 0x00], FieldError::NotShortest { at: 0 }),
@@ -52,51 +53,79 @@ const NO_NUMBERS: [(&[u8], FieldError); 6] = [
     ),
 ];
 
+fn is_number(alloc: Global, number: u64, bytes: &[u8]) -> Result<bool, AllocError> {
+    let mut writer = Writer::new(alloc);
+    writer.var(number)?;
+    Ok(writer.finish().as_slice() == bytes && Reader::new(alloc, bytes).var() == Ok(number))
+}
+
 #[test]
 fn numbers_both_ways(rt: HostRuntime) -> Result<(), Fail> {
-    for (number, bytes) in NUMBERS {
-        let mut writer = Writer::new(rt.alloc());
-        writer.var(number)?;
-        assert_eq!(rt; writer.finish().as_slice(), bytes);
-        assert_eq!(rt; Reader::new(rt.alloc(), bytes).var(), Ok(number));
+    for (number, bytes) in &NUMBERS {
+        assert!(rt; is_number(rt.alloc(), *number, bytes)?, "{number}");
     }
-    for (number, bytes) in SIGNED {
-        let mut writer = Writer::new(rt.alloc());
-        writer.zigzag(number)?;
-        assert_eq!(rt; writer.finish().as_slice(), bytes);
-        assert_eq!(rt; Reader::new(rt.alloc(), bytes).zigzag(), Ok(number));
-    }
-    for (bytes, error) in NO_NUMBERS {
-        let mut reader = Reader::new(rt.alloc(), bytes);
-        assert_eq!(rt; reader.var(), Err(error));
-        assert_eq!(rt; reader.at(), 0);
+    Ok(())
+}
+
+fn is_signed(alloc: Global, number: i64, bytes: &[u8]) -> Result<bool, AllocError> {
+    let mut writer = Writer::new(alloc);
+    writer.zigzag(number)?;
+    Ok(writer.finish().as_slice() == bytes && Reader::new(alloc, bytes).zigzag() == Ok(number))
+}
+
+#[test]
+fn signed_numbers_both_ways(rt: HostRuntime) -> Result<(), Fail> {
+    for (number, bytes) in &SIGNED {
+        assert!(rt; is_signed(rt.alloc(), *number, bytes)?, "{number}");
     }
     Ok(())
 }
 
 #[test]
-fn fields_one_after_another(rt: HostRuntime) -> Result<(), Fail> {
-    let mut writer = Writer::new(rt.alloc());
+fn what_is_no_number(rt: HostRuntime) {
+    for (bytes, error) in &NO_NUMBERS {
+        let mut reader = Reader::new(rt.alloc(), bytes);
+        assert_eq!(rt; (reader.var(), reader.at()), (Err(*error), 0));
+    }
+}
+
+/// A byte, two numbers, a text and two bytes more.
+const FIELDS: [u8; 19] = [
+    1, 1, 2, 3, 4, 9, 0, 0, 0, 0, 0, 0, 0, 3, 0x6e, 0xc3, 0xa9, 7, 8,
+];
+
+fn written(alloc: Global) -> Result<Vec<u8>, AllocError> {
+    let mut writer = Writer::new(alloc);
     writer.byte(1)?;
     writer.fixed32(0x0403_0201)?;
     writer.fixed64(9)?;
     writer.text("né")?;
     writer.raw(&[7, 8])?;
-    let bytes = writer.finish();
-    let expected = [
-        1, 1, 2, 3, 4, 9, 0, 0, 0, 0, 0, 0, 0, 3, 0x6e, 0xc3, 0xa9, 7, 8,
-    ];
-    assert_eq!(rt; bytes.as_slice(), expected.as_slice());
+    Ok(writer.finish())
+}
 
-    let mut reader = Reader::new(rt.alloc(), bytes.as_slice());
-    assert_eq!(rt; reader.byte(), Ok(1));
-    assert_eq!(rt; reader.fixed32(), Ok(0x0403_0201));
-    assert_eq!(rt; reader.fixed64(), Ok(9));
-    assert_eq!(rt; reader.text()?.as_str(), "né");
-    assert_eq!(rt; reader.raw(3), Err(FieldError::Short { at: 19 }));
-    assert_eq!(rt; reader.raw(2)?, [7, 8].as_slice());
-    assert_eq!(rt; reader.at(), 19);
-    assert_eq!(rt; reader.byte(), Err(FieldError::Short { at: 19 }));
+fn reads_numbers(reader: &mut Reader<'_>) -> bool {
+    reader.byte() == Ok(1) && reader.fixed32() == Ok(0x0403_0201) && reader.fixed64() == Ok(9)
+}
+
+fn reads_text(reader: &mut Reader<'_>) -> bool {
+    reader.text().is_ok_and(|text| text.as_str() == "né")
+}
+
+fn reads_the_rest(reader: &mut Reader<'_>) -> bool {
+    reader.raw(3) == Err(FieldError::Short { at: 19 })
+        && reader.raw(2) == Ok([7, 8].as_slice())
+        && reader.at() == 19
+        && reader.byte() == Err(FieldError::Short { at: 19 })
+}
+
+#[test]
+fn fields_one_after_another(rt: HostRuntime) -> Result<(), Fail> {
+    assert_eq!(rt; written(rt.alloc())?.as_slice(), FIELDS.as_slice());
+    let mut reader = Reader::new(rt.alloc(), &FIELDS);
+    assert!(rt; reads_numbers(&mut reader));
+    assert!(rt; reads_text(&mut reader));
+    assert!(rt; reads_the_rest(&mut reader));
     Ok(())
 }
 

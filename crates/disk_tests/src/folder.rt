@@ -180,14 +180,24 @@ fn stray<D: Device>(
     Ok(None)
 }
 
+/// The same of a new disk in a folder.
+fn stray_in(rt: HostRuntime, path: &str, steps: &[Step]) -> Result<Option<usize>, Fail> {
+    let mut disk = disk_in(rt, path)?;
+    stray(rt, &mut disk, path, steps)
+}
+
+/// The same of a folder of that name, which is removed again.
+fn stray_in_new(rt: HostRuntime, name: &str, steps: &[Step]) -> Result<Option<usize>, Fail> {
+    let path = unused(rt, name)?;
+    let found = stray_in(rt, path.as_str(), steps)?;
+    remove(rt, path.as_str())?;
+    Ok(found)
+}
+
 #[test]
 fn files_lie_in_a_folder(rt: HostRuntime) -> Result<(), Fail> {
     for (name, steps) in CASES {
-        let path = unused(rt, name)?;
-        let mut disk = disk_in(rt, path.as_str())?;
-        assert_eq!(rt; stray(rt, &mut disk, path.as_str(), steps)?, None, "{name}");
-        drop(disk);
-        remove(rt, path.as_str())?;
+        assert_eq!(rt; stray_in_new(rt, name, steps)?, None, "{name}");
     }
     Ok(())
 }
@@ -203,17 +213,26 @@ const LEFT: &[Step] = &[Step::Read(0, &[1, 2, 3]), Step::Faults(0)];
 
 const OPENED: &[Step] = &[Step::Read(0, &[1, 2, 3]), Step::Faults(3)];
 
+/// Whether a second disk has all its calls refused while a first one is in the folder, which stays as it is.
+fn is_locked_out<D: Device>(rt: HostRuntime, path: &str, second: &mut D) -> Result<bool, Fail> {
+    let mut first = disk_in(rt, path)?;
+    Ok(
+        stray(rt, &mut first, path, HELD)?.is_none()
+            && is_refused(second)
+            && stray(rt, &mut first, path, LEFT)?.is_none(),
+    )
+}
+
+/// The same, and the second disk has the folder once the first is gone.
+fn has_its_turn(rt: HostRuntime, path: &str) -> Result<bool, Fail> {
+    let mut second = disk_in(rt, path)?;
+    Ok(is_locked_out(rt, path, &mut second)? && stray(rt, &mut second, path, OPENED)?.is_none())
+}
+
 #[test]
 fn a_folder_has_one_disk_at_a_time(rt: HostRuntime) -> Result<(), Fail> {
     let path = unused(rt, "locked")?;
-    let mut first = disk_in(rt, path.as_str())?;
-    let mut second = disk_in(rt, path.as_str())?;
-    assert_eq!(rt; stray(rt, &mut first, path.as_str(), HELD)?, None);
-    assert!(rt; is_refused(&mut second));
-    assert_eq!(rt; stray(rt, &mut first, path.as_str(), LEFT)?, None);
-    drop(first);
-    assert_eq!(rt; stray(rt, &mut second, path.as_str(), OPENED)?, None);
-    drop(second);
+    assert!(rt; has_its_turn(rt, path.as_str())?);
     remove(rt, path.as_str())
 }
 
@@ -246,14 +265,24 @@ const NONE: &[Step] = &[Step::Refuse(0, 0, &[1]), Step::Faults(1)];
 
 const MADE: &[Step] = &[Step::Write(0, 0, &[1]), Step::Sync(0), Step::Faults(1)];
 
+/// Whether a disk in the folder `{above}/deeper` has its calls refused until the folder above is made, and not then.
+fn waits_for(rt: HostRuntime, above: &str) -> Result<bool, Fail> {
+    let path = format!(in rt.alloc(); "{above}/deeper")?;
+    waits_in(rt, above, path.as_str())
+}
+
+fn waits_in(rt: HostRuntime, above: &str, path: &str) -> Result<bool, Fail> {
+    let mut disk = disk_in(rt, path)?;
+    if stray(rt, &mut disk, path, NONE)?.is_some() {
+        return Ok(false);
+    }
+    fs::create_dir(&rt, above)?;
+    Ok(stray(rt, &mut disk, path, MADE)?.is_none())
+}
+
 #[test]
 fn a_folder_that_cannot_be_made_is_a_fault(rt: HostRuntime) -> Result<(), Fail> {
     let above = unused(rt, "above")?;
-    let path = format!(in rt.alloc(); "{above}/deeper")?;
-    let mut disk = disk_in(rt, path.as_str())?;
-    assert_eq!(rt; stray(rt, &mut disk, path.as_str(), NONE)?, None);
-    fs::create_dir(&rt, above.as_str())?;
-    assert_eq!(rt; stray(rt, &mut disk, path.as_str(), MADE)?, None);
-    drop(disk);
+    assert!(rt; waits_for(rt, above.as_str())?);
     remove(rt, above.as_str())
 }

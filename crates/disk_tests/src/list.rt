@@ -136,45 +136,51 @@ fn break_of(alloc: Global, first: &[u8], second: &[u8]) -> Option<(u32, u64)> {
     }
 }
 
+/// A byte of the second slot, what it is changed to, and where the slot then breaks.
+const BREAKS: [(usize, u8, u64); 20] = [
+    (4, 0x32, 1),
+    (5, 2, 5),
+    (5, 3, 5),
+    (6, 5, 42),
+    (10, 1, 34),
+    (10, 10, 46),
+    (18, 0, 18),
+    (18, 9, 58),
+    (22, 2, 67),
+    (26, 2, 67),
+    (30, 1, 30),
+    (30, 6, 30),
+    (42, 4, 42),
+    (38, 1, 34),
+    (46, 1, 46),
+    (54, 5, 54),
+    (58, 64, 58),
+    (59, 0, 59),
+    (61, 0x11, 59),
+    (63, 3, 63),
+];
+
+/// The same where the slots are `NEW_STORE` and `SECOND`, but for this byte of the slot 1.
+fn break_with(alloc: Global, place: usize, byte: u8) -> Option<(u32, u64)> {
+    let mut second = SECOND;
+    if let Some(old) = second.get_mut(place) {
+        *old = byte;
+    }
+    break_of(alloc, &NEW_STORE, &second)
+}
+
 #[test]
-fn each_rule_breaks_at_its_field(rt: HostRuntime) -> Result<(), Fail> {
-    let alloc = rt.alloc();
-    // A byte of the second slot, what it is changed to, and where the slot then breaks.
-    let rows: [(usize, u8, u64); 20] = [
-        (4, 0x32, 1),
-        (5, 2, 5),
-        (5, 3, 5),
-        (6, 5, 42),
-        (10, 1, 34),
-        (10, 10, 46),
-        (18, 0, 18),
-        (18, 9, 58),
-        (22, 2, 67),
-        (26, 2, 67),
-        (30, 1, 30),
-        (30, 6, 30),
-        (42, 4, 42),
-        (38, 1, 34),
-        (46, 1, 46),
-        (54, 5, 54),
-        (58, 64, 58),
-        (59, 0, 59),
-        (61, 0x11, 59),
-        (63, 3, 63),
-    ];
-    for (place, byte, at) in rows {
-        assert!(rt; place < 67);
-        let mut second = SECOND;
-        second[place] = byte;
-        let told = break_of(alloc, &NEW_STORE, &second);
+fn each_rule_breaks_at_its_field(rt: HostRuntime) {
+    for (place, byte, at) in BREAKS {
+        let told = break_with(rt.alloc(), place, byte);
         assert_eq!(rt; told, Some((1, at)), "{place} {byte}");
     }
     // Bytes are missing, and the slots are no neighbours.
-    assert_eq!(rt; break_of(alloc, &NEW_STORE[..41], &[]), Some((0, 41)));
+    let told = break_of(rt.alloc(), &NEW_STORE[..41], &[]);
+    assert_eq!(rt; told, Some((0, 41)));
     let mut first = NEW_STORE;
     first[5] = 1;
-    assert_eq!(rt; break_of(alloc, &first, &[]), Some((0, 5)));
-    Ok(())
+    assert_eq!(rt; break_of(rt.alloc(), &first, &[]), Some((0, 5)));
 }
 
 /// The list of a new store.
@@ -312,28 +318,34 @@ fn next_files(alloc: Global, disk: &MemDisk) -> Result<[u32; 16], Fail> {
     Ok(files)
 }
 
+/// Whether each image has the old list, where it may, or the new one, where it may.
+fn are_among(files: &[u32; 16], old: bool, new: bool) -> bool {
+    let mut files = files.iter();
+    files.all(|file| match *file {
+        3 => old,
+        5 => new,
+        _ => false,
+    })
+}
+
+/// The call that fails, and the next file in the images 0 to 3: what was synced, what is held, ones and zeros.
+const FAILING: [(u64, [u32; 4]); 7] = [
+    (1, [3, 3, 3, 3]),
+    (2, [3, 3, 3, 3]),
+    (3, [3, 3, 3, 3]),
+    (4, [3, 3, 3, 3]),
+    (5, [3, 3, 5, 3]),
+    (6, [3, 5, 5, 3]),
+    (7, [5, 5, 5, 5]),
+];
+
 #[test]
 fn a_writing_that_fails_leaves_one_list(rt: HostRuntime) -> Result<(), Fail> {
-    // The call that fails, and the next file in the images 0 to 3: what was synced, what is held, ones and zeros.
-    let rows: [(u64, [u32; 4]); 7] = [
-        (1, [3, 3, 3, 3]),
-        (2, [3, 3, 3, 3]),
-        (3, [3, 3, 3, 3]),
-        (4, [3, 3, 3, 3]),
-        (5, [3, 3, 5, 3]),
-        (6, [3, 5, 5, 3]),
-        (7, [5, 5, 5, 5]),
-    ];
-    for (failing, images) in rows {
-        let (written, files) = next_list_in(rt.alloc(), Trouble::Fails(failing))?;
-        assert_eq!(rt; written, failing == 7);
-        assert_eq!(rt; files[..4], images[..], "call {failing}");
-        for next_file in files {
-            assert!(rt;
-                next_file == 3 && failing < 7 || next_file == 5 && 4 < failing,
-                "call {failing}"
-            );
-        }
+    for (call, images) in FAILING {
+        let (written, files) = next_list_in(rt.alloc(), Trouble::Fails(call))?;
+        assert_eq!(rt; written, call == 7);
+        assert_eq!(rt; files[..4], images[..], "call {call}");
+        assert!(rt; are_among(&files, call < 7, call > 4), "call {call}");
     }
     Ok(())
 }
@@ -343,12 +355,7 @@ fn a_writing_that_is_stopped_leaves_one_list(rt: HostRuntime) -> Result<(), Fail
     for calls in 0..8 {
         let (written, files) = next_list_in(rt.alloc(), Trouble::Stops(calls))?;
         assert_eq!(rt; written, calls > 5);
-        for next_file in files {
-            assert!(rt;
-                next_file == 3 && calls < 6 || next_file == 5 && calls > 4,
-                "{calls} calls"
-            );
-        }
+        assert!(rt; are_among(&files, calls < 6, calls > 4), "{calls} calls");
     }
     Ok(())
 }

@@ -1,19 +1,17 @@
 //! Segments by their bytes, worked out by hand.
 
-ghost use Rattle.span_types.specs.Promises.{AreNames};
-
+use crate::batches::{Written, same_batch, two_resources, two_spans, written};
 use disk_model::{Device, MemDisk};
 use head_log::{LogError, Numbered, Prepared, Segment, append, create, scan};
-use span_types::{
-    Attr, AttrValue, Attrs, Batch, Calls, Events, Failed, Links, Memory, Resource, Scope,
-    SharedResource, SharedScope, Span, SpanEvent, SpanId, SpanKind, SpanLink, Spans, StatusCode,
-    Text, TraceId,
-};
+use span_types::{Batch, Calls, Failed};
 use std::alloc::Global;
 use std::test::Fail;
 
 /// A segment after one batch without spans.
 const ONE_EMPTY: [u8; 20] = [1, 1, 9, 0, 0, 0, 0, 0, 0, 0, 0, 0, 0, 0, 0, 0, 0, 0, 0, 0];
+
+/// The body of a batch without spans, under the number 0.
+const NO_SPANS: [u8; 9] = [0; 9];
 
 /// `ONE_EMPTY` with a body of ten bytes, in which the count of runs is not in its shortest form.
 const LONG_COUNT: [u8; 21] = [
@@ -47,160 +45,6 @@ const TWO_RESOURCES: [u8; 144] = [
     1, 1, 2, 0xc3, 0xa9, 5, 7, 0, 0, 0, 0, 0, 0, 0, 8, 0, 0, 0, 0, 0, 0, 0, 2, 1, b'm', 0,
 ];
 
-fn text(alloc: Global, word: &str) -> Result<Text, Memory> {
-    Ok(Text::of(String::from_str(alloc, word)?))
-}
-
-const TRACE: TraceId = TraceId([9; 16]);
-
-const FIRST: SpanId = SpanId([1; 8]);
-
-const SECOND: SpanId = SpanId([2; 8]);
-
-fn span(
-    alloc: Global,
-    trace: TraceId,
-    id: SpanId,
-    parent: Option<SpanId>,
-    name: &str,
-    scope: &str,
-) -> Result<Span, Memory>
-    requires { AreNames trace id parent }
-{
-    let mut attrs = Vec::new(alloc);
-    attrs.push(Attr {
-        key: text(alloc, "s")?,
-        value: AttrValue::Text(text(alloc, "ok")?),
-    })?;
-    let resource = Resource {
-        attrs: Attrs::of(attrs),
-    };
-    let scope = Scope {
-        name: text(alloc, scope)?,
-        version: text(alloc, "")?,
-        attrs: Attrs::none(alloc),
-    };
-    Ok(Span {
-        trace,
-        id,
-        parent,
-        name: text(alloc, name)?,
-        kind: if parent.is_none() {
-            SpanKind::Server
-        } else {
-            SpanKind::Unspecified
-        },
-        start: 5,
-        end: 6,
-        status: if parent.is_none() {
-            StatusCode::Fine
-        } else {
-            StatusCode::Error
-        },
-        message: text(alloc, "")?,
-        attrs: Attrs::none(alloc),
-        resource: SharedResource::of(alloc, resource)?,
-        scope: SharedScope::of(alloc, scope)?,
-        events: Events::none(alloc),
-        links: Links::none(alloc),
-    })
-}
-
-fn no_spans(alloc: Global) -> Batch {
-    Batch {
-        spans: Spans::of(Vec::new(alloc)),
-    }
-}
-
-fn two_spans(alloc: Global) -> Result<Batch, Memory> {
-    let mut spans = Vec::new(alloc);
-    spans.push(span(alloc, TRACE, FIRST, None, "x", "a")?)?;
-    spans.push(span(alloc, TRACE, SECOND, Some(FIRST), "y", "b")?)?;
-    Ok(Batch {
-        spans: Spans::of(spans),
-    })
-}
-
-fn attr(alloc: Global, key: &str, value: AttrValue) -> Result<Attr, Memory> {
-    let key = text(alloc, key)?;
-    Ok(Attr { key, value })
-}
-
-fn one_attr(alloc: Global, attr: Attr) -> Result<Attrs, Memory> {
-    let mut attrs = Vec::new(alloc);
-    attrs.push(attr)?;
-    Ok(Attrs::of(attrs))
-}
-
-/// Two attributes, whose keys are to differ.
-fn two_attrs(alloc: Global, first: Attr, second: Attr) -> Result<Attrs, Fail> {
-    if first.key.as_str() == second.key.as_str() {
-        return Err(Fail::from("the keys are to differ"));
-    }
-    let mut attrs = Vec::new(alloc);
-    attrs.push(first)?;
-    attrs.push(second)?;
-    Ok(Attrs::of(attrs))
-}
-
-/// The resource that has just this attribute `r`.
-fn resource(alloc: Global, number: i64) -> Result<SharedResource, Memory> {
-    let attrs = one_attr(alloc, attr(alloc, "r", AttrValue::Whole(number))?)?;
-    SharedResource::of(alloc, Resource { attrs })
-}
-
-/// A scope without attributes.
-fn scope(alloc: Global, name: &str, version: &str) -> Result<SharedScope, Memory> {
-    let scope = Scope {
-        name: text(alloc, name)?,
-        version: text(alloc, version)?,
-        attrs: Attrs::none(alloc),
-    };
-    SharedScope::of(alloc, scope)
-}
-
-/// The first span of `TWO_RESOURCES`.
-fn with_attributes(alloc: Global) -> Result<Span, Fail> {
-    let number = attr(alloc, "n", AttrValue::Whole(-150))?;
-    let truth = attr(alloc, "t", AttrValue::Truth(true))?;
-    Ok(Span {
-        trace: TRACE,
-        id: FIRST,
-        parent: None,
-        name: text(alloc, "x")?,
-        kind: SpanKind::Server,
-        start: 5,
-        end: 6,
-        status: StatusCode::Fine,
-        message: text(alloc, "")?,
-        attrs: two_attrs(alloc, number, truth)?,
-        resource: resource(alloc, -1)?,
-        scope: scope(alloc, "", "")?,
-        events: Events::none(alloc),
-        links: Links::none(alloc),
-    })
-}
-
-/// The second span of `TWO_RESOURCES`.
-fn with_parent(alloc: Global) -> Result<Span, Fail> {
-    Ok(Span {
-        trace: TRACE,
-        id: SECOND,
-        parent: Some(FIRST),
-        name: text(alloc, "é")?,
-        kind: SpanKind::Consumer,
-        start: 7,
-        end: 8,
-        status: StatusCode::Error,
-        message: text(alloc, "m")?,
-        attrs: Attrs::none(alloc),
-        resource: resource(alloc, 1)?,
-        scope: scope(alloc, "c", "2")?,
-        events: Events::none(alloc),
-        links: Links::none(alloc),
-    })
-}
-
 /// The body of one span under the number 7, worked out by hand: it has an event `e` at time 5, and a link.
 const EXTENDED: [u8; 104] = [
     // the number and the form 1, one run of the resource whose `r` is 1, and its one scope, of which nothing is said
@@ -224,83 +68,6 @@ const NOTHING_MORE: [u8; 68] = [
     9, 9, 9, 9, 1, 1, 1, 1, 1, 1, 1, 1, 0, 1, b'x', 2, 5, 0, 0, 0, 0, 0, 0, 0, 6, 0, 0, 0, 0, 0, 0,
     0, 1, 0, 0, 0, 0,
 ];
-
-/// The span of `EXTENDED`, with its event, and with its link where that is said.
-fn extended(alloc: Global, linked: bool) -> Result<Batch, Fail> {
-    let mut events = Vec::new(alloc);
-    events.push(SpanEvent {
-        time: 5,
-        name: text(alloc, "e")?,
-        attrs: Attrs::none(alloc),
-    })?;
-    let mut links = Vec::new(alloc);
-    if linked {
-        links.push(SpanLink {
-            trace: TraceId([8; 16]),
-            span: SpanId([3; 8]),
-            attrs: Attrs::none(alloc),
-        })?;
-    }
-    let mut spans = Vec::new(alloc);
-    spans.push(Span {
-        trace: TRACE,
-        id: FIRST,
-        parent: None,
-        name: text(alloc, "x")?,
-        kind: SpanKind::Server,
-        start: 5,
-        end: 6,
-        status: StatusCode::Fine,
-        message: text(alloc, "")?,
-        attrs: Attrs::none(alloc),
-        resource: resource(alloc, 1)?,
-        scope: scope(alloc, "", "")?,
-        events: Events::of(events),
-        links: Links::of(links),
-    })?;
-    Ok(Batch {
-        spans: Spans::of(spans),
-    })
-}
-
-fn two_resources(alloc: Global) -> Result<Batch, Fail> {
-    let mut spans = Vec::new(alloc);
-    spans.push(with_attributes(alloc)?)?;
-    spans.push(with_parent(alloc)?)?;
-    Ok(Batch {
-        spans: Spans::of(spans),
-    })
-}
-
-fn same_events(a: &Events, b: &Events) -> bool {
-    let mut pairs = a.as_slice().iter().zip(b.as_slice());
-    a.len() == b.len()
-        && pairs.all(|(a, b)| a.time == b.time && a.name == b.name && a.attrs == b.attrs)
-}
-
-fn same_links(a: &Links, b: &Links) -> bool {
-    let mut pairs = a.as_slice().iter().zip(b.as_slice());
-    a.len() == b.len()
-        && pairs.all(|(a, b)| (a.trace, a.span) == (b.trace, b.span) && a.attrs == b.attrs)
-}
-
-/// Whether two spans are equal in all their fields.
-fn same_span(a: &Span, b: &Span) -> bool {
-    (a.trace, a.id, a.parent) == (b.trace, b.id, b.parent)
-        && a.name == b.name
-        && (a.kind, a.start, a.end, a.status) == (b.kind, b.start, b.end, b.status)
-        && a.message == b.message
-        && a.attrs == b.attrs
-        && *a.resource.get() == *b.resource.get()
-        && *a.scope.get() == *b.scope.get()
-        && same_events(&a.events, &b.events)
-        && same_links(&a.links, &b.links)
-}
-
-fn same_batch(a: &Batch, b: &Batch) -> bool {
-    let mut pairs = a.spans.as_slice().iter().zip(b.spans.as_slice());
-    a.spans.len() == b.spans.len() && pairs.all(|(a, b)| same_span(a, b))
-}
 
 /// Whether the batches, with numbers from this one on, are what was found.
 fn are_found(found: &Numbered, first: u64, batches: &[&Batch]) -> bool {
@@ -381,18 +148,6 @@ fn finds(
     Ok(fields_of(&found) == fields_of(segment) && are_found(&entries, segment.first, batches))
 }
 
-#[test]
-fn one_batch_without_spans(rt: HostRuntime) -> Result<(), Fail> {
-    let batch = no_spans(rt.alloc());
-    let mut disk = MemDisk::empty(rt.alloc());
-    let segment = write_first(rt.alloc(), &mut disk, 0, &batch)?;
-    assert!(rt; has_bytes(&mut disk, &ONE_EMPTY)?);
-    assert_eq!(rt; fields_of(&segment), (2, 0, 1, 19));
-    assert!(rt; finds(rt.alloc(), &mut disk, &segment, &[&batch])?);
-    assert_eq!(rt; disk.starved(), 0);
-    Ok(())
-}
-
 /// A segment of one record that has this body, of fewer than 256 bytes.
 fn segment_of(alloc: Global, body: &[u8]) -> Result<Vec<u8>, Fail> {
     let len = u8::try_from(body.len())?;
@@ -403,33 +158,54 @@ fn segment_of(alloc: Global, body: &[u8]) -> Result<Vec<u8>, Fail> {
     Ok(bytes)
 }
 
-/// Whether the batch is written under the number 7 as this body, and read as it was.
-fn goes_both_ways(alloc: Global, batch: &Batch, body: &[u8]) -> Result<bool, Fail> {
-    let mut disk = MemDisk::empty(alloc);
-    let segment = write_first(alloc, &mut disk, 7, batch)?;
+/// Whether file 2 is a segment of one record that has this body.
+fn has_record(alloc: Global, disk: &mut MemDisk, body: &[u8]) -> Result<bool, Fail> {
     let bytes = segment_of(alloc, body)?;
+    Ok(has_bytes(disk, bytes.as_slice())?)
+}
+
+/// Whether the batch is written under this number as this body, and read as it was.
+fn is_kept(
+    alloc: Global,
+    disk: &mut MemDisk,
+    number: u64,
+    batch: &Batch,
+    body: &[u8],
+) -> Result<bool, Fail> {
+    let segment = write_first(alloc, disk, number, batch)?;
+    let gate = 10u64.saturating_add(body.len() as u64);
     Ok(
-        has_bytes(&mut disk, bytes.as_slice())?
-            && finds(alloc, &mut disk, &segment, &[batch])?
-            && disk.starved() == 0,
+        fields_of(&segment) == (2, number, 1, gate)
+            && has_record(alloc, disk, body)?
+            && finds(alloc, disk, &segment, &[batch])?,
     )
 }
 
-#[test]
-fn runs_of_spans_both_ways(rt: HostRuntime) -> Result<(), Fail> {
-    let batch = two_spans(rt.alloc())?;
-    assert!(rt; goes_both_ways(rt.alloc(), &batch, &TWO_SPANS)?);
-    let batch = two_resources(rt.alloc())?;
-    assert!(rt; goes_both_ways(rt.alloc(), &batch, &TWO_RESOURCES)?);
-    Ok(())
+/// The same on a disk without bytes.
+fn goes_both_ways(alloc: Global, number: u64, batch: &Batch, body: &[u8]) -> Result<bool, Fail> {
+    let mut disk = MemDisk::empty(alloc);
+    Ok(is_kept(alloc, &mut disk, number, batch, body)? && disk.starved() == 0)
+}
+
+/// Each batch, its number, and the body of its record.
+static BODIES: [(Written, u64, &[u8]); 5] = [
+    (Written::NoSpans, 0, &NO_SPANS),
+    (Written::TwoSpans, 7, &TWO_SPANS),
+    (Written::TwoResources, 7, &TWO_RESOURCES),
+    (Written::Linked, 7, &EXTENDED),
+    (Written::Unlinked, 7, &UNLINKED),
+];
+
+fn is_written(alloc: Global, which: Written, number: u64, body: &[u8]) -> Result<bool, Fail> {
+    let batch = written(alloc, which)?;
+    goes_both_ways(alloc, number, &batch, body)
 }
 
 #[test]
-fn events_and_links_both_ways(rt: HostRuntime) -> Result<(), Fail> {
-    let batch = extended(rt.alloc(), true)?;
-    assert!(rt; goes_both_ways(rt.alloc(), &batch, &EXTENDED)?);
-    let batch = extended(rt.alloc(), false)?;
-    assert!(rt; goes_both_ways(rt.alloc(), &batch, &UNLINKED)?);
+fn batches_both_ways(rt: HostRuntime) -> Result<(), Fail> {
+    for (which, number, body) in &BODIES {
+        assert!(rt; is_written(rt.alloc(), *which, *number, body)?, "{which:?}");
+    }
     Ok(())
 }
 
@@ -461,36 +237,8 @@ fn outcome_of_cut(alloc: Global) -> Result<Result<usize, u64>, Fail> {
 }
 
 #[test]
-fn extended_bodies_that_are_malformed(rt: HostRuntime) -> Result<(), Fail> {
-    for (place, count, byte, told) in [
-        (0, 0, 0, Ok(1)),
-        // A form that there is not, and bits between the number and the form.
-        (17, 1, 2, Err(10)),
-        (17, 1, 255, Err(10)),
-        (14, 1, 1, Err(10)),
-        (16, 1, 1, Err(10)),
-        // The form 0: what follows the span's attributes is not read.
-        (17, 1, 0, Err(76)),
-        // An event more, in whose attributes stands no kind of value, and a name that is not UTF-8.
-        (76, 1, 2, Err(110)),
-        (86, 1, 0xff, Err(85)),
-        // A link whose trace is zeros, and one whose span is.
-        (89, 16, 0, Err(89)),
-        (105, 8, 0, Err(105)),
-        // No link, though there are bytes, and an attribute of it, though there are none.
-        (88, 1, 0, Err(89)),
-        (113, 1, 1, Err(114)),
-    ] {
-        let found = outcome_with(rt.alloc(), &EXTENDED, place, count, byte)?;
-        assert_eq!(rt; found, told, "at {place}");
-    }
-    // The form 1 without event and link, also where bytes follow its last field, and where the file ends within it.
-    let found = outcome_with(rt.alloc(), &NOTHING_MORE, 0, 0, 0)?;
-    assert_eq!(rt; found, Err(10));
-    let found = outcome_with(rt.alloc(), &NOTHING_MORE, 2, 1, 69)?;
-    assert_eq!(rt; found, Err(10));
-    let found = outcome_of_cut(rt.alloc())?;
-    assert_eq!(rt; found, Err(77));
+fn an_extended_body_is_cut(rt: HostRuntime) -> Result<(), Fail> {
+    assert_eq!(rt; outcome_of_cut(rt.alloc())?, Err(77));
     Ok(())
 }
 
@@ -588,44 +336,68 @@ fn a_fault_of_the_disk_is_told(rt: HostRuntime) -> Result<(), Fail> {
     Ok(())
 }
 
+/// A body, how many bytes of its segment from a place on are another one, which one, and what a scan then says.
+type Broken = (&'static [u8], usize, usize, u8, Result<usize, u64>);
+
+static BROKEN: [Broken; 35] = [
+    (&TWO_RESOURCES, 0, 0, 0, Ok(1)),
+    // A gate that is not 1 ends the segment.
+    (&TWO_RESOURCES, 1, 1, 2, Ok(0)),
+    (&TWO_RESOURCES, 1, 1, 255, Ok(0)),
+    (&TWO_RESOURCES, 154, 1, 2, Ok(1)),
+    // A text that is not UTF-8 breaks at its length, and so does one that passes the body's end.
+    (&TWO_RESOURCES, 55, 1, 0xff, Err(54)),
+    (&TWO_RESOURCES, 132, 1, 0x28, Err(130)),
+    (&TWO_RESOURCES, 151, 1, 100, Err(151)),
+    // An id of zeros breaks at its first byte; a parent's first byte stands behind the one that says that there is one.
+    (&TWO_RESOURCES, 29, 16, 0, Err(29)),
+    (&TWO_RESOURCES, 113, 8, 0, Err(113)),
+    (&TWO_RESOURCES, 122, 8, 0, Err(122)),
+    (&TWO_RESOURCES, 121, 1, 2, Err(121)),
+    // A kind, a status, a kind of value and a truth that there is not.
+    (&TWO_RESOURCES, 133, 1, 6, Err(133)),
+    (&TWO_RESOURCES, 150, 1, 3, Err(150)),
+    (&TWO_RESOURCES, 78, 1, 3, Err(78)),
+    (&TWO_RESOURCES, 84, 1, 2, Err(84)),
+    // A whole number that is not in its shortest form.
+    (&TWO_RESOURCES, 80, 1, 0, Err(79)),
+    // The key `n` again, which breaks at its length.
+    (&TWO_RESOURCES, 82, 1, b'n', Err(81)),
+    // The second resource equal to the first, which breaks at its count of attributes.
+    (&TWO_RESOURCES, 89, 1, 1, Err(85)),
+    // A run more than there is, and one less.
+    (&TWO_RESOURCES, 18, 1, 3, Err(154)),
+    (&TWO_RESOURCES, 18, 1, 1, Err(85)),
+    // The second scope equal to the first, which breaks at the length of its name.
+    (&TWO_SPANS, 80, 1, b'a', Err(79)),
+    (&EXTENDED, 0, 0, 0, Ok(1)),
+    // A form that there is not, and bits between the number and the form.
+    (&EXTENDED, 17, 1, 2, Err(10)),
+    (&EXTENDED, 17, 1, 255, Err(10)),
+    (&EXTENDED, 14, 1, 1, Err(10)),
+    (&EXTENDED, 16, 1, 1, Err(10)),
+    // The form 0: what follows the span's attributes is not read.
+    (&EXTENDED, 17, 1, 0, Err(76)),
+    // An event more, in whose attributes stands no kind of value, and a name that is not UTF-8.
+    (&EXTENDED, 76, 1, 2, Err(110)),
+    (&EXTENDED, 86, 1, 0xff, Err(85)),
+    // A link whose trace is zeros, and one whose span is.
+    (&EXTENDED, 89, 16, 0, Err(89)),
+    (&EXTENDED, 105, 8, 0, Err(105)),
+    // No link, though there are bytes, and an attribute of it, though there are none.
+    (&EXTENDED, 88, 1, 0, Err(89)),
+    (&EXTENDED, 113, 1, 1, Err(114)),
+    // The form 1 without event and link, also where bytes follow its last field.
+    (&NOTHING_MORE, 0, 0, 0, Err(10)),
+    (&NOTHING_MORE, 2, 1, 69, Err(10)),
+];
+
 #[test]
 fn broken_in_one_place(rt: HostRuntime) -> Result<(), Fail> {
-    for (place, count, byte, told) in [
-        (0, 0, 0, Ok(1)),
-        // A gate that is not 1 ends the segment.
-        (1, 1, 2, Ok(0)),
-        (1, 1, 255, Ok(0)),
-        (154, 1, 2, Ok(1)),
-        // A text that is not UTF-8 breaks at its length, and so does one that passes the body's end.
-        (55, 1, 0xff, Err(54)),
-        (132, 1, 0x28, Err(130)),
-        (151, 1, 100, Err(151)),
-        // An id of zeros breaks at its first byte; a parent's first byte stands behind the one that says that there is one.
-        (29, 16, 0, Err(29)),
-        (113, 8, 0, Err(113)),
-        (122, 8, 0, Err(122)),
-        (121, 1, 2, Err(121)),
-        // A kind, a status, a kind of value and a truth that there is not.
-        (133, 1, 6, Err(133)),
-        (150, 1, 3, Err(150)),
-        (78, 1, 3, Err(78)),
-        (84, 1, 2, Err(84)),
-        // A whole number that is not in its shortest form.
-        (80, 1, 0, Err(79)),
-        // The key `n` again, which breaks at its length.
-        (82, 1, b'n', Err(81)),
-        // The second resource equal to the first, which breaks at its count of attributes.
-        (89, 1, 1, Err(85)),
-        // A run more than there is, and one less.
-        (18, 1, 3, Err(154)),
-        (18, 1, 1, Err(85)),
-    ] {
-        let found = outcome_with(rt.alloc(), &TWO_RESOURCES, place, count, byte)?;
-        assert_eq!(rt; found, told, "at {place}");
+    for (body, place, count, byte, told) in &BROKEN {
+        let found = outcome_with(rt.alloc(), body, *place, *count, *byte)?;
+        assert_eq!(rt; found, *told, "at {place}");
     }
-    // The second scope equal to the first, which breaks at the length of its name.
-    let found = outcome_with(rt.alloc(), &TWO_SPANS, 80, 1, b'a')?;
-    assert_eq!(rt; found, Err(79));
     Ok(())
 }
 
