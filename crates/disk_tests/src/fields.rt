@@ -1,7 +1,8 @@
 //! Numbers and texts as bytes, worked out by hand.
 
 use byte_fields::{FieldError, Reader, Writer};
-use std::alloc::{AllocError, Global};
+use span_types::{Bytes, Memory};
+use std::alloc::Global;
 use std::test::Fail;
 
 /// Numbers and their groups of seven bits, worked out by hand.
@@ -53,7 +54,7 @@ static NO_NUMBERS: [(&[u8], FieldError); 6] = [
     ),
 ];
 
-fn is_number(alloc: Global, number: u64, bytes: &[u8]) -> Result<bool, AllocError> {
+fn is_number(alloc: Global, number: u64, bytes: &[u8]) -> Result<bool, Memory> {
     let mut writer = Writer::new(alloc);
     writer.var(number)?;
     Ok(writer.finish().as_slice() == bytes && Reader::new(alloc, bytes).var() == Ok(number))
@@ -67,7 +68,7 @@ fn numbers_both_ways(rt: HostRuntime) -> Result<(), Fail> {
     Ok(())
 }
 
-fn is_signed(alloc: Global, number: i64, bytes: &[u8]) -> Result<bool, AllocError> {
+fn is_signed(alloc: Global, number: i64, bytes: &[u8]) -> Result<bool, Memory> {
     let mut writer = Writer::new(alloc);
     writer.zigzag(number)?;
     Ok(writer.finish().as_slice() == bytes && Reader::new(alloc, bytes).zigzag() == Ok(number))
@@ -94,7 +95,7 @@ const FIELDS: [u8; 19] = [
     1, 1, 2, 3, 4, 9, 0, 0, 0, 0, 0, 0, 0, 3, 0x6e, 0xc3, 0xa9, 7, 8,
 ];
 
-fn written(alloc: Global) -> Result<Vec<u8>, AllocError> {
+fn written(alloc: Global) -> Result<Bytes, Memory> {
     let mut writer = Writer::new(alloc);
     writer.byte(1)?;
     writer.fixed32(0x0403_0201)?;
