@@ -265,7 +265,7 @@ pub fn same_batch(a: &Batch, b: &Batch) -> bool {
 
 /// The batches of the bodies in `log`.
 #[derive(Clone, Copy, Debug)]
-pub enum Written {
+pub enum Which {
     NoSpans,
     TwoSpans,
     TwoResources,
@@ -274,12 +274,12 @@ pub enum Written {
 }
 
 /// The batch, by its fields.
-pub fn written(alloc: Global, which: Written) -> Result<Batch, Fail> {
+pub fn made(alloc: Global, which: Which) -> Result<Batch, Fail> {
     Ok(match which {
-        Written::NoSpans => no_spans(alloc),
-        Written::TwoSpans => two_spans(alloc)?,
-        Written::TwoResources => two_resources(alloc)?,
-        Written::Linked => linked(alloc)?,
-        Written::Unlinked => unlinked(alloc)?,
+        Which::NoSpans => no_spans(alloc),
+        Which::TwoSpans => two_spans(alloc)?,
+        Which::TwoResources => two_resources(alloc)?,
+        Which::Linked => linked(alloc)?,
+        Which::Unlinked => unlinked(alloc)?,
     })
 }

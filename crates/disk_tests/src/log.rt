@@ -1,6 +1,6 @@
 //! Segments by their bytes, worked out by hand.
 
-use crate::batches::{Written, same_batch, two_resources, two_spans, written};
+use crate::batches::{Which, made, same_batch, two_resources, two_spans};
 use disk_model::{Device, MemDisk};
 use head_log::{LogError, Numbered, Prepared, Segment, append, create, scan};
 use span_types::{Batch, Calls, Failed};
@@ -188,16 +188,16 @@ fn goes_both_ways(alloc: Global, number: u64, batch: &Batch, body: &[u8]) -> Res
 }
 
 /// Each batch, its number, and the body of its record.
-static BODIES: [(Written, u64, &[u8]); 5] = [
-    (Written::NoSpans, 0, &NO_SPANS),
-    (Written::TwoSpans, 7, &TWO_SPANS),
-    (Written::TwoResources, 7, &TWO_RESOURCES),
-    (Written::Linked, 7, &EXTENDED),
-    (Written::Unlinked, 7, &UNLINKED),
+static BODIES: [(Which, u64, &[u8]); 5] = [
+    (Which::NoSpans, 0, &NO_SPANS),
+    (Which::TwoSpans, 7, &TWO_SPANS),
+    (Which::TwoResources, 7, &TWO_RESOURCES),
+    (Which::Linked, 7, &EXTENDED),
+    (Which::Unlinked, 7, &UNLINKED),
 ];
 
-fn is_written(alloc: Global, which: Written, number: u64, body: &[u8]) -> Result<bool, Fail> {
-    let batch = written(alloc, which)?;
+fn is_written(alloc: Global, which: Which, number: u64, body: &[u8]) -> Result<bool, Fail> {
+    let batch = made(alloc, which)?;
     goes_both_ways(alloc, number, &batch, body)
 }
 
@@ -337,9 +337,9 @@ fn a_fault_of_the_disk_is_told(rt: HostRuntime) -> Result<(), Fail> {
 }
 
 /// A body, how many bytes of its segment from a place on are another one, which one, and what a scan then says.
-type Broken = (&'static [u8], usize, usize, u8, Result<usize, u64>);
+type Changed = (&'static [u8], usize, usize, u8, Result<usize, u64>);
 
-static BROKEN: [Broken; 35] = [
+static BROKEN: [Changed; 35] = [
     (&TWO_RESOURCES, 0, 0, 0, Ok(1)),
     // A gate that is not 1 ends the segment.
     (&TWO_RESOURCES, 1, 1, 2, Ok(0)),
