@@ -1,13 +1,13 @@
 //! Queries and what `check` answers, worked out by hand.
 
-use span_types::Calls;
+use span_types::{Calls, Memory};
 use std::alloc::{AllocError, Global};
 use std::process::Abort;
 use std::test::Fail;
 use traceql_parse::parse;
 use traceql_types::{
     PatternMaker, Patterns, RegexMaker, ScriptedMaker, TypeError, check, checked_crosses,
-    patterns_in_order, refusals_are_counted,
+    patterns_in_order, patterns_of, refusals_are_counted,
 };
 
 fn refusal(out: &mut String, error: TypeError) -> Result<(), AllocError> {
@@ -215,6 +215,32 @@ fn queries_are_checked_as_worked_out(rt: HostRuntime) -> Result<(), Fail> {
     checked_crosses();
     patterns_in_order();
     refusals_are_counted();
+    Ok(())
+}
+
+/// The places and the strings of a query's patterns.
+fn asked(alloc: Global, text: &str) -> Result<String, AllocError> {
+    let mut out = String::new(alloc);
+    let Ok(query) = parse(alloc, text) else {
+        out.push_str("no query")?;
+        return Ok(out);
+    };
+    match patterns_of(alloc, &query) {
+        Err(Memory) => out.push_str("memory")?,
+        Ok(found) => {
+            for pattern in found.as_slice() {
+                write!(out, "{} {};", pattern.at, pattern.text.as_str())?;
+            }
+        }
+    }
+    Ok(out)
+}
+
+#[test]
+fn patterns_have_places(rt: HostRuntime) -> Result<(), Fail> {
+    let text = "{ name =~ \"a\" && .b !~ `c|d` } | by(name =~ \"a\")";
+    let got = asked(rt.alloc(), text)?;
+    assert_eq!(&rt; got.as_str(), "10 a;23 c|d;44 a;");
     Ok(())
 }
 
