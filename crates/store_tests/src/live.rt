@@ -139,3 +139,18 @@ fn a_flush_ends_or_its_rows_go_back(rt: HostRuntime) -> Result<(), Memory> {
     assert_eq!(rt; live.held(), 1);
     Ok(())
 }
+
+#[test]
+fn a_look_finds_the_rows_of_a_trace(rt: HostRuntime) -> Result<(), Memory> {
+    let alloc = rt.alloc();
+    let mut live = Live::new(alloc);
+    push(&mut live, 0, both(alloc)?, 10 * SECOND)?;
+    push(&mut live, 1, another(alloc)?, 15 * SECOND)?;
+    assert_eq!(rt; live.cut_idle(20 * SECOND)?, 1);
+    push(&mut live, 2, both(alloc)?, 16 * SECOND)?;
+    let look = live.runs()?;
+    assert!(rt; are_at(&look.rows_of(ONE.trace)?, &[(0, 1), (1, 0), (2, 1)]));
+    assert!(rt; are_at(&look.rows_of(LATTER.trace)?, &[(0, 0), (2, 0)]));
+    assert!(rt; are_at(&live.rows_of(ONE.trace)?, &[(0, 1), (1, 0), (2, 1)]));
+    Ok(())
+}
