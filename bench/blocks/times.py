@@ -1,6 +1,7 @@
 #!/usr/bin/env python3
 """`times.py ROUNDS COUNT FOLDER` runs FOLDER/program and FOLDER/insert over COUNT rows in turns, and tells of each the least processor
-time of all rounds, user and system, less that of its run which only makes the rows, and the most memory that it had at once."""
+time of all rounds, user and system, less that of its run which only makes the rows, and the most memory that it had at once. Each
+run is told on standard error."""
 import os
 import subprocess
 import sys
@@ -39,6 +40,7 @@ sizes, found = {}, {name: [] for name in RUNS}
 for _ in range(rounds):
     for name, (letter, words, _) in RUNS.items():
         found[name].append(run(letter, words))
+        print(f"{name}: {found[name][-1]}", file=sys.stderr, flush=True)
 sizes["database"] = os.path.getsize(base)
 both = {name: min(user + system for user, system, _ in them) for name, them in found.items()}
 user = {name: min(user for user, _, _ in them) for name, them in found.items()}
