@@ -117,5 +117,6 @@ def line(rows):
     } for service, spans in groups.items()]}, separators=(",", ":")).encode()
 
 
-rows = spans(random.Random(7))
-sys.stdout.buffer.write(stripe(rows) if sys.argv[1] == "stripe" else line(rows))
+if __name__ == "__main__":
+    rows = spans(random.Random(7))
+    sys.stdout.buffer.write(stripe(rows) if sys.argv[1] == "stripe" else line(rows))
