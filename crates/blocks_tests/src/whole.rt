@@ -202,7 +202,7 @@ fn malformed_in_two_places(rt: HostRuntime) -> Result<(), Fail> {
         // No stripe agrees with an entry whose earliest start is after its latest, whatever stands in the stripe.
         ((36, "02"), (4104, "82 00"), 4096),
         // A field before what would tell that the stripe disagrees is malformed.
-        ((44, "02"), (4146, "09"), 4146),
+        ((36, "02 00 00 00 00 00 00 00 02"), (4146, "09"), 4146),
         ((28, "02"), (4116, "09"), 4116),
         // Stripes come before the counts of index pages and of Bloom pages, and these before what they count.
         ((12, "02"), (4164, "09"), 4164),
@@ -228,8 +228,8 @@ fn cut_in_length(alloc: Global, place: usize, words: &str) -> Result<u64, Memory
 
 #[test]
 fn cut_within_a_length(rt: HostRuntime) -> Result<(), Fail> {
-    // An entry with which no stripe agrees, and one with which this stripe doesn't.
-    for (place, words, at) in [(36, "02", 4096), (44, "02", 4100)] {
+    // An entry with which no stripe agrees, and one with which another stripe would.
+    for (place, words, at) in [(36, "02", 4096), (36, "02 00 00 00 00 00 00 00 02", 4100)] {
         assert_eq!(rt; cut_in_length(rt.alloc(), place, words)?, at);
     }
     Ok(())
