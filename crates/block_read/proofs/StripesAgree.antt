@@ -79,6 +79,15 @@ agree_means entry rows e =
     let count : length rows ≡ entry.rows = sym (length-map rows (λ (row : Row). row.span.start)) ∙ eqb-true (length (starts rows)) entry.rows two.0 in
     record { count = count; earliest = earliest_means rows entry.earliest one.0; latest = latest_means rows entry.latest one.1 }
 
+-- no row starts before the earliest, so the latest isn't before it either
+none_less : (rows : List Row) (m x k : ℕ) → AllByRecursion (λ row. m ≤ row.span.start) rows → k < length (starts rows) → slice_index_or (starts rows) k x ≡ x → m ≤ x
+none_less [] m x k all low is = absurd (omega (arith, low))
+none_less (row ∷ rows) m x zero all low is = (let first = all.0 in omega (arith, first, is))
+none_less (row ∷ rows) m x (suc k) all low is = none_less rows m x k all.1 (omega (arith, low)) is
+
+pub in_order : (entry : StripeInfo) (rows : List Row) → IsEarliest rows entry.earliest → IsLatest rows entry.latest → leb entry.earliest entry.latest ≡ true
+in_order entry rows early late = le-leb entry.earliest entry.latest (none_less rows entry.earliest entry.latest late.0.0 early.1 late.0.1 late.0.2)
+
 -- ---- order
 
 last_more : (x y : Row) (ys : List Row) → last_of (x ∷ y ∷ ys) ≡ last_of (y ∷ ys)

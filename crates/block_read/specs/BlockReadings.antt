@@ -95,10 +95,12 @@ abbrev pub last_of : List Row → Option Row
 last_of rows = slice_get rows (length rows - 1)
 
 -- The rows of a stripe, by its entry and behind the last row of the stripe before. A stripe that disagrees with its entry, or one
--- whose rows don't come behind that row, is malformed at its first byte. Its pages are compared with its length before anything
--- else of it is read, and the order of rows is tested once all else is as it must be.
+-- whose rows don't come behind that row, is malformed at its first byte. No stripe agrees with an entry whose earliest start is after
+-- its latest, which is tested before any byte is read. Pages are compared with the length before anything else is read, and the
+-- order of rows is tested once all else is as it must be.
 unfoldable pub stripe_of : ℕ → StripeInfo → Option Row → List ℕ → Result (List Row) ℕ
 stripe_of form entry last part = do
+  _ ← unless_not (nat_le entry.earliest entry.latest) 0 entry
   size ← in_part false fixed64_at (record { whole = part; at = 0 })
   _ ← unless_not (div_ceil (8 + size.0) 4096 == entry.pages) 0 size
   rows ← agreeing entry part (within part (stripe_at (is_extended form) part))

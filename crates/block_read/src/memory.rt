@@ -1,8 +1,9 @@
 //! A block's file in memory.
 
-ghost use Rattle.std.specs.Prelude.{◌≡◌, ◌++◌, [], ◌≤◌, ◌==◌, if◌then◌else◌, drop, length, true};
-ghost use Rattle.std.specs.List.{list_any};
-ghost use Rattle.block_read.specs.Files.{page_of};
+ghost use Rattle.std.specs.Prelude.{◌≡◌, ◌++◌, [], ◌≤◌, ◌==◌, ◌↔◌, if◌then◌else◌, drop, length, is_ok, true, Contains, IsErr, OnOk};
+ghost use Rattle.disk_model.specs.Counts.{RoseBy};
+ghost use Rattle.disk_model.specs.Crash.{HasCause};
+ghost use Rattle.block_read.specs.Files.{SameFiles, page_of};
 
 use crate::Pages;
 use crate::file::part;
@@ -54,9 +55,19 @@ impl Pages for MemPages {
 
     ghost reads = { λ m. m.reads };
 
-    fn page(&mut self, block: u32, page: u64, buf: &mut [u8; 4096]) -> Result<(), Failed> {
+    fn page(&mut self, block: u32, page: u64, buf: &mut [u8; 4096]) -> Result<(), Failed>
+        ensures page { OnOk result (buf.new ≡ page_of (file_of self.old block) page) }
+        ensures same_files { SameFiles (file_of self.old) (file_of self.new) }
+        ensures cause { HasCause self.old.faults self.new.faults result }
+        ensures one_read { RoseBy 1 self.old.reads self.new.reads }
+
+        // It fails exactly where the read's number is listed, and the list and the file stay the same.
+        ensures listed { IsErr result ↔ Contains self.old.failing self.new.reads }
+        ensures same_list { self.new.failing ≡ self.old.failing }
+        ensures by_one { RoseBy (if is_ok result then 0 else 1) self.old.faults self.new.faults }
+    {
         self.reads = self.reads.saturating_add(1);
-        if is_listed(self.failing.as_slice(), self.reads) {
+        if self.failing.as_slice().contains(&self.reads) {
             self.faults = self.faults.saturating_add(1);
             return Err(Failed);
         }
@@ -64,12 +75,6 @@ impl Pages for MemPages {
         copy_page(bytes, page, buf);
         Ok(())
     }
-}
-
-fn is_listed(failing: &[u64], number: u64) -> bool
-    ensures { result ≡ list_any (λ n. n == number) failing.now }
-{
-    failing.iter().any(|n| *n == number)
 }
 
 /// The bytes of a file: these, or none.

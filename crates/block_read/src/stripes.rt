@@ -93,6 +93,9 @@ fn stripe(
     ensures answers { Answers (λ x. x.items) result (stripe_of form entry.now last.now part.now) }
     ensures few { IfOk result (λ rows. length rows.items ≤ 256) }
 {
+    if !is_in_order(entry) {
+        return Err(Break::At(0));
+    }
     let mut reader = Reader::new(alloc, part);
     let size = fixed64(&mut reader, false)?;
     if !has_pages(size, entry.pages) {
@@ -103,6 +106,13 @@ fn stripe(
         return Err(Break::At(0));
     }
     Ok(rows)
+}
+
+/// Whether an entry's earliest start isn't after its latest.
+fn is_in_order(entry: &StripeInfo) -> bool
+    ensures { result ≡ nat_le entry.now.earliest entry.now.latest }
+{
+    entry.earliest <= entry.latest
 }
 
 /// Whether a content of so many bytes has, with its length, so many pages.

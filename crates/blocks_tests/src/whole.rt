@@ -199,8 +199,10 @@ fn malformed_in_two_places(rt: HostRuntime) -> Result<(), Fail> {
         ((44, "00"), (4169, "01"), 4096),
         ((28, "02"), (4146, "09"), 4096),
         ((20, "02"), (4164, "09"), 4096),
+        // No stripe agrees with an entry whose earliest start is after its latest, whatever stands in the stripe.
+        ((36, "02"), (4104, "82 00"), 4096),
         // A field before what would tell that the stripe disagrees is malformed.
-        ((36, "02"), (4146, "09"), 4146),
+        ((36, "02 00 00 00 00 00 00 00 02"), (4146, "09"), 4146),
         ((28, "02"), (4116, "09"), 4116),
         // Stripes come before the counts of index pages and of Bloom pages, and these before what they count.
         ((12, "02"), (4164, "09"), 4164),
@@ -211,6 +213,24 @@ fn malformed_in_two_places(rt: HostRuntime) -> Result<(), Fail> {
         ((3, "32"), (4096, "43"), 0),
     ] {
         assert_eq!(rt; two_changes(rt.alloc(), first, second)?, offset);
+    }
+    Ok(())
+}
+
+/// What is told of a file that ends within the length of its stripe, and differs from the block in one place.
+fn cut_in_length(alloc: Global, place: usize, words: &str) -> Result<u64, Memory> {
+    let mut bytes = block(alloc)?;
+    let new = bytes_of(alloc, words)?;
+    put(bytes.as_mut_slice(), place, new.as_slice());
+    let mut pages = file(alloc, bytes.as_slice(), &[])?;
+    told(alloc, &mut pages, 1, 4100)
+}
+
+#[test]
+fn cut_within_a_length(rt: HostRuntime) -> Result<(), Fail> {
+    // An entry with which no stripe agrees, and one with which another stripe would.
+    for (place, words, at) in [(36, "02", 4096), (36, "02 00 00 00 00 00 00 00 02", 4100)] {
+        assert_eq!(rt; cut_in_length(rt.alloc(), place, words)?, at);
     }
     Ok(())
 }
