@@ -26,7 +26,8 @@ use Rattle.client_run.specs.Answers.{IsQueryAnswered, IsRequestAnswered, IsSearc
 use Rattle.store_state.specs.Made.{Call}
 use Rattle.client_run.specs.CoreRuns.{AreSteps}
 use Rattle.session_meaning.specs.Answering.{AreItemsAnswered, CallsLead, IsItemAnswered}
-use Rattle.session_meaning.specs.Session.{At, IsAnswered, IsAnsweredOrStarved, Session}
+use Rattle.session_meaning.specs.At.{At}
+use Rattle.session_meaning.specs.Session.{IsAnswered, IsAnsweredOrStarved, Session}
 use Rattle.session_meaning.proofs.Firsts.{trace_alike}
 use Rattle.session_meaning.proofs.Looks.{look_ended, look_refused, look_taken, still_after}
 

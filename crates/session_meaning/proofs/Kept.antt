@@ -7,7 +7,8 @@ use Rattle.store_images.specs.Stored.{ImageStandsFor, MayStandFor}
 use Rattle.store_core.specs.Past.{StoodFor}
 use Rattle.session_meaning.specs.Pushes.{accepted_batches}
 use Rattle.session_meaning.specs.Runs.{Outcome}
-use Rattle.session_meaning.specs.Session.{Session, history_of}
+use Rattle.session_meaning.specs.At.{history_of}
+use Rattle.session_meaning.specs.Session.{Session}
 use Rattle.session_meaning.specs.Stops.{StandsForLast, StandsWithin, unsure_spans}
 use Rattle.session_meaning.proofs.Told.{session_grows}
 

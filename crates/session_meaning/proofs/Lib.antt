@@ -1,5 +1,9 @@
 mod Looks
 pub mod Firsts
+mod FlushSteps
+mod Rounds
+mod FlushLaws
+mod CutLaws
 pub mod AnswerLaws
 pub mod SessionLaws
 pub mod Told

@@ -23,7 +23,8 @@ use Rattle.store_state.specs.declared.errors.PushError.TheVariants as push
 use Rattle.client_run.specs.Answers.{pushed_reply, refusal_of}
 use Rattle.session_meaning.specs.Causes.{HasPushCause}
 use Rattle.session_meaning.specs.Pushes.{HasRoomFor}
-use Rattle.session_meaning.specs.Session.{At, IsAnswered, history_of}
+use Rattle.session_meaning.specs.At.{At, history_of}
+use Rattle.session_meaning.specs.Session.{IsAnswered}
 use Rattle.session_meaning.proofs.Told.{push_numbers}
 
 -- ---- replies that are sure

@@ -24,7 +24,8 @@ use Rattle.store_state.specs.declared.errors.PushError.{PushError}
 use Rattle.store_state.specs.declared.errors.PushError.TheVariants as push
 use Rattle.client_run.specs.Answers.{pushed_reply}
 use Rattle.session_meaning.specs.Pushes.{HasRoomFor}
-use Rattle.session_meaning.specs.Session.{At, IsAnsweredOrStarved, Session, is_refusal, is_refused}
+use Rattle.session_meaning.specs.At.{At}
+use Rattle.session_meaning.specs.Session.{IsAnsweredOrStarved, Session, is_refusal, is_refused}
 
 -- ---- counts of faults
 

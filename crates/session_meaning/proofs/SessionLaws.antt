@@ -14,7 +14,8 @@ use Rattle.client_run.proofs.CallLemmas.{made-append}
 use Rattle.session_meaning.specs.Answering.{AreItemsAnswered, IsItemAnswered}
 use Rattle.session_meaning.specs.Asked.{AreAsked, AsksNext, after_lines, after_moment}
 use Rattle.session_meaning.specs.Progress.{HasAnsweredOne, HasAnsweredOver, Progress}
-use Rattle.session_meaning.specs.Session.{At, IsAnsweredOrStarved, Session, reply_texts}
+use Rattle.session_meaning.specs.At.{At}
+use Rattle.session_meaning.specs.Session.{IsAnsweredOrStarved, Session, reply_texts}
 
 -- ---- what is asked
 

@@ -17,7 +17,8 @@ use Rattle.store_state.specs.Replies.{push_reply}
 use Rattle.store_state.specs.declared.errors.PushError.{PushError}
 use Rattle.client_run.specs.Answers.{pushed_reply}
 use Rattle.session_meaning.specs.Pushes.{accepted_batch, accepted_batches, known_pushes}
-use Rattle.session_meaning.specs.Session.{At, IsAnsweredOrStarved, Session, history_of}
+use Rattle.session_meaning.specs.At.{At, history_of}
+use Rattle.session_meaning.specs.Session.{IsAnsweredOrStarved, Session}
 
 -- ---- the last history
 

@@ -7,7 +7,7 @@ use Rattle.session_text.specs.Items.{Item}
 use Rattle.client_run.specs.Answers.{IsRequestAnswered}
 use Rattle.store_state.specs.Made.{Call}
 use Rattle.client_run.specs.CoreRuns.{AreSteps}
-use Rattle.session_meaning.specs.Session.{At}
+use Rattle.session_meaning.specs.At.{At}
 
 -- What is asked is answered so by these calls. A line that asks nothing makes none.
 abbrev pub IsItemAnswered : Item → Reply → List Call → Type 0

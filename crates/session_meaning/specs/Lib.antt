@@ -1,5 +1,8 @@
+pub mod At
 pub mod Asked
 pub mod Statuses
+pub mod Flushed
+pub mod Upkeep
 pub mod Session
 pub mod Pushes
 pub mod Causes

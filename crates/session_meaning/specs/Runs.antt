@@ -20,7 +20,8 @@ use Rattle.store_core.specs.Opening.{BeginsEmpty, NamesNoBlock, StoreBreaks}
 use Rattle.session_meaning.specs.declared.ending.Ending.{Ending}
 use Rattle.session_meaning.specs.declared.ending.Ending.TheVariants.{Answered, BadWords, NotOpened, NotStore, ReadFault, Refused, Spent, Starved, WriteFault}
 use Rattle.session_meaning.specs.Asked.{AreAsked, AsksNext, IsNextMoment, after_lines, after_moment}
-use Rattle.session_meaning.specs.Session.{At, Ends, EndsAlone, Session, history_of}
+use Rattle.session_meaning.specs.At.{At, history_of}
+use Rattle.session_meaning.specs.Session.{Ends, EndsAlone, Session}
 
 -- What the outside tells at a moment: the bytes that the source has left and those that the sink has taken, the moments that
 -- the clock has to give, and the bytes that the disk holds, each where it tells them; and the counts of faults.

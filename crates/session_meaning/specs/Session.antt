@@ -22,28 +22,14 @@ use Rattle.session_text.specs.Items.{Item}
 use Rattle.session_text.specs.Replies.{reply_text}
 use Rattle.store_model.specs.History.{History, count_of, history_rows}
 use Rattle.store_model.specs.Event.{Event as event}
-use Rattle.store_model.specs.Step.{Machine, Step}
+use Rattle.store_model.specs.Step.{Step}
 use Rattle.store_state.specs.Replies.{push_reply}
 use Rattle.store_state.specs.declared.errors.PushError.{PushError}
 use Rattle.client_run.specs.Answers.{pushed_reply}
+use Rattle.session_meaning.specs.At.{At, IsStill, history_of}
 use Rattle.session_meaning.specs.declared.ending.Ending.{Ending}
 use Rattle.session_meaning.specs.declared.ending.Ending.TheVariants.{Answered, ReadFault, Spent, Starved, WriteFault}
 use Rattle.session_meaning.specs.declared.ending.Ending.TheVariants as ending
-
--- ---- the store between two lines
-
--- Where a session stands between two lines: the store's machine, whose history is the pushes that were accepted so far, and
--- how many faults its disk has counted.
-pub record At : Type 0 where
-  pub machine : Machine
-  pub faults : ℕ
-
-abbrev pub history_of : At → History
-history_of at = at.machine.history
-
--- Nothing was pushed, and nothing else of the store changed.
-abbrev pub IsStill : At → At → Type 0
-IsStill before after = (after.machine ≡ before.machine) × (before.faults ≤ after.faults)
 
 -- ---- what is asked, and its answer
 

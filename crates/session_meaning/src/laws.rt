@@ -1,9 +1,11 @@
 //! What follows from the definitions of a session and of a run.
 
-ghost use Rattle.std.specs.Prelude.{◌≡◌, ◌⊎◌, ◌<◌, ◌++◌, List, [], ◌∷◌, Some, Ok, false, length, take, ℕ};
+ghost use Rattle.std.specs.Prelude.{◌≡◌, ◌⊎◌, ◌<◌, ◌++◌, List, [], ◌∷◌, Some, None, Ok, false, length, take, ℕ};
 ghost use Rattle.std.specs.List.{Contains, list_any};
 ghost use Rattle.command_words.specs.Commands.{Command, Spells};
 ghost use Rattle.disk_model.specs.Images.{Image};
+ghost use Rattle.flusher.specs.Rounds.{IsFlushRound};
+ghost use Rattle.span_types.specs.Faults.{Rose};
 ghost use Rattle.span_types.specs.First.{IsFirstOf};
 ghost use Rattle.span_types.specs.declared.spans.Row.{Row};
 ghost use Rattle.otlp_spans.specs.declared.read.Reading.{Reading};
@@ -16,13 +18,19 @@ ghost use Rattle.store_model.specs.History.{History, count_of, grown};
 ghost use Rattle.store_model.specs.Laws.{Agrees};
 ghost use Rattle.store_images.specs.Stored.{ImageStandsFor, MayStandFor};
 ghost use Rattle.store_state.specs.Made.{Call};
+ghost use Rattle.store_state.specs.declared.rounds.Refusal.{Refusal as Cause};
+ghost use Rattle.store_state.specs.declared.rounds.Round.{Round};
+ghost use Rattle.store_state.specs.declared.rounds.Round.TheVariants.{Did, Nothing, Refused as IsRefused};
 ghost use Rattle.session_meaning.specs.Answering.{AreItemsAnswered, CallsLead, IsAnsweredByCalls};
-ghost use Rattle.session_meaning.specs.Causes.{HasPushCause};
+ghost use Rattle.session_meaning.specs.Causes.{HasFlushCause, HasPushCause};
+ghost use Rattle.session_meaning.specs.Flushed.{HasListed, IsDoneOrStarved, IsFlushed};
 ghost use Rattle.session_meaning.specs.declared.ending.Ending.TheVariants.{Answered, Starved};
 ghost use Rattle.session_meaning.specs.Pushes.{HasRoomFor, accepted_batches, known_pushes};
 ghost use Rattle.session_meaning.specs.Runs.{ComesToItsEnd, Edges, GoesWell, IsRunOf, Outcome};
-ghost use Rattle.session_meaning.specs.Session.{At, IsAnswered, IsAnsweredOrStarved, Session, history_of, is_refused};
+ghost use Rattle.session_meaning.specs.At.{At, IsStill, history_of};
+ghost use Rattle.session_meaning.specs.Session.{IsAnswered, IsAnsweredOrStarved, Session, is_refused};
 ghost use Rattle.session_meaning.specs.Stops.{StandsForLast, StandsWithin, unsure_spans};
+ghost use Rattle.session_meaning.specs.Upkeep.{IsClosed};
 
 /// What is answered by calls of a store that lists no block is answered as the history says: the machine of the store,
 /// with its blocks, logs and pins, tells no more than the pushes do.
@@ -99,4 +107,30 @@ pub fn comes_to_an_end()
         → IsRunOf words o old new → GoesWell c old new
         → (before : List ℕ) → old.taken ≡ Some before → list_any is_refused o.items ≡ false
         → HasRoomFor o.items o.first.machine → (o.ending ≡ Answered) ⊎ (o.ending ≡ Starved) }
+{}
+
+/// What a flush makes of the store.
+pub fn flushes_have_their_causes()
+    // The calls of a round make of the store what a flush does.
+    ensures by_calls { (calls : List Call) (round : Round) (before after : At) → IsFlushRound calls round
+        → CallsLead before calls after → IsFlushed before round after }
+    // Refused, it has the cause that it is told.
+    ensures refused { (before after : At) (why : Cause) → IsClosed before.machine
+        → IsFlushed before (IsRefused why) after → HasFlushCause why before after }
+    // A flush of an empty head, in a store that writes, is told just that.
+    ensures empty { (before after : At) (round : Round) → before.machine.read_only ≡ None → IsClosed before.machine
+        → length before.machine.state.head ≡ 0 → IsFlushed before round after → round ≡ Nothing }
+    // And where it is told that, the head was empty, and the store is as it was.
+    ensures nothing { (before after : At) → IsFlushed before Nothing after
+        → (length before.machine.state.head ≡ 0) × IsStill before after }
+    // A block that is listed holds the first occurrences of the rows that waited first, and it is told how many these are.
+    ensures listed { (before after : At) (blocks rows : ℕ) → IsFlushed before (Did blocks rows) after
+        → HasListed before.machine blocks rows after.machine }
+    // Without faults, in a store that writes and has file numbers left, it is done or memory was wanted.
+    ensures well { (before after : At) (round : Round) → (Rose before.faults after.faults → ⊥)
+        → before.machine.read_only ≡ None → IsClosed before.machine → before.machine.state.next_file < 4294967294
+        → IsFlushed before round after → IsDoneOrStarved round }
+    // It leaves no flush open in a store that writes, and the history as it was.
+    ensures kept { (before after : At) (round : Round) → IsClosed before.machine → IsFlushed before round after
+        → IsClosed after.machine × (history_of after ≡ history_of before) }
 {}

@@ -11,6 +11,6 @@ mod laws;
 pub use ending::Ending;
 pub use laws::{
     accepted_pushes_are_stored, calls_answer_as_the_history_says, comes_to_an_end,
-    pushes_have_their_causes, replies_tell_the_history, sessions_keep_the_store,
-    what_is_stored_is_a_base,
+    flushes_have_their_causes, pushes_have_their_causes, replies_tell_the_history,
+    sessions_keep_the_store, what_is_stored_is_a_base,
 };

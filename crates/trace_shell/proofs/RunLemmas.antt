@@ -24,7 +24,7 @@ use Rattle.session_meaning.specs.declared.ending.Ending.{Ending}
 use Rattle.session_meaning.specs.declared.ending.Ending.TheVariants.{Answered, BadWords, NotOpened, NotStore, ReadFault, Refused, Spent, Starved, WriteFault}
 use Rattle.session_meaning.specs.Asked.{after_moment}
 use Rattle.session_meaning.specs.Runs.{Does, DoesInStore, Edges, FitsWords, HasAnswered, HasCause, HasRun, IsNoStore, IsPastOpening, IsRunOf, Outcome, told_bytes}
-use Rattle.session_meaning.specs.Session.{At}
+use Rattle.session_meaning.specs.At.{At}
 use Rattle.session_meaning.specs.Statuses.{status_of}
 use Rattle.session_meaning.specs.Stops.{Recovers}
 use Rattle.trace_shell.specs.Turn.{CameOver, HasDone, IsRefusedStore}
