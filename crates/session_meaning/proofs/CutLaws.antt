@@ -42,11 +42,11 @@ moved_room goes m moved are = record {
   writes = refl;
   history = refl;
   held =
-    let joined = length-append m.state.head moved in
-    let went = length_permutation (live_rows (filter goes m.state.live)) moved are.rows in
-    let rows : length (live_rows (filter goes m.state.live)) ≡ length (filter goes m.state.live) = length-map (filter goes m.state.live) (λ (entry : LiveRow). entry.row) in
-    let parts = length-filter_both goes (λ entry. not (goes entry)) (λ x. refl) m.state.live in
-    omega (arith, joined, went, rows, parts);
+      let joined = length-append m.state.head moved in
+      let went = length_permutation (live_rows (filter goes m.state.live)) moved are.rows in
+      let rows : length (live_rows (filter goes m.state.live)) ≡ length (filter goes m.state.live) = length-map (filter goes m.state.live) (λ (entry : LiveRow). entry.row) in
+      let parts = length-filter_both goes (λ entry. not (goes entry)) (λ x. refl) m.state.live in
+      omega (arith, joined, went, rows, parts);
   files = omega arith;
   closed = λ closed. closed;
 }

@@ -35,10 +35,10 @@ by_ending (NotStore file at) b w r n x s = absurd (x file at refl)
 by_ending Spent b w r n x s = absurd (s refl)
 
 -- words that ask something aren't told to be faulty
-not_bad : (words : List (List ℕ)) (c : Command) (o : Outcome) (old new : Edges) → Spells words c → IsRunOf words o old new → o.ending ≡ BadWords → ⊥
-not_bad words c o old new s run = subst (λ (k : Kinds). FitsWords k o.ending) (spelled_clean words c s) run.words_fit
+not_bad : (sure : Bool) (words : List (List ℕ)) (c : Command) (o : Outcome) (old new : Edges) → Spells words c → IsRunOf sure words o old new → o.ending ≡ BadWords → ⊥
+not_bad sure words c o old new s run = subst (λ (k : Kinds). FitsWords k o.ending) (spelled_clean words c s) run.words_fit
 
-module _ (words : List (List ℕ)) (o : Outcome) (old new : Edges) (run : IsRunOf words o old new) where
+module _ (sure : Bool) (words : List (List ℕ)) (o : Outcome) (old new : Edges) (run : IsRunOf sure words o old new) where
   caused : (e : Ending) → o.ending ≡ e → HasCause e old new
   caused e is = subst (λ (k : Ending). HasCause k old new) is run.cause
 
@@ -51,7 +51,7 @@ module _ (words : List (List ℕ)) (o : Outcome) (old new : Edges) (run : IsRunO
 
   pub run_ends : (c : Command) → Spells words c → GoesWell c old new → ComesToItsEnd o.ending
   run_ends session s well =
-      by_ending o.ending (not_bad words session o old new s run)
+      by_ending o.ending (not_bad sure words session o old new s run)
       (λ is. well.1 (caused WriteFault is))
       (λ is. well.2 (caused ReadFault is))
       (opens well.0) (is_store well.0)
@@ -60,7 +60,7 @@ module _ (words : List (List ℕ)) (o : Outcome) (old new : Edges) (run : IsRunO
       let less = well.5 in
       absurd (omega (arith, most, less)))
   run_ends (Alone line) s well =
-      by_ending o.ending (not_bad words (Alone line) o old new s run)
+      by_ending o.ending (not_bad sure words (Alone line) o old new s run)
       (λ is. well.1 (caused WriteFault is))
       (λ is. without_source ReadFault is (λ n. n) (λ u. u))
       (opens well.0) (is_store well.0)
@@ -108,7 +108,7 @@ module _ (words : List (List ℕ)) (o : Outcome) (old new : Edges) (run : IsRunO
     where
       never : o.ending ≡ Refused → ⊥
       never e = elim (run.does c s) [
-        | inl did ↦ end_plain o.replies (replies_plain o.first o.last o.items o.replies old.disk_faults new.disk_faults run.session did.1.first_faults did.1.last_faults (store_well c well).4 room none) (refused_in c well before told did.3 e)
+        | inl did ↦ end_plain o.replies (replies_plain sure o.first o.last o.items o.replies old.disk_faults new.disk_faults run.session did.1.first_faults did.1.last_faults (store_well c well).4 room none) (refused_in c well before told did.3 e)
         | inr not ↦ subst (λ (k : Ending). EndsUnopened k old new.taken) e not.1.ends
       ]
 

@@ -97,25 +97,28 @@ PushesNothing _ = ⊤
 abbrev pub IsKept : (Machine → Type 0) → Type 0
 IsKept P = (f g : ℕ) (m m' : Machine) (e : event) (r : reply) → PushesNothing e → Step f g m e r m' → P m → P m'
 
-module _ (P : Machine → Type 0) (keeps : IsKept P) where
-  by_step : (before after : At) (e : event) (r : reply) → PushesNothing e → IsStep before e r after → P before.machine → P after.machine
-  by_step before after e r none step has = keeps before.faults after.faults before.machine after.machine e r none step.1 has
-
-  by_still : (before after : At) → IsStill before after → P before.machine → P after.machine
-  by_still before after still has = subst P (sym still.0) has
-
-  ended_keeps : (number file : ℕ) (rows : List Row) (at : At) (round : Round) (after : At) → IsEnded number file rows at round after → P at.machine → P after.machine
-  ended_keeps number file rows at round after (ended.listed firsts written are still step is) has = by_step written after (CommitFlush number (length firsts)) Fine tt step (by_still at written still has)
-  ended_keeps number file rows at round after (ended.unlisted firsts written are still step is) has = by_step written after (CommitFlush number (length firsts)) (reply.Refused why.Fault) tt step (by_still at written still has)
-  ended_keeps number file rows at round after (ended.unwritten bytes written failed still step gone is) has =
+-- What each of its events carries on a flush carries on.
+module _ (P : At → Type 0) (by_step : (before after : At) (e : event) (r : reply) → PushesNothing e → IsStep before e r after → P before → P after)
+    (by_still : (before after : At) → IsStill before after → P before → P after) where
+  ended_carries : (number file : ℕ) (rows : List Row) (at : At) (round : Round) (after : At) → IsEnded number file rows at round after → P at → P after
+  ended_carries number file rows at round after (ended.listed firsts written are still step is) has =
+      by_step written after (CommitFlush number (length firsts)) Fine tt step (by_still at written still has)
+  ended_carries number file rows at round after (ended.unlisted firsts written are still step is) has =
+      by_step written after (CommitFlush number (length firsts)) (reply.Refused why.Fault) tt step (by_still at written still has)
+  ended_carries number file rows at round after (ended.unwritten bytes written failed still step gone is) has =
       by_step failed after (DropFlush number) Fine tt gone (by_step written failed (WritePiece number file bytes) (reply.Refused why.Fault) tt step (by_still at written still has))
-  ended_keeps number file rows at round after (ended.starved gone is) has = by_step at after (DropFlush number) Fine tt gone has
+  ended_carries number file rows at round after (ended.starved gone is) has = by_step at after (DropFlush number) Fine tt gone has
 
-  pub flush_keeps : (before : At) (round : Round) (after : At) → IsFlushed before round after → P before.machine → P after.machine
-  flush_keeps before round after (flushed.nothing step is) has = by_step before after BeginFlush reply.Nothing tt step has
-  flush_keeps before round after (flushed.no_job w step is) has = by_step before after BeginFlush (reply.Refused (begin_refusal w)) tt step has
-  flush_keeps before round after (flushed.job number file rows at step ends) has =
-      ended_keeps number file rows at round after ends (by_step before at BeginFlush (Flushing number file rows) tt step has)
+  pub flush_carries : (before : At) (round : Round) (after : At) → IsFlushed before round after → P before → P after
+  flush_carries before round after (flushed.nothing step is) has = by_step before after BeginFlush reply.Nothing tt step has
+  flush_carries before round after (flushed.no_job w step is) has = by_step before after BeginFlush (reply.Refused (begin_refusal w)) tt step has
+  flush_carries before round after (flushed.job number file rows at step ends) has =
+      ended_carries number file rows at round after ends (by_step before at BeginFlush (Flushing number file rows) tt step has)
+
+pub flush_keeps : (P : Machine → Type 0) → IsKept P → (before : At) (round : Round) (after : At) → IsFlushed before round after → P before.machine → P after.machine
+flush_keeps P keeps =
+    flush_carries (λ at. P at.machine) (λ before after e r none step has. keeps before.faults after.faults before.machine after.machine e r none step.1 has)
+    (λ before after still has. subst P (sym still.0) has)
 
 no_push : (e : event) (r : reply) (h : History) → PushesNothing e → history_after e r h ≡ h
 no_push (Push spans moment) r h none = absurd none

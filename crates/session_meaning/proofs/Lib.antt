@@ -10,5 +10,7 @@ pub mod Told
 mod Kept
 mod PushCauses
 mod Room
+mod ReadOnly
+pub mod CoreSessions
 pub mod EndLaws
 pub mod Unsure

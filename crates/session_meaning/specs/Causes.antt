@@ -1,5 +1,5 @@
 -- Why a push, a flush or a query is refused.
-use Rattle.std.specs.Prelude.{◌≡◌, ⊤, ℕ, ◌+◌, ◌<◌, ◌≤◌, Some, length}
+use Rattle.std.specs.Prelude.{Bool, ◌≡◌, ⊤, ℕ, ◌+◌, ◌<◌, ◌≤◌, Some, length}
 use Rattle.span_types.specs.Faults.{Rose}
 use Rattle.session_text.specs.declared.refusal.Refusal.{Refusal}
 use Rattle.session_text.specs.declared.refusal.Refusal.TheVariants.{DiskFault, LiveFull, Memory, ReadOnly, StoreFull}
@@ -33,7 +33,7 @@ HasFlushCause cause.Memory before after = ⊤
 HasFlushCause _ before after = ⊥
 
 -- A query is refused for this only where that holds: a call of the disk failed in it; or, for memory, at any time.
-abbrev pub HasQueryCause : Type 0 → Refusal → At → At → Type 0
+abbrev pub HasQueryCause : Bool → Refusal → At → At → Type 0
 HasQueryCause told DiskFault before after = Rose before.faults after.faults
 HasQueryCause told Memory before after = ⊤
 HasQueryCause told _ before after = ⊥

@@ -175,11 +175,11 @@ FitsWords (fault ∷ faults) ending = (ending ≡ BadWords) ⊎ (ending ≡ Star
 -- ---- a run
 
 -- A run on these words between the edges as they were and as they are: what the words ask was done, what was asked was answered
--- in order from a store to a store, and the ending has its cause.
-pub record IsRunOf (words : List (List ℕ)) (o : Outcome) (old new : Edges) : Type 0 where
+-- in order from a store to a store, and the ending has its cause. `told` says that what the blocks of the store hold is told.
+pub record IsRunOf (told : Bool) (words : List (List ℕ)) (o : Outcome) (old new : Edges) : Type 0 where
   pub words_fit : FitsWords (fault_of words_app words) o.ending
   pub does : (c : Command) → Spells words c → Does c o old new
-  pub session : Session o.first o.items o.replies o.last
+  pub session : Session told o.first o.items o.replies o.last
   pub cause : HasCause o.ending old new
 
 -- ---- runs that come to their own end

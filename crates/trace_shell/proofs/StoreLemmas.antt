@@ -1,5 +1,5 @@
 -- What a run came to in a store that was opened, and what it left of it.
-use Rattle.std.proofs.Common.{◌≡◌, inl, inr, ⊎_elim, ℕ, ◌≤◌, List, [], Option, None, true, IsTrue, refl, sym, ◌∙◌, ap, subst}
+use Rattle.std.proofs.Common.{Bool, ◌≡◌, inl, inr, ⊎_elim, ℕ, ◌≤◌, List, [], Option, None, true, IsTrue, refl, sym, ◌∙◌, ap, subst}
 use Rattle.std.specs.Prelude.{IfSome}
 use Rattle.span_types.specs.declared.spans.Span.{Span}
 use Rattle.command_words.specs.Commands.{Command}
@@ -17,7 +17,7 @@ use Rattle.store_core.specs.Opening.{KeepsDisk, OpensAs, StoreBreaks}
 use Rattle.store_core.specs.Past.{StandsSince, StoodFor}
 use Rattle.store_core.specs.Port.{port_of, shown_by}
 use Rattle.store_core.specs.declared.store.Core.{Core}
-use Rattle.client_run.specs.CoreRuns.{AreSteps, unsure_after_calls}
+use Rattle.client_run.specs.CoreRuns.{unsure_after_calls}
 use Rattle.client_run.proofs.CallLemmas.{tells_kept}
 use Rattle.client_run.proofs.CoreLemmas.{unsure_stepped}
 use Rattle.session_meaning.specs.declared.ending.Ending.{Ending}
@@ -25,8 +25,8 @@ use Rattle.session_meaning.specs.Asked.{IsNextMoment, after_moment}
 use Rattle.session_meaning.specs.Progress.{HasAnsweredOver}
 use Rattle.session_meaning.specs.Pushes.{unsure_batch}
 use Rattle.session_meaning.specs.Runs.{Edges, HasCause, IsPastOpening, Outcome, told_bytes}
+use Rattle.session_meaning.specs.Session.{Session}
 use Rattle.session_meaning.specs.Stops.{Recovers}
-use Rattle.session_meaning.proofs.AnswerLaws.{session_means}
 use Rattle.session_meaning.proofs.Unsure.{items_unsure}
 use Rattle.trace_shell.specs.Turn.{CameOver, HasDone}
 use Rattle.trace_shell.proofs.RunLemmas.{if_told, in_store, past_is_no_fault}
@@ -59,12 +59,12 @@ module _ {D : Type 0} (g : Ghosts D) (disk : D) (moment : ℕ) (core later : Cor
   abbrev outcome : Outcome
   outcome = in_a_store g moment core later first last e items replies blamed
 
-  pub opened_done : (c : Command) (old new : Edges) → old.held ≡ told_bytes g disk → old.disk_faults ≡ g.faults disk → new.disk_faults ≡ g.faults later.disk
+  pub opened_done : (sure : Bool) (c : Command) (old new : Edges) → old.held ≡ told_bytes g disk → old.disk_faults ≡ g.faults disk → new.disk_faults ≡ g.faults later.disk
       → IsNextMoment old.moments moment → (IsTrue (g.tells disk) → (file at : ℕ) → StoreBreaks (g.held disk) file at → ⊥) → g.faults disk ≤ g.faults core.disk
-      → AreSteps (g.faults core.disk) first over.calls (g.faults later.disk) last
+      → Session sure outcome.first items replies outcome.last
       → CameOver c old.left old.taken (after_moment old.moments) new.left new.taken new.moments e items replies blamed
-      → IsPastOpening e → HasCause e old new → HasDone c outcome old new
-  opened_done c old new held old_faults new_faults next unbroken counted steps came past cause = record {
+      → IsPastOpening e → HasCause e old new → HasDone sure c outcome old new
+  opened_done sure c old new held old_faults new_faults next unbroken counted session came past cause = record {
     does = inl (
       refl,
       record {
@@ -80,7 +80,7 @@ module _ {D : Type 0} (g : Ghosts D) (disk : D) (moment : ℕ) (core later : Cor
       past,
       in_store c outcome old new came,
     );
-    session = session_means items replies over.calls outcome.first outcome.last opens.shows.agrees opens.no_blocks over.by_calls steps;
+    session = session;
     cause = cause;
     asked = past_is_no_fault e past;
   }

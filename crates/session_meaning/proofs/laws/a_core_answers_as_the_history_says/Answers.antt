@@ -1,0 +1,5 @@
+use Rattle.session_meaning.proofs.CoreSessions.{shown_means}
+use Rattle.session_meaning.proofs.laws.a_core_answers_as_the_history_says.Goals as goal
+
+pub returns-clause-shown : goal.returns-clause-shown
+returns-clause-shown g c = λ items replies over m shows. shown_means g.D.Device items replies c.args.old.now c.args.new.now m shows over
