@@ -1,5 +1,5 @@
 -- A run in which no call failed comes to its own end.
-use Rattle.std.proofs.Common.{◌≡◌, ◌⊎◌, inl, inr, ◌∙◌, ℕ, ◌+◌, ◌≤◌, Bool, true, false, List, Option, Some, None, ap, arith, length, length-append, refl, subst, if◌then◌else◌}
+use Rattle.std.proofs.Common.{◌≡◌, ◌⊎◌, inl, inr, ◌∙◌, ℕ, ◌+◌, ◌≤◌, Bool, true, false, List, Option, Some, None, ap, arith, length, length-append, refl, subst, sym, if◌then◌else◌}
 use Rattle.std.specs.Prelude.{IfSome}
 use Rattle.std.specs.List.{list_any}
 use Rattle.clap.specs.Words.{Kinds}
@@ -11,6 +11,7 @@ use Rattle.io_edges.specs.Reader.{TakesBytes}
 use Rattle.session_text.specs.declared.reply.Reply.{Reply}
 use Rattle.session_meaning.specs.declared.ending.Ending.{Ending}
 use Rattle.session_meaning.specs.declared.ending.Ending.TheVariants.{Answered, BadWords, NotOpened, NotStore, ReadFault, Refused, Spent, Starved, WriteFault}
+use Rattle.session_meaning.specs.Blocks.{first_file}
 use Rattle.session_meaning.specs.Pushes.{HasRoomFor}
 use Rattle.session_meaning.specs.Runs.{ComesToItsEnd, DoesInStore, Edges, EndsUnopened, FitsWords, GoesWell, HasAnswered, HasCause, HasItsStore, HasRun, IsNoStore, IsRunOf, NeedsNoSource, Outcome}
 use Rattle.session_meaning.specs.Session.{Ends, EndsAlone, end_of, is_for_memory, is_refusal, is_refused}
@@ -47,7 +48,10 @@ module _ (words : List (List ℕ)) (o : Outcome) (old new : Edges) (run : IsRunO
   opens store is = store.4 (caused NotOpened is)
 
   is_store : HasItsStore old new → (file at : ℕ) → o.ending ≡ NotStore file at → ⊥
-  is_store store file at is = (subst (λ (held : Option Image). IsNoStore file at held) store.1 (caused (NotStore file at) is)).1 store.2 store.3
+  is_store store file at is = elim (subst (λ (held : Option Image). IsNoStore file at held) store.1 (caused (NotStore file at) is)) [
+    | inl broken ↦ broken.1 store.2
+    | inr lists ↦ absurd (let bad : None ≡ Some file = sym (ap first_file (store.3 lists.list lists.there)) ∙ lists.its_file in cc)
+  ]
 
   pub run_ends : (c : Command) → Spells words c → GoesWell c old new → ComesToItsEnd o.ending
   run_ends session s well =

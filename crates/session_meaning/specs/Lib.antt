@@ -4,6 +4,7 @@ pub mod Session
 pub mod Pushes
 pub mod Causes
 pub mod Answering
+pub mod Blocks
 pub mod Runs
 pub mod Stops
 pub mod Progress

@@ -16,9 +16,10 @@ use Rattle.session_text.specs.Replies.{not_store_text}
 use Rattle.store_model.specs.History.{count_of}
 use Rattle.store_model.specs.Laws.{Agrees}
 use Rattle.store_images.specs.Stored.{IsSoundImage}
-use Rattle.store_core.specs.Opening.{BeginsEmpty, NamesNoBlock, StoreBreaks}
+use Rattle.store_core.specs.Opening.{BeginsEmpty, StoreBreaks}
 use Rattle.session_meaning.specs.declared.ending.Ending.{Ending}
 use Rattle.session_meaning.specs.declared.ending.Ending.TheVariants.{Answered, BadWords, NotOpened, NotStore, ReadFault, Refused, Spent, Starved, WriteFault}
+use Rattle.session_meaning.specs.Blocks.{NamesBlock, NamesNoBlock}
 use Rattle.session_meaning.specs.Asked.{AreAsked, AsksNext, IsNextMoment, after_lines, after_moment}
 use Rattle.session_meaning.specs.Session.{At, Ends, EndsAlone, Session, history_of}
 
@@ -77,9 +78,9 @@ pub record HasOpened (o : Outcome) (old new : Edges) : Type 0 where
   pub last_faults : o.last.faults ≡ new.disk_faults
 
 -- The disk's bytes, where it tells them, break first at this place of this file, and so are no store's; or they are one that
--- lists a block, and that is the first byte of the first one, since no block is read yet.
+-- lists a block, and that is the first byte of the first one, since queries read no block yet.
 abbrev pub IsNoStore : ℕ → ℕ → Option Image → Type 0
-IsNoStore file at held = IfSome held (λ image. StoreBreaks image file at × (IsSoundImage image → NamesNoBlock image → ⊥))
+IsNoStore file at held = IfSome held (λ image. (StoreBreaks image file at × (IsSoundImage image → ⊥)) ⊎ NamesBlock image file at)
 
 -- What stands written where the store wasn't opened: which of its bytes are no store's, or a first part of that; or nothing.
 abbrev pub EndsUnopened : Ending → Edges → Option (List ℕ) → Type 0

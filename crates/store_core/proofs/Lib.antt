@@ -23,6 +23,7 @@ mod BeginEvents
 mod PortEvents
 pub mod LogSteps
 mod LooseFiles
+mod ReadBlocks
 mod Revived
 mod LogLaws
 mod OpenedStates

@@ -8,6 +8,7 @@ pub mod Past
 pub mod New
 pub mod NewCore
 pub mod LogReading
+pub mod BlockReading
 pub mod Loose
 pub mod Opening
 pub mod Port

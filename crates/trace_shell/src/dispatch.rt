@@ -19,6 +19,7 @@ ghost use Rattle.session_meaning.specs.Stops.{Recovers};
 ghost use Rattle.traceql_types.specs.Makers.{RefusesOnly};
 ghost use Rattle.trace_shell.specs.Turn.{CameOver, HasDone, IsRefusedStore};
 
+use crate::opening::open_without_blocks;
 use crate::session::{one_line, session};
 use command_words::{Asked, WordsError, read_words};
 use disk_model::Device;
@@ -27,7 +28,7 @@ use session_meaning::Ending;
 use session_text::{Refusal, Reply, write_reply};
 use span_types::{Failed, Memory};
 use std::alloc::Global;
-use store_core::{Core, OpenError};
+use store_core::OpenError;
 use store_state::LookPort;
 use traceql_types::PatternMaker;
 
@@ -95,7 +96,7 @@ fn on_store<S: Source, K: Sink, D: Device, C: Clock, P: PatternMaker, G: Gate>(
     ensures alone { (line : List ℕ) → command_of asked ≡ Alone line → source.new ≡ source.old }
 {
     let moment = clock.now();
-    match Core::open_store(alloc, disk, moment) {
+    match open_without_blocks(alloc, disk, moment) {
         Ok(core) => {
             let mut core = core;
             let ending = do_asked(alloc, asked, source, sink, &mut core, clock, patterns, gate);

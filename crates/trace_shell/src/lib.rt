@@ -2,6 +2,7 @@
 #![tactic(auto)]
 
 mod dispatch;
+mod opening;
 mod program;
 mod real;
 mod session;
