@@ -37,7 +37,7 @@ may_kept h (Some spans) origin image keeps (inr s) = inr (keeps.stands (pushed h
 -- what the core stands for afterwards
 pub stands_kept : (told told' : Type 0) (held held' : Image) (may_leave may_leave' : Image → Type 0) (core core' : CoreState) (m m' : Machine) (before faults : ℕ) (e : Event) (r : Reply)
     → (told' → told) → StandsFor told held may_leave core m → Step before faults m e r m' → m'.history ≡ m.history → HasState core' m' → unsure_of core' ≡ unsure_of core
-    → (told → Within (Reached KeepsStored may_leave) may_leave') → (told → AreDescribed held' core'.infos m'.state.blocks)
+    → (told → Within (Reached KeepsStored may_leave) may_leave') → (told → AreDescribed held' core'.infos.items m'.state.blocks)
     → (told → core'.read_only ≡ None → IsSettled held' may_leave' core'.list m'.state.blocks (tail_of core'.segment) m'.history)
     → (core'.read_only ≡ None → core.read_only ≡ None) → (told → core'.read_only ≡ None → HasFreshSegment held' may_leave' core'.jobs)
     → StandsFor told' held' may_leave' core' m'
@@ -91,6 +91,6 @@ did_kept {D} g old disk state event reply telling run unsure same stands shows f
 }
 
 -- the blocks of a core whose list names none of the files that changed
-pub described_below : (held later : Image) (core : CoreState) (m : Machine) → HasState core m → SameBelow core.list.next_file held later → AreDescribed held core.infos m.state.blocks → AreDescribed later core.infos m.state.blocks
-described_below held later core m has same was = described_same held later core.infos m.state.blocks has.infos
+pub described_below : (held later : Image) (core : CoreState) (m : Machine) → HasState core m → SameBelow core.list.next_file held later → AreDescribed held core.infos.items m.state.blocks → AreDescribed later core.infos.items m.state.blocks
+described_below held later core m has same was = described_same held later core.infos.items m.state.blocks has.infos
     (λ b inside. same b.file (given_out core.list b.file has.rules (block_named core.list m.state.blocks b has.blocks inside)).1) was

@@ -64,7 +64,7 @@ stands_stepped told held may_leave core pins m u before faults e r s state step 
   sound = keeps_sound before faults m _ e r s.sound step;
   above = keeps_floor before faults m _ e r s.above step;
   now = s.now;
-  built = λ t. subst (AreDescribed held core.infos) (sym (ap (λ (v : State). v.blocks) state)) (s.built t);
+  built = λ t. subst (AreDescribed held core.infos.items) (sym (ap (λ (v : State). v.blocks) state)) (s.built t);
   settled = λ t free. subst (λ (b : _). IsSettled held may_leave core.list b (tail_of core.segment) m.history) (sym (ap (λ (v : State). v.blocks) state)) (s.settled t free);
   sure = s.sure;
   fresh = s.fresh;

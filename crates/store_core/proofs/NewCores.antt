@@ -63,14 +63,14 @@ new_stands told held may_leave core h new made empty = record {
   agrees = empty.no_rows;
   sound = new_sound h;
   above = record { waiting = λ row c. absurd (not_in_nil row c); next = omega arith };
-  built = λ t. none_described held core.infos (new.has h empty).infos;
+  built = λ t. none_described held core.infos.items (new.has h empty).infos;
   now = λ t image left. subst (λ (u : Option (List Span)). MayStandFor h u image) (sym new.sure) (settled_now held may_leave new_list [] new_tail h (made t h empty) image left);
   settled = λ t free. subst (λ (l : ListBody). IsSettled held may_leave l [] (tail_of core.segment) h) (sym new.list) (subst (λ (x : Tail). IsSettled held may_leave new_list [] x h) (sym new.tail) (made t h empty));
   sure = λ free. new.sure;
   fresh = λ t free. no_segment held may_leave core.jobs new.jobs.flush;
 }
 
-pub new_state_is : (core : CoreState) → core.list ≡ new_list → core.live.live ≡ [] → core.live.head ≡ [] → core.live.flushing ≡ [] → core.infos ≡ []
+pub new_state_is : (core : CoreState) → core.list ≡ new_list → core.live.live ≡ [] → core.live.head ≡ [] → core.live.flushing ≡ [] → core.infos.items ≡ []
     → core.segment.file ≡ 2 → core.segment.first ≡ 0 → core.segment.count ≡ 0 → core.segment.gate ≡ 1 → core.pins.items ≡ [] → core.read_only ≡ None → unsure_of core ≡ None → HasNoJobs core.jobs core.list.next_file → IsNewState core
 new_state_is core list live head flushing infos file first count gate pins writes sure jobs = record {
   has = λ h empty. record {

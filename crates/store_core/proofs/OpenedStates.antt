@@ -276,7 +276,7 @@ module _ (told : Type 0) (image : Image) (list : ListBody) (rules : MeetsRules l
             waiting = λ row c. (entry_numbers list.floor (drop (list.floor - first_number list) batches) row (subst (λ (r : List Row). Contains r row) (live_of_arrived moment rows) c)).0;
             next = (let high = low_floor in omega (arith, high, counts));
           };
-          built = λ t. none_described held core.infos (ap info_files state.infos);
+          built = λ t. none_described held core.infos.items (ap info_files state.infos);
           now = λ t image left. subst (λ (u : Option (List Span)). MayStandFor h u image) (sym state.sure) (settled_now held may_leave core.list [] (tail_of core.segment) h (settled t) image left);
           settled = λ t free. settled t;
           sure = λ free. state.sure;

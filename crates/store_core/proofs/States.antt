@@ -128,7 +128,7 @@ pub stands_pushed : (told told' : Type 0) (held held' : Image) (may_leave may_le
     → HasState (record core { live = live; segment = segment }) (after_pushed spans moment m)
     → (told → IsSettled held may_leave core.list m.state.blocks (tail_of core.segment) m.history
     → IsSettled held' may_leave' core.list m.state.blocks (tail_of segment) (pushed m.history spans))
-    → (told → AreDescribed held' core.infos m.state.blocks) → (told → HasFreshSegment held' may_leave' core.jobs)
+    → (told → AreDescribed held' core.infos.items m.state.blocks) → (told → HasFreshSegment held' may_leave' core.jobs)
     → StandsFor told' held' may_leave' (record core { live = live; segment = segment }) (after_pushed spans moment m)
 stands_pushed told told' held held' may_leave may_leave' core live segment m spans moment number before faults s known writes step has settles built fresh = record {
   has = has;
@@ -173,7 +173,7 @@ has_broken core live segment ready faults m same still has = record {
 pub stands_broken : (told told' : Type 0) (held held' : Image) (may_leave may_leave' : Image → Type 0) (core : CoreState) (live : LiveParts) (segment : Segment) (ready : ChunkParts) (faults : ℕ) (m : Machine)
     → SameParts core.live live → segment ≡ core.segment → StandsFor told held may_leave core m → (told' → told)
     → (told → (image : Image) → may_leave' image → MayStandFor m.history (Some ready.spans) image)
-    → (told → AreDescribed held' core.infos m.state.blocks)
+    → (told → AreDescribed held' core.infos.items m.state.blocks)
     → StandsFor told' held' may_leave' (record core { live = live; segment = segment; read_only = Some faults; unsure = Some ready }) (broken faults m)
 stands_broken told told' held held' may_leave may_leave' core live segment ready faults m same still s known now built = record {
   has = has_broken core live segment ready faults m same still s.has;
@@ -223,7 +223,7 @@ stands_by_rows told held may_leave core live m u before faults e r s has blocks 
   agrees = keeps_firsts before faults m _ e r s.agrees step;
   sound = keeps_sound before faults m _ e r s.sound step;
   above = keeps_floor before faults m _ e r s.above step;
-  built = λ t. subst (AreDescribed held core.infos) (sym blocks) (s.built t);
+  built = λ t. subst (AreDescribed held core.infos.items) (sym blocks) (s.built t);
   now = s.now;
   settled = λ t free. subst (λ (b : List Block). IsSettled held may_leave core.list b (tail_of core.segment) m.history) (sym blocks) (s.settled t free);
   sure = s.sure;

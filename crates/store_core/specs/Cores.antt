@@ -56,8 +56,8 @@ pub record HasState (core : CoreState) (m : Machine) : Type 0 where
   pub flush : ShowsFlush core.jobs.flush m.state.flush
   pub compaction : m.state.compaction ≡ None
   pub blocks : core.list.blocks ≡ map ref_of m.state.blocks
-  pub infos : info_files core.infos ≡ block_files m.state.blocks
-  pub listed : map listed_as core.infos ≡ core.list.blocks
+  pub infos : info_files core.infos.items ≡ block_files m.state.blocks
+  pub listed : map listed_as core.infos.items ≡ core.list.blocks
   pub rules : MeetsRules core.list
   pub segments : m.state.segments ≡ map segment_of core.list.segments
   pub last : (front : List SegmentRef) × (core.list.segments ≡ front ++ record { file = core.segment.file; first = core.segment.first } ∷ [])
@@ -78,7 +78,7 @@ pub record StandsFor (told : Type 0) (held : Image) (may_leave : Image → Type 
   pub sound : StateIsSound m.state
   pub above : IsAboveFloor m
   -- what the files of the listed blocks hold, also in a store that writes no more
-  pub built : told → AreDescribed held core.infos m.state.blocks
+  pub built : told → AreDescribed held core.infos.items m.state.blocks
   pub now : told → (image : Image) → may_leave image → MayStandFor m.history (unsure_of core) image
   pub settled : told → core.read_only ≡ None → IsSettled held may_leave core.list m.state.blocks (tail_of core.segment) m.history
   pub sure : core.read_only ≡ None → unsure_of core ≡ None

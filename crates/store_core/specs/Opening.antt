@@ -110,7 +110,7 @@ pub record IsOpenedState (list : ListBody) (batches : List (List Span)) (moment 
   pub live : state.live.live ≡ (opened_state list batches moment).live
   pub head : state.live.head ≡ []
   pub flushing : state.live.flushing ≡ []
-  pub infos : state.infos ≡ []
+  pub infos : state.infos.items ≡ []
   pub pins : state.pins.items ≡ []
   pub few : state.segment.first + state.segment.count ≤ 4294967295
   pub writes : state.read_only ≡ None

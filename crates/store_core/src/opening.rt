@@ -27,7 +27,6 @@ use crate::reading::read_log;
 use crate::reviving::revive;
 use crate::state::CoreState;
 use crate::store::Core;
-use block_info::Infos;
 use block_list::{ListBody, ListError, load};
 use disk_model::Device;
 use head_log::Segment;
@@ -122,7 +121,7 @@ fn read_store<D: Device>(
             Ok(CoreState {
                 live,
                 list,
-                infos: Infos::none(alloc),
+                infos: Vec::new(alloc),
                 segment,
                 jobs,
                 pins: Vec::new(alloc),
