@@ -15,7 +15,8 @@ use Rattle.block_list.specs.declared.body.BlockRef.{BlockRef}
 use Rattle.block_list.specs.declared.body.SegmentRef.{SegmentRef}
 use Rattle.block_list.specs.declared.body.ListBody.{ListBody}
 use Rattle.store_model.specs.History.{History, batch_rows, entry_rows, history_rows, count_of}
-use Rattle.store_model.specs.State.{State, Block, Compaction, Segment as ModelSegment, segment_files, block_rows, block_files, is_among}
+use Rattle.store_model.specs.State.{State, Block, Compaction, Segment as ModelSegment, segment_files, block_rows, block_files, is_among, live_rows}
+use Rattle.store_model.specs.After.{arrived}
 use Rattle.store_model.specs.RowSets.{OnePlace}
 use Rattle.store_model.specs.Laws.{AgreesOn}
 use Rattle.store_model.specs.Sound.{times, StateIsSound}
@@ -300,9 +301,10 @@ module _ (told : Type 0) (image : Image) (list : ListBody) (rules : MeetsRules l
         → (told' → AreDescribed held core.infos.items blocks) → StandsFor told' held may_leave core (opened_machine list blocks batches moment h)
     opened_stands told' held may_leave settled described =
         let rows : List Row = waiting_rows list batches in
+        let lead : block_rows blocks ++ [] ++ [] ≡ block_rows blocks = append-nil (block_rows blocks ++ []) ∙ append-nil (block_rows blocks) in
         record {
           has = opened_has;
-          agrees = subst (λ (r : List Row). AgreesOn (block_rows blocks ++ r) h) (sym (live_of_arrived moment rows)) agrees;
+          agrees = subst (λ (r : List Row). AgreesOn (r ++ live_rows (arrived moment rows)) h) (sym lead) (subst (λ (r : List Row). AgreesOn (block_rows blocks ++ r) h) (sym (live_of_arrived moment rows)) agrees);
           sound = opened_sound list blocks batches moment its rules;
           above = record {
             waiting = λ row c. (entry_numbers list.floor (drop (list.floor - first_number list) batches) row (subst (λ (r : List Row). Contains r row) (live_of_arrived moment rows) c)).0;

@@ -150,8 +150,8 @@ used_stays list rules file used loose = loose_apart list rules file file loose u
 pub used_by : (list : ListBody) (P : ℕ → Type 0) → ((x : SegmentRef) → Contains list.segments x → P x.file) → ((x : BlockRef) → Contains list.blocks x → P x.file)
     → (file : ℕ) → Contains (used_files list) file → P file
 used_by list P one other file c = elim (Contains-append_cases (map (λ (y : SegmentRef). y.file) list.segments) (map (λ (y : BlockRef). y.file) list.blocks) file c) [
-  | inl segment ↦ of_map (λ (y : SegmentRef). y.file) list.segments P one file segment
-  | inr listed ↦ of_map (λ (y : BlockRef). y.file) list.blocks P other file listed
+  | inl logs ↦ of_map (λ (y : SegmentRef). y.file) list.segments P one file logs
+  | inr built ↦ of_map (λ (y : BlockRef). y.file) list.blocks P other file built
 ]
 
 -- ---- where bytes break

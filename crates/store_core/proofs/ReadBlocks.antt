@@ -160,6 +160,9 @@ blocks_unbroken image refs file at whole broken =
 
 -- ---- an image has one list of blocks
 
+same_read : (read : Result ReadBlock ℕ) (a b : ReadBlock) → read ≡ Ok a → read ≡ Ok b → a ≡ b
+same_read read a b one other = let both : Ok a ≡ Ok b = sym one ∙ other in cc
+
 one_block : (image : Image) (a b : Block) → ref_of a ≡ ref_of b → BlockStands image a → BlockStands image b → a ≡ b
 one_block image a b same one other =
     let file : a.file ≡ b.file = ap (λ (r : BlockRef). r.file) same in
@@ -167,10 +170,9 @@ one_block image a b same one other =
     let size : a.size ≡ b.size = ap (λ (r : BlockRef). r.rows) same in
     let mine : ReadBlock = record { header = one.holds.header; rows = a.rows } in
     let its : ReadBlock = record { header = other.holds.header; rows = b.rows } in
-    let both : Ok mine ≡ Ok its =
-    sym (block_again (bytes_of image a.file) one.holds.header a.rows one.holds.parts) ∙ ap (λ (f : ℕ). block_at (bytes_of image f)) file
-    ∙ block_again (bytes_of image b.file) other.holds.header b.rows other.holds.parts in
-    let found : mine ≡ its = cc in
+    let found : mine ≡ its =
+    same_read (block_at (bytes_of image a.file)) mine its (block_again (bytes_of image a.file) one.holds.header a.rows one.holds.parts)
+    (subst (λ (f : ℕ). block_at (bytes_of image f) ≡ Ok its) (sym file) (block_again (bytes_of image b.file) other.holds.header b.rows other.holds.parts)) in
     let rows : a.rows ≡ b.rows = ap (λ (x : ReadBlock). x.rows) found in
     ap (λ (f : ℕ). record { file = f; level = a.level; size = a.size; rows = a.rows }) file
     ∙ ap (λ (l : ℕ). record { file = b.file; level = l; size = a.size; rows = a.rows }) level

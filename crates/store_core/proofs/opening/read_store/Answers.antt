@@ -50,8 +50,8 @@ pub returns-in-Err-empty_loose-clause-not_store : goal.returns-in-Err-empty_loos
 returns-in-Err-empty_loose-clause-not_store g c = λ told file at is.
     absurd (c.in-Err-empty_loose.ensures.a_store file at (handed_on _ c.in-Err-empty_loose.error (NotStore file at) refl is))
 
-pub returns-in-Ok-empty_loose-clause-stay : goal.returns-in-Ok-empty_loose-clause-stay
-returns-in-Ok-empty_loose-clause-stay g c = λ told x inside.
+pub returns-in-Ok-empty_loose-clause-blocks_still : goal.returns-in-Ok-empty_loose-clause-blocks_still
+returns-in-Ok-empty_loose-clause-blocks_still g c = λ told x inside.
     let d = g.D.Device in
     let list : ListBody = c.args.list in
     let rules = c.requires.rules in
@@ -71,7 +71,7 @@ returns-in-Ok-empty_loose-clause-settled g c = λ told blocks its stand h stands
     let untouched = c.read_listed.ensures.untouched in
     let told_mid : IsTrue (d.tells mid) = subst IsTrue (sym untouched.telling) told in
     let others = c.in-Ok-empty_loose.ensures.others told_mid in
-    let tail = tail_of c.in-Ok.segment in
+    let tail = tail_of c.in-Ok.read.1 in
     let one_image : (file : ℕ) → Contains (used_files list) file → OnlyBytes file (bytes_of (d.held disk) file) (d.may_leave mid) =
     used_by list (λ (file : ℕ). OnlyBytes file (bytes_of (d.held disk) file) (d.may_leave mid)) (c.in-Ok.ensures.segments_lie told) (c.in-Ok.ensures.blocks_lie told) in
     subst (λ (l : ListBody). IsSettled (d.held new) (d.may_leave new) l blocks tail h) (sym c.in-Ok-empty_loose.ensures.list)
