@@ -52,6 +52,7 @@ tells_less told told' held may_leave core m known s = record {
   settled = λ t writes. s.settled (known t) writes;
   sure = s.sure;
   fresh = λ t writes. s.fresh (known t) writes;
+  logged = λ t writes. s.logged (known t) writes;
 }
 
 new_is_empty : (h : History) → BeginsEmpty (new_machine h)
@@ -138,62 +139,68 @@ module _ {D : Type 0} (g : Ghosts D) where
     logged_before told = log_same (g.held mid) (g.held disk) list.segments (first_number list) batches (λ x c. sym (same told x.file (segment_low list rules x c)))
         (read_whole (IsTrue (g.tells mid)) (g.held mid) list.segments (first_number list) batches (tail_of core.state.segment) read (told_mid told))
 
-    stands_mid : IsTrue (g.tells disk) → (h : History) → ImageStandsFor (g.held disk) h → ImageStandsFor (g.held mid) h
-    stands_mid told h s = stands_moved (g.held disk) (g.held mid) list list.generation list.loose (λ file used. same told file (used_low list rules file used)) (there_mid told) (there told) h s
+    -- the core's disk holds the same in the segments
+    module _ (still : IsTrue (g.tells mid) → (x : SegmentRef) → Contains list.segments x → bytes_of (g.held core.disk) x.file ≡ bytes_of (g.held mid) x.file) where
+      logged_after : IsTrue (g.tells mid) → LogHolds (g.held core.disk) list.segments (first_number list) batches
+      logged_after told = log_same (g.held mid) (g.held core.disk) list.segments (first_number list) batches (still told)
+          (read_whole (IsTrue (g.tells mid)) (g.held mid) list.segments (first_number list) batches (tail_of core.state.segment) read told)
 
-    begins : IsTrue (g.tells disk) → (h : History) → BeginsAs (g.held disk) moment (opened_machine list batches moment h)
-    begins told h = record {
-      new = λ vacant. absurd (let bad : None ≡ Some list = one_list (g.held disk) None (Some list) vacant (there told) in cc);
-      found = λ other all others logged.
-          let e : list ≡ other = same_some list other (one_list (g.held disk) (Some list) (Some other) (there told) others) in
-          let mine : LogHolds (g.held disk) other.segments (first_number other) batches = subst (λ (o : ListBody). LogHolds (g.held disk) o.segments (first_number o) batches) e (logged_before told) in
-          ap (λ (o : ListBody). opened_state o batches moment) e ∙ ap (λ (b : List (List Span)). opened_state other b moment) (one_log (g.held disk) other.segments (first_number other) batches all mine logged);
-      writes = refl;
-    }
+      stands_mid : IsTrue (g.tells disk) → (h : History) → ImageStandsFor (g.held disk) h → ImageStandsFor (g.held mid) h
+      stands_mid told h s = stands_moved (g.held disk) (g.held mid) list list.generation list.loose (λ file used. same told file (used_low list rules file used)) (there_mid told) (there told) h s
 
-    stands_for : IsTrue (g.tells disk) → (h : History) → ImageStandsFor (g.held disk) h → CoreStandsFor g core (opened_machine list batches moment h)
-    stands_for told h s =
-        let f : IsFound (g.held disk) list batches h = found (g.held disk) list batches h none (there told) (logged_before told) s in
-        opened_stands (IsTrue (g.tells mid)) (g.held mid) list rules none batches core.state read moment state h (agrees_waiting list rules batches h f.agrees f.store.floored) f.counts
-        (IsTrue (g.tells core.disk)) (g.held core.disk) (g.may_leave core.disk) (λ t. settled (told_mid told) h (stands_mid told h s))
+      begins : IsTrue (g.tells disk) → (h : History) → BeginsAs (g.held disk) moment (opened_machine list batches moment h)
+      begins told h = record {
+        new = λ vacant. absurd (let bad : None ≡ Some list = one_list (g.held disk) None (Some list) vacant (there told) in cc);
+        found = λ other all others logged.
+            let e : list ≡ other = same_some list other (one_list (g.held disk) (Some list) (Some other) (there told) others) in
+            let mine : LogHolds (g.held disk) other.segments (first_number other) batches = subst (λ (o : ListBody). LogHolds (g.held disk) o.segments (first_number o) batches) e (logged_before told) in
+            ap (λ (o : ListBody). opened_state o batches moment) e ∙ ap (λ (b : List (List Span)). opened_state other b moment) (one_log (g.held disk) other.segments (first_number other) batches all mine logged);
+        writes = refl;
+      }
 
-    agrees_first : AgreesOn (waiting_rows list batches) (base_of list batches)
-    agrees_first = agrees_base list batches rules.from_floor (low_floor (IsTrue (g.tells mid)) (g.held mid) list rules none batches core.state read)
+      stands_for : IsTrue (g.tells disk) → (h : History) → ImageStandsFor (g.held disk) h → CoreStandsFor g core (opened_machine list batches moment h)
+      stands_for told h s =
+          let f : IsFound (g.held disk) list batches h = found (g.held disk) list batches h none (there told) (logged_before told) s in
+          opened_stands (IsTrue (g.tells mid)) (g.held mid) list rules none batches core.state read moment state h (agrees_waiting list rules batches h f.agrees f.store.floored) f.counts
+          (IsTrue (g.tells core.disk)) (g.held core.disk) (g.may_leave core.disk) (λ t. settled (told_mid told) h (stands_mid told h s)) (λ t. logged_after (told_mid told))
 
-    -- where nothing is told
-    by_memory : (told : Type 0) → (told → ⊥) → StandsFor told (g.held core.disk) (g.may_leave core.disk) core.state (opened_machine list batches moment (base_of list batches))
-    by_memory told never = opened_stands (IsTrue (g.tells mid)) (g.held mid) list rules none batches core.state read moment state (base_of list batches) agrees_first
-        (let count : count_of (base_of list batches) ≡ first_number list + length batches = omega arith in count)
-        told (g.held core.disk) (g.may_leave core.disk) (λ t. absurd (never t))
+      agrees_first : AgreesOn (waiting_rows list batches) (base_of list batches)
+      agrees_first = agrees_base list batches rules.from_floor (low_floor (IsTrue (g.tells mid)) (g.held mid) list rules none batches core.state read)
 
-    stored_first : IsTrue (g.tells disk) → IsSoundImage (g.held disk) → ImageStandsFor (g.held disk) (base_of list batches)
-    stored_first told sound =
-        let f : IsFound (g.held disk) list batches sound.0 = found (g.held disk) list batches sound.0 none (there told) (logged_before told) sound.1 in record {
-          rows = stored_rows [] (first_number list) batches;
-          stores = filled list [] batches f.store refl (let count : count_of (base_of list batches) ≡ first_number list + length batches = omega arith in count);
-          agrees = agrees_stored list batches sound.0 f.agrees f.store.floored f.counts;
-        }
+      -- where nothing is told
+      by_memory : (told : Type 0) → (told → ⊥) → StandsFor told (g.held core.disk) (g.may_leave core.disk) core.state (opened_machine list batches moment (base_of list batches))
+      by_memory told never = opened_stands (IsTrue (g.tells mid)) (g.held mid) list rules none batches core.state read moment state (base_of list batches) agrees_first
+          (let count : count_of (base_of list batches) ≡ first_number list + length batches = omega arith in count)
+          told (g.held core.disk) (g.may_leave core.disk) (λ t. absurd (never t)) (λ t. absurd (never t))
 
-    pub opened_existing : Opened g disk moment core
-    opened_existing = record {
-      stands = λ told h s. (opened_machine list batches moment h, stands_for told h s, refl, begins told h);
-      begins = (
-        opened_machine list batches moment (base_of list batches),
-        record {
-          shows = by_memory ⊥ (λ bad. bad);
-          empty = opened_is_empty list batches moment (base_of list batches);
-          base_alone = refl;
-          once = base_once list batches;
-          no_blocks = refl;
-          stands = λ sound. by_telling (g.tells disk) refl sound;
-          stored = λ told sound. (stored_first told sound, begins told (base_of list batches));
-        },
-      );
-    }
-      where
-        by_telling : (t : Bool) → g.tells disk ≡ t → (IsTrue (g.tells disk) → IsSoundImage (g.held disk)) → CoreStandsFor g core (opened_machine list batches moment (base_of list batches))
-        by_telling true e sound = let told : IsTrue (g.tells disk) = e in stands_for told (base_of list batches) (stored_first told (sound told))
-        by_telling false e sound = by_memory (IsTrue (g.tells core.disk)) (λ t. let bad : true ≡ false = sym t ∙ telling_core ∙ e in absurd cc)
+      stored_first : IsTrue (g.tells disk) → IsSoundImage (g.held disk) → ImageStandsFor (g.held disk) (base_of list batches)
+      stored_first told sound =
+          let f : IsFound (g.held disk) list batches sound.0 = found (g.held disk) list batches sound.0 none (there told) (logged_before told) sound.1 in record {
+            rows = stored_rows [] (first_number list) batches;
+            stores = filled list [] batches f.store refl (let count : count_of (base_of list batches) ≡ first_number list + length batches = omega arith in count);
+            agrees = agrees_stored list batches sound.0 f.agrees f.store.floored f.counts;
+          }
+
+      pub opened_existing : Opened g disk moment core
+      opened_existing = record {
+        stands = λ told h s. (opened_machine list batches moment h, stands_for told h s, refl, begins told h);
+        begins = (
+          opened_machine list batches moment (base_of list batches),
+          record {
+            shows = by_memory ⊥ (λ bad. bad);
+            empty = opened_is_empty list batches moment (base_of list batches);
+            base_alone = refl;
+            once = base_once list batches;
+            no_blocks = refl;
+            stands = λ sound. by_telling (g.tells disk) refl sound;
+            stored = λ told sound. (stored_first told sound, begins told (base_of list batches));
+          },
+        );
+      }
+        where
+          by_telling : (t : Bool) → g.tells disk ≡ t → (IsTrue (g.tells disk) → IsSoundImage (g.held disk)) → CoreStandsFor g core (opened_machine list batches moment (base_of list batches))
+          by_telling true e sound = let told : IsTrue (g.tells disk) = e in stands_for told (base_of list batches) (stored_first told (sound told))
+          by_telling false e sound = by_memory (IsTrue (g.tells core.disk)) (λ t. let bad : true ≡ false = sym t ∙ telling_core ∙ e in absurd cc)
 
 -- ---- answers that are handed on
 

@@ -104,6 +104,8 @@ fn read_store<D: Device>(
         × LogRead (IsTrue (D.tells disk.old)) (D.held disk.old) list.segments (first_number list) batches (tail_of state.segment)) }
     ensures settled { IsTrue (D.tells disk.old) → IfOk result (λ state. (h : History) → ImageStandsFor (D.held disk.old) h
         → IsSettled (D.held disk.new) (D.may_leave disk.new) state.list [] (tail_of state.segment) h) }
+    ensures still { IsTrue (D.tells disk.old) → OnOk result ((x : SegmentRef) → Contains list.segments x
+        → bytes_of (D.held disk.new) x.file ≡ bytes_of (D.held disk.old) x.file) }
     ensures kept { KeepsDisk D.Device.own disk.old disk.new }
     ensures ready { IsTrue (D.tells disk.old) → IfOk result (λ state. IsReady (D.held disk.new) (D.may_leave disk.new) (Some state.list)) }
     ensures left { IfErr result (λ error. error ≢ Fault → Untouched D.tells D.held D.may_leave D.moment D.left_since disk.old disk.new) }

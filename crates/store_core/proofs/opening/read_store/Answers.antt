@@ -79,3 +79,9 @@ pub returns-in-Err-empty_loose-clause-left : goal.returns-in-Err-empty_loose-cla
 returns-in-Err-empty_loose-clause-left g c = λ other.
     let d = g.D.Device in
     subst (λ x. Untouched d.tells d.held d.may_leave d.moment d.left_since c.args.disk.now x) (sym (c.in-Err-empty_loose.ensures.unchanged other)) c.read_rows.ensures.untouched
+
+pub returns-in-Ok-empty_loose-clause-still : goal.returns-in-Ok-empty_loose-clause-still
+returns-in-Ok-empty_loose-clause-still g c = λ told x inside.
+    let untouched = c.read_rows.ensures.untouched in
+    let others = c.in-Ok-empty_loose.ensures.others (subst IsTrue (sym untouched.telling) told) in
+    others.still x.file (segment_low c.args.list c.requires.rules x inside) (segment_stays c.args.list c.requires.rules x inside) ∙ untouched.same_bytes told x.file
