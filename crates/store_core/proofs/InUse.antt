@@ -24,11 +24,11 @@ contained_once n (x ∷ xs) c = elim (in_cons n x xs c) [
 
 once_contained : (n : ℕ) (xs : List ℕ) → 1 ≤ times n xs → Contains xs n
 once_contained n [] some = absurd (omega (arith, some))
-once_contained n (x ∷ xs) some = by_test (x == n) refl
+once_contained n (x ∷ xs) some = by_test (x == n) refl (λ more. once_contained n xs more)
   where
-    by_test : (t : Bool) → (x == n) ≡ t → Contains (x ∷ xs) n
-    by_test true e = subst (λ (k : ℕ). Contains (x ∷ xs) k) (same_number x n e) (at_front x xs)
-    by_test false e = behind n x xs (once_contained n xs (let is : times n (x ∷ xs) ≡ times n xs = rw e refl in omega (arith, is, some)))
+    by_test : (t : Bool) → (x == n) ≡ t → (1 ≤ times n xs → Contains xs n) → Contains (x ∷ xs) n
+    by_test true e there = subst (λ (k : ℕ). Contains (x ∷ xs) k) (same_number x n e) (at_front x xs)
+    by_test false e there = behind n x xs (there (let is : times n (x ∷ xs) ≡ times n xs = rw e (omega arith) in omega (arith, is, some)))
 
 -- ---- events
 
