@@ -6,7 +6,7 @@ use Rattle.std.proofs.lemmas.List.Elements.{Contains-append_cases}
 use Rattle.span_types.specs.declared.spans.Row.{Row}
 use Rattle.head_log.specs.declared.segment.Segment.{Segment}
 use Rattle.block_info.specs.InfoParts.{InfoParts}
-use Rattle.block_list.specs.Body.{MeetsRules}
+use Rattle.block_list.specs.Body.{MeetsRules, successor}
 use Rattle.block_list.specs.declared.body.BlockRef.{BlockRef}
 use Rattle.block_list.specs.declared.body.SegmentRef.{SegmentRef}
 use Rattle.block_list.specs.declared.body.ListBody.{ListBody}
@@ -58,6 +58,16 @@ least_above floor count (r ∷ rs) each low =
 abbrev pub next_last : FlushFiles → Machine → SegmentRef
 next_last files m = ref_to files.segment (count_of m.history)
 
+-- What was put into the next list: the block behind the others, the new segment behind those that stay, and the floor. The segments that the
+-- floor releases are loose.
+pub record NamesNext (core : CoreState) (m : Machine) (files : FlushFiles) (size : ℕ) (list : ListBody) : Type 0 where
+  pub blocks : list.blocks ≡ core.list.blocks ++ record { file = files.block; level = 0; rows = size } ∷ []
+  pub segments : map segment_of list.segments ≡ staying (floor_after (count_of m.history) m.state) (map segment_of (core.list.segments ++ next_last files m ∷ []))
+  pub loose : list.loose ≡ core.jobs.loose.items ++ released (floor_after (count_of m.history) m.state) (map segment_of (core.list.segments ++ next_last files m ∷ []))
+  pub floor : list.floor ≡ floor_after (count_of m.history) m.state
+  pub next_file : list.next_file ≡ core.jobs.next_file
+  pub generation : list.generation ≡ successor core.list.generation
+
 module _ (core : CoreState) (m : Machine) (has : HasState core m) where
   -- the floor never falls, and stands at the history's length at most
   pub floor_rises : IsAboveFloor m → core.list.floor ≤ floor_after (count_of m.history) m.state
@@ -96,20 +106,16 @@ module _ (core : CoreState) (m : Machine) (has : HasState core m) where
       ∙ sym (map-append segment_of core.list.segments (next_last files m ∷ []))
 
   -- what was put into the next list is what the machine has after the step
-  pub names_next : (files : FlushFiles) (job : Flush) (size : ℕ) (firsts : List Row) (list : ListBody) → AreFilesOf files job
-      → list.blocks ≡ core.list.blocks ++ record { file = files.block; level = 0; rows = size } ∷ []
-      → map segment_of list.segments ≡ staying (floor_after (count_of m.history) m.state) (map segment_of (core.list.segments ++ next_last files m ∷ []))
-      → list.loose ≡ core.jobs.loose.items ++ released (floor_after (count_of m.history) m.state) (map segment_of (core.list.segments ++ next_last files m ∷ []))
-      → list.floor ≡ floor_after (count_of m.history) m.state → list.next_file ≡ core.jobs.next_file → NamesState list (committed_state m job size firsts)
-  names_next files job size firsts list own blocks segments loose floor next_file = record {
+  pub names_next : (files : FlushFiles) (job : Flush) (size : ℕ) (firsts : List Row) (list : ListBody) → AreFilesOf files job → NamesNext core m files size list → NamesState list (committed_state m job size firsts)
+  names_next files job size firsts list own next = record {
     blocks = map-append ref_of m.state.blocks (new_block job size firsts ∷ []) ∙ ap (λ (l : List BlockRef). l ++ record { file = job.file; level = 0; rows = size } ∷ []) (sym has.blocks)
-        ∙ ap (λ (f : ℕ). core.list.blocks ++ record { file = f; level = 0; rows = size } ∷ []) (sym own.block) ∙ sym blocks;
-    segments = ap (staying (floor_after (count_of m.history) m.state)) (with_is files job own) ∙ sym segments;
-    floor = sym floor;
+        ∙ ap (λ (f : ℕ). core.list.blocks ++ record { file = f; level = 0; rows = size } ∷ []) (sym own.block) ∙ sym next.blocks;
+    segments = ap (staying (floor_after (count_of m.history) m.state)) (with_is files job own) ∙ sym next.segments;
+    floor = sym next.floor;
     loose = ap (λ (c : Option Compaction). ((committed_state m job size firsts).loose ++ []) ++ compaction_files c) has.compaction ∙ append-nil ((committed_state m job size firsts).loose ++ []) ∙ append-nil (committed_state m job size firsts).loose
         ∙ ap (λ (l : List ℕ). l ++ released (floor_after (count_of m.history) m.state) (with_segment (count_of m.history) job m.state)) has.loose
-        ∙ ap (λ (l : List ModelSegment). core.jobs.loose.items ++ released (floor_after (count_of m.history) m.state) l) (with_is files job own) ∙ sym loose;
-    next_file = has.next_file ∙ sym next_file;
+        ∙ ap (λ (l : List ModelSegment). core.jobs.loose.items ++ released (floor_after (count_of m.history) m.state) l) (with_is files job own) ∙ sym next.loose;
+    next_file = has.next_file ∙ sym next.next_file;
   }
 
   -- and it meets the rules

@@ -28,6 +28,7 @@ mod CommitStates
 mod CommitFacts
 mod CommitRuns
 mod CommitEvents
+mod CommitDone
 mod PortEvents
 pub mod LogSteps
 mod LooseFiles
