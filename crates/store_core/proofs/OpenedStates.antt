@@ -25,6 +25,7 @@ use Rattle.store_model.proofs.FirstsExist.{firsts_exist}
 use Rattle.store_model.proofs.HistoryLaws.{number_of, position_of}
 use Rattle.store_model.proofs.KeepsFirsts.{number_in}
 use Rattle.store_model.proofs.Numbers.{same_number, times-append}
+use Rattle.store_images.specs.Log.{LogHolds}
 use Rattle.store_images.specs.Stored.{MayStandFor, SameFirsts, stored_rows, first_number, ref_of}
 use Rattle.store_images.specs.Settled.{Tail, IsSettled}
 use Rattle.store_images.proofs.Lists.{not_in_nil, in_cons, in_map}
@@ -33,11 +34,16 @@ use Rattle.store_core.specs.declared.state.CoreState.{CoreState}
 use Rattle.store_state.specs.Given.{info_files}
 use Rattle.store_core.specs.Pins.{is_taken}
 use Rattle.store_core.specs.Cores.{AreDescribed, HasState, StandsFor, listed_as, segment_of, tail_of, unsure_of}
+use Rattle.store_core.specs.InUse.{AreInUse}
+use Rattle.store_core.specs.Waiting.{rows_outside, AreLogged}
 use Rattle.store_core.specs.Loose.{without_loose, list_after}
 use Rattle.store_core.specs.LogReading.{LogRead}
 use Rattle.store_core.specs.Opening.{opened_state, IsOpenedState}
 use Rattle.store_core.proofs.LooseFiles.{used_files, distinct_front, rules_without}
 use Rattle.store_core.proofs.ReadBlocks.{files_of_refs, same_block_files}
+use Rattle.store_core.proofs.InUse.{used_listed}
+use Rattle.store_core.proofs.LogLaws.{one_log}
+use Rattle.store_core.proofs.NextLists.{NamesState}
 use Rattle.store_core.proofs.LogSteps.{read_size}
 use Rattle.store_core.proofs.Revived.{live_of_arrived}
 use Rattle.store_core.specs.Jobs.{ShowsFlush}
@@ -52,6 +58,13 @@ without_by list P each = by_list list.loose
     by_list : (files : List ℕ) → P (list_after files list)
     by_list [] = each list.generation list.loose
     by_list (f ∷ fs) = each (successor list.generation) []
+
+no_loose : (list : ListBody) → (without_loose list).loose ≡ []
+no_loose list = by_list list.loose refl
+  where
+    by_list : (files : List ℕ) → list.loose ≡ files → (list_after files list).loose ≡ []
+    by_list [] is = is
+    by_list (f ∷ fs) is = refl
 
 rules_after : (list : ListBody) → MeetsRules list → (files : List ℕ) → MeetsRules (list_after files list)
 rules_after list rules [] = rules
@@ -273,6 +286,15 @@ module _ (told : Type 0) (image : Image) (list : ListBody) (rules : MeetsRules l
       omega (arith, top, size, most)
 
   module _ (moment : ℕ) (state : IsOpenedState list batches moment core) (h : History) (agrees : AgreesOn (kept_rows list blocks batches) h) (counts : count_of h ≡ first_number list + length batches) where
+    names : NamesState (without_loose list) (opened_state list blocks batches moment)
+    names = record {
+      blocks = without_by list (λ (l : ListBody). map ref_of blocks ≡ l.blocks) (λ generation loose. sym its);
+      segments = without_by list (λ (l : ListBody). map segment_of list.segments ≡ map segment_of l.segments) (λ generation loose. refl);
+      floor = without_by list (λ (l : ListBody). list.floor ≡ l.floor) (λ generation loose. refl);
+      loose = sym (no_loose list);
+      next_file = without_by list (λ (l : ListBody). list.next_file ≡ l.next_file) (λ generation loose. refl);
+    }
+
     pub opened_has : HasState core (opened_machine list blocks batches moment h)
     opened_has = record {
       count = counts ∙ sym (read_size told image list.segments (first_number list) batches (tail_of core.segment) read);
@@ -293,13 +315,23 @@ module _ (told : Type 0) (image : Image) (list : ListBody) (rules : MeetsRules l
       next_file = without_by list (λ (l : ListBody). list.next_file ≡ l.next_file) (λ generation loose. refl) ∙ sym (ap (λ (l : ListBody). l.next_file) state.listing) ∙ sym state.jobs.next_file_is;
       begun = sym state.jobs.begun;
       jobs = none_fit core.jobs core.list (let same = state.jobs.next_file_is in omega (arith, same)) state.jobs.flush;
+      used = subst (λ (l : ListBody). AreInUse l (opened_state list blocks batches moment)) (sym state.listing) (used_listed (without_loose list) (opened_state list blocks batches moment) names);
       pins = λ n. sym (ap (is_taken n) state.pins);
       read_only = sym state.writes;
     }
 
+    -- the rows that wait stand in the log, where the list's segments still stand for these batches
+    opened_logged : (held : Image) → LogHolds held list.segments (first_number list) batches → AreLogged held core.list (rows_outside (opened_state list blocks batches moment))
+    opened_logged held logged =
+        subst (λ (l : ListBody). AreLogged held l (rows_outside (opened_state list blocks batches moment))) (sym state.listing)
+        (without_by list (λ (l : ListBody). AreLogged held l (rows_outside (opened_state list blocks batches moment)))
+        (λ generation loose others holds x c.
+        subst (λ (b : List (List Span)). Contains (entry_rows (first_number list) b) x) (one_log held list.segments (first_number list) batches others logged holds)
+        (waiting_in list rules batches x (subst (λ (r : List Row). Contains r x) (live_of_arrived moment (waiting_rows list batches)) c))))
+
     pub opened_stands : (told' : Type 0) (held : Image) (may_leave : Image → Type 0) → (told' → IsSettled held may_leave core.list blocks (tail_of core.segment) h)
-        → (told' → AreDescribed held core.infos.items blocks) → StandsFor told' held may_leave core (opened_machine list blocks batches moment h)
-    opened_stands told' held may_leave settled described =
+        → (told' → AreDescribed held core.infos.items blocks) → (told' → LogHolds held list.segments (first_number list) batches) → StandsFor told' held may_leave core (opened_machine list blocks batches moment h)
+    opened_stands told' held may_leave settled described logged =
         let rows : List Row = waiting_rows list batches in
         let lead : block_rows blocks ++ [] ++ [] ≡ block_rows blocks = append-nil (block_rows blocks ++ []) ∙ append-nil (block_rows blocks) in
         record {
@@ -315,4 +347,5 @@ module _ (told : Type 0) (image : Image) (list : ListBody) (rules : MeetsRules l
           settled = λ t free. settled t;
           sure = λ free. state.sure;
           fresh = λ t free. no_segment held may_leave core.jobs state.jobs.flush;
+          logged = λ t free. opened_logged held (logged t);
         }

@@ -58,6 +58,7 @@ tells_less told told' held may_leave core m known s = record {
   settled = λ t writes. s.settled (known t) writes;
   sure = s.sure;
   fresh = λ t writes. s.fresh (known t) writes;
+  logged = λ t writes. s.logged (known t) writes;
 }
 
 new_is_empty : (h : History) → BeginsEmpty (new_machine h)
@@ -141,7 +142,8 @@ module _ {D : Type 0} (g : Ghosts D) where
       (state : IsOpenedState list batches moment core.state)
       (read : LogRead (IsTrue (g.tells mid)) (g.held mid) list.segments (first_number list) batches (tail_of core.state.segment))
       (built : BlocksRead (IsTrue (g.tells mid)) (g.held mid) list.blocks core.state.infos.items)
-      (stay : IsTrue (g.tells mid) → (x : BlockRef) → Contains list.blocks x → bytes_of (g.held core.disk) x.file ≡ bytes_of (g.held mid) x.file)
+      (still : IsTrue (g.tells mid) → (x : SegmentRef) → Contains list.segments x → bytes_of (g.held core.disk) x.file ≡ bytes_of (g.held mid) x.file)
+      (blocks_still : IsTrue (g.tells mid) → (x : BlockRef) → Contains list.blocks x → bytes_of (g.held core.disk) x.file ≡ bytes_of (g.held mid) x.file)
       (settled : IsTrue (g.tells mid) → (blocks : List Block) → list.blocks ≡ map ref_of blocks → BlocksStand (g.held mid) blocks → (h : History) → ImageStandsFor (g.held mid) h
       → IsSettled (g.held core.disk) (g.may_leave core.disk) core.state.list blocks (tail_of core.state.segment) h) where
     told_mid : IsTrue (g.tells disk) → IsTrue (g.tells mid)
@@ -151,6 +153,11 @@ module _ {D : Type 0} (g : Ghosts D) where
     pub logged_before : IsTrue (g.tells disk) → LogHolds (g.held disk) list.segments (first_number list) batches
     logged_before told = log_same (g.held mid) (g.held disk) list.segments (first_number list) batches (λ x c. sym (same told x.file (segment_low list rules x c)))
         (read_whole (IsTrue (g.tells mid)) (g.held mid) list.segments (first_number list) batches (tail_of core.state.segment) read (told_mid told))
+
+    -- the core's disk holds the same in the segments
+    logged_after : IsTrue (g.tells mid) → LogHolds (g.held core.disk) list.segments (first_number list) batches
+    logged_after told = log_same (g.held mid) (g.held core.disk) list.segments (first_number list) batches (still told)
+        (read_whole (IsTrue (g.tells mid)) (g.held mid) list.segments (first_number list) batches (tail_of core.state.segment) read told)
 
     stands_mid : IsTrue (g.tells disk) → (h : History) → ImageStandsFor (g.held disk) h → ImageStandsFor (g.held mid) h
     stands_mid told h s = stands_moved (g.held disk) (g.held mid) list list.generation list.loose (λ file used. same told file (used_low list rules file used)) (there_mid told) (there told) h s
@@ -169,7 +176,7 @@ module _ {D : Type 0} (g : Ghosts D) where
     blocks_now told =
         let f = there_blocks told in
         described_same (g.held mid) (g.held core.disk) core.state.infos.items f.blocks (same_block_files core.state.infos.items list.blocks f.blocks state.infos f.its)
-        (λ x c. stay (told_mid told) (ref_of x) (block_in_list list.blocks f.blocks x f.its c)) f.described
+        (λ x c. blocks_still (told_mid told) (ref_of x) (block_in_list list.blocks f.blocks x f.its c)) f.described
 
     -- ---- a history that the bytes stand for
 
@@ -197,6 +204,7 @@ module _ {D : Type 0} (g : Ghosts D) where
         let is : IsFound (g.held disk) list f.blocks batches h = its_history told h s in
         opened_stands (IsTrue (g.tells mid)) (g.held mid) list rules f.blocks f.its batches core.state read moment state h (agrees_kept list rules batches f.blocks h is.agrees is.store.floored) is.counts
         (IsTrue (g.tells core.disk)) (g.held core.disk) (g.may_leave core.disk) (λ t. settled (told_mid told) f.blocks f.its f.stand h (stands_mid told h s)) (λ t. blocks_now told)
+        (λ t. logged_after (told_mid told))
 
     -- ---- the history that is a base alone
 
@@ -244,7 +252,7 @@ module _ {D : Type 0} (g : Ghosts D) where
         opened_stands (IsTrue (g.tells mid)) (g.held mid) list rules unread its batches core.state read moment state (base_of list unread batches)
         (agrees_base list unread batches rules.from_floor low (told_rows core.state.infos.items))
         (let count : count_of (base_of list unread batches) ≡ first_number list + length batches = omega arith in count)
-        told (g.held core.disk) (g.may_leave core.disk) (λ t. absurd (never t)) (λ t. absurd (never t))
+        told (g.held core.disk) (g.may_leave core.disk) (λ t. absurd (never t)) (λ t. absurd (never t)) (λ t. absurd (never t))
 
     unfounded : (IsTrue (g.tells disk) → ⊥) → OpensAs g disk moment core (opened_machine list unread batches moment (base_of list unread batches))
     unfounded never = record {

@@ -1,6 +1,8 @@
 pub mod Pins
 pub mod Files
 pub mod Jobs
+pub mod Waiting
+pub mod InUse
 pub mod Cores
 pub mod Beginning
 pub mod Events

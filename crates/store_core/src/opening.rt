@@ -106,6 +106,8 @@ fn read_store<D: Device>(
     ensures blocks { IfOk result (λ state. BlocksRead (IsTrue (D.tells disk.old)) (D.held disk.old) list.blocks state.infos.items) }
     ensures state { IfOk result (λ state. (batches : List (List Span)) × IsOpenedState list batches moment state
         × LogRead (IsTrue (D.tells disk.old)) (D.held disk.old) list.segments (first_number list) batches (tail_of state.segment)) }
+    ensures still { IsTrue (D.tells disk.old) → OnOk result ((x : SegmentRef) → Contains list.segments x
+        → bytes_of (D.held disk.new) x.file ≡ bytes_of (D.held disk.old) x.file) }
     ensures blocks_still { IsTrue (D.tells disk.old) → OnOk result ((x : BlockRef) → Contains list.blocks x
         → bytes_of (D.held disk.new) x.file ≡ bytes_of (D.held disk.old) x.file) }
     ensures settled { IsTrue (D.tells disk.old) → IfOk result (λ state. (blocks : List Block) → list.blocks ≡ map ref_of blocks

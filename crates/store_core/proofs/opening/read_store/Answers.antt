@@ -12,8 +12,8 @@ use Rattle.store_images.proofs.Keeping.{keeps_same, keeps_then}
 use Rattle.store_core.specs.Cores.{tail_of}
 use Rattle.store_core.specs.declared.error.OpenError.TheVariants.{NotStore}
 use Rattle.store_core.proofs.LogSteps.{handed_on}
-use Rattle.store_core.proofs.LooseFiles.{used_files, used_low}
-use Rattle.store_core.proofs.OpeningSteps.{block_low, listed_used, settled_again, used_by, used_stays}
+use Rattle.store_core.proofs.LooseFiles.{segment_used, used_files, used_low}
+use Rattle.store_core.proofs.OpeningSteps.{block_low, listed_used, segment_low, settled_again, used_by, used_stays}
 use Rattle.store_core.proofs.opening.read_store.Goals as goal
 
 pub returns-in-Err-clause-not_store : goal.returns-in-Err-clause-not_store
@@ -90,3 +90,10 @@ pub returns-in-Err-empty_loose-clause-left : goal.returns-in-Err-empty_loose-cla
 returns-in-Err-empty_loose-clause-left g c = λ other.
     let d = g.D.Device in
     subst (λ x. Untouched d.tells d.held d.may_leave d.moment d.left_since c.args.disk.now x) (sym (c.in-Err-empty_loose.ensures.unchanged other)) c.read_listed.ensures.untouched
+
+pub returns-in-Ok-empty_loose-clause-still : goal.returns-in-Ok-empty_loose-clause-still
+returns-in-Ok-empty_loose-clause-still g c = λ told x inside.
+    let list : ListBody = c.args.list in
+    let untouched = c.read_listed.ensures.untouched in
+    let others = c.in-Ok-empty_loose.ensures.others (subst IsTrue (sym untouched.telling) told) in
+    others.still x.file (segment_low list c.requires.rules x inside) (used_stays list c.requires.rules x.file (segment_used list x inside)) ∙ untouched.same_bytes told x.file
