@@ -76,7 +76,7 @@ gives_rows sized bytes rows info has =
     let read = block_again bytes has.header rows has.parts in
     ap (λ (l : List ℕ). made_of (λ (b : Block). b.rows) (block_at l)) file ∙ ap (made_of (λ (b : Block). b.rows)) read
 
-listed : (bytes : List ℕ) (block : Block) (n : ℕ) → length block.rows ≡ n → block_at bytes ≡ Ok block → listed_at n bytes ≡ Ok block
+pub listed : (bytes : List ℕ) (block : Block) (n : ℕ) → length block.rows ≡ n → block_at bytes ≡ Ok block → listed_at n bytes ≡ Ok block
 unfolding listed_at
 listed bytes block n count read = (let test = passed (eqb (length block.rows) n) 0 block (eq-eqb (length block.rows) n count) in rw (read, test) refl)
 

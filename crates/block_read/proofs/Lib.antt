@@ -1,7 +1,7 @@
 mod StripesAgree
 mod StripesBoth
 pub mod BlockBoth
-mod BlockFiles
+pub mod BlockFiles
 mod StripesWalk
 mod Parts
 mod PageReads

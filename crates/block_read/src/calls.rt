@@ -1,9 +1,12 @@
 //! The calls that read a block.
 
-ghost use Rattle.std.specs.Prelude.{◌*◌, ◌≤◌, IfOk, IsTrue};
+ghost use Rattle.std.specs.Prelude.{◌≡◌, ◌*◌, ◌≤◌, IfOk, IsTrue, List};
 ghost use Rattle.std.specs.Int.{div_ceil};
 ghost use Rattle.disk_model.specs.Counts.{MakesCalls};
 ghost use Rattle.rows_by_trace.specs.Traces.{rows_of_trace};
+ghost use Rattle.span_fields.specs.Breaks.{Answers};
+ghost use Rattle.span_types.specs.declared.spans.Row.{Row};
+ghost use Rattle.block_format.specs.Blocks.{BlockHasInfo};
 ghost use Rattle.block_format.specs.Headers.{CanBeHeader};
 ghost use Rattle.block_read.specs.Answers.{AnswersOf, FailsByFault, StaysSame, made_of};
 ghost use Rattle.block_read.specs.BlockReadings.{block_at, info_read, listed_at};
@@ -98,7 +101,6 @@ pub fn trace_rows<P: Pages>(
 ///
 /// [`ReadError::NotBlock`] comes exactly where these bytes are no such block, at the first byte where they are
 /// malformed.
-#[tactic(auto, unfolding(crate::specs::BlockReadings::listed_at))]
 pub fn check_block<P: Pages>(
     alloc: Global,
     pages: &mut P,
@@ -114,9 +116,36 @@ pub fn check_block<P: Pages>(
     ensures cause { FailsByFault (P.faults pages.old) (P.faults pages.new) result }
     ensures reads { MakesCalls (div_ceil length 4096) (P.reads pages.old) (P.reads pages.new) result }
 {
-    let found = read_block(alloc, pages, block, length)?;
+    match file_bytes(alloc, pages, block, length) {
+        Ok(bytes) => match check_bytes(alloc, block, level, rows, bytes.as_slice()) {
+            Ok(info) => Ok(info),
+            Err(Break::At(at)) => Err(ReadError::NotBlock { file: block, at }),
+            Err(Break::Memory) => Err(ReadError::Memory),
+        },
+        Err(Unread::Fault) => Err(ReadError::Fault),
+        Err(Unread::Memory) => Err(ReadError::Memory),
+    }
+}
+
+/// The information of the block that these bytes are, by its file and its level, where its list entry says so many rows.
+///
+/// [`Break::At`] comes exactly where they are no such block, at the first byte where they are malformed.
+#[tactic(auto, unfolding(crate::specs::BlockReadings::listed_at))]
+pub fn check_bytes(
+    alloc: Global,
+    block: u32,
+    level: u8,
+    rows: u32,
+    bytes: &[u8],
+) -> Result<BlockInfo, Break>
+    ensures answers { Answers (λ x. x) result (made_of (info_read block level) (listed_at rows bytes.now)) }
+    ensures named { IfOk result (λ info. (info.file ≡ block) × (info.level ≡ level) × (info.rows ≡ rows)) }
+    // The bytes stand for rows that it describes.
+    ensures described { IfOk result (λ info. (found : List Row) × BlockHasInfo info bytes.now found) }
+{
+    let found = block_of(alloc, bytes)?;
     if found.rows.len() != rows as usize {
-        return Err(ReadError::NotBlock { file: block, at: 0 });
+        return Err(Break::At(0));
     }
     Ok(info_of(block, level, found.header, rows))
 }

@@ -44,10 +44,10 @@ module _ (sure : Bool) (words : List (List ℕ)) (o : Outcome) (old new : Edges)
 
   -- a store that is one is opened where no call of the disk fails
   opens : HasItsStore old new → o.ending ≡ NotOpened → ⊥
-  opens store is = store.4 (caused NotOpened is)
+  opens store is = store.3 (caused NotOpened is)
 
   is_store : HasItsStore old new → (file at : ℕ) → o.ending ≡ NotStore file at → ⊥
-  is_store store file at is = (subst (λ (held : Option Image). IsNoStore file at held) store.1 (caused (NotStore file at) is)).1 store.2 store.3
+  is_store store file at is = (subst (λ (held : Option Image). IsNoStore file at held) store.1 (caused (NotStore file at) is)).1 store.2
 
   pub run_ends : (c : Command) → Spells words c → GoesWell c old new → ComesToItsEnd o.ending
   run_ends session s well =
@@ -108,7 +108,7 @@ module _ (sure : Bool) (words : List (List ℕ)) (o : Outcome) (old new : Edges)
     where
       never : o.ending ≡ Refused → ⊥
       never e = elim (run.does c s) [
-        | inl did ↦ end_plain o.replies (replies_plain sure o.first o.last o.items o.replies old.disk_faults new.disk_faults run.session did.1.first_faults did.1.last_faults (store_well c well).4 room none) (refused_in c well before told did.3 e)
+        | inl did ↦ end_plain o.replies (replies_plain sure o.first o.last o.items o.replies old.disk_faults new.disk_faults run.session did.1.first_faults did.1.last_faults (store_well c well).3 room none) (refused_in c well before told did.3 e)
         | inr not ↦ subst (λ (k : Ending). EndsUnopened k old new.taken) e not.1.ends
       ]
 

@@ -16,7 +16,7 @@ use Rattle.session_text.specs.Replies.{not_store_text}
 use Rattle.store_model.specs.History.{count_of}
 use Rattle.store_model.specs.Laws.{Agrees}
 use Rattle.store_images.specs.Stored.{IsSoundImage}
-use Rattle.store_core.specs.Opening.{BeginsEmpty, NamesNoBlock, StoreBreaks}
+use Rattle.store_core.specs.Opening.{BeginsEmpty, StoreBreaks}
 use Rattle.session_meaning.specs.declared.ending.Ending.{Ending}
 use Rattle.session_meaning.specs.declared.ending.Ending.TheVariants.{Answered, BadWords, NotOpened, NotStore, ReadFault, Refused, Spent, Starved, WriteFault}
 use Rattle.session_meaning.specs.Asked.{AreAsked, AsksNext, IsNextMoment, after_lines, after_moment}
@@ -77,10 +77,9 @@ pub record HasOpened (o : Outcome) (old new : Edges) : Type 0 where
   pub first_faults : old.disk_faults ≤ o.first.faults
   pub last_faults : o.last.faults ≡ new.disk_faults
 
--- The disk's bytes, where it tells them, break first at this place of this file, and so are no store's; or they are one that
--- lists a block, and that is the first byte of the first one, since no block is read yet.
+-- The disk's bytes, where it tells them, break first at this place of this file, and so are no store's.
 abbrev pub IsNoStore : ℕ → ℕ → Option Image → Type 0
-IsNoStore file at held = IfSome held (λ image. StoreBreaks image file at × (IsSoundImage image → NamesNoBlock image → ⊥))
+IsNoStore file at held = IfSome held (λ image. StoreBreaks image file at × (IsSoundImage image → ⊥))
 
 -- What stands written where the store wasn't opened: which of its bytes are no store's, or a first part of that; or nothing.
 abbrev pub EndsUnopened : Ending → Edges → Option (List ℕ) → Type 0
@@ -184,14 +183,12 @@ pub record IsRunOf (told : Bool) (words : List (List ℕ)) (o : Outcome) (old ne
 
 -- ---- runs that come to their own end
 
--- The disk tells its bytes and they are those of a store that lists no block, and no call of it failed.
+-- The disk tells its bytes and they are those of a store, and no call of it failed.
 abbrev pub HasItsStore : Edges → Edges → Type 0
 HasItsStore old new =
-    (image : Image) × (old.held ≡ Some image) × IsSoundImage image × NamesNoBlock image
-    × (Rose old.disk_faults new.disk_faults → ⊥)
+    (image : Image) × (old.held ≡ Some image) × IsSoundImage image × (Rose old.disk_faults new.disk_faults → ⊥)
 
--- No call failed that the command makes, the disk holds a store that lists no block, and the source has fewer bytes than a run
--- takes.
+-- No call failed that the command makes, the disk holds a store, and the source has fewer bytes than a run takes.
 abbrev pub GoesWell : Command → Edges → Edges → Type 0
 GoesWell session old new =
     HasItsStore old new × (Rose old.sink_faults new.sink_faults → ⊥) × (Rose old.source_faults new.source_faults → ⊥)

@@ -38,6 +38,8 @@ use Rattle.store_core.specs.Events.{Did}
 use Rattle.store_core.specs.Beginning.{unless_rows}
 use Rattle.store_core.proofs.Apart.{keeps_below, settled_below}
 use Rattle.store_core.proofs.Kept.{stands_kept, did_kept, described_below}
+use Rattle.store_core.proofs.InUse.{used_begun}
+use Rattle.store_core.proofs.Logged.{logged_kept}
 use Rattle.store_core.proofs.NoJobs.{no_segment, none_fit}
 use Rattle.store_core.proofs.OpenJobs.{held_low}
 use Rattle.store_core.proofs.PushEvents.{OnlyNow, refused_is}
@@ -154,6 +156,7 @@ has_memory core live jobs m none same rows has = record {
   next_file = has.next_file ∙ sym same.next_file;
   begun = has.begun ∙ sym same.begun;
   jobs = none_fit jobs core.list (subst (λ (n : ℕ). core.list.next_file ≤ n) (sym same.next_file) has.jobs.given) (same.flush ∙ none);
+  used = has.used;
   pins = has.pins;
   read_only = has.read_only;
 }
@@ -168,7 +171,7 @@ did_lack {D} g only_now old live jobs free none same rows =
       m,
       stands_kept told told (g.held old.disk) (g.held old.disk) (g.may_leave old.disk) (g.may_leave old.disk) old.state (record old.state { live = live; jobs = jobs }) m m (g.faults old.disk) (g.faults old.disk) BeginFlush (Refused Memory)
           (λ t. t) s step refl (has_memory old.state live jobs m none same (rows m s.has) s.has) refl (λ t image left. (image, left, keeps_same image)) s.built s.settled (λ free. free)
-          (λ t free. no_segment (g.held old.disk) (g.may_leave old.disk) jobs (same.flush ∙ none)),
+          (λ t free. no_segment (g.held old.disk) (g.may_leave old.disk) jobs (same.flush ∙ none)) s.logged,
       refl,
       step,
     ))
@@ -225,6 +228,7 @@ has_begun core live jobs m files rows none below block segment fits begun takes 
             (let was = has.jobs.given in (omega (arith, was, block), omega (arith, was, segment)));
         room = subst (λ (k : Option OpenFlush). IfSome k (λ mine. vec_len jobs.loose + 2 ≤ vec_capacity jobs.loose)) (sym begun.flush) begun.room;
       };
+      used = used_begun core.list m.state (no_flush core m has none) has.used;
       pins = has.pins;
       read_only = has.read_only;
     }
@@ -269,6 +273,8 @@ module _ {D : Type 0} (g : Ghosts D) (old : Core D) (disk : D) (files : FlushFil
         (λ t free. settled_below (g.held old.disk) (g.may_leave old.disk) old.state.list (s.settled t writes).lies.ready (g.held disk) (g.may_leave disk) (same_held (tells t) m s.has) (run_below m s.has).now
         m.state.blocks (tail_of old.state.segment) m.history (s.settled t writes))
         (λ free. free) (λ t free. fresh t)
+        (λ t free. logged_kept (g.held old.disk) (g.held disk) old.state.list (g.faults old.disk) (g.faults disk) m (with_state (after_begin_flush m.state) m) BeginFlush (Flushing jobs.begun files.block rows)
+        s.has.rules (same_held (tells t) m s.has) step refl (s.logged t writes))
 
     its_step : (m : Machine) → HasState old.state m → m.state.begun + 3 ≤ m.state.next_file → Step (g.faults old.disk) (g.faults disk) m BeginFlush (Flushing jobs.begun files.block rows) (with_state (after_begin_flush m.state) m)
     its_step m has fits =
@@ -330,7 +336,8 @@ module _ {D : Type 0} (g : Ghosts D) (old : Core D) (disk : D) (files : FlushFil
         stands_kept (IsTrue (g.tells old.disk)) (IsTrue (g.tells disk)) (g.held old.disk) (g.held disk) (g.may_leave old.disk) (g.may_leave disk) old.state (record old.state { live = live; jobs = jobs; read_only = Some (g.faults disk) }) m (broken (g.faults disk) m)
             (g.faults old.disk) (g.faults disk) BeginFlush (Refused Fault) (λ t. subst IsTrue telling t) s (Breaks (free m s.has) refl refl rose refl) refl (has m s.has) refl
             (λ told. (run_keeps told m s).now) (λ told. described_below (g.held old.disk) (g.held disk) old.state m s.has (same_held told m s.has) (s.built told))
-            (λ told is. absurd (let bad : Some (g.faults disk) ≡ None = is in cc)) (λ is. absurd (let bad : Some (g.faults disk) ≡ None = is in cc)) (λ told is. absurd (let bad : Some (g.faults disk) ≡ None = is in cc)),
+            (λ told is. absurd (let bad : Some (g.faults disk) ≡ None = is in cc)) (λ is. absurd (let bad : Some (g.faults disk) ≡ None = is in cc)) (λ told is. absurd (let bad : Some (g.faults disk) ≡ None = is in cc))
+            (λ told is. absurd (let bad : Some (g.faults disk) ≡ None = is in cc)),
         refl,
         Breaks (free m s.has) refl refl rose refl,
       ))
@@ -338,7 +345,7 @@ module _ {D : Type 0} (g : Ghosts D) (old : Core D) (disk : D) (files : FlushFil
         broken (g.faults disk) m,
         stands_kept ⊥ ⊥ (g.held old.disk) (g.held disk) (g.may_leave old.disk) (g.may_leave disk) old.state (record old.state { live = live; jobs = jobs; read_only = Some (g.faults disk) }) m (broken (g.faults disk) m)
             (g.faults old.disk) (g.faults disk) BeginFlush (Refused Fault) (λ bad. bad) s (Breaks (free m s.has) refl refl rose refl) refl (has m s.has) refl
-            (λ bad. absurd bad) (λ bad. absurd bad) (λ bad. absurd bad) (λ is. absurd (let bad : Some (g.faults disk) ≡ None = is in cc)) (λ bad. absurd bad),
+            (λ bad. absurd bad) (λ bad. absurd bad) (λ bad. absurd bad) (λ is. absurd (let bad : Some (g.faults disk) ≡ None = is in cc)) (λ bad. absurd bad) (λ bad. absurd bad),
         Breaks (free m s.has) refl refl rose refl,
       ))
       (λ told m s hold is_open stays f among. stay told m s hold is_open f among)

@@ -52,6 +52,7 @@ has_cut core live m goes moved has head stay flushing = record {
   next_file = has.next_file;
   begun = has.begun;
   jobs = has.jobs;
+  used = has.used;
   pins = has.pins;
   read_only = has.read_only;
 }

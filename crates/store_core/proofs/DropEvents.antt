@@ -19,6 +19,8 @@ use Rattle.store_core.specs.declared.store.Core.{Core}
 use Rattle.store_core.specs.Cores.{HasState}
 use Rattle.store_core.specs.Events.{Did}
 use Rattle.store_core.proofs.Kept.{stands_kept}
+use Rattle.store_core.proofs.InUse.{used_dropped}
+use Rattle.store_core.proofs.Logged.{logged_still}
 use Rattle.store_core.proofs.NoJobs.{no_segment, none_fit}
 use Rattle.store_core.proofs.OpenJobs.{IsOpenHere}
 use Rattle.store_core.proofs.PushEvents.{OnlyNow}
@@ -56,6 +58,7 @@ has_dropped core live jobs m number file here has dropped gone back same = recor
   next_file = has.next_file ∙ sym dropped.next_file;
   begun = has.begun ∙ sym dropped.begun;
   jobs = none_fit jobs core.list (subst (λ (n : ℕ). core.list.next_file ≤ n) (sym dropped.next_file) has.jobs.given) dropped.gone;
+  used = used_dropped core.list m.state here.job here.is_open has.used;
   pins = has.pins;
   read_only = has.read_only;
 }
@@ -74,7 +77,8 @@ did_dropped {D} g only_now old live jobs number file here dropped gone back same
       stands_kept told told (g.held old.disk) (g.held old.disk) (g.may_leave old.disk) (g.may_leave old.disk) old.state (record old.state { live = live; jobs = jobs }) m m' (g.faults old.disk) (g.faults old.disk) (DropFlush number) Fine
           (λ t. t) s step refl (has_dropped old.state live jobs m number file mine s.has dropped gone back same) refl
           (λ t image left. (image, left, keeps_same image)) s.built s.settled (λ free. free)
-          (λ t free. no_segment (g.held old.disk) (g.may_leave old.disk) jobs dropped.gone),
+          (λ t free. no_segment (g.held old.disk) (g.may_leave old.disk) jobs dropped.gone)
+          (λ t free. logged_still (g.held old.disk) old.state.list (g.faults old.disk) (g.faults old.disk) m m' (DropFlush number) Fine step refl (s.logged t free)),
       refl,
       step,
     ))

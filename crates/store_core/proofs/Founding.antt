@@ -75,7 +75,7 @@ new_holds image listed empty = record {
 pub new_there : (image : Image) → ImageHoldsList image (Some new_list) → SegmentHolds 0 [] 1 (bytes_of image 2) → StoresNothing image
 new_there image listed empty = record {
   stands = λ h none. record { rows = []; stores = filled new_list [] [] (new_holds image listed empty) refl none.no_entries; agrees = none.no_rows };
-  only = λ h s. let f = found image new_list [] h refl listed (new_holds image listed empty).logged s in record { no_rows = f.agrees; no_entries = f.counts };
+  only = λ h s. let f = found image new_list [] [] h refl listed (new_holds image listed empty).built (new_holds image listed empty).logged s in record { no_rows = f.agrees; no_entries = f.counts };
   tidy = record {
     list = Some new_list;
     counts = listed;

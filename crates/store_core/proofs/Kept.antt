@@ -23,6 +23,7 @@ use Rattle.store_images.specs.Settled.{IsSettled}
 use Rattle.store_images.proofs.Keeping.{block_named, given_out}
 use Rattle.store_core.specs.Files.{SameBelow}
 use Rattle.store_core.specs.Jobs.{HasFreshSegment}
+use Rattle.store_core.specs.Waiting.{rows_outside, AreLogged}
 use Rattle.store_core.specs.declared.state.CoreState.{CoreState}
 use Rattle.store_core.specs.declared.store.Core.{Core}
 use Rattle.store_core.specs.Cores.{HasState, StandsFor, CoreStandsFor, CoreShows, AreDescribed, tail_of, unsure_of}
@@ -37,11 +38,12 @@ may_kept h (Some spans) origin image keeps (inr s) = inr (keeps.stands (pushed h
 -- what the core stands for afterwards
 pub stands_kept : (told told' : Type 0) (held held' : Image) (may_leave may_leave' : Image → Type 0) (core core' : CoreState) (m m' : Machine) (before faults : ℕ) (e : Event) (r : Reply)
     → (told' → told) → StandsFor told held may_leave core m → Step before faults m e r m' → m'.history ≡ m.history → HasState core' m' → unsure_of core' ≡ unsure_of core
-    → (told → Within (Reached KeepsStored may_leave) may_leave') → (told → AreDescribed held' core'.infos m'.state.blocks)
+    → (told → Within (Reached KeepsStored may_leave) may_leave') → (told → AreDescribed held' core'.infos.items m'.state.blocks)
     → (told → core'.read_only ≡ None → IsSettled held' may_leave' core'.list m'.state.blocks (tail_of core'.segment) m'.history)
     → (core'.read_only ≡ None → core.read_only ≡ None) → (told → core'.read_only ≡ None → HasFreshSegment held' may_leave' core'.jobs)
+    → (told → core'.read_only ≡ None → AreLogged held' core'.list (rows_outside m'.state))
     → StandsFor told' held' may_leave' core' m'
-stands_kept told told' held held' may_leave may_leave' core core' m m' before faults e r known s step history has unsure within built settled writes fresh = record {
+stands_kept told told' held held' may_leave may_leave' core core' m m' before faults e r known s step history has unsure within built settled writes fresh logged = record {
   has = has;
   agrees = keeps_firsts before faults m m' e r s.agrees step;
   sound = keeps_sound before faults m m' e r s.sound step;
@@ -54,6 +56,7 @@ stands_kept told told' held held' may_leave may_leave' core core' m m' before fa
   settled = λ t free. settled (known t) free;
   sure = λ free. unsure ∙ s.sure (writes free);
   fresh = λ t free. fresh (known t) free;
+  logged = λ t free. logged (known t) free;
 }
 
 pub did_kept : {D : Type 0} (g : Ghosts D) (old : Core D) (disk : D) (state : CoreState) (event : Event) (reply : Reply)
@@ -91,6 +94,6 @@ did_kept {D} g old disk state event reply telling run unsure same stands shows f
 }
 
 -- the blocks of a core whose list names none of the files that changed
-pub described_below : (held later : Image) (core : CoreState) (m : Machine) → HasState core m → SameBelow core.list.next_file held later → AreDescribed held core.infos m.state.blocks → AreDescribed later core.infos m.state.blocks
-described_below held later core m has same was = described_same held later core.infos m.state.blocks has.infos
+pub described_below : (held later : Image) (core : CoreState) (m : Machine) → HasState core m → SameBelow core.list.next_file held later → AreDescribed held core.infos.items m.state.blocks → AreDescribed later core.infos.items m.state.blocks
+described_below held later core m has same was = described_same held later core.infos.items m.state.blocks has.infos
     (λ b inside. same b.file (given_out core.list b.file has.rules (block_named core.list m.state.blocks b has.blocks inside)).1) was

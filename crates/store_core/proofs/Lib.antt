@@ -2,6 +2,7 @@ mod Quiet
 mod Described
 mod NoJobs
 mod States
+mod Logged
 mod HeldFiles
 mod OpenJobs
 mod Pushing
@@ -20,9 +21,18 @@ mod PageEvents
 mod PieceEvents
 mod DropEvents
 mod BeginEvents
+mod NextLists
+mod InUse
+mod CommitImages
+mod CommitStates
+mod CommitFacts
+mod CommitRuns
+mod CommitEvents
+mod CommitDone
 mod PortEvents
 pub mod LogSteps
 mod LooseFiles
+mod ReadBlocks
 mod Revived
 mod LogLaws
 mod OpenedStates

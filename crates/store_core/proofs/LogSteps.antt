@@ -19,7 +19,7 @@ use Rattle.store_images.specs.Log.LogHolds.{ended}
 use Rattle.store_images.specs.Log.{LogHolds}
 use Rattle.store_images.specs.Stored.{first_number}
 use Rattle.store_images.specs.Settled.{Tail}
-use Rattle.store_images.proofs.Logs.{log_with}
+use Rattle.store_images.proofs.Logs.{log_same, log_with}
 use Rattle.store_images.proofs.Lists.{in_cons, not_in_nil}
 use Rattle.store_core.specs.Cores.{tail_of}
 use Rattle.store_core.specs.declared.error.OpenError.{OpenError}
@@ -175,17 +175,17 @@ module _ (told : Type 0) (image : Image) where
         breaks = astray read.mine next rest (read.current t) refl (λ is. apart (omega (arith, is, counted)));
       }
 
--- ---- each segment has one image
+-- ---- each file has one image
 
-pub lie_on : (held : Image) (before after : Image → Type 0) (segments : List SegmentRef) (n : ℕ) (d : SegmentRef) → n < length segments → Within before after
-    → ((x : SegmentRef) → Contains (take n segments) x → OnlyBytes x.file (bytes_of held x.file) before)
-    → OnlyBytes (get_or segments n d).file (bytes_of held (get_or segments n d).file) after
-    → (x : SegmentRef) → Contains (take (n + 1) segments) x → OnlyBytes x.file (bytes_of held x.file) after
-lie_on held before after segments n d inside within lie one x c =
-    elim (Contains-append_cases (take n segments) (get_or segments n d ∷ []) x (subst (λ (l : List SegmentRef). Contains l x) (take_more segments n d inside) c)) [
+pub lie_on : {X : Type 0} (file_of : X → ℕ) (held : Image) (before after : Image → Type 0) (xs : List X) (n : ℕ) (d : X) → n < length xs → Within before after
+    → ((x : X) → Contains (take n xs) x → OnlyBytes (file_of x) (bytes_of held (file_of x)) before)
+    → OnlyBytes (file_of (get_or xs n d)) (bytes_of held (file_of (get_or xs n d))) after
+    → (x : X) → Contains (take (n + 1) xs) x → OnlyBytes (file_of x) (bytes_of held (file_of x)) after
+lie_on {X} file_of held before after xs n d inside within lie one x c =
+    elim (Contains-append_cases (take n xs) (get_or xs n d ∷ []) x (subst (λ (l : List X). Contains l x) (take_more xs n d inside) c)) [
       | inl early ↦ λ image left. lie x early image (within image left)
-      | inr here ↦ elim (in_cons x (get_or segments n d) [] here) [
-        | inl is ↦ subst (λ (s : SegmentRef). OnlyBytes s.file (bytes_of held s.file) after) is one
+      | inr here ↦ elim (in_cons x (get_or xs n d) [] here) [
+        | inl is ↦ subst (λ (y : X). OnlyBytes (file_of y) (bytes_of held (file_of y)) after) is one
         | inr bad ↦ absurd (not_in_nil x bad)
       ]
     ]
@@ -235,6 +235,20 @@ read_before told later bytes bytes' ref mine found known same read = record {
   count = read.count;
   few = read.few;
   holds = λ t. subst (λ (b : List ℕ). SegmentHolds ref.first mine found.gate b) (same t) (read.holds (known t));
+}
+
+pub log_read_before : (told later : Type 0) (held new : Image) (segments : List SegmentRef) (first : ℕ) (batches : List (List Span)) (tail : Tail) → (told → later) → (told → SameBytes held new)
+    → LogRead later new segments first batches tail → LogRead told held segments first batches tail
+log_read_before told later held new segments first batches tail known same read = record {
+  front = read.front;
+  before = read.before;
+  mine = read.mine;
+  all = read.all;
+  last = read.last;
+  counted = read.counted;
+  follows = read.follows;
+  earlier = λ t. log_same new held read.front first read.before (λ x c. sym (same t x.file)) (read.earlier (known t));
+  current = λ t. subst (λ (b : List ℕ). SegmentHolds tail.first read.mine tail.gate b) (same t tail.file) (read.current (known t));
 }
 
 -- ---- errors that are handed on

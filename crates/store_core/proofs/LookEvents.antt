@@ -37,7 +37,7 @@ did_held g only_now old held is =
     (λ told m stands. (m, stands, refl, Succeeds refl (ap Count (is ∙ held_is old.state m stands.has), refl)))
 
 pub did_looked : {D : Type 0} (g : Ghosts D) (only_now : OnlyNow g) (old : Core D) (pins : Vec Bool Global) (number as_of : ℕ) (files : List ℕ) (rows : List Row)
-    → ((m : Machine) → HasState old.state m → as_of ≡ count_of m.history) → files ≡ info_files old.state.infos
+    → ((m : Machine) → HasState old.state m → as_of ≡ count_of m.history) → files ≡ info_files old.state.infos.items
     → rows ≡ old.state.live.flushing ++ old.state.live.head ++ live_rows old.state.live.live
     → is_taken number old.state.pins.items ≡ false → ((other : ℕ) → is_taken other old.state.pins.items ≡ false → number ≤ other)
     → ((other : ℕ) → is_taken other pins.items ≡ (is_taken other old.state.pins.items || (number == other)))

@@ -24,6 +24,8 @@ use Rattle.store_images.specs.Stored.{ref_of}
 use Rattle.store_images.specs.Settled.{IsSettled}
 use Rattle.store_core.specs.Jobs.{ShowsFlush}
 use Rattle.store_core.specs.Cores.{HasState, StandsFor, AreDescribed, tail_of}
+use Rattle.store_core.specs.InUse.{AreInUse}
+use Rattle.store_core.proofs.Logged.{logged_still}
 use Rattle.store_core.proofs.PinNumbers.{among-more, among-less}
 
 -- a change of the pins alone
@@ -49,6 +51,7 @@ has_pins core pins m m' has history read_only state taken = record {
   next_file = ap (λ (u : State). u.next_file) state ∙ has.next_file;
   begun = ap (λ (u : State). u.begun) state ∙ has.begun;
   jobs = has.jobs;
+  used = subst (λ (v : State). AreInUse core.list v) (sym state) has.used;
   pins = taken;
   read_only = read_only ∙ has.read_only;
 }
@@ -64,10 +67,11 @@ stands_stepped told held may_leave core pins m u before faults e r s state step 
   sound = keeps_sound before faults m _ e r s.sound step;
   above = keeps_floor before faults m _ e r s.above step;
   now = s.now;
-  built = λ t. subst (AreDescribed held core.infos) (sym (ap (λ (v : State). v.blocks) state)) (s.built t);
+  built = λ t. subst (AreDescribed held core.infos.items) (sym (ap (λ (v : State). v.blocks) state)) (s.built t);
   settled = λ t free. subst (λ (b : _). IsSettled held may_leave core.list b (tail_of core.segment) m.history) (sym (ap (λ (v : State). v.blocks) state)) (s.settled t free);
   sure = s.sure;
   fresh = s.fresh;
+  logged = λ t free. logged_still held core.list before faults m (with_state u m) e r step refl (s.logged t free);
 }
 
 -- ---- a look

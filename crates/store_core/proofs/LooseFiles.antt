@@ -61,7 +61,7 @@ loose_apart body rules file other loose used = distinct_apart (used_files body) 
 pub segment_used : (body : ListBody) (x : SegmentRef) → Contains body.segments x → Contains (used_files body) x.file
 segment_used body x c = Contains-append_left (map (λ (y : SegmentRef). y.file) body.segments) _ x.file (in_map (λ (y : SegmentRef). y.file) body.segments x c)
 
-block_used : (body : ListBody) (blocks : List Block) (b : Block) → body.blocks ≡ map ref_of blocks → Contains blocks b → Contains (used_files body) b.file
+pub block_used : (body : ListBody) (blocks : List Block) (b : Block) → body.blocks ≡ map ref_of blocks → Contains blocks b → Contains (used_files body) b.file
 block_used body blocks b its c =
     Contains-append_right (map (λ (y : SegmentRef). y.file) body.segments) _ b.file (in_map (λ (y : BlockRef). y.file) body.blocks (ref_of b)
     (subst (λ (l : List BlockRef). Contains l (ref_of b)) (sym its) (in_map ref_of blocks b c)))

@@ -19,6 +19,8 @@ use Rattle.store_core.specs.Jobs.{ShowsFlush, HasNoJobs}
 use Rattle.store_core.specs.declared.jobs.OpenFlush.{OpenFlush}
 use Rattle.store_core.specs.New.{new_list, new_tail, IsEmptyHistory, IsNewStore}
 use Rattle.store_core.specs.NewCore.{new_machine, IsNewState}
+use Rattle.store_core.specs.InUse.{AreInUse}
+use Rattle.store_core.proofs.InUse.{used_listed}
 use Rattle.store_core.proofs.Described.{none_described}
 use Rattle.store_core.proofs.NoJobs.{no_segment, none_fit}
 use Rattle.store_core.proofs.States.{ref_to}
@@ -63,14 +65,15 @@ new_stands told held may_leave core h new made empty = record {
   agrees = empty.no_rows;
   sound = new_sound h;
   above = record { waiting = λ row c. absurd (not_in_nil row c); next = omega arith };
-  built = λ t. none_described held core.infos (new.has h empty).infos;
+  built = λ t. none_described held core.infos.items (new.has h empty).infos;
   now = λ t image left. subst (λ (u : Option (List Span)). MayStandFor h u image) (sym new.sure) (settled_now held may_leave new_list [] new_tail h (made t h empty) image left);
   settled = λ t free. subst (λ (l : ListBody). IsSettled held may_leave l [] (tail_of core.segment) h) (sym new.list) (subst (λ (x : Tail). IsSettled held may_leave new_list [] x h) (sym new.tail) (made t h empty));
   sure = λ free. new.sure;
   fresh = λ t free. no_segment held may_leave core.jobs new.jobs.flush;
+  logged = λ t free batches holds x c. absurd (not_in_nil x c);
 }
 
-pub new_state_is : (core : CoreState) → core.list ≡ new_list → core.live.live ≡ [] → core.live.head ≡ [] → core.live.flushing ≡ [] → core.infos ≡ []
+pub new_state_is : (core : CoreState) → core.list ≡ new_list → core.live.live ≡ [] → core.live.head ≡ [] → core.live.flushing ≡ [] → core.infos.items ≡ []
     → core.segment.file ≡ 2 → core.segment.first ≡ 0 → core.segment.count ≡ 0 → core.segment.gate ≡ 1 → core.pins.items ≡ [] → core.read_only ≡ None → unsure_of core ≡ None → HasNoJobs core.jobs core.list.next_file → IsNewState core
 new_state_is core list live head flushing infos file first count gate pins writes sure jobs = record {
   has = λ h empty. record {
@@ -92,6 +95,8 @@ new_state_is core list live head flushing infos file first count gate pins write
     next_file = sym (jobs.next_file_is ∙ ap (λ (l : ListBody). l.next_file) list);
     begun = sym jobs.begun;
     jobs = none_fit core.jobs core.list (let same = jobs.next_file_is in omega (arith, same)) jobs.flush;
+    used = subst (λ (l : ListBody). AreInUse l (new_machine h).state) (sym list)
+        (used_listed new_list (new_machine h).state (record { blocks = refl; segments = refl; floor = refl; loose = refl; next_file = refl }));
     pins = λ n. sym (ap (is_taken n) pins);
     read_only = sym writes;
   };

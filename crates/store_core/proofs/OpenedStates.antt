@@ -10,10 +10,13 @@ use Rattle.span_types.specs.First.{IsFirstOf, first_at}
 use Rattle.span_types.proofs.FirstLaws.{first_at-firsts, firsts_alike}
 use Rattle.disk_model.specs.Images.{Image, bytes_of}
 use Rattle.block_list.specs.Body.{MeetsRules, files_of, successor}
+use Rattle.block_info.specs.InfoParts.{InfoParts}
+use Rattle.block_list.specs.declared.body.BlockRef.{BlockRef}
 use Rattle.block_list.specs.declared.body.SegmentRef.{SegmentRef}
 use Rattle.block_list.specs.declared.body.ListBody.{ListBody}
 use Rattle.store_model.specs.History.{History, batch_rows, entry_rows, history_rows, count_of}
-use Rattle.store_model.specs.State.{State, Compaction, Segment as ModelSegment, segment_files, block_rows, is_among}
+use Rattle.store_model.specs.State.{State, Block, Compaction, Segment as ModelSegment, segment_files, block_rows, block_files, is_among, live_rows}
+use Rattle.store_model.specs.After.{arrived}
 use Rattle.store_model.specs.RowSets.{OnePlace}
 use Rattle.store_model.specs.Laws.{AgreesOn}
 use Rattle.store_model.specs.Sound.{times, StateIsSound}
@@ -22,19 +25,25 @@ use Rattle.store_model.proofs.FirstsExist.{firsts_exist}
 use Rattle.store_model.proofs.HistoryLaws.{number_of, position_of}
 use Rattle.store_model.proofs.KeepsFirsts.{number_in}
 use Rattle.store_model.proofs.Numbers.{same_number, times-append}
-use Rattle.store_images.specs.Stored.{MayStandFor, SameFirsts, stored_rows, first_number}
+use Rattle.store_images.specs.Log.{LogHolds}
+use Rattle.store_images.specs.Stored.{MayStandFor, SameFirsts, stored_rows, first_number, ref_of}
 use Rattle.store_images.specs.Settled.{Tail, IsSettled}
 use Rattle.store_images.proofs.Lists.{not_in_nil, in_cons, in_map}
 use Rattle.store_images.proofs.Storing.{settled_now, last_first}
 use Rattle.store_core.specs.declared.state.CoreState.{CoreState}
 use Rattle.store_state.specs.Given.{info_files}
 use Rattle.store_core.specs.Pins.{is_taken}
-use Rattle.store_core.specs.Cores.{HasState, StandsFor, listed_as, segment_of, tail_of, unsure_of}
+use Rattle.store_core.specs.Cores.{AreDescribed, HasState, StandsFor, listed_as, segment_of, tail_of, unsure_of}
+use Rattle.store_core.specs.InUse.{AreInUse}
+use Rattle.store_core.specs.Waiting.{rows_outside, AreLogged}
 use Rattle.store_core.specs.Loose.{without_loose, list_after}
 use Rattle.store_core.specs.LogReading.{LogRead}
 use Rattle.store_core.specs.Opening.{opened_state, IsOpenedState}
 use Rattle.store_core.proofs.LooseFiles.{used_files, distinct_front, rules_without}
-use Rattle.store_core.proofs.Described.{none_described}
+use Rattle.store_core.proofs.ReadBlocks.{files_of_refs, same_block_files}
+use Rattle.store_core.proofs.InUse.{used_listed}
+use Rattle.store_core.proofs.LogLaws.{one_log}
+use Rattle.store_core.proofs.NextLists.{NamesState}
 use Rattle.store_core.proofs.LogSteps.{read_size}
 use Rattle.store_core.proofs.Revived.{live_of_arrived}
 use Rattle.store_core.specs.Jobs.{ShowsFlush}
@@ -49,6 +58,13 @@ without_by list P each = by_list list.loose
     by_list : (files : List ℕ) → P (list_after files list)
     by_list [] = each list.generation list.loose
     by_list (f ∷ fs) = each (successor list.generation) []
+
+no_loose : (list : ListBody) → (without_loose list).loose ≡ []
+no_loose list = by_list list.loose refl
+  where
+    by_list : (files : List ℕ) → list.loose ≡ files → (list_after files list).loose ≡ []
+    by_list [] is = is
+    by_list (f ∷ fs) is = refl
 
 rules_after : (list : ListBody) → MeetsRules list → (files : List ℕ) → MeetsRules (list_after files list)
 rules_after list rules [] = rules
@@ -102,6 +118,10 @@ later_in n (suc k) (b ∷ bs) x c =
 abbrev pub waiting_rows : ListBody → List (List Span) → List Row
 waiting_rows list batches = entry_rows list.floor (drop (list.floor - first_number list) batches)
 
+-- the rows of the blocks, and those that wait
+abbrev pub kept_rows : ListBody → List Block → List (List Span) → List Row
+kept_rows list blocks batches = block_rows blocks ++ waiting_rows list batches
+
 module _ (list : ListBody) (rules : MeetsRules list) (batches : List (List Span)) where
   waiting_in : (x : Row) → Contains (waiting_rows list batches) x → Contains (entry_rows (first_number list) batches) x
   waiting_in x c =
@@ -109,57 +129,75 @@ module _ (list : ListBody) (rules : MeetsRules list) (batches : List (List Span)
       later_in (first_number list) (list.floor - first_number list) batches x
       (subst (λ (m : ℕ). Contains (entry_rows m (drop (list.floor - first_number list) batches)) x) (let e : list.floor ≡ first_number list + (list.floor - first_number list) = omega (arith, low) in e) c)
 
-  pub agrees_waiting : (h : History) → AgreesOn (stored_rows [] (first_number list) batches) h
-      → SameFirsts (stored_rows [] (first_number list) batches) (stored_rows [] list.floor (drop (list.floor - first_number list) batches))
-      → AgreesOn (waiting_rows list batches) h
-  agrees_waiting h agrees floored = record {
+  -- those of blocks are stored too
+  stored_in : (blocks : List Block) (x : Row) → Contains (kept_rows list blocks batches) x → Contains (stored_rows blocks (first_number list) batches) x
+  stored_in blocks x c = elim (Contains-append_cases (block_rows blocks) (waiting_rows list batches) x c) [
+    | inl built ↦ Contains-append_left (block_rows blocks) (entry_rows (first_number list) batches) x built
+    | inr waits ↦ Contains-append_right (block_rows blocks) (entry_rows (first_number list) batches) x (waiting_in x waits)
+  ]
+
+  pub agrees_kept : (blocks : List Block) (h : History) → AgreesOn (stored_rows blocks (first_number list) batches) h
+      → SameFirsts (stored_rows blocks (first_number list) batches) (stored_rows blocks list.floor (drop (list.floor - first_number list) batches))
+      → AgreesOn (kept_rows list blocks batches) h
+  agrees_kept blocks h agrees floored = record {
     firsts = λ k. sym (floored k) ∙ agrees.firsts k;
-    one = λ x y hx hy e. agrees.one x y (waiting_in x hx) (waiting_in y hy) e;
-    below = λ x hx. agrees.below x (waiting_in x hx);
+    one = λ x y hx hy e. agrees.one x y (stored_in blocks x hx) (stored_in blocks y hy) e;
+    below = λ x hx. agrees.below x (stored_in blocks x hx);
   }
 
 -- ---- the history that is there at first
 
--- the first occurrences of the rows that wait
-abbrev pub base_rows : ListBody → List (List Span) → List Row
-base_rows list batches = (firsts_exist (waiting_rows list batches)).0
+-- the first occurrences of the rows that are kept
+abbrev pub base_rows : ListBody → List Block → List (List Span) → List Row
+base_rows list blocks batches = (firsts_exist (kept_rows list blocks batches)).0
 
 -- it has them as its base, and as many entries as the log has
-abbrev pub base_of : ListBody → List (List Span) → History
-base_of list batches = record { base = base_rows list batches; start = first_number list + length batches; entries = [] }
+abbrev pub base_of : ListBody → List Block → List (List Span) → History
+base_of list blocks batches = record { base = base_rows list blocks batches; start = first_number list + length batches; entries = [] }
 
 -- First occurrences are their own.
 pub firsts_own : (rows firsts : List Row) → IsFirstOf rows firsts → IsFirstOf firsts firsts
 firsts_own rows firsts is = firsts_alike rows firsts firsts (λ k. sym (first_at-firsts rows firsts is k)) is
 
-pub base_once : (list : ListBody) (batches : List (List Span)) → IsFirstOf (base_rows list batches) (base_rows list batches)
-base_once list batches = let is = firsts_exist (waiting_rows list batches) in firsts_own (waiting_rows list batches) is.0 is.1
+module _ (list : ListBody) (blocks : List Block) (batches : List (List Span)) where
+  pub base_once : IsFirstOf (base_rows list blocks batches) (base_rows list blocks batches)
+  base_once = let is = firsts_exist (kept_rows list blocks batches) in firsts_own (kept_rows list blocks batches) is.0 is.1
 
-same_base : (list : ListBody) (batches : List (List Span)) (k : Key) → first_at k (waiting_rows list batches) ≡ first_at k (history_rows (base_of list batches))
-same_base list batches k =
-    let is = firsts_exist (waiting_rows list batches) in
-    sym (first_at-firsts (waiting_rows list batches) is.0 is.1 k) ∙ ap (first_at k) (sym (append-nil is.0))
+  same_base : (k : Key) → first_at k (kept_rows list blocks batches) ≡ first_at k (history_rows (base_of list blocks batches))
+  same_base k =
+      let is = firsts_exist (kept_rows list blocks batches) in
+      sym (first_at-firsts (kept_rows list blocks batches) is.0 is.1 k) ∙ ap (first_at k) (sym (append-nil is.0))
 
-pub agrees_base : (list : ListBody) (batches : List (List Span)) → first_number list ≤ list.floor → list.floor ≤ first_number list + length batches
-    → AgreesOn (waiting_rows list batches) (base_of list batches)
-agrees_base list batches low high = record {
-  firsts = λ k. same_base list batches k;
-  one = entry_one list.floor (drop (list.floor - first_number list) batches);
-  below = λ x c.
-      let number = (entry_numbers list.floor (drop (list.floor - first_number list) batches) x c).1 in
-      let rest = length-drop (list.floor - first_number list) batches in
-      omega (arith, low, high, number, rest);
-}
+  -- where the blocks have no rows
+  pub agrees_base : first_number list ≤ list.floor → list.floor ≤ first_number list + length batches → block_rows blocks ≡ []
+      → AgreesOn (kept_rows list blocks batches) (base_of list blocks batches)
+  agrees_base low high none = record {
+    firsts = same_base;
+    one = subst (λ (r : List Row). OnePlace (r ++ waiting_rows list batches)) (sym none) (entry_one list.floor (drop (list.floor - first_number list) batches));
+    below = λ x c.
+        let number = (entry_numbers list.floor (drop (list.floor - first_number list) batches) x (subst (λ (r : List Row). Contains (r ++ waiting_rows list batches) x) none c)).1 in
+        let rest = length-drop (list.floor - first_number list) batches in
+        omega (arith, low, high, number, rest);
+  }
 
--- It has the first occurrences of all rows of the log, where the records below the floor bring none.
-pub agrees_stored : (list : ListBody) (batches : List (List Span)) (h : History) → AgreesOn (stored_rows [] (first_number list) batches) h
-    → SameFirsts (stored_rows [] (first_number list) batches) (stored_rows [] list.floor (drop (list.floor - first_number list) batches))
-    → count_of h ≡ first_number list + length batches → AgreesOn (stored_rows [] (first_number list) batches) (base_of list batches)
-agrees_stored list batches h agrees floored counts = record {
-  firsts = λ k. floored k ∙ same_base list batches k;
-  one = agrees.one;
-  below = λ x c. let number = agrees.below x c in omega (arith, number, counts);
-}
+  -- where they have the first occurrences of a history with as many entries
+  pub agrees_again : (h : History) → AgreesOn (kept_rows list blocks batches) h → count_of h ≡ first_number list + length batches
+      → AgreesOn (kept_rows list blocks batches) (base_of list blocks batches)
+  agrees_again h agrees counts = record {
+    firsts = same_base;
+    one = agrees.one;
+    below = λ x c. let number = agrees.below x c in omega (arith, number, counts);
+  }
+
+  -- It has the first occurrences of all rows of the blocks and of the log, where the records below the floor bring none.
+  pub agrees_stored : (h : History) → AgreesOn (stored_rows blocks (first_number list) batches) h
+      → SameFirsts (stored_rows blocks (first_number list) batches) (stored_rows blocks list.floor (drop (list.floor - first_number list) batches))
+      → count_of h ≡ first_number list + length batches → AgreesOn (stored_rows blocks (first_number list) batches) (base_of list blocks batches)
+  agrees_stored h agrees floored counts = record {
+    firsts = λ k. floored k ∙ same_base k;
+    one = agrees.one;
+    below = λ x c. let number = agrees.below x c in omega (arith, number, counts);
+  }
 
 -- ---- files are told apart
 
@@ -202,22 +240,30 @@ same_files : (segments : List SegmentRef) → segment_files (map segment_of segm
 same_files [] = refl
 same_files (x ∷ xs) = ap (λ (l : List ℕ). x.file ∷ l) (same_files xs)
 
-pub opened_sound : (list : ListBody) (batches : List (List Span)) (moment : ℕ) → MeetsRules list → StateIsSound (opened_state list batches moment)
-opened_sound list batches moment rules =
-    let files : List ℕ = map (λ (segment : SegmentRef). segment.file) list.segments in
-    let once : IsDistinct nat_eq files = distinct_front files _ (distinct_front (used_files list) list.loose rules.once) in
+pub opened_sound : (list : ListBody) (blocks : List Block) (batches : List (List Span)) (moment : ℕ) → list.blocks ≡ map ref_of blocks → MeetsRules list
+    → StateIsSound (opened_state list blocks batches moment)
+opened_sound list blocks batches moment its rules =
+    let logs : List ℕ = map (λ (segment : SegmentRef). segment.file) list.segments in
+    let built : List ℕ = map (λ (ref : BlockRef). ref.file) list.blocks in
+    let files : List ℕ = used_files list in
+    let once : IsDistinct nat_eq files = distinct_front files list.loose rules.once in
     let given : (x : ℕ) → Contains files x → (2 ≤ x) × (x < list.next_file) =
-    λ x c. All-contains (λ (file : ℕ). (2 ≤ file) × (file < list.next_file)) (files_of list) x rules.files (Contains-append_left (used_files list) list.loose x (Contains-append_left files _ x c)) in
+    λ x c. All-contains (λ (file : ℕ). (2 ≤ file) × (file < list.next_file)) (files_of list) x rules.files (Contains-append_left files list.loose x c) in
     let low : (x : ℕ) → Contains files x → x < list.next_file = λ x c. (given x c).1 in
-    let least = some_file list.next_file list.segments rules.some_segment given in
+    let least = some_file list.next_file list.segments rules.some_segment (λ x c. given x (Contains-append_left logs built x c)) in
     let most = rules.next_file in
-    let same = same_files list.segments in
+    let used : (file : ℕ) → times file (segment_files (map segment_of list.segments)) + times file (block_files blocks) ≡ times file files =
+    λ file.
+    let first = ap (times file) (same_files list.segments) in
+    let second = ap (times file) (ap (map (λ (ref : BlockRef). ref.file)) its ∙ files_of_refs blocks) in
+    let both = times-append file logs built in
+    omega (arith, first, second, both) in
     record {
       files = record {
-        slots = λ file slot. let none = ap (times file) same ∙ times_under 2 file files (λ x c. (given x c).0) slot in omega (arith, none);
+        slots = λ file slot. let none = times_under 2 file files (λ x c. (given x c).0) slot in let is = used file in omega (arith, none, is);
         first = omega (arith, least);
-        new = λ file above. let none = ap (times file) same ∙ times_below list.next_file file files low above in omega (arith, none);
-        once = λ file. let one = times_distinct files once file in let is = ap (times file) same in omega (arith, one, is);
+        new = λ file above. let none = times_below list.next_file file files low above in let is = used file in omega (arith, none, is);
+        once = λ file. let one = times_distinct files once file in let is = used file in omega (arith, one, is);
         pinned = λ file some. absurd (omega (arith, some));
       };
       numbers = record { pins = λ n. omega arith; jobs = λ n. omega arith; new = λ n above. refl };
@@ -227,10 +273,10 @@ opened_sound list batches moment rules =
 
 -- ---- the machine
 
-abbrev pub opened_machine : ListBody → List (List Span) → ℕ → History → Machine
-opened_machine list batches moment h = record { state = opened_state list batches moment; history = h; read_only = None }
+abbrev pub opened_machine : ListBody → List Block → List (List Span) → ℕ → History → Machine
+opened_machine list blocks batches moment h = record { state = opened_state list blocks batches moment; history = h; read_only = None }
 
-module _ (told : Type 0) (image : Image) (list : ListBody) (rules : MeetsRules list) (none : list.blocks ≡ []) (batches : List (List Span)) (core : CoreState)
+module _ (told : Type 0) (image : Image) (list : ListBody) (rules : MeetsRules list) (blocks : List Block) (its : list.blocks ≡ map ref_of blocks) (batches : List (List Span)) (core : CoreState)
     (read : LogRead told image list.segments (first_number list) batches (tail_of core.segment)) where
   pub low_floor : list.floor ≤ first_number list + length batches
   low_floor =
@@ -239,8 +285,17 @@ module _ (told : Type 0) (image : Image) (list : ListBody) (rules : MeetsRules l
       let most = rules.to_floor in
       omega (arith, top, size, most)
 
-  module _ (moment : ℕ) (state : IsOpenedState list batches moment core) (h : History) (agrees : AgreesOn (waiting_rows list batches) h) (counts : count_of h ≡ first_number list + length batches) where
-    pub opened_has : HasState core (opened_machine list batches moment h)
+  module _ (moment : ℕ) (state : IsOpenedState list batches moment core) (h : History) (agrees : AgreesOn (kept_rows list blocks batches) h) (counts : count_of h ≡ first_number list + length batches) where
+    names : NamesState (without_loose list) (opened_state list blocks batches moment)
+    names = record {
+      blocks = without_by list (λ (l : ListBody). map ref_of blocks ≡ l.blocks) (λ generation loose. sym its);
+      segments = without_by list (λ (l : ListBody). map segment_of list.segments ≡ map segment_of l.segments) (λ generation loose. refl);
+      floor = without_by list (λ (l : ListBody). list.floor ≡ l.floor) (λ generation loose. refl);
+      loose = sym (no_loose list);
+      next_file = without_by list (λ (l : ListBody). list.next_file ≡ l.next_file) (λ generation loose. refl);
+    }
+
+    pub opened_has : HasState core (opened_machine list blocks batches moment h)
     opened_has = record {
       count = counts ∙ sym (read_size told image list.segments (first_number list) batches (tail_of core.segment) read);
       few = state.few;
@@ -249,9 +304,9 @@ module _ (told : Type 0) (image : Image) (list : ListBody) (rules : MeetsRules l
       flushing = state.flushing;
       flush = subst (λ (k : Option OpenFlush). ShowsFlush k None) (sym state.jobs.flush) refl;
       compaction = refl;
-      blocks = ap (λ (l : ListBody). l.blocks) state.listing ∙ without_by list (λ (l : ListBody). l.blocks ≡ []) (λ generation loose. none);
-      infos = ap info_files state.infos;
-      listed = ap (map listed_as) state.infos ∙ sym (ap (λ (l : ListBody). l.blocks) state.listing ∙ without_by list (λ (l : ListBody). l.blocks ≡ []) (λ generation loose. none));
+      blocks = ap (λ (l : ListBody). l.blocks) state.listing ∙ without_by list (λ (l : ListBody). l.blocks ≡ map ref_of blocks) (λ generation loose. its);
+      infos = same_block_files core.infos.items list.blocks blocks state.infos its;
+      listed = state.infos ∙ sym (ap (λ (l : ListBody). l.blocks) state.listing ∙ without_by list (λ (l : ListBody). l.blocks ≡ list.blocks) (λ generation loose. refl));
       rules = subst MeetsRules (sym state.listing) (rules_after list rules list.loose);
       segments = without_by list (λ (l : ListBody). map segment_of list.segments ≡ map segment_of l.segments) (λ generation loose. refl) ∙ sym (ap (λ (l : ListBody). map segment_of l.segments) state.listing);
       last = (read.front, ap (λ (l : ListBody). l.segments) state.listing ∙ without_by list (λ (l : ListBody). l.segments ≡ list.segments) (λ generation loose. refl) ∙ read.last);
@@ -260,25 +315,37 @@ module _ (told : Type 0) (image : Image) (list : ListBody) (rules : MeetsRules l
       next_file = without_by list (λ (l : ListBody). list.next_file ≡ l.next_file) (λ generation loose. refl) ∙ sym (ap (λ (l : ListBody). l.next_file) state.listing) ∙ sym state.jobs.next_file_is;
       begun = sym state.jobs.begun;
       jobs = none_fit core.jobs core.list (let same = state.jobs.next_file_is in omega (arith, same)) state.jobs.flush;
+      used = subst (λ (l : ListBody). AreInUse l (opened_state list blocks batches moment)) (sym state.listing) (used_listed (without_loose list) (opened_state list blocks batches moment) names);
       pins = λ n. sym (ap (is_taken n) state.pins);
       read_only = sym state.writes;
     }
 
-    pub opened_stands : (told' : Type 0) (held : Image) (may_leave : Image → Type 0) → (told' → IsSettled held may_leave core.list [] (tail_of core.segment) h)
-        → StandsFor told' held may_leave core (opened_machine list batches moment h)
-    opened_stands told' held may_leave settled =
+    -- the rows that wait stand in the log, where the list's segments still stand for these batches
+    opened_logged : (held : Image) → LogHolds held list.segments (first_number list) batches → AreLogged held core.list (rows_outside (opened_state list blocks batches moment))
+    opened_logged held logged =
+        subst (λ (l : ListBody). AreLogged held l (rows_outside (opened_state list blocks batches moment))) (sym state.listing)
+        (without_by list (λ (l : ListBody). AreLogged held l (rows_outside (opened_state list blocks batches moment)))
+        (λ generation loose others holds x c.
+        subst (λ (b : List (List Span)). Contains (entry_rows (first_number list) b) x) (one_log held list.segments (first_number list) batches others logged holds)
+        (waiting_in list rules batches x (subst (λ (r : List Row). Contains r x) (live_of_arrived moment (waiting_rows list batches)) c))))
+
+    pub opened_stands : (told' : Type 0) (held : Image) (may_leave : Image → Type 0) → (told' → IsSettled held may_leave core.list blocks (tail_of core.segment) h)
+        → (told' → AreDescribed held core.infos.items blocks) → (told' → LogHolds held list.segments (first_number list) batches) → StandsFor told' held may_leave core (opened_machine list blocks batches moment h)
+    opened_stands told' held may_leave settled described logged =
         let rows : List Row = waiting_rows list batches in
+        let lead : block_rows blocks ++ [] ++ [] ≡ block_rows blocks = append-nil (block_rows blocks ++ []) ∙ append-nil (block_rows blocks) in
         record {
           has = opened_has;
-          agrees = subst (λ (r : List Row). AgreesOn r h) (sym (live_of_arrived moment rows)) agrees;
-          sound = opened_sound list batches moment rules;
+          agrees = subst (λ (r : List Row). AgreesOn (r ++ live_rows (arrived moment rows)) h) (sym lead) (subst (λ (r : List Row). AgreesOn (block_rows blocks ++ r) h) (sym (live_of_arrived moment rows)) agrees);
+          sound = opened_sound list blocks batches moment its rules;
           above = record {
             waiting = λ row c. (entry_numbers list.floor (drop (list.floor - first_number list) batches) row (subst (λ (r : List Row). Contains r row) (live_of_arrived moment rows) c)).0;
             next = (let high = low_floor in omega (arith, high, counts));
           };
-          built = λ t. none_described held core.infos (ap info_files state.infos);
-          now = λ t image left. subst (λ (u : Option (List Span)). MayStandFor h u image) (sym state.sure) (settled_now held may_leave core.list [] (tail_of core.segment) h (settled t) image left);
+          built = described;
+          now = λ t image left. subst (λ (u : Option (List Span)). MayStandFor h u image) (sym state.sure) (settled_now held may_leave core.list blocks (tail_of core.segment) h (settled t) image left);
           settled = λ t free. settled t;
           sure = λ free. state.sure;
           fresh = λ t free. no_segment held may_leave core.jobs state.jobs.flush;
+          logged = λ t free. opened_logged held (logged t);
         }

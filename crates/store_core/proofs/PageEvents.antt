@@ -25,6 +25,7 @@ use Rattle.store_core.specs.Events.{Did}
 use Rattle.store_core.specs.Files.{read_over}
 use Rattle.store_core.proofs.Apart.{below_same, settled_below}
 use Rattle.store_core.proofs.Kept.{stands_kept, did_kept, described_below}
+use Rattle.store_core.proofs.Logged.{logged_kept}
 use Rattle.store_core.proofs.OpenJobs.{fresh_moved}
 use Rattle.store_core.proofs.Quiet.{none_begun}
 
@@ -93,6 +94,7 @@ module _ {D : Type 0} (g : Ghosts D) (old : Core D) (disk : D) (pin block page :
       (λ free. free)
       (λ t free. fresh_moved old.state.jobs.flush (g.held old.disk) (g.held disk) (g.may_leave old.disk) (g.may_leave disk) (λ mine known. untouched.same_bytes (tells t) mine.files.segment)
       (λ mine known b only image left. only image (untouched.crash image left)) (s.fresh t free))
+      (λ t free. logged_kept (g.held old.disk) (g.held disk) old.state.list (g.faults old.disk) (g.faults disk) m m (ReadPage pin block page) reply s.has.rules (λ f below. untouched.same_bytes (tells t) f) step refl (s.logged t free))
 
   did_page : (bytes : List ℕ) → Did g old (ReadPage pin block page) (Page bytes) (record old { disk = disk })
   did_page bytes =

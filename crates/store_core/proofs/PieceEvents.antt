@@ -24,6 +24,7 @@ use Rattle.store_core.specs.Cores.{HasState, CoreStandsFor, tail_of}
 use Rattle.store_core.specs.Events.{Did}
 use Rattle.store_core.proofs.Apart.{below_change, keeps_below, settled_below}
 use Rattle.store_core.proofs.Kept.{stands_kept, did_kept, described_below}
+use Rattle.store_core.proofs.Logged.{logged_kept}
 use Rattle.store_core.proofs.OpenJobs.{IsOpenHere, above_list, files_apart, fresh_moved}
 use Rattle.store_core.proofs.PushEvents.{OnlyNow, refused_is}
 use Rattle.store_core.proofs.Quiet.{quiet, none_begun}
@@ -87,14 +88,16 @@ module _ {D : Type 0} (g : Ghosts D) (only_now : OnlyNow g) (old : Core D) (disk
             (λ told. described_below (g.held old.disk) (g.held disk) old.state m s.has (same_held told m s.has) (s.built told))
             (λ told writes'. settled_below (g.held old.disk) (g.may_leave old.disk) old.state.list (s.settled told writes).lies.ready (g.held disk) (g.may_leave disk) (same_held told m s.has) (run_below m s.has).now
             m.state.blocks (tail_of old.state.segment) m.history (s.settled told writes))
-            (λ is. is) (λ told writes'. fresh_after told m s),
+            (λ is. is) (λ told writes'. fresh_after told m s)
+            (λ told writes'. logged_kept (g.held old.disk) (g.held disk) old.state.list (g.faults old.disk) (g.faults disk) m m (WritePiece number file bytes) Fine s.has.rules (same_held told m s.has)
+            (Succeeds (free m s.has) (refl, refl)) refl (s.logged told writes)),
         refl,
         Succeeds (free m s.has) (refl, refl),
       ))
       (λ m s. (
         m,
         stands_kept ⊥ ⊥ (g.held old.disk) (g.held disk) (g.may_leave old.disk) (g.may_leave disk) old.state old.state m m (g.faults old.disk) (g.faults disk) (WritePiece number file bytes) Fine
-            (λ bad. bad) s (Succeeds (free m s.has) (refl, refl)) refl s.has refl (λ bad. absurd bad) (λ bad. absurd bad) (λ bad. absurd bad) (λ is. is) (λ bad. absurd bad),
+            (λ bad. bad) s (Succeeds (free m s.has) (refl, refl)) refl s.has refl (λ bad. absurd bad) (λ bad. absurd bad) (λ bad. absurd bad) (λ is. is) (λ bad. absurd bad) (λ bad. absurd bad),
         Succeeds (free m s.has) (refl, refl),
       ))
       (λ told m s hold is_open stays f among. appended told f)
@@ -118,7 +121,8 @@ module _ {D : Type 0} (g : Ghosts D) (only_now : OnlyNow g) (old : Core D) (disk
             (g.faults old.disk) (g.faults disk) (WritePiece number file bytes) (Refused Fault) (λ t. subst IsTrue telling t) s (Breaks (free m s.has) refl refl rose refl) refl (has_stopped old.state (g.faults disk) m s.has) refl
             (λ told. (run_keeps told m s).now)
             (λ told. described_below (g.held old.disk) (g.held disk) old.state m s.has (same_held told m s.has) (s.built told))
-            (λ told none. absurd (let bad : Some (g.faults disk) ≡ None = none in cc)) (λ none. absurd (let bad : Some (g.faults disk) ≡ None = none in cc)) (λ told none. absurd (let bad : Some (g.faults disk) ≡ None = none in cc)),
+            (λ told none. absurd (let bad : Some (g.faults disk) ≡ None = none in cc)) (λ none. absurd (let bad : Some (g.faults disk) ≡ None = none in cc)) (λ told none. absurd (let bad : Some (g.faults disk) ≡ None = none in cc))
+            (λ told none. absurd (let bad : Some (g.faults disk) ≡ None = none in cc)),
         refl,
         Breaks (free m s.has) refl refl rose refl,
       ))
@@ -126,7 +130,7 @@ module _ {D : Type 0} (g : Ghosts D) (only_now : OnlyNow g) (old : Core D) (disk
         broken (g.faults disk) m,
         stands_kept ⊥ ⊥ (g.held old.disk) (g.held disk) (g.may_leave old.disk) (g.may_leave disk) old.state (record old.state { read_only = Some (g.faults disk) }) m (broken (g.faults disk) m)
             (g.faults old.disk) (g.faults disk) (WritePiece number file bytes) (Refused Fault) (λ bad. bad) s (Breaks (free m s.has) refl refl rose refl) refl (has_stopped old.state (g.faults disk) m s.has) refl
-            (λ bad. absurd bad) (λ bad. absurd bad) (λ bad. absurd bad) (λ none. absurd (let bad : Some (g.faults disk) ≡ None = none in cc)) (λ bad. absurd bad),
+            (λ bad. absurd bad) (λ bad. absurd bad) (λ bad. absurd bad) (λ none. absurd (let bad : Some (g.faults disk) ≡ None = none in cc)) (λ bad. absurd bad) (λ bad. absurd bad),
         Breaks (free m s.has) refl refl rose refl,
       ))
       (λ told m s hold is_open stays f among differs. besides told f (λ is. let bad = eq-eqb file f (sym is) in absurd cc))

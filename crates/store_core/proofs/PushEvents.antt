@@ -26,6 +26,7 @@ use Rattle.store_core.specs.declared.store.Core.{Core}
 use Rattle.store_core.specs.Cores.{HasState, CoreStandsFor, tail_of, unsure_of}
 use Rattle.store_state.specs.Calls.{MadeCalls}
 use Rattle.store_core.specs.Events.{Did, Between, unsure_after}
+use Rattle.store_core.proofs.Logged.{logged_push}
 use Rattle.store_core.proofs.Quiet.{quiet, none_begun}
 use Rattle.store_core.proofs.States.{SameParts, stands_lacking, after_pushed, step_pushed, has_pushed, stands_pushed, stands_broken}
 use Rattle.store_core.proofs.Pushing.{pushing, tidy_push, held_stays, blocks_stay, fresh_push}
@@ -142,7 +143,10 @@ module _ {D : Type 0} (g : Ghosts D) (old : Core D) (disk : D) (spans : List Spa
               let done = acknowledged told s.mine only s.written.current s.written.counted in
               settled_after (g.held old.disk) (g.may_leave old.disk) old.state.list m.state.blocks (tail_of old.state.segment) m.history s spans (g.held disk) (g.may_leave disk) segment.gate _ (appends told).besides run.now (stays told) done.0 done.1))
               (λ told. blocks_stay old.state m (IsTrue (g.tells old.disk)) (g.held old.disk) (g.held disk) (g.may_leave old.disk) told writes stands (appends told).besides)
-              (λ told. fresh_push old.state m (g.held old.disk) (g.held disk) (g.may_leave old.disk) (g.may_leave disk) _ stands.has stands.sound (appends told).besides (run_in told m stands).now (stands.fresh told writes));
+              (λ told. fresh_push old.state m (g.held old.disk) (g.held disk) (g.may_leave old.disk) (g.may_leave disk) _ stands.has stands.sound (appends told).besides (run_in told m stands).now (stands.fresh told writes))
+              (λ told s. let only = only_tail (g.held old.disk) (g.may_leave old.disk) old.state.list m.state.blocks (tail_of old.state.segment) m.history s in
+              let done = acknowledged told s.mine only s.written.current s.written.counted in
+              logged_push (g.held old.disk) (g.may_leave old.disk) old.state.list m.state.blocks (tail_of old.state.segment) m.history s (g.held disk) spans segment.gate (appends told).besides done.0 m.state moment);
           step = taken;
           images = λ told. images_in told m stands (pushed m.history spans) (unsure_of old.state) (λ image either. pushed_between m.history (unsure_of old.state) image (stands.sure writes) either);
           unsure = refl;
@@ -153,7 +157,7 @@ module _ {D : Type 0} (g : Ghosts D) (old : Core D) (disk : D) (spans : List Spa
         let has = has_pushed old.state live segment m spans moment number shows.has added head flushing is below file first count in (
           after_pushed spans moment m,
           stands_pushed ⊥ ⊥ (g.held old.disk) (g.held disk) (g.may_leave old.disk) (g.may_leave disk) old.state live segment m spans moment number
-              (g.faults old.disk) (g.faults disk) shows (λ bad. bad) writes taken has (λ bad. absurd bad) (λ bad. absurd bad) (λ bad. absurd bad),
+              (g.faults old.disk) (g.faults disk) shows (λ bad. bad) writes taken has (λ bad. absurd bad) (λ bad. absurd bad) (λ bad. absurd bad) (λ bad. absurd bad),
           taken,
         );
     tidy = tidy_in;

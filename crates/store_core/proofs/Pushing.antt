@@ -69,8 +69,8 @@ listed_once (x ∷ xs) b inside = elim (in_cons b x xs inside) [
 ]
 
 pub blocks_stay : (core : CoreState) (m : Machine) (told : Type 0) (held later : Image) (may_leave : Image → Type 0) → told → core.read_only ≡ None → StandsFor told held may_leave core m
-    → Besides core.segment.file held later → AreDescribed later core.infos m.state.blocks
-blocks_stay core m told held later may_leave t writes s besides = described_same held later core.infos m.state.blocks s.has.infos same (s.built t)
+    → Besides core.segment.file held later → AreDescribed later core.infos.items m.state.blocks
+blocks_stay core m told held later may_leave t writes s besides = described_same held later core.infos.items m.state.blocks s.has.infos same (s.built t)
   where
     same : (b : Block) → Contains m.state.blocks b → bytes_of later b.file ≡ bytes_of held b.file
     same b inside =

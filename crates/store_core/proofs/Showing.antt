@@ -41,11 +41,11 @@ whole h n is =
     ap (λ bs. record { base = h.base; start = h.start; entries = bs }) (ap (λ k. take k h.entries) exact ∙ take_all h.entries)
 
 pub look_shows : (told : Type 0) (held : Image) (may_leave : Image → Type 0) (core : CoreState) (m : Machine) (look : Look) → StandsFor told held may_leave core m
-    → look.pin.blocks ≡ core.infos → look.as_of ≡ core.segment.first + core.segment.count → look.rows ≡ core.live.flushing ++ core.live.head ++ live_rows core.live.live
+    → look.pin.blocks ≡ core.infos.items → look.as_of ≡ core.segment.first + core.segment.count → look.rows ≡ core.live.flushing ++ core.live.head ++ live_rows core.live.live
     → ShowsHistory told (λ file. bytes_of held file) look m.history
 look_shows told held may_leave core m look s blocks length_is rows = record {
   parts = rows_by_block m.state.blocks;
-  one_each = each_one core.infos m.state.blocks s.has.infos ∙ sym (ap length blocks);
+  one_each = each_one core.infos.items m.state.blocks s.has.infos ∙ sym (ap length blocks);
   their_rows = λ t. subst (λ (i : List InfoParts). AreBlocksOf (λ file. bytes_of held file) i (rows_by_block m.state.blocks)) (sym blocks) (s.built t);
   firsts = λ k. ap (λ (r : List Row). first_at k (look.rows ++ r)) (flattened m.state.blocks)
       ∙ look_is m look.rows s.agrees (waiting_in core m look.rows s.has rows) k

@@ -24,6 +24,8 @@ use Rattle.store_images.proofs.Storing.{settled_now}
 use Rattle.store_core.specs.declared.state.CoreState.{CoreState}
 use Rattle.store_core.specs.Jobs.{HasFreshSegment}
 use Rattle.store_core.specs.Cores.{HasState, StandsFor, AreDescribed, tail_of}
+use Rattle.store_core.specs.Waiting.{rows_outside, AreLogged}
+use Rattle.store_core.proofs.Logged.{logged_still}
 
 abbrev pub ref_to : ℕ → ℕ → SegmentRef
 ref_to file first = record { file = file; first = first }
@@ -56,6 +58,7 @@ has_same core live m same has = record {
   next_file = has.next_file;
   begun = has.begun;
   jobs = has.jobs;
+  used = has.used;
   pins = has.pins;
   read_only = has.read_only;
 }
@@ -72,6 +75,7 @@ stands_lacking told held may_leave core live m same s = record {
   settled = s.settled;
   sure = s.sure;
   fresh = s.fresh;
+  logged = s.logged;
 }
 
 -- ---- a push was added
@@ -118,6 +122,7 @@ has_pushed core live segment m spans moment number has added head flushing is be
       next_file = has.next_file;
       begun = has.begun;
       jobs = has.jobs;
+      used = has.used;
       pins = has.pins;
       read_only = has.read_only;
     }
@@ -128,9 +133,11 @@ pub stands_pushed : (told told' : Type 0) (held held' : Image) (may_leave may_le
     → HasState (record core { live = live; segment = segment }) (after_pushed spans moment m)
     → (told → IsSettled held may_leave core.list m.state.blocks (tail_of core.segment) m.history
     → IsSettled held' may_leave' core.list m.state.blocks (tail_of segment) (pushed m.history spans))
-    → (told → AreDescribed held' core.infos m.state.blocks) → (told → HasFreshSegment held' may_leave' core.jobs)
+    → (told → AreDescribed held' core.infos.items m.state.blocks) → (told → HasFreshSegment held' may_leave' core.jobs)
+    → (told → IsSettled held may_leave core.list m.state.blocks (tail_of core.segment) m.history → AreLogged held core.list (rows_outside m.state)
+    → AreLogged held' core.list (rows_outside (after_pushed spans moment m).state))
     → StandsFor told' held' may_leave' (record core { live = live; segment = segment }) (after_pushed spans moment m)
-stands_pushed told told' held held' may_leave may_leave' core live segment m spans moment number before faults s known writes step has settles built fresh = record {
+stands_pushed told told' held held' may_leave may_leave' core live segment m spans moment number before faults s known writes step has settles built fresh logged = record {
   has = has;
   agrees = keeps_firsts before faults m _ _ _ s.agrees step;
   sound = keeps_sound before faults m _ _ _ s.sound step;
@@ -141,6 +148,7 @@ stands_pushed told told' held held' may_leave may_leave' core live segment m spa
   settled = λ t free. settles (known t) (s.settled (known t) writes);
   sure = s.sure;
   fresh = λ t free. fresh (known t);
+  logged = λ t free. logged (known t) (s.settled (known t) writes) (s.logged (known t) writes);
 }
 
 -- ---- a push answered a fault
@@ -166,6 +174,7 @@ has_broken core live segment ready faults m same still has = record {
   next_file = has.next_file;
   begun = has.begun;
   jobs = has.jobs;
+  used = has.used;
   pins = has.pins;
   read_only = refl;
 }
@@ -173,7 +182,7 @@ has_broken core live segment ready faults m same still has = record {
 pub stands_broken : (told told' : Type 0) (held held' : Image) (may_leave may_leave' : Image → Type 0) (core : CoreState) (live : LiveParts) (segment : Segment) (ready : ChunkParts) (faults : ℕ) (m : Machine)
     → SameParts core.live live → segment ≡ core.segment → StandsFor told held may_leave core m → (told' → told)
     → (told → (image : Image) → may_leave' image → MayStandFor m.history (Some ready.spans) image)
-    → (told → AreDescribed held' core.infos m.state.blocks)
+    → (told → AreDescribed held' core.infos.items m.state.blocks)
     → StandsFor told' held' may_leave' (record core { live = live; segment = segment; read_only = Some faults; unsure = Some ready }) (broken faults m)
 stands_broken told told' held held' may_leave may_leave' core live segment ready faults m same still s known now built = record {
   has = has_broken core live segment ready faults m same still s.has;
@@ -185,6 +194,7 @@ stands_broken told told' held held' may_leave may_leave' core live segment ready
   settled = λ t none. absurd (let bad : Some faults ≡ None = none in cc);
   sure = λ none. absurd (let bad : Some faults ≡ None = none in cc);
   fresh = λ t none. absurd (let bad : Some faults ≡ None = none in cc);
+  logged = λ t none. absurd (let bad : Some faults ≡ None = none in cc);
 }
 
 -- ---- a write failed
@@ -209,6 +219,7 @@ has_stopped core faults m has = record {
   next_file = has.next_file;
   begun = has.begun;
   jobs = has.jobs;
+  used = has.used;
   pins = has.pins;
   read_only = refl;
 }
@@ -223,11 +234,12 @@ stands_by_rows told held may_leave core live m u before faults e r s has blocks 
   agrees = keeps_firsts before faults m _ e r s.agrees step;
   sound = keeps_sound before faults m _ e r s.sound step;
   above = keeps_floor before faults m _ e r s.above step;
-  built = λ t. subst (AreDescribed held core.infos) (sym blocks) (s.built t);
+  built = λ t. subst (AreDescribed held core.infos.items) (sym blocks) (s.built t);
   now = s.now;
   settled = λ t free. subst (λ (b : List Block). IsSettled held may_leave core.list b (tail_of core.segment) m.history) (sym blocks) (s.settled t free);
   sure = s.sure;
   fresh = s.fresh;
+  logged = λ t free. logged_still held core.list before faults m (with_state u m) e r step refl (s.logged t free);
 }
 
 pub none_of : {A : Type 0} (o : Option A) → ((x : A) → o ≡ Some x → ⊥) → o ≡ None

@@ -22,6 +22,8 @@ use Rattle.store_images.specs.Stored.{MayStandFor, ref_of}
 use Rattle.store_images.specs.Settled.{Tail, IsSettled}
 use Rattle.store_core.specs.Pins.{is_taken}
 use Rattle.store_core.specs.Jobs.{ShowsFlush, JobsFit, HasFreshSegment}
+use Rattle.store_core.specs.Waiting.{rows_outside, AreLogged}
+use Rattle.store_core.specs.InUse.{AreInUse}
 use Rattle.store_core.specs.declared.state.CoreState.{CoreState}
 use Rattle.store_core.specs.declared.store.Core.{Core}
 
@@ -56,8 +58,8 @@ pub record HasState (core : CoreState) (m : Machine) : Type 0 where
   pub flush : ShowsFlush core.jobs.flush m.state.flush
   pub compaction : m.state.compaction ≡ None
   pub blocks : core.list.blocks ≡ map ref_of m.state.blocks
-  pub infos : info_files core.infos ≡ block_files m.state.blocks
-  pub listed : map listed_as core.infos ≡ core.list.blocks
+  pub infos : info_files core.infos.items ≡ block_files m.state.blocks
+  pub listed : map listed_as core.infos.items ≡ core.list.blocks
   pub rules : MeetsRules core.list
   pub segments : m.state.segments ≡ map segment_of core.list.segments
   pub last : (front : List SegmentRef) × (core.list.segments ≡ front ++ record { file = core.segment.file; first = core.segment.first } ∷ [])
@@ -66,23 +68,26 @@ pub record HasState (core : CoreState) (m : Machine) : Type 0 where
   pub next_file : m.state.next_file ≡ core.jobs.next_file
   pub begun : m.state.begun ≡ core.jobs.begun
   pub jobs : JobsFit core.jobs core.list
+  pub used : AreInUse core.list m.state
   pub pins : (n : ℕ) → is_among n (pin_numbers m.state.pins) ≡ is_taken n core.pins.items
   pub read_only : m.read_only ≡ core.read_only
 
 -- A core with this memory, over a disk that holds this and may leave that, stands for the machine: what it keeps has the
 -- history's first occurrences, and so has every image that a crash may leave now, or it has besides the batch whose push
--- failed. While the store writes, the disk is settled, and an open flush has its segment. `told` says that the disk tells its bytes.
+-- failed. While the store writes, the disk is settled, an open flush has its segment, and what waits outside of blocks stands in the
+-- log. `told` says that the disk tells its bytes.
 pub record StandsFor (told : Type 0) (held : Image) (may_leave : Image → Type 0) (core : CoreState) (m : Machine) : Type 0 where
   pub has : HasState core m
   pub agrees : Agrees m
   pub sound : StateIsSound m.state
   pub above : IsAboveFloor m
   -- what the files of the listed blocks hold, also in a store that writes no more
-  pub built : told → AreDescribed held core.infos m.state.blocks
+  pub built : told → AreDescribed held core.infos.items m.state.blocks
   pub now : told → (image : Image) → may_leave image → MayStandFor m.history (unsure_of core) image
   pub settled : told → core.read_only ≡ None → IsSettled held may_leave core.list m.state.blocks (tail_of core.segment) m.history
   pub sure : core.read_only ≡ None → unsure_of core ≡ None
   pub fresh : told → core.read_only ≡ None → HasFreshSegment held may_leave core.jobs
+  pub logged : told → core.read_only ≡ None → AreLogged held core.list (rows_outside m.state)
 
 -- the core stands for the machine
 abbrev pub CoreStandsFor : {D : Type 0} (g : Ghosts D) → Core D → Machine → Type 0

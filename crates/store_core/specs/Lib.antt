@@ -1,6 +1,8 @@
 pub mod Pins
 pub mod Files
 pub mod Jobs
+pub mod Waiting
+pub mod InUse
 pub mod Cores
 pub mod Beginning
 pub mod Events
@@ -8,6 +10,7 @@ pub mod Past
 pub mod New
 pub mod NewCore
 pub mod LogReading
+pub mod BlockReading
 pub mod Loose
 pub mod Opening
 pub mod Port

@@ -10,17 +10,17 @@ use Rattle.head_log.specs.declared.numbered.NumberedBatch.{NumberedBatch}
 use Rattle.block_list.specs.Reading.{slots_at}
 use Rattle.block_list.specs.Slots.{ImageHoldsList}
 use Rattle.block_list.specs.Loading.{KeepsList}
-use Rattle.block_list.specs.declared.body.BlockRef.{BlockRef}
 use Rattle.block_list.specs.declared.body.ListBody.{ListBody}
 use Rattle.block_list.specs.declared.error.ListError.{ListError}
 use Rattle.block_list.specs.declared.error.ListError.TheVariants as list_errors
 use Rattle.store_model.specs.History.{History, batch_rows, entry_rows}
-use Rattle.store_model.specs.State.{State}
+use Rattle.store_model.specs.State.{State, Block}
 use Rattle.store_model.specs.After.{arrived}
 use Rattle.store_model.specs.Step.{Machine}
 use Rattle.store_images.specs.Log.{LogHolds}
-use Rattle.store_images.specs.Stored.{ImageStandsFor, IsSoundImage, KeepsStored, first_number}
-use Rattle.store_core.specs.Cores.{CoreStandsFor, CoreShows, segment_of, unsure_of}
+use Rattle.store_images.specs.Stored.{BlocksStand, ImageStandsFor, IsSoundImage, KeepsStored, first_number, ref_of}
+use Rattle.store_core.specs.BlockReading.{AreWhole, BlocksBreak}
+use Rattle.store_core.specs.Cores.{CoreStandsFor, CoreShows, listed_as, segment_of, unsure_of}
 use Rattle.store_core.specs.Jobs.{HasNoJobs}
 use Rattle.store_core.specs.LogReading.{LogBreaks}
 use Rattle.store_core.specs.Loose.{without_loose}
@@ -53,15 +53,15 @@ abbrev pub rows_from : ℕ → List NumberedBatch → List Row
 rows_from floor [] = []
 rows_from floor (e ∷ es) = (if nat_le floor e.number then batch_rows e.number e.batch.spans else []) ++ rows_from floor es
 
--- The store's state after a list without blocks and the batches of its log were read: the rows from the floor on wait, with the
--- moment of the opening. No file is loose, and no job or pin is open.
-abbrev pub opened_state : ListBody → List (List Span) → ℕ → State
-opened_state list batches moment = record {
+-- The store's state after a list, its blocks and the batches of its log were read: the rows from the floor on wait, with the moment
+-- of the opening. No file is loose, and no job or pin is open.
+abbrev pub opened_state : ListBody → List Block → List (List Span) → ℕ → State
+opened_state list blocks batches moment = record {
   live = arrived moment (entry_rows list.floor (drop (list.floor - first_number list) batches));
   head = [];
   flush = None;
   compaction = None;
-  blocks = [];
+  blocks = blocks;
   segments = map segment_of list.segments;
   floor = list.floor;
   loose = [];
@@ -73,8 +73,9 @@ opened_state list batches moment = record {
 -- That is the state in which a store begins that was opened on these bytes, or that of a new store.
 pub record BeginsAs (image : Image) (moment : ℕ) (m : Machine) : Type 0 where
   pub new : ImageHoldsList image None → m.state ≡ (new_machine m.history).state
-  pub found : (list : ListBody) (batches : List (List Span)) → ImageHoldsList image (Some list)
-      → LogHolds image list.segments (first_number list) batches → m.state ≡ opened_state list batches moment
+  pub found : (list : ListBody) (blocks : List Block) (batches : List (List Span)) → ImageHoldsList image (Some list)
+      → list.blocks ≡ map ref_of blocks → BlocksStand image blocks → LogHolds image list.segments (first_number list) batches
+      → m.state ≡ opened_state list blocks batches moment
   pub writes : m.read_only ≡ None
 
 -- A machine in which a store begins, over whatever bytes: it writes, its head is empty, no file is loose and no pin is open.
@@ -84,33 +85,36 @@ pub record BeginsEmpty (m : Machine) : Type 0 where
   pub loose : m.state.loose ≡ []
   pub pins : m.state.pins ≡ []
 
--- A machine with which a core begins: over whatever bytes its memory shows it, and its history is a base alone, each span of it once. Where the
--- disk doesn't tell its bytes or they were a store's the core stands for it; and it is then the one that they stood for.
-pub record OpensAs {D : Type 0} (g : Ghosts D) (disk : D) (moment : ℕ) (core : Core D) (m : Machine) : Type 0 where
+-- A machine with which a core begins, over whatever bytes: its memory shows it, and its history is a base alone, each span of it once.
+pub record OpensOver {D : Type 0} (g : Ghosts D) (core : Core D) (m : Machine) : Type 0 where
   pub shows : CoreShows g core m
   pub empty : BeginsEmpty m
   pub base_alone : m.history.entries ≡ []
   pub once : IsFirstOf m.history.base m.history.base
-  pub no_blocks : m.state.blocks ≡ []
-  pub stands : (IsTrue (g.tells disk) → IsSoundImage (g.held disk)) → CoreStandsFor g core m
-  pub stored : IsTrue (g.tells disk) → IsSoundImage (g.held disk)
-      → ImageStandsFor (g.held disk) m.history × BeginsAs (g.held disk) moment m
+
+-- Such a machine, for which the core stands. Where the disk tells its bytes it is the one that they stood for.
+pub record OpensAs {D : Type 0} (g : Ghosts D) (disk : D) (moment : ℕ) (core : Core D) (m : Machine) : Type 0 where
+  pub over : OpensOver g core m
+  pub stands : CoreStandsFor g core m
+  pub stored : IsTrue (g.tells disk) → ImageStandsFor (g.held disk) m.history × BeginsAs (g.held disk) moment m
 
 -- A core that was opened on a disk.
 pub record Opened {D : Type 0} (g : Ghosts D) (disk : D) (moment : ℕ) (core : Core D) : Type 0 where
   -- it stands for each history that the bytes stood for which the disk held
   pub stands : IsTrue (g.tells disk) → (h : History) → ImageStandsFor (g.held disk) h
       → (m : Machine) × CoreStandsFor g core m × (m.history ≡ h) × BeginsAs (g.held disk) moment m
-  -- and, whatever the bytes, it begins with some machine
-  pub begins : (m : Machine) × OpensAs g disk moment core m
+  -- where the disk doesn't tell its bytes or they were a store's, for a machine with which it begins
+  pub founded : (IsTrue (g.tells disk) → IsSoundImage (g.held disk)) → (m : Machine) × OpensAs g disk moment core m
+  -- and, whatever the bytes, its memory shows some machine with which it begins
+  pub begins : (m : Machine) × OpensOver g core m
 
 -- What its memory has then.
 pub record IsOpenedState (list : ListBody) (batches : List (List Span)) (moment : ℕ) (state : CoreState) : Type 0 where
   pub listing : state.list ≡ without_loose list
-  pub live : state.live.live ≡ (opened_state list batches moment).live
+  pub live : state.live.live ≡ arrived moment (entry_rows list.floor (drop (list.floor - first_number list) batches))
   pub head : state.live.head ≡ []
   pub flushing : state.live.flushing ≡ []
-  pub infos : state.infos ≡ []
+  pub infos : map listed_as state.infos.items ≡ list.blocks
   pub pins : state.pins.items ≡ []
   pub few : state.segment.first + state.segment.count ≤ 4294967295
   pub writes : state.read_only ≡ None
@@ -119,21 +123,16 @@ pub record IsOpenedState (list : ListBody) (batches : List (List Span)) (moment 
 
 -- ---- where bytes aren't a store's
 
--- a list that stands in the slots names no block
-abbrev pub NamesNoBlock : Image → Type 0
-NamesNoBlock image = (list : ListBody) → ImageHoldsList image (Some list) → list.blocks ≡ []
-
 -- what is said of slots that were refused
 abbrev pub refusal_of : ListError → OpenError
 refusal_of list_errors.Fault = errors.Fault
 refusal_of (list_errors.NotList slot at) = errors.NotStore slot at
 refusal_of list_errors.Memory = errors.Memory
 
--- What the list names breaks first at this place of this file: at the first of its blocks, or else in its log. (No block is read
--- yet, so that each breaks at its first byte.)
+-- What the list names breaks first at this place of this file: at one of its blocks, or else in its log.
 pub data ListBreaks (image : Image) (list : ListBody) (file at : ℕ) : Type 0 where
-  block : (first : BlockRef) (blocks : List BlockRef) → list.blocks ≡ first ∷ blocks → file ≡ first.file → at ≡ 0 → ListBreaks image list file at
-  log : list.blocks ≡ [] → LogBreaks image list.segments (first_number list) file at → ListBreaks image list file at
+  block : BlocksBreak image list.blocks file at → ListBreaks image list file at
+  log : AreWhole image list.blocks → LogBreaks image list.segments (first_number list) file at → ListBreaks image list file at
 
 -- The bytes break first at this place of this file: in a slot, or else in what the list names.
 pub data StoreBreaks (image : Image) (file at : ℕ) : Type 0 where

@@ -13,7 +13,7 @@ use crate::pins::{free_number, take_number};
 use crate::store::Core;
 use disk_model::Device;
 use head_log::{Prepared, append};
-use span_types::{Batch, Memory, TryCopy};
+use span_types::{Batch, Memory};
 use store_state::{Look, Pin, PushError};
 
 impl<D: Device> Core<D> {
@@ -59,13 +59,13 @@ impl<D: Device> Core<D> {
     /// Takes a look: all rows outside of blocks, and a pin on all blocks. It makes no device call.
     pub fn take_look(&mut self) -> Result<Look, Memory>
         ensures looked { Did D.Device.own self.old TakeLook (look_reply result) self.new }
-        ensures infos { IfOk result (λ look. look.pin.blocks ≡ self.old.state.infos) }
+        ensures infos { IfOk result (λ look. look.pin.blocks ≡ self.old.state.infos.items) }
         ensures shows { IfOk result (λ look. (m : Machine) → CoreStandsFor D.Device.own self.new m →
             LookShows D.Device.own self.new look m.history) }
     {
         let as_of = self.state.length();
         let rows = self.state.live.runs()?;
-        let blocks = self.state.infos.copy()?;
+        let blocks = self.state.copy_infos()?;
         let number = take_number(&mut self.state.pins)?;
         Ok(Look {
             pin: Pin { number, blocks },

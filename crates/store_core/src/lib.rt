@@ -4,6 +4,7 @@
 #![tactic(auto)]
 
 mod admit;
+mod blocks;
 mod cutting;
 mod error;
 mod events;

@@ -14,7 +14,6 @@ use crate::error::OpenError;
 use crate::jobs::Jobs;
 use crate::state::CoreState;
 use crate::store::Core;
-use block_info::Infos;
 use block_list::{BlockList, FileList, ListBody, SegmentList, SegmentRef, commit, prepare};
 use disk_model::Device;
 use head_log::{Segment, create};
@@ -63,7 +62,7 @@ fn new_state(alloc: Global, list: ListBody) -> CoreState
     CoreState {
         live: Live::new(alloc),
         list,
-        infos: Infos::none(alloc),
+        infos: Vec::new(alloc),
         segment: Segment::fresh(2, 0),
         jobs,
         pins: Vec::new(alloc),

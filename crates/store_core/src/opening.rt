@@ -1,6 +1,6 @@
 //! A store is opened.
 
-ghost use Rattle.std.specs.Prelude.{◌≡◌, ◌≢◌, ◌≤◌, ◌+◌, ℕ, List, [], Option, Some, Err, IsTrue, IfOk, IfErr, OnOk};
+ghost use Rattle.std.specs.Prelude.{◌≡◌, ◌≢◌, ◌≤◌, ◌+◌, ◌-◌, ℕ, List, [], drop, map, Option, Some, Err, IsTrue, IfOk, IfErr, OnOk};
 ghost use Rattle.std.specs.List.{Contains};
 ghost use Rattle.span_types.specs.Faults.{Rose};
 ghost use Rattle.span_types.specs.declared.spans.Span.{Span};
@@ -9,16 +9,21 @@ ghost use Rattle.disk_model.specs.Crash.{OnlyBytes, Untouched};
 ghost use Rattle.block_list.specs.Body.{MeetsRules};
 ghost use Rattle.block_list.specs.Loading.{IsReady};
 ghost use Rattle.block_list.specs.Slots.{ImageHoldsList};
+ghost use Rattle.block_list.specs.declared.body.BlockRef.{BlockRef};
 ghost use Rattle.block_list.specs.declared.body.SegmentRef.{SegmentRef};
 ghost use Rattle.block_list.specs.declared.body.ListBody.{ListBody};
-ghost use Rattle.store_model.specs.History.{History};
-ghost use Rattle.store_images.specs.Stored.{ImageStandsFor, IsSoundImage, first_number};
+ghost use Rattle.store_model.specs.After.{arrived};
+ghost use Rattle.store_model.specs.History.{History, entry_rows};
+ghost use Rattle.store_model.specs.State.{Block};
+ghost use Rattle.store_images.specs.Stored.{BlocksStand, ImageStandsFor, IsSoundImage, first_number, ref_of};
 ghost use Rattle.store_images.specs.Settled.{IsSettled};
 ghost use Rattle.store_core.specs.Cores.{tail_of};
-ghost use Rattle.store_core.specs.LogReading.{LogRead};
-ghost use Rattle.store_core.specs.Opening.{KeepsDisk, LeavesAlone, opened_list, Opened, opened_state, IsOpenedState, ListBreaks, StoreBreaks, NamesNoBlock, refusal_of};
+ghost use Rattle.store_core.specs.BlockReading.{BlocksRead};
+ghost use Rattle.store_core.specs.LogReading.{LogBreaks, LogRead};
+ghost use Rattle.store_core.specs.Opening.{KeepsDisk, LeavesAlone, opened_list, Opened, IsOpenedState, ListBreaks, StoreBreaks, refusal_of};
 ghost use Rattle.store_core.specs.declared.error.OpenError.TheVariants.{Fault, NotStore};
 
+use crate::blocks::read_blocks;
 use crate::error::OpenError;
 use crate::jobs::Jobs;
 use crate::loose::empty_loose;
@@ -27,7 +32,7 @@ use crate::reading::read_log;
 use crate::reviving::revive;
 use crate::state::CoreState;
 use crate::store::Core;
-use block_info::Infos;
+use block_info::SharedInfo;
 use block_list::{ListBody, ListError, load};
 use disk_model::Device;
 use head_log::Segment;
@@ -38,8 +43,8 @@ impl<D: Device> Core<D> {
     /// Opens the store that a disk holds, or a new one where both slots of its list are vacant. The moment, in nanoseconds, is that
     /// of the rows which then wait in memory.
     ///
-    /// The slots and each listed segment are made to last and read, the loose files are emptied, and where there were any the list is
-    /// committed without them. Refused, it hands the disk back as far as it came: what is stored there is kept, and bytes that are no
+    /// The slots, and each listed block and segment, are made to last and read, and each block is checked whole. The loose files are
+    /// emptied, and where there were any the list is committed without them. Refused, it hands the disk back as far as it came: what is stored there is kept, and bytes that are no
     /// store are left as they are.
     pub fn open_store(alloc: Global, disk: D, moment: u64) -> Result<Core<D>, (OpenError, D)>
         ensures opened { IfOk result (λ core. Opened D.Device.own disk moment core) }
@@ -51,13 +56,12 @@ impl<D: Device> Core<D> {
         // The list that counts then is the one that counted, or the next one without loose files, or a new store's.
         ensures list { IfOk result (λ core. IsTrue (D.tells disk) → (list : Option ListBody) → ImageHoldsList (D.held disk) list
             → core.state.list ≡ opened_list list) }
+        ensures counted { IfOk result (λ core. IsTrue (D.tells disk) → (list : Option ListBody) × ImageHoldsList (D.held disk) list) }
         ensures ready { IfOk result (λ core. IsTrue (D.tells disk) → IsReady (D.held core.disk) (D.may_leave core.disk) (Some core.state.list)) }
-        // Bytes are refused where they break, and only there. No block is read yet, so that a list which names one is refused at its
-        // first byte; a sound store that names none is not refused.
+        // Bytes are refused where they break, and only there: a sound store is not refused.
         ensures not_store { IfErr result (λ e. IsTrue (D.tells disk) → (file at : ℕ) → e.0 ≡ NotStore file at → StoreBreaks (D.held disk) file at) }
         ensures unbroken { IfOk result (λ core. IsTrue (D.tells disk) → (file at : ℕ) → StoreBreaks (D.held disk) file at → ⊥) }
-        ensures sound { IfErr result (λ e. IsTrue (D.tells disk) → IsSoundImage (D.held disk) → NamesNoBlock (D.held disk)
-            → (file at : ℕ) → e.0 ≢ NotStore file at) }
+        ensures sound { IfErr result (λ e. IsTrue (D.tells disk) → IsSoundImage (D.held disk) → (file at : ℕ) → e.0 ≢ NotStore file at) }
         ensures telling { IfOk result (λ core. D.tells core.disk ≡ D.tells disk) }
         ensures telling_refused { IfErr result (λ e. D.tells e.1 ≡ D.tells disk) }
         ensures later { IfOk result (λ core. D.faults disk ≤ D.faults core.disk) }
@@ -99,11 +103,16 @@ fn read_store<D: Device>(
 ) -> Result<CoreState, OpenError>
     requires rules { MeetsRules list }
     requires ready { IsTrue (D.tells disk.old) → IsReady (D.held disk.old) (D.may_leave disk.old) (Some list) }
-    ensures no_blocks { OnOk result (list.blocks ≡ []) }
+    ensures blocks { IfOk result (λ state. BlocksRead (IsTrue (D.tells disk.old)) (D.held disk.old) list.blocks state.infos.items) }
     ensures state { IfOk result (λ state. (batches : List (List Span)) × IsOpenedState list batches moment state
         × LogRead (IsTrue (D.tells disk.old)) (D.held disk.old) list.segments (first_number list) batches (tail_of state.segment)) }
-    ensures settled { IsTrue (D.tells disk.old) → IfOk result (λ state. (h : History) → ImageStandsFor (D.held disk.old) h
-        → IsSettled (D.held disk.new) (D.may_leave disk.new) state.list [] (tail_of state.segment) h) }
+    ensures still { IsTrue (D.tells disk.old) → OnOk result ((x : SegmentRef) → Contains list.segments x
+        → bytes_of (D.held disk.new) x.file ≡ bytes_of (D.held disk.old) x.file) }
+    ensures blocks_still { IsTrue (D.tells disk.old) → OnOk result ((x : BlockRef) → Contains list.blocks x
+        → bytes_of (D.held disk.new) x.file ≡ bytes_of (D.held disk.old) x.file) }
+    ensures settled { IsTrue (D.tells disk.old) → IfOk result (λ state. (blocks : List Block) → list.blocks ≡ map ref_of blocks
+        → BlocksStand (D.held disk.old) blocks → (h : History) → ImageStandsFor (D.held disk.old) h
+        → IsSettled (D.held disk.new) (D.may_leave disk.new) state.list blocks (tail_of state.segment) h) }
     ensures kept { KeepsDisk D.Device.own disk.old disk.new }
     ensures ready { IsTrue (D.tells disk.old) → IfOk result (λ state. IsReady (D.held disk.new) (D.may_leave disk.new) (Some state.list)) }
     ensures left { IfErr result (λ error. error ≢ Fault → Untouched D.tells D.held D.may_leave D.moment D.left_since disk.old disk.new) }
@@ -112,7 +121,7 @@ fn read_store<D: Device>(
     ensures later { D.faults disk.old ≤ D.faults disk.new }
     ensures fault { result ≡ Err Fault → Rose (D.faults disk.old) (D.faults disk.new) }
 {
-    let (segment, live) = match read_rows(alloc, disk, &list, moment) {
+    let (infos, segment, live) = match read_listed(alloc, disk, &list, moment) {
         Ok(read) => read,
         Err(error) => return Err(error),
     };
@@ -122,7 +131,7 @@ fn read_store<D: Device>(
             Ok(CoreState {
                 live,
                 list,
-                infos: Infos::none(alloc),
+                infos,
                 segment,
                 jobs,
                 pins: Vec::new(alloc),
@@ -134,7 +143,41 @@ fn read_store<D: Device>(
     }
 }
 
-// The last segment of a list's log, and the rows from the floor on as live ones. A list that names a block is refused.
+// What a list's blocks and its log hold: the information of the blocks, the last segment, and the rows from the floor on as live
+// ones.
+fn read_listed<D: Device>(
+    alloc: Global,
+    disk: &mut D,
+    list: &ListBody,
+    moment: u64,
+) -> Result<(Vec<SharedInfo>, Segment, Live), OpenError>
+    requires { MeetsRules list.now }
+    ensures blocks { IfOk result (λ read. BlocksRead (IsTrue (D.tells disk.old)) (D.held disk.old) list.now.blocks read.0.items) }
+    ensures log { IfOk result (λ read. (batches : List (List Span))
+        × (read.2.live ≡ arrived moment (entry_rows list.now.floor (drop (list.now.floor - first_number list.now) batches)))
+        × LogRead (IsTrue (D.tells disk.old)) (D.held disk.old) list.now.segments (first_number list.now) batches (tail_of read.1)) }
+    ensures others { IfOk result (λ read. (read.2.head ≡ []) × (read.2.flushing ≡ [])) }
+    ensures few { IfOk result (λ read. read.1.first + read.1.count ≤ 4294967295) }
+    ensures blocks_lie { IsTrue (D.tells disk.old) → OnOk result ((x : BlockRef) → Contains list.now.blocks x
+        → OnlyBytes x.file (bytes_of (D.held disk.old) x.file) (D.may_leave disk.new)) }
+    ensures segments_lie { IsTrue (D.tells disk.old) → OnOk result ((x : SegmentRef) → Contains list.now.segments x
+        → OnlyBytes x.file (bytes_of (D.held disk.old) x.file) (D.may_leave disk.new)) }
+    ensures not_store { IsTrue (D.tells disk.old) → (file at : ℕ) → result ≡ Err (NotStore file at) → ListBreaks (D.held disk.old) list.now file at }
+    ensures untouched { Untouched D.tells D.held D.may_leave D.moment D.left_since disk.old disk.new }
+    ensures later { D.faults disk.old ≤ D.faults disk.new }
+    ensures fault { result ≡ Err Fault → Rose (D.faults disk.old) (D.faults disk.new) }
+{
+    let infos = match read_blocks(alloc, disk, list.blocks.as_slice()) {
+        Ok(infos) => infos,
+        Err(error) => return Err(error),
+    };
+    match read_rows(alloc, disk, list, moment) {
+        Ok((segment, live)) => Ok((infos, segment, live)),
+        Err(error) => Err(error),
+    }
+}
+
+// The last segment of a list's log, and the rows from the floor on as live ones.
 fn read_rows<D: Device>(
     alloc: Global,
     disk: &mut D,
@@ -142,25 +185,19 @@ fn read_rows<D: Device>(
     moment: u64,
 ) -> Result<(Segment, Live), OpenError>
     requires { MeetsRules list.now }
-    ensures no_blocks { OnOk result (list.now.blocks ≡ []) }
-    ensures read { IfOk result (λ read. (batches : List (List Span)) × (read.1.live ≡ (opened_state list.now batches moment).live)
+    ensures read { IfOk result (λ read. (batches : List (List Span))
+        × (read.1.live ≡ arrived moment (entry_rows list.now.floor (drop (list.now.floor - first_number list.now) batches)))
         × LogRead (IsTrue (D.tells disk.old)) (D.held disk.old) list.now.segments (first_number list.now) batches (tail_of read.0)) }
     ensures others { IfOk result (λ read. (read.1.head ≡ []) × (read.1.flushing ≡ [])) }
     ensures few { IfOk result (λ read. read.0.first + read.0.count ≤ 4294967295) }
     ensures lies { IsTrue (D.tells disk.old) → OnOk result ((x : SegmentRef) → Contains list.now.segments x
         → OnlyBytes x.file (bytes_of (D.held disk.old) x.file) (D.may_leave disk.new)) }
-    ensures not_store { IsTrue (D.tells disk.old) → (file at : ℕ) → result ≡ Err (NotStore file at) → ListBreaks (D.held disk.old) list.now file at }
+    ensures not_store { IsTrue (D.tells disk.old) → (file at : ℕ) → result ≡ Err (NotStore file at)
+        → LogBreaks (D.held disk.old) list.now.segments (first_number list.now) file at }
     ensures untouched { Untouched D.tells D.held D.may_leave D.moment D.left_since disk.old disk.new }
     ensures later { D.faults disk.old ≤ D.faults disk.new }
     ensures fault { result ≡ Err Fault → Rose (D.faults disk.old) (D.faults disk.new) }
 {
-    let blocks = list.blocks.as_slice();
-    if blocks.len() > 0 {
-        return Err(OpenError::NotStore {
-            file: blocks[0].file,
-            at: 0,
-        });
-    }
     match read_log(alloc, disk, list) {
         Ok((segment, batches)) => {
             let mut live = Live::new(alloc);

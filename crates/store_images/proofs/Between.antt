@@ -76,7 +76,7 @@ later_in n (suc k) (b ∷ bs) x c =
     Contains-append_right (batch_rows n b) (entry_rows (n + 1) bs) x
     (later_in (n + 1) k bs x (subst (λ (m : ℕ). Contains (entry_rows m (drop k bs)) x) (let e : n + suc k ≡ n + 1 + k = omega arith in e) c))
 
-in_later : (n k : ℕ) (batches : List (List Span)) (x : Row) → Contains (entry_rows n batches) x → n + k ≤ x.place.number → Contains (entry_rows (n + k) (drop k batches)) x
+pub in_later : (n k : ℕ) (batches : List (List Span)) (x : Row) → Contains (entry_rows n batches) x → n + k ≤ x.place.number → Contains (entry_rows (n + k) (drop k batches)) x
 in_later n zero [] x c high = absurd (not_in_nil x c)
 in_later n zero (b ∷ bs) x c high = subst (λ (m : ℕ). Contains (entry_rows m (b ∷ bs)) x) (let e : n ≡ n + 0 = omega arith in e) c
 in_later n (suc k) [] x c high = absurd (not_in_nil x c)

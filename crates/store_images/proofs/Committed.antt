@@ -11,18 +11,18 @@ use Rattle.block_list.specs.Body.{MeetsRules}
 use Rattle.block_list.specs.declared.body.BlockRef.{BlockRef}
 use Rattle.block_list.specs.declared.body.SegmentRef.{SegmentRef}
 use Rattle.block_list.specs.declared.body.ListBody.{ListBody}
-use Rattle.store_model.specs.History.{History, count_of}
+use Rattle.store_model.specs.History.{History, count_of, entry_rows}
 use Rattle.store_model.specs.Laws.{AgreesOn}
 use Rattle.store_model.specs.State.{Block}
 use Rattle.store_images.specs.Committed.{CommitsFlush}
 use Rattle.store_images.specs.Log.{LogHolds}
 use Rattle.store_images.specs.Log.LogHolds.{ended, goes_on}
-use Rattle.store_images.specs.Stored.{ImageStandsFor, BlockStands, first_number, stored_rows, ref_of}
+use Rattle.store_images.specs.Stored.{ImageStandsFor, BlockStands, StoreHolds, first_number, stored_rows, ref_of}
 use Rattle.store_images.specs.Stored.ImageStores.{filled}
 use Rattle.store_images.proofs.Lists.{not_in_nil, in_cons}
 use Rattle.store_images.proofs.Logs.{log_with}
 use Rattle.store_images.proofs.Keeping.{rules_in}
-use Rattle.store_images.proofs.Between.{flushed}
+use Rattle.store_images.proofs.Between.{flushed, in_later}
 
 -- ---- a log without its first segments
 
@@ -67,6 +67,17 @@ drop_more (suc a) b (x ∷ xs) = drop_more a b xs ∙ ap (λ (n : ℕ). drop n (
 
 -- ---- the image
 
+-- The log of the new list, but for its last segment, stands for these batches, and the image stores what the list names.
+pub record LeftLogged (image : Image) (body new : ListBody) (kept : List SegmentRef) (segment : SegmentRef) (blocks : List Block) (batches : List (List Span)) (h : History) : Type 0 where
+  pub before : List (List Span)
+  pub earlier : LogHolds image kept (first_number new) before
+  pub follows : segment.first ≡ first_number new + length before
+  pub store : StoreHolds image new blocks before
+  pub agrees : AgreesOn (stored_rows blocks (first_number new) before) h
+  pub counts : count_of h ≡ first_number new + length before
+  -- of the rows of the whole log those from the first number on
+  pub later : (x : Row) → Contains (entry_rows (first_number body) batches) x → first_number new ≤ x.place.number → Contains (entry_rows (first_number new) before) x
+
 module _ (image : Image) (body new : ListBody) (blocks : List Block) (block : Block) (batches : List (List Span)) (waiting : List Row) (h : History)
     (c : CommitsFlush image body new blocks block batches waiting h) where
   built_with : (b : Block) → Contains (blocks ++ block ∷ []) b → BlockStands image b
@@ -75,7 +86,7 @@ module _ (image : Image) (body new : ListBody) (blocks : List Block) (block : Bl
     | inr other ↦ elim (in_cons b block [] other) [ inl is ↦ subst (λ (x : Block). BlockStands image x) is c.own | inr none ↦ absurd (not_in_nil b none) ]
   ]
 
-  with_rest : Rest image c.kept (first_number body) batches → ImageStandsFor image h
+  with_rest : Rest image c.kept (first_number body) batches → LeftLogged image body new c.kept c.segment (blocks ++ block ∷ []) batches h
   with_rest r =
       let first : ℕ = first_number body in
       let left : List (List Span) = drop r.dropped batches in
@@ -102,16 +113,29 @@ module _ (image : Image) (body new : ListBody) (blocks : List Block) (block : Bl
       (flushed blocks block first (r.dropped + more) batches waiting h c.agrees c.rest c.within (λ x w. let a = c.above x w in omega (arith, a, there)))) in
       let counts = c.counts in
       record {
-        rows = stored_rows (blocks ++ block ∷ []) (first_number new) left;
-        stores = filled new (blocks ++ block ∷ []) left (record {
+        before = left;
+        earlier = subst (λ (n : ℕ). LogHolds image c.kept n left) (sym is) r.logged;
+        follows = omega (arith, last, is);
+        store = record {
           listed = c.listed;
           its_blocks = c.blocks_are ∙ ap (λ (l : List BlockRef). l ++ ref_of block ∷ []) c.old_blocks ∙ sym (map-append ref_of blocks (block ∷ []));
           built = built_with;
           logged = log;
           floored = λ k. agrees.firsts k ∙ sym (floored.firsts k);
-        }) refl (omega (arith, counts, is, size, few));
+        };
         agrees = agrees;
+        counts = omega (arith, counts, is, size, few);
+        later = λ x inside high. subst (λ (n : ℕ). Contains (entry_rows n left) x) (sym is) (in_later first r.dropped batches x inside (omega (arith, high, is)));
       }
 
+  pub left_logged : LeftLogged image body new c.kept c.segment (blocks ++ block ∷ []) batches h
+  left_logged = with_rest (rest_of image c.gone c.kept (first_number body) batches (subst (λ (l : List SegmentRef). LogHolds image l (first_number body) batches) c.split c.logged))
+
   pub committed : ImageStandsFor image h
-  committed = with_rest (rest_of image c.gone c.kept (first_number body) batches (subst (λ (l : List SegmentRef). LogHolds image l (first_number body) batches) c.split c.logged))
+  committed =
+      let l = left_logged in
+      record {
+        rows = stored_rows (blocks ++ block ∷ []) (first_number new) l.before;
+        stores = filled new (blocks ++ block ∷ []) l.before l.store refl l.counts;
+        agrees = l.agrees;
+      }

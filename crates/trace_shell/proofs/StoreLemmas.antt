@@ -10,10 +10,10 @@ use Rattle.session_text.specs.Items.{Item}
 use Rattle.store_model.specs.History.{count_of}
 use Rattle.store_model.specs.Step.{Machine}
 use Rattle.store_state.specs.Cores.{CoreHolds}
-use Rattle.store_images.specs.Stored.{IsSoundImage, MayStandFor}
+use Rattle.store_images.specs.Stored.{MayStandFor}
 use Rattle.store_images.proofs.Lists.{not_in_nil}
 use Rattle.store_core.specs.Cores.{CoreShows, CoreStandsFor, unsure_of}
-use Rattle.store_core.specs.Opening.{KeepsDisk, OpensAs, StoreBreaks}
+use Rattle.store_core.specs.Opening.{KeepsDisk, OpensAs, OpensOver, StoreBreaks}
 use Rattle.store_core.specs.Past.{StandsSince, StoodFor}
 use Rattle.store_core.specs.Port.{port_of, shown_by}
 use Rattle.store_core.specs.declared.store.Core.{Core}
@@ -55,7 +55,7 @@ in_a_store g moment core later first last e items replies blamed = record {
 }
 
 module _ {D : Type 0} (g : Ghosts D) (disk : D) (moment : ℕ) (core later : Core D) (first last : Machine) (e : Ending) (items : List Item) (replies : List Reply) (blamed : List (List ℕ))
-    (opens : OpensAs g disk moment core first) (over : HasAnsweredOver (port_of g) core items replies later) where
+    (opens : OpensOver g core first) (over : HasAnsweredOver (port_of g) core items replies later) where
   abbrev outcome : Outcome
   outcome = in_a_store g moment core later first last e items replies blamed
 
@@ -86,9 +86,9 @@ module _ {D : Type 0} (g : Ghosts D) (disk : D) (moment : ℕ) (core later : Cor
   }
 
   -- Over bytes that were a store's.
-  module _ (told : IsTrue (g.tells disk)) (sound : IsSoundImage (g.held disk)) where
+  module _ (told : IsTrue (g.tells disk)) (founded : OpensAs g disk moment core first) where
     stands_first : CoreStandsFor g core first
-    stands_first = opens.stands (λ t. sound)
+    stands_first = founded.stands
 
     -- the batch that isn't sure is the one that the replies tell
     unsure_is : unsure_of later.state ≡ unsure_batch items replies
@@ -103,7 +103,7 @@ module _ {D : Type 0} (g : Ghosts D) (disk : D) (moment : ℕ) (core later : Cor
     opened_recovers keeps telling since =
         let told_later : IsTrue (g.tells later.disk) = subst IsTrue (sym (tells_kept (port_of g) core later over.calls over.made ∙ telling)) told in
         let kept = keeps told in
-        let stored = opens.stored told sound in record {
+        let stored = founded.stored told in record {
           begins = λ opened. record { stored = stored.0; once = opens.once; base_alone = opens.base_alone; begins = stored.1 };
           returned = λ opened image left. subst (λ (u : Option (List Span)). MayStandFor last.history u image) unsure_is (since.stands.now told_later image left);
           any_moment = λ image left.

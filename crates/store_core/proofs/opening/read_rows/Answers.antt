@@ -1,4 +1,4 @@
-use Rattle.std.proofs.Common.{◌≡◌, ◌<◌, ◌-◌, ◌++◌, ℕ, List, drop, refl, sym, ◌∙◌, ap, arith}
+use Rattle.std.proofs.Common.{◌≡◌, ◌-◌, ◌++◌, ℕ, List, drop, ◌∙◌, ap}
 use Rattle.store_model.specs.History.{entry_rows}
 use Rattle.store_model.specs.State.{LiveRow}
 use Rattle.store_model.specs.After.{arrived}
@@ -6,7 +6,6 @@ use Rattle.store_images.specs.Stored.{first_number}
 use Rattle.span_types.specs.declared.spans.Row.{Row}
 use Rattle.store_core.specs.Opening.{rows_from}
 use Rattle.store_core.proofs.Revived.{above_floor}
-use Rattle.store_core.proofs.OpeningSteps.{block_breaks}
 use Rattle.store_core.proofs.opening.read_rows.Goals as goal
 
 pub returns-in-Ok-revive-clause-read : goal.returns-in-Ok-revive-clause-read
@@ -19,8 +18,3 @@ returns-in-Ok-revive-clause-read g c =
           ∙ ap (λ (l : List LiveRow). l ++ arrived c.args.moment (entry_rows list.floor (drop (list.floor - first_number list) r.0))) c.new-live.ensures.0,
       r.2,
     )
-
-pub returns-then-blocks-gt0-clause-not_store : goal.returns-then-blocks-gt0-clause-not_store
-returns-then-blocks-gt0-clause-not_store g c = λ told file at is.
-    let d = g.D.Device in
-    block_breaks _ (d.held c.args.disk.now) c.args.list.now c.as_slice-blocks.result.now (record { file = 0; level = 0; rows = 0 }) file at c.as_slice-blocks.ensures (omega (arith, c.if-blocks-gt0.true)) refl is

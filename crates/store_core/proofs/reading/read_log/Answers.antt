@@ -24,7 +24,7 @@ loop-at-init g c =
       read = reads_one told held segments (record { file = 0; first = 0 }) (first_number c.args.list.now) c.new-batches.result.items c.add_segment.new.batches.items c.in_ok-last.last some c.new-batches.ensures.items
           (first_is c.args.list.now segments (record { file = 0; first = 0 }) c.as_slice-segments.ensures some) c.in_ok-last.ensures.read;
       few = c.in_ok-last.ensures.read.2.few;
-      lies = λ told. lie_on held (d.may_leave c.add_segment.new.disk) (d.may_leave c.add_segment.new.disk) segments 0 (record { file = 0; first = 0 }) some (λ image left. left)
+      lies = λ told. lie_on (λ (ref : SegmentRef). ref.file) held (d.may_leave c.add_segment.new.disk) (d.may_leave c.add_segment.new.disk) segments 0 (record { file = 0; first = 0 }) some (λ image left. left)
           (λ x inside. absurd (not_in_nil x inside)) (c.in_ok-last.ensures.lies told);
       untouched = c.add_segment.ensures.untouched;
       later = c.add_segment.ensures.later;
@@ -49,7 +49,7 @@ loop-at-preserved g c =
           (tail_of c.loop-at.last) c.in_ok-last-2.last inside c.loop-at.invariant.read (omega (arith, c.if-segment-last.false))
           (more.0, more.1, read_before (IsTrue (d.tells disk)) (IsTrue (d.tells mid)) _ _ _ more.0 c.in_ok-last-2.last told_mid (λ told. untouched.same_bytes told _) more.2);
       few = more.2.few;
-      lies = λ told. lie_on (d.held disk) (d.may_leave mid) (d.may_leave new) segments at (record { file = 0; first = 0 }) inside c.add_segment-in-loop-at.ensures.untouched.crash (c.loop-at.invariant.lies told)
+      lies = λ told. lie_on (λ (ref : SegmentRef). ref.file) (d.held disk) (d.may_leave mid) (d.may_leave new) segments at (record { file = 0; first = 0 }) inside c.add_segment-in-loop-at.ensures.untouched.crash (c.loop-at.invariant.lies told)
           (λ image left. c.in_ok-last-2.ensures.lies (told_mid told) image left ∙ untouched.same_bytes told _);
       untouched = untouched_then d.tells d.held d.may_leave d.moment d.left_since disk mid new untouched c.add_segment-in-loop-at.ensures.untouched;
       later = omega (arith, before, since);

@@ -5,11 +5,16 @@ use Rattle.block_list.specs.Loading.{IsReady}
 use Rattle.block_list.specs.declared.body.ListBody.{ListBody}
 use Rattle.disk_model.specs.Images.{bytes_of}
 use Rattle.store_core.specs.Opening.StoreBreaks.{slot, listed}
-use Rattle.store_core.proofs.OpeningSteps.{list_breaks_same, segment_low, store_unbroken, sound_unbroken, refused_slot, refused_fault}
+use Rattle.store_core.proofs.OpeningSteps.{block_low, list_breaks_same, segment_low, store_unbroken, sound_unbroken, refused_slot, refused_fault}
 use Rattle.store_core.specs.Opening.{LeavesAlone, opened_list, refusal_of}
 use Rattle.store_images.proofs.Keeping.{one_list}
 use Rattle.store_core.proofs.LeftAlone.{left_untouched, left_loaded, left_then}
-use Rattle.store_core.proofs.OpeningEnds.{opened_existing, opened_new, logged_before, kept_loaded, kept_then, kept_new, if_ok_more, if_err_more}
+use Rattle.store_images.specs.Stored.{first_number}
+use Rattle.store_images.proofs.Logs.{log_same}
+use Rattle.store_core.specs.Cores.{tail_of}
+use Rattle.store_core.proofs.LogSteps.{read_whole}
+use Rattle.store_core.proofs.ReadBlocks.{read_blocks_whole, whole_same}
+use Rattle.store_core.proofs.OpeningEnds.{opened_existing, opened_new, kept_loaded, kept_then, kept_new, if_ok_more, if_err_more}
 use Rattle.store_core.proofs.store.Core.open_store.Goals as goal
 
 -- ---- the list wasn't loaded
@@ -22,8 +27,8 @@ returns-in-Err-clause-not_store g c = λ told file at is.
     slot (c.in-Err.ensures.not_list told file at (ap Err (refused_slot c.in-Err.error file at (sym c.refusal.ensures ∙ is))))
 
 pub returns-in-Err-clause-sound : goal.returns-in-Err-clause-sound
-returns-in-Err-clause-sound g c = λ told sound none file at is.
-    sound_unbroken (g.D.Device.held c.args.disk) sound.0 file at none sound.1
+returns-in-Err-clause-sound g c = λ told sound file at is.
+    sound_unbroken (g.D.Device.held c.args.disk) sound.0 file at sound.1
     (slot (c.in-Err.ensures.not_list told file at (ap Err (refused_slot c.in-Err.error file at (sym c.refusal.ensures ∙ is)))))
 
 pub returns-in-Err-clause-fault : goal.returns-in-Err-clause-fault
@@ -51,6 +56,13 @@ returns-in-None-clause-list g c =
     let d = g.D.Device in
     if_ok_more c.open_new.result _ _
     (λ core is told list there. is ∙ ap opened_list (one_list (d.held c.args.disk) None list (subst (λ (l : Option ListBody). ImageHoldsList (d.held c.args.disk) l) c.in-None.is (c.in-Ok.ensures.list told)) there))
+    c.open_new.ensures.list
+
+pub returns-in-None-clause-counted : goal.returns-in-None-clause-counted
+returns-in-None-clause-counted g c =
+    let d = g.D.Device in
+    if_ok_more c.open_new.result _ _
+    (λ core is told. (None, subst (λ (l : Option ListBody). ImageHoldsList (d.held c.args.disk) l) c.in-None.is (c.in-Ok.ensures.list told)))
     c.open_new.ensures.list
 
 pub returns-in-None-clause-ready : goal.returns-in-None-clause-ready
@@ -83,7 +95,7 @@ pub returns-in-None-clause-not_store : goal.returns-in-None-clause-not_store
 returns-in-None-clause-not_store g c = if_err_more c.open_new.result _ _ (λ e never told file at is. absurd (never file at is)) c.open_new.ensures.a_store
 
 pub returns-in-None-clause-sound : goal.returns-in-None-clause-sound
-returns-in-None-clause-sound g c = if_err_more c.open_new.result _ _ (λ e never told sound none file at is. never file at is) c.open_new.ensures.a_store
+returns-in-None-clause-sound g c = if_err_more c.open_new.result _ _ (λ e never told sound file at is. never file at is) c.open_new.ensures.a_store
 
 -- ---- a store was read
 
@@ -92,6 +104,11 @@ returns-in-Ok-read_store-clause-list g c = λ told list there.
     let d = g.D.Device in
     c.in-Ok-read_store.ensures.state.1.listing
     ∙ ap opened_list (one_list (d.held c.args.disk) (Some c.in-Some.list) list (subst (λ (l : Option ListBody). ImageHoldsList (d.held c.args.disk) l) c.in-Some.is (c.in-Ok.ensures.list told)) there)
+
+pub returns-in-Ok-read_store-clause-counted : goal.returns-in-Ok-read_store-clause-counted
+returns-in-Ok-read_store-clause-counted g c = λ told.
+    let d = g.D.Device in
+    (Some c.in-Some.list, subst (λ (l : Option ListBody). ImageHoldsList (d.held c.args.disk) l) c.in-Some.is (c.in-Ok.ensures.list told))
 
 pub returns-in-Ok-read_store-clause-ready : goal.returns-in-Ok-read_store-clause-ready
 returns-in-Ok-read_store-clause-ready g c = λ told. c.in-Ok-read_store.ensures.ready (subst IsTrue (sym c.load.ensures.telling) told)
@@ -114,11 +131,11 @@ returns-in-Ok-read_store-clause-opened g c =
     let mid = c.load.new.disk in
     let list = c.in-Some.list in
     let state = c.in-Ok-read_store.ensures.state in
-    opened_existing d disk mid c.args.moment _ list (c.in-Ok.ensures.rules list (ap Ok c.in-Some.is)) c.in-Ok-read_store.ensures.no_blocks state.0
+    opened_existing d disk mid c.args.moment _ list (c.in-Ok.ensures.rules list (ap Ok c.in-Some.is)) state.0
     c.load.ensures.telling (c.read_store.ensures.telling ∙ c.load.ensures.telling)
     (λ told. subst (λ (l : Option ListBody). ImageHoldsList (d.held disk) l) c.in-Some.is (c.in-Ok.ensures.list told))
     (λ told. (subst (λ (l : Option ListBody). IsReady (d.held mid) (d.may_leave mid) l) c.in-Some.is (c.in-Ok.ensures.ready told)).stands) c.load.ensures.others
-    state.1 state.2 c.in-Ok-read_store.ensures.settled
+    state.1 state.2 c.in-Ok-read_store.ensures.blocks c.in-Ok-read_store.ensures.still c.in-Ok-read_store.ensures.blocks_still c.in-Ok-read_store.ensures.settled
 
 pub returns-in-Ok-read_store-clause-kept : goal.returns-in-Ok-read_store-clause-kept
 returns-in-Ok-read_store-clause-kept g c =
@@ -131,14 +148,15 @@ returns-in-Ok-read_store-clause-unbroken g c = λ told file at broken.
     let disk = c.args.disk in
     let mid = c.load.new.disk in
     let list = c.in-Some.list in
+    let rules = c.in-Ok.ensures.rules list (ap Ok c.in-Some.is) in
     let state = c.in-Ok-read_store.ensures.state in
+    let told_mid : IsTrue (d.tells mid) = subst IsTrue (sym c.load.ensures.telling) told in
     store_unbroken (d.held disk) list state.0 file at
-    (subst (λ (l : Option ListBody). slots_at (bytes_of (d.held disk) 0) (bytes_of (d.held disk) 1) ≡ Ok l) c.in-Some.is (c.in-Ok.ensures.found told)) c.in-Ok-read_store.ensures.no_blocks
-    (logged_before d disk mid c.args.moment (record { alloc = c.args.alloc; disk = c.read_store.new.disk; state = c.in-Ok-read_store.state }) list (c.in-Ok.ensures.rules list (ap Ok c.in-Some.is)) c.in-Ok-read_store.ensures.no_blocks state.0
-    c.load.ensures.telling (c.read_store.ensures.telling ∙ c.load.ensures.telling)
-    (λ told. subst (λ (l : Option ListBody). ImageHoldsList (d.held disk) l) c.in-Some.is (c.in-Ok.ensures.list told))
-    (λ told. (subst (λ (l : Option ListBody). IsReady (d.held mid) (d.may_leave mid) l) c.in-Some.is (c.in-Ok.ensures.ready told)).stands) c.load.ensures.others
-    state.1 state.2 c.in-Ok-read_store.ensures.settled told) broken
+    (subst (λ (l : Option ListBody). slots_at (bytes_of (d.held disk) 0) (bytes_of (d.held disk) 1) ≡ Ok l) c.in-Some.is (c.in-Ok.ensures.found told))
+    (whole_same (d.held disk) (d.held mid) list.blocks (λ x inside. c.load.ensures.others told x.file (block_low list rules x inside))
+    (read_blocks_whole (IsTrue (d.tells mid)) (d.held mid) list.blocks c.in-Ok-read_store.state.infos.items c.in-Ok-read_store.ensures.blocks told_mid))
+    (log_same (d.held mid) (d.held disk) list.segments (first_number list) state.0 (λ x inside. sym (c.load.ensures.others told x.file (segment_low list rules x inside)))
+    (read_whole (IsTrue (d.tells mid)) (d.held mid) list.segments (first_number list) state.0 (tail_of c.in-Ok-read_store.state.segment) state.2 told_mid)) broken
 
 pub returns-in-Err-read_store-clause-kept_refused : goal.returns-in-Err-read_store-clause-kept_refused
 returns-in-Err-read_store-clause-kept_refused g c =
@@ -154,16 +172,18 @@ returns-in-Err-read_store-clause-not_store g c = λ told file at is.
     let told_mid : IsTrue (d.tells mid) = subst IsTrue (sym c.load.ensures.telling) told in
     listed list (subst (λ (l : Option ListBody). slots_at (bytes_of (d.held disk) 0) (bytes_of (d.held disk) 1) ≡ Ok l) c.in-Some.is (c.in-Ok.ensures.found told))
     (list_breaks_same (d.held disk) (d.held mid) list file at
-    (λ x inside. c.load.ensures.others told x.file (segment_low list (c.in-Ok.ensures.rules list (ap Ok c.in-Some.is)) x inside)) (c.in-Err-read_store.ensures.not_store told_mid file at (ap Err is)))
+    (λ x inside. c.load.ensures.others told x.file (segment_low list (c.in-Ok.ensures.rules list (ap Ok c.in-Some.is)) x inside))
+    (λ x inside. c.load.ensures.others told x.file (block_low list (c.in-Ok.ensures.rules list (ap Ok c.in-Some.is)) x inside)) (c.in-Err-read_store.ensures.not_store told_mid file at (ap Err is)))
 
 pub returns-in-Err-read_store-clause-sound : goal.returns-in-Err-read_store-clause-sound
-returns-in-Err-read_store-clause-sound g c = λ told sound none file at is.
+returns-in-Err-read_store-clause-sound g c = λ told sound file at is.
     let d = g.D.Device in
     let disk = c.args.disk in
     let mid = c.load.new.disk in
     let list = c.in-Some.list in
     let told_mid : IsTrue (d.tells mid) = subst IsTrue (sym c.load.ensures.telling) told in
-    sound_unbroken (d.held disk) sound.0 file at none sound.1
+    sound_unbroken (d.held disk) sound.0 file at sound.1
     (listed list (subst (λ (l : Option ListBody). slots_at (bytes_of (d.held disk) 0) (bytes_of (d.held disk) 1) ≡ Ok l) c.in-Some.is (c.in-Ok.ensures.found told))
     (list_breaks_same (d.held disk) (d.held mid) list file at
-    (λ x inside. c.load.ensures.others told x.file (segment_low list (c.in-Ok.ensures.rules list (ap Ok c.in-Some.is)) x inside)) (c.in-Err-read_store.ensures.not_store told_mid file at (ap Err is))))
+    (λ x inside. c.load.ensures.others told x.file (segment_low list (c.in-Ok.ensures.rules list (ap Ok c.in-Some.is)) x inside))
+    (λ x inside. c.load.ensures.others told x.file (block_low list (c.in-Ok.ensures.rules list (ap Ok c.in-Some.is)) x inside)) (c.in-Err-read_store.ensures.not_store told_mid file at (ap Err is))))
