@@ -78,7 +78,10 @@ fn a_cut_moves_what_is_idle(rt: HostRuntime) -> Result<(), Memory> {
         &mut RegexMaker::new(alloc),
         &OpenGate,
     );
-    let Ended { status, disk: _disk } = ended;
+    let Ended {
+        status,
+        disk: _disk,
+    } = ended;
     assert!(rt; sink.taken() == wanted.as_bytes() && status == 0);
     Ok(())
 }
