@@ -1,95 +1,50 @@
 -- What is answered by calls is answered as the history says.
 use Rattle.std.specs.Prelude.{⊤}
-use Rattle.std.proofs.Common.{◌≡◌, ◌⊎◌, inl, inr, ℕ, ◌≤◌, Bool, true, false, List, [], ◌∷◌, ◌++◌, Ok, Err, append-nil, arith, refl, sym, ◌∙◌, ap, subst}
-use Rattle.span_types.specs.declared.ids.Key.{Key}
+use Rattle.std.proofs.Common.{◌≡◌, ◌⊎◌, inl, inr, ℕ, Bool, true, false, List, [], ◌∷◌, ◌++◌, Result, Ok, Err, refl, sym, ◌∙◌, ap, subst}
 use Rattle.span_types.specs.declared.ids.TraceId.{TraceId}
 use Rattle.span_types.specs.declared.spans.Row.{Row}
 use Rattle.span_types.specs.declared.spans.Span.{Span}
-use Rattle.span_types.specs.First.{first_at}
 use Rattle.span_types.proofs.FirstLaws.{firsts_alike}
+use Rattle.query_fanout.specs.Queries.{Sound, TellsOf}
+use Rattle.query_fanout.specs.SearchAnswers.{IsSearchAnswer}
+use Rattle.query_fanout.specs.TraceAnswers.{IsTraceAnswer}
+use Rattle.query_fanout.specs.declared.error.QueryError.{QueryError}
+use Rattle.query_fanout.specs.declared.error.QueryError.TheVariants as error
+use Rattle.query_fanout.specs.declared.search.SearchAnswer.{SearchAnswer}
+use Rattle.query_fanout.specs.declared.trace.TraceAnswer.{TraceAnswer}
+use Rattle.search_text.specs.Fields.{printed_fields}
+use Rattle.spanset_eval.specs.declared.results.TraceResult.{TraceResult}
+use Rattle.traceql_syntax.specs.Trees.{query_tree}
 use Rattle.session_text.specs.declared.reply.Reply.{Reply}
-use Rattle.session_text.specs.declared.reply.Reply.TheVariants.{Refused}
+use Rattle.session_text.specs.declared.reply.Reply.TheVariants.{Refused, Searched, Traced}
 use Rattle.session_text.specs.declared.refusal.Refusal.{Refusal}
-use Rattle.session_text.specs.declared.refusal.Refusal.TheVariants.{Memory}
+use Rattle.session_text.specs.declared.refusal.Refusal.TheVariants.{DiskFault, Memory, Round}
 use Rattle.session_text.specs.declared.request.Request.TheVariants as request
 use Rattle.session_text.specs.declared.request.Search.{Search}
 use Rattle.session_text.specs.Items.{Item}
 use Rattle.store_model.specs.Cut.{is_idle}
 use Rattle.store_model.specs.Event.{Event as event, Reply as reply}
-use Rattle.store_model.specs.History.{count_of, history_rows}
+use Rattle.store_model.specs.History.{History, count_of, history_rows}
 use Rattle.store_model.specs.Laws.{Agrees}
-use Rattle.store_model.specs.State.{Block, block_rows}
 use Rattle.store_model.specs.Step.{Machine, Step}
 use Rattle.store_model.proofs.KeepsFirsts as firsts
 use Rattle.store_model.proofs.Outcomes.{kept_by}
 use Rattle.store_images.specs.Stored.{SameFirsts}
 use Rattle.store_state.specs.Replies.{count_reply, push_reply}
-use Rattle.client_run.specs.Answers.{IsQueryAnswered, IsSearchOf, IsTraceOf}
 use Rattle.store_state.specs.Made.{Call, call}
+use Rattle.store_state.specs.declared.rounds.Refusal.TheVariants as cause
+use Rattle.client_run.specs.Answers.{IsSearchReply, IsToldOf, asked_of, query_refusal, traced_reply}
 use Rattle.client_run.specs.CoreRuns.{AreSteps}
 use Rattle.session_meaning.specs.Answering.{AreItemsAnswered, CallsLead, IsItemAnswered}
 use Rattle.session_meaning.specs.At.{At, IsStep, IsStill, history_of}
 use Rattle.session_meaning.specs.Causes.{HasQueryCause}
 use Rattle.session_meaning.specs.Session.{IsAnswered, IsAnsweredOrRefused, IsSure, Session}
-use Rattle.session_meaning.proofs.Firsts.{trace_alike}
-use Rattle.session_meaning.proofs.Looks.{look_ended, look_refused, look_taken, still_after}
 use Rattle.session_meaning.specs.Upkeep.{IsClosed}
 use Rattle.session_meaning.proofs.CutLaws.{cut_closes, cuts_all, cuts_idle}
+use Rattle.session_meaning.proofs.Firsts.{trace_alike}
 use Rattle.session_meaning.proofs.FlushLaws.{flush_closes, flush_keeps}
+use Rattle.session_meaning.proofs.QueryLaws.{Says, asked_says, told_exactly}
 use Rattle.session_meaning.proofs.Rounds.{one_step, round_does}
-
--- ---- what a query's calls tell
-
-looked_same : (p q : ℕ) (fs gs : List ℕ) (a b : ℕ) (rs ss : List Row) → reply.Looked p fs a rs ≡ reply.Looked q gs b ss → (p ≡ q) × (a ≡ b) × (rs ≡ ss)
-looked_same p q fs gs a b rs ss e = (cc, cc, cc)
-
--- the rows of a look over no block have the first occurrences of the history
-look_firsts : (m : Machine) (rows : List Row) → m.state.blocks ≡ [] → ((k : Key) → first_at k (rows ++ block_rows m.state.blocks) ≡ first_at k (history_rows m.history))
-    → SameFirsts rows (history_rows m.history)
-look_firsts m rows none same k =
-    ap (first_at k) (sym (append-nil rows)) ∙ ap (λ (blocks : List Block). first_at k (rows ++ block_rows blocks)) (sym none) ∙ same k
-
--- It is told of rows, as of the history's length, which have the first occurrences of the history where the answer is sure; or it is
--- refused for its cause. Nothing of the store changed.
-record Queried (told : Bool) (tells : ℕ → List Row → Reply → Type 0) (before : At) (r : Reply) (after : At) : Type 0 where
-  still : IsStill before after
-  told_of : ((rows : List Row) × (IsSure told before → SameFirsts rows (history_rows (history_of before))) × tells (count_of (history_of before)) rows r)
-      ⊎ ((why : Refusal) × (r ≡ Refused why) × HasQueryCause told why before after)
-
-later_twice : (a b c d : ℕ) → a ≤ b → b ≤ c → d ≡ c → a ≤ d
-later_twice a b c d first second is = omega (arith, first, second, is)
-
-queried : (tells : ℕ → List Row → Reply → Type 0) (before : At) (r : Reply) (after : At) (calls : List Call)
-    → Agrees before.machine → IsQueryAnswered tells r calls → CallsLead before calls after → Queried false tells before r after
-queried tells before r after calls agrees (inl (are, told)) steps =
-    let s = subst (λ (cs : List Call). CallsLead before cs after) are steps in record {
-      still = (s.4.1 ∙ look_refused before.faults s.0 before.machine s.1 s.3, subst (λ (n : ℕ). before.faults ≤ n) (sym s.4.0) s.2);
-      told_of = inr (Memory, told, tt);
-    }
-queried tells before r after calls agrees (inr (pin, files, as_of, rows, are, told)) steps =
-    let m = before.machine in
-    let s = subst (λ (cs : List Call). CallsLead before cs after) are steps in
-    let look = look_taken before.faults s.0 m s.1 pin files as_of rows s.3 in
-    let same = looked_same pin look.0 files _ as_of (count_of m.history) rows look.1 look.4 in
-    let ended = look_ended s.0 s.4.0 s.1 s.4.1 pin s.4.3 in record {
-      still = (
-        s.4.4.1 ∙ still_after m s.1 s.4.1 pin look.0 look.2 same.0 look.5 ended,
-        later_twice before.faults s.0 s.4.0 after.faults s.2 s.4.2 s.4.4.0,
-      );
-      told_of = with_rows look.1 (λ none. look_firsts m look.1 none (firsts.look_is m look.1 agrees look.3)) same.1 same.2 told;
-    }
-  where
-    sure : {T : Type 0} → (before.machine.state.blocks ≡ [] → T) → IsSure false before → T
-    sure have (inl bad) = let no : ⊥ = cc in absurd no
-    sure have (inr none) = have none
-
-    with_rows : (its : List Row) → (before.machine.state.blocks ≡ [] → SameFirsts its (history_rows (history_of before))) → as_of ≡ count_of (history_of before) → rows ≡ its
-        → tells as_of rows r ⊎ (r ≡ Refused Memory)
-        → ((rows : List Row) × (IsSure false before → SameFirsts rows (history_rows (history_of before))) × tells (count_of (history_of before)) rows r)
-        ⊎ ((why : Refusal) × (r ≡ Refused why) × HasQueryCause false why before after)
-    with_rows its have count are (inl told) =
-        inl (its, sure have, subst (λ (n : ℕ). tells n its r) count (subst (λ (rs : List Row). tells as_of rs r) are told))
-    with_rows its have count are (inr memory) = inr (Memory, memory, tt)
 
 -- ---- one item
 
@@ -97,32 +52,126 @@ at_same : (before after : At) → after.faults ≡ before.faults → after.machi
 at_same before after faults machine =
     ap (λ (n : ℕ). record { machine = after.machine; faults = n }) faults ∙ ap (λ (m : Machine). record { machine = m; faults = before.faults }) machine
 
-trace_means : (told : Bool) (id : TraceId) (before after : At) (r : Reply) → Queried told (IsTraceOf id) before r after
-    → IsAnsweredOrRefused told (Ok (request.Trace id)) before r after
-trace_means told id before after r q = by_told q.told_of
-  where
-    by_told : ((rows : List Row) × (IsSure told before → SameFirsts rows (history_rows (history_of before))) × IsTraceOf id (count_of (history_of before)) rows r)
-        ⊎ ((why : Refusal) × (r ≡ Refused why) × HasQueryCause told why before after)
-        → IsAnsweredOrRefused told (Ok (request.Trace id)) before r after
-    by_told (inl (rows, same, (found, are, is))) =
-        inl (found, (λ sure. trace_alike id rows (history_rows (history_of before)) found (same sure) are), is, q.still)
-    by_told (inr (why, is, cause)) = inr (why, is, cause, q.still)
+-- it isn't sure what a query tells, whatever the blocks hold, but where there is none
+unsure : {T : Type 0} (before : At) → (before.machine.state.blocks ≡ [] → T) → IsSure false before → T
+unsure before have (inl bad) = let no : ⊥ = cc in absurd no
+unsure before have (inr none) = have none
 
-search_means : (told : Bool) (s : Search) (before after : At) (r : Reply) → Queried told (IsSearchOf s) before r after
+-- ---- a look-up
+
+-- What it is told of these rows, which have the first occurrences of the history where the answer is sure.
+traced : (told : Bool) (id : TraceId) (before after : At) (r : Reply) (rows : List Row) (answer : TraceAnswer) → r ≡ traced_reply (Ok answer) → IsStill before after
+    → (IsSure told before → SameFirsts rows (history_rows (history_of before))) → IsTraceAnswer id (count_of (history_of before)) rows answer
+    → IsAnsweredOrRefused told (Ok (request.Trace id)) before r after
+traced told id before after r rows answer is still same tells =
+    inl (
+      answer.rows,
+      (λ sure. trace_alike id rows (history_rows (history_of before)) answer.rows (same sure) tells.firsts),
+      is ∙ ap (λ (n : ℕ). Traced n answer.rows) tells.count,
+      still,
+    )
+
+refused : (told : Bool) (id : TraceId) (before after : At) (r : Reply) (why : Refusal) → r ≡ Refused why → HasQueryCause told why before after → IsStill before after
+    → IsAnsweredOrRefused told (Ok (request.Trace id)) before r after
+refused told id before after r why is holds still = inr (why, is, holds, still)
+
+-- Whatever the blocks hold.
+trace_means : (id : TraceId) (before after : At) (r : Reply) (answer : Result TraceAnswer QueryError) → r ≡ traced_reply answer → IsStill before after
+    → Says (IsTraceAnswer id) answer before after → IsAnsweredOrRefused false (Ok (request.Trace id)) before r after
+trace_means id before after r (Ok answer) is still (rows, same, tells) = traced false id before after r rows answer is still (unsure before same) tells
+trace_means id before after r (Err error.Fault) is still rose = refused false id before after r DiskFault is rose still
+trace_means id before after r (Err (error.NotBlock file at)) is still among = refused false id before after r (Round (cause.NotBlock file at)) is (refl, among) still
+trace_means id before after r (Err error.Memory) is still any = refused false id before after r Memory is tt still
+
+same_traced : (a b : ℕ) (rows more : List Row) → Traced a rows ≡ Traced b more → (a ≡ b) × (rows ≡ more)
+same_traced a b rows more e = (cc, cc)
+
+same_trace : (a b : TraceAnswer) → a.as_of ≡ b.as_of → a.rows ≡ b.rows → a ≡ b
+same_trace a b as_of rows = ap (λ (n : ℕ). record { as_of = n; rows = a.rows }) as_of ∙ ap (λ (rs : List Row). record { as_of = b.as_of; rows = rs }) rows
+
+-- Where what they hold is told.
+trace_told : (id : TraceId) (before after : At) (r : Reply) (answer other : Result TraceAnswer QueryError) → r ≡ traced_reply answer → IsStill before after
+    → Says (IsTraceAnswer id) answer before after → r ≡ traced_reply other → Sound (TellsOf (IsTraceAnswer id) (history_of before)) other
+    → IsAnsweredOrRefused true (Ok (request.Trace id)) before r after
+trace_told id before after r (Ok answer) (Ok other) is still (rows, same, tells) also sound =
+    let equal = same_traced answer.as_of other.as_of answer.rows other.rows (sym is ∙ also) in
+    let own : TellsOf (IsTraceAnswer id) (history_of before) answer =
+    subst (λ (x : TraceAnswer). TellsOf (IsTraceAnswer id) (history_of before) x) (sym (same_trace answer other equal.0 equal.1)) sound in
+    traced true id before after r (history_rows (history_of before)) answer is still (λ sure k. refl)
+    (told_exactly (IsTraceAnswer id) (λ (x : TraceAnswer). x.as_of) (λ n rs x t. t.count) (history_of before) rows answer tells own)
+trace_told id before after r (Ok answer) (Err why) is still says also sound = let bad : ⊥ = (let e = sym is ∙ also in cc) in absurd bad
+trace_told id before after r (Err error.Fault) other is still rose also sound = refused true id before after r DiskFault is rose still
+trace_told id before after r (Err (error.NotBlock file at)) (Ok other) is still among also sound = let bad : ⊥ = (let e = sym is ∙ also in cc) in absurd bad
+trace_told id before after r (Err (error.NotBlock file at)) (Err error.Fault) is still among also sound = let bad : ⊥ = (let e = sym is ∙ also in cc) in absurd bad
+trace_told id before after r (Err (error.NotBlock file at)) (Err (error.NotBlock f a)) is still among also sound = absurd sound
+trace_told id before after r (Err (error.NotBlock file at)) (Err error.Memory) is still among also sound = let bad : ⊥ = (let e = sym is ∙ also in cc) in absurd bad
+trace_told id before after r (Err error.Memory) other is still any also sound = refused true id before after r Memory is tt still
+
+-- ---- a search
+
+abbrev fields_of : Search → List (List ℕ)
+fields_of s = printed_fields (query_tree s.checked.query)
+
+found : (told : Bool) (s : Search) (before after : At) (r : Reply) (rows : List Row) (answer : SearchAnswer) → r ≡ Searched answer.as_of (fields_of s) answer.results → IsStill before after
+    → (IsSure told before → SameFirsts rows (history_rows (history_of before))) → IsSearchAnswer (asked_of s) (count_of (history_of before)) rows answer
     → IsAnsweredOrRefused told (Ok (request.Search s)) before r after
-search_means told s before after r q = by_told q.told_of
-  where
-    by_told : ((rows : List Row) × (IsSure told before → SameFirsts rows (history_rows (history_of before))) × IsSearchOf s (count_of (history_of before)) rows r)
-        ⊎ ((why : Refusal) × (r ≡ Refused why) × HasQueryCause told why before after)
-        → IsAnsweredOrRefused told (Ok (request.Search s)) before r after
-    by_told (inl (rows, same, (found, results, are, answer, is))) =
-        inl (
-          results,
-          (λ sure. record { rows = found; firsts = firsts_alike rows (history_rows (history_of before)) found (same sure) are; answer = answer }),
-          is,
-          q.still,
-        )
-    by_told (inr (why, is, cause)) = inr (why, is, cause, q.still)
+found told s before after r rows answer is still same tells =
+    inl (
+      answer.results,
+      (λ sure. record {
+        rows = tells.firsts;
+        firsts = firsts_alike rows (history_rows (history_of before)) tells.firsts (same sure) tells.are_first;
+        answer = tells.found;
+      }),
+      is ∙ ap (λ (n : ℕ). Searched n (fields_of s) answer.results) tells.count,
+      still,
+    )
+
+not_found : (told : Bool) (s : Search) (before after : At) (r : Reply) (why : Refusal) → r ≡ Refused why → HasQueryCause told why before after → IsStill before after
+    → IsAnsweredOrRefused told (Ok (request.Search s)) before r after
+not_found told s before after r why is holds still = inr (why, is, holds, still)
+
+search_means : (s : Search) (before after : At) (r : Reply) (answer : Result SearchAnswer QueryError) → IsSearchReply s answer r → IsStill before after
+    → Says (IsSearchAnswer (asked_of s)) answer before after → IsAnsweredOrRefused false (Ok (request.Search s)) before r after
+search_means s before after r (Ok answer) (inl is) still (rows, same, tells) = found false s before after r rows answer is still (unsure before same) tells
+search_means s before after r (Ok answer) (inr is) still says = not_found false s before after r Memory is tt still
+search_means s before after r (Err error.Fault) is still rose = not_found false s before after r DiskFault is rose still
+search_means s before after r (Err (error.NotBlock file at)) is still among = not_found false s before after r (Round (cause.NotBlock file at)) is (refl, among) still
+search_means s before after r (Err error.Memory) is still any = not_found false s before after r Memory is tt still
+
+same_searched : (a b : ℕ) (fields : List (List ℕ)) (results more : List TraceResult) → Searched a fields results ≡ Searched b fields more → (a ≡ b) × (results ≡ more)
+same_searched a b fields results more e = (cc, cc)
+
+same_search : (a b : SearchAnswer) → a.as_of ≡ b.as_of → a.results ≡ b.results → a ≡ b
+same_search a b as_of results = ap (λ (n : ℕ). record { as_of = n; results = a.results }) as_of ∙ ap (λ (rs : List TraceResult). record { as_of = b.as_of; results = rs }) results
+
+not_refused : (as_of : ℕ) (fields : List (List ℕ)) (results : List TraceResult) (why : Refusal) → Searched as_of fields results ≡ Refused why → ⊥
+not_refused as_of fields results why e = cc
+
+search_told : (s : Search) (before after : At) (r : Reply) (answer other : Result SearchAnswer QueryError) → IsSearchReply s answer r → IsStill before after
+    → Says (IsSearchAnswer (asked_of s)) answer before after → IsSearchReply s other r → Sound (TellsOf (IsSearchAnswer (asked_of s)) (history_of before)) other
+    → IsAnsweredOrRefused true (Ok (request.Search s)) before r after
+search_told s before after r (Ok answer) (Ok other) (inl is) still (rows, same, tells) (inl also) sound =
+    let equal = same_searched answer.as_of other.as_of (fields_of s) answer.results other.results (sym is ∙ also) in
+    let own : TellsOf (IsSearchAnswer (asked_of s)) (history_of before) answer =
+    subst (λ (x : SearchAnswer). TellsOf (IsSearchAnswer (asked_of s)) (history_of before) x) (sym (same_search answer other equal.0 equal.1)) sound in
+    found true s before after r (history_rows (history_of before)) answer is still (λ sure k. refl)
+    (told_exactly (IsSearchAnswer (asked_of s)) (λ (x : SearchAnswer). x.as_of) (λ n rs x t. t.count) (history_of before) rows answer tells own)
+search_told s before after r (Ok answer) (Ok other) (inl is) still says (inr also) sound =
+    absurd (not_refused answer.as_of (fields_of s) answer.results Memory (sym is ∙ also))
+search_told s before after r (Ok answer) (Err why) (inl is) still says also sound =
+    absurd (not_refused answer.as_of (fields_of s) answer.results (query_refusal why) (sym is ∙ also))
+search_told s before after r (Ok answer) other (inr is) still says also sound = not_found true s before after r Memory is tt still
+search_told s before after r (Err error.Fault) other is still rose also sound = not_found true s before after r DiskFault is rose still
+search_told s before after r (Err (error.NotBlock file at)) (Ok other) is still among (inl also) sound =
+    absurd (not_refused other.as_of (fields_of s) other.results (query_refusal (error.NotBlock file at)) (sym also ∙ is))
+search_told s before after r (Err (error.NotBlock file at)) (Ok other) is still among (inr also) sound = let bad : ⊥ = (let e = sym is ∙ also in cc) in absurd bad
+search_told s before after r (Err (error.NotBlock file at)) (Err error.Fault) is still among also sound = let bad : ⊥ = (let e = sym is ∙ also in cc) in absurd bad
+search_told s before after r (Err (error.NotBlock file at)) (Err (error.NotBlock f a)) is still among also sound = absurd sound
+search_told s before after r (Err (error.NotBlock file at)) (Err error.Memory) is still among also sound = let bad : ⊥ = (let e = sym is ∙ also in cc) in absurd bad
+search_told s before after r (Err error.Memory) other is still any also sound = not_found true s before after r Memory is tt still
+
+-- ---- any item
 
 -- A line that isn't a query is answered as its calls say, whatever the blocks hold.
 by_call : (e : event) (r : reply) (before after : At) (calls : List Call) → calls ≡ call e r ∷ [] → CallsLead before calls after → IsStep before e r after
@@ -150,12 +199,32 @@ line_means told (Err why) before after r calls none a lead =
 pub item_means : (item : Item) (before after : At) (r : Reply) (calls : List Call) → Agrees before.machine → IsItemAnswered item r calls → CallsLead before calls after
     → IsAnsweredOrRefused false item before r after
 item_means (Ok (request.Push reading moment)) before after r calls agrees a lead = inl (line_means false (Ok (request.Push reading moment)) before after r calls (λ q. q) a lead)
-item_means (Ok (request.Trace id)) before after r calls agrees a lead = trace_means false id before after r (queried (IsTraceOf id) before r after calls agrees a lead)
-item_means (Ok (request.Search s)) before after r calls agrees a lead = search_means false s before after r (queried (IsSearchOf s) before r after calls agrees a lead)
+item_means (Ok (request.Trace id)) before after r calls agrees (answer, is, asked) lead =
+    let says = asked_says (IsTraceAnswer id) answer before after calls agrees asked lead in trace_means id before after r answer is says.0 says.1
+item_means (Ok (request.Search s)) before after r calls agrees (answer, is, asked) lead =
+    let says = asked_says (IsSearchAnswer (asked_of s)) answer before after calls agrees asked lead in search_means s before after r answer is says.0 says.1
 item_means (Ok (request.Cut moment)) before after r calls agrees a lead = inl (line_means false (Ok (request.Cut moment)) before after r calls (λ q. q) a lead)
 item_means (Ok request.CutAll) before after r calls agrees a lead = inl (line_means false (Ok request.CutAll) before after r calls (λ q. q) a lead)
 item_means (Ok request.Flush) before after r calls agrees a lead = inl (line_means false (Ok request.Flush) before after r calls (λ q. q) a lead)
 item_means (Err why) before after r calls agrees a lead = inl (line_means false (Err why) before after r calls (λ q. q) a lead)
+
+-- What is told of the history by the way.
+abbrev pub IsItemTold : History → Item → Reply → Type 0
+IsItemTold h (Ok asked) r = IsToldOf h asked r
+IsItemTold h (Err why) r = ⊤
+
+-- The same where what the blocks hold is told.
+pub item_means_told : (item : Item) (before after : At) (r : Reply) (calls : List Call) → Agrees before.machine → IsItemAnswered item r calls → CallsLead before calls after
+    → IsItemTold (history_of before) item r → IsAnsweredOrRefused true item before r after
+item_means_told (Ok (request.Push reading moment)) before after r calls agrees a lead t = inl (line_means true (Ok (request.Push reading moment)) before after r calls (λ q. q) a lead)
+item_means_told (Ok (request.Trace id)) before after r calls agrees (answer, is, asked) lead (other, also, sound) =
+    let says = asked_says (IsTraceAnswer id) answer before after calls agrees asked lead in trace_told id before after r answer other is says.0 says.1 also sound
+item_means_told (Ok (request.Search s)) before after r calls agrees (answer, is, asked) lead (other, also, sound) =
+    let says = asked_says (IsSearchAnswer (asked_of s)) answer before after calls agrees asked lead in search_told s before after r answer other is says.0 says.1 also sound
+item_means_told (Ok (request.Cut moment)) before after r calls agrees a lead t = inl (line_means true (Ok (request.Cut moment)) before after r calls (λ q. q) a lead)
+item_means_told (Ok request.CutAll) before after r calls agrees a lead t = inl (line_means true (Ok request.CutAll) before after r calls (λ q. q) a lead)
+item_means_told (Ok request.Flush) before after r calls agrees a lead t = inl (line_means true (Ok request.Flush) before after r calls (λ q. q) a lead)
+item_means_told (Err why) before after r calls agrees a lead t = inl (line_means true (Err why) before after r calls (λ q. q) a lead)
 
 -- ---- what an item keeps of the store
 
@@ -168,9 +237,9 @@ item_keeps : (P : Machine → Type 0) → IsKeptByAll P → (told : Bool) (item 
 item_keeps P keeps told (Ok (request.Push reading moment)) before after r (inl (answer, is, step)) has =
     keeps before.faults after.faults before.machine after.machine (event.Push reading.batch.spans moment) (push_reply answer) step.1 has
 item_keeps P keeps told (Ok (request.Trace id)) before after r (inl (rows, found, is, still)) has = subst P (sym still.0) has
-item_keeps P keeps told (Ok (request.Trace id)) before after r (inr (why, is, cause, still)) has = subst P (sym still.0) has
+item_keeps P keeps told (Ok (request.Trace id)) before after r (inr (why, is, holds, still)) has = subst P (sym still.0) has
 item_keeps P keeps told (Ok (request.Search s)) before after r (inl (results, found, is, still)) has = subst P (sym still.0) has
-item_keeps P keeps told (Ok (request.Search s)) before after r (inr (why, is, cause, still)) has = subst P (sym still.0) has
+item_keeps P keeps told (Ok (request.Search s)) before after r (inr (why, is, holds, still)) has = subst P (sym still.0) has
 item_keeps P keeps told (Ok (request.Cut moment)) before after r (inl (answer, is, step)) has =
     keeps before.faults after.faults before.machine after.machine (event.Cut moment) (count_reply answer) step.1 has
 item_keeps P keeps told (Ok request.CutAll) before after r (inl (answer, is, step)) has =
@@ -198,9 +267,9 @@ pub item_closes : (told : Bool) (item : Item) (before after : At) (r : Reply) �
 item_closes told (Ok (request.Push reading moment)) before after r (inl (answer, is, step)) closed =
     pushed_closes before.faults after.faults before.machine after.machine reading.batch.spans moment (push_reply answer) step.1 closed
 item_closes told (Ok (request.Trace id)) before after r (inl (rows, found, is, still)) closed = subst IsClosed (sym still.0) closed
-item_closes told (Ok (request.Trace id)) before after r (inr (why, is, cause, still)) closed = subst IsClosed (sym still.0) closed
+item_closes told (Ok (request.Trace id)) before after r (inr (why, is, holds, still)) closed = subst IsClosed (sym still.0) closed
 item_closes told (Ok (request.Search s)) before after r (inl (results, found, is, still)) closed = subst IsClosed (sym still.0) closed
-item_closes told (Ok (request.Search s)) before after r (inr (why, is, cause, still)) closed = subst IsClosed (sym still.0) closed
+item_closes told (Ok (request.Search s)) before after r (inr (why, is, holds, still)) closed = subst IsClosed (sym still.0) closed
 item_closes told (Ok (request.Cut moment)) before after r (inl (answer, is, step)) closed =
     let m = before.machine in
     cut_closes (is_idle moment m.state.live) m (count_reply answer) after.machine (cuts_idle before.faults after.faults m after.machine moment (count_reply answer) step.1) closed

@@ -13,7 +13,7 @@ use Rattle.session_meaning.specs.declared.ending.Ending.{Ending}
 use Rattle.session_meaning.specs.declared.ending.Ending.TheVariants.{Answered, BadWords, NotOpened, NotStore, ReadFault, Refused, Spent, Starved, WriteFault}
 use Rattle.session_meaning.specs.Pushes.{HasRoomFor}
 use Rattle.session_meaning.specs.Runs.{ComesToItsEnd, DoesInStore, Edges, EndsUnopened, FitsWords, GoesWell, HasAnswered, HasCause, HasItsStore, HasRun, IsNoStore, IsRunOf, NeedsNoSource, Outcome}
-use Rattle.session_meaning.specs.Session.{Ends, EndsAlone, end_of, is_for_memory, is_refusal, is_refused}
+use Rattle.session_meaning.specs.Session.{Ends, EndsAlone, Session, end_of, is_for_memory, is_refusal, is_refused}
 use Rattle.session_meaning.proofs.Room.{replies_plain}
 
 -- As many bytes as were taken are in the text.
@@ -102,13 +102,13 @@ module _ (sure : Bool) (words : List (List ℕ)) (o : Outcome) (old new : Edges)
   store_well session well = well.0
   store_well (Alone line) well = well.0
 
-  pub run_ends_well : (c : Command) → Spells words c → GoesWell c old new → (before : List ℕ) → old.taken ≡ Some before → list_any is_refused o.items ≡ false
+  pub run_ends_well : sure ≡ true → (c : Command) → Spells words c → GoesWell c old new → (before : List ℕ) → old.taken ≡ Some before → list_any is_refused o.items ≡ false
       → HasRoomFor o.items o.first.machine → (o.ending ≡ Answered) ⊎ (o.ending ≡ Starved)
-  run_ends_well c s well before told none room = go (run_ends c s well)
+  run_ends_well is_true c s well before told none room = go (run_ends c s well)
     where
       never : o.ending ≡ Refused → ⊥
       never e = elim (run.does c s) [
-        | inl did ↦ end_plain o.replies (replies_plain sure o.first o.last o.items o.replies old.disk_faults new.disk_faults run.session did.1.first_faults did.1.last_faults (store_well c well).3 room none) (refused_in c well before told did.3 e)
+        | inl did ↦ end_plain o.replies (replies_plain o.first o.last o.items o.replies old.disk_faults new.disk_faults (subst (λ (b : Bool). Session b o.first o.items o.replies o.last) is_true run.session) did.1.first_faults did.1.last_faults (store_well c well).3 room none) (refused_in c well before told did.3 e)
         | inr not ↦ subst (λ (k : Ending). EndsUnopened k old new.taken) e not.1.ends
       ]
 

@@ -1,4 +1,5 @@
 mod Looks
+mod QueryLaws
 pub mod Firsts
 mod FlushSteps
 mod Rounds

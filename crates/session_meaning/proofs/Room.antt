@@ -192,81 +192,86 @@ flush_goes_on round items before after flushed well room =
     let on = flush_without_faults before round after flushed well room.writes (λ writes. room.closed) (let most = room.files in omega (arith, most)) in
     (flush_plain round on.0, still_room (Ok request.Flush) items before.machine after.machine on.1 room)
 
-query_plain : (told : Bool) (why : Refusal) (before after : At) → HasQueryCause told why before after → (Rose before.faults after.faults → ⊥) → is_for_other why ≡ false
-query_plain told refusal.Memory before after cause well = refl
-query_plain told refusal.DiskFault before after cause well = absurd (well cause)
-query_plain told (refusal.TooLong n) before after cause well = absurd cause
-query_plain told (refusal.BadRequest n) before after cause well = absurd cause
-query_plain told refusal.BadJson before after cause well = absurd cause
-query_plain told (refusal.BadOtlp path) before after cause well = absurd cause
-query_plain told (refusal.TooMany n) before after cause well = absurd cause
-query_plain told (refusal.BadQuery fault) before after cause well = absurd cause
-query_plain told (refusal.BadType fault) before after cause well = absurd cause
-query_plain told (refusal.BadPattern n) before after cause well = absurd cause
-query_plain told (refusal.PatternTooBig n) before after cause well = absurd cause
-query_plain told (refusal.LiveFull n) before after cause well = absurd cause
-query_plain told (refusal.StoreFull n) before after cause well = absurd cause
-query_plain told (refusal.ReadOnly n) before after cause well = absurd cause
-query_plain told (refusal.Round why) before after cause well = absurd cause
-query_plain told (refusal.NotStore file at) before after cause well = absurd cause
+query_plain : (why : Refusal) (before after : At) → HasQueryCause true why before after → (Rose before.faults after.faults → ⊥) → is_for_other why ≡ false
+query_plain refusal.Memory before after cause well = refl
+query_plain refusal.DiskFault before after cause well = absurd (well cause)
+query_plain (refusal.TooLong n) before after cause well = absurd cause
+query_plain (refusal.BadRequest n) before after cause well = absurd cause
+query_plain refusal.BadJson before after cause well = absurd cause
+query_plain (refusal.BadOtlp path) before after cause well = absurd cause
+query_plain (refusal.TooMany n) before after cause well = absurd cause
+query_plain (refusal.BadQuery fault) before after cause well = absurd cause
+query_plain (refusal.BadType fault) before after cause well = absurd cause
+query_plain (refusal.BadPattern n) before after cause well = absurd cause
+query_plain (refusal.PatternTooBig n) before after cause well = absurd cause
+query_plain (refusal.LiveFull n) before after cause well = absurd cause
+query_plain (refusal.StoreFull n) before after cause well = absurd cause
+query_plain (refusal.ReadOnly n) before after cause well = absurd cause
+query_plain (refusal.Round (round_refusal.NotBlock file at)) before after cause well = let bad : ⊥ = (let untold = cause.0 in cc) in absurd bad
+query_plain (refusal.Round (round_refusal.ReadOnly faults)) before after cause well = absurd cause
+query_plain (refusal.Round (round_refusal.Busy job)) before after cause well = absurd cause
+query_plain (refusal.Round (round_refusal.FilesSpent next)) before after cause well = absurd cause
+query_plain (refusal.Round round_refusal.Fault) before after cause well = absurd cause
+query_plain (refusal.Round round_refusal.Memory) before after cause well = absurd cause
+query_plain (refusal.NotStore file at) before after cause well = absurd cause
 
-item_goes_on : (told : Bool) (item : Item) (items : List Item) (before after : At) (r : Reply) → IsAnsweredOrRefused told item before r after
+item_goes_on : (item : Item) (items : List Item) (before after : At) (r : Reply) → IsAnsweredOrRefused true item before r after
     → (Rose before.faults after.faults → ⊥) → is_refused item ≡ false → HasRoomFor (item ∷ items) before.machine → GoesOn r items after.machine
-item_goes_on told (Ok (request.Push reading moment)) items before after r (inl (answer, is, step)) well none room =
+item_goes_on (Ok (request.Push reading moment)) items before after r (inl (answer, is, step)) well none room =
     let spans = reading.batch.spans in
     let early = unsure before.machine spans moment room.writes (let all = room.pushes in omega (arith, all)) (let all = room.rows in omega (arith, all)) in
     let on = push_goes_on reading moment items before.machine after.machine answer room
     (taken before.faults after.faults before.machine after.machine spans moment (push_reply answer) early well step.1) in
     (subst IsPlain (sym is) on.0, on.1)
-item_goes_on told (Ok (request.Push reading moment)) items before after r (inr bad) well none room = absurd bad
-item_goes_on told (Ok (request.Trace id)) items before after r (inl (rows, found, is, still)) well none room =
+item_goes_on (Ok (request.Push reading moment)) items before after r (inr bad) well none room = absurd bad
+item_goes_on (Ok (request.Trace id)) items before after r (inl (rows, found, is, still)) well none room =
     (ap is_refusal is, same_room (Ok (request.Trace id)) items before.machine after.machine still.0 room)
-item_goes_on told (Ok (request.Trace id)) items before after r (inr (why, is, cause, still)) well none room =
-    (ap is_refusal is ∙ query_plain told why before after cause well, same_room (Ok (request.Trace id)) items before.machine after.machine still.0 room)
-item_goes_on told (Ok (request.Search s)) items before after r (inl (results, found, is, still)) well none room =
+item_goes_on (Ok (request.Trace id)) items before after r (inr (why, is, cause, still)) well none room =
+    (ap is_refusal is ∙ query_plain why before after cause well, same_room (Ok (request.Trace id)) items before.machine after.machine still.0 room)
+item_goes_on (Ok (request.Search s)) items before after r (inl (results, found, is, still)) well none room =
     (ap is_refusal is, same_room (Ok (request.Search s)) items before.machine after.machine still.0 room)
-item_goes_on told (Ok (request.Search s)) items before after r (inr (why, is, cause, still)) well none room =
-    (ap is_refusal is ∙ query_plain told why before after cause well, same_room (Ok (request.Search s)) items before.machine after.machine still.0 room)
-item_goes_on told (Ok (request.Cut moment)) items before after r (inl (answer, is, step)) well none room =
+item_goes_on (Ok (request.Search s)) items before after r (inr (why, is, cause, still)) well none room =
+    (ap is_refusal is ∙ query_plain why before after cause well, same_room (Ok (request.Search s)) items before.machine after.machine still.0 room)
+item_goes_on (Ok (request.Cut moment)) items before after r (inl (answer, is, step)) well none room =
     let m = before.machine in
     let cuts = cuts_idle before.faults after.faults m after.machine moment (count_reply answer) step.1 in (
       ap is_refusal is ∙ cut_plain Cut answer (λ moved. refl),
       still_room (Ok (request.Cut moment)) items m after.machine (cut_room (is_idle moment m.state.live) m (count_reply answer) after.machine cuts) room,
     )
-item_goes_on told (Ok (request.Cut moment)) items before after r (inr bad) well none room = absurd bad
-item_goes_on told (Ok request.CutAll) items before after r (inl (answer, is, step)) well none room =
+item_goes_on (Ok (request.Cut moment)) items before after r (inr bad) well none room = absurd bad
+item_goes_on (Ok request.CutAll) items before after r (inl (answer, is, step)) well none room =
     let m = before.machine in
     let cuts = cuts_all before.faults after.faults m after.machine (count_reply answer) step.1 in (
       ap is_refusal is ∙ cut_plain CutAll answer (λ moved. refl),
       still_room (Ok request.CutAll) items m after.machine (cut_room (λ entry. true) m (count_reply answer) after.machine cuts) room,
     )
-item_goes_on told (Ok request.CutAll) items before after r (inr bad) well none room = absurd bad
-item_goes_on told (Ok request.Flush) items before after r (inl (round, is, flushed)) well none room =
+item_goes_on (Ok request.CutAll) items before after r (inr bad) well none room = absurd bad
+item_goes_on (Ok request.Flush) items before after r (inl (round, is, flushed)) well none room =
     let on = flush_goes_on round items before after flushed well room in (subst IsPlain (sym is) on.0, on.1)
-item_goes_on told (Ok request.Flush) items before after r (inr bad) well none room = absurd bad
-item_goes_on told (Err why) items before after r (inl (is, same)) well none room =
+item_goes_on (Ok request.Flush) items before after r (inr bad) well none room = absurd bad
+item_goes_on (Err why) items before after r (inl (is, same)) well none room =
     (ap is_refusal is ∙ none, same_room (Err why) items before.machine after.machine (ap (λ (at : At). at.machine) same) room)
-item_goes_on told (Err why) items before after r (inr bad) well none room = absurd bad
+item_goes_on (Err why) items before after r (inr bad) well none room = absurd bad
 
 or_none : (a b : Bool) → (a || b) ≡ false → (a ≡ false) × (b ≡ false)
 or_none true b e = let bad : ⊥ = cc in absurd bad
 or_none false b e = (refl, e)
 
-plain_with_room : (told : Bool) (first last : At) (items : List Item) (replies : List Reply) → Session told first items replies last → (Rose first.faults last.faults → ⊥)
+plain_with_room : (first last : At) (items : List Item) (replies : List Reply) → Session true first items replies last → (Rose first.faults last.faults → ⊥)
     → HasRoomFor items first.machine → list_any is_refused items ≡ false → list_any is_refusal replies ≡ false
-plain_with_room told first last [] replies h well room none = ap (list_any is_refusal) h.0
-plain_with_room told first last (i ∷ is) [] h well room none = absurd h
-plain_with_room told first last (i ∷ is) (r ∷ rs) h well room none =
+plain_with_room first last [] replies h well room none = ap (list_any is_refusal) h.0
+plain_with_room first last (i ∷ is) [] h well room none = absurd h
+plain_with_room first last (i ∷ is) (r ∷ rs) h well room none =
     let parts = or_none (is_refused i) (list_any is_refused is) none in
-    let here = item_later told i first h.0 r h.1 in
-    let rest = session_later told is rs h.0 last h.2 in
-    let on = item_goes_on told i is first h.0 r h.1 (λ rose. well (rose_to first.faults h.0.faults last.faults rose rest)) parts.0 room in
-    let later : list_any is_refusal rs ≡ false = plain_with_room told h.0 last is rs h.2 (λ rose. well (rose_from first.faults h.0.faults last.faults here rose)) on.1 parts.1 in
+    let here = item_later true i first h.0 r h.1 in
+    let rest = session_later true is rs h.0 last h.2 in
+    let on = item_goes_on i is first h.0 r h.1 (λ rose. well (rose_to first.faults h.0.faults last.faults rose rest)) parts.0 room in
+    let later : list_any is_refusal rs ≡ false = plain_with_room h.0 last is rs h.2 (λ rose. well (rose_from first.faults h.0.faults last.faults here rose)) on.1 parts.1 in
     let plain : is_refusal r ≡ false = on.0 in
     rw (plain, later) refl
 
-pub replies_plain : (told : Bool) (first last : At) (items : List Item) (replies : List Reply) (old new : ℕ) → Session told first items replies last → old ≤ first.faults
+pub replies_plain : (first last : At) (items : List Item) (replies : List Reply) (old new : ℕ) → Session true first items replies last → old ≤ first.faults
     → last.faults ≡ new → (Rose old new → ⊥) → HasRoomFor items first.machine → list_any is_refused items ≡ false → list_any is_refusal replies ≡ false
-replies_plain told first last items replies old new h earlier now well room none =
-    plain_with_room told first last items replies h
+replies_plain first last items replies old new h earlier now well room none =
+    plain_with_room first last items replies h
     (λ rose. well (rose_from old first.faults new earlier (subst (λ (n : ℕ). Rose first.faults n) now rose))) room none

@@ -1,10 +1,10 @@
 -- Why a push, a flush or a query is refused.
-use Rattle.std.specs.Prelude.{Bool, ◌≡◌, ⊤, ℕ, ◌+◌, ◌<◌, ◌≤◌, Some, length}
+use Rattle.std.specs.Prelude.{Bool, true, false, ◌≡◌, ⊤, ℕ, ◌+◌, ◌<◌, ◌≤◌, Some, length}
 use Rattle.span_types.specs.Faults.{Rose}
 use Rattle.session_text.specs.declared.refusal.Refusal.{Refusal}
-use Rattle.session_text.specs.declared.refusal.Refusal.TheVariants.{DiskFault, LiveFull, Memory, ReadOnly, StoreFull}
+use Rattle.session_text.specs.declared.refusal.Refusal.TheVariants.{DiskFault, LiveFull, Memory, ReadOnly, Round, StoreFull}
 use Rattle.store_model.specs.History.{count_of}
-use Rattle.store_model.specs.State.{held_of}
+use Rattle.store_model.specs.State.{block_files, held_of, is_among}
 use Rattle.store_state.specs.declared.rounds.Refusal.{Refusal as Cause}
 use Rattle.store_state.specs.declared.rounds.Refusal.TheVariants as cause
 use Rattle.session_meaning.specs.At.{At, history_of}
@@ -32,8 +32,11 @@ HasFlushCause cause.Fault before after =
 HasFlushCause cause.Memory before after = ⊤
 HasFlushCause _ before after = ⊥
 
--- A query is refused for this only where that holds: a call of the disk failed in it; or, for memory, at any time.
+-- A query is refused for this only where that holds: a call of the disk failed in it; a listed block is found to be none, and what
+-- the blocks hold isn't told; or, for memory, at any time. `told` says that it is told.
 abbrev pub HasQueryCause : Bool → Refusal → At → At → Type 0
 HasQueryCause told DiskFault before after = Rose before.faults after.faults
+HasQueryCause told (Round (cause.NotBlock file at)) before after =
+    (told ≡ false) × (is_among file (block_files before.machine.state.blocks) ≡ true)
 HasQueryCause told Memory before after = ⊤
 HasQueryCause told _ before after = ⊥

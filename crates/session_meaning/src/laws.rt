@@ -1,6 +1,6 @@
 //! What follows from the definitions of a session and of a run.
 
-ghost use Rattle.std.specs.Prelude.{Bool, ◌≡◌, ◌⊎◌, ◌<◌, ◌++◌, List, [], ◌∷◌, Some, None, Ok, false, length, take, ℕ};
+ghost use Rattle.std.specs.Prelude.{Bool, IsTrue, true, ◌≡◌, ◌⊎◌, ◌<◌, ◌++◌, List, [], ◌∷◌, Some, None, Ok, false, length, take, ℕ};
 ghost use Rattle.std.specs.List.{Contains, list_any};
 ghost use Rattle.command_words.specs.Commands.{Command, Spells};
 ghost use Rattle.disk_model.specs.Images.{Image};
@@ -18,6 +18,7 @@ ghost use Rattle.store_model.specs.History.{History, count_of, grown};
 ghost use Rattle.store_model.specs.Laws.{Agrees};
 ghost use Rattle.store_images.specs.Stored.{ImageStandsFor, MayStandFor};
 ghost use Rattle.store_core.specs.Cores.{CoreShows};
+ghost use Rattle.store_core.specs.Past.{StandsSince};
 ghost use Rattle.store_core.specs.Port.{port_of};
 ghost use Rattle.store_model.specs.Step.{Machine};
 ghost use Rattle.store_state.specs.Made.{Call};
@@ -49,13 +50,21 @@ pub fn calls_answer_as_the_history_says()
         → Session false first items replies last }
 {}
 
-/// What is answered over the port of a core, from a machine on that its memory shows, whatever its disk holds, is a session, from
-/// that machine to one that its memory shows then. What queries tell isn't said where the store lists blocks.
+/// What is answered over the port of a core is a session.
 pub fn a_core_answers_as_the_history_says<D: Device>(old: &Core<D>, new: &Core<D>)
+    // From a machine on that its memory shows, whatever its disk holds, to one that it shows then. What queries tell isn't said
+    // where the store lists blocks.
     ensures shown { (items : List Item) (replies : List Reply)
         → AreAnsweredOver (port_of D.Device.own) old.now items replies new.now → (m : Machine)
         → CoreShows D.Device.own old.now m → (later : Machine) × CoreShows D.Device.own new.now later
         × Session false (at_core D.Device.own old.now m) items replies (at_core D.Device.own new.now later) }
+    // From a machine on for which it stands, where its disk tells its bytes: queries tell of all that was pushed, wherever it lies.
+    // What was left since an earlier disk goes on standing for the history at some length.
+    ensures since { (items : List Item) (replies : List Reply)
+        → AreAnsweredOver (port_of D.Device.own) old.now items replies new.now → (m : Machine) → (start : D) (least : ℕ)
+        → StandsSince D.Device.own start least old.now m → IsTrue (D.tells old.now.disk)
+        → (later : Machine) × StandsSince D.Device.own start least new.now later
+        × Session true (at_core D.Device.own old.now m) items replies (at_core D.Device.own new.now later) }
 {}
 
 /// A session keeps that the rows of the store are those of its history, and leaves no flush open while the store writes.
@@ -123,9 +132,10 @@ pub fn comes_to_an_end()
     // It answers all that it was asked.
     ensures ends { (told : Bool) (words : List (List ℕ)) (c : Command) (o : Outcome) (old new : Edges) → Spells words c
         → IsRunOf told words o old new → GoesWell c old new → ComesToItsEnd o.ending }
-    // And where nothing was refused in reading, and the store had room, nothing is refused but for memory.
-    ensures well { (told : Bool) (words : List (List ℕ)) (c : Command) (o : Outcome) (old new : Edges) → Spells words c
-        → IsRunOf told words o old new → GoesWell c old new
+    // And where nothing was refused in reading, the store had room, and what its blocks hold is told, nothing is refused but for
+    // memory.
+    ensures well { (words : List (List ℕ)) (c : Command) (o : Outcome) (old new : Edges) → Spells words c
+        → IsRunOf true words o old new → GoesWell c old new
         → (before : List ℕ) → old.taken ≡ Some before → list_any is_refused o.items ≡ false
         → HasRoomFor o.items o.first.machine → (o.ending ≡ Answered) ⊎ (o.ending ≡ Starved) }
 {}

@@ -1,4 +1,4 @@
-use Rattle.std.proofs.Common.{false, true, List, Option, [], ap, refl, subst, sym, ℕ}
+use Rattle.std.proofs.Common.{IsTrue, false, true, List, Option, [], ap, refl, subst, sym, ℕ}
 use Rattle.command_words.specs.Commands.{command_of}
 use Rattle.session_meaning.specs.Runs.{Edges, edges}
 use Rattle.session_meaning.specs.Stops.{Recovers}
@@ -50,7 +50,7 @@ returns-in-Ok-clause-recovers g c = λ told sound.
     let begins = c.in-Ok.ensures.opened.founded (λ t. sound) in
     let came = c.do_asked-ending.ensures.came in
     let since = stands_since_now d g.met.D.Device.only_now core begins.0 begins.1.stands in
-    let run = since_means d core.disk (count_of begins.0.history) came.0 came.1 core later begins.0 since came.4.each in
+    let run = since_means d core.disk (count_of begins.0.history) came.0 came.1 core later begins.0 (since, subst IsTrue (sym c.in-Ok.ensures.telling) told) came.4.each in
     let old : Edges = edges g.S.Source.left g.S.Source.faults g.K.Sink.taken g.K.Sink.faults g.C.Clock.moments d c.args.source.now c.args.sink.now c.args.clock.now disk in
     let new : Edges = edges g.S.Source.left g.S.Source.faults g.K.Sink.taken g.K.Sink.faults g.C.Clock.moments d c.do_asked-ending.new.source c.do_asked-ending.new.sink c.do_asked-ending.new.clock c.close.result in (
       in_a_store d moment core later begins.0 run.0 c.do_asked-ending.result came.0 came.1 came.2,
@@ -64,7 +64,7 @@ returns-in-Ok-clause-recovers g c = λ told sound.
           (cause_of c.do_asked-ending.result old new c.do_asked-ending.ensures.endings c.do_asked-ending.ensures.write_fault c.do_asked-ending.ensures.read_fault c.do_asked-ending.ensures.spent),
       subst (λ x. Recovers d disk x (in_a_store d moment core later begins.0 run.0 c.do_asked-ending.result came.0 came.1 came.2)) (sym c.close.ensures)
           (opened_recovers d disk moment core later begins.0 run.0 c.do_asked-ending.result came.0 came.1 came.2 begins.1.over came.4 told begins.1
-          c.in-Ok.ensures.kept c.in-Ok.ensures.telling run.1),
+          c.in-Ok.ensures.kept c.in-Ok.ensures.telling run.1.0),
     )
 
 pub returns-in-Err-clause-ran : goal.returns-in-Err-clause-ran
