@@ -33,7 +33,7 @@ use Rattle.store_images.specs.Stored.{SameFirsts}
 use Rattle.store_state.specs.Replies.{count_reply, push_reply}
 use Rattle.store_state.specs.Made.{Call, call}
 use Rattle.store_state.specs.declared.rounds.Refusal.TheVariants as cause
-use Rattle.client_run.specs.Answers.{IsSearchReply, IsToldOf, asked_of, query_refusal, traced_reply}
+use Rattle.client_run.specs.Answers.{IsSearchTold, TellsHistory, asked_of, query_refusal, trace_reply}
 use Rattle.client_run.specs.CoreRuns.{AreSteps}
 use Rattle.session_meaning.specs.Answering.{AreItemsAnswered, CallsLead, IsItemAnswered}
 use Rattle.session_meaning.specs.At.{At, IsStep, IsStill, history_of}
@@ -60,7 +60,7 @@ unsure before have (inr none) = have none
 -- ---- a look-up
 
 -- What it is told of these rows, which have the first occurrences of the history where the answer is sure.
-traced : (told : Bool) (id : TraceId) (before after : At) (r : Reply) (rows : List Row) (answer : TraceAnswer) → r ≡ traced_reply (Ok answer) → IsStill before after
+traced : (told : Bool) (id : TraceId) (before after : At) (r : Reply) (rows : List Row) (answer : TraceAnswer) → r ≡ trace_reply (Ok answer) → IsStill before after
     → (IsSure told before → SameFirsts rows (history_rows (history_of before))) → IsTraceAnswer id (count_of (history_of before)) rows answer
     → IsAnsweredOrRefused told (Ok (request.Trace id)) before r after
 traced told id before after r rows answer is still same tells =
@@ -76,7 +76,7 @@ refused : (told : Bool) (id : TraceId) (before after : At) (r : Reply) (why : Re
 refused told id before after r why is holds still = inr (why, is, holds, still)
 
 -- Whatever the blocks hold.
-trace_means : (id : TraceId) (before after : At) (r : Reply) (answer : Result TraceAnswer QueryError) → r ≡ traced_reply answer → IsStill before after
+trace_means : (id : TraceId) (before after : At) (r : Reply) (answer : Result TraceAnswer QueryError) → r ≡ trace_reply answer → IsStill before after
     → Says (IsTraceAnswer id) answer before after → IsAnsweredOrRefused false (Ok (request.Trace id)) before r after
 trace_means id before after r (Ok answer) is still (rows, same, tells) = traced false id before after r rows answer is still (unsure before same) tells
 trace_means id before after r (Err error.Fault) is still rose = refused false id before after r DiskFault is rose still
@@ -90,8 +90,8 @@ same_trace : (a b : TraceAnswer) → a.as_of ≡ b.as_of → a.rows ≡ b.rows �
 same_trace a b as_of rows = ap (λ (n : ℕ). record { as_of = n; rows = a.rows }) as_of ∙ ap (λ (rs : List Row). record { as_of = b.as_of; rows = rs }) rows
 
 -- Where what they hold is told.
-trace_told : (id : TraceId) (before after : At) (r : Reply) (answer other : Result TraceAnswer QueryError) → r ≡ traced_reply answer → IsStill before after
-    → Says (IsTraceAnswer id) answer before after → r ≡ traced_reply other → Sound (TellsOf (IsTraceAnswer id) (history_of before)) other
+trace_told : (id : TraceId) (before after : At) (r : Reply) (answer other : Result TraceAnswer QueryError) → r ≡ trace_reply answer → IsStill before after
+    → Says (IsTraceAnswer id) answer before after → r ≡ trace_reply other → Sound (TellsOf (IsTraceAnswer id) (history_of before)) other
     → IsAnsweredOrRefused true (Ok (request.Trace id)) before r after
 trace_told id before after r (Ok answer) (Ok other) is still (rows, same, tells) also sound =
     let equal = same_traced answer.as_of other.as_of answer.rows other.rows (sym is ∙ also) in
@@ -131,7 +131,7 @@ not_found : (told : Bool) (s : Search) (before after : At) (r : Reply) (why : Re
     → IsAnsweredOrRefused told (Ok (request.Search s)) before r after
 not_found told s before after r why is holds still = inr (why, is, holds, still)
 
-search_means : (s : Search) (before after : At) (r : Reply) (answer : Result SearchAnswer QueryError) → IsSearchReply s answer r → IsStill before after
+search_means : (s : Search) (before after : At) (r : Reply) (answer : Result SearchAnswer QueryError) → IsSearchTold (asked_of s) answer r → IsStill before after
     → Says (IsSearchAnswer (asked_of s)) answer before after → IsAnsweredOrRefused false (Ok (request.Search s)) before r after
 search_means s before after r (Ok answer) (inl is) still (rows, same, tells) = found false s before after r rows answer is still (unsure before same) tells
 search_means s before after r (Ok answer) (inr is) still says = not_found false s before after r Memory is tt still
@@ -148,8 +148,8 @@ same_search a b as_of results = ap (λ (n : ℕ). record { as_of = n; results = 
 not_refused : (as_of : ℕ) (fields : List (List ℕ)) (results : List TraceResult) (why : Refusal) → Searched as_of fields results ≡ Refused why → ⊥
 not_refused as_of fields results why e = cc
 
-search_told : (s : Search) (before after : At) (r : Reply) (answer other : Result SearchAnswer QueryError) → IsSearchReply s answer r → IsStill before after
-    → Says (IsSearchAnswer (asked_of s)) answer before after → IsSearchReply s other r → Sound (TellsOf (IsSearchAnswer (asked_of s)) (history_of before)) other
+search_told : (s : Search) (before after : At) (r : Reply) (answer other : Result SearchAnswer QueryError) → IsSearchTold (asked_of s) answer r → IsStill before after
+    → Says (IsSearchAnswer (asked_of s)) answer before after → IsSearchTold (asked_of s) other r → Sound (TellsOf (IsSearchAnswer (asked_of s)) (history_of before)) other
     → IsAnsweredOrRefused true (Ok (request.Search s)) before r after
 search_told s before after r (Ok answer) (Ok other) (inl is) still (rows, same, tells) (inl also) sound =
     let equal = same_searched answer.as_of other.as_of (fields_of s) answer.results other.results (sym is ∙ also) in
@@ -210,7 +210,7 @@ item_means (Err why) before after r calls agrees a lead = inl (line_means false 
 
 -- What is told of the history by the way.
 abbrev pub IsItemTold : History → Item → Reply → Type 0
-IsItemTold h (Ok asked) r = IsToldOf h asked r
+IsItemTold h (Ok asked) r = TellsHistory h asked r
 IsItemTold h (Err why) r = ⊤
 
 -- The same where what the blocks hold is told.

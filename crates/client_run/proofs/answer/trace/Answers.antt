@@ -1,12 +1,14 @@
-use Rattle.std.proofs.Common.{Err, Ok, ap, refl}
-use Rattle.session_text.specs.declared.reply.Reply.TheVariants.{Refused, Traced}
-use Rattle.client_run.proofs.AnswerLemmas.{trace_replied}
+use Rattle.client_run.specs.Answers.{IsTraceOf}
+use Rattle.client_run.proofs.AnswerLemmas.{has_told, is_open, told_nothing}
 use Rattle.client_run.proofs.answer.trace.Goals as goal
 
-pub returns-in-Ok : goal.returns-in-Ok
-returns-in-Ok g c =
-    trace_replied g.P.LookPort.meaning c.args.port.now c.find_trace.new.port c.args.id (Ok c.in-Ok.answer) (Traced c.in-Ok.answer.as_of c.in-Ok.answer.rows) c.in-Ok.ensures refl
-
 pub returns-in-Err : goal.returns-in-Err
-returns-in-Err g c =
-    trace_replied g.P.LookPort.meaning c.args.port.now c.find_trace.new.port c.args.id (Err c.in-Err.error) (Refused c.query_refusal.result) c.in-Err.ensures (ap Refused c.query_refusal.ensures)
+returns-in-Err g c = told_nothing g.P.LookPort.meaning c.args.port.now c.look.new.self (IsTraceOf c.args.id) c.in-Err.ensures.called
+
+pub done-requires : goal.done-requires
+done-requires g c = is_open g.P.LookPort.meaning c.args.port.now c.look.new.self c.in-Ok.look c.in-Ok.ensures.called c.requires
+
+pub returns : goal.returns
+returns g c =
+    has_told g.P.LookPort.meaning c.args.port.now c.look.new.self c.done.new.self c.in-Ok.look (IsTraceOf c.args.id) c.traced-reply.result
+    c.in-Ok.ensures.called c.done.ensures c.traced-reply.ensures
