@@ -46,7 +46,8 @@ pub data IsFlushed (before : At) (round : Round) (after : At) : Type 0 where
 
 -- ---- what follows
 
--- What a flush did that listed a block: of how many rows, and what it leaves.
+-- What a flush did that listed a block: rows waited in the head, of the first ones the first occurrences were counted, and the store
+-- is as after a begin and a commit of a block with them.
 pub record HasListed (m : Machine) (blocks count : ℕ) (m' : Machine) : Type 0 where
   pub some : 1 ≤ length m.state.head
   pub firsts : List Row
