@@ -48,6 +48,7 @@ has_same core live m same has = record {
   blocks = has.blocks;
   infos = has.infos;
   listed = has.listed;
+  commit = has.commit;
   rules = has.rules;
   segments = has.segments;
   last = has.last;
@@ -107,6 +108,7 @@ has_pushed core live segment m spans moment number has added head flushing is be
       blocks = has.blocks;
       infos = has.infos;
       listed = has.listed;
+      commit = has.commit;
       rules = has.rules;
       segments = has.segments;
       last = (
@@ -158,6 +160,7 @@ has_broken core live segment ready faults m same still has = record {
   blocks = has.blocks;
   infos = has.infos;
   listed = has.listed;
+  commit = λ none. absurd (let bad : Some faults ≡ None = none in cc);
   rules = has.rules;
   segments = has.segments;
   last = (has.last.0, has.last.1 ∙ ap (λ (x : Segment). has.last.0 ++ ref_to x.file x.first ∷ []) (sym still));
@@ -201,6 +204,7 @@ has_stopped core faults m has = record {
   blocks = has.blocks;
   infos = has.infos;
   listed = has.listed;
+  commit = λ none. absurd (let bad : Some faults ≡ None = none in cc);
   rules = has.rules;
   segments = has.segments;
   last = has.last;

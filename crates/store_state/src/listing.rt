@@ -83,8 +83,8 @@ pub fn commit_flush(
     next.next_file = now.next_file;
 }
 
-/// The same from lists alone: `next` names these blocks with a block at the end, those of these segments with a last one that
-/// stay with the floor, and as loose these files and those of the other segments.
+/// The same from lists alone: `next` names these blocks with a block at the end, those of these segments with a last one
+/// that stay with the floor, and as loose these files and those of the other segments.
 pub fn list_flush(
     blocks: &[BlockRef],
     segments: &[SegmentRef],
