@@ -1,6 +1,7 @@
 mod Quiet
 mod Described
 mod NoJobs
+mod NextRoom
 mod States
 mod Logged
 mod HeldFiles
