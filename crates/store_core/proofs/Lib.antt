@@ -29,7 +29,8 @@ mod CommitStates
 mod CommitFacts
 mod CommitRuns
 mod CommitEvents
-mod CommitDone
+mod CommitEnds
+mod CommitAnswers
 mod PortEvents
 pub mod LogSteps
 mod LooseFiles

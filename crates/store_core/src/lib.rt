@@ -4,6 +4,7 @@
 #![tactic(auto)]
 
 mod admit;
+mod committing;
 mod blocks;
 mod cutting;
 mod error;
