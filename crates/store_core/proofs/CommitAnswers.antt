@@ -56,7 +56,7 @@ module _ {D : Type 0} (g : Ghosts D) (old : Core D) (m0 : Machine) (s0 : CoreSho
       (subst (λ (r : List Row). IsFirstOf r block.firsts) (sym (sym (s0.has.flushing ∙ ap flush_rows here.is_open) ∙ rows_here old.state m0 number file rows s0.has is)) block.are_first)
       next (subst (λ (n : ℕ). IsNextList old.state here.mine.files n next) counted its) size.0 size.1)
 
-  pub commits : (list : ListBody) (count : ℕ) → count ≡ info.rows → IfSome old.state.jobs.flush (λ known. IsNextList old.state known.files count list)
+  abbrev pub commits : (list : ListBody) (count : ℕ) → count ≡ info.rows → IfSome old.state.jobs.flush (λ known. IsNextList old.state known.files count list)
       → Commits old.state (g.held old.disk) (IsTrue (g.tells old.disk)) number file info.rows rows block.firsts info list
   commits list count counted next = record {
     writes = writes;
