@@ -15,6 +15,7 @@ mod memory;
 mod pages;
 mod stripes;
 
+pub use block::{Block, block_of};
 pub use calls::{all_rows, check_block, trace_rows};
 pub use error::ReadError;
 pub use laws::{described_block_is_read, held_block_is_read, read_block_is_held};
