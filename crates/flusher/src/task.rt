@@ -16,7 +16,7 @@ use block_info::SharedInfo;
 use std::alloc::Global;
 use std::marker::Model;
 use std::mem;
-use store_state::{FlushJob, Port, Refusal, Round, Step, begin_cause, write_cause};
+use store_state::{FlushJob, FlushPort, Refusal, Round, Step, begin_cause, write_cause};
 
 // How far a flush is, with what it has in hand.
 #[derive(Drop)]
@@ -58,7 +58,7 @@ impl FlushTask {
     /// Makes the next event of the round. Behind its end it makes none and answers the same end again.
     ///
     /// All steps of a task are made on one port, or on those that stand for it, so that the job stays open.
-    pub fn step<P: Port>(&mut self, port: &mut P) -> Step
+    pub fn step<P: FlushPort>(&mut self, port: &mut P) -> Step
         requires { Fits P.meaning self.old port.old }
         ensures steps { Steps P.meaning self.old port.old self.new port.new }
         ensures fits { Fits P.meaning self.new port.new }
@@ -74,7 +74,7 @@ impl FlushTask {
     }
 }
 
-fn advance<P: Port>(alloc: Global, phase: Phase, port: &mut P) -> Phase
+fn advance<P: FlushPort>(alloc: Global, phase: Phase, port: &mut P) -> Phase
     requires { Fits P.meaning (task_of phase) port.old }
     ensures steps { Steps P.meaning (task_of phase) port.old (task_of result) port.new }
     ensures fits { Fits P.meaning (task_of result) port.new }
@@ -90,7 +90,7 @@ fn advance<P: Port>(alloc: Global, phase: Phase, port: &mut P) -> Phase
 }
 
 // Begins the round.
-fn begin<P: Port>(port: &mut P) -> Phase
+fn begin<P: FlushPort>(port: &mut P) -> Phase
     requires { (held : List Hold) × P.meaning.holds port.old held }
     ensures steps { OneEvent P.meaning Fresh port.old (task_of result) port.new }
     ensures fits { Fits P.meaning (task_of result) port.new }
@@ -104,7 +104,7 @@ fn begin<P: Port>(port: &mut P) -> Phase
 }
 
 // Builds the block and writes its first piece, or gives the job up.
-fn open<P: Port>(alloc: Global, job: FlushJob, port: &mut P) -> Phase
+fn open<P: FlushPort>(alloc: Global, job: FlushJob, port: &mut P) -> Phase
     requires { HasBegun P.meaning job port.old }
     ensures steps { OneEvent P.meaning (Begun job) port.old (task_of result) port.new }
     ensures fits { Fits P.meaning (task_of result) port.new }
@@ -117,7 +117,7 @@ fn open<P: Port>(alloc: Global, job: FlushJob, port: &mut P) -> Phase
 }
 
 // Gives a job up for want of memory.
-fn give_up_begun<P: Port>(job: FlushJob, port: &mut P) -> Phase
+fn give_up_begun<P: FlushPort>(job: FlushJob, port: &mut P) -> Phase
     requires { IsOpen P.meaning port.old (flush_of job) }
     ensures steps { OneEvent P.meaning (Begun job) port.old (task_of result) port.new }
     ensures fits { Fits P.meaning (task_of result) port.new }
@@ -128,7 +128,7 @@ fn give_up_begun<P: Port>(job: FlushJob, port: &mut P) -> Phase
 }
 
 // Makes the first event of a block that is built.
-fn start<P: Port>(job: FlushJob, block: Block, port: &mut P) -> Phase
+fn start<P: FlushPort>(job: FlushJob, block: Block, port: &mut P) -> Phase
     requires is_writing { IsWriting P.meaning job block.bytes block.info port.old }
     requires at_start { job.out.written ≡ 0 }
     ensures steps { OneEvent P.meaning (Begun job) port.old (task_of result) port.new }
@@ -139,7 +139,7 @@ fn start<P: Port>(job: FlushJob, block: Block, port: &mut P) -> Phase
 }
 
 // Writes the next piece, or lists the block that is written.
-fn go_on<P: Port>(job: FlushJob, block: Block, port: &mut P) -> Phase
+fn go_on<P: FlushPort>(job: FlushJob, block: Block, port: &mut P) -> Phase
     requires { IsWriting P.meaning job block.bytes block.info port.old }
     ensures steps { OneEvent P.meaning (Writing job block.bytes block.info) port.old (task_of result) port.new }
     ensures fits { Fits P.meaning (task_of result) port.new }
@@ -154,7 +154,7 @@ fn go_on<P: Port>(job: FlushJob, block: Block, port: &mut P) -> Phase
 }
 
 // Writes the next piece.
-fn write<P: Port>(job: FlushJob, block: Block, port: &mut P) -> Phase
+fn write<P: FlushPort>(job: FlushJob, block: Block, port: &mut P) -> Phase
     requires is_writing { IsWriting P.meaning job block.bytes block.info port.old }
     requires more { job.out.written < length block.bytes }
     ensures steps { OneEvent P.meaning (Writing job block.bytes block.info) port.old (task_of result) port.new }
@@ -170,7 +170,7 @@ fn write<P: Port>(job: FlushJob, block: Block, port: &mut P) -> Phase
 }
 
 // Lists the block, which is written.
-fn commit<P: Port>(job: FlushJob, block: Block, port: &mut P) -> Phase
+fn commit<P: FlushPort>(job: FlushJob, block: Block, port: &mut P) -> Phase
     requires is_writing { IsWriting P.meaning job block.bytes block.info port.old }
     requires whole { job.out.written ≡ length block.bytes }
     ensures steps { OneEvent P.meaning (Writing job block.bytes block.info) port.old (task_of result) port.new }
@@ -191,7 +191,7 @@ fn rows_of(info: &SharedInfo) -> u32
 }
 
 // Gives a job up.
-fn give_up<P: Port>(job: FlushJob, why: Refusal, port: &mut P) -> Phase
+fn give_up<P: FlushPort>(job: FlushJob, why: Refusal, port: &mut P) -> Phase
     requires { IsOpen P.meaning port.old (flush_of job) }
     ensures steps { OneEvent P.meaning (Failing job why) port.old (task_of result) port.new }
     ensures fits { Fits P.meaning (task_of result) port.new }
@@ -204,7 +204,7 @@ fn give_up<P: Port>(job: FlushJob, why: Refusal, port: &mut P) -> Phase
 /// Flushes rows that wait in the head: one whole round, which says what it did or why it was refused.
 ///
 /// The port says what is open in it, as each port does.
-pub fn flush_round<P: Port>(alloc: Global, port: &mut P) -> Round
+pub fn flush_round<P: FlushPort>(alloc: Global, port: &mut P) -> Round
     requires { (held : List Hold) × P.meaning.holds port.old held }
     ensures { (calls : List Call) × AreMade P.meaning port.old calls port.new × IsFlushRound calls result }
 {

@@ -1,5 +1,5 @@
-//! The calls of a store: the traits `LookPort` and `Port`, whose contracts say of each call what it makes of all that a port
-//! shows.
+//! The calls of a store: the traits `LookPort`, `FlushPort` and `Port`, whose contracts say of each call what it makes of all
+//! that a port shows.
 //!
 //! The machine behind the calls stands in `store_model`; `specs/Meaning.antt` says what a port shows and what one call does to
 //! it.
@@ -22,5 +22,5 @@ pub use freeing::reclaim;
 pub use jobs::{CompactJob, FlushJob, JobFile, Look, Pin};
 pub use laws::{a_choice_is_few, a_step_tells_what_is_learnt, the_floor_is_the_least_that_waits};
 pub use listing::{FlushFiles, Listing, commit_compact, commit_flush, list_body, listing_of};
-pub use port::{LookPort, Port};
+pub use port::{FlushPort, LookPort, Port};
 pub use rounds::{Refusal, Round, Step, begin_cause, write_cause};

@@ -47,12 +47,11 @@ pub trait LookPort {
         ensures { Called meaning self.old (Done look.pin.number) Fine self.new };
 }
 
-/// All calls of a store, each of which is one event: pushes and looks, and with these cuts, flushes, compactions, page reads and
-/// the emptying of loose files.
+/// What a flusher and the reads of blocks ask of a store besides, each call one event: cuts, flushes and page reads.
 ///
 /// A call that takes a pin, a job or a job's file asks that this port gave it and that it is open. In a store that is read-only
 /// calls that write are refused, and cuts and page reads go on.
-pub trait Port: LookPort {
+pub trait FlushPort: LookPort {
     /// Moves the traces that are idle at the moment to the head, and answers how many rows it moved.
     fn cut(&mut self, moment: u64) -> Result<u64, Memory>
         ensures { Called Self.meaning self.old (Cut moment) (count_reply result) self.new };
@@ -66,15 +65,6 @@ pub trait Port: LookPort {
         ensures called { Called Self.meaning self.old BeginFlush (begin_flush_reply result) self.new }
         ensures fresh { IfOk result (λ begun. IfSome begun (λ job.
             (job.out.written ≡ 0) × (1 ≤ length job.rows) × (length job.rows ≤ 1048576))) };
-
-    /// Begins a compaction of the blocks that are to be joined next; none where no two of a level below 63 fit together.
-    fn begin_compact(&mut self) -> Result<Option<CompactJob>, BeginError>
-        ensures called { Called Self.meaning self.old BeginCompact (begin_compact_reply result) self.new }
-        ensures fresh { IfOk result (λ begun. IfSome begun (λ job. job.out.written ≡ 0)) }
-        ensures joins { IfOk result (λ begun. IfSome begun (λ job.
-            JoinsChoice (Self.meaning.lists self.old) job.level job.pin.blocks)) }
-        ensures blocks { IsTrue (Self.meaning.tells self.new) → IfOk result (λ begun. IfSome begun (λ job.
-            AreBlocks (Self.meaning.shows self.new) job.pin.blocks)) };
 
     /// Writes bytes behind those that were written to a job's file, and counts them; a refusal counts none. The file is handed in
     /// as the port left it: what was written to it is what it holds. Only where the write itself failed is this not so afterwards.
@@ -97,25 +87,10 @@ pub trait Port: LookPort {
         ensures { Called Self.meaning self.old (CommitFlush job.out.number info.rows)
             (write_reply result) self.new };
 
-    /// Lists a compaction's block, which its file holds and the information describes, in the place of those that it joins. The job
-    /// is spent, refused or not.
-    fn commit_compact(&mut self, job: CompactJob, info: SharedInfo) -> Result<(), WriteError>
-        requires open { IsOpen Self.meaning self.now (compact_of job) }
-        requires size { (1 ≤ info.rows) × (info.rows ≤ 1048576) }
-        requires block { IsJoinedBlock (IsTrue (Self.meaning.tells self.now)) (Self.meaning.shows self.now)
-            job.out.file job.level info job.pin.blocks }
-        ensures { Called Self.meaning self.old (CommitCompact job.out.number info.rows)
-            (write_reply result) self.new };
-
     /// Gives a flush up: its rows go back to the head's front, and its files become loose.
     fn drop_flush(&mut self, job: FlushJob)
         requires { IsOpen Self.meaning self.now (flush_of job) }
         ensures { Called Self.meaning self.old (DropFlush job.out.number) Fine self.new };
-
-    /// Gives a compaction up: its file becomes loose.
-    fn drop_compact(&mut self, job: CompactJob)
-        requires { IsOpen Self.meaning self.now (compact_of job) }
-        ensures { Called Self.meaning self.old (DropCompact job.out.number) Fine self.new };
 
     /// Reads a page of a pinned block as it was when the pin was taken. Behind the file's end it has zeros.
     fn read_page(
@@ -130,6 +105,34 @@ pub trait Port: LookPort {
             self.new }
         ensures bytes { IsTrue (Self.meaning.tells self.old) →
             OnOk result (buf.new ≡ page_of (Self.meaning.shows self.old block) page) };
+}
+
+/// All calls of a store, each of which is one event: those of a `FlushPort`, and with these compactions and the emptying of loose
+/// files.
+pub trait Port: FlushPort {
+    /// Begins a compaction of the blocks that are to be joined next; none where no two of a level below 63 fit together.
+    fn begin_compact(&mut self) -> Result<Option<CompactJob>, BeginError>
+        ensures called { Called Self.meaning self.old BeginCompact (begin_compact_reply result) self.new }
+        ensures fresh { IfOk result (λ begun. IfSome begun (λ job. job.out.written ≡ 0)) }
+        ensures joins { IfOk result (λ begun. IfSome begun (λ job.
+            JoinsChoice (Self.meaning.lists self.old) job.level job.pin.blocks)) }
+        ensures blocks { IsTrue (Self.meaning.tells self.new) → IfOk result (λ begun. IfSome begun (λ job.
+            AreBlocks (Self.meaning.shows self.new) job.pin.blocks)) };
+
+    /// Lists a compaction's block, which its file holds and the information describes, in the place of those that it joins. The job
+    /// is spent, refused or not.
+    fn commit_compact(&mut self, job: CompactJob, info: SharedInfo) -> Result<(), WriteError>
+        requires open { IsOpen Self.meaning self.now (compact_of job) }
+        requires size { (1 ≤ info.rows) × (info.rows ≤ 1048576) }
+        requires block { IsJoinedBlock (IsTrue (Self.meaning.tells self.now)) (Self.meaning.shows self.now)
+            job.out.file job.level info job.pin.blocks }
+        ensures { Called Self.meaning self.old (CommitCompact job.out.number info.rows)
+            (write_reply result) self.new };
+
+    /// Gives a compaction up: its file becomes loose.
+    fn drop_compact(&mut self, job: CompactJob)
+        requires { IsOpen Self.meaning self.now (compact_of job) }
+        ensures { Called Self.meaning self.old (DropCompact job.out.number) Fine self.new };
 
     /// Empties the loose files that no pin names, and answers how many.
     fn reclaim(&mut self) -> Result<u64, ReclaimError>
