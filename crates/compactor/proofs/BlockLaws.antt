@@ -1,8 +1,8 @@
 -- What is read of blocks whose bytes are told.
-use Rattle.std.proofs.Common.{◌≡◌, ◌≢◌, ℕ, zero, suc, ◌+◌, ◌*◌, ◌<◌, ◌≤◌, max, Bool, true, false, ◌||◌, List, [], ◌∷◌, ◌++◌, length, take, drop, replicate, get_or, Result, Ok, Err, eqb, refl, sym, ap, subst, ◌∙◌, arith}
+use Rattle.std.proofs.Common.{◌≡◌, ℕ, zero, suc, ◌+◌, ◌*◌, ◌<◌, ◌≤◌, Bool, true, false, ◌||◌, List, [], ◌∷◌, ◌++◌, length, take, drop, replicate, get_or, Ok, eqb, refl, sym, ap, subst, ◌∙◌, arith}
 use Rattle.std.specs.List.{flat_map}
 use Rattle.std.proofs.lemmas.Bool.{eq-eqb, eqb-true}
-use Rattle.std.proofs.lemmas.List.{drop-drop, length-append, length-drop, length_push, take_all, take_more, take-append-le}
+use Rattle.std.proofs.lemmas.List.{drop-drop, length-append, length-drop, take_all, take-append-le}
 use Rattle.span_types.specs.declared.spans.Row.{Row}
 use Rattle.block_info.specs.InfoParts.{InfoParts}
 use Rattle.block_format.specs.Blocks.{BlockHasInfo, index_page_of}

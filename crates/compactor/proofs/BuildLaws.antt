@@ -1,11 +1,10 @@
 -- The block that is built of several lists of rows.
-use Rattle.std.proofs.Common.{◌≡◌, ℕ, List, length, refl, ap, subst, sym}
+use Rattle.std.proofs.Common.{◌≡◌, ℕ, List, refl, ap, subst, sym}
 use Rattle.std.specs.List.{flat_map}
 use Rattle.span_types.specs.declared.spans.Row.{Row}
 use Rattle.span_types.specs.First.{IsFirstOf}
 use Rattle.span_types.proofs.FirstLaws.{first_at-firsts, firsts_alike}
 use Rattle.block_info.specs.InfoParts.{InfoParts}
-use Rattle.block_format.specs.Blocks.{BlockHasInfo}
 use Rattle.block_build.specs.Built.{IsBlockOf}
 use Rattle.block_build.specs.declared.building.BuiltBlock.{BuiltBlock}
 use Rattle.compactor.specs.Rounds.{IsJoined}

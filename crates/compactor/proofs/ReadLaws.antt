@@ -1,15 +1,14 @@
 -- How a compaction's task goes on as blocks are read.
-use Rattle.std.proofs.Common.{◌≡◌, ℕ, ◌+◌, ◌-◌, ◌*◌, ◌^◌, ◌<◌, ◌≤◌, Bool, false, List, [], ◌∷◌, ◌++◌, length, take, drop, get_or, Result, Ok, Err, refl, sym, ap, subst, ◌∙◌, arith}
+use Rattle.std.proofs.Common.{◌≡◌, ℕ, ◌+◌, ◌-◌, ◌*◌, ◌^◌, ◌<◌, ◌≤◌, List, [], ◌∷◌, ◌++◌, length, take, drop, get_or, Result, Ok, Err, refl, sym, ap, subst, ◌∙◌, arith}
 use Rattle.std.specs.Prelude.{IsTrue, Some}
-use Rattle.std.specs.List.{flat_map}
-use Rattle.std.proofs.lemmas.List.{length_push, take_all, take_more, drop_all}
+use Rattle.std.proofs.lemmas.List.{length_push, take_more}
 use Rattle.span_types.specs.declared.spans.Row.{Row}
 use Rattle.span_fields.specs.Breaks.{Fails}
 use Rattle.span_fields.specs.declared.breaks.Break.{Break}
 use Rattle.span_fields.specs.declared.breaks.Break.TheVariants as breaks
 use Rattle.block_info.specs.InfoParts.{InfoParts}
 use Rattle.block_format.specs.declared.header.Header.{Header}
-use Rattle.block_format.specs.Blocks.{BlockHasHeader, BlockHasInfo, BlockHolds}
+use Rattle.block_format.specs.Blocks.{BlockHasHeader, BlockHolds}
 use Rattle.store_model.specs.Event.Event.{BeginCompact, ReadPage}
 use Rattle.store_model.specs.Event.{Reply as reply}
 use Rattle.store_model.specs.Event.Reply.{Compacting, Page}
@@ -19,18 +18,17 @@ use Rattle.store_state.specs.Made.{Call, call}
 use Rattle.store_state.specs.Meaning.{Meaning, IsOpen, Called}
 use Rattle.store_state.specs.Replies.{begin_compact_reply}
 use Rattle.store_state.specs.Shown.{AreBlocks, AreFew}
-use Rattle.store_state.specs.Written.{AreBlocksOf, page_of}
+use Rattle.store_state.specs.Written.{page_of}
 use Rattle.store_state.specs.declared.jobs.CompactJob.{CompactJob}
-use Rattle.store_state.specs.declared.rounds.Refusal.TheVariants.{Memory, Fault, NotBlock}
+use Rattle.store_state.specs.declared.rounds.Refusal.TheVariants.{Fault}
 use Rattle.store_state.specs.declared.rounds.Round.{Round}
-use Rattle.store_state.specs.declared.rounds.Round.TheVariants.{Refused}
 use Rattle.store_state.proofs.HoldLaws.{stays_open}
-use Rattle.compactor.specs.Rounds.{FoundBlocks, Leads, pages_of, rows_at}
+use Rattle.compactor.specs.Rounds.{Leads, pages_of, rows_at}
 use Rattle.compactor.specs.Rounds.{Stage as stage}
 use Rattle.compactor.specs.Rounds.Leads.{begun, read, unread, block, no_block, starved}
 use Rattle.compactor.specs.Phases.{OfFirst, Turned, unread_cause}
 use Rattle.compactor.specs.Phases.Turned.{MorePages, Starved, Malformed, NextBlock}
-use Rattle.compactor.specs.Tasks.{AreCounted, BeginsWith, Fits, HasPage, IsFailing, IsReading, OneEvent, ShowsRead, Task, blocks_left, job_of, stage_of, steps_left}
+use Rattle.compactor.specs.Tasks.{AreCounted, BeginsWith, Fits, HasPage, IsReading, OneEvent, ShowsRead, Task, blocks_left, job_of, stage_of, steps_left}
 use Rattle.compactor.specs.Tasks.Task.{Fresh, Reading, Failing}
 use Rattle.compactor.proofs.BlockLaws.{Sizes, StaySame, begins_none, begins_stays, blocks_stay, counted_more, counted_none, drop_next, first_stays, has_first_page, page_behind, part_at, rest_stays, some_pages, whole_rows}
 

@@ -1,13 +1,11 @@
 -- How a compaction's task goes on as its block is written.
-use Rattle.std.proofs.Common.{◌≡◌, ℕ, ◌+◌, ◌*◌, ◌<◌, ◌≤◌, ◌==◌, Bool, true, false, List, [], ◌∷◌, ◌++◌, length, take, drop, refl, sym, ap, subst, ◌∙◌, arith, if◌then◌else◌}
+use Rattle.std.proofs.Common.{◌≡◌, ℕ, ◌+◌, ◌≤◌, ◌==◌, Bool, true, false, List, [], ◌∷◌, ◌++◌, length, take, drop, refl, sym, ap, subst, ◌∙◌, arith, if◌then◌else◌}
 use Rattle.std.specs.Prelude.{IsTrue, ◌||◌}
 use Rattle.std.specs.List.{flat_map}
 use Rattle.std.proofs.lemmas.Bool.{eqb-true}
 use Rattle.std.proofs.lemmas.List.{drop_all, length-take-le, take_all}
 use Rattle.span_types.specs.declared.spans.Row.{Row}
-use Rattle.span_types.specs.First.{IsFirstOf}
 use Rattle.block_info.specs.InfoParts.{InfoParts}
-use Rattle.block_format.specs.Blocks.{BlockHasInfo}
 use Rattle.block_build.proofs.Firsts.{can_be_block}
 use Rattle.store_model.specs.Event.Event.{WritePiece, CommitCompact}
 use Rattle.store_model.specs.Event.{Reply as reply}
@@ -26,7 +24,6 @@ use Rattle.store_state.specs.declared.errors.WriteError.{WriteError}
 use Rattle.store_state.specs.declared.errors.WriteError.TheVariants as fails
 use Rattle.store_state.specs.declared.jobs.CompactJob.{CompactJob}
 use Rattle.store_state.specs.declared.jobs.JobFile.{JobFile}
-use Rattle.store_state.specs.declared.rounds.Refusal.{Refusal}
 use Rattle.store_state.specs.declared.rounds.Refusal.TheVariants.{Memory}
 use Rattle.store_state.specs.declared.rounds.Round.{Round}
 use Rattle.store_state.specs.declared.rounds.Round.TheVariants.{Did, Refused}
@@ -36,9 +33,9 @@ use Rattle.flusher.proofs.TaskLaws.{take_more as take_twice}
 use Rattle.compactor.specs.Rounds.{FoundBlocks, IsJoined, Job, Leads, Stage}
 use Rattle.compactor.specs.Rounds.{Stage as stage}
 use Rattle.compactor.specs.Rounds.Leads.{built, starved, written, unwritten, listed, unlisted, over}
-use Rattle.compactor.specs.Tasks.{AreApart, IsReading, IsWriting, OneEvent, ShowsRead, ShowsWriting, Task, blocks_left, job_of, stage_of}
+use Rattle.compactor.specs.Tasks.{AreApart, IsReading, IsWriting, OneEvent, ShowsRead, ShowsWriting, Task, blocks_left, job_of}
 use Rattle.compactor.specs.Tasks.Task.{Reading, Writing, Failing}
-use Rattle.compactor.proofs.BlockLaws.{Sizes, StaySame, are_apart, as_many, blocks_stay, counts, rest_stays, some_rows}
+use Rattle.compactor.proofs.BlockLaws.{Sizes, are_apart, as_many, blocks_stay, counts, some_rows}
 
 -- ---- the new block
 

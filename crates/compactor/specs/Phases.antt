@@ -1,4 +1,5 @@
--- Private mechanism: what contracts see of a phase, what comes of a page and of a built block, and how far a round came. No public clause cites it.
+-- Private mechanism: what contracts see of a phase, what comes of a page and of a built block, and how far a round came. No public
+-- clause cites it.
 use Rattle.std.specs.Prelude.{◌≡◌, ℕ, ◌<◌, ◌≤◌, List, [], ◌∷◌, ◌++◌, length, Ok, Err}
 use Rattle.span_types.specs.declared.spans.Row.{Row}
 use Rattle.span_fields.specs.declared.breaks.Break.{Break}

@@ -1,5 +1,5 @@
 -- A compaction as a task: how far it is, what it stands on, and what one step does.
-use Rattle.std.specs.Prelude.{◌≡◌, ℕ, ◌+◌, ◌-◌, ◌*◌, ◌^◌, ◌<◌, ◌≤◌, ◌==◌, false, List, [], ◌∷◌, ◌++◌, length, take, drop, Result, Ok, Err, IsTrue}
+use Rattle.std.specs.Prelude.{◌≡◌, ℕ, ◌+◌, ◌-◌, ◌*◌, ◌^◌, ◌<◌, ◌≤◌, ◌==◌, false, List, [], ◌∷◌, length, take, drop, IsTrue}
 use Rattle.std.specs.List.{flat_map}
 use Rattle.span_types.specs.declared.spans.Row.{Row}
 use Rattle.block_info.specs.InfoParts.{InfoParts}
@@ -11,12 +11,11 @@ use Rattle.store_state.specs.Shown.{AreFew}
 use Rattle.store_state.specs.Written.{AreBlocksOf}
 use Rattle.store_state.specs.declared.jobs.CompactJob.{CompactJob}
 use Rattle.store_state.specs.declared.rounds.Refusal.{Refusal}
-use Rattle.store_state.specs.declared.rounds.Refusal.TheVariants.{Memory, NotBlock}
 use Rattle.store_state.specs.declared.rounds.Round.{Round}
 use Rattle.store_state.specs.declared.rounds.Round.TheVariants.{Refused}
 use Rattle.store_state.specs.declared.rounds.Step.{Step}
 use Rattle.store_state.specs.declared.rounds.Step.TheVariants.{More, Ended as EndedStep}
-use Rattle.compactor.specs.Rounds.{FoundBlocks, IsJoined, Job, Leads, Stage, pages_of, rows_at}
+use Rattle.compactor.specs.Rounds.{FoundBlocks, IsJoined, Job, Leads, Stage, pages_of}
 use Rattle.compactor.specs.Rounds.{Stage as stage}
 
 -- What a task has in hand: its job, and what it has read or writes.

@@ -1,4 +1,4 @@
-use Rattle.std.proofs.Common.{◌≡◌, ◌≤◌, ◌+◌, ◌⊎◌, inl, inr, ℕ, List, ◌∷◌, length, drop, Ok, sym, ◌∙◌, ap, subst}
+use Rattle.std.proofs.Common.{◌≡◌, ◌≤◌, ◌+◌, inl, inr, ℕ, List, length, drop, Ok, sym, ◌∙◌, ap, subst}
 use Rattle.span_fields.specs.Breaks.{Fails}
 use Rattle.block_info.specs.InfoParts.{InfoParts}
 use Rattle.store_state.specs.declared.rounds.Refusal.{Refusal}

@@ -1,4 +1,4 @@
-use Rattle.std.proofs.Common.{◌≡◌, ◌+◌, ◌++◌, sym, subst}
+use Rattle.std.proofs.Common.{◌+◌, ◌++◌, sym, subst}
 use Rattle.compactor.specs.Phases.{Turned}
 use Rattle.compactor.specs.Phases.Turned.{Starved}
 use Rattle.compactor.specs.Tasks.{Task}

@@ -1,4 +1,4 @@
-use Rattle.std.proofs.Common.{◌≡◌, ◌<◌, ◌^◌, ℕ, [], ◌∷◌, sym, subst, drop, length, arith}
+use Rattle.std.proofs.Common.{[], ◌∷◌, sym, subst, drop, arith}
 use Rattle.std.proofs.lemmas.List.{drop_all}
 use Rattle.store_model.specs.Event.Event.{CommitCompact}
 use Rattle.store_model.specs.Event.{Reply as reply}
@@ -7,7 +7,7 @@ use Rattle.store_state.specs.Made.{call}
 use Rattle.store_state.specs.Replies.{write_refusal}
 use Rattle.store_state.specs.declared.rounds.Refusal.{Refusal}
 use Rattle.store_state.specs.declared.rounds.Round.{Round}
-use Rattle.store_state.specs.declared.rounds.Round.TheVariants.{Did, Refused}
+use Rattle.store_state.specs.declared.rounds.Round.TheVariants.{Refused}
 use Rattle.compactor.specs.Rounds.{FoundBlocks, Leads}
 use Rattle.compactor.specs.Rounds.{Stage as stage}
 use Rattle.compactor.specs.Tasks.{job_of}

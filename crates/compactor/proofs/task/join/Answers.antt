@@ -1,8 +1,4 @@
-use Rattle.std.proofs.Common.{◌≡◌, ◌-◌, ◌*◌, ◌^◌, ℕ, List, [], length, subst, arith}
-use Rattle.std.proofs.lemmas.List.{drop_all}
-use Rattle.block_info.specs.InfoParts.{InfoParts}
 use Rattle.compactor.specs.Phases.{task_of}
-use Rattle.compactor.specs.Tasks.{HasPage, blocks_left}
 use Rattle.compactor.proofs.WriteLaws.{begins_writing, can_join, from_built, from_starved}
 use Rattle.compactor.proofs.task.join.Goals as goal
 

@@ -1,10 +1,8 @@
 use Rattle.std.proofs.Common.{◌≡◌, ◌+◌, ℕ, length, drop, sym, subst}
-use Rattle.std.specs.Prelude.{IsTrue}
 use Rattle.store_model.specs.Event.Event.{ReadPage}
 use Rattle.store_model.specs.Event.{Reply as reply, Refusal as refusal}
 use Rattle.store_model.specs.Event.Reply.{Page}
-use Rattle.store_model.specs.State.{is_among}
-use Rattle.store_state.specs.Given.{IsPinOf, info_files}
+use Rattle.store_state.specs.Given.{IsPinOf}
 use Rattle.store_state.specs.Given.IsPinOf.{OfJob}
 use Rattle.store_state.specs.Meaning.{IsOpen, Called}
 use Rattle.store_state.specs.Written.{page_of}
