@@ -10,10 +10,10 @@ ghost use Rattle.block_read.specs.BlockReadings.{block_at, info_read, listed_at}
 ghost use Rattle.block_read.specs.Files.{first_bytes};
 
 use crate::block::{Block, block_of};
+use crate::checking::listed_info;
 use crate::file::{Unread, file_bytes};
 use crate::{Pages, ReadError};
 use block_info::BlockInfo;
-use block_rows::info_of;
 use rows_by_trace::rows_of;
 use span_fields::Break;
 use span_types::{Rows, TraceId};
@@ -98,7 +98,6 @@ pub fn trace_rows<P: Pages>(
 ///
 /// [`ReadError::NotBlock`] comes exactly where these bytes are no such block, at the first byte where they are
 /// malformed.
-#[tactic(auto, unfolding(crate::specs::BlockReadings::listed_at))]
 pub fn check_block<P: Pages>(
     alloc: Global,
     pages: &mut P,
@@ -114,9 +113,13 @@ pub fn check_block<P: Pages>(
     ensures cause { FailsByFault (P.faults pages.old) (P.faults pages.new) result }
     ensures reads { MakesCalls (div_ceil length 4096) (P.reads pages.old) (P.reads pages.new) result }
 {
-    let found = read_block(alloc, pages, block, length)?;
-    if found.rows.len() != rows as usize {
-        return Err(ReadError::NotBlock { file: block, at: 0 });
+    match file_bytes(alloc, pages, block, length) {
+        Ok(bytes) => match listed_info(alloc, bytes.as_slice(), block, level, rows) {
+            Ok(info) => Ok(info),
+            Err(Break::At(at)) => Err(ReadError::NotBlock { file: block, at }),
+            Err(Break::Memory) => Err(ReadError::Memory),
+        },
+        Err(Unread::Fault) => Err(ReadError::Fault),
+        Err(Unread::Memory) => Err(ReadError::Memory),
     }
-    Ok(info_of(block, level, found.header, rows))
 }
