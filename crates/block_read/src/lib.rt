@@ -6,6 +6,7 @@
 
 mod block;
 mod calls;
+mod checking;
 mod error;
 mod file;
 mod header;
