@@ -30,7 +30,7 @@ or_later : (b c : Bool) → c ≡ true → (b || c) ≡ true
 or_later true c e = refl
 or_later false c e = e
 
-lesser_one : (a b : Option Row) (r : Row) → lesser a b ≡ Some r → (a ≡ Some r) ⊎ (b ≡ Some r)
+pub lesser_one : (a b : Option Row) (r : Row) → lesser a b ≡ Some r → (a ≡ Some r) ⊎ (b ≡ Some r)
 lesser_one None b r e = inr e
 lesser_one (Some a) None r e = inl e
 lesser_one (Some a) (Some b) r e =
@@ -39,7 +39,7 @@ lesser_one (Some a) (Some b) r e =
       | false ↦ λ h. inl h
     ] e
 
-chosen : (t : Bool) (x r : Row) → (if t then Some x else None) ≡ Some r → x ≡ r
+pub chosen : (t : Bool) (x r : Row) → (if t then Some x else None) ≡ Some r → x ≡ r
 chosen true x r e = cc
 chosen false x r e = cc
 

@@ -3,3 +3,4 @@ pub mod Parts
 pub mod Moments
 pub mod Drafting
 pub mod Whole
+pub mod Distinct

@@ -7,10 +7,11 @@ ghost use Rattle.block_format.specs.Blocks.{BlockHasInfo};
 ghost use Rattle.block_stripes.specs.StripeReadings.{ascend};
 
 use crate::draft::{Draft, draft_of, header_pages};
+use crate::order::firsts_of;
 use block_format::{Header, header_is_pages, write_header};
 use block_info::{BlockInfo, StripeInfo, Stripes};
 use block_rows::{Tail, form_of, ids_of, info_of, tail_of};
-use span_types::{Bytes, Memory, Rows, first_rows};
+use span_types::{Bytes, Memory, Rows};
 use std::alloc::Global;
 
 /// A block that has no file yet: its bytes, and what is known of it without reading them.
@@ -24,8 +25,9 @@ pub struct BuiltBlock {
 
 /// The block of the first occurrences of these rows, of which there are 1 to 1,048,576.
 ///
-/// It is of form 2 exactly where one of the first occurrences has an event or a link. The rows are sorted once and moved into
-/// their stripes; each is dropped as soon as its stripe is written.
+/// It is of form 2 exactly where one of the first occurrences has an event or a link. The rows are sorted once, by what stands
+/// beside pointers to them where no two are of one span, and moved into their stripes; each is dropped as soon as its stripe is
+/// written. No row is copied.
 pub fn build(alloc: Global, rows: Rows) -> Result<BuiltBlock, Memory>
     requires some { 1 ≤ length rows }
     requires few { length rows ≤ 1048576 }
@@ -33,7 +35,7 @@ pub fn build(alloc: Global, rows: Rows) -> Result<BuiltBlock, Memory>
     ensures file { IfOk result (λ built. built.info.file ≡ 0) }
     ensures level { IfOk result (λ built. built.info.level ≡ 0) }
 {
-    let firsts = first_rows(alloc, rows)?;
+    let firsts = firsts_of(alloc, rows)?;
     block_of(alloc, firsts)
 }
 

@@ -5,6 +5,7 @@
 
 mod building;
 mod draft;
+mod order;
 mod rows;
 
 pub use building::{BuiltBlock, build};

@@ -1,6 +1,7 @@
 -- What a crash leaves while a list is written.
 use Rattle.std.proofs.Common.{◌≡◌, ◌≢◌, ◌⊎◌, inl, inr, ⊎_elim, ℕ, ◌-◌, ◌%◌, ◌<◌, Option, Some, None, List, [], ◌∷◌, ◌++◌, length, drop, Result, Ok, Err, OnOk, refl, sym, ◌∙◌, ap, subst, arith}
-use Rattle.disk_model.specs.Images.{Image, bytes_of}
+use Rattle.std.proofs.lemmas.Bool.{cases_eq}
+use Rattle.disk_model.specs.Images.{Image, bytes_of, Besides}
 use Rattle.disk_model.specs.Bytes.{overwritten, Torn}
 use Rattle.disk_model.specs.Crash.{Reached, Within, OnlyBytes, ButFor, Run, RunInFile}
 use Rattle.disk_model.proofs.BytesLemmas.{overwritten_behind}
@@ -9,7 +10,7 @@ use Rattle.disk_model.proofs.Runs.{run_then}
 use Rattle.block_list.specs.Slots.{IsOpen, IsVacant, SlotHolds, SlotsHold, ImageHoldsList, IsNext}
 use Rattle.block_list.specs.Slots.SlotsHold.{none, alone, other_alone, newer, other_newer}
 use Rattle.block_list.specs.Body.{MeetsRules, text_of, successor}
-use Rattle.block_list.specs.Commit.{slot_of, laid, CanLay, ImageHoldsEither, WritesSlot}
+use Rattle.block_list.specs.Commit.{slot_of, laid, CanLay, CanOpen, ImageHoldsEither, WritesSlot}
 use Rattle.block_list.specs.ListText.{ListText}
 use Rattle.block_list.proofs.SlotLemmas.{parity_differs, only_slot, seen_from, seen_back, vacated, closing, behind_closed, closed_is_vacant, opened, opening}
 use Rattle.block_list.specs.declared.body.ListBody.{ListBody}
@@ -128,6 +129,33 @@ other_stays slot property bytes before after below within only image left =
     let differs : 1 - slot ≢ slot = omega arith in
     let r = within image left in
     r.2.besides (1 - slot) differs ∙ only r.0 r.1
+
+-- a list that may be laid was laid: its gate may be opened
+pub may_open : (list : ListText) (held mid : Image) (before after : Image → Type 0) → CanLay held before list
+    → ((old : Option ListBody) → ImageHoldsList held old → IsNext list.generation old → Within (Reached (WritesSlot (slot_of list) (λ image. ImageHoldsList image old)) before) after)
+    → Besides (slot_of list) held mid → OnlyBytes (slot_of list) (laid list.text (bytes_of held (slot_of list))) after → CanOpen mid after list
+may_open list held mid before after can now besides there =
+    let slot = slot_of list in
+    let below : slot < 2 = omega arith in
+    let differs : 1 - slot ≢ slot = omega arith in
+    let others : bytes_of mid (1 - slot) ≡ bytes_of held (1 - slot) = besides (1 - slot) differs in
+    record {
+      other = subst (λ (b : List ℕ). OnlyBytes (1 - slot) b after) (sym others)
+          (other_stays slot (λ image. ImageHoldsList image can.follows.0) (bytes_of held (1 - slot)) before after below (now can.follows.0 can.follows.1 can.follows.2)
+          (only_slot (1 - slot) held before (omega arith) can.slot_0 can.slot_1));
+      follows = subst (λ (b : List ℕ). Follow slot list.generation b) (sym others) (other_follows slot list.generation (bytes_of held slot) (bytes_of held (1 - slot)) can.follows.0 refl can.follows.2 (seen_from slot held can.follows.0 below can.follows.1));
+      in_place = (drop (length list.text) (drop 1 (bytes_of held slot)), there);
+    }
+
+-- each of the two slots has one image, where the one that was written has, and the other one had
+pub slot_lasts : (s slot : ℕ) (held later : Image) (P : List ℕ → Type 0) (before after : Image → Type 0) → s < 2 → slot < 2 → Within (ButFor slot P before) after → Besides slot held later
+    → OnlyBytes (1 - slot) (bytes_of held (1 - slot)) before → OnlyBytes slot (bytes_of later slot) after → OnlyBytes s (bytes_of later s) after
+slot_lasts s slot held later P before after low below within besides other own = elim (cases_eq s slot) [
+  | inl is ↦ subst (λ (n : ℕ). OnlyBytes n (bytes_of later n) after) (sym is) own
+  | inr differs ↦ (let is : s ≡ 1 - slot = omega (arith, low, below, differs) in let apart : 1 - slot ≢ slot = omega (arith, below) in
+      subst (λ (n : ℕ). OnlyBytes n (bytes_of later n) after) (sym is)
+      (λ image left. let but = within image left in but.besides (1 - slot) apart ∙ other but.origin but.possible ∙ sym (besides (1 - slot) apart)))
+]
 
 -- a vacant slot beside the other one
 pub beside_vacant : (slot generation : ℕ) (bytes others : List ℕ) → IsVacant bytes → Follow slot generation others

@@ -14,13 +14,12 @@ use disk_model::{Device, write_through};
 use span_types::Failed;
 
 /// The first half of a commit: a closed gate is put into the slot of the list's generation, and once that lasts the list is
-/// put behind it. It takes no memory. At every moment the slots stand for the list that counted before.
+/// put behind it. It takes no memory. Where the list may be laid, the slots stand at every moment for the list that counted
+/// before.
 pub fn lay<D: Device>(disk: &mut D, list: &PreparedList) -> Result<(), Failed>
-    requires { IsTrue (D.tells disk.old) → CanLay (D.held disk.old) (D.may_leave disk.old) list.now }
-
     // A crash at any moment leaves the old list, and every file but this slot as it might have left it before.
-    ensures any_moment { IsTrue (D.tells disk.old) → (old : Option ListBody)
-        → ImageHoldsList (D.held disk.old) old → IsNext list.now.generation old
+    ensures any_moment { IsTrue (D.tells disk.old) → CanLay (D.held disk.old) (D.may_leave disk.old) list.now
+        → (old : Option ListBody) → ImageHoldsList (D.held disk.old) old → IsNext list.now.generation old
         → Run (WritesSlot (slot_of list.now) (λ image. ImageHoldsList image old))
         D.moment D.left_since D.may_leave disk.old disk.new }
     ensures in_place { IsTrue (D.tells disk.old) → OnOk result (OnlyBytes (slot_of list.now)
@@ -38,22 +37,25 @@ pub fn lay<D: Device>(disk: &mut D, list: &PreparedList) -> Result<(), Failed>
     write_through(disk, slot, 1, list.text())
 }
 
-/// The second half of a commit: the gate of a list that was laid is opened, and made to last. It takes no memory. At every
-/// moment the slots stand for the list that counted before or for this one, and at `Ok` for this one.
+/// The second half of a commit: the gate of a list that was laid is opened, and made to last. It takes no memory. Where
+/// that gate may be opened, the slots stand at every moment for the list that counted before or for this one, and at `Ok`
+/// for this one.
 pub fn open_gate<D: Device>(disk: &mut D, list: &PreparedList) -> Result<(), Failed>
-    requires { IsTrue (D.tells disk.old) → CanOpen (D.held disk.old) (D.may_leave disk.old) list.now }
-
     // A crash at any moment leaves the old list or the new one, and every file but this slot as it might have left it before.
-    ensures any_moment { IsTrue (D.tells disk.old) → (old : Option ListBody) (new : ListBody)
+    ensures any_moment { IsTrue (D.tells disk.old) → CanOpen (D.held disk.old) (D.may_leave disk.old) list.now
+        → (old : Option ListBody) (new : ListBody)
         → ImageHoldsList (D.held disk.old) old → IsNext list.now.generation old → IsListText list.now new
         → Run (WritesSlot (slot_of list.now) (ImageHoldsEither old new))
         D.moment D.left_since D.may_leave disk.old disk.new }
 
     // At `Ok` every image stands for the new list, and each slot has one image, which is what a read gives.
-    ensures counts { IsTrue (D.tells disk.old) → (new : ListBody) → IsListText list.now new
+    ensures counts { IsTrue (D.tells disk.old) → CanOpen (D.held disk.old) (D.may_leave disk.old) list.now
+        → (new : ListBody) → IsListText list.now new
         → OnOk result ((image : Image) → D.may_leave disk.new image → ImageHoldsList image (Some new)) }
-    ensures slot_0 { IsTrue (D.tells disk.old) → OnOk result (OnlyBytes 0 (bytes_of (D.held disk.new) 0) (D.may_leave disk.new)) }
-    ensures slot_1 { IsTrue (D.tells disk.old) → OnOk result (OnlyBytes 1 (bytes_of (D.held disk.new) 1) (D.may_leave disk.new)) }
+    ensures slot_0 { IsTrue (D.tells disk.old) → CanOpen (D.held disk.old) (D.may_leave disk.old) list.now
+        → OnOk result (OnlyBytes 0 (bytes_of (D.held disk.new) 0) (D.may_leave disk.new)) }
+    ensures slot_1 { IsTrue (D.tells disk.old) → CanOpen (D.held disk.old) (D.may_leave disk.old) list.now
+        → OnOk result (OnlyBytes 1 (bytes_of (D.held disk.new) 1) (D.may_leave disk.new)) }
     ensures besides { IsTrue (D.tells disk.old) → Besides (slot_of list.now) (D.held disk.old) (D.held disk.new) }
 
     ensures time { D.moment disk.old ≤ D.moment disk.new }
@@ -65,24 +67,28 @@ pub fn open_gate<D: Device>(disk: &mut D, list: &PreparedList) -> Result<(), Fai
     write_through(disk, list.slot(), 0, &[1])
 }
 
-/// Writes a list into the slot of its generation: it is laid, and its gate is opened. It takes no memory. At every moment
-/// the slots stand for the list that counted before or for this one, and at `Ok` for this one.
+/// Writes a list into the slot of its generation: it is laid, and its gate is opened. It takes no memory. Where the list
+/// may be laid, the slots stand at every moment for the list that counted before or for this one, and at `Ok` for this
+/// one.
 pub fn commit<D: Device>(disk: &mut D, list: &PreparedList) -> Result<(), Failed>
-    requires { IsTrue (D.tells disk.old) → CanLay (D.held disk.old) (D.may_leave disk.old) list.now }
-
     // A crash at any moment leaves the old list or the new one, and every file but this slot as it might have left it before.
-    ensures any_moment { IsTrue (D.tells disk.old) → (old : Option ListBody) (new : ListBody)
+    ensures any_moment { IsTrue (D.tells disk.old) → CanLay (D.held disk.old) (D.may_leave disk.old) list.now
+        → (old : Option ListBody) (new : ListBody)
         → ImageHoldsList (D.held disk.old) old → IsNext list.now.generation old → IsListText list.now new
         → Run (WritesSlot (slot_of list.now) (ImageHoldsEither old new))
         D.moment D.left_since D.may_leave disk.old disk.new }
 
     // At `Ok` every image stands for the new list, and each slot has one image, which is what a read gives.
-    ensures counts { IsTrue (D.tells disk.old) → (new : ListBody) → IsListText list.now new
+    ensures counts { IsTrue (D.tells disk.old) → CanLay (D.held disk.old) (D.may_leave disk.old) list.now
+        → (new : ListBody) → IsListText list.now new
         → OnOk result ((image : Image) → D.may_leave disk.new image → ImageHoldsList image (Some new)) }
-    ensures slot_0 { IsTrue (D.tells disk.old) → OnOk result (OnlyBytes 0 (bytes_of (D.held disk.new) 0) (D.may_leave disk.new)) }
-    ensures slot_1 { IsTrue (D.tells disk.old) → OnOk result (OnlyBytes 1 (bytes_of (D.held disk.new) 1) (D.may_leave disk.new)) }
+    ensures slot_0 { IsTrue (D.tells disk.old) → CanLay (D.held disk.old) (D.may_leave disk.old) list.now
+        → OnOk result (OnlyBytes 0 (bytes_of (D.held disk.new) 0) (D.may_leave disk.new)) }
+    ensures slot_1 { IsTrue (D.tells disk.old) → CanLay (D.held disk.old) (D.may_leave disk.old) list.now
+        → OnOk result (OnlyBytes 1 (bytes_of (D.held disk.new) 1) (D.may_leave disk.new)) }
     // After a load, or another commit, the next list may then be laid.
-    ensures ready { IsTrue (D.tells disk.old) → (old : Option ListBody) (new : ListBody)
+    ensures ready { IsTrue (D.tells disk.old) → CanLay (D.held disk.old) (D.may_leave disk.old) list.now
+        → (old : Option ListBody) (new : ListBody)
         → IsReady (D.held disk.old) (D.may_leave disk.old) old → IsListText list.now new
         → OnOk result (IsReady (D.held disk.new) (D.may_leave disk.new) (Some new)) }
     ensures besides { IsTrue (D.tells disk.old) → Besides (slot_of list.now) (D.held disk.old) (D.held disk.new) }

@@ -42,6 +42,17 @@ pub fn prepare(alloc: Global, body: &ListBody) -> Result<PreparedList, Memory>
 }
 
 impl PreparedList {
+    /// One that has no body yet, with room for one of so many bytes behind the gate.
+    pub fn with_room(alloc: Global, bytes: usize) -> Result<PreparedList, Memory>
+        ensures { IfOk result (λ list. bytes ≤ list.room) }
+    {
+        let text = Vec::with_capacity(alloc, bytes)?;
+        Ok(PreparedList {
+            generation: 0,
+            text,
+        })
+    }
+
     /// Another body, in the room of this one. It takes no memory.
     pub fn refill(&mut self, body: &ListBody)
         requires rules { MeetsRules body.now }

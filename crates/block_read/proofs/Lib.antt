@@ -5,3 +5,4 @@ pub mod BlockFiles
 mod StripesWalk
 mod Parts
 mod PageReads
+mod ChecksWalk

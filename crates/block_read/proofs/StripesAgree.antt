@@ -1,5 +1,5 @@
 -- What the tests of a stripe against its entry mean, and those of its order against the stripe before.
-use Rattle.std.proofs.Common.{◌≡◌, ℕ, zero, suc, ◌-◌, ◌<◌, ◌≤◌, Bool, true, false, ◌&&◌, ◌||◌, eqb, leb, List, [], ◌∷◌, ◌++◌, length, take, drop, Contains, slice_index_or, Option, Some, None, refl, sym, ap, ◌∙◌, arith}
+use Rattle.std.proofs.Common.{◌≡◌, ℕ, zero, suc, ◌-◌, ◌<◌, ◌≤◌, Bool, true, false, not, ◌&&◌, ◌||◌, eqb, leb, List, [], ◌∷◌, ◌++◌, length, take, drop, Contains, slice_index_or, Option, Some, None, refl, sym, ap, ◌∙◌, arith}
 use Rattle.std.specs.List.{AllByRecursion, list_all, list_any, slice_get}
 use Rattle.std.specs.Ordering.{is_lt}
 use Rattle.std.proofs.lemmas.Bool.{and_from, and_parts, eq-eqb, eqb-true, le-leb, leb-true}
@@ -9,7 +9,7 @@ use Rattle.span_types.specs.Orders.{block_order}
 use Rattle.block_info.specs.declared.info.StripeInfo.{StripeInfo}
 use Rattle.block_format.specs.Blocks.{IsEarliest, IsLatest}
 use Rattle.block_stripes.specs.StripeReadings.{ascend, ascend_after}
-use Rattle.block_read.specs.BlockReadings.{agrees, follow, is_earliest, is_latest, last_of, starts}
+use Rattle.block_read.specs.BlockReadings.{agrees, can_agree, follow, is_earliest, is_latest, last_of, starts}
 
 -- ---- moments
 
@@ -85,8 +85,30 @@ none_less [] m x k all low is = absurd (omega (arith, low))
 none_less (row ∷ rows) m x zero all low is = (let first = all.0 in omega (arith, first, is))
 none_less (row ∷ rows) m x (suc k) all low is = none_less rows m x k all.1 (omega (arith, low)) is
 
-pub in_order : (entry : StripeInfo) (rows : List Row) → IsEarliest rows entry.earliest → IsLatest rows entry.latest → leb entry.earliest entry.latest ≡ true
+in_order : (entry : StripeInfo) (rows : List Row) → IsEarliest rows entry.earliest → IsLatest rows entry.latest → leb entry.earliest entry.latest ≡ true
 in_order entry rows early late = le-leb entry.earliest entry.latest (none_less rows entry.earliest entry.latest late.0.0 early.1 late.0.1 late.0.2)
+
+-- the one start of one row
+only_start : (start x k : ℕ) → k < 1 → slice_index_or (start ∷ []) k x ≡ x → start ≡ x
+only_start start x zero low is = is
+only_start start x (suc k) low is = absurd (omega (arith, low))
+
+one_start : (rows : List Row) (x y : ℕ) → length rows ≡ 1 → Contains (starts rows) x → Contains (starts rows) y → x ≡ y
+one_start [] x y one a b = absurd (omega (arith, one))
+one_start (row ∷ []) x y one a b = sym (only_start row.span.start x a.0 a.1 a.2) ∙ only_start row.span.start y b.0 b.1 b.2
+one_start (row ∷ next ∷ rows) x y one a b = absurd (omega (arith, one))
+
+alone : (entry : StripeInfo) (rows : List Row) → Agree entry rows → (not (eqb entry.rows 1) || eqb entry.earliest entry.latest) ≡ true
+alone entry rows are =
+    elim (eqb entry.rows 1) as (λ t. eqb entry.rows 1 ≡ t → (not t || eqb entry.earliest entry.latest) ≡ true) [
+      | true ↦ λ one. eq-eqb entry.earliest entry.latest (one_start rows entry.earliest entry.latest (are.count ∙ eqb-true entry.rows 1 one) are.earliest.0 are.latest.0)
+      | false ↦ λ more. refl
+    ] refl
+
+-- with what agrees with rows, a stripe can agree
+pub agreed_can : (entry : StripeInfo) (rows : List Row) → Agree entry rows → can_agree entry ≡ true
+agreed_can entry rows are =
+    and_from (leb entry.earliest entry.latest) (not (eqb entry.rows 1) || eqb entry.earliest entry.latest) (in_order entry rows are.earliest are.latest) (alone entry rows are)
 
 -- ---- order
 

@@ -1,5 +1,5 @@
 -- The stripes of a block, both ways.
-use Rattle.std.proofs.Common.{◌≡◌, ℕ, ◌+◌, ◌-◌, ◌*◌, ◌≤◌, Bool, true, false, eqb, leb, List, [], ◌∷◌, ◌++◌, length, take, drop, replicate, Option, Some, None, Result, Ok, Err, append_assoc, inl, inr, refl, sym, ap, subst, ◌∙◌, arith}
+use Rattle.std.proofs.Common.{◌≡◌, ℕ, ◌+◌, ◌-◌, ◌*◌, ◌≤◌, Bool, true, false, eqb, List, [], ◌∷◌, ◌++◌, length, take, drop, replicate, Option, Some, None, Result, Ok, Err, append_assoc, inl, inr, refl, sym, ap, subst, ◌∙◌, arith}
 use Rattle.std.specs.Int.{div_ceil}
 use Rattle.std.specs.Prelude.{sum_by}
 use Rattle.std.proofs.lemmas.Bool.{cases_lt, eq-eqb, eqb-true}
@@ -18,9 +18,9 @@ use Rattle.block_stripes.specs.StripeEncodings.{after_length, content_bytes, fil
 use Rattle.block_stripes.specs.StripeReadings.{ascend, stripe_at}
 use Rattle.block_stripes.specs.Stripes.{AreStripe, is_extended}
 use Rattle.block_stripes.proofs.StripeLaws.{again_stripe, meant_stripe}
-use Rattle.block_read.specs.BlockReadings.{agreeing, agrees, follow, in_file, last_of, starts, stripe_of, stripes_of, unless_not, within}
+use Rattle.block_read.specs.BlockReadings.{agreeing, agrees, can_agree, follow, in_file, last_of, starts, stripe_of, stripes_of, unless_not, within}
 use Rattle.block_read.specs.Files.{part_of}
-use Rattle.block_read.proofs.StripesAgree.{agree_means, agree_passes, follow_front, follow_more, in_order, joined, later_ascend, parted}
+use Rattle.block_read.proofs.StripesAgree.{Agree, agree_means, agree_passes, agreed_can, follow_front, follow_more, joined, later_ascend, parted}
 
 -- ---- tests
 
@@ -64,11 +64,12 @@ stripe_again form entry last part rows has behind =
     let pages : div_ceil (8 + s.size.0) 4096 ≡ entry.pages = (let a = s.pages in let b = has.pages in omega (arith, a, b)) in
     let first = passed (eqb (div_ceil (8 + s.size.0) 4096) entry.pages) 0 s.size (eq-eqb (div_ceil (8 + s.size.0) 4096) entry.pages pages) in
     let read = again_stripe extended part rows has.holds.bytes_fit has.holds.rows_are has.holds.bytes_are in
-    let agree = agree_passes entry rows (record { count = has.count; earliest = has.earliest; latest = has.latest }) in
+    let are : Agree entry rows = record { count = has.count; earliest = has.earliest; latest = has.latest } in
+    let agree = agree_passes entry rows are in
     let same : agreeing entry part (within part (stripe_at extended part)) ≡ Ok rows = ap (λ (r : Result (List Row) ℕ). agreeing entry part (within part r)) read ∙ passed (agrees entry (starts rows)) 0 rows agree in
     let whole = passed (follow last rows) 0 rows behind in
-    let order = passed (leb entry.earliest entry.latest) 0 entry (in_order entry rows has.earliest has.latest) in
-    rw (order, s.read, first, same, whole) refl
+    let can = passed (can_agree entry) 0 entry (agreed_can entry rows are) in
+    rw (can, s.read, first, same, whole) refl
 
 within_ok : {A : Type 0} (part : List ℕ) (r : Result A ℕ) (x : A) → within part r ≡ Ok x → r ≡ Ok x
 within_ok part (Ok y) x e = e
@@ -95,7 +96,7 @@ stripe_means form entry last part rows fit e =
     let extended = is_extended form in
     let start : Stand = record { whole = part; at = 0 } in
     let read = within part (stripe_at extended part) in
-    let o = bound (unless_not (leb entry.earliest entry.latest) 0 entry) (λ _. in_part false fixed64_at start >>= λ size. unless_not (eqb (div_ceil (8 + size.0) 4096) entry.pages) 0 size >>= λ _. agreeing entry part read >>= λ rows. unless_not (follow last rows) 0 rows) rows e in
+    let o = bound (unless_not (can_agree entry) 0 entry) (λ _. in_part false fixed64_at start >>= λ size. unless_not (eqb (div_ceil (8 + size.0) 4096) entry.pages) 0 size >>= λ _. agreeing entry part read >>= λ rows. unless_not (follow last rows) 0 rows) rows e in
     let a = bound (in_part false fixed64_at start) (λ size. unless_not (eqb (div_ceil (8 + size.0) 4096) entry.pages) 0 size >>= λ _. agreeing entry part read >>= λ rows. unless_not (follow last rows) 0 rows) rows o.last in
     let size = a.value in
     let b = bound (unless_not (eqb (div_ceil (8 + size.0) 4096) entry.pages) 0 size) (λ _. agreeing entry part read >>= λ rows. unless_not (follow last rows) 0 rows) rows a.last in

@@ -50,6 +50,10 @@ is_earliest moment moments = list_any (λ m. m == moment) moments && list_all (�
 abbrev pub is_latest : ℕ → List ℕ → Bool
 is_latest moment moments = list_any (λ m. m == moment) moments && list_all (λ m. nat_le m moment) moments
 
+-- A stripe can agree with the entry: its earliest start isn't after its latest, and a stripe of one row has one start.
+abbrev pub can_agree : StripeInfo → Bool
+can_agree entry = nat_le entry.earliest entry.latest && (not (entry.rows == 1) || (entry.earliest == entry.latest))
+
 -- rows that start so are as many as the entry says, and their first and last moments are what it says
 abbrev pub agrees : StripeInfo → List ℕ → Bool
 agrees entry moments = (length moments == entry.rows) && (is_earliest entry.earliest moments && is_latest entry.latest moments)
@@ -95,12 +99,12 @@ abbrev pub last_of : List Row → Option Row
 last_of rows = slice_get rows (length rows - 1)
 
 -- The rows of a stripe, by its entry and behind the last row of the stripe before. A stripe that disagrees with its entry, or one
--- whose rows don't come behind that row, is malformed at its first byte. No stripe agrees with an entry whose earliest start is after
--- its latest, which is tested before any byte is read. Pages are compared with the length before anything else is read, and the
--- order of rows is tested once all else is as it must be.
+-- whose rows don't come behind that row, is malformed at its first byte. Whether any stripe can agree with the entry is tested
+-- before any byte is read. Pages are compared with the length before anything else is read, and the order of rows is tested once
+-- all else is as it must be.
 unfoldable pub stripe_of : ℕ → StripeInfo → Option Row → List ℕ → Result (List Row) ℕ
 stripe_of form entry last part = do
-  _ ← unless_not (nat_le entry.earliest entry.latest) 0 entry
+  _ ← unless_not (can_agree entry) 0 entry
   size ← in_part false fixed64_at (record { whole = part; at = 0 })
   _ ← unless_not (div_ceil (8 + size.0) 4096 == entry.pages) 0 size
   rows ← agreeing entry part (within part (stripe_at (is_extended form) part))

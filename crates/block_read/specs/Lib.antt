@@ -2,3 +2,4 @@ pub mod Files
 pub mod Memory
 pub mod BlockReadings
 pub mod Answers
+pub mod Checks

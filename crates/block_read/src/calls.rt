@@ -13,10 +13,10 @@ ghost use Rattle.block_read.specs.BlockReadings.{block_at, info_read, listed_at}
 ghost use Rattle.block_read.specs.Files.{first_bytes};
 
 use crate::block::{Block, block_of};
+use crate::checking::listed_info;
 use crate::file::{Unread, file_bytes};
 use crate::{Pages, ReadError};
 use block_info::BlockInfo;
-use block_rows::info_of;
 use rows_by_trace::rows_of;
 use span_fields::Break;
 use span_types::{Rows, TraceId};
@@ -117,13 +117,18 @@ pub fn check_block<P: Pages>(
     ensures reads { MakesCalls (div_ceil length 4096) (P.reads pages.old) (P.reads pages.new) result }
 {
     match file_bytes(alloc, pages, block, length) {
+<<<<<<< HEAD
         Ok(bytes) => match check_bytes(alloc, block, level, rows, bytes.as_slice()) {
+=======
+        Ok(bytes) => match listed_info(alloc, bytes.as_slice(), block, level, rows) {
+>>>>>>> 0a804f2655e99d2a92e1dacb2565a950fdb1b9c7
             Ok(info) => Ok(info),
             Err(Break::At(at)) => Err(ReadError::NotBlock { file: block, at }),
             Err(Break::Memory) => Err(ReadError::Memory),
         },
         Err(Unread::Fault) => Err(ReadError::Fault),
         Err(Unread::Memory) => Err(ReadError::Memory),
+<<<<<<< HEAD
     }
 }
 
@@ -146,6 +151,7 @@ pub fn check_bytes(
     let found = block_of(alloc, bytes)?;
     if found.rows.len() != rows as usize {
         return Err(Break::At(0));
+=======
+>>>>>>> 0a804f2655e99d2a92e1dacb2565a950fdb1b9c7
     }
-    Ok(info_of(block, level, found.header, rows))
 }

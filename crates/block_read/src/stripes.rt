@@ -10,7 +10,7 @@ ghost use Rattle.block_format.specs.Headers.{CanBeHeader};
 ghost use Rattle.block_stripes.specs.StripeReadings.{stripe_at};
 ghost use Rattle.block_stripes.specs.Stripes.{is_extended};
 ghost use Rattle.block_stripes.specs.StripeStarts.{size_of, starts_of};
-ghost use Rattle.block_read.specs.BlockReadings.{agreeing, agrees, disagrees, follow, has_other_size, has_other_starts, in_file, is_earliest, is_latest, last_of, starts, stripe_of, stripes_of, within};
+ghost use Rattle.block_read.specs.BlockReadings.{agreeing, agrees, can_agree, disagrees, follow, has_other_size, has_other_starts, in_file, is_earliest, is_latest, last_of, starts, stripe_of, stripes_of, within};
 ghost use Rattle.block_read.specs.Files.{part_of};
 
 use crate::file::{each_fits, part};
@@ -50,7 +50,7 @@ fn add(rows: &mut Vec<Row>, more: Vec<Row>) -> Result<(), Memory>
 }
 
 /// A copy of the last row.
-fn last_of(rows: &[Row]) -> Result<Option<Row>, Memory>
+pub fn last_of(rows: &[Row]) -> Result<Option<Row>, Memory>
     ensures { IfOk result (λ last. last ≡ last_of rows.now) }
 {
     match rows.last() {
@@ -60,7 +60,7 @@ fn last_of(rows: &[Row]) -> Result<Option<Row>, Memory>
 }
 
 /// The rows of the stripe with this entry, behind that row. Offsets are the file's.
-fn placed_stripe(
+pub fn placed_stripe(
     alloc: Global,
     bytes: &[u8],
     form: u8,
@@ -93,7 +93,7 @@ fn stripe(
     ensures answers { Answers (λ x. x.items) result (stripe_of form entry.now last.now part.now) }
     ensures few { IfOk result (λ rows. length rows.items ≤ 256) }
 {
-    if !is_in_order(entry) {
+    if !can_agree(entry) {
         return Err(Break::At(0));
     }
     let mut reader = Reader::new(alloc, part);
@@ -108,11 +108,11 @@ fn stripe(
     Ok(rows)
 }
 
-/// Whether an entry's earliest start isn't after its latest.
-fn is_in_order(entry: &StripeInfo) -> bool
-    ensures { result ≡ nat_le entry.now.earliest entry.now.latest }
+/// Whether a stripe can agree with an entry: its earliest start isn't after its latest, and of one row it is the latest.
+fn can_agree(entry: &StripeInfo) -> bool
+    ensures { result ≡ can_agree entry.now }
 {
-    entry.earliest <= entry.latest
+    entry.earliest <= entry.latest && (entry.rows != 1 || entry.earliest == entry.latest)
 }
 
 /// Whether a content of so many bytes has, with its length, so many pages.

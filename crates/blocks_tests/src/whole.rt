@@ -199,8 +199,10 @@ fn malformed_in_two_places(rt: HostRuntime) -> Result<(), Fail> {
         ((44, "00"), (4169, "01"), 4096),
         ((28, "02"), (4146, "09"), 4096),
         ((20, "02"), (4164, "09"), 4096),
-        // No stripe agrees with an entry whose earliest start is after its latest, whatever stands in the stripe.
+        // No stripe agrees with an entry whose earliest start is after its latest, nor with one of one row whose earliest start is
+        // before its latest, whatever stands in the stripe.
         ((36, "02"), (4104, "82 00"), 4096),
+        ((44, "02"), (4104, "82 00"), 4096),
         // A field before what would tell that the stripe disagrees is malformed.
         ((36, "02 00 00 00 00 00 00 00 02"), (4146, "09"), 4146),
         ((28, "02"), (4116, "09"), 4116),
@@ -228,8 +230,12 @@ fn cut_in_length(alloc: Global, place: usize, words: &str) -> Result<u64, Memory
 
 #[test]
 fn cut_within_a_length(rt: HostRuntime) -> Result<(), Fail> {
-    // An entry with which no stripe agrees, and one with which another stripe would.
-    for (place, words, at) in [(36, "02", 4096), (36, "02 00 00 00 00 00 00 00 02", 4100)] {
+    // Entries with which no stripe agrees, and one with which another stripe would.
+    for (place, words, at) in [
+        (36, "02", 4096),
+        (44, "02", 4096),
+        (36, "02 00 00 00 00 00 00 00 02", 4100),
+    ] {
         assert_eq!(rt; cut_in_length(rt.alloc(), place, words)?, at);
     }
     Ok(())

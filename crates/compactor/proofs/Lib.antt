@@ -1,0 +1,5 @@
+mod BlockLaws
+mod ReadLaws
+mod BuildLaws
+mod WriteLaws
+mod RoundLaws

@@ -10,8 +10,8 @@ use std::alloc::Global;
 /// Several lists of rows.
 pub type RowLists = Seq<Rows>;
 
-/// The first occurrences of the rows of all parts, in block order: of several rows of one span, in whichever parts they are, the
-/// row that came in first stays. Rows are moved and not copied.
+/// The first occurrences of the rows of all parts, in block order: of several rows of one span, in whichever parts they
+/// are, the row that came in first stays. Rows are moved and not copied.
 pub fn merge_rows(alloc: Global, parts: RowLists) -> Result<Rows, Memory>
     ensures { IfOk result (λ firsts. IsFirstOf (flat_map (λ rows. rows) parts) firsts) }
 {

@@ -1,2 +1,2 @@
-mod TaskLaws
+pub mod TaskLaws
 mod RoundLaws

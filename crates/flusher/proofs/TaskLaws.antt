@@ -33,7 +33,7 @@ take_none : (n : ℕ) → take {A = ℕ} n [] ≡ []
 take_none zero = refl
 take_none (suc n) = refl
 
-take_more : (w n : ℕ) (xs : List ℕ) → take w xs ++ take n (drop w xs) ≡ take (w + n) xs
+pub take_more : (w n : ℕ) (xs : List ℕ) → take w xs ++ take n (drop w xs) ≡ take (w + n) xs
 take_more zero n xs = ap (λ m. take m xs) (plus n)
   where
     plus : (n : ℕ) → n ≡ 0 + n
@@ -50,7 +50,7 @@ drop_all zero (x ∷ xs) h = absurd (omega (arith, h))
 drop_all (suc w) [] h = refl
 drop_all (suc w) (x ∷ xs) h = drop_all w xs (omega (arith, h))
 
-take_whole : (w : ℕ) (xs : List ℕ) → w ≡ length xs → take w xs ≡ xs
+pub take_whole : (w : ℕ) (xs : List ℕ) → w ≡ length xs → take w xs ≡ xs
 take_whole zero [] h = refl
 take_whole zero (x ∷ xs) h = absurd (omega (arith, h))
 take_whole (suc w) [] h = refl
@@ -72,7 +72,7 @@ no_more : (rows a b : List Row) → IsFirstOf rows a → IsFirstOf rows b → 1 
 no_more rows a b one other some =
     (can_be_block a b (firsts_alike rows a b (λ k. sym (first_at-firsts rows a one k)) other) (can_be_block rows a one some).some).few
 
-same_count : (rows a b : List Row) → IsFirstOf rows a → IsFirstOf rows b → 1 ≤ length rows → length a ≡ length b
+pub same_count : (rows a b : List Row) → IsFirstOf rows a → IsFirstOf rows b → 1 ≤ length rows → length a ≡ length b
 same_count rows a b one other some = omega (arith, no_more rows a b one other some, no_more rows b a other one some)
 
 -- what a flush wrote whole may be listed
@@ -93,7 +93,7 @@ may_be_listed meaning job bytes info port is whole = record {
 
 -- ---- pieces
 
-outs_equal : (a b : JobFile) → a.number ≡ b.number → a.file ≡ b.file → a.written ≡ b.written → a ≡ b
+pub outs_equal : (a b : JobFile) → a.number ≡ b.number → a.file ≡ b.file → a.written ≡ b.written → a ≡ b
 outs_equal a b hn hf hw =
     ap (λ n. record { number = n; file = a.file; written = a.written }) hn
     ∙ ap (λ f. record { number = b.number; file = f; written = a.written }) hf

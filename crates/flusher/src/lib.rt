@@ -5,7 +5,8 @@
 #![tactic(auto)]
 
 mod building;
-mod piece;
+mod pieces;
 mod task;
 
+pub use pieces::piece;
 pub use task::{FlushTask, flush_round};

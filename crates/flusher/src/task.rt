@@ -11,7 +11,7 @@ ghost use Rattle.flusher.specs.Phases.{task_of};
 ghost use Rattle.flusher.specs.Tasks.{Answers, Ended, Failing, Fits, Fresh, HasBegun, IsWriting, OneEvent, Begun, Steps, Writing, steps_left};
 
 use crate::building::{Block, build_block};
-use crate::piece::piece;
+use crate::pieces::piece;
 use block_info::SharedInfo;
 use std::alloc::Global;
 use std::marker::Model;

@@ -1,16 +1,19 @@
 -- A flush that begins, as an event of a core.
-use Rattle.std.proofs.Common.{◌≡◌, ◌≢◌, ℕ, ◌+◌, ◌-◌, ◌^◌, ◌<◌, ◌≤◌, ◌==◌, min, List, [], ◌∷◌, ◌++◌, length, take, drop, Some, None, Option, IfSome, IsTrue, Bool, true, false, refl, sym, ◌∙◌, ap, subst, arith}
-use Rattle.std.specs.Prelude.{nat_le}
+use Rattle.std.proofs.Common.{◌≡◌, ◌≢◌, ℕ, ◌+◌, ◌-◌, ◌^◌, ◌<◌, ◌≤◌, ◌==◌, min, List, [], ◌∷◌, ◌++◌, length, map, take, drop, Some, None, Option, IfSome, IsTrue, Bool, true, false, refl, sym, ◌∙◌, ap, subst, arith}
+use Rattle.std.specs.Prelude.{nat_le, Vec}
 use Rattle.std.proofs.lemmas.Bool.{le-leb, lt-leb, ne_eqb}
 use Rattle.std.proofs.lemmas.List.{take-append-drop}
 use Rattle.std.specs.Vec.{vec_len, vec_capacity}
+use Rattle.std.specs.declared.alloc.Global.{Global}
 use Rattle.span_types.specs.Faults.{Rose}
 use Rattle.span_types.specs.declared.spans.Row.{Row}
-use Rattle.disk_model.specs.Images.{bytes_of}
+use Rattle.disk_model.specs.Images.{Image, bytes_of}
 use Rattle.disk_model.specs.Crash.{OnlyBytes, Run}
 use Rattle.disk_model.specs.declared.disk.Device.{Ghosts}
 use Rattle.disk_model.proofs.Runs.{run_more}
 use Rattle.head_log.specs.Stands.{SegmentHolds}
+use Rattle.block_info.specs.InfoParts.{InfoParts}
+use Rattle.block_list.specs.declared.body.ListBody.{ListBody}
 use Rattle.live_traces.specs.Parts.{LiveParts}
 use Rattle.store_model.specs.State.{Flush, flush_rows, is_among}
 use Rattle.store_model.specs.Choice.{most_rows}
@@ -24,23 +27,25 @@ use Rattle.store_model.specs.Step.{Machine, Step, early, broken, with_state, if_
 use Rattle.store_model.specs.Step.Step.{Sure, Succeeds, Lacks, Breaks}
 use Rattle.store_model.proofs.Numbers.{same_number}
 use Rattle.store_state.specs.Calls.{MadeCalls, RoseAtMost}
+use Rattle.store_state.specs.Given.{info_files}
 use Rattle.store_state.specs.declared.listing.FlushFiles.{FlushFiles}
 use Rattle.store_images.specs.Stored.{KeepsStored}
 use Rattle.store_images.proofs.Keeping.{keeps_same}
 use Rattle.store_core.specs.Files.{SameBelow}
-use Rattle.store_core.specs.Jobs.{ShowsFlush, HasFreshSegment}
+use Rattle.store_core.specs.Jobs.{ShowsFlush, CommitFits, HasFreshSegment}
 use Rattle.store_core.specs.declared.jobs.Jobs.{Jobs}
 use Rattle.store_core.specs.declared.jobs.OpenFlush.{OpenFlush}
+use Rattle.store_core.specs.declared.room.CommitRoom.{CommitRoom}
 use Rattle.store_core.specs.declared.state.CoreState.{CoreState}
 use Rattle.store_core.specs.declared.store.Core.{Core}
-use Rattle.store_core.specs.Cores.{HasState, StandsFor, CoreStandsFor, CoreShows, tail_of}
+use Rattle.store_core.specs.Cores.{HasState, StandsFor, CoreStandsFor, CoreShows, AreDescribed, listed_as, tail_of}
 use Rattle.store_core.specs.Events.{Did}
 use Rattle.store_core.specs.Beginning.{unless_rows}
 use Rattle.store_core.proofs.Apart.{keeps_below, settled_below}
 use Rattle.store_core.proofs.Kept.{stands_kept, did_kept, described_below}
 use Rattle.store_core.proofs.InUse.{used_begun}
 use Rattle.store_core.proofs.Logged.{logged_kept}
-use Rattle.store_core.proofs.NoJobs.{no_segment, none_fit}
+use Rattle.store_core.proofs.NoJobs.{no_commit_room, no_segment, none_fit}
 use Rattle.store_core.proofs.OpenJobs.{held_low}
 use Rattle.store_core.proofs.PushEvents.{OnlyNow, refused_is}
 use Rattle.store_core.proofs.Quiet.{quiet, none_begun}
@@ -135,9 +140,9 @@ pub record SameRows (old new : LiveParts) : Type 0 where
 none_flushing : (core : CoreState) (m : Machine) → HasState core m → core.jobs.flush ≡ None → core.live.flushing ≡ []
 none_flushing core m has none = has.flushing ∙ ap flush_rows (no_flush core m has none)
 
-has_memory : (core : CoreState) (live : LiveParts) (jobs : Jobs) (m : Machine) → core.jobs.flush ≡ None → SameJobs core.jobs jobs → SameRows core.live live → HasState core m
-    → HasState (record core { live = live; jobs = jobs }) m
-has_memory core live jobs m none same rows has = record {
+has_memory : (core : CoreState) (live : LiveParts) (infos : Vec InfoParts Global) (jobs : Jobs) (m : Machine) → core.jobs.flush ≡ None → infos.items ≡ core.infos.items → SameJobs core.jobs jobs → SameRows core.live live → HasState core m
+    → HasState (record core { live = live; infos = infos; jobs = jobs }) m
+has_memory core live infos jobs m none known same rows has = record {
   count = has.count;
   few = has.few;
   live = has.live ∙ sym rows.live;
@@ -146,8 +151,9 @@ has_memory core live jobs m none same rows has = record {
   flush = subst (λ (k : Option OpenFlush). ShowsFlush k m.state.flush) (sym same.flush) has.flush;
   compaction = has.compaction;
   blocks = has.blocks;
-  infos = has.infos;
-  listed = has.listed;
+  infos = ap info_files known ∙ has.infos;
+  listed = ap (map listed_as) known ∙ has.listed;
+  commit = λ free. no_commit_room jobs core.list infos (same.flush ∙ none);
   rules = has.rules;
   segments = has.segments;
   last = has.last;
@@ -161,16 +167,20 @@ has_memory core live jobs m none same rows has = record {
   read_only = has.read_only;
 }
 
-pub did_lack : {D : Type 0} (g : Ghosts D) (only_now : OnlyNow g) (old : Core D) (live : LiveParts) (jobs : Jobs) → ((m : Machine) → HasState old.state m → early m BeginFlush ≡ None)
-    → old.state.jobs.flush ≡ None → SameJobs old.state.jobs jobs
-    → ((m : Machine) → HasState old.state m → SameRows old.state.live live) → Did g old BeginFlush (Refused Memory) (record old { state = record old.state { live = live; jobs = jobs } })
-did_lack {D} g only_now old live jobs free none same rows =
-    quiet g only_now old (record old.state { live = live; jobs = jobs }) BeginFlush (Refused Memory) (λ file bytes. refl) (λ e. let bad = refused_is Memory Fault e in cc) (λ n. refl) refl refl
+-- the blocks are described by the same information
+built_same : (held : Image) (core : CoreState) (infos : Vec InfoParts Global) (m : Machine) → infos.items ≡ core.infos.items → AreDescribed held core.infos.items m.state.blocks → AreDescribed held infos.items m.state.blocks
+built_same held core infos m known was = subst (λ (i : List InfoParts). AreDescribed held i m.state.blocks) (sym known) was
+
+pub did_lack : {D : Type 0} (g : Ghosts D) (only_now : OnlyNow g) (old : Core D) (live : LiveParts) (infos : Vec InfoParts Global) (jobs : Jobs) → ((m : Machine) → HasState old.state m → early m BeginFlush ≡ None)
+    → old.state.jobs.flush ≡ None → infos.items ≡ old.state.infos.items → SameJobs old.state.jobs jobs
+    → ((m : Machine) → HasState old.state m → SameRows old.state.live live) → Did g old BeginFlush (Refused Memory) (record old { state = record old.state { live = live; infos = infos; jobs = jobs } })
+did_lack {D} g only_now old live infos jobs free none known same rows =
+    quiet g only_now old (record old.state { live = live; infos = infos; jobs = jobs }) BeginFlush (Refused Memory) (λ file bytes. refl) (λ e. let bad = refused_is Memory Fault e in cc) (λ n. refl) refl refl
     (λ told m s.
     let step : Step (g.faults old.disk) (g.faults old.disk) m BeginFlush (Refused Memory) m = Lacks (free m s.has) refl refl refl in (
       m,
-      stands_kept told told (g.held old.disk) (g.held old.disk) (g.may_leave old.disk) (g.may_leave old.disk) old.state (record old.state { live = live; jobs = jobs }) m m (g.faults old.disk) (g.faults old.disk) BeginFlush (Refused Memory)
-          (λ t. t) s step refl (has_memory old.state live jobs m none same (rows m s.has) s.has) refl (λ t image left. (image, left, keeps_same image)) s.built s.settled (λ free. free)
+      stands_kept told told (g.held old.disk) (g.held old.disk) (g.may_leave old.disk) (g.may_leave old.disk) old.state (record old.state { live = live; infos = infos; jobs = jobs }) m m (g.faults old.disk) (g.faults old.disk) BeginFlush (Refused Memory)
+          (λ t. t) s step refl (has_memory old.state live infos jobs m none known same (rows m s.has) s.has) refl (λ t image left. (image, left, keeps_same image)) (λ t. built_same (g.held old.disk) old.state infos m known (s.built t)) s.settled (λ free. free)
           (λ t free. no_segment (g.held old.disk) (g.may_leave old.disk) jobs (same.flush ∙ none)) s.logged,
       refl,
       step,
@@ -179,12 +189,13 @@ did_lack {D} g only_now old live jobs free none same rows =
 -- ---- the files were made, or a call failed
 
 -- the memory of a core in which a flush has begun
-pub record Begun (old new : Jobs) (files : FlushFiles) : Type 0 where
+pub record Begun (old new : Jobs) (files : FlushFiles) (list : ListBody) (room : CommitRoom) : Type 0 where
   pub next_file : new.next_file ≡ old.next_file + 2
   pub number : new.begun ≡ min (old.begun + 1) (2 ^ 64 - 1)
   pub loose : new.loose.items ≡ old.loose.items
-  pub flush : new.flush ≡ Some (record { number = new.begun; files = files })
-  pub room : vec_len new.loose + 2 ≤ vec_capacity new.loose
+  pub flush : new.flush ≡ Some (record { number = new.begun; files = files; room = Some room })
+  pub loose_room : vec_len new.loose + length list.segments + 2 ≤ vec_capacity new.loose
+  pub fits : CommitFits room list (vec_len new.loose)
 
 pub record TakesHead (old new : LiveParts) (rows : List Row) : Type 0 where
   pub live : new.live ≡ old.live
@@ -192,11 +203,11 @@ pub record TakesHead (old new : LiveParts) (rows : List Row) : Type 0 where
   pub flushing : new.flushing ≡ rows
   pub head : new.head ≡ drop most_rows (old.flushing ++ old.head)
 
-has_begun : (core : CoreState) (live : LiveParts) (jobs : Jobs) (m : Machine) (files : FlushFiles) (rows : List Row) → core.jobs.flush ≡ None → core.jobs.next_file < 4294967294
+has_begun : (core : CoreState) (live : LiveParts) (infos : Vec InfoParts Global) (jobs : Jobs) (m : Machine) (files : FlushFiles) (room : CommitRoom) (rows : List Row) → core.jobs.flush ≡ None → core.jobs.next_file < 4294967294
     → files.block ≡ core.jobs.next_file → files.segment ≡ core.jobs.next_file + 1 → m.state.begun + 3 ≤ m.state.next_file
-    → Begun core.jobs jobs files → TakesHead core.live live rows → HasState core m
-    → HasState (record core { live = live; jobs = jobs }) (with_state (after_begin_flush m.state) m)
-has_begun core live jobs m files rows none below block segment fits begun takes has =
+    → infos.items ≡ core.infos.items → vec_len infos + 1 ≤ vec_capacity infos → Begun core.jobs jobs files core.list room → TakesHead core.live live rows → HasState core m
+    → HasState (record core { live = live; infos = infos; jobs = jobs }) (with_state (after_begin_flush m.state) m)
+has_begun core live infos jobs m files room rows none below block segment fits known spare begun takes has =
     let whole : core.live.flushing ++ core.live.head ≡ m.state.head = ap (λ (r : List Row). r ++ core.live.head) (none_flushing core m has none) ∙ sym has.head in
     let number : m.state.begun + 1 ≡ jobs.begun = (let was = has.begun in let next = has.next_file in let now = begun.number in omega (arith, was, next, now, fits, below)) in
     record {
@@ -213,8 +224,10 @@ has_begun core live jobs m files rows none below block segment fits begun takes 
       );
       compaction = has.compaction;
       blocks = has.blocks;
-      infos = has.infos;
-      listed = has.listed;
+      infos = ap info_files known ∙ has.infos;
+      listed = ap (map listed_as) known ∙ has.listed;
+      commit = λ free. subst (λ (k : Option OpenFlush). IfSome k (λ mine. (room : CommitRoom) × (mine.room ≡ Some room) × CommitFits room core.list (vec_len jobs.loose) × (vec_len infos + 1 ≤ vec_capacity infos))) (sym begun.flush)
+          (room, refl, begun.fits, spare);
       rules = has.rules;
       segments = has.segments;
       last = has.last;
@@ -226,7 +239,7 @@ has_begun core live jobs m files rows none below block segment fits begun takes 
         given = (let was = has.jobs.given in let next = begun.next_file in omega (arith, was, next));
         files = subst (λ (k : Option OpenFlush). IfSome k (λ mine. (core.list.next_file ≤ mine.files.block) × (core.list.next_file ≤ mine.files.segment))) (sym begun.flush)
             (let was = has.jobs.given in (omega (arith, was, block), omega (arith, was, segment)));
-        room = subst (λ (k : Option OpenFlush). IfSome k (λ mine. vec_len jobs.loose + 2 ≤ vec_capacity jobs.loose)) (sym begun.flush) begun.room;
+        room = subst (λ (k : Option OpenFlush). IfSome k (λ mine. vec_len jobs.loose + length core.list.segments + 2 ≤ vec_capacity jobs.loose)) (sym begun.flush) begun.loose_room;
       };
       used = used_begun core.list m.state (no_flush core m has none) has.used;
       pins = has.pins;
@@ -259,17 +272,18 @@ module _ {D : Type 0} (g : Ghosts D) (old : Core D) (disk : D) (files : FlushFil
       let next = s.has.next_file in
       others told file (λ is. omega (arith, is, block, under, next)) (λ is. omega (arith, is, segment, under, next))
 
-  module _ (live : LiveParts) (jobs : Jobs) (rows : List Row) (begun : Begun old.state.jobs jobs files) (takes : TakesHead old.state.live live rows) where
+  module _ (live : LiveParts) (infos : Vec InfoParts Global) (jobs : Jobs) (room : CommitRoom) (rows : List Row) (known : infos.items ≡ old.state.infos.items) (spare : vec_len infos + 1 ≤ vec_capacity infos)
+      (begun : Begun old.state.jobs jobs files old.state.list room) (takes : TakesHead old.state.live live rows) where
     after : (told told' : Type 0) → (told' → told) → (told → IsTrue (g.tells old.disk)) → (m : Machine) → StandsFor told (g.held old.disk) (g.may_leave old.disk) old.state m
         → Step (g.faults old.disk) (g.faults disk) m BeginFlush (Flushing jobs.begun files.block rows) (with_state (after_begin_flush m.state) m)
         → (told → HasFreshSegment (g.held disk) (g.may_leave disk) jobs) → (told → CoreStandsFor g old m)
-        → StandsFor told' (g.held disk) (g.may_leave disk) (record old.state { live = live; jobs = jobs }) (with_state (after_begin_flush m.state) m)
-    after told told' known tells m s step fresh whole =
-        stands_kept told told' (g.held old.disk) (g.held disk) (g.may_leave old.disk) (g.may_leave disk) old.state (record old.state { live = live; jobs = jobs }) m (with_state (after_begin_flush m.state) m)
-        (g.faults old.disk) (g.faults disk) BeginFlush (Flushing jobs.begun files.block rows) known s step refl
-        (has_begun old.state live jobs m files rows none below block segment s.sound.fits.jobs begun takes s.has) refl
+        → StandsFor told' (g.held disk) (g.may_leave disk) (record old.state { live = live; infos = infos; jobs = jobs }) (with_state (after_begin_flush m.state) m)
+    after told told' later_told tells m s step fresh whole =
+        stands_kept told told' (g.held old.disk) (g.held disk) (g.may_leave old.disk) (g.may_leave disk) old.state (record old.state { live = live; infos = infos; jobs = jobs }) m (with_state (after_begin_flush m.state) m)
+        (g.faults old.disk) (g.faults disk) BeginFlush (Flushing jobs.begun files.block rows) later_told s step refl
+        (has_begun old.state live infos jobs m files room rows none below block segment s.sound.fits.jobs known spare begun takes s.has) refl
         (λ t. (run_keeps (tells t) m (whole t)).now)
-        (λ t. described_below (g.held old.disk) (g.held disk) old.state m s.has (same_held (tells t) m s.has) (s.built t))
+        (λ t. built_same (g.held disk) old.state infos m known (described_below (g.held old.disk) (g.held disk) old.state m s.has (same_held (tells t) m s.has) (s.built t)))
         (λ t free. settled_below (g.held old.disk) (g.may_leave old.disk) old.state.list (s.settled t writes).lies.ready (g.held disk) (g.may_leave disk) (same_held (tells t) m s.has) (run_below m s.has).now
         m.state.blocks (tail_of old.state.segment) m.history (s.settled t writes))
         (λ free. free) (λ t free. fresh t)
@@ -288,9 +302,9 @@ module _ {D : Type 0} (g : Ghosts D) (old : Core D) (disk : D) (files : FlushFil
 
     pub did_begin : (IsTrue (g.tells old.disk) → bytes_of (g.held disk) files.block ≡ [])
         → (IsTrue (g.tells old.disk) → ((first : ℕ) → SegmentHolds first [] 1 (bytes_of (g.held disk) files.segment)) × OnlyBytes files.segment (bytes_of (g.held disk) files.segment) (g.may_leave disk))
-        → Did g old BeginFlush (Flushing jobs.begun files.block rows) (record old { disk = disk; state = record old.state { live = live; jobs = jobs } })
+        → Did g old BeginFlush (Flushing jobs.begun files.block rows) (record old { disk = disk; state = record old.state { live = live; infos = infos; jobs = jobs } })
     did_begin empty made =
-        did_kept g old disk (record old.state { live = live; jobs = jobs }) BeginFlush (Flushing jobs.begun files.block rows) telling run_keeps refl refl
+        did_kept g old disk (record old.state { live = live; infos = infos; jobs = jobs }) BeginFlush (Flushing jobs.begun files.block rows) telling run_keeps refl refl
         (λ m s.
         let step = its_step m s.has s.sound.fits.jobs in (
           with_state (after_begin_flush m.state) m,
@@ -321,21 +335,22 @@ module _ {D : Type 0} (g : Ghosts D) (old : Core D) (disk : D) (files : FlushFil
 
     pub did_begin_as : (number : ℕ) → number ≡ jobs.begun → (IsTrue (g.tells old.disk) → bytes_of (g.held disk) files.block ≡ [])
         → (IsTrue (g.tells old.disk) → ((first : ℕ) → SegmentHolds first [] 1 (bytes_of (g.held disk) files.segment)) × OnlyBytes files.segment (bytes_of (g.held disk) files.segment) (g.may_leave disk))
-        → Did g old BeginFlush (Flushing number files.block rows) (record old { disk = disk; state = record old.state { live = live; jobs = jobs } })
+        → Did g old BeginFlush (Flushing number files.block rows) (record old { disk = disk; state = record old.state { live = live; infos = infos; jobs = jobs } })
     did_begin_as number is empty made =
-        subst (λ (n : ℕ). Did g old BeginFlush (Flushing n files.block rows) (record old { disk = disk; state = record old.state { live = live; jobs = jobs } })) (sym is) (did_begin empty made)
+        subst (λ (n : ℕ). Did g old BeginFlush (Flushing n files.block rows) (record old { disk = disk; state = record old.state { live = live; infos = infos; jobs = jobs } })) (sym is) (did_begin empty made)
 
-  pub did_begin_fail : (live : LiveParts) (jobs : Jobs) (faults : ℕ) → faults ≡ g.faults disk → Rose (g.faults old.disk) (g.faults disk) → SameJobs old.state.jobs jobs
+  pub did_begin_fail : (live : LiveParts) (infos : Vec InfoParts Global) (jobs : Jobs) (faults : ℕ) → faults ≡ g.faults disk → Rose (g.faults old.disk) (g.faults disk) → infos.items ≡ old.state.infos.items
+      → SameJobs old.state.jobs jobs
       → ((m : Machine) → HasState old.state m → SameRows old.state.live live)
-      → Did g old BeginFlush (Refused Fault) (record old { disk = disk; state = record old.state { live = live; jobs = jobs; read_only = Some faults } })
-  did_begin_fail live jobs faults counted rose same rows =
-      subst (λ (n : ℕ). Did g old BeginFlush (Refused Fault) (record old { disk = disk; state = record old.state { live = live; jobs = jobs; read_only = Some n } })) (sym counted)
-      (did_kept g old disk (record old.state { live = live; jobs = jobs; read_only = Some (g.faults disk) }) BeginFlush (Refused Fault) telling run_keeps refl refl
+      → Did g old BeginFlush (Refused Fault) (record old { disk = disk; state = record old.state { live = live; infos = infos; jobs = jobs; read_only = Some faults } })
+  did_begin_fail live infos jobs faults counted rose known same rows =
+      subst (λ (n : ℕ). Did g old BeginFlush (Refused Fault) (record old { disk = disk; state = record old.state { live = live; infos = infos; jobs = jobs; read_only = Some n } })) (sym counted)
+      (did_kept g old disk (record old.state { live = live; infos = infos; jobs = jobs; read_only = Some (g.faults disk) }) BeginFlush (Refused Fault) telling run_keeps refl refl
       (λ m s. (
         broken (g.faults disk) m,
-        stands_kept (IsTrue (g.tells old.disk)) (IsTrue (g.tells disk)) (g.held old.disk) (g.held disk) (g.may_leave old.disk) (g.may_leave disk) old.state (record old.state { live = live; jobs = jobs; read_only = Some (g.faults disk) }) m (broken (g.faults disk) m)
+        stands_kept (IsTrue (g.tells old.disk)) (IsTrue (g.tells disk)) (g.held old.disk) (g.held disk) (g.may_leave old.disk) (g.may_leave disk) old.state (record old.state { live = live; infos = infos; jobs = jobs; read_only = Some (g.faults disk) }) m (broken (g.faults disk) m)
             (g.faults old.disk) (g.faults disk) BeginFlush (Refused Fault) (λ t. subst IsTrue telling t) s (Breaks (free m s.has) refl refl rose refl) refl (has m s.has) refl
-            (λ told. (run_keeps told m s).now) (λ told. described_below (g.held old.disk) (g.held disk) old.state m s.has (same_held told m s.has) (s.built told))
+            (λ told. (run_keeps told m s).now) (λ told. built_same (g.held disk) old.state infos m known (described_below (g.held old.disk) (g.held disk) old.state m s.has (same_held told m s.has) (s.built told)))
             (λ told is. absurd (let bad : Some (g.faults disk) ≡ None = is in cc)) (λ is. absurd (let bad : Some (g.faults disk) ≡ None = is in cc)) (λ told is. absurd (let bad : Some (g.faults disk) ≡ None = is in cc))
             (λ told is. absurd (let bad : Some (g.faults disk) ≡ None = is in cc)),
         refl,
@@ -343,7 +358,7 @@ module _ {D : Type 0} (g : Ghosts D) (old : Core D) (disk : D) (files : FlushFil
       ))
       (λ m s. (
         broken (g.faults disk) m,
-        stands_kept ⊥ ⊥ (g.held old.disk) (g.held disk) (g.may_leave old.disk) (g.may_leave disk) old.state (record old.state { live = live; jobs = jobs; read_only = Some (g.faults disk) }) m (broken (g.faults disk) m)
+        stands_kept ⊥ ⊥ (g.held old.disk) (g.held disk) (g.may_leave old.disk) (g.may_leave disk) old.state (record old.state { live = live; infos = infos; jobs = jobs; read_only = Some (g.faults disk) }) m (broken (g.faults disk) m)
             (g.faults old.disk) (g.faults disk) BeginFlush (Refused Fault) (λ bad. bad) s (Breaks (free m s.has) refl refl rose refl) refl (has m s.has) refl
             (λ bad. absurd bad) (λ bad. absurd bad) (λ bad. absurd bad) (λ is. absurd (let bad : Some (g.faults disk) ≡ None = is in cc)) (λ bad. absurd bad) (λ bad. absurd bad),
         Breaks (free m s.has) refl refl rose refl,
@@ -352,8 +367,8 @@ module _ {D : Type 0} (g : Ghosts D) (old : Core D) (disk : D) (files : FlushFil
       (λ told f among. none_begun (Refused Fault) f _ refl among)
       later (λ is. rose) calls (omega (arith, reads), omega (arith, reads)))
     where
-      has : (m : Machine) → HasState old.state m → HasState (record old.state { live = live; jobs = jobs; read_only = Some (g.faults disk) }) (broken (g.faults disk) m)
-      has m was = has_stopped (record old.state { live = live; jobs = jobs }) (g.faults disk) m (has_memory old.state live jobs m none same (rows m was) was)
+      has : (m : Machine) → HasState old.state m → HasState (record old.state { live = live; infos = infos; jobs = jobs; read_only = Some (g.faults disk) }) (broken (g.faults disk) m)
+      has m was = has_stopped (record old.state { live = live; infos = infos; jobs = jobs }) (g.faults disk) m (has_memory old.state live infos jobs m none known same (rows m was) was)
 
 -- the rows that were taken are put back
 pub back_in_front : (old mid new : LiveParts) (rows : List Row) → TakesHead old mid rows → new.head ≡ mid.flushing ++ mid.head → new.flushing ≡ [] → new.live ≡ mid.live → SameRows old new

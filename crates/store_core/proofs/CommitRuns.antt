@@ -46,7 +46,7 @@ pub record Ran {D : Type 0} (g : Ghosts D) (mid new : D) (list next : ListBody) 
 module _ {D : Type 0} (g : Ghosts D) (only_now : OnlyNow g) (old mid new : D) (file slot : ℕ) (list next : ListBody) (blocks : List Block) (block : Block) (tail : Tail) (h : History) (last : SegmentRef) (waiting : List Row)
     (synced : Synced g old mid file) (ran : Ran g mid new list next slot) (told : IsTrue (g.tells old)) (settled : IsSettled (g.held old) (g.may_leave old) list blocks tail h)
     (c : MayCommit (g.held mid) (g.may_leave mid) list next blocks block tail h last waiting) where
-  its_run : Run (WritesSlot slot (ImageHoldsEither (Some list) next)) g.moment g.left_since g.may_leave mid new
+  pub its_run : Run (WritesSlot slot (ImageHoldsEither (Some list) next)) g.moment g.left_since g.may_leave mid new
   its_run = ran.run (subst IsTrue (sym synced.telling) told) c.settled.lies.ready
 
   -- a property that each image has before, and each one that the writing makes

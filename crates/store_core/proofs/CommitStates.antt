@@ -6,7 +6,7 @@ use Rattle.std.proofs.lemmas.List.Elements.{Contains-append_cases}
 use Rattle.span_types.specs.declared.spans.Row.{Row}
 use Rattle.head_log.specs.declared.segment.Segment.{Segment}
 use Rattle.block_info.specs.InfoParts.{InfoParts}
-use Rattle.block_list.specs.Body.{MeetsRules, successor}
+use Rattle.block_list.specs.Body.{MeetsRules}
 use Rattle.block_list.specs.declared.body.BlockRef.{BlockRef}
 use Rattle.block_list.specs.declared.body.SegmentRef.{SegmentRef}
 use Rattle.block_list.specs.declared.body.ListBody.{ListBody}
@@ -23,14 +23,16 @@ use Rattle.store_state.specs.Loose.{AreFilesOf}
 use Rattle.store_state.specs.declared.listing.FlushFiles.{FlushFiles}
 use Rattle.store_images.specs.Stored.{ref_of}
 use Rattle.store_core.specs.Jobs.{ShowsFlush}
-use Rattle.store_core.specs.Cores.{HasState, listed_as, segment_of}
+use Rattle.store_core.specs.Cores.{HasState, listed_as, segment_of, unsure_of}
+use Rattle.store_core.specs.InUse.{AreInUse}
+use Rattle.store_core.specs.Pins.{is_taken}
 use Rattle.store_core.specs.declared.jobs.Jobs.{Jobs}
 use Rattle.store_core.specs.declared.jobs.OpenFlush.{OpenFlush}
 use Rattle.store_core.specs.declared.state.CoreState.{CoreState}
 use Rattle.store_core.proofs.InUse.{used_listed}
 use Rattle.store_core.proofs.Logged.{head_outside, live_outside}
 use Rattle.store_core.proofs.NextLists.{Parting, NamesState, first_in, parting, order_with, next_rules, same_segments}
-use Rattle.store_core.proofs.NoJobs.{none_fit}
+use Rattle.store_core.proofs.NoJobs.{no_commit_room, none_fit}
 use Rattle.store_core.proofs.States.{ref_to}
 
 -- the block that is listed
@@ -57,16 +59,6 @@ least_above floor count (r ∷ rs) each low =
 -- the segment that comes last
 abbrev pub next_last : FlushFiles → Machine → SegmentRef
 next_last files m = ref_to files.segment (count_of m.history)
-
--- What was put into the next list: the block behind the others, the new segment behind those that stay, and the floor. The segments that the
--- floor releases are loose.
-pub record NamesNext (core : CoreState) (m : Machine) (files : FlushFiles) (size : ℕ) (list : ListBody) : Type 0 where
-  pub blocks : list.blocks ≡ core.list.blocks ++ record { file = files.block; level = 0; rows = size } ∷ []
-  pub segments : map segment_of list.segments ≡ staying (floor_after (count_of m.history) m.state) (map segment_of (core.list.segments ++ next_last files m ∷ []))
-  pub loose : list.loose ≡ core.jobs.loose.items ++ released (floor_after (count_of m.history) m.state) (map segment_of (core.list.segments ++ next_last files m ∷ []))
-  pub floor : list.floor ≡ floor_after (count_of m.history) m.state
-  pub next_file : list.next_file ≡ core.jobs.next_file
-  pub generation : list.generation ≡ successor core.list.generation
 
 module _ (core : CoreState) (m : Machine) (has : HasState core m) where
   -- the floor never falls, and stands at the history's length at most
@@ -106,16 +98,20 @@ module _ (core : CoreState) (m : Machine) (has : HasState core m) where
       ∙ sym (map-append segment_of core.list.segments (next_last files m ∷ []))
 
   -- what was put into the next list is what the machine has after the step
-  pub names_next : (files : FlushFiles) (job : Flush) (size : ℕ) (firsts : List Row) (list : ListBody) → AreFilesOf files job → NamesNext core m files size list → NamesState list (committed_state m job size firsts)
-  names_next files job size firsts list own next = record {
+  pub names_next : (files : FlushFiles) (job : Flush) (size : ℕ) (firsts : List Row) (list : ListBody) → AreFilesOf files job
+      → list.blocks ≡ core.list.blocks ++ record { file = files.block; level = 0; rows = size } ∷ []
+      → map segment_of list.segments ≡ staying (floor_after (count_of m.history) m.state) (map segment_of (core.list.segments ++ next_last files m ∷ []))
+      → list.loose ≡ core.jobs.loose.items ++ released (floor_after (count_of m.history) m.state) (map segment_of (core.list.segments ++ next_last files m ∷ []))
+      → list.floor ≡ floor_after (count_of m.history) m.state → list.next_file ≡ core.jobs.next_file → NamesState list (committed_state m job size firsts)
+  names_next files job size firsts list own blocks segments loose floor next_file = record {
     blocks = map-append ref_of m.state.blocks (new_block job size firsts ∷ []) ∙ ap (λ (l : List BlockRef). l ++ record { file = job.file; level = 0; rows = size } ∷ []) (sym has.blocks)
-        ∙ ap (λ (f : ℕ). core.list.blocks ++ record { file = f; level = 0; rows = size } ∷ []) (sym own.block) ∙ sym next.blocks;
-    segments = ap (staying (floor_after (count_of m.history) m.state)) (with_is files job own) ∙ sym next.segments;
-    floor = sym next.floor;
+        ∙ ap (λ (f : ℕ). core.list.blocks ++ record { file = f; level = 0; rows = size } ∷ []) (sym own.block) ∙ sym blocks;
+    segments = ap (staying (floor_after (count_of m.history) m.state)) (with_is files job own) ∙ sym segments;
+    floor = sym floor;
     loose = ap (λ (c : Option Compaction). ((committed_state m job size firsts).loose ++ []) ++ compaction_files c) has.compaction ∙ append-nil ((committed_state m job size firsts).loose ++ []) ∙ append-nil (committed_state m job size firsts).loose
         ∙ ap (λ (l : List ℕ). l ++ released (floor_after (count_of m.history) m.state) (with_segment (count_of m.history) job m.state)) has.loose
-        ∙ ap (λ (l : List ModelSegment). core.jobs.loose.items ++ released (floor_after (count_of m.history) m.state) l) (with_is files job own) ∙ sym next.loose;
-    next_file = has.next_file ∙ sym next.next_file;
+        ∙ ap (λ (l : List ModelSegment). core.jobs.loose.items ++ released (floor_after (count_of m.history) m.state) l) (with_is files job own) ∙ sym loose;
+    next_file = has.next_file ∙ sym next_file;
   }
 
   -- and it meets the rules
@@ -136,51 +132,63 @@ module _ (core : CoreState) (m : Machine) (has : HasState core m) where
 
 -- ---- the memory
 
--- The memory took over the next list, and its last segment, which has no record.
-pub record TookOver (core : CoreState) (list : ListBody) (segment : Segment) (jobs : Jobs) (live : LiveParts) : Type 0 where
-  pub count : segment.count ≡ 0
-  pub begun : jobs.begun ≡ core.jobs.begun
-  pub next_file : jobs.next_file ≡ core.jobs.next_file
-  pub loose : jobs.loose.items ≡ list.loose
-  pub none : jobs.flush ≡ None
-  pub gone : live.flushing ≡ []
-  pub head : live.head ≡ core.live.head
-  pub rows : live.live ≡ core.live.live
+-- The memory took over the next list, whose last segment has no record, and the information of its new block.
+pub record TookOver (core later : CoreState) (list : ListBody) (info : InfoParts) (file first : ℕ) : Type 0 where
+  pub listing : later.list ≡ list
+  pub infos : later.infos.items ≡ core.infos.items ++ info ∷ []
+  pub file_is : later.segment.file ≡ file
+  pub first_is : later.segment.first ≡ first
+  pub count : later.segment.count ≡ 0
+  pub gate : later.segment.gate ≡ 1
+  pub begun : later.jobs.begun ≡ core.jobs.begun
+  pub next_file : later.jobs.next_file ≡ core.jobs.next_file
+  pub loose : later.jobs.loose.items ≡ list.loose
+  pub none : later.jobs.flush ≡ None
+  pub gone : later.live.flushing ≡ []
+  pub head : later.live.head ≡ core.live.head
+  pub rows : later.live.live ≡ core.live.live
+  pub pins : later.pins.items ≡ core.pins.items
+  pub read_only : later.read_only ≡ core.read_only
+  pub unsure : unsure_of later ≡ unsure_of core
 
 -- the information is that of the job's block
-pub record IsItsInfo (info : InfoParts) (job : Flush) (size : ℕ) : Type 0 where
-  pub file : info.file ≡ job.file
+pub record IsItsInfo (info : InfoParts) (file size : ℕ) : Type 0 where
+  pub file_is : info.file ≡ file
   pub level : info.level ≡ 0
   pub rows : info.rows ≡ size
 
-pub has_committed : (core : CoreState) (list : ListBody) (infos : List InfoParts) (segment : Segment) (jobs : Jobs) (live : LiveParts) (m : Machine) (job : Flush) (size : ℕ) (firsts : List Row) (info : InfoParts)
-    (kept : List SegmentRef) → HasState core m → TookOver core list segment jobs live → IsItsInfo info job size → NamesState list (committed_state m job size firsts) → MeetsRules list
-    → list.segments ≡ kept ++ ref_to segment.file segment.first ∷ [] → segment.first ≡ count_of m.history → infos ≡ core.infos ++ info ∷ []
-    → HasState (record core { live = live; list = list; infos = infos; segment = segment; jobs = jobs }) (with_state (committed_state m job size firsts) m)
-has_committed core list infos segment jobs live m job size firsts info kept has took its names rules segments first infos_are = record {
-  count = (let none = took.count in omega (arith, first, none));
-  few = (let none = took.count in let was = has.count in let few = has.few in omega (arith, first, none, was, few));
+pub has_committed : (core later : CoreState) (list : ListBody) (m : Machine) (job : Flush) (size : ℕ) (firsts : List Row) (info : InfoParts)
+    (kept : List SegmentRef) (file : ℕ) → HasState core m → TookOver core later list info file (count_of m.history) → IsItsInfo info job.file size → NamesState list (committed_state m job size firsts) → MeetsRules list
+    → list.segments ≡ kept ++ ref_to file (count_of m.history) ∷ []
+    → HasState later (with_state (committed_state m job size firsts) m)
+has_committed core later list m job size firsts info kept file has took its names rules segments = record {
+  count = (let none = took.count in let first = took.first_is in omega (arith, first, none));
+  few = (let none = took.count in let first = took.first_is in let was = has.count in let few = has.few in omega (arith, first, none, was, few));
   live = has.live ∙ sym took.rows;
   head = has.head ∙ sym took.head;
   flushing = took.gone;
   flush = subst (λ (k : Option OpenFlush). ShowsFlush k None) (sym took.none) refl;
   compaction = has.compaction;
-  blocks = sym names.blocks;
-  infos = ap info_files infos_are ∙ map-append (λ (i : InfoParts). i.file) core.infos (info ∷ []) ∙ ap (λ (l : List ℕ). l ++ info.file ∷ []) has.infos
-      ∙ ap (λ (n : ℕ). block_files m.state.blocks ++ n ∷ []) its.file ∙ sym (map-append (λ (b : Block). b.file) m.state.blocks (block ∷ []));
-  listed = ap (map listed_as) infos_are ∙ map-append listed_as core.infos (info ∷ []) ∙ ap (λ (l : List BlockRef). l ++ listed_as info ∷ []) (has.listed ∙ has.blocks)
-      ∙ ap (λ (r : BlockRef). map ref_of m.state.blocks ++ r ∷ []) its_ref ∙ sym (map-append ref_of m.state.blocks (block ∷ [])) ∙ names.blocks;
-  rules = rules;
-  segments = names.segments;
-  last = (kept, segments);
-  floor = names.floor;
+  blocks = ap (λ (l : ListBody). l.blocks) took.listing ∙ sym names.blocks;
+  infos = ap info_files took.infos ∙ map-append (λ (i : InfoParts). i.file) core.infos.items (info ∷ []) ∙ ap (λ (l : List ℕ). l ++ info.file ∷ []) has.infos
+      ∙ ap (λ (n : ℕ). block_files m.state.blocks ++ n ∷ []) its.file_is ∙ sym (map-append (λ (b : Block). b.file) m.state.blocks (block ∷ []));
+  listed = ap (map listed_as) took.infos ∙ map-append listed_as core.infos.items (info ∷ []) ∙ ap (λ (l : List BlockRef). l ++ listed_as info ∷ []) (has.listed ∙ has.blocks)
+      ∙ ap (λ (r : BlockRef). map ref_of m.state.blocks ++ r ∷ []) its_ref ∙ sym (map-append ref_of m.state.blocks (block ∷ [])) ∙ names.blocks ∙ sym (ap (λ (l : ListBody). l.blocks) took.listing);
+  commit = λ free. no_commit_room later.jobs later.list later.infos took.none;
+  rules = subst MeetsRules (sym took.listing) rules;
+  segments = names.segments ∙ sym (ap (λ (l : ListBody). map segment_of l.segments) took.listing);
+  last = (
+    kept,
+    ap (λ (l : ListBody). l.segments) took.listing ∙ segments ∙ ap (λ (n : ℕ). kept ++ ref_to n (count_of m.history) ∷ []) (sym took.file_is) ∙ ap (λ (n : ℕ). kept ++ ref_to later.segment.file n ∷ []) (sym took.first_is),
+  );
+  floor = names.floor ∙ sym (ap (λ (l : ListBody). l.floor) took.listing);
   loose = sym (append-nil (committed_state m job size firsts).loose) ∙ sym (append-nil ((committed_state m job size firsts).loose ++ [])) ∙ ap (λ (c : Option Compaction). ((committed_state m job size firsts).loose ++ []) ++ compaction_files c) (sym has.compaction) ∙ names.loose ∙ sym took.loose;
   next_file = has.next_file ∙ sym took.next_file;
   begun = has.begun ∙ sym took.begun;
-  jobs = none_fit jobs list (let a = names.next_file in let b = has.next_file in let c = took.next_file in omega (arith, a, b, c)) took.none;
-  used = used_listed list (committed_state m job size firsts) names;
-  pins = has.pins;
-  read_only = has.read_only;
+  jobs = none_fit later.jobs later.list (let a = names.next_file in let b = has.next_file in let c = took.next_file in let d = ap (λ (l : ListBody). l.next_file) took.listing in omega (arith, a, b, c, d)) took.none;
+  used = subst (λ (l : ListBody). AreInUse l (committed_state m job size firsts)) (sym took.listing) (used_listed list (committed_state m job size firsts) names);
+  pins = λ n. has.pins n ∙ ap (is_taken n) (sym took.pins);
+  read_only = has.read_only ∙ sym took.read_only;
 }
   where
     block : Block
@@ -188,6 +196,6 @@ has_committed core list infos segment jobs live m job size firsts info kept has 
 
     its_ref : listed_as info ≡ ref_of block
     its_ref =
-        ap (λ (n : ℕ). record { file = n; level = info.level; rows = info.rows }) its.file
+        ap (λ (n : ℕ). record { file = n; level = info.level; rows = info.rows }) its.file_is
         ∙ ap (λ (n : ℕ). record { file = job.file; level = n; rows = info.rows }) its.level
         ∙ ap (λ (n : ℕ). record { file = job.file; level = 0; rows = n }) its.rows

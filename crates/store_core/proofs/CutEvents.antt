@@ -44,6 +44,7 @@ has_cut core live m goes moved has head stay flushing = record {
   blocks = has.blocks;
   infos = has.infos;
   listed = has.listed;
+  commit = has.commit;
   rules = has.rules;
   segments = has.segments;
   last = has.last;

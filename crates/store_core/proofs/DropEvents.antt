@@ -21,7 +21,7 @@ use Rattle.store_core.specs.Events.{Did}
 use Rattle.store_core.proofs.Kept.{stands_kept}
 use Rattle.store_core.proofs.InUse.{used_dropped}
 use Rattle.store_core.proofs.Logged.{logged_still}
-use Rattle.store_core.proofs.NoJobs.{no_segment, none_fit}
+use Rattle.store_core.proofs.NoJobs.{no_commit_room, no_segment, none_fit}
 use Rattle.store_core.proofs.OpenJobs.{IsOpenHere}
 use Rattle.store_core.proofs.PushEvents.{OnlyNow}
 use Rattle.store_core.proofs.Quiet.{quiet}
@@ -47,6 +47,7 @@ has_dropped core live jobs m number file here has dropped gone back same = recor
   blocks = has.blocks;
   infos = has.infos;
   listed = has.listed;
+  commit = λ free. no_commit_room jobs core.list core.infos dropped.gone;
   rules = has.rules;
   segments = has.segments;
   last = has.last;

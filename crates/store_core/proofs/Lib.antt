@@ -1,6 +1,7 @@
 mod Quiet
 mod Described
 mod NoJobs
+mod NextRoom
 mod States
 mod Logged
 mod HeldFiles
@@ -28,7 +29,8 @@ mod CommitStates
 mod CommitFacts
 mod CommitRuns
 mod CommitEvents
-mod CommitDone
+mod CommitEnds
+mod CommitAnswers
 mod PortEvents
 pub mod LogSteps
 mod LooseFiles

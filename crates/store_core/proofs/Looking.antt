@@ -43,6 +43,7 @@ has_pins core pins m m' has history read_only state taken = record {
   blocks = has.blocks ∙ ap (λ (u : State). map ref_of u.blocks) (sym state);
   infos = has.infos ∙ ap (λ (u : State). block_files u.blocks) (sym state);
   listed = has.listed;
+  commit = has.commit;
   rules = has.rules;
   segments = ap (λ (u : State). u.segments) state ∙ has.segments;
   last = has.last;

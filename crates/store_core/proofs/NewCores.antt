@@ -22,7 +22,7 @@ use Rattle.store_core.specs.NewCore.{new_machine, IsNewState}
 use Rattle.store_core.specs.InUse.{AreInUse}
 use Rattle.store_core.proofs.InUse.{used_listed}
 use Rattle.store_core.proofs.Described.{none_described}
-use Rattle.store_core.proofs.NoJobs.{no_segment, none_fit}
+use Rattle.store_core.proofs.NoJobs.{no_commit_room, no_segment, none_fit}
 use Rattle.store_core.proofs.States.{ref_to}
 use Rattle.store_core.proofs.Founding.{rules_new}
 
@@ -87,6 +87,7 @@ new_state_is core list live head flushing infos file first count gate pins write
     blocks = ap (λ (l : ListBody). l.blocks) list;
     infos = ap info_files infos;
     listed = ap (map listed_as) infos ∙ sym (ap (λ (l : ListBody). l.blocks) list);
+    commit = λ free. no_commit_room core.jobs core.list core.infos jobs.flush;
     rules = subst MeetsRules (sym list) rules_new;
     segments = sym (ap (λ (l : ListBody). map segment_of l.segments) list);
     last = ([], ap (λ (l : ListBody). l.segments) list ∙ ap (λ (n : ℕ). ref_to n 0 ∷ []) (sym file) ∙ ap (λ (n : ℕ). ref_to core.segment.file n ∷ []) (sym first));

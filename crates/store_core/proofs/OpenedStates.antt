@@ -48,7 +48,7 @@ use Rattle.store_core.proofs.LogSteps.{read_size}
 use Rattle.store_core.proofs.Revived.{live_of_arrived}
 use Rattle.store_core.specs.Jobs.{ShowsFlush}
 use Rattle.store_core.specs.declared.jobs.OpenFlush.{OpenFlush}
-use Rattle.store_core.proofs.NoJobs.{no_segment, none_fit}
+use Rattle.store_core.proofs.NoJobs.{no_commit_room, no_segment, none_fit}
 
 -- ---- the list that is left has the same segments, blocks and numbers
 
@@ -307,6 +307,7 @@ module _ (told : Type 0) (image : Image) (list : ListBody) (rules : MeetsRules l
       blocks = ap (λ (l : ListBody). l.blocks) state.listing ∙ without_by list (λ (l : ListBody). l.blocks ≡ map ref_of blocks) (λ generation loose. its);
       infos = same_block_files core.infos.items list.blocks blocks state.infos its;
       listed = state.infos ∙ sym (ap (λ (l : ListBody). l.blocks) state.listing ∙ without_by list (λ (l : ListBody). l.blocks ≡ list.blocks) (λ generation loose. refl));
+      commit = λ free. no_commit_room core.jobs core.list core.infos state.jobs.flush;
       rules = subst MeetsRules (sym state.listing) (rules_after list rules list.loose);
       segments = without_by list (λ (l : ListBody). map segment_of list.segments ≡ map segment_of l.segments) (λ generation loose. refl) ∙ sym (ap (λ (l : ListBody). map segment_of l.segments) state.listing);
       last = (read.front, ap (λ (l : ListBody). l.segments) state.listing ∙ without_by list (λ (l : ListBody). l.segments ≡ list.segments) (λ generation loose. refl) ∙ read.last);

@@ -5,7 +5,11 @@ use Rattle.store_model.specs.Event.{Event, Reply}
 use Rattle.store_model.specs.Step.{Machine, IsLookPin}
 use Rattle.store_state.specs.Meaning.{Called, IsOpen}
 use Rattle.store_state.specs.Cores.{CoreHolds, CoreSteps}
-use Rattle.store_state.specs.Given.{look_of}
+use Rattle.store_model.specs.Holds.{Hold, OpenIn}
+use Rattle.store_model.specs.Holds.Hold.{OpenFlush, OpenCompact}
+use Rattle.store_state.specs.Given.{look_of, IsJobOf}
+use Rattle.store_state.specs.Given.IsJobOf.{OfFlush, OfCompact}
+use Rattle.store_state.specs.declared.jobs.JobFile.{JobFile}
 use Rattle.store_state.specs.declared.jobs.Look.{Look}
 use Rattle.store_state.proofs.CallLaws.{step_is_called}
 use Rattle.store_images.proofs.Lists.{not_in_nil}
@@ -51,6 +55,14 @@ did_is_called g old event reply new did =
 pub open_look : {D : Type 0} (g : Ghosts D) (core : Core D) (look : Look) → IsOpen (port_of g) core (look_of look)
     → (m : Machine) × CoreShows g core m × IsLookPin look.pin.number m.state
 open_look g core look (held, known, there) = (known.machine, known.shown, (known.open_holds (look_of look) there).open_pin)
+
+-- what the port holds open is open in a machine that the core's memory shows
+pub open_hold : {D : Type 0} (g : Ghosts D) (core : Core D) (hold : Hold) → IsOpen (port_of g) core hold → (m : Machine) × CoreShows g core m × OpenIn m hold
+open_hold g core hold (held, known, there) = (known.machine, known.shown, known.open_holds hold there)
+
+pub open_job : {D : Type 0} (g : Ghosts D) (core : Core D) (out : JobFile) → IsJobOf out (IsOpen (port_of g) core) → (m : Machine) × CoreShows g core m × IsJobOf out (OpenIn m)
+open_job g core out (OfFlush rows is) = let its = open_hold g core (OpenFlush out.number out.file rows) is in (its.0, its.1, OfFlush rows its.2)
+open_job g core out (OfCompact level pin files is) = let its = open_hold g core (OpenCompact out.number out.file level pin files) is in (its.0, its.1, OfCompact level pin files its.2)
 
 -- nothing is open in a core whose memory shows a machine
 pub holds_nothing : {D : Type 0} (g : Ghosts D) (core : Core D) (m : Machine) → CoreShows g core m → CoreHolds (shown_by g) core []

@@ -50,6 +50,7 @@ has_same core live m same has = record {
   blocks = has.blocks;
   infos = has.infos;
   listed = has.listed;
+  commit = has.commit;
   rules = has.rules;
   segments = has.segments;
   last = has.last;
@@ -111,6 +112,7 @@ has_pushed core live segment m spans moment number has added head flushing is be
       blocks = has.blocks;
       infos = has.infos;
       listed = has.listed;
+      commit = has.commit;
       rules = has.rules;
       segments = has.segments;
       last = (
@@ -166,6 +168,7 @@ has_broken core live segment ready faults m same still has = record {
   blocks = has.blocks;
   infos = has.infos;
   listed = has.listed;
+  commit = λ none. absurd (let bad : Some faults ≡ None = none in cc);
   rules = has.rules;
   segments = has.segments;
   last = (has.last.0, has.last.1 ∙ ap (λ (x : Segment). has.last.0 ++ ref_to x.file x.first ∷ []) (sym still));
@@ -211,6 +214,7 @@ has_stopped core faults m has = record {
   blocks = has.blocks;
   infos = has.infos;
   listed = has.listed;
+  commit = λ none. absurd (let bad : Some faults ≡ None = none in cc);
   rules = has.rules;
   segments = has.segments;
   last = has.last;

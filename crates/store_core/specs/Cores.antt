@@ -21,7 +21,7 @@ use Rattle.store_state.specs.Written.{AreBlocksOf}
 use Rattle.store_images.specs.Stored.{MayStandFor, ref_of}
 use Rattle.store_images.specs.Settled.{Tail, IsSettled}
 use Rattle.store_core.specs.Pins.{is_taken}
-use Rattle.store_core.specs.Jobs.{ShowsFlush, JobsFit, HasFreshSegment}
+use Rattle.store_core.specs.Jobs.{ShowsFlush, JobsFit, HasCommitRoom, HasFreshSegment}
 use Rattle.store_core.specs.Waiting.{rows_outside, AreLogged}
 use Rattle.store_core.specs.InUse.{AreInUse}
 use Rattle.store_core.specs.declared.state.CoreState.{CoreState}
@@ -60,6 +60,8 @@ pub record HasState (core : CoreState) (m : Machine) : Type 0 where
   pub blocks : core.list.blocks ≡ map ref_of m.state.blocks
   pub infos : info_files core.infos.items ≡ block_files m.state.blocks
   pub listed : map listed_as core.infos.items ≡ core.list.blocks
+  -- while the store writes
+  pub commit : core.read_only ≡ None → HasCommitRoom core.jobs core.list core.infos
   pub rules : MeetsRules core.list
   pub segments : m.state.segments ≡ map segment_of core.list.segments
   pub last : (front : List SegmentRef) × (core.list.segments ≡ front ++ record { file = core.segment.file; first = core.segment.first } ∷ [])

@@ -1,6 +1,7 @@
 pub mod Pins
 pub mod Files
 pub mod Jobs
+pub mod NextList
 pub mod Waiting
 pub mod InUse
 pub mod Cores

@@ -84,7 +84,7 @@ impl<D: Device> Core<D> {
     /// file numbers: the first file is emptied for the block, and in the second a log segment without records is made, which
     /// pushes go to once the block is listed.
     ///
-    /// All memory is taken before the first device call. After `Fault` the store is read-only, and the rows are in the head.
+    /// All memory is taken before the first device call, that of the flush's end too. After `Fault` the store is read-only, and the rows are in the head.
     pub fn begin_flush(&mut self) -> Result<Option<FlushJob>, BeginError>
         ensures begun { Did D.Device.own self.old BeginFlush (begin_flush_reply result) self.new }
         ensures fresh { IfOk result (λ begun. IfSome begun (λ job.
@@ -99,7 +99,10 @@ impl<D: Device> Core<D> {
         }
         // No flush is open, so that no row stands in one.
         self.state.live.undo_flush();
-        let Ok(()) = self.state.jobs.reserve() else {
+        let Ok(()) = self.state.infos.reserve(1) else {
+            return Err(BeginError::Memory);
+        };
+        let Ok(room) = self.state.jobs.make_room(self.alloc, &self.state.list) else {
             return Err(BeginError::Memory);
         };
         let Ok(rows) = self.state.live.take_head(MOST_ROWS) else {
@@ -108,7 +111,7 @@ impl<D: Device> Core<D> {
         let files = self.state.jobs.next_files();
         match make_files(&mut self.disk, files) {
             Ok(()) => {
-                let number = self.state.jobs.begin_flush(files);
+                let number = self.state.jobs.begin_flush(files, room);
                 let out = JobFile {
                     number,
                     file: files.block,

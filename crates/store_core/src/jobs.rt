@@ -1,24 +1,28 @@
 //! The jobs of a store.
 
-ghost use Rattle.std.specs.Prelude.{◌≡◌, ◌≤◌, ◌<◌, ◌+◌, ◌-◌, ◌^◌, ◌++◌, min, None, Some, IfSome, OnOk};
+ghost use Rattle.std.specs.Prelude.{◌≡◌, ◌≤◌, ◌<◌, ◌+◌, ◌-◌, ◌^◌, ◌++◌, length, min, None, Some, IfOk, IfSome, IsSome, OnOk};
 ghost use Rattle.std.specs.Vec.{vec_len, vec_capacity};
-ghost use Rattle.store_core.specs.Jobs.{HasNoJobs, files_of_flush};
+ghost use Rattle.store_core.specs.Jobs.{CommitFits, HasNoJobs, files_of_flush};
 
+use crate::room::{CommitRoom, MOST_LISTED};
+use block_list::ListBody;
 use span_types::Memory;
 use std::alloc::Global;
 use store_state::FlushFiles;
 
 /// An open flush.
-#[derive(Debug, Drop)]
+#[derive(Drop)]
 pub struct OpenFlush {
     /// The job's number.
     pub number: u64,
     /// Its block's file and its new segment's.
     pub files: FlushFiles,
+    /// Room for what its commit makes; none once a commit failed.
+    pub room: Option<CommitRoom>,
 }
 
 /// The jobs of a store, and the files that are named in no list yet.
-#[derive(Debug, Drop)]
+#[derive(Drop)]
 pub struct Jobs {
     /// How many jobs were begun since opening.
     pub begun: u64,
@@ -43,14 +47,21 @@ impl Jobs {
         }
     }
 
-    /// Makes room for the files of a flush that is given up.
-    pub(crate) fn reserve(&mut self) -> Result<(), Memory>
-        ensures room { OnOk result (vec_len self.new.loose + 2 ≤ vec_capacity self.new.loose) }
+    /// Takes the memory that the end of a flush which begins needs: room for the files that are loose then, whether it is
+    /// committed after this list or given up, and the room of its commit.
+    pub(crate) fn make_room(&mut self, alloc: Global, list: &ListBody) -> Result<CommitRoom, Memory>
+        ensures fits { IfOk result (λ room. CommitFits room list.now (vec_len self.new.loose)) }
+        ensures room { OnOk result (vec_len self.new.loose + length list.now.segments + 2
+            ≤ vec_capacity self.new.loose) }
         ensures same { (self.new.begun ≡ self.old.begun) × (self.new.next_file ≡ self.old.next_file)
             × (self.new.loose.items ≡ self.old.loose.items) × (self.new.flush ≡ self.old.flush) }
     {
-        self.loose.reserve(2)?;
-        Ok(())
+        let segments = list.segments.len();
+        if segments > MOST_LISTED {
+            return Err(Memory);
+        }
+        self.loose.reserve(segments + 2)?;
+        CommitRoom::after(alloc, list, self.loose.len())
     }
 
     /// The files of a flush that is to begin.
@@ -65,11 +76,11 @@ impl Jobs {
     }
 
     /// A flush begins with the next files, and gets its number.
-    pub(crate) fn begin_flush(&mut self, files: FlushFiles) -> u64
+    pub(crate) fn begin_flush(&mut self, files: FlushFiles, room: CommitRoom) -> u64
         requires { self.now.next_file < 4294967294 }
         ensures number { (result ≡ self.new.begun) × (self.new.begun ≡ min (self.old.begun + 1) (2 ^ 64 - 1)) }
         ensures next_file { self.new.next_file ≡ self.old.next_file + 2 }
-        ensures flush { self.new.flush ≡ Some (record { number = self.new.begun; files = files }) }
+        ensures flush { self.new.flush ≡ Some (record { number = self.new.begun; files = files; room = Some room }) }
         ensures loose { self.new.loose ≡ self.old.loose }
     {
         self.begun = self.begun.saturating_add(1);
@@ -77,6 +88,7 @@ impl Jobs {
         self.flush = Some(OpenFlush {
             number: self.begun,
             files,
+            room: Some(room),
         });
         self.begun
     }
@@ -92,5 +104,51 @@ impl Jobs {
             self.loose.push_reserved(flush.files.block);
             self.loose.push_reserved(flush.files.segment);
         }
+    }
+
+    /// Takes the room of the open flush's commit, and answers it behind the flush's files. The flush stays open.
+    pub(crate) fn take_room(&mut self) -> (FlushFiles, CommitRoom)
+        requires open { IsSome self.now.flush }
+        requires room { IfSome self.now.flush (λ known. IsSome known.room) }
+        ensures taken { IfSome self.old.flush (λ known. (result.0 ≡ known.files) × (known.room ≡ Some result.1)
+            × (self.new.flush ≡ Some (record known { room = None }))) }
+        ensures same { (self.new.begun ≡ self.old.begun) × (self.new.next_file ≡ self.old.next_file)
+            × (self.new.loose ≡ self.old.loose) }
+    {
+        let Some(flush) = self.flush.take() else {
+            unreachable!()
+        };
+        let OpenFlush {
+            number,
+            files,
+            room,
+        } = flush;
+        let Some(room) = room else { unreachable!() };
+        self.flush = Some(OpenFlush {
+            number,
+            files,
+            room: None,
+        });
+        (files, room)
+    }
+
+    /// The open flush was committed, and these files are loose. It answers the flush's files, and takes no memory.
+    pub(crate) fn end_flush(&mut self, loose: &[u32]) -> FlushFiles
+        requires open { IsSome self.now.flush }
+        requires room { length loose.now ≤ vec_capacity self.now.loose }
+        ensures files { IfSome self.old.flush (λ known. result ≡ known.files) }
+        ensures gone { self.new.flush ≡ None }
+        ensures loose { self.new.loose.items ≡ loose.now }
+        ensures same { (self.new.begun ≡ self.old.begun) × (self.new.next_file ≡ self.old.next_file) }
+    {
+        let Some(flush) = self.flush.take() else {
+            unreachable!()
+        };
+        self.loose.clear();
+        match self.loose.extend_from_slice(loose) {
+            Ok(()) => {}
+            Err(_) => unreachable!(),
+        }
+        flush.files
     }
 }

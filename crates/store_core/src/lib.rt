@@ -4,6 +4,7 @@
 #![tactic(auto)]
 
 mod admit;
+mod committing;
 mod blocks;
 mod cutting;
 mod error;
@@ -14,12 +15,14 @@ mod laws;
 mod loose;
 mod making;
 mod new_store;
+mod next_list;
 mod opening;
 mod pages;
 mod pins;
 mod port;
 mod reading;
 mod reviving;
+mod room;
 mod state;
 mod store;
 
@@ -30,5 +33,6 @@ pub use loose::empty_loose;
 pub use new_store::{make_store, open_new};
 pub use port::{a_shown_core_is_a_port, an_event_is_a_call};
 pub use reading::read_log;
+pub use room::CommitRoom;
 pub use state::CoreState;
 pub use store::Core;

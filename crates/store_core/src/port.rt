@@ -1,4 +1,4 @@
-//! A core as a port, for pushes and looks.
+//! A core as a port, for pushes, looks and flushes.
 
 ghost use Rattle.std.specs.Prelude.{[]};
 ghost use Rattle.store_model.specs.Event.{Event, Reply};
@@ -9,9 +9,12 @@ ghost use Rattle.store_core.specs.Events.{Did};
 ghost use Rattle.store_core.specs.Port.{port_of};
 
 use crate::store::Core;
+use block_info::SharedInfo;
 use disk_model::Device;
-use span_types::{Batch, Memory};
-use store_state::{Look, LookPort, PushError};
+use span_types::{Batch, Failed, Memory};
+use store_state::{
+    BeginError, FlushJob, FlushPort, JobFile, Look, LookPort, Pin, PushError, WriteError,
+};
 
 impl<D: Device> LookPort for Core<D> {
     ghost meaning = { port_of D.Device.own };
@@ -30,6 +33,42 @@ impl<D: Device> LookPort for Core<D> {
 
     fn done(&mut self, look: Look) {
         self.end_look(look);
+    }
+}
+
+impl<D: Device> FlushPort for Core<D> {
+    fn cut(&mut self, moment: u64) -> Result<u64, Memory> {
+        self.cut_idle(moment)
+    }
+
+    fn cut_all(&mut self) -> Result<u64, Memory> {
+        self.cut_all()
+    }
+
+    fn begin_flush(&mut self) -> Result<Option<FlushJob>, BeginError> {
+        self.begin_flush()
+    }
+
+    fn write_piece(&mut self, out: &mut JobFile, bytes: &[u8]) -> Result<(), WriteError> {
+        self.write_piece(out, bytes)
+    }
+
+    fn commit_flush(&mut self, job: FlushJob, info: SharedInfo) -> Result<(), WriteError> {
+        self.commit_flush(job, info)
+    }
+
+    fn drop_flush(&mut self, job: FlushJob) {
+        self.drop_flush(job);
+    }
+
+    fn read_page(
+        &mut self,
+        pin: &Pin,
+        block: u32,
+        page: u64,
+        buf: &mut [u8; 4096],
+    ) -> Result<(), Failed> {
+        self.read_page(pin, block, page, buf)
     }
 }
 

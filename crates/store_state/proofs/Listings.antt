@@ -191,6 +191,24 @@ parted_length floor (a ∷ b ∷ rest) = by_test (nat_le b.first floor) (parted_
     by_test true h = omega (arith, h)
     by_test false h = omega (arith, h)
 
+-- each segment stays, or its file is loose
+pub each_file : (floor : ℕ) (last : SegmentRef) (segments stay : List SegmentRef) (loose all : List ℕ) →
+    map segment_of stay ≡ staying floor (map segment_of (segments ++ last ∷ [])) → all ≡ loose ++ released floor (map segment_of (segments ++ last ∷ [])) →
+    length stay + length all ≡ length segments + 1 + length loose
+each_file floor last segments stay loose all stays go = omega (arith, same, more, both, whole)
+  where
+    same : length stay ≡ length (staying floor (map segment_of (segments ++ last ∷ [])))
+    same = sym (length-map stay segment_of) ∙ ap length stays
+
+    more : length all ≡ length loose + length (released floor (map segment_of (segments ++ last ∷ [])))
+    more = ap length go ∙ length-append loose (released floor (map segment_of (segments ++ last ∷ [])))
+
+    both : length (staying floor (map segment_of (segments ++ last ∷ []))) + length (released floor (map segment_of (segments ++ last ∷ []))) ≡ length (map segment_of (segments ++ last ∷ []))
+    both = parted_length floor (map segment_of (segments ++ last ∷ []))
+
+    whole : length (map segment_of (segments ++ last ∷ [])) ≡ length segments + 1
+    whole = length-map (segments ++ last ∷ []) segment_of ∙ length-append segments (last ∷ [])
+
 sides_length : (files : List ℕ) (blocks : List BlockRef) → length (outside files blocks) + length (inside files blocks) ≡ length blocks
 sides_length files [] = refl
 sides_length files (b ∷ bs) = by_test (is_among b.file files) (sides_length files bs)

@@ -21,6 +21,8 @@ pub use errors::{BeginError, PushError, ReclaimError, WriteError};
 pub use freeing::reclaim;
 pub use jobs::{CompactJob, FlushJob, JobFile, Look, Pin};
 pub use laws::{a_choice_is_few, a_step_tells_what_is_learnt, the_floor_is_the_least_that_waits};
-pub use listing::{FlushFiles, Listing, commit_compact, commit_flush, list_body, listing_of};
+pub use listing::{
+    FlushFiles, Listing, commit_compact, commit_flush, floor_of, list_body, list_flush, listing_of,
+};
 pub use port::{FlushPort, LookPort, Port};
 pub use rounds::{Refusal, Round, Step, begin_cause, write_cause};

@@ -1,13 +1,13 @@
-//! What a store's list names, and what flushes and compactions make of it. Nothing here takes memory but `spare` and
-//! `reserve`, which a job that begins calls, so that commits and ends find room.
+//! What a store's list names, and what flushes and compactions make of it. Nothing here takes memory but `with_room`,
+//! `spare` and `reserve`, which a job that begins calls, so that commits and ends find room.
 
-ghost use Rattle.std.specs.Prelude.{◌≡◌, ℕ, ◌≤◌, ◌<◌, ◌+◌, ◌++◌, List, length, IfOk, OnOk};
+ghost use Rattle.std.specs.Prelude.{◌≡◌, ℕ, ◌≤◌, ◌<◌, ◌+◌, ◌++◌, ◌∷◌, [], List, length, map, IfOk, OnOk};
 ghost use Rattle.std.specs.Vec.{vec_len, vec_capacity};
 ghost use Rattle.span_types.specs.declared.spans.Row.{Row};
 ghost use Rattle.store_model.specs.State.{State, Flush, Compaction, live_rows, flush_files, compaction_files, listed_loose};
-ghost use Rattle.store_model.specs.After.{after_begin_flush, after_begin_compact, after_commit_flush, after_drop_flush, after_commit_compact, after_drop_compact, job_files, taken};
+ghost use Rattle.store_model.specs.After.{after_begin_flush, after_begin_compact, after_commit_flush, after_drop_flush, after_commit_compact, after_drop_compact, job_files, released, staying, taken};
 ghost use Rattle.live_traces.specs.Parts.{least_number};
-ghost use Rattle.store_state.specs.Listed.{HasRoomFor, IsListingOf, KeepsRoom, NamesTheSame, TakesOneJob, floor_from, listed_body};
+ghost use Rattle.store_state.specs.Listed.{HasRoomFor, IsListingOf, KeepsRoom, NamesTheSame, TakesOneJob, floor_from, listed_body, segment_of};
 ghost use Rattle.store_state.specs.Loose.{AreFilesOf, compaction_part, flush_part};
 
 use crate::parts::{part_blocks, part_segments};
@@ -61,34 +61,62 @@ pub fn commit_flush(
     ensures others { TakesOneJob now.now next.new }
     ensures room { KeepsRoom next.old next.new }
 {
-    fill(&mut next.blocks, now.blocks.as_slice());
-    put(
-        &mut next.blocks,
-        BlockRef {
-            file: files.block,
-            level: 0,
-            rows,
-        },
-    );
-    fill(&mut next.loose, now.loose.as_slice());
     let floor = floor_of(count, least);
-    next.floor = floor;
-    next.next_file = now.next_file;
+    let block = BlockRef {
+        file: files.block,
+        level: 0,
+        rows,
+    };
     let last = SegmentRef {
         file: files.segment,
         first: count,
     };
-    part_segments(
+    list_flush(
+        now.blocks.as_slice(),
         now.segments.as_slice(),
+        now.loose.as_slice(),
+        next,
+        block,
         last,
         floor,
-        &mut next.segments,
-        &mut next.loose,
     );
+    next.next_file = now.next_file;
 }
 
-// The floor from the history's length and the least number that waits.
-fn floor_of(count: u64, least: Option<u64>) -> u64
+/// The same from lists alone: `next` names these blocks with a block at the end, those of these segments with a last one
+/// that stay with the floor, and as loose these files and those of the other segments.
+pub fn list_flush(
+    blocks: &[BlockRef],
+    segments: &[SegmentRef],
+    loose: &[u32],
+    next: &mut Listing,
+    block: BlockRef,
+    last: SegmentRef,
+    floor: u64,
+)
+    requires blocks { length blocks.now + 1 ≤ vec_capacity next.now.blocks }
+    requires segments { length segments.now + 1 ≤ vec_capacity next.now.segments }
+    requires loose { length loose.now + length segments.now ≤ vec_capacity next.now.loose }
+    ensures blocks { next.new.blocks.items ≡ blocks.now ++ block ∷ [] }
+    ensures segments { map segment_of next.new.segments.items
+        ≡ staying floor (map segment_of (segments.now ++ last ∷ [])) }
+    ensures loose { next.new.loose.items
+        ≡ loose.now ++ released floor (map segment_of (segments.now ++ last ∷ [])) }
+    ensures floor { next.new.floor ≡ floor }
+    ensures next_file { next.new.next_file ≡ next.old.next_file }
+    ensures each_file { length next.new.segments.items + length next.new.loose.items
+        ≡ length segments.now + 1 + length loose.now }
+    ensures room { KeepsRoom next.old next.new }
+{
+    fill(&mut next.blocks, blocks);
+    put(&mut next.blocks, block);
+    fill(&mut next.loose, loose);
+    next.floor = floor;
+    part_segments(segments, last, floor, &mut next.segments, &mut next.loose);
+}
+
+/// The floor from the history's length and the least number that waits.
+pub fn floor_of(count: u64, least: Option<u64>) -> u64
     ensures { result ≡ floor_from count least }
 {
     match least {
@@ -210,6 +238,29 @@ fn job_files(flush: Option<FlushFiles>, compaction: Option<u32>) -> usize
 }
 
 impl Listing {
+    /// An empty one, which has room for so many blocks, segments and loose files.
+    pub fn with_room(
+        alloc: Global,
+        blocks: usize,
+        segments: usize,
+        loose: usize,
+    ) -> Result<Listing, Memory>
+        ensures blocks { IfOk result (λ listing. blocks ≤ vec_capacity listing.blocks) }
+        ensures segments { IfOk result (λ listing. segments ≤ vec_capacity listing.segments) }
+        ensures loose { IfOk result (λ listing. loose ≤ vec_capacity listing.loose) }
+    {
+        let loose = Vec::with_capacity(alloc, loose)?;
+        let blocks = Vec::with_capacity(alloc, blocks)?;
+        let segments = Vec::with_capacity(alloc, segments)?;
+        Ok(Listing {
+            blocks,
+            segments,
+            floor: 0,
+            loose,
+            next_file: 0,
+        })
+    }
+
     /// An empty one, which has room for what a flush and a compaction make of this one, in any order.
     pub fn spare(&self, alloc: Global) -> Result<Listing, Memory>
         ensures { IfOk result (λ spare. HasRoomFor 2 spare self.now) }
@@ -219,16 +270,12 @@ impl Listing {
         if loose > MOST_LISTED || segments > MOST_LISTED || blocks > MOST_LISTED {
             return Err(Memory);
         }
-        let loose = Vec::with_capacity(alloc, loose + segments + blocks + 4)?;
-        let blocks = Vec::with_capacity(alloc, blocks + 2)?;
-        let segments = Vec::with_capacity(alloc, segments + 2)?;
-        Ok(Listing {
-            blocks,
-            segments,
-            floor: 0,
-            loose,
-            next_file: 0,
-        })
+        Listing::with_room(
+            alloc,
+            blocks + 2,
+            segments + 2,
+            loose + segments + blocks + 4,
+        )
     }
 
     /// Takes room in itself for what a flush and a compaction make of it, in any order.

@@ -11,18 +11,17 @@ use Rattle.block_list.proofs.committing.lay.Goals as goal
 
 -- closing the gate
 pub returns-in_err-write_through-clause-any_moment : goal.returns-in_err-write_through-clause-any_moment
-returns-in_err-write_through-clause-any_moment g c = λ told old holds next.
+returns-in_err-write_through-clause-any_moment g c = λ told can old holds next.
     let d = g.D.Device in
-    gate_closes d.moment d.left_since d.may_leave c.args.list.now (d.held c.args.disk.now) old c.args.disk.now c.write_through.new.disk c.slot-slot.result c.slot-slot.ensures (c.requires told) holds next c.write_through.ensures.passes
+    gate_closes d.moment d.left_since d.may_leave c.args.list.now (d.held c.args.disk.now) old c.args.disk.now c.write_through.new.disk c.slot-slot.result c.slot-slot.ensures can holds next c.write_through.ensures.passes
 
 -- and then writing the list
 pub returns-clause-any_moment : goal.returns-clause-any_moment
-returns-clause-any_moment g c = λ told old holds next.
+returns-clause-any_moment g c = λ told can old holds next.
     let d = g.D.Device in
     let held = d.held c.args.disk.now in
     let mid = c.write_through.new.disk in
     let slot = slot_of c.args.list.now in
-    let can = c.requires told in
     let rest = drop 1 (bytes_of held slot) in
     let first = gate_closes d.moment d.left_since d.may_leave c.args.list.now held old c.args.disk.now mid c.slot-slot.result c.slot-slot.ensures can holds next c.write_through.ensures.passes in
     let G : ℕ → Type 0 = λ s. OnlyBytes s (0 ∷ drop 1 (bytes_of held s)) (d.may_leave mid) in

@@ -5,6 +5,7 @@ use Rattle.std.specs.declared.alloc.Global.{Global}
 use Rattle.span_types.specs.declared.spans.Row.{Row}
 use Rattle.store_model.specs.Choice.{most_rows}
 use Rattle.store_state.specs.Replies.{begin_refusal}
+use Rattle.store_core.specs.Jobs.{CommitFits}
 use Rattle.store_core.proofs.BeginEvents.{did_not_begin, did_idle, did_lack, did_begin_as, did_begin_fail, back_in_front, idle_is, free_is}
 use Rattle.store_core.proofs.store.Core.begin_flush.Goals as goal
 
@@ -18,21 +19,30 @@ pub take_head-requires : goal.take_head-requires
 take_head-requires g c = c.undo_flush.ensures.gone
 
 pub next_files-files-requires : goal.next_files-files-requires
-next_files-files-requires g c = let may = c.in-Ok.ensures.sure c.if-not-some.false in let same = c.reserve.ensures.same.1 in let low = may.files in omega (arith, same, low)
+next_files-files-requires g c = let may = c.in-Ok.ensures.sure c.if-not-some.false in let same = c.make_room.ensures.same.1 in let low = may.files in omega (arith, same, low)
 
 pub make_files-requires : goal.make_files-requires
 make_files-requires g c = λ is. let block = c.next_files-files.ensures.0 in let segment = c.next_files-files.ensures.1 in omega (arith, is, block, segment)
 
 pub begin_flush-number-requires : goal.begin_flush-number-requires
-begin_flush-number-requires g c = let may = c.in-Ok.ensures.sure c.if-not-some.false in let same = c.reserve.ensures.same.1 in let low = may.files in omega (arith, same, low)
+begin_flush-number-requires g c = let may = c.in-Ok.ensures.sure c.if-not-some.false in let same = c.make_room.ensures.same.1 in let low = may.files in omega (arith, same, low)
 
 pub returns-in_default-clause-begun : goal.returns-in_default-clause-begun
 returns-in_default-clause-begun g c =
     let core = c.args.self.now in
     let may = c.in-Ok.ensures.sure c.if-not-some.false in
-    let same = c.reserve.ensures.same in
     let undone = c.undo_flush.ensures in
-    did_lack g.D.Device g.met.D.Device.only_now core c.undo_flush.new.self c.reserve.new.self (λ m has. free_is c.in-Ok.some m c.if-not-some.false (c.in-Ok.ensures.free m has)) may.none
+    did_lack g.D.Device g.met.D.Device.only_now core c.undo_flush.new.self c.reserve.new.self core.state.jobs (λ m has. free_is c.in-Ok.some m c.if-not-some.false (c.in-Ok.ensures.free m has)) may.none c.reserve.ensures.items
+    (record { begun = refl; next_file = refl; loose = refl; flush = refl })
+    (λ m has. record { live = undone.same; head = undone.back; flushing = undone.gone })
+
+pub returns-in_default-make_room-clause-begun : goal.returns-in_default-make_room-clause-begun
+returns-in_default-make_room-clause-begun g c =
+    let core = c.args.self.now in
+    let may = c.in-Ok.ensures.sure c.if-not-some.false in
+    let same = c.make_room.ensures.same in
+    let undone = c.undo_flush.ensures in
+    did_lack g.D.Device g.met.D.Device.only_now core c.undo_flush.new.self c.reserve.new.self c.make_room.new.self (λ m has. free_is c.in-Ok.some m c.if-not-some.false (c.in-Ok.ensures.free m has)) may.none c.reserve.ensures.items
     (record { begun = same.0; next_file = same.1; loose = same.2; flush = same.3 })
     (λ m has. record { live = undone.same; head = undone.back; flushing = undone.gone })
 
@@ -40,10 +50,10 @@ pub returns-in_default-take_head-clause-begun : goal.returns-in_default-take_hea
 returns-in_default-take_head-clause-begun g c =
     let core = c.args.self.now in
     let may = c.in-Ok.ensures.sure c.if-not-some.false in
-    let same = c.reserve.ensures.same in
+    let same = c.make_room.ensures.same in
     let undone = c.undo_flush.ensures in
     let lacks = c.in_default-take_head.ensures.refused in
-    did_lack g.D.Device g.met.D.Device.only_now core c.take_head.new.self c.reserve.new.self (λ m has. free_is c.in-Ok.some m c.if-not-some.false (c.in-Ok.ensures.free m has)) may.none
+    did_lack g.D.Device g.met.D.Device.only_now core c.take_head.new.self c.reserve.new.self c.make_room.new.self (λ m has. free_is c.in-Ok.some m c.if-not-some.false (c.in-Ok.ensures.free m has)) may.none c.reserve.ensures.items
     (record { begun = same.0; next_file = same.1; loose = same.2; flush = same.3 })
     (λ m has. record { live = c.take_head.ensures.same ∙ undone.same; head = lacks.1 ∙ undone.back; flushing = lacks.0 })
 
@@ -52,7 +62,7 @@ returns-in-Ok-make_files-clause-begun g c =
     let d = g.D.Device in
     let core = c.args.self.now in
     let may = c.in-Ok.ensures.sure c.if-not-some.false in
-    let same = c.reserve.ensures.same in
+    let same = c.make_room.ensures.same in
     let undone = c.undo_flush.ensures in
     let took = c.in-Ok-take_head.ensures.taken in
     let begun = c.begin_flush-number.ensures in
@@ -60,13 +70,14 @@ returns-in-Ok-make_files-clause-begun g c =
     did_begin_as d core c.make_files.new.disk files.result may.writes may.none may.files (files.ensures.0 ∙ same.1) (files.ensures.1 ∙ ap (λ (n : ℕ). n + 1) same.1)
     (λ m has. free_is c.in-Ok.some m c.if-not-some.false (c.in-Ok.ensures.free m has))
     c.make_files.ensures.telling c.make_files.ensures.any_moment c.make_files.ensures.others c.make_files.ensures.cause.later (c.make_files.ensures.calls.later, c.make_files.ensures.calls.at_most) c.make_files.ensures.no_read
-    c.take_head.new.self c.begin_flush-number.new.self c.in-Ok-take_head.rows
+    c.take_head.new.self c.reserve.new.self c.begin_flush-number.new.self c.in-Ok-make_room.room c.in-Ok-take_head.rows c.reserve.ensures.items c.in-Ok-reserve.ensures.ok
     (record {
       next_file = begun.next_file ∙ ap (λ (n : ℕ). n + 2) same.1;
       number = subst (λ (n : ℕ). c.begin_flush-number.new.self.begun ≡ min (n + 1) (2 ^ 64 - 1)) same.0 begun.number.1;
       loose = ap (λ (v : Vec ℕ Global). v.items) begun.loose ∙ same.2;
       flush = begun.flush;
-      room = subst (λ (v : Vec ℕ Global). vec_len v + 2 ≤ vec_capacity v) (sym begun.loose) c.in-Ok-reserve.ensures.room;
+      loose_room = subst (λ (v : Vec ℕ Global). vec_len v + length core.state.list.segments + 2 ≤ vec_capacity v) (sym begun.loose) c.in-Ok-make_room.ensures.room;
+      fits = subst (λ (v : Vec ℕ Global). CommitFits c.in-Ok-make_room.room core.state.list (vec_len v)) (sym begun.loose) c.in-Ok-make_room.ensures.fits;
     })
     (record {
       live = c.take_head.ensures.same ∙ undone.same;
@@ -94,7 +105,7 @@ returns-in-Err-make_files-clause-begun g c =
     let d = g.D.Device in
     let core = c.args.self.now in
     let may = c.in-Ok.ensures.sure c.if-not-some.false in
-    let same = c.reserve.ensures.same in
+    let same = c.make_room.ensures.same in
     let undone = c.undo_flush.ensures in
     let took = c.in-Ok-take_head.ensures.taken in
     let files = c.next_files-files in
@@ -102,7 +113,7 @@ returns-in-Err-make_files-clause-begun g c =
     did_begin_fail d core c.make_files.new.disk files.result may.writes may.none may.files (files.ensures.0 ∙ same.1) (files.ensures.1 ∙ ap (λ (n : ℕ). n + 1) same.1)
     (λ m has. free_is c.in-Ok.some m c.if-not-some.false (c.in-Ok.ensures.free m has))
     c.make_files.ensures.telling c.make_files.ensures.any_moment c.make_files.ensures.others c.make_files.ensures.cause.later (c.make_files.ensures.calls.later, c.make_files.ensures.calls.at_most) c.make_files.ensures.no_read
-    c.undo_flush-in-Err-make_files.new.self c.reserve.new.self c.faults-faults.result c.faults-faults.ensures (c.in-Err-make_files.ensures.cause.rose refl)
+    c.undo_flush-in-Err-make_files.new.self c.reserve.new.self c.make_room.new.self c.faults-faults.result c.faults-faults.ensures (c.in-Err-make_files.ensures.cause.rose refl) c.reserve.ensures.items
     (record { begun = same.0; next_file = same.1; loose = same.2; flush = same.3 })
     (λ m has. back_in_front core.state.live c.take_head.new.self c.undo_flush-in-Err-make_files.new.self c.in-Ok-take_head.rows
     (record {

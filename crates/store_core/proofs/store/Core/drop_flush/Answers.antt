@@ -1,9 +1,11 @@
+use Rattle.std.proofs.Common.{arith}
+use Rattle.std.proofs.lemmas.Option.{IfSome_then}
 use Rattle.store_core.proofs.DropEvents.{did_dropped}
 use Rattle.store_core.proofs.OpenJobs.{open_here}
 use Rattle.store_core.proofs.store.Core.drop_flush.Goals as goal
 
 pub drop_flush-requires : goal.drop_flush-requires
-drop_flush-requires g c = c.requires.job.1.has.jobs.room
+drop_flush-requires g c = IfSome_then c.args.self.now.state.jobs.flush c.requires.job.1.has.jobs.room (λ known room. omega (arith, room))
 
 pub returns : goal.returns
 returns g c =

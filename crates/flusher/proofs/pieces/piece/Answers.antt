@@ -1,6 +1,6 @@
 use Rattle.std.proofs.Common.{◌-◌, ◌≡◌, ◌+◌, length, take, drop, ℕ, zero, suc, List, [], ◌∷◌, sym, ◌∙◌, ap, arith, length-drop, refl, min}
 use Rattle.std.proofs.lemmas.List.{length-take-le}
-use Rattle.flusher.proofs.piece.piece.Goals as goal
+use Rattle.flusher.proofs.pieces.piece.Goals as goal
 
 short : (n m : ℕ) (xs : List ℕ) → n ≡ min (length xs) m → take n xs ≡ take m xs
 short zero zero xs h = refl

@@ -5,8 +5,8 @@ ghost use Rattle.std.specs.Prelude.{◌≡◌, ◌+◌, ◌<◌, ◌≤◌, leng
 /// How many bytes a piece has, but for a block's last one.
 const PIECE: usize = 65536;
 
-/// The next piece of the bytes.
-pub(crate) fn piece(bytes: &[u8], from: usize) -> &[u8]
+/// The next piece of a block's bytes: 65,536 of them from there on, or all that are left.
+pub fn piece(bytes: &[u8], from: usize) -> &[u8]
     requires { from ≤ length bytes.now }
     ensures bytes { result.now ≡ take 65536 (drop from bytes.now) }
     ensures end { from + length result.now ≤ length bytes.now }

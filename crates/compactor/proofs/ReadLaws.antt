@@ -1,0 +1,268 @@
+-- How a compaction's task goes on as blocks are read.
+use Rattle.std.proofs.Common.{◌≡◌, ℕ, ◌+◌, ◌-◌, ◌*◌, ◌^◌, ◌<◌, ◌≤◌, List, [], ◌∷◌, ◌++◌, length, take, drop, get_or, Result, Ok, Err, refl, sym, ap, subst, ◌∙◌, arith}
+use Rattle.std.specs.Prelude.{IsTrue, Some}
+use Rattle.std.proofs.lemmas.List.{length_push, take_more}
+use Rattle.span_types.specs.declared.spans.Row.{Row}
+use Rattle.span_fields.specs.Breaks.{Fails}
+use Rattle.span_fields.specs.declared.breaks.Break.{Break}
+use Rattle.span_fields.specs.declared.breaks.Break.TheVariants as breaks
+use Rattle.block_info.specs.InfoParts.{InfoParts}
+use Rattle.block_format.specs.declared.header.Header.{Header}
+use Rattle.block_format.specs.Blocks.{BlockHasHeader, BlockHolds}
+use Rattle.store_model.specs.Event.Event.{BeginCompact, ReadPage}
+use Rattle.store_model.specs.Event.{Reply as reply}
+use Rattle.store_model.specs.Event.Reply.{Compacting, Page}
+use Rattle.store_model.specs.Event.{Refusal as refusal}
+use Rattle.store_state.specs.Given.{compact_of, info_files}
+use Rattle.store_state.specs.Made.{Call, call}
+use Rattle.store_state.specs.Meaning.{Meaning, IsOpen, Called}
+use Rattle.store_state.specs.Replies.{begin_compact_reply}
+use Rattle.store_state.specs.Shown.{AreBlocks, AreFew}
+use Rattle.store_state.specs.Written.{page_of}
+use Rattle.store_state.specs.declared.jobs.CompactJob.{CompactJob}
+use Rattle.store_state.specs.declared.rounds.Refusal.TheVariants.{Fault}
+use Rattle.store_state.specs.declared.rounds.Round.{Round}
+use Rattle.store_state.proofs.HoldLaws.{stays_open}
+use Rattle.compactor.specs.Rounds.{Leads, pages_of, rows_at}
+use Rattle.compactor.specs.Rounds.{Stage as stage}
+use Rattle.compactor.specs.Rounds.Leads.{begun, read, unread, block, no_block, starved}
+use Rattle.compactor.specs.Phases.{OfFirst, Turned, unread_cause}
+use Rattle.compactor.specs.Phases.Turned.{MorePages, Starved, Malformed, NextBlock}
+use Rattle.compactor.specs.Tasks.{AreCounted, BeginsWith, Fits, HasPage, IsReading, OneEvent, ShowsRead, Task, blocks_left, job_of, stage_of, steps_left}
+use Rattle.compactor.specs.Tasks.Task.{Fresh, Reading, Failing}
+use Rattle.compactor.proofs.BlockLaws.{Sizes, StaySame, begins_none, begins_stays, blocks_stay, counted_more, counted_none, drop_next, first_stays, has_first_page, page_behind, part_at, rest_stays, some_pages, whole_rows}
+
+next_left : (job : CompactJob) (parts : List (List Row)) (rows : List Row) (info : InfoParts) (infos : List InfoParts) → blocks_left job parts ≡ info ∷ infos → blocks_left job (parts ++ rows ∷ []) ≡ infos
+next_left job parts rows info infos left = ap (λ (k : ℕ). drop k job.pin.blocks) (length_push parts rows) ∙ drop_next (length parts) job.pin.blocks info infos left
+
+-- ---- what leads on
+
+turned_leads : (job : CompactJob) (parts : List (List Row)) (pages : ℕ) (bytes : List ℕ) (after : Task) → Turned job parts pages bytes after → (calls : List Call) (round : Round) → Leads (stage_of after) calls round
+    → Leads (stage.Reading (job_of job) parts (blocks_left job parts) pages bytes) calls round
+turned_leads job parts pages bytes after (MorePages info infos left more) calls round h = h
+turned_leads job parts pages bytes after Starved calls round h = starved (job_of job) parts (blocks_left job parts) pages bytes h
+turned_leads job parts pages bytes after (Malformed info infos at left all e) calls round h =
+    subst (λ (l : List InfoParts). Leads (stage.Reading (job_of job) parts l pages bytes) calls round) (sym left) (no_block (job_of job) parts info infos pages bytes at all e h)
+turned_leads job parts pages bytes after (NextBlock info infos rows left all e some count) calls round h =
+    subst (λ (l : List InfoParts). Leads (stage.Reading (job_of job) parts l pages bytes) calls round) (sym left)
+    (block (job_of job) parts info infos pages bytes rows all e
+    (subst (λ (l : List InfoParts). Leads (stage.Reading (job_of job) (parts ++ rows ∷ []) l 0 []) calls round) (next_left job parts rows info infos left) h))
+
+-- a page that was read
+pub reads_on : (job : CompactJob) (parts : List (List Row)) (pages : ℕ) (bytes page : List ℕ) (info : InfoParts) (infos : List InfoParts) (after : Task) → blocks_left job parts ≡ info ∷ infos
+    → HasPage (blocks_left job parts) pages → Turned job parts (pages + 1) (bytes ++ page) after → (calls : List Call) (round : Round) → Leads (stage_of after) calls round
+    → Leads (stage_of (Reading job parts pages bytes)) (call (ReadPage job.pin.number info.file pages) (Page page) ∷ calls) round
+reads_on job parts pages bytes page info infos after left has turned calls round h =
+    subst (λ (l : List InfoParts). Leads (stage.Reading (job_of job) parts l pages bytes) (call (ReadPage job.pin.number info.file pages) (Page page) ∷ calls) round) (sym left)
+    (read (job_of job) parts info infos pages bytes page (subst (λ (l : List InfoParts). HasPage l pages) left has)
+    (subst (λ (l : List InfoParts). Leads (stage.Reading (job_of job) parts l (pages + 1) (bytes ++ page)) calls round) left
+    (turned_leads job parts (pages + 1) (bytes ++ page) after turned calls round h)))
+
+-- a page that was refused
+pub reads_out : (job : CompactJob) (parts : List (List Row)) (pages : ℕ) (bytes : List ℕ) (info : InfoParts) (infos : List InfoParts) → blocks_left job parts ≡ info ∷ infos
+    → HasPage (blocks_left job parts) pages → (calls : List Call) (round : Round) → Leads (stage_of (Failing job Fault)) calls round
+    → Leads (stage_of (Reading job parts pages bytes)) (call (ReadPage job.pin.number info.file pages) (reply.Refused refusal.Fault) ∷ calls) round
+reads_out job parts pages bytes info infos left has calls round h =
+    subst (λ (l : List InfoParts). Leads (stage.Reading (job_of job) parts l pages bytes) (call (ReadPage job.pin.number info.file pages) (reply.Refused refusal.Fault) ∷ calls) round) (sym left)
+    (unread (job_of job) parts info infos pages bytes (subst (λ (l : List InfoParts). HasPage l pages) left has) h)
+
+-- ---- steps that are left
+
+pub turned_left : (job : CompactJob) (parts : List (List Row)) (pages : ℕ) (bytes : List ℕ) (after : Task) → Turned job parts (pages + 1) bytes after → pages < 2 ^ 64 → length parts < length job.pin.blocks
+    → steps_left after ≤ (length job.pin.blocks - length parts) * 2 ^ 64 + (2 ^ 64 - pages) + 2 ^ 64 + 3
+turned_left job parts pages bytes after (MorePages info infos left more) near low = omega arith
+turned_left job parts pages bytes after Starved near low = omega arith
+turned_left job parts pages bytes after (Malformed info infos at left all e) near low = omega arith
+turned_left job parts pages bytes after (NextBlock info infos rows left all e some count) near low = (let size = length_push parts rows in omega (arith, size, near, low))
+
+-- ---- what is told
+
+told_first : (shows : ℕ → List ℕ) (job : CompactJob) → AreBlocks shows job.pin.blocks → shows job.out.file ≡ [] → ShowsRead shows job [] 0 []
+told_first shows job are empty = record { all = are.0; blocks = are.1; so_far = refl; begins = begins_none shows job.pin.blocks; empty = empty }
+
+told_stays : (old new : ℕ → List ℕ) (job : CompactJob) (parts : List (List Row)) (pages : ℕ) (bytes : List ℕ) → StaySame old new (job.out.file ∷ info_files job.pin.blocks) → ShowsRead old job parts pages bytes
+    → ShowsRead new job parts pages bytes
+told_stays old new job parts pages bytes stay told =
+    let rest = rest_stays old new job.out.file (info_files job.pin.blocks) stay in
+    record {
+      all = told.all;
+      blocks = blocks_stay old new job.pin.blocks told.all rest told.blocks;
+      so_far = told.so_far;
+      begins = begins_stays old new (length parts) job.pin.blocks pages bytes rest told.begins;
+      empty = first_stays old new job.out.file (info_files job.pin.blocks) stay ∙ told.empty;
+    }
+
+told_page : Sizes → (shows : ℕ → List ℕ) (job : CompactJob) (parts : List (List Row)) (pages : ℕ) (bytes page : List ℕ) (info : InfoParts) (infos : List InfoParts) → blocks_left job parts ≡ info ∷ infos
+    → HasPage (blocks_left job parts) pages → page ≡ page_of (shows info.file) pages → ShowsRead shows job parts pages bytes → ShowsRead shows job parts (pages + 1) (bytes ++ page)
+told_page sizes shows job parts pages bytes page info infos left has is told =
+    let part = part_at shows (length parts) job.pin.blocks told.all info infos told.blocks left in
+    let size = sizes (shows info.file) (get_or told.all (length parts) []) info part.has in
+    let some = some_pages info (shows info.file) (get_or told.all (length parts) []) part.has in
+    let low : pages < pages_of info = subst (λ (l : List InfoParts). HasPage l pages) left has in
+    let begins : bytes ≡ take (4096 * pages) (shows info.file) = subst (λ (l : List InfoParts). BeginsWith shows l pages bytes) left told.begins in
+    record {
+      all = told.all;
+      blocks = told.blocks;
+      so_far = told.so_far;
+      begins = subst (λ (l : List InfoParts). BeginsWith shows l (pages + 1) (bytes ++ page)) (sym left)
+          (page_behind (shows info.file) bytes page pages info.pages size (omega (arith, some, low)) begins is);
+      empty = told.empty;
+    }
+
+-- what is read of a block whose pages are all read is its part
+told_rows : Sizes → (shows : ℕ → List ℕ) (job : CompactJob) (parts : List (List Row)) (pages : ℕ) (bytes : List ℕ) (info : InfoParts) (infos : List InfoParts) → blocks_left job parts ≡ info ∷ infos
+    → pages_of info ≤ pages → (told : ShowsRead shows job parts pages bytes) → rows_at info bytes ≡ Ok (get_or told.all (length parts) [])
+told_rows sizes shows job parts pages bytes info infos left all told =
+    let part = part_at shows (length parts) job.pin.blocks told.all info infos told.blocks left in
+    whole_rows sizes info (shows info.file) bytes (get_or told.all (length parts) []) pages part.has all
+    (subst (λ (l : List InfoParts). BeginsWith shows l pages bytes) left told.begins)
+
+told_next : Sizes → (shows : ℕ → List ℕ) (job : CompactJob) (parts : List (List Row)) (pages : ℕ) (bytes : List ℕ) (info : InfoParts) (infos : List InfoParts) (rows : List Row) → blocks_left job parts ≡ info ∷ infos
+    → pages_of info ≤ pages → rows_at info bytes ≡ Ok rows → ShowsRead shows job parts pages bytes → ShowsRead shows job (parts ++ rows ∷ []) 0 []
+told_next sizes shows job parts pages bytes info infos rows left all e told =
+    let part = part_at shows (length parts) job.pin.blocks told.all info infos told.blocks left in
+    let same : rows ≡ get_or told.all (length parts) [] = equal rows (get_or told.all (length parts) []) (sym e ∙ told_rows sizes shows job parts pages bytes info infos left all told) in
+    record {
+      all = told.all;
+      blocks = told.blocks;
+      so_far = ap (λ (x : List Row). parts ++ x ∷ []) same ∙ ap (λ (ps : List (List Row)). ps ++ get_or told.all (length parts) [] ∷ []) told.so_far
+          ∙ sym (take_more told.all (length parts) [] part.there) ∙ ap (λ (k : ℕ). take k told.all) (sym (length_push parts rows));
+      begins = begins_none shows (blocks_left job (parts ++ rows ∷ []));
+      empty = told.empty;
+    }
+  where
+    equal : (xs ys : List Row) → (let a : Result (List Row) ℕ = Ok xs in let b : Result (List Row) ℕ = Ok ys in a ≡ b) → xs ≡ ys
+    equal xs ys e = cc
+
+told_whole : Sizes → (shows : ℕ → List ℕ) (job : CompactJob) (parts : List (List Row)) (pages : ℕ) (bytes : List ℕ) (info : InfoParts) (infos : List InfoParts) (at : ℕ) → blocks_left job parts ≡ info ∷ infos
+    → pages_of info ≤ pages → rows_at info bytes ≡ Err at → ShowsRead shows job parts pages bytes → ⊥
+told_whole sizes shows job parts pages bytes info infos at left all e told =
+    differ at (get_or told.all (length parts) []) (sym e ∙ told_rows sizes shows job parts pages bytes info infos left all told)
+  where
+    differ : (n : ℕ) (ys : List Row) → (let a : Result (List Row) ℕ = Err n in let b : Result (List Row) ℕ = Ok ys in a ≡ b) → ⊥
+    differ n ys e = cc
+
+-- ---- what a task stands on
+
+-- A job that has begun.
+pub fits_first : {P : Type 0} (meaning : Meaning P) (job : CompactJob) (port : P) → IsOpen meaning port (compact_of job) → job.out.written ≡ 0 → AreFew job.level job.pin.blocks
+    → (IsTrue (meaning.tells port) → AreBlocks (meaning.shows port) job.pin.blocks) → (IsTrue (meaning.tells port) → meaning.shows port job.out.file ≡ []) → Fits meaning (Reading job [] 0 []) port
+fits_first meaning job port is_open start few are empty = record {
+  is_open = is_open;
+  at_start = start;
+  few = few;
+  within = omega arith;
+  counted = counted_none job.pin.blocks;
+  page = has_first_page job.pin.blocks;
+  told = λ tells. told_first (meaning.shows port) job (are tells) (empty tells);
+}
+
+-- A page that was read, of a job that goes on.
+pub fits_turned : {P : Type 0} (meaning : Meaning P) (job : CompactJob) (parts : List (List Row)) (pages : ℕ) (bytes : List ℕ) (after : Task) (port : P) → Sizes → Turned job parts pages bytes after
+    → IsOpen meaning port (compact_of job) → job.out.written ≡ 0 → AreFew job.level job.pin.blocks → length parts < length job.pin.blocks → AreCounted job.pin.blocks parts
+    → (IsTrue (meaning.tells port) → ShowsRead (meaning.shows port) job parts pages bytes) → Fits meaning after port
+fits_turned meaning job parts pages bytes after port sizes (MorePages info infos left more) is_open start few low counted told = record {
+  is_open = is_open;
+  at_start = start;
+  few = few;
+  within = omega (arith, low);
+  counted = counted;
+  page = subst (λ (l : List InfoParts). HasPage l pages) (sym left) more;
+  told = told;
+}
+fits_turned meaning job parts pages bytes after port sizes Starved is_open start few low counted told = record { is_open = is_open; told = λ tells. tt }
+fits_turned meaning job parts pages bytes after port sizes (Malformed info infos at left all e) is_open start few low counted told = record {
+  is_open = is_open;
+  told = λ tells. told_whole sizes (meaning.shows port) job parts pages bytes info infos at left all e (told tells);
+}
+fits_turned meaning job parts pages bytes after port sizes (NextBlock info infos rows left all e some count) is_open start few low counted told =
+    let size = length_push parts rows in
+    record {
+      is_open = is_open;
+      at_start = start;
+      few = few;
+      within = omega (arith, size, low);
+      counted = counted_more job.pin.blocks parts rows info infos counted left count some;
+      page = has_first_page (blocks_left job (parts ++ rows ∷ []));
+      told = λ tells. told_next sizes (meaning.shows port) job parts pages bytes info infos rows left all e (told tells);
+    }
+
+-- what is told behind a page that was read
+pub told_behind : {P : Type 0} (meaning : Meaning P) (job : CompactJob) (parts : List (List Row)) (pages : ℕ) (bytes page : List ℕ) (info : InfoParts) (infos : List InfoParts) (old new : P) → Sizes
+    → IsReading meaning job parts pages bytes old → Called meaning old (ReadPage job.pin.number info.file pages) (Page page) new → blocks_left job parts ≡ info ∷ infos
+    → (IsTrue (meaning.tells old) → page ≡ page_of (meaning.shows old info.file) pages) → IsTrue (meaning.tells new) → ShowsRead (meaning.shows new) job parts (pages + 1) (bytes ++ page)
+told_behind meaning job parts pages bytes page info infos old new sizes is called left gives tells =
+    let before : IsTrue (meaning.tells old) = subst IsTrue called.telling tells in
+    told_stays (meaning.shows old) (meaning.shows new) job parts (pages + 1) (bytes ++ page)
+    (λ file among. called.bytes before (compact_of job) is.is_open refl file among)
+    (told_page sizes (meaning.shows old) job parts pages bytes page info infos left is.page (gives before) (is.told before))
+
+-- ---- events
+
+pub begun_event : {P : Type 0} (meaning : Meaning P) (old new : P) (job : CompactJob) → Called meaning old BeginCompact (begin_compact_reply (Ok (Some job))) new → OneEvent meaning Fresh old (Reading job [] 0 []) new
+begun_event meaning old new job called = record {
+  made = call BeginCompact (Compacting job.out.number job.out.file job.level job.pin.number (info_files job.pin.blocks));
+  called = called;
+  leads = λ calls round h. begun (job_of job) h;
+}
+
+pub page_event : {P : Type 0} (meaning : Meaning P) (old new : P) (job : CompactJob) (parts : List (List Row)) (pages : ℕ) (bytes page : List ℕ) (info : InfoParts) (infos : List InfoParts) (after : Task)
+    → Called meaning old (ReadPage job.pin.number info.file pages) (Page page) new → blocks_left job parts ≡ info ∷ infos → HasPage (blocks_left job parts) pages → Turned job parts (pages + 1) (bytes ++ page) after
+    → OneEvent meaning (Reading job parts pages bytes) old after new
+page_event meaning old new job parts pages bytes page info infos after called left has turned = record {
+  made = call (ReadPage job.pin.number info.file pages) (Page page);
+  called = called;
+  leads = reads_on job parts pages bytes page info infos after left has turned;
+}
+
+pub page_fits : {P : Type 0} (meaning : Meaning P) (old new : P) (job : CompactJob) (parts : List (List Row)) (pages : ℕ) (bytes page : List ℕ) (info : InfoParts) (infos : List InfoParts) (after : Task) → Sizes
+    → IsReading meaning job parts pages bytes old → length parts < length job.pin.blocks → Called meaning old (ReadPage job.pin.number info.file pages) (Page page) new → blocks_left job parts ≡ info ∷ infos
+    → (IsTrue (meaning.tells old) → page ≡ page_of (meaning.shows old info.file) pages) → Turned job parts (pages + 1) (bytes ++ page) after → Fits meaning after new
+page_fits meaning old new job parts pages bytes page info infos after sizes is low called left gives turned =
+    fits_turned meaning job parts (pages + 1) (bytes ++ page) after new sizes turned (stays_open meaning old new _ _ (compact_of job) called is.is_open refl) is.at_start is.few low is.counted
+    (told_behind meaning job parts pages bytes page info infos old new sizes is called left gives)
+
+pub no_page_event : {P : Type 0} (meaning : Meaning P) (old new : P) (job : CompactJob) (parts : List (List Row)) (pages : ℕ) (bytes : List ℕ) (info : InfoParts) (infos : List InfoParts)
+    → Called meaning old (ReadPage job.pin.number info.file pages) (reply.Refused refusal.Fault) new → blocks_left job parts ≡ info ∷ infos → HasPage (blocks_left job parts) pages
+    → OneEvent meaning (Reading job parts pages bytes) old (Failing job Fault) new
+no_page_event meaning old new job parts pages bytes info infos called left has = record {
+  made = call (ReadPage job.pin.number info.file pages) (reply.Refused refusal.Fault);
+  called = called;
+  leads = reads_out job parts pages bytes info infos left has;
+}
+
+pub no_page_fits : {P : Type 0} (meaning : Meaning P) (old new : P) (job : CompactJob) (info : InfoParts) (pages : ℕ) → IsOpen meaning old (compact_of job)
+    → Called meaning old (ReadPage job.pin.number info.file pages) (reply.Refused refusal.Fault) new → Fits meaning (Failing job Fault) new
+no_page_fits meaning old new job info pages is_open called = record { is_open = stays_open meaning old new _ _ (compact_of job) called is_open refl; told = λ tells. tt }
+
+-- ---- the first block that isn't read
+
+pub record First (infos : List InfoParts) (Holds : InfoParts → Type 0) : Type 0 where
+  pub info : InfoParts
+  pub rest : List InfoParts
+  pub is : infos ≡ info ∷ rest
+  pub holds : Holds info
+
+pub first_of : (infos : List InfoParts) (Holds : InfoParts → Type 0) → OfFirst infos Holds → First infos Holds
+first_of [] Holds h = absurd h
+first_of (info ∷ rest) Holds h = record { info = info; rest = rest; is = refl; holds = h }
+
+pub of_first : (infos : List InfoParts) (info : InfoParts) (rest : List InfoParts) (Holds : InfoParts → Type 0) → infos ≡ info ∷ rest → Holds info → OfFirst infos Holds
+of_first infos info rest Holds is h = subst (λ (l : List InfoParts). OfFirst l Holds) (sym is) h
+
+pub first_holds : (infos : List InfoParts) (info : InfoParts) (rest : List InfoParts) (Holds : InfoParts → Type 0) → infos ≡ info ∷ rest → OfFirst infos Holds → Holds info
+first_holds infos info rest Holds is h = subst (λ (l : List InfoParts). OfFirst l Holds) is h
+
+pub page_low : (infos : List InfoParts) (info : InfoParts) (rest : List InfoParts) (pages : ℕ) → infos ≡ info ∷ rest → HasPage infos pages → pages < pages_of info
+page_low infos info rest pages is h = subst (λ (l : List InfoParts). HasPage l pages) is h
+
+-- ---- rows that were read
+
+pub broke : (job : CompactJob) (parts : List (List Row)) (pages : ℕ) (bytes : List ℕ) (info : InfoParts) (infos : List InfoParts) (why : Break) → blocks_left job parts ≡ info ∷ infos → pages_of info ≤ pages
+    → Fails why (rows_at info bytes) → Turned job parts pages bytes (Failing job (unread_cause info.file why))
+broke job parts pages bytes info infos (breaks.At at) left all fails = Malformed info infos at left all fails
+broke job parts pages bytes info infos breaks.Memory left all fails = Starved
+
+pub has_rows : (header : Header) (bytes : List ℕ) (rows : List Row) → BlockHasHeader header bytes rows → (BlockHolds bytes [] → ⊥) → 1 ≤ length rows
+has_rows header bytes [] has none = absurd (none (record { header = header; parts = has }))
+has_rows header bytes (row ∷ rows) has none = omega arith

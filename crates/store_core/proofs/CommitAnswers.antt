@@ -1,0 +1,171 @@
+-- What the steps of a flush's commit tell, put together.
+use Rattle.std.proofs.Common.{◌≡◌, ℕ, ◌+◌, ◌<◌, ◌≤◌, List, [], ◌∷◌, ◌++◌, length, Some, None, Option, IfSome, IsTrue, refl, sym, ◌∙◌, ap, subst, arith}
+use Rattle.std.specs.Vec.{vec_len, vec_capacity}
+use Rattle.span_types.specs.Faults.{Rose}
+use Rattle.span_types.specs.First.{IsFirstOf}
+use Rattle.block_format.specs.Blocks.{BlockHasInfo}
+use Rattle.span_types.specs.declared.spans.Row.{Row}
+use Rattle.disk_model.specs.Images.{bytes_of}
+use Rattle.disk_model.specs.declared.disk.Device.{Ghosts}
+use Rattle.block_info.specs.InfoParts.{InfoParts}
+use Rattle.block_list.specs.Body.{MeetsRules, successor}
+use Rattle.block_list.specs.declared.body.ListBody.{ListBody}
+use Rattle.store_model.specs.History.{count_of}
+use Rattle.store_model.specs.State.{Flush, flush_rows}
+use Rattle.store_model.specs.Event.{Event}
+use Rattle.store_model.specs.Event.Reply.{Refused}
+use Rattle.store_model.specs.Event.Refusal.{Fault as IsFault}
+use Rattle.store_model.specs.Holds.{IsOpenFlush}
+use Rattle.store_model.specs.Step.{Machine, broken}
+use Rattle.store_state.specs.Replies.{write_refusal}
+use Rattle.store_state.specs.Written.{IsBlockOf}
+use Rattle.store_state.specs.declared.errors.WriteError.{WriteError}
+use Rattle.store_state.specs.declared.errors.WriteError.TheVariants.{Fault}
+use Rattle.store_core.specs.Jobs.{ShowsFlush}
+use Rattle.store_core.specs.NextList.{IsNextList, length_of}
+use Rattle.store_core.specs.declared.jobs.OpenFlush.{OpenFlush}
+use Rattle.store_core.specs.declared.state.CoreState.{CoreState}
+use Rattle.store_core.specs.declared.store.Core.{Core}
+use Rattle.store_core.specs.Cores.{HasState, CoreShows, unsure_of}
+use Rattle.store_core.specs.Events.{Did}
+use Rattle.store_core.proofs.CommitEnds.{Commits, meets_rules}
+use Rattle.store_core.proofs.CommitStates.{TookOver}
+use Rattle.store_core.proofs.OpenJobs.{IsOpenHere, open_here}
+
+-- the refusal that is answered, and the core as it is said
+pub did_stopped : {D : Type 0} (g : Ghosts D) (old new target : Core D) (event : Event) (why : WriteError) → why ≡ Fault → new ≡ target → Did g old event (Refused IsFault) target → Did g old event (Refused (write_refusal why)) new
+did_stopped {D} g old new target event why is same did =
+    subst (λ (w : WriteError). Did g old event (Refused (write_refusal w)) new) (sym is) (subst (λ (s : Core D). Did g old event (Refused IsFault) s) (sym same) did)
+
+-- the flush that is given back is the one that every machine has open
+pub flush_here : (core : CoreState) (m0 m : Machine) (number file : ℕ) (rows : List Row) → HasState core m0 → IsOpenFlush m0 number file rows → HasState core m → IsOpenHere core m number file
+flush_here core m0 m number file rows its is has = open_here core m0 m number file is.job its is.is_open is.its_number is.its_file has
+
+pub rows_here : (core : CoreState) (m0 : Machine) (number file : ℕ) (rows : List Row) → HasState core m0 → IsOpenFlush m0 number file rows → core.live.flushing ≡ rows
+rows_here core m0 number file rows its is = its.flushing ∙ ap flush_rows is.is_open ∙ is.its_rows
+
+module _ {D : Type 0} (g : Ghosts D) (old : Core D) (m0 : Machine) (s0 : CoreShows g old m0) (number file : ℕ) (rows : List Row) (is : IsOpenFlush m0 number file rows) (info : InfoParts)
+    (writes : old.state.read_only ≡ None) (size : (1 ≤ info.rows) × (info.rows ≤ 1048576)) (block : IsBlockOf (IsTrue (g.tells old.disk)) (bytes_of (g.held old.disk) file) file 0 info rows) where
+  abbrev here : IsOpenHere old.state m0 number file
+  here = flush_here old.state m0 m0 number file rows s0.has is s0.has
+
+  -- the list that is made in the room of the commit meets the rules
+  pub rules_known : (count : ℕ) → count ≡ info.rows → IfSome old.state.jobs.flush (λ known. (next : ListBody) → IsNextList old.state known.files count next → MeetsRules next)
+  rules_known count counted = subst (λ (k : Option OpenFlush). IfSome k (λ known. (next : ListBody) → IsNextList old.state known.files count next → MeetsRules next)) (sym here.known)
+      (λ next its. meets_rules ⊥ (g.held old.disk) (g.may_leave old.disk) old.state m0 s0 writes number file info.rows here block.firsts
+      (subst (λ (r : List Row). IsFirstOf r block.firsts) (sym (sym (s0.has.flushing ∙ ap flush_rows here.is_open) ∙ rows_here old.state m0 number file rows s0.has is)) block.are_first)
+      next (subst (λ (n : ℕ). IsNextList old.state here.mine.files n next) counted its) size.0 size.1)
+
+  abbrev pub commits : (list : ListBody) (count : ℕ) → count ≡ info.rows → IfSome old.state.jobs.flush (λ known. IsNextList old.state known.files count list)
+      → Commits old.state (g.held old.disk) (IsTrue (g.tells old.disk)) number file info.rows rows block.firsts info list
+  commits list count counted next = record {
+    writes = writes;
+    here = λ m has. flush_here old.state m0 m number file rows s0.has is has;
+    its_rows = rows_here old.state m0 number file rows s0.has is;
+    are_first = block.are_first;
+    block = λ told. subst (λ (b : List ℕ). BlockHasInfo info b block.firsts) (sym (block.its_bytes told)) block.block;
+    its_info = record { file_is = block.its_info.its_file; level = block.its_info.its_level; rows = refl };
+    counted = block.its_info.counted block.firsts block.are_first;
+    some = size.0;
+    most = size.1;
+    next = λ m has. subst (λ (n : ℕ). IsNextList old.state (flush_here old.state m0 m number file rows s0.has is has).mine.files n list) counted
+        (subst (λ (k : Option OpenFlush). IfSome k (λ known. IsNextList old.state known.files count list)) (flush_here old.state m0 m number file rows s0.has is has).known next);
+  }
+
+-- ---- the memory in which the room of the commit was taken
+
+abbrev pub spent : CoreState → OpenFlush → CoreState
+spent core mine = record core { jobs = record core.jobs { flush = Some (record mine { room = None }) } }
+
+pub spent_is : (core later : CoreState) (mine : OpenFlush) → core.jobs.flush ≡ Some mine → later ≡ record core { jobs = record core.jobs { flush = later.jobs.flush } }
+    → IfSome core.jobs.flush (λ known. later.jobs.flush ≡ Some (record known { room = None })) → later ≡ spent core mine
+spent_is core later mine known same taken =
+    same ∙ ap (λ (f : Option OpenFlush). record core { jobs = record core.jobs { flush = f } })
+    (subst (λ (k : Option OpenFlush). IfSome k (λ x. later.jobs.flush ≡ Some (record x { room = None }))) known taken)
+
+pub infos_spent : (core later : CoreState) (mine : OpenFlush) → later ≡ spent core mine → later.infos.items ≡ core.infos.items
+infos_spent core later mine is = ap (λ (x : CoreState). x.infos.items) is
+
+pub unsure_spent : (core later : CoreState) (mine : OpenFlush) → later ≡ spent core mine → unsure_of later ≡ unsure_of core
+unsure_spent core later mine is = ap unsure_of is
+
+-- the generation after the list's
+pub next_generation : (core : CoreState) (mine : OpenFlush) (count : ℕ) (list : ListBody) → core.jobs.flush ≡ Some mine → IfSome core.jobs.flush (λ known. IsNextList core known.files count list) → list.generation ≡ successor core.list.generation
+next_generation core mine count list known next =
+    let its : IsNextList core mine.files count list = subst (λ (k : Option OpenFlush). IfSome k (λ x. IsNextList core x.files count list)) known next in its.generation
+
+pub has_spent : (core : CoreState) (mine : OpenFlush) (faults : ℕ) (m : Machine) → core.jobs.flush ≡ Some mine → HasState core m → HasState (record (spent core mine) { read_only = Some faults }) (broken faults m)
+has_spent core mine faults m known has = record {
+  count = has.count;
+  few = has.few;
+  live = has.live;
+  head = has.head;
+  flushing = has.flushing;
+  flush = subst (λ (k : Option OpenFlush). ShowsFlush k m.state.flush) known has.flush;
+  compaction = has.compaction;
+  blocks = has.blocks;
+  infos = has.infos;
+  listed = has.listed;
+  commit = λ none. absurd (let bad : Some faults ≡ None = none in cc);
+  rules = has.rules;
+  segments = has.segments;
+  last = has.last;
+  floor = has.floor;
+  loose = has.loose;
+  next_file = has.next_file;
+  begun = has.begun;
+  jobs = record {
+    given = has.jobs.given;
+    files = subst (λ (k : Option OpenFlush). IfSome k (λ x. (core.list.next_file ≤ x.files.block) × (core.list.next_file ≤ x.files.segment))) known has.jobs.files;
+    room = room_same core mine known has.jobs.room;
+  };
+  used = has.used;
+  pins = has.pins;
+  read_only = refl;
+}
+  where
+    room_same : (core : CoreState) (mine : OpenFlush) → core.jobs.flush ≡ Some mine → IfSome core.jobs.flush (λ x. vec_len core.jobs.loose + length core.list.segments + 2 ≤ vec_capacity core.jobs.loose)
+        → vec_len core.jobs.loose + length core.list.segments + 2 ≤ vec_capacity core.jobs.loose
+    room_same core mine known fits = subst (λ (k : Option OpenFlush). IfSome k (λ x. vec_len core.jobs.loose + length core.list.segments + 2 ≤ vec_capacity core.jobs.loose)) known fits
+
+pub has_stopped_spent : (core later : CoreState) (mine : OpenFlush) (faults : ℕ) (m : Machine) → core.jobs.flush ≡ Some mine → later ≡ spent core mine → HasState core m → HasState (record later { read_only = Some faults }) (broken faults m)
+has_stopped_spent core later mine faults m known is has =
+    subst (λ (x : CoreState). HasState (record x { read_only = Some faults }) (broken faults m)) (sym is) (has_spent core mine faults m known has)
+
+-- ---- the memory that took over the list
+
+pub took_over : (core before later : CoreState) (list : ListBody) (info : InfoParts) (m : Machine) (mine : OpenFlush) → HasState core m → before ≡ spent core mine
+    → later.list ≡ list → later.infos.items ≡ before.infos.items ++ info ∷ [] → IfSome before.jobs.flush (λ known. later.segment.file ≡ known.files.segment)
+    → (later.segment.first ≡ length_of before) × (later.segment.count ≡ 0) × (later.segment.gate ≡ 1)
+    → (later.jobs.flush ≡ None) × (later.jobs.loose.items ≡ list.loose) × (later.jobs.begun ≡ before.jobs.begun) × (later.jobs.next_file ≡ before.jobs.next_file)
+    → (later.live.flushing ≡ []) × (later.live.head ≡ before.live.head) × (later.live.live ≡ before.live.live)
+    → (later.pins ≡ before.pins) × (later.read_only ≡ before.read_only) × (later.unsure ≡ before.unsure)
+    → TookOver core later list info mine.files.segment (count_of m.history)
+took_over core before later list info m mine has is listing infos segment empty jobs rows same = record {
+  listing = listing;
+  infos = infos ∙ ap (λ (x : CoreState). x.infos.items ++ info ∷ []) is;
+  file_is = subst (λ (x : CoreState). IfSome x.jobs.flush (λ known. later.segment.file ≡ known.files.segment)) is segment;
+  first_is = empty.0 ∙ ap length_of is ∙ sym has.count;
+  count = empty.1;
+  gate = empty.2;
+  begun = jobs.2 ∙ ap (λ (x : CoreState). x.jobs.begun) is;
+  next_file = jobs.3 ∙ ap (λ (x : CoreState). x.jobs.next_file) is;
+  loose = jobs.1;
+  none = jobs.0;
+  gone = rows.0;
+  head = rows.1 ∙ ap (λ (x : CoreState). x.live.head) is;
+  rows = rows.2 ∙ ap (λ (x : CoreState). x.live.live) is;
+  pins = pins_same before later same.0 ∙ ap (λ (x : CoreState). x.pins.items) is;
+  read_only = same.1 ∙ ap (λ (x : CoreState). x.read_only) is;
+  unsure = unsure_same before later same.2 ∙ ap unsure_of is;
+}
+  where
+    pins_same : (a b : CoreState) → b.pins ≡ a.pins → b.pins.items ≡ a.pins.items
+    pins_same a b is = cc
+
+    unsure_same : (a b : CoreState) → b.unsure ≡ a.unsure → unsure_of b ≡ unsure_of a
+    unsure_same a b is = cc
+
+-- a count that rose later rose since before
+pub rose_after : (a b c : ℕ) → a ≤ b → Rose b c → Rose a c
+rose_after a b c le rose = omega (arith, le, rose)
