@@ -1,5 +1,5 @@
 -- A block that was found to be whole, with as many rows as its list entry says.
-use Rattle.std.proofs.Common.{◌≡◌, ℕ, Unit, List, length, Result, Ok, Err, IfOk, eqb, refl, sym, ◌∙◌, ap, subst}
+use Rattle.std.proofs.Common.{◌≡◌, ℕ, List, length, Result, Ok, Err, IfOk, eqb, refl, sym, ◌∙◌, ap, subst}
 use Rattle.std.proofs.lemmas.Bool.{eqb-true}
 use Rattle.byte_fields.specs.Reading.{AreBytes}
 use Rattle.span_types.specs.declared.spans.Row.{Row}
@@ -26,12 +26,12 @@ listed_means rows bytes block fit e =
     let whole = block_means bytes a.value fit a.first in
     subst (λ (b : Block). FoundListed rows bytes b) last.same (record { holds = whole; counted = eqb-true (length a.value.rows) rows last.holds })
 
+same_info : (a b : InfoParts) (r : Result InfoParts ℕ) → r ≡ Ok a → r ≡ Ok b → a ≡ b
+same_info a b r one two = cc
+
 found_by : (file level rows : ℕ) (bytes : List ℕ) (info : InfoParts) (read : Result Block ℕ) → AreBytes bytes → listed_at rows bytes ≡ read → made_of (info_read file level) read ≡ Ok info
     → (block : Block) × (info ≡ info_read file level block) × FoundListed rows bytes block
-found_by file level rows bytes info (Ok block) fit e is = (block, sym (same (info_read file level block) info is), listed_means rows bytes block fit e)
-  where
-    same : (a b : InfoParts) → Ok a ≡ Ok b → a ≡ b
-    same a b is = cc
+found_by file level rows bytes info (Ok block) fit e is = (block, same_info info (info_read file level block) (made_of (info_read file level) (Ok block)) is refl, listed_means rows bytes block fit e)
 found_by file level rows bytes info (Err at) fit e is = absurd (let bad : Err at ≡ Ok info = is in cc)
 
 pub names_it : (file level rows : ℕ) (bytes : List ℕ) (result : Result InfoParts Break) → AreBytes bytes → Answers (λ x. x) result (made_of (info_read file level) (listed_at rows bytes))
