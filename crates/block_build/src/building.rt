@@ -25,9 +25,9 @@ pub struct BuiltBlock {
 
 /// The block of the first occurrences of these rows, of which there are 1 to 1,048,576.
 ///
-/// It is of form 2 exactly where one of the first occurrences has an event or a link. The rows are sorted once, by what stands
-/// beside pointers to them where no two are of one span, and moved into their stripes; each is dropped as soon as its stripe is
-/// written. No row is copied.
+/// It is of form 2 exactly where one of the first occurrences has an event or a link. The rows are sorted once, by what
+/// stands beside pointers to them where no two are of one span, and moved into their stripes; each is dropped as soon as
+/// its stripe is written. No row is copied.
 pub fn build(alloc: Global, rows: Rows) -> Result<BuiltBlock, Memory>
     requires some { 1 ≤ length rows }
     requires few { length rows ≤ 1048576 }

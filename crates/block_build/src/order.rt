@@ -1,4 +1,5 @@
-//! First occurrences in block order. Where no two rows are of one span, each row stays where it is while they are sorted.
+//! First occurrences in block order. Where no two rows are of one span, each row stays where it is while they are
+//! sorted.
 
 ghost use Rattle.std.specs.Prelude.{◌≡◌, IfOk, map, true};
 ghost use Rattle.std.specs.List.{IsDistinct};

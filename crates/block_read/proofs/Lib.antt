@@ -6,3 +6,4 @@ mod StripesWalk
 mod Parts
 mod PageReads
 mod ChecksWalk
+mod Listed

@@ -117,25 +117,19 @@ pub fn check_block<P: Pages>(
     ensures reads { MakesCalls (div_ceil length 4096) (P.reads pages.old) (P.reads pages.new) result }
 {
     match file_bytes(alloc, pages, block, length) {
-<<<<<<< HEAD
         Ok(bytes) => match check_bytes(alloc, block, level, rows, bytes.as_slice()) {
-=======
-        Ok(bytes) => match listed_info(alloc, bytes.as_slice(), block, level, rows) {
->>>>>>> 0a804f2655e99d2a92e1dacb2565a950fdb1b9c7
             Ok(info) => Ok(info),
             Err(Break::At(at)) => Err(ReadError::NotBlock { file: block, at }),
             Err(Break::Memory) => Err(ReadError::Memory),
         },
         Err(Unread::Fault) => Err(ReadError::Fault),
         Err(Unread::Memory) => Err(ReadError::Memory),
-<<<<<<< HEAD
     }
 }
 
 /// The information of the block that these bytes are, by its file and its level, where its list entry says so many rows.
 ///
 /// [`Break::At`] comes exactly where they are no such block, at the first byte where they are malformed.
-#[tactic(auto, unfolding(crate::specs::BlockReadings::listed_at))]
 pub fn check_bytes(
     alloc: Global,
     block: u32,
@@ -148,10 +142,5 @@ pub fn check_bytes(
     // The bytes stand for rows that it describes.
     ensures described { IfOk result (λ info. (found : List Row) × BlockHasInfo info bytes.now found) }
 {
-    let found = block_of(alloc, bytes)?;
-    if found.rows.len() != rows as usize {
-        return Err(Break::At(0));
-=======
->>>>>>> 0a804f2655e99d2a92e1dacb2565a950fdb1b9c7
-    }
+    listed_info(alloc, bytes, block, level, rows)
 }

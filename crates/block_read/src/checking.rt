@@ -26,7 +26,8 @@ pub struct Outline {
     pub form: u8,
 }
 
-/// The information of the block that these bytes are, by its file and its level, where its list entry says so many rows.
+/// The information of the block that these bytes are, by its file and its level, where its list entry says so many
+/// rows.
 pub fn listed_info(
     alloc: Global,
     bytes: &[u8],

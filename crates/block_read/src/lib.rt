@@ -17,11 +17,7 @@ mod pages;
 mod stripes;
 
 pub use block::{Block, block_of};
-<<<<<<< HEAD
 pub use calls::{all_rows, check_block, check_bytes, trace_rows};
-=======
-pub use calls::{all_rows, check_block, trace_rows};
->>>>>>> c5a0d0e815a7f9798e5758c2d3270482172b0eb9
 pub use error::ReadError;
 pub use laws::{described_block_is_read, held_block_is_read, read_block_is_held};
 pub use memory::MemPages;

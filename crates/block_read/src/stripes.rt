@@ -108,7 +108,8 @@ fn stripe(
     Ok(rows)
 }
 
-/// Whether a stripe can agree with an entry: its earliest start isn't after its latest, and of one row it is the latest.
+/// Whether a stripe can agree with an entry: its earliest start isn't after its latest, and of one row it is the
+/// latest.
 fn can_agree(entry: &StripeInfo) -> bool
     ensures { result ≡ can_agree entry.now }
 {

@@ -199,8 +199,8 @@ fn malformed_in_two_places(rt: HostRuntime) -> Result<(), Fail> {
         ((44, "00"), (4169, "01"), 4096),
         ((28, "02"), (4146, "09"), 4096),
         ((20, "02"), (4164, "09"), 4096),
-        // No stripe agrees with an entry whose earliest start is after its latest, nor with one of one row whose earliest start is
-        // before its latest, whatever stands in the stripe.
+        // No stripe agrees with an entry whose earliest start is after its latest, nor with one of one row whose
+        // earliest start is before its latest, whatever stands in the stripe.
         ((36, "02"), (4104, "82 00"), 4096),
         ((44, "02"), (4104, "82 00"), 4096),
         // A field before what would tell that the stripe disagrees is malformed.

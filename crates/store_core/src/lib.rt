@@ -4,8 +4,8 @@
 #![tactic(auto)]
 
 mod admit;
-mod committing;
 mod blocks;
+mod committing;
 mod cutting;
 mod error;
 mod events;
