@@ -1,5 +1,5 @@
 -- A search tells of the first occurrences of all rows.
-use Rattle.std.proofs.Common.{◌≡◌, ℕ, List, ◌++◌, None, subst}
+use Rattle.std.proofs.Common.{◌≡◌, List, ◌++◌, None, subst}
 use Rattle.std.specs.List.{flat_map}
 use Rattle.span_types.specs.declared.spans.Row.{Row}
 use Rattle.span_types.proofs.FirstLaws.{firsts_alike}
