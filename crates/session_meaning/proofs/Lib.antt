@@ -5,6 +5,7 @@ mod FlushSteps
 mod Rounds
 mod FlushLaws
 mod CutLaws
+mod Pushless
 pub mod AnswerLaws
 pub mod SessionLaws
 pub mod Told
