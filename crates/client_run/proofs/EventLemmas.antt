@@ -5,7 +5,6 @@ use Rattle.span_types.specs.BatchParts.{BatchParts}
 use Rattle.span_types.specs.declared.errors.Failed.{Failed}
 use Rattle.span_types.specs.declared.errors.Memory.{Memory}
 use Rattle.span_types.specs.declared.spans.Row.{Row}
-use Rattle.span_types.specs.declared.spans.Span.{Span}
 use Rattle.store_model.specs.Event.{Event as event, Reply as reply, Refusal as refusal}
 use Rattle.store_model.specs.Holds.{Hold, ends}
 use Rattle.store_model.specs.Holds.Hold.{OpenFlush}

@@ -1,5 +1,5 @@
 -- The flush of a run of events.
-use Rattle.std.proofs.Common.{◌≡◌, ℕ, ◌==◌, List, [], ◌∷◌, ◌++◌, Bool, true, false, Option, Some, None, map, take, refl, sym, ◌∙◌, ap, subst, arith, append-nil, if◌then◌else◌}
+use Rattle.std.proofs.Common.{◌≡◌, ℕ, List, [], ◌∷◌, ◌++◌, Bool, false, Option, Some, None, map, take, refl, sym, ◌∙◌, ap, subst, arith, append-nil, if◌then◌else◌}
 use Rattle.std.specs.Prelude.{IsTrue, ◌||◌}
 use Rattle.flusher.specs.Rounds.{Leads, Stage}
 use Rattle.flusher.specs.Rounds.{Stage as stage}

@@ -17,9 +17,10 @@ use store_state::{FlushPort, LookPort, PushError, Round};
 
 /// Answers a request over a port, for the client with this number.
 ///
-/// A push and a cut are one call each, and a flush is one round. A look-up or a search takes one look, reads the blocks that it
-/// pins and gives it back. Out of memory a request is refused for that; whether a push was refused the port says. The gate is
-/// passed at twice the client's number before a search is evaluated, and at one more after each push that was accepted.
+/// A push and a cut are one call each, and a flush is one round. A look-up or a search takes one look, reads the
+/// blocks that it pins and gives it back. Out of memory a request is refused for that; whether a push was refused the
+/// port says. The gate is passed at twice the client's number before a search is evaluated, and at one more after each
+/// push that was accepted.
 pub fn answer_request<P: FlushPort, G: Gate>(
     alloc: Global,
     port: &mut P,

@@ -20,7 +20,8 @@ pub enum Event {
     },
     /// All live traces are moved to the head.
     CutAll,
-    /// The next step of a flush. One step after another they make whole rounds: a step behind the end of a round begins the next.
+    /// The next step of a flush. One step after another they make whole rounds: a step behind the end of a round begins
+    /// the next.
     FlushStep,
     /// A look is taken. Looks are numbered from 0 as they are taken; one that is refused has no number.
     Look,

@@ -18,9 +18,9 @@ use store_state::{FlushPort, Look, LookPort, Step};
 
 /// Runs events on a port, one after another, and gives one reply for each.
 ///
-/// An event on a look that isn't open, or on a block that its look's pin doesn't name, is answered `Idle`, and nothing is done.
-/// The steps of flushes are made for one task after another. Out of memory the events so far have happened. The looks that aren't
-/// given back keep their pins, and a flush that isn't at its end stays open.
+/// An event on a look that isn't open, or on a block that its look's pin doesn't name, is answered `Idle`, and
+/// nothing is done. The steps of flushes are made for one task after another. Out of memory the events so far have
+/// happened. The looks that aren't given back keep their pins, and a flush that isn't at its end stays open.
 pub fn run_events<P: FlushPort>(
     alloc: Global,
     port: &mut P,
