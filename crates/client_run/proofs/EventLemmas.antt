@@ -151,13 +151,13 @@ is_pinned meaning port number block look looks some named open_looks =
     OfLook look.as_of look.rows (open_at meaning port number looks (look_of look) some open_looks) named
 
 not_named : (look : Option Hold) (block page : ℕ) → NamesNo look block → IsPageAnswered look block page Idle []
-not_named None block page no = (refl, refl)
-not_named (Some hold) block page no = subst (λ (b : Bool). IsPageOf b (pin_of hold) block page Idle []) (sym no) (refl, refl)
+not_named None block page other = (refl, refl)
+not_named (Some hold) block page other = subst (λ (b : Bool). IsPageOf b (pin_of hold) block page Idle []) (sym other) (refl, refl)
 
 pub no_page : {P : Type 0} (meaning : Meaning P) (port : P) (number block page : ℕ) (looks : Looks) → NamesNo (look_at number looks) block
     → (flush : Task) → IsReady meaning port looks flush → HasAnswered meaning port looks flush (Page number block page) Idle port looks flush
-no_page meaning port number block page looks no flush ready =
-    idle meaning port looks looks flush (Page number block page) ready (not_named (look_at number looks) block page no, refl) refl
+no_page meaning port number block page looks other flush ready =
+    idle meaning port looks looks flush (Page number block page) ready (not_named (look_at number looks) block page other, refl) refl
 
 pub has_paged : {P : Type 0} (meaning : Meaning P) (old new : P) (number block page : ℕ) (look : Given) (looks : Looks) (answer : Result (List ℕ) Failed)
     → look_at number looks ≡ Some (look_of look) → is_among block (info_files look.pin.blocks) ≡ true

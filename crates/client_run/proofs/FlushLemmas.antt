@@ -137,10 +137,10 @@ answered_by meaning old new items before after last told one is left fits going 
     }
 
 -- A step that ended the round leaves a flush that has made none.
-pub has_ended_round : {P : Type 0} (meaning : Meaning P) (old new : P) (items : List (Option Look)) (before after fresh : Task) (r : Round)
-    → Steps meaning before old after new → after ≡ Ended r → fresh ≡ Fresh → IsReady meaning old (looks_of items) before
-    → HasAnswered meaning old (looks_of items) before FlushStep (Stepped (step.Ended r)) new (looks_of items) fresh
-has_ended_round meaning old new items before after fresh r steps ended begins ready =
+pub has_ended_round : {P : Type 0} (meaning : Meaning P) (old new : P) (items : List (Option Look)) (before after next : Task) (r : Round)
+    → Steps meaning before old after new → after ≡ Ended r → next ≡ Fresh → IsReady meaning old (looks_of items) before
+    → HasAnswered meaning old (looks_of items) before FlushStep (Stepped (step.Ended r)) new (looks_of items) next
+has_ended_round meaning old new items before after next r steps ended begins ready =
     let one = one_event meaning old new before (Ended r) ready.going (subst (λ (t : Task). Steps meaning before old t new) ended steps) in
     let holds : (held : List Hold) × meaning.holds new held = (holds_after one.made.event one.made.reply ready.holds.0, one.called.holds ready.holds.0 ready.holds.1) in
     subst (λ (t : Task). HasAnswered meaning old (looks_of items) before FlushStep (Stepped (step.Ended r)) new (looks_of items) t) (sym begins)

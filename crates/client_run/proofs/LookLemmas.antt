@@ -207,7 +207,7 @@ none_names items n block none = subst (λ (l : Option Hold). NamesNo l block) (s
 
 pub other_names : (items : List (Option Look)) (n block : ℕ) (look : Look) → look_at n (looks_of items) ≡ Some (look_of look)
     → is_among block (info_files look.pin.blocks) ≡ false → NamesNo (look_at n (looks_of items)) block
-other_names items n block look some no = subst (λ (l : Option Hold). NamesNo l block) (sym some) no
+other_names items n block look some other = subst (λ (l : Option Hold). NamesNo l block) (sym some) other
 
 -- a walk over vectors of looks
 pub pin_step : (change : Option Hold → Option Hold) (first items : List (Option Look)) (at : ℕ) (old new : Option Look) → Walked change at (looks_of first) (looks_of items)
