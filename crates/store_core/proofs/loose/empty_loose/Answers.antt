@@ -30,14 +30,6 @@ returns-then-len-eq0-clause-others g c = λ told.
 pub prepare-requires : goal.prepare-requires
 prepare-requires g c = subst MeetsRules (sym c.take_loose-next.ensures.list) (rules_without c.args.list c.requires.rules)
 
-pub commit-requires : goal.commit-requires
-commit-requires g c = λ told_mid.
-    let d = g.D.Device in
-    let told : IsTrue (d.tells c.args.disk.now) = subst IsTrue c.empty_files.ensures.telling told_mid in
-    let text : IsListText c.in-Ok.prepared (next_without c.args.list) = subst (λ (l : ListBody). IsListText c.in-Ok.prepared l) c.take_loose-next.ensures.list c.in-Ok.ensures.text in
-    can_lay (d.held c.empty_files.new.disk) (d.may_leave c.empty_files.new.disk) (Some c.args.list) c.in-Ok.prepared
-    (c.empty_files.ensures.ready told c.args.list (c.requires.ready told) (c.as_slice.ensures ∙ c.take_loose-next.ensures.loose)) text.generation
-
 pub returns-in_default-empty_files-clause-kept : goal.returns-in_default-empty_files-clause-kept
 returns-in_default-empty_files-clause-kept g c = λ told.
     c.empty_files.ensures.kept told c.args.list (c.requires.ready told) (c.as_slice.ensures ∙ c.take_loose-next.ensures.loose)
@@ -52,10 +44,11 @@ returns-in_default-commit-clause-kept g c = λ told.
     let text : IsListText prepared (next_without list) = subst (λ (l : ListBody). IsListText prepared l) c.take_loose-next.ensures.list c.in-Ok.ensures.text in
     let are : _ ≡ list.loose = c.as_slice.ensures ∙ c.take_loose-next.ensures.loose in
     let ready = c.empty_files.ensures.ready told list (c.requires.ready told) are in
+    let can = can_lay (d.held mid) (d.may_leave mid) (Some list) prepared ready text.generation in
     committed_then d.moment d.left_since d.may_leave c.args.disk.now mid c.commit.new.disk (d.held mid) list (slot_of prepared)
     (c.empty_files.ensures.kept told list (c.requires.ready told) are) ready
     (λ file inside. c.in-Ok-empty_files.ensures.emptied told file (subst (λ (l : List ℕ). Contains l file) (sym are) inside)) (omega arith)
-    (c.commit.ensures.any_moment told_mid (Some list) (next_without list) ready.stands text.generation text)
+    (c.commit.ensures.any_moment told_mid can (Some list) (next_without list) ready.stands text.generation text)
 
 pub returns-clause-list : goal.returns-clause-list
 returns-clause-list g c = c.take_loose-next.ensures.list ∙ left_without c.args.list (λ is. omega (arith, c.if-len-eq0.false, c.len.ensures, is))
@@ -70,10 +63,11 @@ returns-clause-kept g c = λ told.
     let text : IsListText prepared (next_without list) = subst (λ (l : ListBody). IsListText prepared l) c.take_loose-next.ensures.list c.in-Ok.ensures.text in
     let are : _ ≡ list.loose = c.as_slice.ensures ∙ c.take_loose-next.ensures.loose in
     let ready = c.empty_files.ensures.ready told list (c.requires.ready told) are in
+    let can = can_lay (d.held mid) (d.may_leave mid) (Some list) prepared ready text.generation in
     committed_then d.moment d.left_since d.may_leave c.args.disk.now mid c.commit.new.disk (d.held mid) list (slot_of prepared)
     (c.empty_files.ensures.kept told list (c.requires.ready told) are) ready
     (λ file inside. c.in-Ok-empty_files.ensures.emptied told file (subst (λ (l : List ℕ). Contains l file) (sym are) inside)) (omega arith)
-    (c.commit.ensures.any_moment told_mid (Some list) (next_without list) ready.stands text.generation text)
+    (c.commit.ensures.any_moment told_mid can (Some list) (next_without list) ready.stands text.generation text)
 
 pub returns-clause-ready : goal.returns-clause-ready
 returns-clause-ready g c = λ told.
@@ -85,8 +79,9 @@ returns-clause-ready g c = λ told.
     let told_mid : IsTrue (d.tells mid) = subst IsTrue (sym c.empty_files.ensures.telling) told in
     let text : IsListText prepared (next_without list) = subst (λ (l : ListBody). IsListText prepared l) c.take_loose-next.ensures.list c.in-Ok.ensures.text in
     let ready = c.empty_files.ensures.ready told list (c.requires.ready told) (c.as_slice.ensures ∙ c.take_loose-next.ensures.loose) in
+    let can = can_lay (d.held mid) (d.may_leave mid) (Some list) prepared ready text.generation in
     subst (λ (l : ListBody). IsReady (d.held new) (d.may_leave new) (Some l)) (sym c.take_loose-next.ensures.list)
-    (c.in-Ok-commit.ensures.ready told_mid (Some list) (next_without list) ready text)
+    (c.in-Ok-commit.ensures.ready told_mid can (Some list) (next_without list) ready text)
 
 pub returns-clause-others : goal.returns-clause-others
 returns-clause-others g c = λ told.
@@ -100,7 +95,8 @@ returns-clause-others g c = λ told.
     let text : IsListText prepared (next_without list) = subst (λ (l : ListBody). IsListText prepared l) c.take_loose-next.ensures.list c.in-Ok.ensures.text in
     let are : _ ≡ list.loose = c.as_slice.ensures ∙ c.take_loose-next.ensures.loose in
     let ready = c.empty_files.ensures.ready told list (c.requires.ready told) are in
+    let can = can_lay (d.held mid) (d.may_leave mid) (Some list) prepared ready text.generation in
     others_committed list.loose (d.held disk) (d.held mid) (d.held new) (d.may_leave disk) (d.may_leave mid) (d.may_leave new)
     (subst (λ (l : List ℕ). OthersStay l (d.held disk) (d.held mid) (d.may_leave disk) (d.may_leave mid)) are (c.empty_files.ensures.others told))
     (slot_of prepared) _ (omega arith) (c.commit.ensures.besides told_mid)
-    (c.commit.ensures.any_moment told_mid (Some list) (next_without list) ready.stands text.generation text).now
+    (c.commit.ensures.any_moment told_mid can (Some list) (next_without list) ready.stands text.generation text).now

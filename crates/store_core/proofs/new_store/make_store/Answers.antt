@@ -14,15 +14,6 @@ use Rattle.store_core.proofs.new_store.make_store.Goals as goal
 pub prepare-requires : goal.prepare-requires
 prepare-requires g c = subst MeetsRules (sym c.in-Ok.ensures) rules_new
 
-pub commit-requires : goal.commit-requires
-commit-requires g c = λ told_mid.
-    let d = g.D.Device in
-    let told : IsTrue (d.tells c.args.disk.now) = subst IsTrue c.create.ensures.telling told_mid in
-    let body : IsListText c.in-Ok-prepare.prepared new_list = subst (λ (l : ListBody). IsListText c.in-Ok-prepare.prepared l) c.in-Ok.ensures c.in-Ok-prepare.ensures.text in
-    can_lay (d.held c.create.new.disk) (d.may_leave c.create.new.disk) None c.in-Ok-prepare.prepared
-    (ready_still d.moment d.left_since d.may_leave c.args.disk.now c.create.new.disk (d.held c.args.disk.now) (d.held c.create.new.disk) _ _ (c.requires.vacant told) c.create.ensures.any_moment (c.create.ensures.besides told))
-    body.generation
-
 pub returns-in_default-clause-any_moment : goal.returns-in_default-clause-any_moment
 returns-in_default-clause-any_moment g c = λ told.
     let d = g.D.Device in
@@ -52,10 +43,11 @@ returns-in_default-commit-clause-any_moment g c = λ told.
     let first_slot : slot_of prepared ≡ 0 = ap (λ (n : ℕ). n % 2) body.generation in
     let vacant = c.requires.vacant told in
     let ready = ready_still d.moment d.left_since d.may_leave disk mid (d.held disk) (d.held mid) _ _ vacant c.create.ensures.any_moment (c.create.ensures.besides told) in
+    let can = can_lay (d.held mid) (d.may_leave mid) None prepared ready body.generation in
     let lies = c.in-Ok-create.ensures.empty 0 told in
     committed d.moment d.left_since d.may_leave disk mid c.commit.new.disk (slot_of prepared) (bytes_of (d.held mid) 2) first_slot
     (made_segment d.moment d.left_since d.may_leave disk mid (d.held disk) _ _ vacant c.create.ensures.any_moment) lies.1 lies.0
-    (c.commit.ensures.any_moment told_mid None new_list ready.stands body.generation body)
+    (c.commit.ensures.any_moment told_mid can None new_list ready.stands body.generation body)
 
 pub returns-clause-any_moment : goal.returns-clause-any_moment
 returns-clause-any_moment g c = λ told.
@@ -68,10 +60,11 @@ returns-clause-any_moment g c = λ told.
     let first_slot : slot_of prepared ≡ 0 = ap (λ (n : ℕ). n % 2) body.generation in
     let vacant = c.requires.vacant told in
     let ready = ready_still d.moment d.left_since d.may_leave disk mid (d.held disk) (d.held mid) _ _ vacant c.create.ensures.any_moment (c.create.ensures.besides told) in
+    let can = can_lay (d.held mid) (d.may_leave mid) None prepared ready body.generation in
     let lies = c.in-Ok-create.ensures.empty 0 told in
     committed d.moment d.left_since d.may_leave disk mid c.commit.new.disk (slot_of prepared) (bytes_of (d.held mid) 2) first_slot
     (made_segment d.moment d.left_since d.may_leave disk mid (d.held disk) _ _ vacant c.create.ensures.any_moment) lies.1 lies.0
-    (c.commit.ensures.any_moment told_mid None new_list ready.stands body.generation body)
+    (c.commit.ensures.any_moment told_mid can None new_list ready.stands body.generation body)
 
 pub returns-clause-made : goal.returns-clause-made
 returns-clause-made g c = λ told.
@@ -84,9 +77,10 @@ returns-clause-made g c = λ told.
     let body : IsListText prepared new_list = subst (λ (l : ListBody). IsListText prepared l) c.in-Ok.ensures c.in-Ok-prepare.ensures.text in
     let first_slot : slot_of prepared ≡ 0 = ap (λ (n : ℕ). n % 2) body.generation in
     let ready = ready_still d.moment d.left_since d.may_leave disk mid (d.held disk) (d.held mid) _ _ (c.requires.vacant told) c.create.ensures.any_moment (c.create.ensures.besides told) in
+    let can = can_lay (d.held mid) (d.may_leave mid) None prepared ready body.generation in
     let lies = c.in-Ok-create.ensures.empty 0 told in
-    let run = c.commit.ensures.any_moment told_mid None new_list ready.stands body.generation body in
+    let run = c.commit.ensures.any_moment told_mid can None new_list ready.stands body.generation body in
     let two : bytes_of (d.held new) 2 ≡ bytes_of (d.held mid) 2 = c.commit.ensures.besides told_mid 2 (λ is. omega (arith, is, first_slot)) in
-    new_settled (d.held new) (d.may_leave new) (c.in-Ok-commit.ensures.ready told_mid None new_list ready body)
+    new_settled (d.held new) (d.may_leave new) (c.in-Ok-commit.ensures.ready told_mid can None new_list ready body)
     (subst (λ (b : List ℕ). SegmentHolds 0 [] 1 b) (sym two) lies.0)
     (subst (λ (b : List ℕ). OnlyBytes 2 b (d.may_leave new)) (sym two) (still_two d.moment d.left_since d.may_leave mid new (slot_of prepared) (bytes_of (d.held mid) 2) first_slot lies.1 run))
