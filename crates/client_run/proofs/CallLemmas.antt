@@ -1,5 +1,6 @@
 -- How calls of a port follow one another.
 use Rattle.std.proofs.Common.{◌≡◌, List, [], ◌∷◌, ◌++◌, refl, sym, ◌∙◌, ap, subst, append-nil, append_assoc}
+use Rattle.flusher.specs.Rounds.{Stage}
 use Rattle.store_model.specs.Holds.{Hold, holds_after}
 use Rattle.store_state.specs.Meaning.{Meaning}
 use Rattle.client_run.specs.declared.event.Event.{Event}
@@ -28,18 +29,26 @@ pub tells_kept : {P : Type 0} (meaning : Meaning P) (old new : P) (calls : List 
 tells_kept meaning old new [] made = ap meaning.tells made
 tells_kept meaning old new (c ∷ cs) made = tells_kept meaning made.0 new cs made.2 ∙ made.1.telling
 
-pub answered-push : (looks : Looks) (events : List Event) (replies : List EventReply) (e : Event) (r : EventReply) (calls now : List Call)
-    → AreEventsAnswered looks events replies calls → IsEventAnswered (after_calls calls looks) e r now
-    → AreEventsAnswered looks (events ++ e ∷ []) (replies ++ r ∷ []) (calls ++ now)
-answered-push looks [] replies e r calls now h a =
-    rw (h.0, h.1) (now, [], sym (append-nil now), subst (λ (cs : List Call). IsEventAnswered (after_calls cs looks) e r now) h.1 a, (refl, refl))
-answered-push looks (x ∷ xs) [] e r calls now h a = absurd h
-answered-push looks (x ∷ xs) (y ∷ ys) e r calls now h a =
+pub answered-push : (looks : Looks) (before after last : Stage) (events : List Event) (replies : List EventReply) (e : Event) (r : EventReply) (calls now : List Call)
+    → AreEventsAnswered looks before events replies calls after → IsEventAnswered (after_calls calls looks) after e r now last
+    → AreEventsAnswered looks before (events ++ e ∷ []) (replies ++ r ∷ []) (calls ++ now) last
+answered-push looks before after last [] replies e r calls now h a =
+    rw (h.0, h.1) (
+      now,
+      [],
+      last,
+      sym (append-nil now),
+      subst (λ (s : Stage). IsEventAnswered looks s e r now last) h.2 (subst (λ (cs : List Call). IsEventAnswered (after_calls cs looks) after e r now last) h.1 a),
+      (refl, refl, refl),
+    )
+answered-push looks before after last (x ∷ xs) [] e r calls now h a = absurd h
+answered-push looks before after last (x ∷ xs) (y ∷ ys) e r calls now h a =
     let same : after_calls calls looks ≡ after_calls h.1 (after_calls h.0 looks) =
-    ap (λ (cs : List Call). after_calls cs looks) h.2 ∙ after-append h.0 h.1 looks in (
+    ap (λ (cs : List Call). after_calls cs looks) h.3 ∙ after-append h.0 h.1 looks in (
       h.0,
       h.1 ++ now,
-      ap (λ (cs : List Call). cs ++ now) h.2 ∙ append_assoc h.0 h.1 now,
-      h.3,
-      answered-push (after_calls h.0 looks) xs ys e r h.1 now h.4 (subst (λ (l : Looks). IsEventAnswered l e r now) same a),
+      h.2,
+      ap (λ (cs : List Call). cs ++ now) h.3 ∙ append_assoc h.0 h.1 now,
+      h.4,
+      answered-push (after_calls h.0 looks) h.2 after last xs ys e r h.1 now h.5 (subst (λ (l : Looks). IsEventAnswered l after e r now last) same a),
     )

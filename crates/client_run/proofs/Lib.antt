@@ -1,5 +1,6 @@
 pub mod CallLemmas
 pub mod LookLemmas
+pub mod FlushLemmas
 pub mod EventLemmas
 pub mod RunLemmas
 pub mod CoreLemmas

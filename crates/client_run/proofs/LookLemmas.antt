@@ -8,13 +8,14 @@ use Rattle.store_model.specs.Event.Reply.{Count, Fine, Nothing, Flushing, Compac
 use Rattle.store_model.specs.Holds.{Hold, ends, holds_after}
 use Rattle.store_model.specs.Holds.Hold.{OpenLook}
 use Rattle.store_model.proofs.Numbers.{equal_itself}
-use Rattle.store_state.specs.Given.{look_of}
+use Rattle.store_model.specs.State.{is_among}
+use Rattle.store_state.specs.Given.{info_files, look_of}
 use Rattle.store_state.specs.Meaning.{Meaning, Called, IsOpen}
 use Rattle.store_state.proofs.HoldLaws.{stays_open, opens_new}
 use Rattle.store_state.specs.declared.jobs.Look.{Look}
 use Rattle.store_state.specs.Made.{Call, AreMade, call}
 use Rattle.client_run.specs.Calls.{Looks, after_call, after_calls, look_at, taken, unless_ended}
-use Rattle.client_run.specs.Taken.{AreOpen, IsReady, looks_of}
+use Rattle.client_run.specs.Taken.{AreOpen, NamesNo, looks_of}
 use Rattle.client_run.specs.Walked.{Walked}
 
 -- ---- what is open stays open
@@ -61,21 +62,20 @@ taken_open meaning old new event (Compacting number file level pin files) called
 taken_open meaning old new event (Page bytes) called holds = tt
 taken_open meaning old new event (Refused why) called holds = tt
 
-ready_after_call : {P : Type 0} (meaning : Meaning P) (old new : P) (c : Call) (looks : Looks) → Called meaning old c.event c.reply new
-    → IsReady meaning old looks → IsReady meaning new (after_call c looks)
-ready_after_call meaning old new c looks called ready =
-    record {
-      holds = (holds_after c.event c.reply ready.holds.0, called.holds ready.holds.0 ready.holds.1);
-      open_looks = open-append meaning new (map (unless_ended c) looks) (taken c.reply)
-          (kept meaning old new c.event c.reply looks called ready.open_looks)
-          (taken_open meaning old new c.event c.reply called ready.holds);
-    }
+open_after_call : {P : Type 0} (meaning : Meaning P) (old new : P) (c : Call) (looks : Looks) → Called meaning old c.event c.reply new
+    → ((held : List Hold) × meaning.holds old held) → AreOpen meaning old looks → AreOpen meaning new (after_call c looks)
+open_after_call meaning old new c looks called holds open_looks =
+    open-append meaning new (map (unless_ended c) looks) (taken c.reply)
+    (kept meaning old new c.event c.reply looks called open_looks)
+    (taken_open meaning old new c.event c.reply called holds)
 
-pub ready_after : {P : Type 0} (meaning : Meaning P) (old new : P) (calls : List Call) (looks : Looks) → AreMade meaning old calls new
-    → IsReady meaning old looks → IsReady meaning new (after_calls calls looks)
-ready_after {P} meaning old new [] looks h ready = subst (λ (x : P). IsReady meaning x looks) (sym h) ready
-ready_after meaning old new (c ∷ cs) looks h ready =
-    ready_after meaning h.0 new cs (after_call c looks) h.2 (ready_after_call meaning old h.0 c looks h.1 ready)
+-- the looks that calls leave open are the port's
+pub open_after : {P : Type 0} (meaning : Meaning P) (old new : P) (calls : List Call) (looks : Looks) → AreMade meaning old calls new
+    → ((held : List Hold) × meaning.holds old held) → AreOpen meaning old looks → AreOpen meaning new (after_calls calls looks)
+open_after {P} meaning old new [] looks h holds open_looks = subst (λ (x : P). AreOpen meaning x looks) (sym h) open_looks
+open_after meaning old new (c ∷ cs) looks h holds open_looks =
+    open_after meaning h.0 new cs (after_call c looks) h.2 (holds_after c.event c.reply holds.0, h.1.holds holds.0 holds.1)
+    (open_after_call meaning old h.0 c looks h.1 holds open_looks)
 
 -- ---- a call that ends nothing
 
@@ -178,6 +178,14 @@ none_at items n x less is none = (
 pub some_at : (items : List (Option Look)) (n : ℕ) (x : Option Look) (look : Look) → n < length items → x ≡ get_or items n x → x ≡ Some look
     → look_at n (looks_of items) ≡ Some (look_of look)
 some_at items n x look less is some = stands_at items n x less is ∙ ap (option_map look_of) some
+
+-- no look names the block where none stands at the number, or its pin doesn't
+pub none_names : (items : List (Option Look)) (n block : ℕ) → look_at n (looks_of items) ≡ None → NamesNo (look_at n (looks_of items)) block
+none_names items n block none = subst (λ (l : Option Hold). NamesNo l block) (sym none) tt
+
+pub other_names : (items : List (Option Look)) (n block : ℕ) (look : Look) → look_at n (looks_of items) ≡ Some (look_of look)
+    → is_among block (info_files look.pin.blocks) ≡ false → NamesNo (look_at n (looks_of items)) block
+other_names items n block look some no = subst (λ (l : Option Hold). NamesNo l block) (sym some) no
 
 -- a walk over vectors of looks
 pub pin_step : (change : Option Hold → Option Hold) (first items : List (Option Look)) (at : ℕ) (old new : Option Look) → Walked change at (looks_of first) (looks_of items)

@@ -1,6 +1,8 @@
 -- What a request is answered over a port, and which calls of the port it makes.
 use Rattle.std.specs.Prelude.{◌≡◌, ◌⊎◌, ℕ, List, [], ◌∷◌, length, Result, Ok, Err}
 use Rattle.span_types.specs.First.{IsFirstOf}
+use Rattle.flusher.specs.Rounds.{IsFlushRound}
+use Rattle.span_types.specs.declared.errors.Memory.{Memory}
 use Rattle.span_types.specs.declared.ids.TraceId.{TraceId}
 use Rattle.span_types.specs.declared.spans.Row.{Row}
 use Rattle.otlp_spans.specs.declared.read.Reading.{Reading}
@@ -10,16 +12,18 @@ use Rattle.search_text.specs.Fields.{printed_fields}
 use Rattle.session_text.specs.declared.refusal.Refusal.{Refusal}
 use Rattle.session_text.specs.declared.refusal.Refusal.TheVariants as refusal
 use Rattle.session_text.specs.declared.reply.Reply.{Reply}
-use Rattle.session_text.specs.declared.reply.Reply.TheVariants.{Pushed, Traced, Searched, Refused}
+use Rattle.session_text.specs.declared.reply.Reply.TheVariants.{Pushed, Traced, Searched, Cut, CutAll, Flushed, NothingFlushed, Refused}
 use Rattle.session_text.specs.declared.request.Request.{Request}
 use Rattle.session_text.specs.declared.request.Request.TheVariants as request
 use Rattle.session_text.specs.declared.request.Search.{Search}
 use Rattle.spanset_eval.specs.declared.results.TraceResult.{TraceResult}
 use Rattle.store_model.specs.Event.{Event as event, Reply as reply, Refusal as cause}
-use Rattle.store_state.specs.Replies.{push_reply}
+use Rattle.store_state.specs.Replies.{count_reply, push_reply}
 use Rattle.store_state.specs.Meaning.{Meaning}
 use Rattle.store_state.specs.declared.errors.PushError.{PushError}
 use Rattle.store_state.specs.declared.errors.PushError.TheVariants as push
+use Rattle.store_state.specs.declared.rounds.Round.{Round}
+use Rattle.store_state.specs.declared.rounds.Round.TheVariants as round
 use Rattle.traceql_syntax.specs.Trees.{query_tree}
 use Rattle.store_state.specs.Made.{Call, AreMade, call}
 
@@ -61,15 +65,33 @@ IsQueryAnswered tells r calls =
     × (calls ≡ call event.Look (reply.Looked pin files as_of rows) ∷ call (event.Done pin) reply.Fine ∷ [])
     × (tells as_of rows r ⊎ (r ≡ Refused refusal.Memory)))
 
+-- ---- upkeep
+
+-- A cut is told how many rows it moved, or that memory was wanted.
+abbrev pub cut_reply : (ℕ → Reply) → Result ℕ Memory → Reply
+cut_reply tells (Ok moved) = tells moved
+cut_reply tells (Err e) = Refused refusal.Memory
+
+-- A flush is told how many rows its block has, that nothing waited, or why its round was refused.
+abbrev pub flush_reply : Round → Reply
+flush_reply (round.Did blocks rows) = Flushed rows
+flush_reply round.Nothing = NothingFlushed
+flush_reply (round.Refused why) = Refused (refusal.Round why)
+
 -- ---- a request
 
--- A request is answered so, by these calls. A push is one call.
+-- A request is answered so, by these calls. A push and a cut are one call each, and a flush is one round.
 abbrev pub IsRequestAnswered : Request → Reply → List Call → Type 0
 IsRequestAnswered (request.Push reading moment) r calls =
     (answer : Result ℕ PushError) × (r ≡ pushed_reply reading answer)
     × (calls ≡ call (event.Push reading.batch.spans moment) (push_reply answer) ∷ [])
 IsRequestAnswered (request.Trace id) r calls = IsQueryAnswered (IsTraceOf id) r calls
 IsRequestAnswered (request.Search s) r calls = IsQueryAnswered (IsSearchOf s) r calls
+IsRequestAnswered (request.Cut moment) r calls =
+    (answer : Result ℕ Memory) × (r ≡ cut_reply Cut answer) × (calls ≡ call (event.Cut moment) (count_reply answer) ∷ [])
+IsRequestAnswered request.CutAll r calls =
+    (answer : Result ℕ Memory) × (r ≡ cut_reply CutAll answer) × (calls ≡ call event.CutAll (count_reply answer) ∷ [])
+IsRequestAnswered request.Flush r calls = (round : Round) × (r ≡ flush_reply round) × IsFlushRound calls round
 
 -- A request was answered over a port: the port's calls are just those that the request makes.
 pub record HasReplied {P : Type 0} (meaning : Meaning P) (old : P) (asked : Request) (r : Reply) (new : P) : Type 0 where

@@ -1,19 +1,28 @@
 -- What a list of events is answered, and which calls of a port it makes.
-use Rattle.std.specs.Prelude.{◌≡◌, ℕ, List, [], ◌∷◌, ◌++◌, take, Option, Some, None, Result, Ok, Err}
+use Rattle.std.specs.Prelude.{◌≡◌, ℕ, Bool, true, false, List, [], ◌∷◌, ◌++◌, take, Option, Some, None, Result, Ok, Err}
+use Rattle.flusher.specs.Rounds.{Leads, Stage}
+use Rattle.flusher.specs.Rounds.{Stage as stage}
+use Rattle.span_types.specs.declared.errors.Failed.{Failed}
 use Rattle.span_types.specs.declared.errors.Memory.{Memory}
 use Rattle.store_model.specs.Event.{Event as event, Reply as reply, Refusal as refusal}
-use Rattle.store_model.specs.Holds.{Hold}
+use Rattle.store_model.specs.Holds.{Hold, files_of}
 use Rattle.store_model.specs.Holds.Hold.{OpenLook, OpenFlush, OpenCompact}
+use Rattle.store_model.specs.State.{is_among}
 use Rattle.store_state.specs.Meaning.{Meaning}
-use Rattle.store_state.specs.Replies.{push_reply}
+use Rattle.store_state.specs.Replies.{count_reply, push_reply}
 use Rattle.store_state.specs.declared.errors.PushError.{PushError}
+use Rattle.store_state.specs.declared.rounds.Round.{Round}
+use Rattle.store_state.specs.declared.rounds.Step.TheVariants as step
 use Rattle.client_run.specs.declared.event.Event.{Event}
-use Rattle.client_run.specs.declared.event.Event.TheVariants.{Push, Look, Done}
+use Rattle.client_run.specs.declared.event.Event.TheVariants.{Push, Cut, CutAll, FlushStep, Look, Page, Done}
 use Rattle.client_run.specs.declared.event.EventReply.{EventReply}
-use Rattle.client_run.specs.declared.event.EventReply.TheVariants.{Idle, Pushed, Looked, Ended}
+use Rattle.client_run.specs.declared.event.EventReply.TheVariants.{Idle, Pushed, Stepped, Looked, Paged, Ended}
+use Rattle.client_run.specs.declared.event.EventReply.TheVariants as told
 use Rattle.client_run.specs.declared.event.Seen.{Seen}
 use Rattle.store_state.specs.Made.{Call, AreMade, call}
 use Rattle.client_run.specs.Calls.{Looks, after_calls, look_at}
+
+-- ---- looks and pages
 
 -- A look is taken, and what it sees is told; or there is no memory for it.
 abbrev pub IsLookAnswered : Result Seen Memory → List Call → Type 0
@@ -31,27 +40,77 @@ abbrev pub IsEndAnswered : Option Hold → EventReply → List Call → Type 0
 IsEndAnswered None r calls = (r ≡ Idle) × (calls ≡ [])
 IsEndAnswered (Some look) r calls = (r ≡ Ended) × (calls ≡ call (event.Done (pin_of look)) reply.Fine ∷ [])
 
--- An event is answered so, by these calls, where these looks were taken before.
-abbrev pub IsEventAnswered : Looks → Event → EventReply → List Call → Type 0
-IsEventAnswered looks (Push batch moment) r calls =
+abbrev pub page_reply : Result (List ℕ) Failed → reply
+page_reply (Ok bytes) = reply.Page bytes
+page_reply (Err e) = reply.Refused refusal.Fault
+
+-- A page is read of a block that a pin names, if it does.
+abbrev pub IsPageOf : Bool → ℕ → ℕ → ℕ → EventReply → List Call → Type 0
+IsPageOf false pin block page r calls = (r ≡ Idle) × (calls ≡ [])
+IsPageOf true pin block page r calls =
+    (answer : Result (List ℕ) Failed) × (r ≡ Paged answer) × (calls ≡ call (event.ReadPage pin block page) (page_reply answer) ∷ [])
+
+-- A page is read of a block that the pin of an open look names. Where the look isn't open, or names no such block, nothing is done.
+abbrev pub IsPageAnswered : Option Hold → ℕ → ℕ → EventReply → List Call → Type 0
+IsPageAnswered None block page r calls = (r ≡ Idle) × (calls ≡ [])
+IsPageAnswered (Some look) block page r calls = IsPageOf (is_among block (files_of look)) (pin_of look) block page r calls
+
+-- ---- flushes
+
+-- How far the flush is for which a step was made: at its beginning again once its round has ended.
+abbrev pub from_there : Stage → Stage
+from_there (stage.Ended round) = stage.Fresh
+from_there other = other
+
+-- What is told of a step that came so far.
+abbrev pub step_reply : Stage → EventReply
+step_reply (stage.Ended round) = Stepped (step.Ended round)
+step_reply other = Stepped step.More
+
+-- A step makes one call with which the round goes on: whatever calls lead on from the stage after it lead on, behind this one,
+-- from the stage before it.
+abbrev pub IsStepAnswered : Stage → EventReply → List Call → Stage → Type 0
+IsStepAnswered before r calls after =
+    (made : Call) × (reached : Stage) × (calls ≡ made ∷ [])
+    × ((more : List Call) (round : Round) → Leads reached more round → Leads before (made ∷ more) round)
+    × (r ≡ step_reply reached) × (after ≡ from_there reached)
+
+-- ---- events
+
+-- An event but a step of a flush is answered so, by these calls, where these looks were taken before.
+abbrev pub IsAnswered : Looks → Event → EventReply → List Call → Type 0
+IsAnswered looks (Push batch moment) r calls =
     (answer : Result ℕ PushError) × (r ≡ Pushed answer)
     × (calls ≡ call (event.Push batch.spans moment) (push_reply answer) ∷ [])
-IsEventAnswered looks Look r calls = (answer : Result Seen Memory) × (r ≡ Looked answer) × IsLookAnswered answer calls
-IsEventAnswered looks (Done number) r calls = IsEndAnswered (look_at number looks) r calls
+IsAnswered looks (Cut moment) r calls =
+    (answer : Result ℕ Memory) × (r ≡ told.Cut answer) × (calls ≡ call (event.Cut moment) (count_reply answer) ∷ [])
+IsAnswered looks CutAll r calls =
+    (answer : Result ℕ Memory) × (r ≡ told.CutAll answer) × (calls ≡ call event.CutAll (count_reply answer) ∷ [])
+IsAnswered looks FlushStep r calls = ⊥
+IsAnswered looks Look r calls = (answer : Result Seen Memory) × (r ≡ Looked answer) × IsLookAnswered answer calls
+IsAnswered looks (Page number block page) r calls = IsPageAnswered (look_at number looks) block page r calls
+IsAnswered looks (Done number) r calls = IsEndAnswered (look_at number looks) r calls
 
--- Each event is answered in order, with one reply each, by these calls.
-abbrev pub AreEventsAnswered : Looks → List Event → List EventReply → List Call → Type 0
-AreEventsAnswered looks [] replies calls = (replies ≡ []) × (calls ≡ [])
-AreEventsAnswered looks (e ∷ events) [] calls = ⊥
-AreEventsAnswered looks (e ∷ events) (r ∷ replies) calls =
-    (now later : List Call) × (calls ≡ now ++ later) × IsEventAnswered looks e r now
-    × AreEventsAnswered (after_calls now looks) events replies later
+-- An event is answered so, by these calls, where these looks were taken before and the flush was so far; and then it is so far.
+abbrev pub IsEventAnswered : Looks → Stage → Event → EventReply → List Call → Stage → Type 0
+IsEventAnswered looks before FlushStep r calls after = IsStepAnswered before r calls after
+IsEventAnswered looks before e r calls after = IsAnswered looks e r calls × (after ≡ before)
 
--- A list of events was run on a port: the port's calls are just those that the events make, in their order.
+-- Each event is answered in order, with one reply each, by these calls, and the flush comes so far.
+abbrev pub AreEventsAnswered : Looks → Stage → List Event → List EventReply → List Call → Stage → Type 0
+AreEventsAnswered looks before [] replies calls after = (replies ≡ []) × (calls ≡ []) × (after ≡ before)
+AreEventsAnswered looks before (e ∷ events) [] calls after = ⊥
+AreEventsAnswered looks before (e ∷ events) (r ∷ replies) calls after =
+    (now later : List Call) × (between : Stage) × (calls ≡ now ++ later) × IsEventAnswered looks before e r now between
+    × AreEventsAnswered (after_calls now looks) between events replies later after
+
+-- A list of events was run on a port: the port's calls are just those that the events make, in their order. At the end the flush
+-- for which steps were made is so far.
 pub record HasRun {P : Type 0} (meaning : Meaning P) (old : P) (events : List Event) (replies : List EventReply) (new : P) : Type 0 where
   pub calls : List Call
   pub made : AreMade meaning old calls new
-  pub answered : AreEventsAnswered [] events replies calls
+  pub flush : Stage
+  pub answered : AreEventsAnswered [] stage.Fresh events replies calls flush
 
 -- Of a list of events the first few were run, and no others.
 abbrev pub HasRunFirst : {P : Type 0} → Meaning P → P → List Event → P → Type 0

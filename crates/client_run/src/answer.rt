@@ -6,9 +6,10 @@ ghost use Rattle.span_types.specs.First.{IsFirstOf};
 ghost use Rattle.rows_by_trace.specs.Traces.{rows_of_trace};
 ghost use Rattle.session_text.specs.declared.reply.Reply.TheVariants.{Refused};
 ghost use Rattle.session_text.specs.declared.refusal.Refusal.TheVariants.{Memory as ForMemory};
-ghost use Rattle.session_text.specs.declared.request.Request.TheVariants.{Push as AsksPush};
-ghost use Rattle.client_run.specs.Answers.{HasReplied, HasTold, IsSearchOf, IsTraceOf, refusal_of};
+ghost use Rattle.session_text.specs.declared.request.Request.TheVariants.{Push as AsksPush, Cut as AsksCut, CutAll as AsksCutAll, Flush as AsksFlush};
+ghost use Rattle.client_run.specs.Answers.{HasReplied, HasTold, IsSearchOf, IsTraceOf, flush_reply, refusal_of};
 
+use flusher::flush_round;
 use io_edges::Gate;
 use otlp_spans::Reading;
 use search_answer::{Bounds, answer};
@@ -16,15 +17,15 @@ use search_text::printed_fields;
 use session_text::{Refusal, Reply, Request, Search};
 use span_types::{Batch, Memory, Rows, TraceId, first_rows};
 use std::alloc::Global;
-use store_state::{Look, LookPort, PushError};
+use store_state::{FlushPort, Look, LookPort, PushError, Round};
 
 /// Answers a request over a port, for the client with this number.
 ///
-/// A push is one call. A look-up or a search takes one look and gives it back, and tells of the rows of the look, which are all
-/// rows as long as the look's pin names no block. Out of memory a request is refused for that; whether a push was refused the
-/// port says. The gate is passed at twice the client's number before a search is evaluated, and at one more after each push that
+/// A push and a cut are one call each, and a flush is one round. A look-up or a search takes one look and gives it back, and tells
+/// of the rows of the look, which are all rows as long as the look's pin names no block. Out of memory a request is refused for
+/// that; whether a push was refused the port says. The gate is passed at twice the client's number before a search is evaluated, and at one more after each push that
 /// was accepted.
-pub fn answer_request<P: LookPort, G: Gate>(
+pub fn answer_request<P: FlushPort, G: Gate>(
     alloc: Global,
     port: &mut P,
     request: Request,
@@ -42,6 +43,9 @@ pub fn answer_request<P: LookPort, G: Gate>(
             gate.pass(2 * client);
             search_reply(alloc, port, &search)
         }
+        Request::Cut { moment } => cut(port, moment),
+        Request::CutAll => cut_all(port),
+        Request::Flush => flush(alloc, port),
     }
 }
 
@@ -88,6 +92,45 @@ fn push<P: LookPort, G: Gate>(
             }
         }
         Err(error) => Reply::Refused(refusal_of(error)),
+    }
+}
+
+// Moves the idle traces to the head.
+fn cut<P: FlushPort>(port: &mut P, moment: u64) -> Reply
+    ensures { HasReplied P.meaning port.old (AsksCut moment) result port.new }
+{
+    match port.cut(moment) {
+        Ok(moved) => Reply::Cut { moved },
+        Err(Memory) => Reply::Refused(Refusal::Memory),
+    }
+}
+
+// Moves all live traces to the head.
+fn cut_all<P: FlushPort>(port: &mut P) -> Reply
+    ensures { HasReplied P.meaning port.old AsksCutAll result port.new }
+{
+    match port.cut_all() {
+        Ok(moved) => Reply::CutAll { moved },
+        Err(Memory) => Reply::Refused(Refusal::Memory),
+    }
+}
+
+// Makes a block of rows that wait in the head.
+fn flush<P: FlushPort>(alloc: Global, port: &mut P) -> Reply
+    requires { (held : List Hold) × P.meaning.holds port.old held }
+    ensures { HasReplied P.meaning port.old AsksFlush result port.new }
+{
+    flush_reply(flush_round(alloc, port))
+}
+
+// What is told of a flush's round.
+fn flush_reply(round: Round) -> Reply
+    ensures { result ≡ flush_reply round }
+{
+    match round {
+        Round::Did { rows, .. } => Reply::Flushed { rows },
+        Round::Nothing => Reply::NothingFlushed,
+        Round::Refused(why) => Reply::Refused(Refusal::Round(why)),
     }
 }
 

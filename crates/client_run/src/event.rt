@@ -1,7 +1,7 @@
 //! Events and their replies, as plain values.
 
-use span_types::{Batch, Memory, Rows, Seq};
-use store_state::PushError;
+use span_types::{Batch, Bytes, Failed, Memory, Rows, Seq};
+use store_state::{PushError, Step};
 
 /// An event of a store.
 #[derive(Debug, Drop)]
@@ -13,8 +13,26 @@ pub enum Event {
         /// The moment of its coming, in nanoseconds.
         moment: u64,
     },
+    /// The traces that are idle at a moment are moved to the head.
+    Cut {
+        /// The moment, in nanoseconds.
+        moment: u64,
+    },
+    /// All live traces are moved to the head.
+    CutAll,
+    /// The next step of a flush. One step after another they make whole rounds: a step behind the end of a round begins the next.
+    FlushStep,
     /// A look is taken. Looks are numbered from 0 as they are taken; one that is refused has no number.
     Look,
+    /// A page of a block is read.
+    Page {
+        /// The number of the look whose pin names the block.
+        look: u64,
+        /// The block's file.
+        block: u32,
+        /// The page, counted from 0.
+        page: u64,
+    },
     /// A look is given back.
     Done {
         /// Its number.
@@ -34,12 +52,20 @@ pub struct Seen {
 /// What an event is answered.
 #[derive(Debug, Drop)]
 pub enum EventReply {
-    /// The look isn't open: nothing was done.
+    /// The look isn't open, or its pin doesn't name the block: nothing was done.
     Idle,
     /// A push: the number of the new entry, or why it was refused.
     Pushed(Result<u64, PushError>),
+    /// A cut of idle traces: how many rows it moved.
+    Cut(Result<u64, Memory>),
+    /// A cut of all: how many rows it moved.
+    CutAll(Result<u64, Memory>),
+    /// A step of a flush: whether its round goes on, or how it ended.
+    Stepped(Step),
     /// A look: what it sees.
     Looked(Result<Seen, Memory>),
+    /// A page: its 4,096 bytes.
+    Paged(Result<Bytes, Failed>),
     /// The look was given back.
     Ended,
 }

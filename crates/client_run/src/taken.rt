@@ -1,15 +1,16 @@
 //! The looks of a run of events.
 
-ghost use Rattle.std.specs.Prelude.{◌≡◌, ◌++◌, ◌∷◌, [], Some, None, map, option_map, if◌then◌else◌, IfSome, IfNone};
+ghost use Rattle.std.specs.Prelude.{◌≡◌, ◌++◌, ◌∷◌, [], Some, None, map, option_map, if◌then◌else◌, IfSome, IfNone, true};
 ghost use Rattle.store_model.specs.Event.Event.{Done};
 ghost use Rattle.store_model.specs.Event.Reply.{Fine};
-ghost use Rattle.store_state.specs.Given.{look_of};
+ghost use Rattle.store_model.specs.State.{is_among};
+ghost use Rattle.store_state.specs.Given.{info_files, look_of};
 ghost use Rattle.store_state.specs.Made.{call};
 ghost use Rattle.client_run.specs.Calls.{look_at, unless_ended};
-ghost use Rattle.client_run.specs.Taken.{looks_of};
+ghost use Rattle.client_run.specs.Taken.{NamesNo, looks_of};
 
 use span_types::Memory;
-use store_state::Look;
+use store_state::{Look, Pin};
 
 // The look with this number, if it is open. It is open no more, and neither is another one under its pin.
 pub(crate) fn end_look(looks: &mut Vec<Option<Look>>, number: u64) -> Option<Look>
@@ -55,4 +56,37 @@ fn is_under(look: &Option<Look>, pin: u64) -> bool
         Some(look) => look.pin.number == pin,
         None => false,
     }
+}
+
+// The look with this number, if it is open and its pin names the block.
+pub(crate) fn look_with(looks: &[Option<Look>], number: u64, block: u32) -> Option<&Look>
+    ensures none { IfNone result (NamesNo (look_at number (looks_of looks.now)) block) }
+    ensures open { IfSome result (λ look. look_at number (looks_of looks.now) ≡ Some (look_of look.now)) }
+    ensures named { IfSome result (λ look. is_among block (info_files look.now.pin.blocks) ≡ true) }
+{
+    let look = open_look(looks, number)?;
+    if names(&look.pin, block) {
+        Some(look)
+    } else {
+        None
+    }
+}
+
+// The look with this number, if it is open.
+fn open_look(looks: &[Option<Look>], number: u64) -> Option<&Look>
+    ensures none { IfNone result (look_at number (looks_of looks.now) ≡ None) }
+    ensures open { IfSome result (λ look. look_at number (looks_of looks.now) ≡ Some (look_of look.now)) }
+{
+    if number >= looks.len() as u64 {
+        return None;
+    }
+    looks[number as usize].as_ref()
+}
+
+// Whether a pin names a block.
+fn names(pin: &Pin, block: u32) -> bool
+    ensures { result ≡ is_among block (info_files pin.now.blocks) }
+{
+    let infos = pin.blocks.as_slice();
+    infos.iter().any(|info| info.get().file == block)
 }

@@ -1,79 +1,50 @@
 -- What is answered by calls is answered as the history says.
-use Rattle.std.proofs.Common.{◌≡◌, ◌⊎◌, inl, inr, ℕ, ◌≤◌, List, [], ◌∷◌, ◌++◌, Ok, Err, append-nil, arith, refl, sym, ◌∙◌, ap, subst}
-use Rattle.span_types.specs.declared.ids.Key.{Key}
+use Rattle.std.specs.Prelude.{⊤}
+use Rattle.std.proofs.Common.{◌≡◌, ◌⊎◌, inl, inr, ℕ, Bool, true, false, List, [], ◌∷◌, ◌++◌, Result, Ok, Err, refl, sym, ◌∙◌, ap, subst}
 use Rattle.span_types.specs.declared.ids.TraceId.{TraceId}
 use Rattle.span_types.specs.declared.spans.Row.{Row}
 use Rattle.span_types.specs.declared.spans.Span.{Span}
-use Rattle.span_types.specs.First.{first_at}
 use Rattle.span_types.proofs.FirstLaws.{firsts_alike}
+use Rattle.query_fanout.specs.Queries.{Sound, TellsOf}
+use Rattle.query_fanout.specs.SearchAnswers.{IsSearchAnswer}
+use Rattle.query_fanout.specs.TraceAnswers.{IsTraceAnswer}
+use Rattle.query_fanout.specs.declared.error.QueryError.{QueryError}
+use Rattle.query_fanout.specs.declared.error.QueryError.TheVariants as error
+use Rattle.query_fanout.specs.declared.search.SearchAnswer.{SearchAnswer}
+use Rattle.query_fanout.specs.declared.trace.TraceAnswer.{TraceAnswer}
+use Rattle.search_text.specs.Fields.{printed_fields}
+use Rattle.spanset_eval.specs.declared.results.TraceResult.{TraceResult}
+use Rattle.traceql_syntax.specs.Trees.{query_tree}
 use Rattle.session_text.specs.declared.reply.Reply.{Reply}
-use Rattle.session_text.specs.declared.reply.Reply.TheVariants.{Refused}
-use Rattle.session_text.specs.declared.refusal.Refusal.TheVariants.{Memory}
+use Rattle.session_text.specs.declared.reply.Reply.TheVariants.{Refused, Searched, Traced}
+use Rattle.session_text.specs.declared.refusal.Refusal.{Refusal}
+use Rattle.session_text.specs.declared.refusal.Refusal.TheVariants.{DiskFault, Memory, Round}
 use Rattle.session_text.specs.declared.request.Request.TheVariants as request
 use Rattle.session_text.specs.declared.request.Search.{Search}
 use Rattle.session_text.specs.Items.{Item}
+use Rattle.store_model.specs.Cut.{is_idle}
 use Rattle.store_model.specs.Event.{Event as event, Reply as reply}
-use Rattle.store_model.specs.History.{count_of, history_rows}
+use Rattle.store_model.specs.History.{History, count_of, history_rows}
 use Rattle.store_model.specs.Laws.{Agrees}
-use Rattle.store_model.specs.State.{Block, block_rows}
 use Rattle.store_model.specs.Step.{Machine, Step}
 use Rattle.store_model.proofs.KeepsFirsts as firsts
 use Rattle.store_model.proofs.Outcomes.{kept_by}
 use Rattle.store_images.specs.Stored.{SameFirsts}
-use Rattle.otlp_spans.specs.declared.read.Reading.{Reading}
-use Rattle.store_state.specs.Replies.{push_reply}
-use Rattle.client_run.specs.Answers.{IsQueryAnswered, IsRequestAnswered, IsSearchOf, IsTraceOf}
-use Rattle.store_state.specs.Made.{Call}
+use Rattle.store_state.specs.Replies.{count_reply, push_reply}
+use Rattle.store_state.specs.Made.{Call, call}
+use Rattle.store_state.specs.declared.rounds.Refusal.TheVariants as cause
+use Rattle.client_run.specs.Answers.{IsSearchTold, TellsHistory, asked_of, query_refusal, trace_reply}
 use Rattle.client_run.specs.CoreRuns.{AreSteps}
 use Rattle.session_meaning.specs.Answering.{AreItemsAnswered, CallsLead, IsItemAnswered}
-use Rattle.session_meaning.specs.Session.{At, IsAnswered, IsAnsweredOrStarved, Session}
+use Rattle.session_meaning.specs.At.{At, IsStep, IsStill, history_of}
+use Rattle.session_meaning.specs.Causes.{HasQueryCause}
+use Rattle.session_meaning.specs.Session.{IsAnswered, IsAnsweredOrRefused, IsSure, Session}
+use Rattle.session_meaning.specs.Upkeep.{IsClosed}
+use Rattle.session_meaning.proofs.CutLaws.{cut_closes, cuts_all, cuts_idle}
 use Rattle.session_meaning.proofs.Firsts.{trace_alike}
-use Rattle.session_meaning.proofs.Looks.{look_ended, look_refused, look_taken, still_after}
-
--- ---- what a query's calls tell
-
-looked_same : (p q : ℕ) (fs gs : List ℕ) (a b : ℕ) (rs ss : List Row) → reply.Looked p fs a rs ≡ reply.Looked q gs b ss → (p ≡ q) × (a ≡ b) × (rs ≡ ss)
-looked_same p q fs gs a b rs ss e = (cc, cc, cc)
-
--- the rows of a look over no block have the first occurrences of the history
-look_firsts : (m : Machine) (rows : List Row) → m.state.blocks ≡ [] → ((k : Key) → first_at k (rows ++ block_rows m.state.blocks) ≡ first_at k (history_rows m.history))
-    → SameFirsts rows (history_rows m.history)
-look_firsts m rows none same k =
-    ap (first_at k) (sym (append-nil rows)) ∙ ap (λ (blocks : List Block). first_at k (rows ++ block_rows blocks)) (sym none) ∙ same k
-
--- It is told of rows with the first occurrences of the history, as of the history's length, or memory was wanted; and nothing of
--- the store changed.
-record Queried (tells : ℕ → List Row → Reply → Type 0) (before : ℕ) (m : Machine) (r : Reply) (after : ℕ) (m' : Machine) : Type 0 where
-  same : m' ≡ m
-  later : before ≤ after
-  told : ((rows : List Row) × SameFirsts rows (history_rows m.history) × tells (count_of m.history) rows r) ⊎ (r ≡ Refused Memory)
-
-later_twice : (a b c d : ℕ) → a ≤ b → b ≤ c → d ≡ c → a ≤ d
-later_twice a b c d first second is = omega (arith, first, second, is)
-
-queried : (tells : ℕ → List Row → Reply → Type 0) (before : ℕ) (m : Machine) (r : Reply) (after : ℕ) (m' : Machine) (calls : List Call)
-    → Agrees m → m.state.blocks ≡ [] → IsQueryAnswered tells r calls → AreSteps before m calls after m' → Queried tells before m r after m'
-queried tells before m r after m' calls agrees none (inl (are, told)) steps =
-    let s = subst (λ (cs : List Call). AreSteps before m cs after m') are steps in record {
-      same = s.4.1 ∙ look_refused before s.0 m s.1 s.3;
-      later = subst (λ (n : ℕ). before ≤ n) (sym s.4.0) s.2;
-      told = inr told;
-    }
-queried tells before m r after m' calls agrees none (inr (pin, files, as_of, rows, are, told)) steps =
-    let s = subst (λ (cs : List Call). AreSteps before m cs after m') are steps in
-    let look = look_taken before s.0 m s.1 pin files as_of rows s.3 in
-    let same = looked_same pin look.0 files _ as_of (count_of m.history) rows look.1 look.4 in
-    let ended = look_ended s.0 s.4.0 s.1 s.4.1 pin s.4.3 in record {
-      same = s.4.4.1 ∙ still_after m s.1 s.4.1 pin look.0 look.2 same.0 look.5 ended;
-      later = later_twice before s.0 s.4.0 after s.2 s.4.2 s.4.4.0;
-      told = with_rows look.1 (look_firsts m look.1 none (firsts.look_is m look.1 agrees look.3)) same.1 same.2 told;
-    }
-  where
-    with_rows : (its : List Row) → SameFirsts its (history_rows m.history) → as_of ≡ count_of m.history → rows ≡ its → tells as_of rows r ⊎ (r ≡ Refused Memory)
-        → ((rows : List Row) × SameFirsts rows (history_rows m.history) × tells (count_of m.history) rows r) ⊎ (r ≡ Refused Memory)
-    with_rows its have count are (inl told) =
-        inl (its, have, subst (λ (n : ℕ). tells n its r) count (subst (λ (rs : List Row). tells as_of rs r) are told))
-    with_rows its have count are (inr memory) = inr memory
+use Rattle.session_meaning.proofs.FlushLaws.{flush_closes, flush_keeps}
+use Rattle.session_meaning.proofs.QueryLaws.{Says, asked_says, told_exactly}
+use Rattle.session_meaning.proofs.Rounds.{one_step, round_does}
 
 -- ---- one item
 
@@ -81,80 +52,237 @@ at_same : (before after : At) → after.faults ≡ before.faults → after.machi
 at_same before after faults machine =
     ap (λ (n : ℕ). record { machine = after.machine; faults = n }) faults ∙ ap (λ (m : Machine). record { machine = m; faults = before.faults }) machine
 
-trace_means : (id : TraceId) (before after : At) (r : Reply) → Queried (IsTraceOf id) before.faults before.machine r after.faults after.machine
-    → IsAnsweredOrStarved (Ok (request.Trace id)) before r after
-trace_means id before after r q = by_told q.told
-  where
-    by_told : ((rows : List Row) × SameFirsts rows (history_rows before.machine.history) × IsTraceOf id (count_of before.machine.history) rows r) ⊎ (r ≡ Refused Memory)
-        → IsAnsweredOrStarved (Ok (request.Trace id)) before r after
-    by_told (inl (rows, same, (found, are, told))) =
-        inl (found, trace_alike id rows (history_rows before.machine.history) found same are, told, (q.same, q.later))
-    by_told (inr memory) = inr (memory, (q.same, q.later))
+-- it isn't sure what a query tells, whatever the blocks hold, but where there is none
+unsure : {T : Type 0} (before : At) → (before.machine.state.blocks ≡ [] → T) → IsSure false before → T
+unsure before have (inl bad) = let no : ⊥ = cc in absurd no
+unsure before have (inr none) = have none
 
-search_means : (s : Search) (before after : At) (r : Reply) → Queried (IsSearchOf s) before.faults before.machine r after.faults after.machine
-    → IsAnsweredOrStarved (Ok (request.Search s)) before r after
-search_means s before after r q = by_told q.told
-  where
-    by_told : ((rows : List Row) × SameFirsts rows (history_rows before.machine.history) × IsSearchOf s (count_of before.machine.history) rows r) ⊎ (r ≡ Refused Memory)
-        → IsAnsweredOrStarved (Ok (request.Search s)) before r after
-    by_told (inl (rows, same, (found, results, are, answer, told))) =
-        inl (
-          results,
-          record { rows = found; firsts = firsts_alike rows (history_rows before.machine.history) found same are; answer = answer },
-          told,
-          (q.same, q.later),
-        )
-    by_told (inr memory) = inr (memory, (q.same, q.later))
+-- ---- a look-up
 
-push_means : (reading : Reading) (moment : ℕ) (before after : At) (r : Reply) (calls : List Call) → IsRequestAnswered (request.Push reading moment) r calls
-    → AreSteps before.faults before.machine calls after.faults after.machine → IsAnswered (Ok (request.Push reading moment)) before r after
-push_means reading moment before after r calls (answer, told, are) steps =
-    let s = subst (λ (cs : List Call). AreSteps before.faults before.machine cs after.faults after.machine) are steps in (
-      answer,
-      told,
-      subst (λ (n : ℕ). before.faults ≤ n) (sym s.4.0) s.2,
-      subst (λ (n : ℕ). Step before.faults n before.machine (event.Push reading.batch.spans moment) (push_reply answer) after.machine) (sym s.4.0)
-          (subst (λ (m : Machine). Step before.faults s.0 before.machine (event.Push reading.batch.spans moment) (push_reply answer) m) (sym s.4.1) s.3),
+-- What it is told of these rows, which have the first occurrences of the history where the answer is sure.
+traced : (told : Bool) (id : TraceId) (before after : At) (r : Reply) (rows : List Row) (answer : TraceAnswer) → r ≡ trace_reply (Ok answer) → IsStill before after
+    → (IsSure told before → SameFirsts rows (history_rows (history_of before))) → IsTraceAnswer id (count_of (history_of before)) rows answer
+    → IsAnsweredOrRefused told (Ok (request.Trace id)) before r after
+traced told id before after r rows answer is still same tells =
+    inl (
+      answer.rows,
+      (λ sure. trace_alike id rows (history_rows (history_of before)) answer.rows (same sure) tells.firsts),
+      is ∙ ap (λ (n : ℕ). Traced n answer.rows) tells.count,
+      still,
     )
 
-pub item_means : (item : Item) (before after : At) (r : Reply) (calls : List Call) → Agrees before.machine → before.machine.state.blocks ≡ []
-    → IsItemAnswered item r calls → CallsLead before calls after → IsAnsweredOrStarved item before r after
-item_means (Ok (request.Push reading moment)) before after r calls agrees none a steps = inl (push_means reading moment before after r calls a steps)
-item_means (Ok (request.Trace id)) before after r calls agrees none a steps =
-    trace_means id before after r (queried (IsTraceOf id) before.faults before.machine r after.faults after.machine calls agrees none a steps)
-item_means (Ok (request.Search s)) before after r calls agrees none a steps =
-    search_means s before after r (queried (IsSearchOf s) before.faults before.machine r after.faults after.machine calls agrees none a steps)
-item_means (Err why) before after r calls agrees none a steps =
-    let s = subst (λ (cs : List Call). AreSteps before.faults before.machine cs after.faults after.machine) a.1 steps in
-    inl (a.0, at_same before after s.0 s.1)
+refused : (told : Bool) (id : TraceId) (before after : At) (r : Reply) (why : Refusal) → r ≡ Refused why → HasQueryCause told why before after → IsStill before after
+    → IsAnsweredOrRefused told (Ok (request.Trace id)) before r after
+refused told id before after r why is holds still = inr (why, is, holds, still)
+
+-- Whatever the blocks hold.
+trace_means : (id : TraceId) (before after : At) (r : Reply) (answer : Result TraceAnswer QueryError) → r ≡ trace_reply answer → IsStill before after
+    → Says (IsTraceAnswer id) answer before after → IsAnsweredOrRefused false (Ok (request.Trace id)) before r after
+trace_means id before after r (Ok answer) is still (rows, same, tells) = traced false id before after r rows answer is still (unsure before same) tells
+trace_means id before after r (Err error.Fault) is still rose = refused false id before after r DiskFault is rose still
+trace_means id before after r (Err (error.NotBlock file at)) is still among = refused false id before after r (Round (cause.NotBlock file at)) is (refl, among) still
+trace_means id before after r (Err error.Memory) is still any = refused false id before after r Memory is tt still
+
+same_traced : (a b : ℕ) (rows more : List Row) → Traced a rows ≡ Traced b more → (a ≡ b) × (rows ≡ more)
+same_traced a b rows more e = (cc, cc)
+
+same_trace : (a b : TraceAnswer) → a.as_of ≡ b.as_of → a.rows ≡ b.rows → a ≡ b
+same_trace a b as_of rows = ap (λ (n : ℕ). record { as_of = n; rows = a.rows }) as_of ∙ ap (λ (rs : List Row). record { as_of = b.as_of; rows = rs }) rows
+
+-- Where what they hold is told.
+trace_told : (id : TraceId) (before after : At) (r : Reply) (answer other : Result TraceAnswer QueryError) → r ≡ trace_reply answer → IsStill before after
+    → Says (IsTraceAnswer id) answer before after → r ≡ trace_reply other → Sound (TellsOf (IsTraceAnswer id) (history_of before)) other
+    → IsAnsweredOrRefused true (Ok (request.Trace id)) before r after
+trace_told id before after r (Ok answer) (Ok other) is still (rows, same, tells) also sound =
+    let equal = same_traced answer.as_of other.as_of answer.rows other.rows (sym is ∙ also) in
+    let own : TellsOf (IsTraceAnswer id) (history_of before) answer =
+    subst (λ (x : TraceAnswer). TellsOf (IsTraceAnswer id) (history_of before) x) (sym (same_trace answer other equal.0 equal.1)) sound in
+    traced true id before after r (history_rows (history_of before)) answer is still (λ sure k. refl)
+    (told_exactly (IsTraceAnswer id) (λ (x : TraceAnswer). x.as_of) (λ n rs x t. t.count) (history_of before) rows answer tells own)
+trace_told id before after r (Ok answer) (Err why) is still says also sound = let bad : ⊥ = (let e = sym is ∙ also in cc) in absurd bad
+trace_told id before after r (Err error.Fault) other is still rose also sound = refused true id before after r DiskFault is rose still
+trace_told id before after r (Err (error.NotBlock file at)) (Ok other) is still among also sound = let bad : ⊥ = (let e = sym is ∙ also in cc) in absurd bad
+trace_told id before after r (Err (error.NotBlock file at)) (Err error.Fault) is still among also sound = let bad : ⊥ = (let e = sym is ∙ also in cc) in absurd bad
+trace_told id before after r (Err (error.NotBlock file at)) (Err (error.NotBlock f a)) is still among also sound = absurd sound
+trace_told id before after r (Err (error.NotBlock file at)) (Err error.Memory) is still among also sound = let bad : ⊥ = (let e = sym is ∙ also in cc) in absurd bad
+trace_told id before after r (Err error.Memory) other is still any also sound = refused true id before after r Memory is tt still
+
+-- ---- a search
+
+abbrev fields_of : Search → List (List ℕ)
+fields_of s = printed_fields (query_tree s.checked.query)
+
+found : (told : Bool) (s : Search) (before after : At) (r : Reply) (rows : List Row) (answer : SearchAnswer) → r ≡ Searched answer.as_of (fields_of s) answer.results → IsStill before after
+    → (IsSure told before → SameFirsts rows (history_rows (history_of before))) → IsSearchAnswer (asked_of s) (count_of (history_of before)) rows answer
+    → IsAnsweredOrRefused told (Ok (request.Search s)) before r after
+found told s before after r rows answer is still same tells =
+    inl (
+      answer.results,
+      (λ sure. record {
+        rows = tells.firsts;
+        firsts = firsts_alike rows (history_rows (history_of before)) tells.firsts (same sure) tells.are_first;
+        answer = tells.found;
+      }),
+      is ∙ ap (λ (n : ℕ). Searched n (fields_of s) answer.results) tells.count,
+      still,
+    )
+
+not_found : (told : Bool) (s : Search) (before after : At) (r : Reply) (why : Refusal) → r ≡ Refused why → HasQueryCause told why before after → IsStill before after
+    → IsAnsweredOrRefused told (Ok (request.Search s)) before r after
+not_found told s before after r why is holds still = inr (why, is, holds, still)
+
+search_means : (s : Search) (before after : At) (r : Reply) (answer : Result SearchAnswer QueryError) → IsSearchTold (asked_of s) answer r → IsStill before after
+    → Says (IsSearchAnswer (asked_of s)) answer before after → IsAnsweredOrRefused false (Ok (request.Search s)) before r after
+search_means s before after r (Ok answer) (inl is) still (rows, same, tells) = found false s before after r rows answer is still (unsure before same) tells
+search_means s before after r (Ok answer) (inr is) still says = not_found false s before after r Memory is tt still
+search_means s before after r (Err error.Fault) is still rose = not_found false s before after r DiskFault is rose still
+search_means s before after r (Err (error.NotBlock file at)) is still among = not_found false s before after r (Round (cause.NotBlock file at)) is (refl, among) still
+search_means s before after r (Err error.Memory) is still any = not_found false s before after r Memory is tt still
+
+same_searched : (a b : ℕ) (fields : List (List ℕ)) (results more : List TraceResult) → Searched a fields results ≡ Searched b fields more → (a ≡ b) × (results ≡ more)
+same_searched a b fields results more e = (cc, cc)
+
+same_search : (a b : SearchAnswer) → a.as_of ≡ b.as_of → a.results ≡ b.results → a ≡ b
+same_search a b as_of results = ap (λ (n : ℕ). record { as_of = n; results = a.results }) as_of ∙ ap (λ (rs : List TraceResult). record { as_of = b.as_of; results = rs }) results
+
+not_refused : (as_of : ℕ) (fields : List (List ℕ)) (results : List TraceResult) (why : Refusal) → Searched as_of fields results ≡ Refused why → ⊥
+not_refused as_of fields results why e = cc
+
+search_told : (s : Search) (before after : At) (r : Reply) (answer other : Result SearchAnswer QueryError) → IsSearchTold (asked_of s) answer r → IsStill before after
+    → Says (IsSearchAnswer (asked_of s)) answer before after → IsSearchTold (asked_of s) other r → Sound (TellsOf (IsSearchAnswer (asked_of s)) (history_of before)) other
+    → IsAnsweredOrRefused true (Ok (request.Search s)) before r after
+search_told s before after r (Ok answer) (Ok other) (inl is) still (rows, same, tells) (inl also) sound =
+    let equal = same_searched answer.as_of other.as_of (fields_of s) answer.results other.results (sym is ∙ also) in
+    let own : TellsOf (IsSearchAnswer (asked_of s)) (history_of before) answer =
+    subst (λ (x : SearchAnswer). TellsOf (IsSearchAnswer (asked_of s)) (history_of before) x) (sym (same_search answer other equal.0 equal.1)) sound in
+    found true s before after r (history_rows (history_of before)) answer is still (λ sure k. refl)
+    (told_exactly (IsSearchAnswer (asked_of s)) (λ (x : SearchAnswer). x.as_of) (λ n rs x t. t.count) (history_of before) rows answer tells own)
+search_told s before after r (Ok answer) (Ok other) (inl is) still says (inr also) sound =
+    absurd (not_refused answer.as_of (fields_of s) answer.results Memory (sym is ∙ also))
+search_told s before after r (Ok answer) (Err why) (inl is) still says also sound =
+    absurd (not_refused answer.as_of (fields_of s) answer.results (query_refusal why) (sym is ∙ also))
+search_told s before after r (Ok answer) other (inr is) still says also sound = not_found true s before after r Memory is tt still
+search_told s before after r (Err error.Fault) other is still rose also sound = not_found true s before after r DiskFault is rose still
+search_told s before after r (Err (error.NotBlock file at)) (Ok other) is still among (inl also) sound =
+    absurd (not_refused other.as_of (fields_of s) other.results (query_refusal (error.NotBlock file at)) (sym also ∙ is))
+search_told s before after r (Err (error.NotBlock file at)) (Ok other) is still among (inr also) sound = let bad : ⊥ = (let e = sym is ∙ also in cc) in absurd bad
+search_told s before after r (Err (error.NotBlock file at)) (Err error.Fault) is still among also sound = let bad : ⊥ = (let e = sym is ∙ also in cc) in absurd bad
+search_told s before after r (Err (error.NotBlock file at)) (Err (error.NotBlock f a)) is still among also sound = absurd sound
+search_told s before after r (Err (error.NotBlock file at)) (Err error.Memory) is still among also sound = let bad : ⊥ = (let e = sym is ∙ also in cc) in absurd bad
+search_told s before after r (Err error.Memory) other is still any also sound = not_found true s before after r Memory is tt still
+
+-- ---- any item
+
+-- A line that isn't a query is answered as its calls say, whatever the blocks hold.
+by_call : (e : event) (r : reply) (before after : At) (calls : List Call) → calls ≡ call e r ∷ [] → CallsLead before calls after → IsStep before e r after
+by_call e r before after calls are lead = one_step before after e r (subst (λ (cs : List Call). CallsLead before cs after) are lead)
+
+abbrev pub IsQuery : Item → Type 0
+IsQuery (Ok (request.Trace id)) = ⊤
+IsQuery (Ok (request.Search s)) = ⊤
+IsQuery _ = ⊥
+
+pub line_means : (told : Bool) (item : Item) (before after : At) (r : Reply) (calls : List Call) → (IsQuery item → ⊥) → IsItemAnswered item r calls → CallsLead before calls after
+    → IsAnswered told item before r after
+line_means told (Ok (request.Push reading moment)) before after r calls none (answer, is, are) lead =
+    (answer, is, by_call (event.Push reading.batch.spans moment) (push_reply answer) before after calls are lead)
+line_means told (Ok (request.Trace id)) before after r calls none a lead = absurd (none tt)
+line_means told (Ok (request.Search s)) before after r calls none a lead = absurd (none tt)
+line_means told (Ok (request.Cut moment)) before after r calls none (answer, is, are) lead =
+    (answer, is, by_call (event.Cut moment) (count_reply answer) before after calls are lead)
+line_means told (Ok request.CutAll) before after r calls none (answer, is, are) lead =
+    (answer, is, by_call event.CutAll (count_reply answer) before after calls are lead)
+line_means told (Ok request.Flush) before after r calls none (round, is, leads) lead = (round, is, round_does calls round before after leads lead)
+line_means told (Err why) before after r calls none a lead =
+    let s = subst (λ (cs : List Call). CallsLead before cs after) a.1 lead in (a.0, at_same before after s.0 s.1)
+
+pub item_means : (item : Item) (before after : At) (r : Reply) (calls : List Call) → Agrees before.machine → IsItemAnswered item r calls → CallsLead before calls after
+    → IsAnsweredOrRefused false item before r after
+item_means (Ok (request.Push reading moment)) before after r calls agrees a lead = inl (line_means false (Ok (request.Push reading moment)) before after r calls (λ q. q) a lead)
+item_means (Ok (request.Trace id)) before after r calls agrees (answer, is, asked) lead =
+    let says = asked_says (IsTraceAnswer id) answer before after calls agrees asked lead in trace_means id before after r answer is says.0 says.1
+item_means (Ok (request.Search s)) before after r calls agrees (answer, is, asked) lead =
+    let says = asked_says (IsSearchAnswer (asked_of s)) answer before after calls agrees asked lead in search_means s before after r answer is says.0 says.1
+item_means (Ok (request.Cut moment)) before after r calls agrees a lead = inl (line_means false (Ok (request.Cut moment)) before after r calls (λ q. q) a lead)
+item_means (Ok request.CutAll) before after r calls agrees a lead = inl (line_means false (Ok request.CutAll) before after r calls (λ q. q) a lead)
+item_means (Ok request.Flush) before after r calls agrees a lead = inl (line_means false (Ok request.Flush) before after r calls (λ q. q) a lead)
+item_means (Err why) before after r calls agrees a lead = inl (line_means false (Err why) before after r calls (λ q. q) a lead)
+
+-- What is told of the history by the way.
+abbrev pub IsItemTold : History → Item → Reply → Type 0
+IsItemTold h (Ok asked) r = TellsHistory h asked r
+IsItemTold h (Err why) r = ⊤
+
+-- The same where what the blocks hold is told.
+pub item_means_told : (item : Item) (before after : At) (r : Reply) (calls : List Call) → Agrees before.machine → IsItemAnswered item r calls → CallsLead before calls after
+    → IsItemTold (history_of before) item r → IsAnsweredOrRefused true item before r after
+item_means_told (Ok (request.Push reading moment)) before after r calls agrees a lead t = inl (line_means true (Ok (request.Push reading moment)) before after r calls (λ q. q) a lead)
+item_means_told (Ok (request.Trace id)) before after r calls agrees (answer, is, asked) lead (other, also, sound) =
+    let says = asked_says (IsTraceAnswer id) answer before after calls agrees asked lead in trace_told id before after r answer other is says.0 says.1 also sound
+item_means_told (Ok (request.Search s)) before after r calls agrees (answer, is, asked) lead (other, also, sound) =
+    let says = asked_says (IsSearchAnswer (asked_of s)) answer before after calls agrees asked lead in search_told s before after r answer other is says.0 says.1 also sound
+item_means_told (Ok (request.Cut moment)) before after r calls agrees a lead t = inl (line_means true (Ok (request.Cut moment)) before after r calls (λ q. q) a lead)
+item_means_told (Ok request.CutAll) before after r calls agrees a lead t = inl (line_means true (Ok request.CutAll) before after r calls (λ q. q) a lead)
+item_means_told (Ok request.Flush) before after r calls agrees a lead t = inl (line_means true (Ok request.Flush) before after r calls (λ q. q) a lead)
+item_means_told (Err why) before after r calls agrees a lead t = inl (line_means true (Err why) before after r calls (λ q. q) a lead)
 
 -- ---- what an item keeps of the store
 
-abbrev KeptByPushes : (Machine → Type 0) → Type 0
-KeptByPushes P = (f g : ℕ) (m m' : Machine) (spans : List Span) (moment : ℕ) (r : reply) → Step f g m (event.Push spans moment) r m' → P m → P m'
+abbrev IsKeptByAll : (Machine → Type 0) → Type 0
+IsKeptByAll P = (f g : ℕ) (m m' : Machine) (e : event) (r : reply) → Step f g m e r m' → P m → P m'
 
--- What pushes keep all items keep.
-item_keeps : (P : Machine → Type 0) → KeptByPushes P → (item : Item) (before after : At) (r : Reply) → IsAnsweredOrStarved item before r after
+-- What all steps keep all items keep.
+item_keeps : (P : Machine → Type 0) → IsKeptByAll P → (told : Bool) (item : Item) (before after : At) (r : Reply) → IsAnsweredOrRefused told item before r after
     → P before.machine → P after.machine
-item_keeps P push (Ok (request.Push reading moment)) before after r (inl (answer, told, later, step)) is =
-    push before.faults after.faults before.machine after.machine reading.batch.spans moment (push_reply answer) step is
-item_keeps P push (Ok (request.Push reading moment)) before after r (inr bad) is = absurd bad
-item_keeps P push (Ok (request.Trace id)) before after r (inl (rows, found, told, still)) is = subst P (sym still.0) is
-item_keeps P push (Ok (request.Trace id)) before after r (inr (memory, still)) is = subst P (sym still.0) is
-item_keeps P push (Ok (request.Search s)) before after r (inl (results, found, told, still)) is = subst P (sym still.0) is
-item_keeps P push (Ok (request.Search s)) before after r (inr (memory, still)) is = subst P (sym still.0) is
-item_keeps P push (Err why) before after r (inl (told, same)) is = subst (λ (at : At). P at.machine) (sym same) is
-item_keeps P push (Err why) before after r (inr bad) is = absurd bad
+item_keeps P keeps told (Ok (request.Push reading moment)) before after r (inl (answer, is, step)) has =
+    keeps before.faults after.faults before.machine after.machine (event.Push reading.batch.spans moment) (push_reply answer) step.1 has
+item_keeps P keeps told (Ok (request.Trace id)) before after r (inl (rows, found, is, still)) has = subst P (sym still.0) has
+item_keeps P keeps told (Ok (request.Trace id)) before after r (inr (why, is, holds, still)) has = subst P (sym still.0) has
+item_keeps P keeps told (Ok (request.Search s)) before after r (inl (results, found, is, still)) has = subst P (sym still.0) has
+item_keeps P keeps told (Ok (request.Search s)) before after r (inr (why, is, holds, still)) has = subst P (sym still.0) has
+item_keeps P keeps told (Ok (request.Cut moment)) before after r (inl (answer, is, step)) has =
+    keeps before.faults after.faults before.machine after.machine (event.Cut moment) (count_reply answer) step.1 has
+item_keeps P keeps told (Ok request.CutAll) before after r (inl (answer, is, step)) has =
+    keeps before.faults after.faults before.machine after.machine event.CutAll (count_reply answer) step.1 has
+item_keeps P keeps told (Ok request.Flush) before after r (inl (round, is, flushed)) has =
+    flush_keeps P (λ f g m m' e x none step had. keeps f g m m' e x step had) before round after flushed has
+item_keeps P keeps told (Err why) before after r (inl (is, same)) has = subst (λ (at : At). P at.machine) (sym same) has
+item_keeps P keeps told (Ok (request.Push reading moment)) before after r (inr bad) has = absurd bad
+item_keeps P keeps told (Ok (request.Cut moment)) before after r (inr bad) has = absurd bad
+item_keeps P keeps told (Ok request.CutAll) before after r (inr bad) has = absurd bad
+item_keeps P keeps told (Ok request.Flush) before after r (inr bad) has = absurd bad
+item_keeps P keeps told (Err why) before after r (inr bad) has = absurd bad
 
-abbrev HasNoBlocks : Machine → Type 0
-HasNoBlocks m = m.state.blocks ≡ []
+pub item_keeps_agreeing : (told : Bool) (item : Item) (before after : At) (r : Reply) → IsAnsweredOrRefused told item before r after → Agrees before.machine → Agrees after.machine
+item_keeps_agreeing = item_keeps Agrees (λ f g m m' e r step is. firsts.step_keeps f g m m' e r is step)
 
-pushes_keep_agreeing : KeptByPushes Agrees
-pushes_keep_agreeing f g m m' spans moment r step is = firsts.step_keeps f g m m' (event.Push spans moment) r is step
+-- ---- what an item keeps closed
 
-pushes_keep_no_blocks : KeptByPushes HasNoBlocks
-pushes_keep_no_blocks f g m m' spans moment r step none = kept_by HasNoBlocks f g m m' (event.Push spans moment) r none none (λ gone free. none)
-    (λ early done. ap (λ (n : Machine). n.state.blocks) done.1 ∙ none) step
+pushed_closes : (f g : ℕ) (m m' : Machine) (spans : List Span) (moment : ℕ) (r : reply) → Step f g m (event.Push spans moment) r m' → IsClosed m → IsClosed m'
+pushed_closes f g m m' spans moment r step closed =
+    kept_by IsClosed f g m m' (event.Push spans moment) r closed (λ writes. let bad : ⊥ = cc in absurd bad) (λ gone free writes. let bad : ⊥ = cc in absurd bad)
+    (λ early done writes. ap (λ (n : Machine). n.state.flush) done.1 ∙ closed (sym (ap (λ (n : Machine). n.read_only) done.1) ∙ writes)) step
+
+pub item_closes : (told : Bool) (item : Item) (before after : At) (r : Reply) → IsAnsweredOrRefused told item before r after → IsClosed before.machine → IsClosed after.machine
+item_closes told (Ok (request.Push reading moment)) before after r (inl (answer, is, step)) closed =
+    pushed_closes before.faults after.faults before.machine after.machine reading.batch.spans moment (push_reply answer) step.1 closed
+item_closes told (Ok (request.Trace id)) before after r (inl (rows, found, is, still)) closed = subst IsClosed (sym still.0) closed
+item_closes told (Ok (request.Trace id)) before after r (inr (why, is, holds, still)) closed = subst IsClosed (sym still.0) closed
+item_closes told (Ok (request.Search s)) before after r (inl (results, found, is, still)) closed = subst IsClosed (sym still.0) closed
+item_closes told (Ok (request.Search s)) before after r (inr (why, is, holds, still)) closed = subst IsClosed (sym still.0) closed
+item_closes told (Ok (request.Cut moment)) before after r (inl (answer, is, step)) closed =
+    let m = before.machine in
+    cut_closes (is_idle moment m.state.live) m (count_reply answer) after.machine (cuts_idle before.faults after.faults m after.machine moment (count_reply answer) step.1) closed
+item_closes told (Ok request.CutAll) before after r (inl (answer, is, step)) closed =
+    let m = before.machine in
+    cut_closes (λ entry. true) m (count_reply answer) after.machine (cuts_all before.faults after.faults m after.machine (count_reply answer) step.1) closed
+item_closes told (Ok request.Flush) before after r (inl (round, is, flushed)) closed = flush_closes before round after flushed closed
+item_closes told (Err why) before after r (inl (is, same)) closed = subst (λ (at : At). IsClosed at.machine) (sym same) closed
+item_closes told (Ok (request.Push reading moment)) before after r (inr bad) closed = absurd bad
+item_closes told (Ok (request.Cut moment)) before after r (inr bad) closed = absurd bad
+item_closes told (Ok request.CutAll) before after r (inr bad) closed = absurd bad
+item_closes told (Ok request.Flush) before after r (inr bad) closed = absurd bad
+item_closes told (Err why) before after r (inr bad) closed = absurd bad
 
 -- ---- a session
 
@@ -164,30 +292,28 @@ steps_part f g m m' (c ∷ front) back steps =
     let rest = steps_part steps.0 g steps.1 m' front back steps.4 in
     (rest.0, rest.1, (steps.0, steps.1, steps.2, steps.3, rest.2), rest.3)
 
-pub session_means : (items : List Item) (replies : List Reply) (calls : List Call) (first last : At) → Agrees first.machine → first.machine.state.blocks ≡ []
-    → AreItemsAnswered items replies calls → CallsLead first calls last → Session first items replies last
-session_means [] replies calls first last agrees none a steps =
-    let s = subst (λ (cs : List Call). AreSteps first.faults first.machine cs last.faults last.machine) a.1 steps in
+pub session_means : (items : List Item) (replies : List Reply) (calls : List Call) (first last : At) → Agrees first.machine → AreItemsAnswered items replies calls
+    → CallsLead first calls last → Session false first items replies last
+session_means [] replies calls first last agrees a steps =
+    let s = subst (λ (cs : List Call). CallsLead first cs last) a.1 steps in
     (a.0, at_same first last s.0 s.1)
-session_means (i ∷ is) [] calls first last agrees none a steps = absurd a
-session_means (i ∷ is) (r ∷ rs) calls first last agrees none (now, later, are, one, rest) steps =
-    let s = steps_part first.faults last.faults first.machine last.machine now later
-    (subst (λ (cs : List Call). AreSteps first.faults first.machine cs last.faults last.machine) are steps) in
+session_means (i ∷ is) [] calls first last agrees a steps = absurd a
+session_means (i ∷ is) (r ∷ rs) calls first last agrees (now, later, are, one, rest) steps =
+    let s = steps_part first.faults last.faults first.machine last.machine now later (subst (λ (cs : List Call). CallsLead first cs last) are steps) in
     let between : At = record { machine = s.1; faults = s.0 } in
-    let here : IsAnsweredOrStarved i first r between = item_means i first between r now agrees none one s.2 in
-    (between, here, session_means is rs later between last (item_keeps Agrees pushes_keep_agreeing i first between r here agrees) (item_keeps HasNoBlocks pushes_keep_no_blocks i first between r here none) rest s.3)
+    let here : IsAnsweredOrRefused false i first r between = item_means i first between r now agrees one s.2 in
+    (between, here, session_means is rs later between last (item_keeps_agreeing false i first between r here agrees) rest s.3)
 
 -- ---- what a session keeps of the store
 
-session_keeps : (P : Machine → Type 0) → KeptByPushes P → (items : List Item) (replies : List Reply) (first last : At) → Session first items replies last
-    → P first.machine → P last.machine
-session_keeps P push [] replies first last h has = subst (λ (at : At). P at.machine) (sym h.1) has
-session_keeps P push (i ∷ is) [] first last h has = absurd h
-session_keeps P push (i ∷ is) (r ∷ rs) first last h has = session_keeps P push is rs h.0 last h.2 (item_keeps P push i first h.0 r h.1 has)
+session_keeps : (P : Machine → Type 0) (told : Bool) → ((item : Item) (before after : At) (r : Reply) → IsAnsweredOrRefused told item before r after → P before.machine → P after.machine)
+    → (items : List Item) (replies : List Reply) (first last : At) → Session told first items replies last → P first.machine → P last.machine
+session_keeps P told keeps [] replies first last h has = subst (λ (at : At). P at.machine) (sym h.1) has
+session_keeps P told keeps (i ∷ is) [] first last h has = absurd h
+session_keeps P told keeps (i ∷ is) (r ∷ rs) first last h has = session_keeps P told keeps is rs h.0 last h.2 (keeps i first h.0 r h.1 has)
 
-pub session_keeps_agreeing : (items : List Item) (replies : List Reply) (first last : At) → Session first items replies last → Agrees first.machine → Agrees last.machine
-session_keeps_agreeing = session_keeps Agrees pushes_keep_agreeing
+pub session_keeps_agreeing : (told : Bool) (items : List Item) (replies : List Reply) (first last : At) → Session told first items replies last → Agrees first.machine → Agrees last.machine
+session_keeps_agreeing told = session_keeps Agrees told (item_keeps_agreeing told)
 
-pub session_keeps_no_blocks : (items : List Item) (replies : List Reply) (first last : At) → Session first items replies last → first.machine.state.blocks ≡ []
-    → last.machine.state.blocks ≡ []
-session_keeps_no_blocks = session_keeps HasNoBlocks pushes_keep_no_blocks
+pub session_closes : (told : Bool) (items : List Item) (replies : List Reply) (first last : At) → Session told first items replies last → IsClosed first.machine → IsClosed last.machine
+session_closes told = session_keeps IsClosed told (item_closes told)

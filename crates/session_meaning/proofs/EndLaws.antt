@@ -1,5 +1,5 @@
 -- A run in which no call failed comes to its own end.
-use Rattle.std.proofs.Common.{◌≡◌, ◌⊎◌, inl, inr, ◌∙◌, ℕ, ◌+◌, ◌≤◌, Bool, true, false, List, Option, Some, None, ap, arith, length, length-append, refl, subst, sym, if◌then◌else◌}
+use Rattle.std.proofs.Common.{◌≡◌, ◌⊎◌, inl, inr, ◌∙◌, ℕ, ◌+◌, ◌≤◌, Bool, true, false, List, Option, Some, None, ap, arith, length, length-append, refl, subst, if◌then◌else◌}
 use Rattle.std.specs.Prelude.{IfSome}
 use Rattle.std.specs.List.{list_any}
 use Rattle.clap.specs.Words.{Kinds}
@@ -11,10 +11,9 @@ use Rattle.io_edges.specs.Reader.{TakesBytes}
 use Rattle.session_text.specs.declared.reply.Reply.{Reply}
 use Rattle.session_meaning.specs.declared.ending.Ending.{Ending}
 use Rattle.session_meaning.specs.declared.ending.Ending.TheVariants.{Answered, BadWords, NotOpened, NotStore, ReadFault, Refused, Spent, Starved, WriteFault}
-use Rattle.session_meaning.specs.Blocks.{first_file}
 use Rattle.session_meaning.specs.Pushes.{HasRoomFor}
 use Rattle.session_meaning.specs.Runs.{ComesToItsEnd, DoesInStore, Edges, EndsUnopened, FitsWords, GoesWell, HasAnswered, HasCause, HasItsStore, HasRun, IsNoStore, IsRunOf, NeedsNoSource, Outcome}
-use Rattle.session_meaning.specs.Session.{Ends, EndsAlone, end_of, is_for_memory, is_refusal, is_refused}
+use Rattle.session_meaning.specs.Session.{Ends, EndsAlone, Session, end_of, is_for_memory, is_refusal, is_refused}
 use Rattle.session_meaning.proofs.Room.{replies_plain}
 
 -- As many bytes as were taken are in the text.
@@ -36,26 +35,23 @@ by_ending (NotStore file at) b w r n x s = absurd (x file at refl)
 by_ending Spent b w r n x s = absurd (s refl)
 
 -- words that ask something aren't told to be faulty
-not_bad : (words : List (List ℕ)) (c : Command) (o : Outcome) (old new : Edges) → Spells words c → IsRunOf words o old new → o.ending ≡ BadWords → ⊥
-not_bad words c o old new s run = subst (λ (k : Kinds). FitsWords k o.ending) (spelled_clean words c s) run.words_fit
+not_bad : (sure : Bool) (words : List (List ℕ)) (c : Command) (o : Outcome) (old new : Edges) → Spells words c → IsRunOf sure words o old new → o.ending ≡ BadWords → ⊥
+not_bad sure words c o old new s run = subst (λ (k : Kinds). FitsWords k o.ending) (spelled_clean words c s) run.words_fit
 
-module _ (words : List (List ℕ)) (o : Outcome) (old new : Edges) (run : IsRunOf words o old new) where
+module _ (sure : Bool) (words : List (List ℕ)) (o : Outcome) (old new : Edges) (run : IsRunOf sure words o old new) where
   caused : (e : Ending) → o.ending ≡ e → HasCause e old new
   caused e is = subst (λ (k : Ending). HasCause k old new) is run.cause
 
   -- a store that is one is opened where no call of the disk fails
   opens : HasItsStore old new → o.ending ≡ NotOpened → ⊥
-  opens store is = store.4 (caused NotOpened is)
+  opens store is = store.3 (caused NotOpened is)
 
   is_store : HasItsStore old new → (file at : ℕ) → o.ending ≡ NotStore file at → ⊥
-  is_store store file at is = elim (subst (λ (held : Option Image). IsNoStore file at held) store.1 (caused (NotStore file at) is)) [
-    | inl broken ↦ broken.1 store.2
-    | inr lists ↦ absurd (let bad : None ≡ Some file = sym (ap first_file (store.3 lists.list lists.there)) ∙ lists.its_file in cc)
-  ]
+  is_store store file at is = (subst (λ (held : Option Image). IsNoStore file at held) store.1 (caused (NotStore file at) is)).1 store.2
 
   pub run_ends : (c : Command) → Spells words c → GoesWell c old new → ComesToItsEnd o.ending
   run_ends session s well =
-      by_ending o.ending (not_bad words session o old new s run)
+      by_ending o.ending (not_bad sure words session o old new s run)
       (λ is. well.1 (caused WriteFault is))
       (λ is. well.2 (caused ReadFault is))
       (opens well.0) (is_store well.0)
@@ -64,7 +60,7 @@ module _ (words : List (List ℕ)) (o : Outcome) (old new : Edges) (run : IsRunO
       let less = well.5 in
       absurd (omega (arith, most, less)))
   run_ends (Alone line) s well =
-      by_ending o.ending (not_bad words (Alone line) o old new s run)
+      by_ending o.ending (not_bad sure words (Alone line) o old new s run)
       (λ is. well.1 (caused WriteFault is))
       (λ is. without_source ReadFault is (λ n. n) (λ u. u))
       (opens well.0) (is_store well.0)
@@ -106,13 +102,13 @@ module _ (words : List (List ℕ)) (o : Outcome) (old new : Edges) (run : IsRunO
   store_well session well = well.0
   store_well (Alone line) well = well.0
 
-  pub run_ends_well : (c : Command) → Spells words c → GoesWell c old new → (before : List ℕ) → old.taken ≡ Some before → list_any is_refused o.items ≡ false
+  pub run_ends_well : sure ≡ true → (c : Command) → Spells words c → GoesWell c old new → (before : List ℕ) → old.taken ≡ Some before → list_any is_refused o.items ≡ false
       → HasRoomFor o.items o.first.machine → (o.ending ≡ Answered) ⊎ (o.ending ≡ Starved)
-  run_ends_well c s well before told none room = go (run_ends c s well)
+  run_ends_well is_true c s well before told none room = go (run_ends c s well)
     where
       never : o.ending ≡ Refused → ⊥
       never e = elim (run.does c s) [
-        | inl did ↦ end_plain o.replies (replies_plain o.first o.last o.items o.replies old.disk_faults new.disk_faults run.session did.1.first_faults did.1.last_faults (store_well c well).4 room none) (refused_in c well before told did.3 e)
+        | inl did ↦ end_plain o.replies (replies_plain o.first o.last o.items o.replies old.disk_faults new.disk_faults (subst (λ (b : Bool). Session b o.first o.items o.replies o.last) is_true run.session) did.1.first_faults did.1.last_faults (store_well c well).3 room none) (refused_in c well before told did.3 e)
         | inr not ↦ subst (λ (k : Ending). EndsUnopened k old new.taken) e not.1.ends
       ]
 

@@ -1,5 +1,5 @@
 -- What is stored, by the batches that were accepted.
-use Rattle.std.proofs.Common.{◌≡◌, ◌⊎◌, inl, inr, ℕ, ◌+◌, ◌-◌, ◌≤◌, suc, List, [], ◌∷◌, ◌++◌, Option, arith, length, take, ◌∙◌, ap, subst}
+use Rattle.std.proofs.Common.{Bool, ◌≡◌, ◌⊎◌, inl, inr, ℕ, ◌+◌, ◌-◌, ◌≤◌, suc, List, [], ◌∷◌, ◌++◌, Option, arith, length, take, ◌∙◌, ap, subst}
 use Rattle.span_types.specs.declared.spans.Span.{Span}
 use Rattle.disk_model.specs.Images.{Image}
 use Rattle.store_model.specs.History.{History, count_of, grown, up_to}
@@ -7,7 +7,8 @@ use Rattle.store_images.specs.Stored.{ImageStandsFor, MayStandFor}
 use Rattle.store_core.specs.Past.{StoodFor}
 use Rattle.session_meaning.specs.Pushes.{accepted_batches}
 use Rattle.session_meaning.specs.Runs.{Outcome}
-use Rattle.session_meaning.specs.Session.{Session, history_of}
+use Rattle.session_meaning.specs.At.{history_of}
+use Rattle.session_meaning.specs.Session.{Session}
 use Rattle.session_meaning.specs.Stops.{StandsForLast, StandsWithin, unsure_spans}
 use Rattle.session_meaning.proofs.Told.{session_grows}
 
@@ -39,14 +40,14 @@ stood_as h last more unsure image is (inl (n, since, below, stands)) =
     inl (n - count_of h, subst (λ (x : History). ImageStandsFor image x) (ap (up_to n) is ∙ up_to_grown h more n since) stands)
 stood_as h last more unsure image is (inr now) = inr (subst (λ (x : History). MayStandFor x unsure image) is now)
 
-pub kept_now : (o : Outcome) (image : Image) → Session o.first o.items o.replies o.last → StandsForLast o image
+pub kept_now : (told : Bool) (o : Outcome) (image : Image) → Session told o.first o.items o.replies o.last → StandsForLast o image
     → MayStandFor (grown (history_of o.first) (accepted_batches o.items o.replies)) (unsure_spans o) image
-kept_now o image session stands =
-    subst (λ (x : History). MayStandFor x (unsure_spans o) image) (session_grows o.items o.replies o.first o.last session) stands
+kept_now told o image session stands =
+    subst (λ (x : History). MayStandFor x (unsure_spans o) image) (session_grows told o.items o.replies o.first o.last session) stands
 
-pub kept_at_any_moment : (o : Outcome) (image : Image) → Session o.first o.items o.replies o.last → StandsWithin o image
+pub kept_at_any_moment : (told : Bool) (o : Outcome) (image : Image) → Session told o.first o.items o.replies o.last → StandsWithin o image
     → ((n : ℕ) × ImageStandsFor image (grown (history_of o.first) (take n (accepted_batches o.items o.replies))))
     ⊎ MayStandFor (grown (history_of o.first) (accepted_batches o.items o.replies)) (unsure_spans o) image
-kept_at_any_moment o image session stands =
+kept_at_any_moment told o image session stands =
     stood_as (history_of o.first) (history_of o.last) (accepted_batches o.items o.replies) (unsure_spans o) image
-    (session_grows o.items o.replies o.first o.last session) stands
+    (session_grows told o.items o.replies o.first o.last session) stands

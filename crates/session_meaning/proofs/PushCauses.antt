@@ -1,6 +1,6 @@
 -- Why a push is refused, and what it had where it is accepted.
 use Rattle.std.proofs.Common.{rules, ◌≡◌, ℕ, ◌+◌, ◌<◌, ◌≤◌, nat_le, nat_lt, inl, Bool, true, false, List, [], ◌∷◌, Option, Some, None, Result, Ok, Err, ap, arith, length, refl, sym, subst}
-use Rattle.std.specs.Prelude.{⊤}
+use Rattle.std.specs.Prelude.{Bool, ⊤}
 use Rattle.span_types.specs.Faults.{Rose}
 use Rattle.span_types.specs.declared.spans.Span.{Span}
 use Rattle.otlp_spans.specs.declared.read.Reading.{Reading}
@@ -22,8 +22,9 @@ use Rattle.store_state.specs.declared.errors.PushError.{PushError}
 use Rattle.store_state.specs.declared.errors.PushError.TheVariants as push
 use Rattle.client_run.specs.Answers.{pushed_reply, refusal_of}
 use Rattle.session_meaning.specs.Causes.{HasPushCause}
-use Rattle.session_meaning.specs.Pushes.{HasRoomFor}
-use Rattle.session_meaning.specs.Session.{At, IsAnswered, history_of}
+use Rattle.session_meaning.specs.Pushes.{HasRoomForPush}
+use Rattle.session_meaning.specs.At.{At, history_of}
+use Rattle.session_meaning.specs.Session.{IsAnswered}
 use Rattle.session_meaning.proofs.Told.{push_numbers}
 
 -- ---- replies that are sure
@@ -108,10 +109,10 @@ answer_caused reading moment before after (Err why) step = (
   (step_tells before.faults after.faults before.machine after.machine (Push reading.batch.spans moment) (Refused (push_refusal why)) step).0,
 )
 
-pub refused_for : (reading : Reading) (moment : ℕ) (before after : At) (why : Refusal) → IsAnswered (Ok (request.Push reading moment)) before (told.Refused why) after
+pub refused_for : (told_blocks : Bool) (reading : Reading) (moment : ℕ) (before after : At) (why : Refusal) → IsAnswered told_blocks (Ok (request.Push reading moment)) before (told.Refused why) after
     → HasPushCause why (length reading.batch.spans) before after × (history_of after ≡ history_of before)
-refused_for reading moment before after why (answer, is, later, step) =
-    subst (Caused (length reading.batch.spans) before after) (sym is) (answer_caused reading moment before after answer step)
+refused_for told_blocks reading moment before after why (answer, is, step) =
+    subst (Caused (length reading.batch.spans) before after) (sym is) (answer_caused reading moment before after answer step.1)
 
 -- ---- accepted
 
@@ -147,7 +148,7 @@ step_room f g m m' spans moment n (Breaks none writes told rose same) = let bad 
 step_room f g m m' spans moment n (Halts none reclaims writes told rose emptied fewer same) = let bad : ⊥ = cc in absurd bad
 
 abbrev Roomy : Reading → ℕ → At → Reply → Type 0
-Roomy reading moment before (told.Pushed number kept rejected skipped) = HasRoomFor (Ok (request.Push reading moment) ∷ []) before.machine
+Roomy reading moment before (told.Pushed number kept rejected skipped) = HasRoomForPush (length reading.batch.spans) before.machine
 Roomy reading moment before _ = ⊤
 
 answer_roomy : (reading : Reading) (moment : ℕ) (before after : At) (answer : Result ℕ PushError)
@@ -156,15 +157,15 @@ answer_roomy : (reading : Reading) (moment : ℕ) (before after : At) (answer : 
 answer_roomy reading moment before after (Ok number) step =
     let room = step_room before.faults after.faults before.machine after.machine reading.batch.spans moment number step in record {
       writes = room.0;
-      pushes = let less = room.1 in omega (arith, less);
-      rows = let few = room.2 in omega (arith, few);
+      pushes = room.1;
+      rows = room.2;
     }
 answer_roomy reading moment before after (Err why) step = tt
 
-pub accepted_with_room : (reading : Reading) (moment : ℕ) (before after : At) (number kept rejected skipped : ℕ)
-    → IsAnswered (Ok (request.Push reading moment)) before (told.Pushed number kept rejected skipped) after
-    → HasRoomFor (Ok (request.Push reading moment) ∷ []) before.machine × (number ≡ count_of (history_of before))
-accepted_with_room reading moment before after number kept rejected skipped (answer, is, later, step) = (
-  subst (Roomy reading moment before) (sym is) (answer_roomy reading moment before after answer step),
-  (push_numbers (Ok (request.Push reading moment)) before after number kept rejected skipped (inl (answer, is, later, step))).0,
+pub accepted_with_room : (told_blocks : Bool) (reading : Reading) (moment : ℕ) (before after : At) (number kept rejected skipped : ℕ)
+    → IsAnswered told_blocks (Ok (request.Push reading moment)) before (told.Pushed number kept rejected skipped) after
+    → HasRoomForPush (length reading.batch.spans) before.machine × (number ≡ count_of (history_of before))
+accepted_with_room told_blocks reading moment before after number kept rejected skipped (answer, is, step) = (
+  subst (Roomy reading moment before) (sym is) (answer_roomy reading moment before after answer step.1),
+  (push_numbers told_blocks (Ok (request.Push reading moment)) before after number kept rejected skipped (inl (answer, is, step))).0,
 )

@@ -11,10 +11,10 @@ use Rattle.store_state.specs.Meaning.{Meaning}
 use Rattle.client_run.specs.Answers.{HasReplied}
 use Rattle.store_state.specs.Made.{Call}
 use Rattle.client_run.proofs.CallLemmas.{made-append}
-use Rattle.session_meaning.specs.Answering.{AreItemsAnswered, IsItemAnswered}
+use Rattle.session_meaning.specs.Answering.{AreItemsAnswered}
 use Rattle.session_meaning.specs.Asked.{AreAsked, AsksNext, after_lines, after_moment}
-use Rattle.session_meaning.specs.Progress.{HasAnsweredOne, HasAnsweredOver, Progress}
-use Rattle.session_meaning.specs.Session.{At, IsAnsweredOrStarved, Session, reply_texts}
+use Rattle.session_meaning.specs.Progress.{AreAnsweredOver, HasAnsweredOne, HasAnsweredOver, Progress}
+use Rattle.session_meaning.specs.Session.{reply_texts}
 
 -- ---- what is asked
 
@@ -81,43 +81,49 @@ progress_line told text rest past later refused more items to_tell b bs item p p
 
 -- ---- what is answered
 
--- What is asked more adds its calls and its reply.
-pub AreItemsAnswered-push : (items : List Item) (replies : List Reply) (calls now : List Call) (item : Item) (reply : Reply) → AreItemsAnswered items replies calls
-    → IsItemAnswered item reply now → AreItemsAnswered (items ++ item ∷ []) (replies ++ reply ∷ []) (calls ++ now)
-AreItemsAnswered-push [] replies calls now item reply h a = rw (h.0, h.1) (now, [], sym (append-nil now), a, (refl, refl))
-AreItemsAnswered-push (i ∷ is) [] calls now item reply h a = absurd h
-AreItemsAnswered-push (i ∷ is) (r ∷ rs) calls now item reply h a =
-    (h.0, h.1 ++ now, ap (λ (cs : List Call). cs ++ now) h.2 ∙ append_assoc h.0 h.1 now, h.3, AreItemsAnswered-push is rs h.1 now item reply h.4 a)
-
 -- A request that was answered over a port, and a line that asks nothing.
 pub one_replied : {P : Type 0} (meaning : Meaning P) (old new : P) (asked : Request) (reply : Reply) → HasReplied meaning old asked reply new
     → HasAnsweredOne meaning old (Ok asked) reply new
-one_replied meaning old new asked reply h = record { calls = h.calls; answered = h.answered; made = h.made }
+one_replied meaning old new asked reply h = record { calls = h.calls; answered = h.answered; made = h.made; is = h }
 
 pub one_refused : {P : Type 0} (meaning : Meaning P) (port : P) (why : Refusal) → HasAnsweredOne meaning port (Err why) (Refused why) port
-one_refused meaning port why = record { calls = []; answered = (refl, refl); made = refl }
+one_refused meaning port why = record { calls = []; answered = (refl, refl); made = refl; is = (refl, refl) }
 
 pub over_begins : {P : Type 0} (meaning : Meaning P) (start : P) → HasAnsweredOver meaning start [] [] start
-over_begins meaning start = record { calls = []; by_calls = (refl, refl); made = refl }
+over_begins meaning start = record { calls = []; by_calls = (refl, refl); made = refl; each = (refl, refl) }
 
-pub over_more : {P : Type 0} (meaning : Meaning P) (start port after : P) (items : List Item) (replies : List Reply) (item : Item) (reply : Reply)
-    → HasAnsweredOver meaning start items replies port → HasAnsweredOne meaning port item reply after
-    → HasAnsweredOver meaning start (items ++ item ∷ []) (replies ++ reply ∷ []) after
-over_more meaning start port after items replies item reply h a = record {
-  calls = h.calls ++ a.calls;
-  by_calls = AreItemsAnswered-push items replies h.calls a.calls item reply h.by_calls a.answered;
-  made = made-append meaning start port after h.calls a.calls h.made a.made;
+pub over_one : {P : Type 0} (meaning : Meaning P) (before after : P) (item : Item) (reply : Reply) → HasAnsweredOne meaning before item reply after
+    → HasAnsweredOver meaning before (item ∷ []) (reply ∷ []) after
+over_one meaning before after item reply one = record {
+  calls = one.calls;
+  by_calls = (one.calls, [], sym (append-nil one.calls), one.answered, (refl, refl));
+  made = one.made;
+  each = (after, one.is, (refl, refl));
 }
 
--- What is asked more adds its reply.
-pub Session-push : (before mid after : At) (items : List Item) (replies : List Reply) (item : Item) (reply : Reply) →
-    Session before items replies mid → IsAnsweredOrStarved item mid reply after →
-    Session before (items ++ item ∷ []) (replies ++ reply ∷ []) after
-Session-push before mid after [] replies item reply h a =
-    rw h.0 (after, subst (λ m. IsAnsweredOrStarved item m reply after) h.1 a, (refl, refl))
-Session-push before mid after (i ∷ is) [] item reply h a = absurd h
-Session-push before mid after (i ∷ is) (r ∷ rs) item reply h a =
-    (h.0, h.1, Session-push h.0 mid after is rs item reply h.2 a)
+items_then : (front back : List Item) (first later : List Reply) (calls more : List Call) → AreItemsAnswered front first calls → AreItemsAnswered back later more
+    → AreItemsAnswered (front ++ back) (first ++ later) (calls ++ more)
+items_then [] back first later calls more h k = rw (h.0, h.1) k
+items_then (i ∷ is) back [] later calls more h k = absurd h
+items_then (i ∷ is) back (r ∷ rs) later calls more h k =
+    (h.0, h.1 ++ more, ap (λ (cs : List Call). cs ++ more) h.2 ∙ append_assoc h.0 h.1 more, h.3, items_then is back rs later h.1 more h.4 k)
+
+each_then : {P : Type 0} (meaning : Meaning P) (front back : List Item) (first later : List Reply) (start mid port : P) → AreAnsweredOver meaning start front first mid
+    → AreAnsweredOver meaning mid back later port → AreAnsweredOver meaning start (front ++ back) (first ++ later) port
+each_then {P} meaning [] back first later start mid port h k =
+    subst (λ (rs : List Reply). AreAnsweredOver meaning start back (rs ++ later) port) (sym h.0) (subst (λ (x : P). AreAnsweredOver meaning x back later port) h.1 k)
+each_then meaning (i ∷ is) back [] later start mid port h k = absurd h
+each_then meaning (i ∷ is) back (r ∷ rs) later start mid port h k = (h.0, h.1, each_then meaning is back rs later h.0 mid port h.2 k)
+
+-- What is asked then.
+pub over_then : {P : Type 0} (meaning : Meaning P) (start mid port : P) (items asked : List Item) (replies given : List Reply) → HasAnsweredOver meaning start items replies mid
+    → HasAnsweredOver meaning mid asked given port → HasAnsweredOver meaning start (items ++ asked) (replies ++ given) port
+over_then meaning start mid port items asked replies given first second = record {
+  calls = first.calls ++ second.calls;
+  by_calls = items_then items asked replies given first.calls second.calls first.by_calls second.by_calls;
+  made = made-append meaning start mid port first.calls second.calls first.made second.made;
+  each = each_then meaning items asked replies given start mid port first.each second.each;
+}
 
 -- One more reply adds its text.
 pub reply_texts-push : (replies : List Reply) (reply : Reply) → reply_texts (replies ++ reply ∷ []) ≡ reply_texts replies ++ reply_text reply

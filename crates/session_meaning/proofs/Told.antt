@@ -1,10 +1,10 @@
 -- What the replies of a session tell of its history.
-use Rattle.std.proofs.Common.{◌≡◌, inl, inr, ℕ, ◌+◌, ◌<◌, ◌≤◌, zero, suc, List, [], ◌∷◌, ◌++◌, Some, None, Result, Ok, Err, append_assoc, append-nil, arith, length, length-append, refl, sym, ◌∙◌, ap, subst}
+use Rattle.std.proofs.Common.{Bool, ◌≡◌, inl, inr, ℕ, ◌+◌, ◌<◌, ◌≤◌, zero, suc, List, [], ◌∷◌, ◌++◌, Some, None, Result, Ok, Err, append_assoc, append-nil, arith, length, length-append, refl, sym, ◌∙◌, ap, subst}
 use Rattle.std.specs.List.{Contains}
 use Rattle.span_types.specs.declared.spans.Span.{Span}
 use Rattle.otlp_spans.specs.declared.read.Reading.{Reading}
 use Rattle.session_text.specs.declared.reply.Reply.{Reply}
-use Rattle.session_text.specs.declared.reply.Reply.TheVariants.{Pushed, Refused}
+use Rattle.session_text.specs.declared.reply.Reply.TheVariants.{Cut, CutAll, Pushed, Refused, Searched, Traced}
 use Rattle.session_text.specs.declared.request.Request.TheVariants as request
 use Rattle.session_text.specs.Items.{Item}
 use Rattle.store_model.specs.Event.{Event as event}
@@ -13,11 +13,18 @@ use Rattle.store_model.specs.Step.{Machine}
 use Rattle.store_model.specs.Told.{TellsLength, history_after}
 use Rattle.store_model.proofs.TellsHistory.{step_tells}
 use Rattle.store_images.proofs.Growing.{count_of-pushed}
-use Rattle.store_state.specs.Replies.{push_reply}
+use Rattle.store_state.specs.Replies.{count_reply, push_reply}
 use Rattle.store_state.specs.declared.errors.PushError.{PushError}
-use Rattle.client_run.specs.Answers.{pushed_reply}
+use Rattle.store_state.specs.declared.rounds.Round.{Round}
+use Rattle.store_state.specs.declared.rounds.Round.TheVariants.{Did, Nothing, Refused as RoundRefused}
+use Rattle.traceql_syntax.specs.Trees.{query_tree}
+use Rattle.search_text.specs.Fields.{printed_fields}
+use Rattle.span_types.specs.declared.errors.Memory.{Memory}
+use Rattle.client_run.specs.Answers.{cut_reply, flush_reply, pushed_reply}
 use Rattle.session_meaning.specs.Pushes.{accepted_batch, accepted_batches, known_pushes}
-use Rattle.session_meaning.specs.Session.{At, IsAnsweredOrStarved, Session, history_of}
+use Rattle.session_meaning.specs.At.{At, history_of}
+use Rattle.session_meaning.specs.Session.{IsAnsweredOrRefused, Session}
+use Rattle.session_meaning.proofs.FlushLaws.{flush_history}
 
 -- ---- the last history
 
@@ -32,30 +39,45 @@ push_grows : (reading : Reading) (moment : ℕ) (answer : Result ℕ PushError) 
 push_grows reading moment (Ok number) h = refl
 push_grows reading moment (Err why) h = sym (same_grown h)
 
-still_grown : (before after : At) (more : List (List Span)) → more ≡ [] → after.machine ≡ before.machine → history_of after ≡ grown (history_of before) more
-still_grown before after more none same = ap (λ (m : Machine). m.history) same ∙ sym (same_grown (history_of before)) ∙ ap (grown (history_of before)) (sym none)
+history_grown : (before after : At) (more : List (List Span)) → more ≡ [] → history_of after ≡ history_of before → history_of after ≡ grown (history_of before) more
+history_grown before after more none same = same ∙ sym (same_grown (history_of before)) ∙ ap (grown (history_of before)) (sym none)
 
-item_grows : (item : Item) (before after : At) (r : Reply) → IsAnsweredOrStarved item before r after → history_of after ≡ grown (history_of before) (accepted_batch item r)
-item_grows (Ok (request.Push reading moment)) before after r (inl (answer, told, later, step)) =
-    (step_tells before.faults after.faults before.machine after.machine (event.Push reading.batch.spans moment) (push_reply answer) step).0
+still_grown : (before after : At) (more : List (List Span)) → more ≡ [] → after.machine ≡ before.machine → history_of after ≡ grown (history_of before) more
+still_grown before after more none same = history_grown before after more none (ap (λ (m : Machine). m.history) same)
+
+item_grows : (told : Bool) (item : Item) (before after : At) (r : Reply) → IsAnsweredOrRefused told item before r after
+    → history_of after ≡ grown (history_of before) (accepted_batch item r)
+item_grows told (Ok (request.Push reading moment)) before after r (inl (answer, is, step)) =
+    (step_tells before.faults after.faults before.machine after.machine (event.Push reading.batch.spans moment) (push_reply answer) step.1).0
     ∙ push_grows reading moment answer (history_of before)
-    ∙ ap (λ (x : Reply). grown (history_of before) (accepted_batch (Ok (request.Push reading moment)) x)) (sym told)
-item_grows (Ok (request.Push reading moment)) before after r (inr bad) = absurd bad
-item_grows (Ok (request.Trace id)) before after r (inl (rows, found, told, still)) = still_grown before after (accepted_batch (Ok (request.Trace id)) r) refl still.0
-item_grows (Ok (request.Trace id)) before after r (inr (memory, still)) = still_grown before after (accepted_batch (Ok (request.Trace id)) r) refl still.0
-item_grows (Ok (request.Search s)) before after r (inl (results, found, told, still)) = still_grown before after (accepted_batch (Ok (request.Search s)) r) refl still.0
-item_grows (Ok (request.Search s)) before after r (inr (memory, still)) = still_grown before after (accepted_batch (Ok (request.Search s)) r) refl still.0
-item_grows (Err why) before after r (inl (told, same)) = still_grown before after (accepted_batch (Err why) r) refl (ap (λ (at : At). at.machine) same)
-item_grows (Err why) before after r (inr bad) = absurd bad
+    ∙ ap (λ (x : Reply). grown (history_of before) (accepted_batch (Ok (request.Push reading moment)) x)) (sym is)
+item_grows told (Ok (request.Push reading moment)) before after r (inr bad) = absurd bad
+item_grows told (Ok (request.Trace id)) before after r (inl (rows, found, is, still)) = still_grown before after (accepted_batch (Ok (request.Trace id)) r) refl still.0
+item_grows told (Ok (request.Trace id)) before after r (inr (why, is, cause, still)) = still_grown before after (accepted_batch (Ok (request.Trace id)) r) refl still.0
+item_grows told (Ok (request.Search s)) before after r (inl (results, found, is, still)) = still_grown before after (accepted_batch (Ok (request.Search s)) r) refl still.0
+item_grows told (Ok (request.Search s)) before after r (inr (why, is, cause, still)) = still_grown before after (accepted_batch (Ok (request.Search s)) r) refl still.0
+item_grows told (Ok (request.Cut moment)) before after r (inl (answer, is, step)) =
+    history_grown before after (accepted_batch (Ok (request.Cut moment)) r) refl
+    (step_tells before.faults after.faults before.machine after.machine (event.Cut moment) (count_reply answer) step.1).0
+item_grows told (Ok (request.Cut moment)) before after r (inr bad) = absurd bad
+item_grows told (Ok request.CutAll) before after r (inl (answer, is, step)) =
+    history_grown before after (accepted_batch (Ok request.CutAll) r) refl
+    (step_tells before.faults after.faults before.machine after.machine event.CutAll (count_reply answer) step.1).0
+item_grows told (Ok request.CutAll) before after r (inr bad) = absurd bad
+item_grows told (Ok request.Flush) before after r (inl (round, is, flushed)) =
+    history_grown before after (accepted_batch (Ok request.Flush) r) refl (flush_history before round after flushed)
+item_grows told (Ok request.Flush) before after r (inr bad) = absurd bad
+item_grows told (Err why) before after r (inl (is, same)) = still_grown before after (accepted_batch (Err why) r) refl (ap (λ (at : At). at.machine) same)
+item_grows told (Err why) before after r (inr bad) = absurd bad
 
 -- The last history is the first one with the accepted batches behind it, in order.
-pub session_grows : (items : List Item) (replies : List Reply) (first last : At) → Session first items replies last
+pub session_grows : (told : Bool) (items : List Item) (replies : List Reply) (first last : At) → Session told first items replies last
     → history_of last ≡ grown (history_of first) (accepted_batches items replies)
-session_grows [] replies first last h = ap history_of h.1 ∙ sym (same_grown (history_of first))
-session_grows (i ∷ is) [] first last h = absurd h
-session_grows (i ∷ is) (r ∷ rs) first last h =
-    session_grows is rs h.0 last h.2
-    ∙ ap (λ (x : History). grown x (accepted_batches is rs)) (item_grows i first h.0 r h.1)
+session_grows told [] replies first last h = ap history_of h.1 ∙ sym (same_grown (history_of first))
+session_grows told (i ∷ is) [] first last h = absurd h
+session_grows told (i ∷ is) (r ∷ rs) first last h =
+    session_grows told is rs h.0 last h.2
+    ∙ ap (λ (x : History). grown x (accepted_batches is rs)) (item_grows told i first h.0 r h.1)
     ∙ grown_twice (history_of first) (accepted_batch i r) (accepted_batches is rs)
 
 -- ---- numbers
@@ -63,9 +85,10 @@ session_grows (i ∷ is) (r ∷ rs) first last h =
 count_grown : (h : History) (more : List (List Span)) → count_of h ≤ count_of (grown h more)
 count_grown h more = let e = length-append h.entries more in omega (arith, e)
 
-item_counts : (item : Item) (before after : At) (r : Reply) → IsAnsweredOrStarved item before r after → count_of (history_of before) ≤ count_of (history_of after)
-item_counts item before after r is =
-    subst (λ (h : History). count_of (history_of before) ≤ count_of h) (sym (item_grows item before after r is)) (count_grown (history_of before) (accepted_batch item r))
+item_counts : (told : Bool) (item : Item) (before after : At) (r : Reply) → IsAnsweredOrRefused told item before r after
+    → count_of (history_of before) ≤ count_of (history_of after)
+item_counts told item before after r is =
+    subst (λ (h : History). count_of (history_of before) ≤ count_of h) (sym (item_grows told item before after r is)) (count_grown (history_of before) (accepted_batch item r))
 
 some_same : (a b : ℕ) → Some a ≡ Some b → a ≡ b
 some_same a b e = cc
@@ -80,61 +103,98 @@ answer_unknown : (reading : Reading) (answer : Result ℕ PushError) (n : ℕ) �
 answer_unknown reading (Ok number) n e = none_some n e
 answer_unknown reading (Err why) n e = none_some n e
 
+cut_unknown : (tells : ℕ → Reply) (answer : Result ℕ Memory) (n : ℕ) → ((moved : ℕ) → known_pushes (tells moved) ≡ None) → known_pushes (cut_reply tells answer) ≡ Some n → ⊥
+cut_unknown tells (Ok moved) n none e = none_some n (sym (none moved) ∙ e)
+cut_unknown tells (Err memory) n none e = none_some n e
+
+flush_unknown : (round : Round) (n : ℕ) → known_pushes (flush_reply round) ≡ Some n → ⊥
+flush_unknown (Did blocks rows) n e = none_some n e
+flush_unknown Nothing n e = none_some n e
+flush_unknown (RoundRefused why) n e = none_some n e
+
 -- A query that is answered knows of just the pushes before it.
-pub item_knows : (item : Item) (before after : At) (r : Reply) (n : ℕ) → IsAnsweredOrStarved item before r after → known_pushes r ≡ Some n → n ≡ count_of (history_of before)
-item_knows (Ok (request.Push reading moment)) before after r n (inl (answer, told, later, step)) known =
-    absurd (answer_unknown reading answer n (by_reply r (pushed_reply reading answer) n known told))
-item_knows (Ok (request.Push reading moment)) before after r n (inr bad) known = absurd bad
-item_knows (Ok (request.Trace id)) before after r n (inl (rows, found, told, still)) known = sym (some_same (count_of (history_of before)) n (by_reply r _ n known told))
-item_knows (Ok (request.Trace id)) before after r n (inr (memory, still)) known = absurd (none_some n (by_reply r _ n known memory))
-item_knows (Ok (request.Search s)) before after r n (inl (results, found, told, still)) known = sym (some_same (count_of (history_of before)) n (by_reply r _ n known told))
-item_knows (Ok (request.Search s)) before after r n (inr (memory, still)) known = absurd (none_some n (by_reply r _ n known memory))
-item_knows (Err why) before after r n (inl (told, same)) known = absurd (none_some n (by_reply r (Refused why) n known told))
-item_knows (Err why) before after r n (inr bad) known = absurd bad
+pub item_knows : (told : Bool) (item : Item) (before after : At) (r : Reply) (n : ℕ) → IsAnsweredOrRefused told item before r after → known_pushes r ≡ Some n
+    → n ≡ count_of (history_of before)
+item_knows told (Ok (request.Push reading moment)) before after r n (inl (answer, is, step)) known =
+    absurd (answer_unknown reading answer n (by_reply r (pushed_reply reading answer) n known is))
+item_knows told (Ok (request.Push reading moment)) before after r n (inr bad) known = absurd bad
+item_knows told (Ok (request.Trace id)) before after r n (inl (rows, found, is, still)) known = sym (some_same (count_of (history_of before)) n (by_reply r (Traced (count_of (history_of before)) rows) n known is))
+item_knows told (Ok (request.Trace id)) before after r n (inr (why, is, cause, still)) known = absurd (none_some n (by_reply r (Refused why) n known is))
+item_knows told (Ok (request.Search s)) before after r n (inl (results, found, is, still)) known =
+    sym (some_same (count_of (history_of before)) n (by_reply r (Searched (count_of (history_of before)) (printed_fields (query_tree s.checked.query)) results) n known is))
+item_knows told (Ok (request.Search s)) before after r n (inr (why, is, cause, still)) known = absurd (none_some n (by_reply r (Refused why) n known is))
+item_knows told (Ok (request.Cut moment)) before after r n (inl (answer, is, step)) known =
+    absurd (cut_unknown Cut answer n (λ moved. refl) (by_reply r (cut_reply Cut answer) n known is))
+item_knows told (Ok (request.Cut moment)) before after r n (inr bad) known = absurd bad
+item_knows told (Ok request.CutAll) before after r n (inl (answer, is, step)) known =
+    absurd (cut_unknown CutAll answer n (λ moved. refl) (by_reply r (cut_reply CutAll answer) n known is))
+item_knows told (Ok request.CutAll) before after r n (inr bad) known = absurd bad
+item_knows told (Ok request.Flush) before after r n (inl (round, is, flushed)) known = absurd (flush_unknown round n (by_reply r (flush_reply round) n known is))
+item_knows told (Ok request.Flush) before after r n (inr bad) known = absurd bad
+item_knows told (Err why) before after r n (inl (is, same)) known = absurd (none_some n (by_reply r (Refused why) n known is))
+item_knows told (Err why) before after r n (inr bad) known = absurd bad
 
 -- What is told later knows of no fewer pushes.
-pub later_knows : (items : List Item) (replies : List Reply) (first last : At) (r : Reply) (n : ℕ) → Session first items replies last → Contains replies r
+pub later_knows : (told : Bool) (items : List Item) (replies : List Reply) (first last : At) (r : Reply) (n : ℕ) → Session told first items replies last → Contains replies r
     → known_pushes r ≡ Some n → count_of (history_of first) ≤ n
-later_knows [] replies first last r n h there known = absurd (let none : length replies ≡ 0 = ap length h.0 in let less = there.1 in omega (arith, none, less))
-later_knows (i ∷ is) [] first last r n h there known = absurd h
-later_knows (i ∷ is) (x ∷ xs) first last r n h (zero, less, is_r) known =
-    let same = item_knows i first h.0 x n h.1 (ap known_pushes is_r ∙ known) in omega (arith, same)
-later_knows (i ∷ is) (x ∷ xs) first last r n h (suc k, less, is_r) known =
-    let rest = later_knows is xs h.0 last r n h.2 (k, omega (arith, less), is_r) known in
-    let here = item_counts i first h.0 x h.1 in omega (arith, here, rest)
+later_knows told [] replies first last r n h there known = absurd (let none : length replies ≡ 0 = ap length h.0 in let less = there.1 in omega (arith, none, less))
+later_knows told (i ∷ is) [] first last r n h there known = absurd h
+later_knows told (i ∷ is) (x ∷ xs) first last r n h (zero, less, is_r) known =
+    let same = item_knows told i first h.0 x n h.1 (ap known_pushes is_r ∙ known) in omega (arith, same)
+later_knows told (i ∷ is) (x ∷ xs) first last r n h (suc k, less, is_r) known =
+    let rest = later_knows told is xs h.0 last r n h.2 (k, omega (arith, less), is_r) known in
+    let here = item_counts told i first h.0 x h.1 in omega (arith, here, rest)
 
 pushed_number : (reading : Reading) (answer : Result ℕ PushError) (number kept rejected skipped : ℕ) → Pushed number kept rejected skipped ≡ pushed_reply reading answer → answer ≡ Ok number
 pushed_number reading (Ok n) number kept rejected skipped e = cc
 pushed_number reading (Err why) number kept rejected skipped e = let bad : ⊥ = cc in absurd bad
 
+not_pushed : (tells : ℕ → Reply) (answer : Result ℕ Memory) (number kept rejected skipped : ℕ) → ((moved : ℕ) → Pushed number kept rejected skipped ≡ tells moved → ⊥)
+    → Pushed number kept rejected skipped ≡ cut_reply tells answer → ⊥
+not_pushed tells (Ok moved) number kept rejected skipped none e = none moved e
+not_pushed tells (Err memory) number kept rejected skipped none e = cc
+
+not_flushed : (round : Round) (number kept rejected skipped : ℕ) → Pushed number kept rejected skipped ≡ flush_reply round → ⊥
+not_flushed (Did blocks rows) number kept rejected skipped e = cc
+not_flushed Nothing number kept rejected skipped e = cc
+not_flushed (RoundRefused why) number kept rejected skipped e = cc
+
 -- A push that is accepted is told how many came before it, and there is then one more.
-pub push_numbers : (item : Item) (before after : At) (number kept rejected skipped : ℕ) → IsAnsweredOrStarved item before (Pushed number kept rejected skipped) after
+pub push_numbers : (told : Bool) (item : Item) (before after : At) (number kept rejected skipped : ℕ) → IsAnsweredOrRefused told item before (Pushed number kept rejected skipped) after
     → (number ≡ count_of (history_of before)) × (count_of (history_of after) ≡ number + 1)
-push_numbers (Ok (request.Push reading moment)) before after number kept rejected skipped (inl (answer, told, later, step)) =
-    let ok = pushed_number reading answer number kept rejected skipped told in
+push_numbers told (Ok (request.Push reading moment)) before after number kept rejected skipped (inl (answer, is_told, step)) =
+    let ok = pushed_number reading answer number kept rejected skipped is_told in
     let e : event = event.Push reading.batch.spans moment in
-    let tells = step_tells before.faults after.faults before.machine after.machine e (push_reply answer) step in
+    let tells = step_tells before.faults after.faults before.machine after.machine e (push_reply answer) step.1 in
     let is : number ≡ count_of (history_of before) = subst (λ (a : Result ℕ PushError). TellsLength e (push_reply a) (history_of before)) ok tells.1 in
     let more : count_of (history_of after) ≡ count_of (history_of before) + 1 =
     ap count_of (subst (λ (a : Result ℕ PushError). history_of after ≡ history_after e (push_reply a) (history_of before)) ok tells.0)
     ∙ count_of-pushed (history_of before) reading.batch.spans in
     (is, more ∙ ap (λ (n : ℕ). n + 1) (sym is))
-push_numbers (Ok (request.Push reading moment)) before after number kept rejected skipped (inr bad) = absurd bad
-push_numbers (Ok (request.Trace id)) before after number kept rejected skipped (inl (rows, found, told, still)) = let bad : ⊥ = cc in absurd bad
-push_numbers (Ok (request.Trace id)) before after number kept rejected skipped (inr (memory, still)) = let bad : ⊥ = cc in absurd bad
-push_numbers (Ok (request.Search s)) before after number kept rejected skipped (inl (results, found, told, still)) = let bad : ⊥ = cc in absurd bad
-push_numbers (Ok (request.Search s)) before after number kept rejected skipped (inr (memory, still)) = let bad : ⊥ = cc in absurd bad
-push_numbers (Err why) before after number kept rejected skipped (inl (told, same)) = let bad : ⊥ = cc in absurd bad
-push_numbers (Err why) before after number kept rejected skipped (inr bad) = absurd bad
+push_numbers told (Ok (request.Push reading moment)) before after number kept rejected skipped (inr bad) = absurd bad
+push_numbers told (Ok (request.Trace id)) before after number kept rejected skipped (inl (rows, found, is, still)) = let bad : ⊥ = cc in absurd bad
+push_numbers told (Ok (request.Trace id)) before after number kept rejected skipped (inr (why, is, cause, still)) = let bad : ⊥ = cc in absurd bad
+push_numbers told (Ok (request.Search s)) before after number kept rejected skipped (inl (results, found, is, still)) = let bad : ⊥ = cc in absurd bad
+push_numbers told (Ok (request.Search s)) before after number kept rejected skipped (inr (why, is, cause, still)) = let bad : ⊥ = cc in absurd bad
+push_numbers told (Ok (request.Cut moment)) before after number kept rejected skipped (inl (answer, is, step)) =
+    absurd (not_pushed Cut answer number kept rejected skipped (λ moved e. cc) is)
+push_numbers told (Ok (request.Cut moment)) before after number kept rejected skipped (inr bad) = absurd bad
+push_numbers told (Ok request.CutAll) before after number kept rejected skipped (inl (answer, is, step)) =
+    absurd (not_pushed CutAll answer number kept rejected skipped (λ moved e. cc) is)
+push_numbers told (Ok request.CutAll) before after number kept rejected skipped (inr bad) = absurd bad
+push_numbers told (Ok request.Flush) before after number kept rejected skipped (inl (round, is, flushed)) = absurd (not_flushed round number kept rejected skipped is)
+push_numbers told (Ok request.Flush) before after number kept rejected skipped (inr bad) = absurd bad
+push_numbers told (Err why) before after number kept rejected skipped (inl (is, same)) = let bad : ⊥ = cc in absurd bad
+push_numbers told (Err why) before after number kept rejected skipped (inr bad) = absurd bad
 
 -- What is told after an accepted push knows of it.
-pub knows_later : (front later : List Reply) (items : List Item) (first last : At) (number kept rejected skipped : ℕ) (r : Reply) (n : ℕ)
-    → Session first items (front ++ Pushed number kept rejected skipped ∷ later) last → Contains later r → known_pushes r ≡ Some n → number < n
-knows_later [] later [] first last number kept rejected skipped r n h there known = absurd (let bad : ⊥ = (let e = h.0 in cc) in bad)
-knows_later [] later (i ∷ is) first last number kept rejected skipped r n h there known =
-    let own = push_numbers i first h.0 number kept rejected skipped h.1 in
-    let rest = later_knows is later h.0 last r n h.2 there known in
+pub knows_later : (told : Bool) (front later : List Reply) (items : List Item) (first last : At) (number kept rejected skipped : ℕ) (r : Reply) (n : ℕ)
+    → Session told first items (front ++ Pushed number kept rejected skipped ∷ later) last → Contains later r → known_pushes r ≡ Some n → number < n
+knows_later told [] later [] first last number kept rejected skipped r n h there known = absurd (let bad : ⊥ = (let e = h.0 in cc) in bad)
+knows_later told [] later (i ∷ is) first last number kept rejected skipped r n h there known =
+    let own = push_numbers told i first h.0 number kept rejected skipped h.1 in
+    let rest = later_knows told is later h.0 last r n h.2 there known in
     let count = own.1 in omega (arith, count, rest)
-knows_later (x ∷ xs) later [] first last number kept rejected skipped r n h there known = absurd (let bad : ⊥ = (let e = h.0 in cc) in bad)
-knows_later (x ∷ xs) later (i ∷ is) first last number kept rejected skipped r n h there known =
-    knows_later xs later is h.0 last number kept rejected skipped r n h.2 there known
+knows_later told (x ∷ xs) later [] first last number kept rejected skipped r n h there known = absurd (let bad : ⊥ = (let e = h.0 in cc) in bad)
+knows_later told (x ∷ xs) later (i ∷ is) first last number kept rejected skipped r n h there known =
+    knows_later told xs later is h.0 last number kept rejected skipped r n h.2 there known

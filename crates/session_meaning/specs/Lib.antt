@@ -1,10 +1,12 @@
+pub mod At
 pub mod Asked
 pub mod Statuses
+pub mod Flushed
+pub mod Upkeep
 pub mod Session
 pub mod Pushes
 pub mod Causes
 pub mod Answering
-pub mod Blocks
 pub mod Runs
 pub mod Stops
 pub mod Progress

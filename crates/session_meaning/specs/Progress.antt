@@ -1,10 +1,12 @@
 -- Private mechanism of the loop over lines: how far a session came. No public clause cites it.
-use Rattle.std.specs.Prelude.{◌≡◌, ℕ, List, ◌++◌, Option}
+use Rattle.std.specs.Prelude.{◌≡◌, ℕ, List, [], ◌∷◌, ◌++◌, Option, Ok, Err}
 use Rattle.io_edges.specs.Lines.{lines}
 use Rattle.session_text.specs.declared.reply.Reply.{Reply}
+use Rattle.session_text.specs.declared.reply.Reply.TheVariants.{Refused}
 use Rattle.session_text.specs.Items.{Item}
 use Rattle.store_state.specs.Meaning.{Meaning}
 use Rattle.store_state.specs.Made.{AreMade, Call}
+use Rattle.client_run.specs.Answers.{HasReplied}
 use Rattle.session_meaning.specs.Asked.{AreAsked, after_lines}
 use Rattle.session_meaning.specs.Answering.{AreItemsAnswered, IsItemAnswered}
 
@@ -18,14 +20,28 @@ pub record Progress (told : Option (List ℕ)) (text rest : List ℕ) (refused :
   pub asked : AreAsked answered told items refused
   pub clock : to_tell ≡ after_lines answered told
 
--- This was answered so, by calls of a port from `start` on, and by no others.
+-- What is asked was answered so over a port.
+abbrev pub IsAnsweredOver : {P : Type 0} → Meaning P → P → Item → Reply → P → Type 0
+IsAnsweredOver meaning before (Ok asked) reply after = HasReplied meaning before asked reply after
+IsAnsweredOver meaning before (Err why) reply after = (reply ≡ Refused why) × (after ≡ before)
+
+-- Each was, in order, one reply each.
+abbrev pub AreAnsweredOver : {P : Type 0} → Meaning P → P → List Item → List Reply → P → Type 0
+AreAnsweredOver meaning before [] replies after = (replies ≡ []) × (after ≡ before)
+AreAnsweredOver meaning before (item ∷ items) [] after = ⊥
+AreAnsweredOver {P} meaning before (item ∷ items) (reply ∷ replies) after =
+    (between : P) × IsAnsweredOver meaning before item reply between × AreAnsweredOver meaning between items replies after
+
+-- This was answered so over a port from `start` on, by these calls and no others.
 pub record HasAnsweredOver {P : Type 0} (meaning : Meaning P) (start : P) (items : List Item) (replies : List Reply) (port : P) : Type 0 where
   pub calls : List Call
   pub by_calls : AreItemsAnswered items replies calls
   pub made : AreMade meaning start calls port
+  pub each : AreAnsweredOver meaning start items replies port
 
 -- The same of one item.
 pub record HasAnsweredOne {P : Type 0} (meaning : Meaning P) (before : P) (item : Item) (reply : Reply) (after : P) : Type 0 where
   pub calls : List Call
   pub answered : IsItemAnswered item reply calls
   pub made : AreMade meaning before calls after
+  pub is : IsAnsweredOver meaning before item reply after

@@ -19,9 +19,9 @@ use Rattle.store_images.specs.Stored.{IsSoundImage}
 use Rattle.store_core.specs.Opening.{BeginsEmpty, StoreBreaks}
 use Rattle.session_meaning.specs.declared.ending.Ending.{Ending}
 use Rattle.session_meaning.specs.declared.ending.Ending.TheVariants.{Answered, BadWords, NotOpened, NotStore, ReadFault, Refused, Spent, Starved, WriteFault}
-use Rattle.session_meaning.specs.Blocks.{NamesBlock, NamesNoBlock}
 use Rattle.session_meaning.specs.Asked.{AreAsked, AsksNext, IsNextMoment, after_lines, after_moment}
-use Rattle.session_meaning.specs.Session.{At, Ends, EndsAlone, Session, history_of}
+use Rattle.session_meaning.specs.At.{At, history_of}
+use Rattle.session_meaning.specs.Session.{Ends, EndsAlone, Session}
 
 -- What the outside tells at a moment: the bytes that the source has left and those that the sink has taken, the moments that
 -- the clock has to give, and the bytes that the disk holds, each where it tells them; and the counts of faults.
@@ -77,10 +77,9 @@ pub record HasOpened (o : Outcome) (old new : Edges) : Type 0 where
   pub first_faults : old.disk_faults ≤ o.first.faults
   pub last_faults : o.last.faults ≡ new.disk_faults
 
--- The disk's bytes, where it tells them, break first at this place of this file, and so are no store's; or they are one that
--- lists a block, and that is the first byte of the first one, since queries read no block yet.
+-- The disk's bytes, where it tells them, break first at this place of this file, and so are no store's.
 abbrev pub IsNoStore : ℕ → ℕ → Option Image → Type 0
-IsNoStore file at held = IfSome held (λ image. (StoreBreaks image file at × (IsSoundImage image → ⊥)) ⊎ NamesBlock image file at)
+IsNoStore file at held = IfSome held (λ image. StoreBreaks image file at × (IsSoundImage image → ⊥))
 
 -- What stands written where the store wasn't opened: which of its bytes are no store's, or a first part of that; or nothing.
 abbrev pub EndsUnopened : Ending → Edges → Option (List ℕ) → Type 0
@@ -175,23 +174,21 @@ FitsWords (fault ∷ faults) ending = (ending ≡ BadWords) ⊎ (ending ≡ Star
 -- ---- a run
 
 -- A run on these words between the edges as they were and as they are: what the words ask was done, what was asked was answered
--- in order from a store to a store, and the ending has its cause.
-pub record IsRunOf (words : List (List ℕ)) (o : Outcome) (old new : Edges) : Type 0 where
+-- in order from a store to a store, and the ending has its cause. `told` says that what the blocks of the store hold is told.
+pub record IsRunOf (told : Bool) (words : List (List ℕ)) (o : Outcome) (old new : Edges) : Type 0 where
   pub words_fit : FitsWords (fault_of words_app words) o.ending
   pub does : (c : Command) → Spells words c → Does c o old new
-  pub session : Session o.first o.items o.replies o.last
+  pub session : Session told o.first o.items o.replies o.last
   pub cause : HasCause o.ending old new
 
 -- ---- runs that come to their own end
 
--- The disk tells its bytes and they are those of a store that lists no block, and no call of it failed.
+-- The disk tells its bytes and they are those of a store, and no call of it failed.
 abbrev pub HasItsStore : Edges → Edges → Type 0
 HasItsStore old new =
-    (image : Image) × (old.held ≡ Some image) × IsSoundImage image × NamesNoBlock image
-    × (Rose old.disk_faults new.disk_faults → ⊥)
+    (image : Image) × (old.held ≡ Some image) × IsSoundImage image × (Rose old.disk_faults new.disk_faults → ⊥)
 
--- No call failed that the command makes, the disk holds a store that lists no block, and the source has fewer bytes than a run
--- takes.
+-- No call failed that the command makes, the disk holds a store, and the source has fewer bytes than a run takes.
 abbrev pub GoesWell : Command → Edges → Edges → Type 0
 GoesWell session old new =
     HasItsStore old new × (Rose old.sink_faults new.sink_faults → ⊥) × (Rose old.source_faults new.source_faults → ⊥)

@@ -11,39 +11,28 @@ use Rattle.spanset_eval.specs.declared.results.TraceResult.{TraceResult}
 use Rattle.search_answer.specs.Answers.{IsAnswer}
 use Rattle.search_text.specs.Fields.{printed_fields}
 use Rattle.traceql_syntax.specs.Trees.{query_tree}
-use Rattle.session_text.specs.declared.request.Request.TheVariants.{Push, Trace}
 use Rattle.session_text.specs.declared.request.Request.TheVariants as request
 use Rattle.session_text.specs.declared.request.Search.{Search}
 use Rattle.session_text.specs.declared.reply.Reply.{Reply}
-use Rattle.session_text.specs.declared.reply.Reply.TheVariants.{Traced, Searched, Refused}
+use Rattle.session_text.specs.declared.reply.Reply.TheVariants.{Cut, CutAll, Refused, Searched, Traced}
 use Rattle.session_text.specs.declared.refusal.Refusal.{Refusal}
-use Rattle.session_text.specs.declared.refusal.Refusal.TheVariants.{Memory}
+use Rattle.session_text.specs.declared.refusal.Refusal.TheVariants as refusal
 use Rattle.session_text.specs.Items.{Item}
 use Rattle.session_text.specs.Replies.{reply_text}
+use Rattle.span_types.specs.declared.errors.Memory.{Memory}
 use Rattle.store_model.specs.History.{History, count_of, history_rows}
 use Rattle.store_model.specs.Event.{Event as event}
-use Rattle.store_model.specs.Step.{Machine, Step}
-use Rattle.store_state.specs.Replies.{push_reply}
+use Rattle.store_state.specs.Replies.{count_reply, push_reply}
 use Rattle.store_state.specs.declared.errors.PushError.{PushError}
-use Rattle.client_run.specs.Answers.{pushed_reply}
+use Rattle.store_state.specs.declared.rounds.Refusal.TheVariants as round
+use Rattle.store_state.specs.declared.rounds.Round.{Round}
+use Rattle.client_run.specs.Answers.{cut_reply, flush_reply, pushed_reply}
+use Rattle.session_meaning.specs.At.{At, IsStep, IsStill, history_of}
+use Rattle.session_meaning.specs.Causes.{HasQueryCause}
+use Rattle.session_meaning.specs.Flushed.{IsFlushed}
 use Rattle.session_meaning.specs.declared.ending.Ending.{Ending}
 use Rattle.session_meaning.specs.declared.ending.Ending.TheVariants.{Answered, ReadFault, Spent, Starved, WriteFault}
 use Rattle.session_meaning.specs.declared.ending.Ending.TheVariants as ending
-
--- ---- the store between two lines
-
--- Where a session stands between two lines: the store's machine, whose history is the pushes that were accepted so far, and
--- how many faults its disk has counted.
-pub record At : Type 0 where
-  pub machine : Machine
-  pub faults : ℕ
-
-abbrev pub history_of : At → History
-history_of at = at.machine.history
-
--- Nothing was pushed, and nothing else of the store changed.
-abbrev pub IsStill : At → At → Type 0
-IsStill before after = (after.machine ≡ before.machine) × (before.faults ≤ after.faults)
 
 -- ---- what is asked, and its answer
 
@@ -57,45 +46,63 @@ pub record IsFound (s : Search) (history : History) (results : List TraceResult)
   pub firsts : IsFirstOf (history_rows history) rows
   pub answer : IsAnswer s.checked.patterns (query_tree s.checked.query) s.range s.limit s.spans_per_set rows results
 
+-- What a query tells is sure where what the blocks hold is told, which is what `told` says, or where the store lists no block.
+abbrev pub IsSure : Bool → At → Type 0
+IsSure told at = (told ≡ true) ⊎ (at.machine.state.blocks ≡ [])
+
 -- What is asked is answered so, and leaves that.
 -- A push is a step of the store. Accepted, it is told how many pushes came before it, how many of its spans are kept and were
 -- rejected, and how much was skipped, and its spans are appended to the history. Refused, it is told a cause that holds.
 -- A look-up is told how many pushes there were, and what it finds in all of them. So is a search. They change nothing.
+-- A cut is a step of the store that moves the rows of some traces to the head, and is told how many these are; or memory was
+-- wanted. A flush makes a block of rows that wait in the head, and is told how many it has, or that none waited, or why not. Of
+-- what was pushed they change nothing.
 -- A line that asks nothing is refused for its cause, and changes nothing.
-abbrev pub IsAnswered : Item → At → Reply → At → Type 0
-IsAnswered (Ok (Push reading moment)) before reply after =
-    (answer : Result ℕ PushError) × (reply ≡ pushed_reply reading answer) × (before.faults ≤ after.faults)
-    × Step before.faults after.faults before.machine (event.Push reading.batch.spans moment) (push_reply answer) after.machine
-IsAnswered (Ok (Trace id)) before reply after =
-    (rows : List Row) × IsTraceIn id (history_of before) rows
+abbrev pub IsAnswered : Bool → Item → At → Reply → At → Type 0
+IsAnswered told (Ok (request.Push reading moment)) before reply after =
+    (answer : Result ℕ PushError) × (reply ≡ pushed_reply reading answer)
+    × IsStep before (event.Push reading.batch.spans moment) (push_reply answer) after
+IsAnswered told (Ok (request.Trace id)) before reply after =
+    (rows : List Row) × (IsSure told before → IsTraceIn id (history_of before) rows)
     × (reply ≡ Traced (count_of (history_of before)) rows) × IsStill before after
-IsAnswered (Ok (request.Search s)) before reply after =
-    (results : List TraceResult) × IsFound s (history_of before) results
+IsAnswered told (Ok (request.Search s)) before reply after =
+    (results : List TraceResult) × (IsSure told before → IsFound s (history_of before) results)
     × (reply ≡ Searched (count_of (history_of before)) (printed_fields (query_tree s.checked.query)) results)
     × IsStill before after
-IsAnswered (Err why) before reply after = (reply ≡ Refused why) × (after ≡ before)
+IsAnswered told (Ok (request.Cut moment)) before reply after =
+    (answer : Result ℕ Memory) × (reply ≡ cut_reply Cut answer) × IsStep before (event.Cut moment) (count_reply answer) after
+IsAnswered told (Ok request.CutAll) before reply after =
+    (answer : Result ℕ Memory) × (reply ≡ cut_reply CutAll answer) × IsStep before event.CutAll (count_reply answer) after
+IsAnswered told (Ok request.Flush) before reply after =
+    (round : Round) × (reply ≡ flush_reply round) × IsFlushed before round after
+IsAnswered told (Err why) before reply after = (reply ≡ Refused why) × (after ≡ before)
 
--- Memory was wanted for a query: it is refused for that, and changes nothing. When a push is, its step says.
-abbrev pub IsStarved : Item → At → Reply → At → Type 0
-IsStarved (Ok (Push reading moment)) before reply after = ⊥
-IsStarved (Ok query) before reply after = (reply ≡ Refused Memory) × IsStill before after
-IsStarved (Err why) before reply after = ⊥
+-- A query is refused for its cause, and changes nothing. When a push, a cut or a flush is, its steps say.
+abbrev pub IsQueryRefused : Bool → At → Reply → At → Type 0
+IsQueryRefused told before reply after =
+    (why : Refusal) × (reply ≡ Refused why) × HasQueryCause told why before after × IsStill before after
 
-abbrev pub IsAnsweredOrStarved : Item → At → Reply → At → Type 0
-IsAnsweredOrStarved item before reply after = IsAnswered item before reply after ⊎ IsStarved item before reply after
+abbrev pub IsRefused : Bool → Item → At → Reply → At → Type 0
+IsRefused told (Ok (request.Trace id)) before reply after = IsQueryRefused told before reply after
+IsRefused told (Ok (request.Search s)) before reply after = IsQueryRefused told before reply after
+IsRefused told _ before reply after = ⊥
+
+abbrev pub IsAnsweredOrRefused : Bool → Item → At → Reply → At → Type 0
+IsAnsweredOrRefused told item before reply after = IsAnswered told item before reply after ⊎ IsRefused told item before reply after
 
 -- What is asked is answered in order, one reply each, from a store to a store.
-abbrev pub Session : At → List Item → List Reply → At → Type 0
-Session before [] replies after = (replies ≡ []) × (after ≡ before)
-Session before (item ∷ items) [] after = ⊥
-Session before (item ∷ items) (reply ∷ replies) after =
-    (between : At) × IsAnsweredOrStarved item before reply between × Session between items replies after
+abbrev pub Session : Bool → At → List Item → List Reply → At → Type 0
+Session told before [] replies after = (replies ≡ []) × (after ≡ before)
+Session told before (item ∷ items) [] after = ⊥
+Session told before (item ∷ items) (reply ∷ replies) after =
+    (between : At) × IsAnsweredOrRefused told item before reply between × Session told between items replies after
 
 -- ---- how a session ends, and what stands written
 
 -- A refusal for another cause than memory.
 abbrev pub is_for_other : Refusal → Bool
-is_for_other Memory = false
+is_for_other refusal.Memory = false
+is_for_other (refusal.Round round.Memory) = false
 is_for_other _ = true
 
 abbrev pub is_refusal : Reply → Bool
@@ -109,7 +116,8 @@ is_refused (Err why) = is_for_other why
 
 -- A refusal for memory.
 abbrev pub is_memory : Refusal → Bool
-is_memory Memory = true
+is_memory refusal.Memory = true
+is_memory (refusal.Round round.Memory) = true
 is_memory _ = false
 
 abbrev pub is_for_memory : Reply → Bool

@@ -9,7 +9,7 @@ use Rattle.store_model.specs.History.{count_of}
 use Rattle.store_images.specs.Stored.{ImageStandsFor, KeepsStored, MayStandFor}
 use Rattle.store_core.specs.Opening.{BeginsAs}
 use Rattle.store_core.specs.Past.{StoodFor}
-use Rattle.session_meaning.specs.Session.{At, history_of}
+use Rattle.session_meaning.specs.At.{At, history_of}
 use Rattle.session_meaning.specs.Pushes.{unsure_batch}
 use Rattle.session_meaning.specs.Runs.{Outcome}
 

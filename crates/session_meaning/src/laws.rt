@@ -1,9 +1,11 @@
 //! What follows from the definitions of a session and of a run.
 
-ghost use Rattle.std.specs.Prelude.{◌≡◌, ◌⊎◌, ◌<◌, ◌++◌, List, [], ◌∷◌, Some, Ok, false, length, take, ℕ};
+ghost use Rattle.std.specs.Prelude.{Bool, IsTrue, true, ◌≡◌, ◌⊎◌, ◌<◌, ◌++◌, List, [], ◌∷◌, Some, None, Ok, false, length, take, ℕ};
 ghost use Rattle.std.specs.List.{Contains, list_any};
 ghost use Rattle.command_words.specs.Commands.{Command, Spells};
 ghost use Rattle.disk_model.specs.Images.{Image};
+ghost use Rattle.flusher.specs.Rounds.{IsFlushRound};
+ghost use Rattle.span_types.specs.Faults.{Rose};
 ghost use Rattle.span_types.specs.First.{IsFirstOf};
 ghost use Rattle.span_types.specs.declared.spans.Row.{Row};
 ghost use Rattle.otlp_spans.specs.declared.read.Reading.{Reading};
@@ -15,68 +17,104 @@ ghost use Rattle.session_text.specs.Items.{Item};
 ghost use Rattle.store_model.specs.History.{History, count_of, grown};
 ghost use Rattle.store_model.specs.Laws.{Agrees};
 ghost use Rattle.store_images.specs.Stored.{ImageStandsFor, MayStandFor};
+ghost use Rattle.store_core.specs.Cores.{CoreShows};
+ghost use Rattle.store_core.specs.Past.{StandsSince};
+ghost use Rattle.store_core.specs.Port.{port_of};
+ghost use Rattle.store_model.specs.Step.{Machine};
 ghost use Rattle.store_state.specs.Made.{Call};
-ghost use Rattle.session_meaning.specs.Answering.{AreItemsAnswered, CallsLead, IsAnsweredByCalls};
-ghost use Rattle.session_meaning.specs.Causes.{HasPushCause};
+ghost use Rattle.store_state.specs.declared.rounds.Refusal.{Refusal as Cause};
+ghost use Rattle.store_state.specs.declared.rounds.Round.{Round};
+ghost use Rattle.store_state.specs.declared.rounds.Round.TheVariants.{Did, Nothing, Refused as IsRefused};
+ghost use Rattle.session_meaning.specs.Answering.{AreItemsAnswered, CallsLead, IsAnsweredByCalls, at_core};
+ghost use Rattle.session_meaning.specs.Causes.{HasFlushCause, HasPushCause};
+ghost use Rattle.session_meaning.specs.Flushed.{HasListed, IsDoneOrStarved, IsFlushed};
 ghost use Rattle.session_meaning.specs.declared.ending.Ending.TheVariants.{Answered, Starved};
-ghost use Rattle.session_meaning.specs.Pushes.{HasRoomFor, accepted_batches, known_pushes};
+ghost use Rattle.session_meaning.specs.Progress.{AreAnsweredOver};
+ghost use Rattle.session_meaning.specs.Pushes.{HasRoomFor, HasRoomForPush, accepted_batches, known_pushes};
 ghost use Rattle.session_meaning.specs.Runs.{ComesToItsEnd, Edges, GoesWell, IsRunOf, Outcome};
-ghost use Rattle.session_meaning.specs.Session.{At, IsAnswered, IsAnsweredOrStarved, Session, history_of, is_refused};
+ghost use Rattle.session_meaning.specs.At.{At, IsStill, history_of};
+ghost use Rattle.session_meaning.specs.Session.{IsAnswered, IsAnsweredOrRefused, Session, is_refused};
 ghost use Rattle.session_meaning.specs.Stops.{StandsForLast, StandsWithin, unsure_spans};
+ghost use Rattle.session_meaning.specs.Upkeep.{HasFailedSince, IsClosed};
 
-/// What is answered by calls of a store that lists no block is answered as the history says: the machine of the store,
-/// with its blocks, logs and pins, tells no more than the pushes do.
+use disk_model::Device;
+use store_core::Core;
+
+/// What is answered by calls of a store is answered as the history says, but that what queries tell isn't said where the store
+/// lists blocks: the machine of the store, with its logs and pins, tells no more than the pushes do.
 pub fn calls_answer_as_the_history_says()
     ensures item { (item : Item) (before after : At) (reply : Reply) → Agrees before.machine
-        → before.machine.state.blocks ≡ [] → IsAnsweredByCalls item before reply after
-        → IsAnsweredOrStarved item before reply after }
+        → IsAnsweredByCalls item before reply after → IsAnsweredOrRefused false item before reply after }
     ensures session { (items : List Item) (replies : List Reply) (calls : List Call) (first last : At)
-        → Agrees first.machine → first.machine.state.blocks ≡ [] → AreItemsAnswered items replies calls
-        → CallsLead first calls last → Session first items replies last }
+        → Agrees first.machine → AreItemsAnswered items replies calls → CallsLead first calls last
+        → Session false first items replies last }
 {}
 
-/// A session keeps that the rows of the store are those of its history, and lists no block where none was listed.
+/// What is answered over the port of a core is a session.
+pub fn a_core_answers_as_the_history_says<D: Device>(old: &Core<D>, new: &Core<D>)
+    // From a machine on that its memory shows, whatever its disk holds, to one that it shows then. What queries tell isn't said
+    // where the store lists blocks.
+    ensures shown { (items : List Item) (replies : List Reply)
+        → AreAnsweredOver (port_of D.Device.own) old.now items replies new.now → (m : Machine)
+        → CoreShows D.Device.own old.now m → (later : Machine) × CoreShows D.Device.own new.now later
+        × Session false (at_core D.Device.own old.now m) items replies (at_core D.Device.own new.now later) }
+    // From a machine on for which it stands, where its disk tells its bytes: queries tell of all that was pushed, wherever it lies.
+    // What was left since an earlier disk goes on standing for the history at some length.
+    ensures since { (items : List Item) (replies : List Reply)
+        → AreAnsweredOver (port_of D.Device.own) old.now items replies new.now → (m : Machine) → (start : D) (least : ℕ)
+        → StandsSince D.Device.own start least old.now m → IsTrue (D.tells old.now.disk)
+        → (later : Machine) × StandsSince D.Device.own start least new.now later
+        × Session true (at_core D.Device.own old.now m) items replies (at_core D.Device.own new.now later) }
+{}
+
+/// A session keeps that the rows of the store are those of its history, and leaves no flush open while the store writes.
 pub fn sessions_keep_the_store()
-    ensures agrees { (items : List Item) (replies : List Reply) (first last : At) → Session first items replies last
-        → Agrees first.machine → Agrees last.machine }
-    ensures no_blocks { (items : List Item) (replies : List Reply) (first last : At) → Session first items replies last
-        → first.machine.state.blocks ≡ [] → last.machine.state.blocks ≡ [] }
+    ensures agrees { (told : Bool) (items : List Item) (replies : List Reply) (first last : At)
+        → Session told first items replies last → Agrees first.machine → Agrees last.machine }
+    ensures closed { (told : Bool) (items : List Item) (replies : List Reply) (first last : At)
+        → Session told first items replies last → IsClosed first.machine → IsClosed last.machine }
+    // A store that wrote at first writes no more only where a call failed since, and then it tells the disk's count after that.
+    ensures read_only { (told : Bool) (items : List Item) (replies : List Reply) (first last : At)
+        → Session told first items replies last → first.machine.read_only ≡ None → HasFailedSince first.faults last }
 {}
 
 /// What the replies of a session tell of its pushes.
 pub fn replies_tell_the_history()
     // The last history is the first one, and behind it the batches of the pushes that were accepted, in order.
-    ensures appended { (items : List Item) (replies : List Reply) (first last : At) → Session first items replies last
+    ensures appended { (told : Bool) (items : List Item) (replies : List Reply) (first last : At)
+        → Session told first items replies last
         → history_of last ≡ grown (history_of first) (accepted_batches items replies) }
     // What an accepted push is told, its number, is below the count of pushes that any later query knows of.
-    ensures known_later { (items : List Item) (earlier later : List Reply) (first last : At)
+    ensures known_later { (told : Bool) (items : List Item) (earlier later : List Reply) (first last : At)
         → (number kept rejected skipped : ℕ)
-        → Session first items (earlier ++ Pushed number kept rejected skipped ∷ later) last
+        → Session told first items (earlier ++ Pushed number kept rejected skipped ∷ later) last
         → (reply : Reply) (known : ℕ) → Contains later reply → known_pushes reply ≡ Some known → number < known }
 {}
 
 /// Which pushes are refused, and which are accepted.
 pub fn pushes_have_their_causes()
     // Refused, it has the cause that it is told, and the history stays.
-    ensures refused { (reading : Reading) (moment : ℕ) (before after : At) (why : Refusal)
-        → IsAnswered (Ok (Push reading moment)) before (Refused why) after
+    ensures refused { (told : Bool) (reading : Reading) (moment : ℕ) (before after : At) (why : Refusal)
+        → IsAnswered told (Ok (Push reading moment)) before (Refused why) after
         → HasPushCause why (length reading.batch.spans) before after
         × (history_of after ≡ history_of before) }
     // Accepted, it had room in a store that writes, and is told how many came before it.
-    ensures accepted { (reading : Reading) (moment : ℕ) (before after : At) (number kept rejected skipped : ℕ)
-        → IsAnswered (Ok (Push reading moment)) before (Pushed number kept rejected skipped) after
-        → HasRoomFor (Ok (Push reading moment) ∷ []) before.machine × (number ≡ count_of (history_of before)) }
+    ensures accepted { (told : Bool) (reading : Reading) (moment : ℕ) (before after : At) (number kept rejected skipped : ℕ)
+        → IsAnswered told (Ok (Push reading moment)) before (Pushed number kept rejected skipped) after
+        → HasRoomForPush (length reading.batch.spans) before.machine × (number ≡ count_of (history_of before)) }
 {}
 
 /// What is stored, by the pushes that were accepted. A run that is stopped is one over a disk of which from some call
 /// on every call fails: what it hands back then has each push that was accepted before the stop.
 pub fn accepted_pushes_are_stored()
     // An image of the disk that is handed back: what was stored at first and behind it all accepted batches, in order.
-    ensures returned { (o : Outcome) (image : Image) → Session o.first o.items o.replies o.last
+    ensures returned { (told : Bool) (o : Outcome) (image : Image)
+        → Session told o.first o.items o.replies o.last
         → StandsForLast o image
         → MayStandFor (grown (history_of o.first) (accepted_batches o.items o.replies)) (unsure_spans o) image }
     // One since the store was opened: the same with the first few of these batches.
-    ensures at_any_moment { (o : Outcome) (image : Image) → Session o.first o.items o.replies o.last
+    ensures at_any_moment { (told : Bool) (o : Outcome) (image : Image)
+        → Session told o.first o.items o.replies o.last
         → StandsWithin o image
         → ((n : ℕ) × ImageStandsFor image (grown (history_of o.first) (take n (accepted_batches o.items o.replies))))
         ⊎ MayStandFor (grown (history_of o.first) (accepted_batches o.items o.replies)) (unsure_spans o) image }
@@ -92,11 +130,38 @@ pub fn what_is_stored_is_a_base()
 /// end.
 pub fn comes_to_an_end()
     // It answers all that it was asked.
-    ensures ends { (words : List (List ℕ)) (c : Command) (o : Outcome) (old new : Edges) → Spells words c
-        → IsRunOf words o old new → GoesWell c old new → ComesToItsEnd o.ending }
-    // And where nothing was refused in reading, and the store had room, nothing is refused but for memory.
+    ensures ends { (told : Bool) (words : List (List ℕ)) (c : Command) (o : Outcome) (old new : Edges) → Spells words c
+        → IsRunOf told words o old new → GoesWell c old new → ComesToItsEnd o.ending }
+    // And where nothing was refused in reading, the store had room, and what its blocks hold is told, nothing is refused but for
+    // memory.
     ensures well { (words : List (List ℕ)) (c : Command) (o : Outcome) (old new : Edges) → Spells words c
-        → IsRunOf words o old new → GoesWell c old new
+        → IsRunOf true words o old new → GoesWell c old new
         → (before : List ℕ) → old.taken ≡ Some before → list_any is_refused o.items ≡ false
         → HasRoomFor o.items o.first.machine → (o.ending ≡ Answered) ⊎ (o.ending ≡ Starved) }
+{}
+
+/// What a flush makes of the store.
+pub fn flushes_have_their_causes()
+    // The calls of a round make of the store what a flush does.
+    ensures by_calls { (calls : List Call) (round : Round) (before after : At) → IsFlushRound calls round
+        → CallsLead before calls after → IsFlushed before round after }
+    // Refused, it has the cause that it is told.
+    ensures refused { (before after : At) (why : Cause) → IsClosed before.machine
+        → IsFlushed before (IsRefused why) after → HasFlushCause why before after }
+    // A flush of an empty head, in a store that writes, is told just that.
+    ensures empty { (before after : At) (round : Round) → before.machine.read_only ≡ None → IsClosed before.machine
+        → length before.machine.state.head ≡ 0 → IsFlushed before round after → round ≡ Nothing }
+    // And where it is told that, the head was empty, and the store is as it was.
+    ensures nothing { (before after : At) → IsFlushed before Nothing after
+        → (length before.machine.state.head ≡ 0) × IsStill before after }
+    // A block that is listed holds the first occurrences of the rows that waited first, and it is told how many these are.
+    ensures listed { (before after : At) (blocks rows : ℕ) → IsFlushed before (Did blocks rows) after
+        → HasListed before.machine blocks rows after.machine }
+    // Without faults, in a store that writes and has file numbers left, it is done or memory was wanted.
+    ensures well { (before after : At) (round : Round) → (Rose before.faults after.faults → ⊥)
+        → before.machine.read_only ≡ None → IsClosed before.machine → before.machine.state.next_file < 4294967294
+        → IsFlushed before round after → IsDoneOrStarved round }
+    // It leaves no flush open in a store that writes, and the history as it was.
+    ensures kept { (before after : At) (round : Round) → IsClosed before.machine → IsFlushed before round after
+        → IsClosed after.machine × (history_of after ≡ history_of before) }
 {}

@@ -12,7 +12,7 @@ use std::thread::Threads;
 use trace_shell::{Ended, run};
 use traceql_types::RegexMaker;
 
-const PUSHED_0: &str = "ok push 0 accepted=1 rejected=0 skipped=0\n";
+pub(crate) const PUSHED_0: &str = "ok push 0 accepted=1 rejected=0 skipped=0\n";
 
 const SEARCH: &str = "search { .none = 1 }\n";
 
@@ -48,7 +48,7 @@ fn session_on<R: Threads + Wait + Sync>(
 }
 
 // Whether a session over the input writes just that on the disk, and ends with that status.
-fn writes<R: Threads + Wait + Sync>(
+pub(crate) fn writes<R: Threads + Wait + Sync>(
     rt: &R,
     alloc: Global,
     disk: &mut MemDisk,

@@ -5,6 +5,8 @@
 #[cfg(test)]
 mod durable_tests;
 #[cfg(test)]
+mod flush_tests;
+#[cfg(test)]
 mod run_tests;
 #[cfg(test)]
 mod search_tests;

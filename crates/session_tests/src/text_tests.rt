@@ -7,6 +7,7 @@ use spanset_eval::Results;
 use std::alloc::Global;
 use std::process::Abort;
 use std::test::Fail;
+use store_state::Refusal as RoundRefusal;
 use traceql_print::print_query;
 use traceql_types::ScriptedMaker;
 
@@ -45,6 +46,9 @@ fn asked(alloc: Global, line: &[u8]) -> Result<Text, Memory> {
             Ok(Text::of(format!(in alloc; "trace {digits}\n")?))
         }
         Ok(Request::Search(search)) => told(alloc, &search),
+        Ok(Request::Cut { moment }) => Ok(Text::of(format!(in alloc; "cut at {moment}\n")?)),
+        Ok(Request::CutAll) => Ok(Text::of(String::from_str(alloc, "cutall\n")?)),
+        Ok(Request::Flush) => Ok(Text::of(String::from_str(alloc, "flush\n")?)),
         Err(why) => write_reply(alloc, &Reply::Refused(why)),
     }
 }
@@ -89,6 +93,19 @@ trace_000000000000000000000000000000a1_x => refused bad-request at=39
 trace_g_x => refused bad-request at=6
 Trace_000000000000000000000000000000a1 => refused bad-request at=0
 traces_000000000000000000000000000000a1 => refused bad-request at=0
+cut => cut at 7
+cut_ => refused bad-request at=4
+cut_1 => refused bad-request at=4
+cuts => refused bad-request at=0
+Cut => refused bad-request at=0
+cutall => cutall
+cutall_ => refused bad-request at=7
+cutall_cut => refused bad-request at=7
+cut_all => refused bad-request at=4
+flush => flush
+flush_ => refused bad-request at=6
+flush_now => refused bad-request at=6
+_flush => refused bad-request at=0
 Search_{_} => refused bad-request at=0
 searches_{_} => refused bad-request at=0
 search => refused bad-request at=6
@@ -249,6 +266,17 @@ fn a_search_without_results_is_written(rt: HostRuntime) -> Result<(), Fail> {
     Ok(())
 }
 
+#[test]
+fn cuts_and_flushes_are_acknowledged(rt: HostRuntime) -> Result<(), Fail> {
+    check_reply(&rt, &Reply::Cut { moved: 0 }, "ok cut moved=0\n")?;
+    let all = Reply::CutAll { moved: 262_144 };
+    check_reply(&rt, &all, "ok cutall moved=262144\n")?;
+    let flushed = Reply::Flushed { rows: 1_048_576 };
+    check_reply(&rt, &flushed, "ok flush rows=1048576\n")?;
+    check_reply(&rt, &Reply::NothingFlushed, "ok flush nothing\n")?;
+    Ok(())
+}
+
 fn check_refusal(
     rt: &(impl Abort + AllocGlobal),
     why: Refusal,
@@ -285,5 +313,33 @@ fn refusals_of_a_store_are_written(rt: HostRuntime) -> Result<(), Fail> {
         at: 16_383,
     };
     check_refusal(&rt, bytes, "refused not-store file=3 at=16383\n")?;
+    Ok(())
+}
+
+fn check_round(
+    rt: &(impl Abort + AllocGlobal),
+    why: RoundRefusal,
+    wanted: &str,
+) -> Result<(), Memory> {
+    check_refusal(rt, Refusal::Round(why), wanted)
+}
+
+#[test]
+fn refusals_of_rounds_are_written(rt: HostRuntime) -> Result<(), Fail> {
+    let read_only = RoundRefusal::ReadOnly { faults: 2 };
+    check_round(&rt, read_only, "refused read-only faults=2\n")?;
+    let busy = RoundRefusal::Busy { job: 3 };
+    check_round(&rt, busy, "refused busy job=3\n")?;
+    let spent = RoundRefusal::FilesSpent {
+        next: 4_294_967_294,
+    };
+    check_round(&rt, spent, "refused files-spent next=4294967294\n")?;
+    check_round(&rt, RoundRefusal::Fault, "refused disk-fault\n")?;
+    check_round(&rt, RoundRefusal::Memory, "refused memory\n")?;
+    let block = RoundRefusal::NotBlock {
+        file: 3,
+        at: 16_383,
+    };
+    check_round(&rt, block, "refused not-block file=3 at=16383\n")?;
     Ok(())
 }

@@ -18,11 +18,11 @@ no_text bytes h = go (is_utf8 bytes) refl
 
 -- what a line is that isn't too long and no push, where it is the text
 pub of_text : (moment : ℕ) (line text : List ℕ) → length line ≤ line_limit → bytes_eq (first_part line) (codes "push") ≡ false → (text ≡ line) × IsUtf8 line
-    → line_of moment line ≡ other_line (first_part text) text (other_parts text)
+    → line_of moment line ≡ other_line moment (first_part text) text (other_parts text)
 unfolding line_of
 of_text moment line text short other is =
     let fits : nat_le (length line) line_limit ≡ true = le-leb (length line) line_limit short in
-    rw (fits, other, is_utf8-from_IsUtf8 line is.1) (ap (λ (l : List ℕ). other_line (first_part l) l (other_parts l)) (sym is.0))
+    rw (fits, other, is_utf8-from_IsUtf8 line is.1) (ap (λ (l : List ℕ). other_line moment (first_part l) l (other_parts l)) (sym is.0))
 
 -- the same where it is no text
 pub of_bytes : (moment : ℕ) (line : List ℕ) → length line ≤ line_limit → bytes_eq (first_part line) (codes "push") ≡ false → (IsUtf8 line → ⊥) → line_of moment line ≡ plain (Err (BadRequest 0))

@@ -7,9 +7,11 @@ use Rattle.session_text.specs.declared.refusal.KindFault.TheVariants as kind
 use Rattle.session_text.specs.declared.refusal.QueryFault.{QueryFault}
 use Rattle.session_text.specs.declared.refusal.QueryFault.TheVariants as query
 use Rattle.session_text.specs.declared.refusal.Refusal.{Refusal}
-use Rattle.session_text.specs.declared.refusal.Refusal.TheVariants.{TooLong, BadRequest, BadJson, BadOtlp, TooMany, BadQuery, BadType, BadPattern, PatternTooBig, LiveFull, StoreFull, ReadOnly, DiskFault, NotStore, Memory}
+use Rattle.session_text.specs.declared.refusal.Refusal.TheVariants.{TooLong, BadRequest, BadJson, BadOtlp, TooMany, BadQuery, BadType, BadPattern, PatternTooBig, LiveFull, StoreFull, ReadOnly, DiskFault, Round, NotStore, Memory}
 use Rattle.session_text.specs.declared.reply.Reply.{Reply}
-use Rattle.session_text.specs.declared.reply.Reply.TheVariants.{Pushed, Traced, Searched, Refused}
+use Rattle.session_text.specs.declared.reply.Reply.TheVariants.{Pushed, Traced, Searched, Cut, CutAll, Flushed, NothingFlushed, Refused}
+use Rattle.store_state.specs.declared.rounds.Refusal.{Refusal as RoundRefusal}
+use Rattle.store_state.specs.declared.rounds.Refusal.TheVariants as round
 
 -- Texts one after another.
 abbrev pub texts : List (List ℕ) → List ℕ
@@ -32,6 +34,17 @@ traced_text as_of spans json = texts (
 abbrev pub searched_text : ℕ → ℕ → List ℕ → List ℕ
 searched_text as_of traces json = texts (
     codes "ok search as_of=" ∷ decimal as_of ∷ codes " traces=" ∷ decimal traces ∷ codes " " ∷ json ∷ codes "\n" ∷ [])
+
+-- A cut of idle traces or of all: how many rows it moved.
+abbrev pub cut_text : ℕ → List ℕ
+cut_text moved = texts (codes "ok cut moved=" ∷ decimal moved ∷ codes "\n" ∷ [])
+
+abbrev pub cut_all_text : ℕ → List ℕ
+cut_all_text moved = texts (codes "ok cutall moved=" ∷ decimal moved ∷ codes "\n" ∷ [])
+
+-- A flush: how many rows its block has, or that there was nothing to do.
+abbrev pub flushed_text : ℕ → List ℕ
+flushed_text rows = texts (codes "ok flush rows=" ∷ decimal rows ∷ codes "\n" ∷ [])
 
 -- A refusal with what it names.
 abbrev pub refused_text : List ℕ → List ℕ → List ℕ
@@ -58,6 +71,19 @@ kind_text (kind.NotNumber at) = refused_text (codes "bad-type not-number at=") (
 abbrev pub not_store_text : ℕ → ℕ → List ℕ
 not_store_text file at = texts (codes "refused not-store file=" ∷ decimal file ∷ codes " at=" ∷ decimal at ∷ codes "\n" ∷ [])
 
+-- a block that isn't one from this byte of this file on
+abbrev pub not_block_text : ℕ → ℕ → List ℕ
+not_block_text file at = texts (codes "refused not-block file=" ∷ decimal file ∷ codes " at=" ∷ decimal at ∷ codes "\n" ∷ [])
+
+-- a round that was refused
+abbrev pub round_text : RoundRefusal → List ℕ
+round_text (round.ReadOnly faults) = refused_text (codes "read-only faults=") (decimal faults)
+round_text (round.Busy job) = refused_text (codes "busy job=") (decimal job)
+round_text (round.FilesSpent next) = refused_text (codes "files-spent next=") (decimal next)
+round_text round.Fault = refused_text (codes "disk-fault") []
+round_text round.Memory = refused_text (codes "memory") []
+round_text (round.NotBlock file at) = not_block_text file at
+
 abbrev pub refusal_text : Refusal → List ℕ
 refusal_text (TooLong length) = refused_text (codes "too-long length=") (decimal length)
 refusal_text (BadRequest at) = refused_text (codes "bad-request at=") (decimal at)
@@ -72,6 +98,7 @@ refusal_text (LiveFull held) = refused_text (codes "live-full held=") (decimal h
 refusal_text (StoreFull pushes) = refused_text (codes "store-full pushes=") (decimal pushes)
 refusal_text (ReadOnly faults) = refused_text (codes "read-only faults=") (decimal faults)
 refusal_text DiskFault = refused_text (codes "disk-fault") []
+refusal_text (Round why) = round_text why
 refusal_text (NotStore file at) = not_store_text file at
 refusal_text Memory = refused_text (codes "memory") []
 
@@ -80,4 +107,8 @@ abbrev pub reply_text : Reply → List ℕ
 reply_text (Pushed number accepted rejected skipped) = pushed_text number accepted rejected skipped
 reply_text (Traced as_of rows) = traced_text as_of (length rows) (trace_text (spans_in rows))
 reply_text (Searched as_of fields results) = searched_text as_of (length results) (results_text fields results)
+reply_text (Cut moved) = cut_text moved
+reply_text (CutAll moved) = cut_all_text moved
+reply_text (Flushed rows) = flushed_text rows
+reply_text NothingFlushed = codes "ok flush nothing\n"
 reply_text (Refused why) = refusal_text why

@@ -11,7 +11,7 @@ use Rattle.otlp_spans.specs.Reading as otlp
 use Rattle.session_text.specs.declared.refusal.Refusal.{Refusal}
 use Rattle.session_text.specs.declared.refusal.Refusal.TheVariants.{TooLong, BadRequest, BadJson, BadOtlp, TooMany, Memory}
 use Rattle.session_text.specs.declared.request.Request.{Request}
-use Rattle.session_text.specs.declared.request.Request.TheVariants.{Push, Trace, Search}
+use Rattle.session_text.specs.declared.request.Request.TheVariants.{Push, Trace, Search, Cut, CutAll, Flush}
 use Rattle.session_text.specs.Lines.{first_part, other_parts}
 use Rattle.session_text.specs.Options.{SearchLine, search_parts}
 use Rattle.session_text.specs.Searches.{ReadsSearch}
@@ -44,6 +44,11 @@ abbrev pub trace_with : ℕ → Option (List ℕ) → Result Request Refusal
 trace_with len None = Err (BadRequest len)
 trace_with len (Some rest) = with_id 6 (first_part rest) (trace_id_of (first_part rest)) (other_parts rest)
 
+-- A word that stands alone asks this. `word` is the word, and no part may stand behind it.
+abbrev pub alone : List ℕ → Option (List ℕ) → Request → Result Request Refusal
+alone word None request = Ok request
+alone word (Some more) request = Err (BadRequest (length word + 1))
+
 -- What a line is: a search, which may be answered in more than one way, since the patterns that are made of a query
 -- aren't told by its text; or one that asks this or is refused so.
 pub data Line : Type 0 where
@@ -55,11 +60,14 @@ abbrev pub search_with : Result SearchLine ℕ → Line
 search_with (Ok line) = searched line
 search_with (Err at) = plain (Err (BadRequest at))
 
--- A line of UTF-8 that is no push.
-abbrev pub other_line : List ℕ → List ℕ → Option (List ℕ) → Line
-other_line word line rest =
+-- A line of UTF-8 that is no push, read at a moment.
+abbrev pub other_line : ℕ → List ℕ → List ℕ → Option (List ℕ) → Line
+other_line moment word line rest =
     if bytes_eq word (codes "trace") then plain (trace_with (length line) rest)
     else if bytes_eq word (codes "search") then search_with (search_parts (length line) rest)
+    else if bytes_eq word (codes "cut") then plain (alone word rest (Cut moment))
+    else if bytes_eq word (codes "cutall") then plain (alone word rest CutAll)
+    else if bytes_eq word (codes "flush") then plain (alone word rest Flush)
     else plain (Err (BadRequest 0))
 
 -- What a request is that was read at a moment, by its first part. Only a push may have bytes that aren't UTF-8, and its JSON
@@ -67,7 +75,7 @@ other_line word line rest =
 abbrev pub request_by : ℕ → List ℕ → List ℕ → Option (List ℕ) → Line
 request_by moment word line rest =
     if bytes_eq word (codes "push") then plain (push_with moment (length line) rest)
-    else if is_utf8 line then other_line word line rest
+    else if is_utf8 line then other_line moment word line rest
     else plain (Err (BadRequest 0))
 
 -- What a request is, however long.
@@ -101,5 +109,4 @@ Asks line refused result = (moment : ℕ) × AsksAt moment line refused result
 -- A push has at most as many spans as a line may have.
 abbrev pub HasFewSpans : Request → Type 0
 HasFewSpans (Push reading moment) = length reading.batch.spans ≤ MOST_SPANS
-HasFewSpans (Trace id) = ⊤
-HasFewSpans (Search search) = ⊤
+HasFewSpans _ = ⊤

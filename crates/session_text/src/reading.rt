@@ -5,7 +5,7 @@ ghost use Rattle.traceql_types.specs.Makers.{RefusesOnly};
 ghost use Rattle.session_text.specs.declared.refusal.Refusal.TheVariants.{Memory};
 ghost use Rattle.session_text.specs.Lines.{first_part, other_parts};
 ghost use Rattle.session_text.specs.Options.{search_parts};
-ghost use Rattle.session_text.specs.Requests.{Answers, AsksAt, HasFewSpans, line_of, other_line, push_with, search_with, trace_with, with_id};
+ghost use Rattle.session_text.specs.Requests.{Answers, AsksAt, HasFewSpans, alone, line_of, other_line, push_with, search_with, trace_with, with_id};
 ghost use Rattle.session_text.specs.Parsed.{left_parsed};
 
 use crate::options::{search_parts, split_text};
@@ -26,6 +26,7 @@ const LINE_LIMIT: usize = MOST_LINE_BYTES as usize;
 /// - `search [limit=n] [spss=n] [start=T] [end=T] QUERY`: a search. The options stand in this order, each n is a number
 ///   from 1 to 1,000 and each T a count of nanoseconds or a timestamp. The QUERY is the rest of the line. The maker
 ///   makes its patterns.
+/// - `cut`, `cutall`, `flush`: a cut at the moment, a cut of all, a flush. Nothing stands behind the word.
 ///
 /// One space stands between the parts. A line that is none of these is refused at the first byte of the first part that
 /// can't stand there, and at its length where a part is missing. A line that isn't UTF-8 is refused at its first byte,
@@ -53,7 +54,7 @@ pub fn read_request<P: PatternMaker>(
         return push_with(alloc, moment, line.len() as u64, rest);
     }
     match std::str::from_utf8(line) {
-        Ok(text) => asked_by(alloc, text, maker),
+        Ok(text) => asked_by(alloc, text, moment, maker),
         Err(_) => Err(Refusal::BadRequest { at: 0 }),
     }
 }
@@ -71,16 +72,24 @@ fn split(line: &[u8]) -> (&[u8], Option<&[u8]>)
     (line, None)
 }
 
-/// What a line of UTF-8 asks that is no push and not too long.
-fn asked_by<P: PatternMaker>(alloc: Global, line: &str, maker: &mut P) -> Result<Request, Refusal>
+/// What a line of UTF-8 asks that was read at this moment, is no push and is not too long.
+fn asked_by<P: PatternMaker>(
+    alloc: Global,
+    line: &str,
+    moment: u64,
+    maker: &mut P,
+) -> Result<Request, Refusal>
     ensures asked { (refused : List (List ℕ)) × RefusesOnly P.makes maker.old maker.new refused
-        × Answers (other_line (first_part line.now) line.now (other_parts line.now)) refused result }
+        × Answers (other_line moment (first_part line.now) line.now (other_parts line.now)) refused result }
     ensures few { IfOk result (λ request. HasFewSpans request) }
 {
     let (word, rest) = split_text(line);
     match word {
         "trace" => trace_with(line.len() as u64, rest),
         "search" => search_with(alloc, line.len() as u64, rest, maker),
+        "cut" => alone(word, rest, Request::Cut { moment }),
+        "cutall" => alone(word, rest, Request::CutAll),
+        "flush" => alone(word, rest, Request::Flush),
         _ => Err(Refusal::BadRequest { at: 0 }),
     }
 }
@@ -123,6 +132,20 @@ fn trace_with(length: u64, rest: Option<&str>) -> Result<Request, Refusal>
         None => Ok(Request::Trace(id)),
         Some(_) => Err(Refusal::BadRequest {
             at: 7 + part.len() as u64,
+        }),
+    }
+}
+
+/// What a word asks that stands alone.
+fn alone(word: &str, rest: Option<&str>, request: Request) -> Result<Request, Refusal>
+    requires { HasFewSpans request }
+    ensures asked { result ≡ alone word.now (left_parsed rest.entry) request }
+    ensures few { IfOk result (λ asked. HasFewSpans asked) }
+{
+    match rest {
+        None => Ok(request),
+        Some(_) => Err(Refusal::BadRequest {
+            at: word.len() as u64 + 1,
         }),
     }
 }

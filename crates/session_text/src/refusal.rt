@@ -58,6 +58,8 @@ pub enum Refusal {
     },
     /// A call of the disk failed for this request.
     DiskFault,
+    /// A round of a flush was refused.
+    Round(store_state::Refusal),
     /// What the disk holds is no store.
     NotStore {
         /// The file that is malformed.

@@ -35,6 +35,23 @@ pub enum Reply {
         /// What the query leaves of each trace, in the order in which the traces are told.
         results: Results,
     },
+    /// The idle traces were moved to the head.
+    Cut {
+        /// How many rows they have.
+        moved: u64,
+    },
+    /// All live traces were moved to the head.
+    CutAll {
+        /// How many rows they have.
+        moved: u64,
+    },
+    /// A block was made and listed.
+    Flushed {
+        /// How many rows it has.
+        rows: u32,
+    },
+    /// No row waited for a flush.
+    NothingFlushed,
     /// The line is refused, and nothing was kept.
     Refused(Refusal),
 }

@@ -19,6 +19,15 @@ pub enum Request {
     Trace(TraceId),
     /// `search .. QUERY`: the traces of which the query leaves something are to be told.
     Search(Search),
+    /// `cut`: the traces to which nothing came for some time are to be moved to the head.
+    Cut {
+        /// When the line was read, in nanoseconds.
+        moment: u64,
+    },
+    /// `cutall`: all live traces are to be moved to the head.
+    CutAll,
+    /// `flush`: a block is to be made of rows that wait in the head.
+    Flush,
 }
 
 /// A search.

@@ -2,7 +2,7 @@
 
 ghost use Rattle.std.specs.Prelude.{◌≡◌, IfOk, codes, string_bytes};
 ghost use Rattle.session_text.specs.declared.reply.Reply.TheVariants.{Searched, Traced};
-ghost use Rattle.session_text.specs.Replies.{kind_text, not_store_text, pushed_text, query_text, refusal_text, refused_text, reply_text, searched_text, traced_text};
+ghost use Rattle.session_text.specs.Replies.{cut_all_text, cut_text, flushed_text, kind_text, not_block_text, not_store_text, pushed_text, query_text, refusal_text, refused_text, reply_text, round_text, searched_text, traced_text};
 
 use crate::{KindFault, QueryFault, Refusal, Reply};
 use otlp_spans::write_trace;
@@ -10,6 +10,7 @@ use search_text::{Texts, write_results};
 use span_types::{Memory, Rows, Text};
 use spanset_eval::Results;
 use std::alloc::{AllocError, Global};
+use store_state::Refusal as RoundRefusal;
 
 /// The text of a reply, with its line feed. The one error is want of memory.
 ///
@@ -37,6 +38,10 @@ fn text_of(alloc: Global, reply: &Reply) -> Result<String, Memory>
             fields,
             results,
         } => write_searched(alloc, *as_of, fields, results),
+        Reply::Cut { moved } => Ok(cut(alloc, *moved)?),
+        Reply::CutAll { moved } => Ok(cut_all(alloc, *moved)?),
+        Reply::Flushed { rows } => Ok(flushed(alloc, *rows)?),
+        Reply::NothingFlushed => Ok(String::from_str(alloc, "ok flush nothing\n")?),
         Reply::Refused(why) => Ok(refused(alloc, why)?),
     }
 }
@@ -91,6 +96,27 @@ fn searched(alloc: Global, as_of: u64, traces: usize, json: &str) -> Result<Stri
     format!(in alloc; "ok search as_of={as_of} traces={traces} {json}\n")
 }
 
+/// The reply to a cut of idle traces.
+fn cut(alloc: Global, moved: u64) -> Result<String, AllocError>
+    ensures { IfOk result (λ text. string_bytes text ≡ cut_text moved) }
+{
+    format!(in alloc; "ok cut moved={moved}\n")
+}
+
+/// The reply to a cut of all.
+fn cut_all(alloc: Global, moved: u64) -> Result<String, AllocError>
+    ensures { IfOk result (λ text. string_bytes text ≡ cut_all_text moved) }
+{
+    format!(in alloc; "ok cutall moved={moved}\n")
+}
+
+/// The reply to a flush that made a block.
+fn flushed(alloc: Global, rows: u32) -> Result<String, AllocError>
+    ensures { IfOk result (λ text. string_bytes text ≡ flushed_text rows) }
+{
+    format!(in alloc; "ok flush rows={rows}\n")
+}
+
 /// A refusal.
 fn refused(alloc: Global, why: &Refusal) -> Result<String, AllocError>
     ensures { IfOk result (λ text. string_bytes text ≡ refusal_text why.now) }
@@ -109,6 +135,7 @@ fn refused(alloc: Global, why: &Refusal) -> Result<String, AllocError>
         Refusal::StoreFull { pushes } => format!(in alloc; "refused store-full pushes={pushes}\n"),
         Refusal::ReadOnly { faults } => format!(in alloc; "refused read-only faults={faults}\n"),
         Refusal::DiskFault => String::from_str(alloc, "refused disk-fault\n"),
+        Refusal::Round(why) => round(alloc, *why),
         Refusal::NotStore { file, at } => not_store(alloc, *file, *at),
         Refusal::Memory => String::from_str(alloc, "refused memory\n"),
     }
@@ -125,6 +152,31 @@ fn not_store(alloc: Global, file: u32, at: u64) -> Result<String, AllocError>
     ensures { IfOk result (λ text. string_bytes text ≡ not_store_text file at) }
 {
     format!(in alloc; "refused not-store file={file} at={at}\n")
+}
+
+/// The refusal of a round.
+fn round(alloc: Global, why: RoundRefusal) -> Result<String, AllocError>
+    ensures { IfOk result (λ text. string_bytes text ≡ round_text why) }
+{
+    match why {
+        RoundRefusal::ReadOnly { faults } => {
+            format!(in alloc; "refused read-only faults={faults}\n")
+        }
+        RoundRefusal::Busy { job } => format!(in alloc; "refused busy job={job}\n"),
+        RoundRefusal::FilesSpent { next } => {
+            format!(in alloc; "refused files-spent next={next}\n")
+        }
+        RoundRefusal::Fault => String::from_str(alloc, "refused disk-fault\n"),
+        RoundRefusal::Memory => String::from_str(alloc, "refused memory\n"),
+        RoundRefusal::NotBlock { file, at } => not_block(alloc, file, at),
+    }
+}
+
+/// The refusal of a block that isn't one.
+fn not_block(alloc: Global, file: u32, at: u64) -> Result<String, AllocError>
+    ensures { IfOk result (λ text. string_bytes text ≡ not_block_text file at) }
+{
+    format!(in alloc; "refused not-block file={file} at={at}\n")
 }
 
 /// The refusal of a text that is no query.

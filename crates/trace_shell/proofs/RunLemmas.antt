@@ -1,5 +1,5 @@
 -- What was done by a run, from what its command came to.
-use Rattle.std.proofs.Common.{◌≡◌, ◌≢◌, ◌⊎◌, ◌∙◌, inl, inr, ℕ, List, [], ◌∷◌, Option, Some, None, true, false, IsTrue, arith, if◌then◌else◌, refl, subst, sym}
+use Rattle.std.proofs.Common.{Bool, ◌≡◌, ◌≢◌, ◌⊎◌, ◌∙◌, inl, inr, ℕ, List, [], ◌∷◌, Option, Some, None, true, false, IsTrue, arith, if◌then◌else◌, refl, subst, sym}
 use Rattle.std.specs.Prelude.{IfSome}
 use Rattle.clap.specs.Words.{Kinds, fault_of}
 use Rattle.command_words.specs.Commands.{Alone, Command, Session as session, Spells}
@@ -24,7 +24,7 @@ use Rattle.session_meaning.specs.declared.ending.Ending.{Ending}
 use Rattle.session_meaning.specs.declared.ending.Ending.TheVariants.{Answered, BadWords, NotOpened, NotStore, ReadFault, Refused, Spent, Starved, WriteFault}
 use Rattle.session_meaning.specs.Asked.{after_moment}
 use Rattle.session_meaning.specs.Runs.{Does, DoesInStore, Edges, FitsWords, HasAnswered, HasCause, HasRun, IsNoStore, IsPastOpening, IsRunOf, Outcome, told_bytes}
-use Rattle.session_meaning.specs.Session.{At}
+use Rattle.session_meaning.specs.At.{At}
 use Rattle.session_meaning.specs.Statuses.{status_of}
 use Rattle.session_meaning.specs.Stops.{Recovers}
 use Rattle.trace_shell.specs.Turn.{CameOver, HasDone, IsRefusedStore}
@@ -70,8 +70,8 @@ fits_asked words c e s not = subst (λ (k : Kinds). FitsWords k e) (sym (spelled
 by_one : (words : List (List ℕ)) (c : Command) (o : Outcome) (old new : Edges) → Spells words c → Does c o old new → (d : Command) → Spells words d → Does d o old new
 by_one words c o old new s does d t = subst (λ (k : Command). Does k o old new) (spelled_one words c d s t) does
 
-pub is_run : (words : List (List ℕ)) (c : Command) (o : Outcome) (old new : Edges) → Spells words c → HasDone c o old new → IsRunOf words o old new
-is_run words c o old new s done = record {
+pub is_run : (told : Bool) (words : List (List ℕ)) (c : Command) (o : Outcome) (old new : Edges) → Spells words c → HasDone told c o old new → IsRunOf told words o old new
+is_run told words c o old new s done = record {
   words_fit = fits_asked words c o.ending s done.asked;
   does = by_one words c o old new s done.does;
   session = done.session;
@@ -148,8 +148,8 @@ pub untouched_recovers : {D : Type 0} (g : Ghosts D) (only_now : (disk : D) (ima
 untouched_recovers g only_now disk e = unopened_recovers g disk disk e (λ image left. (image, only_now disk image left, keeps_same image))
 
 -- Memory was wanted for the words.
-pub starved_runs : (words : List (List ℕ)) (old : Edges) → IsRunOf words (unopened Starved) old old
-starved_runs words old = record {
+pub starved_runs : (told : Bool) (words : List (List ℕ)) (old : Edges) → IsRunOf told words (unopened Starved) old old
+starved_runs told words old = record {
   words_fit = fits (fault_of words_app words);
   does = λ c s. inr (refl, record { no_items = refl; no_replies = refl; no_refused = refl; left = refl; clock = inr refl; ends = refl });
   session = (refl, refl);
@@ -161,8 +161,8 @@ starved_runs words old = record {
     fits (k ∷ ks) = inr refl
 
 -- The words were refused.
-pub refused_runs : (words : List (List ℕ)) (old : Edges) → fault_of words_app words ≢ [] → IsRunOf words (unopened BadWords) old old
-refused_runs words old faulty = record {
+pub refused_runs : (told : Bool) (words : List (List ℕ)) (old : Edges) → fault_of words_app words ≢ [] → IsRunOf told words (unopened BadWords) old old
+refused_runs told words old faulty = record {
   words_fit = fits (fault_of words_app words) faulty;
   does = λ c s. absurd (faulty (spelled_clean words c s));
   session = (refl, refl);
@@ -176,39 +176,39 @@ refused_runs words old faulty = record {
 -- ---- where the store wasn't opened
 
 -- It wasn't opened for a cause, and the run ended so.
-pub unopened_done : (c : Command) (error : OpenError) (e : Ending) (old new : Edges) → new.left ≡ old.left → new.moments ≡ after_moment old.moments → IsRefusedStore error e old.taken new.taken
+pub unopened_done : (sure : Bool) (c : Command) (error : OpenError) (e : Ending) (old new : Edges) → new.left ≡ old.left → new.moments ≡ after_moment old.moments → IsRefusedStore error e old.taken new.taken
     → (e ≡ WriteFault → Rose old.sink_faults new.sink_faults) → (error ≡ open_errors.Fault → Rose old.disk_faults new.disk_faults)
-    → ((file at : ℕ) → error ≡ open_errors.NotStore file at → IsNoStore file at old.held) → HasDone c (unopened e) old new
-unopened_done c open_errors.Fault e old new left moment (is, taken) write fault broken =
-    subst (λ (k : Ending). HasDone c (unopened k) old new) (sym is) (record {
+    → ((file at : ℕ) → error ≡ open_errors.NotStore file at → IsNoStore file at old.held) → HasDone sure c (unopened e) old new
+unopened_done sure c open_errors.Fault e old new left moment (is, taken) write fault broken =
+    subst (λ (k : Ending). HasDone sure c (unopened k) old new) (sym is) (record {
       does = inr (refl, record { no_items = refl; no_replies = refl; no_refused = refl; left = left; clock = moment; ends = taken });
       session = (refl, refl);
       cause = fault refl;
       asked = λ e. let bad : ⊥ = cc in bad;
     })
-unopened_done c open_errors.Memory e old new left moment (is, taken) write fault broken =
-    subst (λ (k : Ending). HasDone c (unopened k) old new) (sym is) (record {
+unopened_done sure c open_errors.Memory e old new left moment (is, taken) write fault broken =
+    subst (λ (k : Ending). HasDone sure c (unopened k) old new) (sym is) (record {
       does = inr (refl, record { no_items = refl; no_replies = refl; no_refused = refl; left = left; clock = inl moment; ends = taken });
       session = (refl, refl);
       cause = tt;
       asked = λ e. let bad : ⊥ = cc in bad;
     })
-unopened_done c (open_errors.NotStore file at) e old new left moment (inl (is, taken)) write fault broken =
-    subst (λ (k : Ending). HasDone c (unopened k) old new) (sym is) (record {
+unopened_done sure c (open_errors.NotStore file at) e old new left moment (inl (is, taken)) write fault broken =
+    subst (λ (k : Ending). HasDone sure c (unopened k) old new) (sym is) (record {
       does = inr (refl, record { no_items = refl; no_replies = refl; no_refused = refl; left = left; clock = moment; ends = taken });
       session = (refl, refl);
       cause = broken file at refl;
       asked = λ e. let bad : ⊥ = cc in bad;
     })
-unopened_done c (open_errors.NotStore file at) e old new left moment (inr (inl (is, taken))) write fault broken =
-    subst (λ (k : Ending). HasDone c (unopened k) old new) (sym is) (record {
+unopened_done sure c (open_errors.NotStore file at) e old new left moment (inr (inl (is, taken))) write fault broken =
+    subst (λ (k : Ending). HasDone sure c (unopened k) old new) (sym is) (record {
       does = inr (refl, record { no_items = refl; no_replies = refl; no_refused = refl; left = left; clock = inl moment; ends = taken });
       session = (refl, refl);
       cause = tt;
       asked = λ e. let bad : ⊥ = cc in bad;
     })
-unopened_done c (open_errors.NotStore file at) e old new left moment (inr (inr (is, taken))) write fault broken =
-    subst (λ (k : Ending). HasDone c (unopened k) old new) (sym is) (record {
+unopened_done sure c (open_errors.NotStore file at) e old new left moment (inr (inr (is, taken))) write fault broken =
+    subst (λ (k : Ending). HasDone sure c (unopened k) old new) (sym is) (record {
       does = inr (refl, record { no_items = refl; no_replies = refl; no_refused = refl; left = left; clock = moment; ends = (file, at, broken file at refl, taken) });
       session = (refl, refl);
       cause = write is;

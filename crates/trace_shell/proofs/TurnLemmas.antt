@@ -18,11 +18,8 @@ use Rattle.session_text.specs.Replies.{reply_text}
 use Rattle.session_meaning.specs.Session.{Ends, IsAllEnded, IsAllRead, IsCutOff, end_of, is_for_memory, is_refusal, reply_texts}
 use Rattle.session_meaning.specs.Asked.{AsksNext, after_moment}
 use Rattle.session_meaning.specs.Progress.{HasAnsweredOne, HasAnsweredOver, Progress}
-use Rattle.session_meaning.proofs.SessionLaws.{over_begins, progress_begins, progress_empty, progress_line, reply_texts-push}
+use Rattle.session_meaning.proofs.SessionLaws.{one_refused, over_begins, over_one, progress_begins, progress_empty, progress_line, reply_texts-push}
 use Rattle.store_state.specs.Meaning.{Meaning}
-use Rattle.store_state.specs.Made.{Call}
-use Rattle.client_run.proofs.CallLemmas.{made-append}
-use Rattle.session_meaning.specs.Answering.{AreItemsAnswered}
 use Rattle.traceql_types.specs.Makers.{Makes, RefusesOnly}
 use Rattle.traceql_types.proofs.Calls.{refuses-none}
 use Rattle.trace_shell.specs.declared.session.Tally.{Tally}
@@ -170,29 +167,6 @@ passed_at told text before left_old left taken_old taken tell_old to_tell reader
 
 -- ---- what was answered over a port
 
-pub over_first : {Q : Type 0} (meaning : Meaning Q) (before after : Q) (item : Item) (reply : Reply) → HasAnsweredOne meaning before item reply after
-    → HasAnsweredOver meaning before (item ∷ []) (reply ∷ []) after
-over_first meaning before after item reply one = record {
-  calls = one.calls;
-  by_calls = (one.calls, [], sym (append-nil one.calls), one.answered, (refl, refl));
-  made = one.made;
-}
-
-items_then : (front back : List Item) (first later : List Reply) (calls more : List Call) → AreItemsAnswered front first calls → AreItemsAnswered back later more
-    → AreItemsAnswered (front ++ back) (first ++ later) (calls ++ more)
-items_then [] back first later calls more h k = rw (h.0, h.1) k
-items_then (i ∷ is) back [] later calls more h k = absurd h
-items_then (i ∷ is) back (r ∷ rs) later calls more h k =
-    (h.0, h.1 ++ more, ap (λ (cs : List Call). cs ++ more) h.2 ∙ append_assoc h.0 h.1 more, h.3, items_then is back rs later h.1 more h.4 k)
-
-pub over_then : {Q : Type 0} (meaning : Meaning Q) (start mid port : Q) (items asked : List Item) (replies given : List Reply) → HasAnsweredOver meaning start items replies mid
-    → HasAnsweredOver meaning mid asked given port → HasAnsweredOver meaning start (items ++ asked) (replies ++ given) port
-over_then meaning start mid port items asked replies given first second = record {
-  calls = first.calls ++ second.calls;
-  by_calls = items_then items asked replies given first.calls second.calls first.by_calls second.by_calls;
-  made = made-append meaning start mid port first.calls second.calls first.made second.made;
-}
-
 -- What a turn does over a port: these were asked and answered so, and it leaves that.
 abbrev pub TurnsOver : {M Q : Type 0} → Makes M → Meaning Q → M → M → Q → Q → (left_old left taken_old taken tell_old to_tell : Option (List ℕ)) → (reader_old reader : Reader) → (tally_old tally : Tally)
     → Option Ending → Type 0
@@ -247,7 +221,7 @@ whole_at makes meaning a b port_old port left_old left taken_old taken tell_old 
       one.1,
       one.2 ∷ [],
       one.3 ∷ [],
-      over_first meaning port_old port one.2 one.3 one.4,
+      over_one meaning port_old port one.2 one.3 one.4,
       λ told text before items replies blamed at.
           answered_at told text before left_old left taken_old taken tell_old to_tell reader_old reader tally_old tally (c ∷ cs) one.2 one.3 outcome items replies blamed one.0 at
           (next at.rest at.to_read) (omega arith) one.5 one.6 took one.7,
@@ -281,7 +255,7 @@ too_long_at makes meaning a port left_old left taken_old taken tell_old to_tell 
   refuses-none makes a a a,
   Err (refusal.TooLong size) ∷ [],
   reply.Refused (refusal.TooLong size) ∷ [],
-  over_first meaning port port (Err (refusal.TooLong size)) (reply.Refused (refusal.TooLong size)) (record { calls = []; answered = (refl, refl); made = refl }),
+  over_one meaning port port (Err (refusal.TooLong size)) (reply.Refused (refusal.TooLong size)) (one_refused meaning port (refusal.TooLong size)),
   λ told text before items replies blamed at.
       let line = next at.rest at.to_read in
       let over : line_limit < length line.0 = omega (arith, line.2, long) in

@@ -1,6 +1,6 @@
 -- Private mechanism of a session: what a turn does, in which one line is read and answered, and its reply written; and
 -- what a session, and a line alone, come to. A run is specified in session_meaning.
-use Rattle.std.specs.Prelude.{◌≡◌, ◌≢◌, ◌⊎◌, ℕ, List, [], ◌∷◌, ◌++◌, ◌||◌, Option, Some, None, if◌then◌else◌}
+use Rattle.std.specs.Prelude.{Bool, ◌≡◌, ◌≢◌, ◌⊎◌, ℕ, List, [], ◌∷◌, ◌++◌, ◌||◌, Option, Some, None, if◌then◌else◌}
 use Rattle.std.specs.List.{list_any}
 use Rattle.std.specs.Io.KnownBytes.{Appends}
 use Rattle.io_edges.specs.Devices.{AppendsPrefix}
@@ -85,9 +85,9 @@ IsRefusedStore (open_errors.NotStore file at) ending old new =
     ((ending ≡ NotStore file at) × Appends old new (not_store_text file at))
     ⊎ (((ending ≡ Starved) × (new ≡ old)) ⊎ ((ending ≡ WriteFault) × AppendsPrefix old new (not_store_text file at)))
 
--- What words ask was done. It is a run, where the words ask this.
-pub record HasDone (c : Command) (o : Outcome) (old new : Edges) : Type 0 where
+-- What words ask was done. It is a run, where the words ask this. `told` says that what the blocks of the store hold is told.
+pub record HasDone (told : Bool) (c : Command) (o : Outcome) (old new : Edges) : Type 0 where
   pub does : Does c o old new
-  pub session : Session o.first o.items o.replies o.last
+  pub session : Session told o.first o.items o.replies o.last
   pub cause : HasCause o.ending old new
   pub asked : o.ending ≢ BadWords

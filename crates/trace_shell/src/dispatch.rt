@@ -1,6 +1,6 @@
 //! What the words of the command line say is done, on the store of a disk.
 
-ghost use Rattle.std.specs.Prelude.{◌≡◌, ◌≢◌, List, Option, [], map, string_bytes, ℕ, IsTrue};
+ghost use Rattle.std.specs.Prelude.{true, false, ◌≡◌, ◌≢◌, List, Option, [], map, string_bytes, ℕ, IsTrue};
 ghost use Rattle.clap.specs.Words.{fault_of};
 ghost use Rattle.command_words.specs.Commands.{Alone, Spells, command_of};
 ghost use Rattle.command_words.specs.Table.{words_app};
@@ -19,7 +19,6 @@ ghost use Rattle.session_meaning.specs.Stops.{Recovers};
 ghost use Rattle.traceql_types.specs.Makers.{RefusesOnly};
 ghost use Rattle.trace_shell.specs.Turn.{CameOver, HasDone, IsRefusedStore};
 
-use crate::opening::open_without_blocks;
 use crate::session::{one_line, session};
 use command_words::{Asked, WordsError, read_words};
 use disk_model::Device;
@@ -28,8 +27,8 @@ use session_meaning::Ending;
 use session_text::{Refusal, Reply, write_reply};
 use span_types::{Failed, Memory};
 use std::alloc::Global;
-use store_core::OpenError;
-use store_state::LookPort;
+use store_core::{Core, OpenError};
+use store_state::FlushPort;
 use traceql_types::PatternMaker;
 
 /// Does what the words say, and tells how it ended. The disk is handed back.
@@ -44,12 +43,12 @@ pub(crate) fn dispatch<S: Source, K: Sink, D: Device, C: Clock, P: PatternMaker,
     gate: &G,
 ) -> (Ending, D)
     ensures ran { (o : Outcome) × (o.ending ≡ result.0) × RefusesOnly P.makes patterns.old patterns.new o.refused
-        × IsRunOf (map string_bytes words.now) o
+        × IsRunOf false (map string_bytes words.now) o
         (edges S.left S.faults K.taken K.faults C.moments D.Device.own source.old sink.old clock.old disk)
         (edges S.left S.faults K.taken K.faults C.moments D.Device.own source.new sink.new clock.new result.1) }
     ensures recovers { IsTrue (D.tells disk) → IsSoundImage (D.held disk)
         → (o : Outcome) × (o.ending ≡ result.0) × RefusesOnly P.makes patterns.old patterns.new o.refused
-        × IsRunOf (map string_bytes words.now) o
+        × IsRunOf true (map string_bytes words.now) o
         (edges S.left S.faults K.taken K.faults C.moments D.Device.own source.old sink.old clock.old disk)
         (edges S.left S.faults K.taken K.faults C.moments D.Device.own source.new sink.new clock.new result.1)
         × Recovers D.Device.own disk result.1 o }
@@ -81,12 +80,12 @@ fn on_store<S: Source, K: Sink, D: Device, C: Clock, P: PatternMaker, G: Gate>(
     gate: &G,
 ) -> (Ending, D)
     ensures ran { (o : Outcome) × (o.ending ≡ result.0) × RefusesOnly P.makes patterns.old patterns.new o.refused
-        × HasDone (command_of asked) o
+        × HasDone false (command_of asked) o
         (edges S.left S.faults K.taken K.faults C.moments D.Device.own source.old sink.old clock.old disk)
         (edges S.left S.faults K.taken K.faults C.moments D.Device.own source.new sink.new clock.new result.1) }
     ensures recovers { IsTrue (D.tells disk) → IsSoundImage (D.held disk)
         → (o : Outcome) × (o.ending ≡ result.0) × RefusesOnly P.makes patterns.old patterns.new o.refused
-        × HasDone (command_of asked) o
+        × HasDone true (command_of asked) o
         (edges S.left S.faults K.taken K.faults C.moments D.Device.own source.old sink.old clock.old disk)
         (edges S.left S.faults K.taken K.faults C.moments D.Device.own source.new sink.new clock.new result.1)
         × Recovers D.Device.own disk result.1 o }
@@ -96,7 +95,7 @@ fn on_store<S: Source, K: Sink, D: Device, C: Clock, P: PatternMaker, G: Gate>(
     ensures alone { (line : List ℕ) → command_of asked ≡ Alone line → source.new ≡ source.old }
 {
     let moment = clock.now();
-    match open_without_blocks(alloc, disk, moment) {
+    match Core::open_store(alloc, disk, moment) {
         Ok(core) => {
             let mut core = core;
             let ending = do_asked(alloc, asked, source, sink, &mut core, clock, patterns, gate);
@@ -107,7 +106,7 @@ fn on_store<S: Source, K: Sink, D: Device, C: Clock, P: PatternMaker, G: Gate>(
 }
 
 // Does what is asked over the port of a store that was opened.
-fn do_asked<S: Source, K: Sink, Q: LookPort, C: Clock, P: PatternMaker, G: Gate>(
+fn do_asked<S: Source, K: Sink, Q: FlushPort, C: Clock, P: PatternMaker, G: Gate>(
     alloc: Global,
     asked: Asked,
     source: &mut S,

@@ -2,7 +2,6 @@
 #![tactic(auto)]
 
 mod dispatch;
-mod opening;
 mod program;
 mod real;
 mod session;

@@ -25,7 +25,7 @@ use session_meaning::Ending;
 use session_text::{Refusal, Reply, read_request, write_reply};
 use span_types::{Failed, Memory};
 use std::alloc::Global;
-use store_state::LookPort;
+use store_state::{FlushPort, Refusal as Cause};
 use traceql_types::PatternMaker;
 
 /// Which client a session is: there is no other one.
@@ -69,6 +69,7 @@ fn is_refusal(reply: &Reply) -> bool
 {
     match reply {
         Reply::Refused(Refusal::Memory) => false,
+        Reply::Refused(Refusal::Round(Cause::Memory)) => false,
         Reply::Refused(_) => true,
         _ => false,
     }
@@ -80,13 +81,14 @@ fn is_for_memory(reply: &Reply) -> bool
 {
     match reply {
         Reply::Refused(Refusal::Memory) => true,
+        Reply::Refused(Refusal::Round(Cause::Memory)) => true,
         _ => false,
     }
 }
 
 /// Answers the lines of the source in order over a store's port, and writes each reply before it reads the next line. The clock
 /// is asked once for each line that has bytes.
-pub(crate) fn session<S: Source, K: Sink, Q: LookPort, C: Clock, P: PatternMaker, G: Gate>(
+pub(crate) fn session<S: Source, K: Sink, Q: FlushPort, C: Clock, P: PatternMaker, G: Gate>(
     alloc: Global,
     source: &mut S,
     sink: &mut K,
@@ -130,7 +132,7 @@ pub(crate) fn session<S: Source, K: Sink, Q: LookPort, C: Clock, P: PatternMaker
 }
 
 /// Answers one line over a store's port, and nothing else. The clock is asked once.
-pub(crate) fn one_line<K: Sink, Q: LookPort, C: Clock, P: PatternMaker, G: Gate>(
+pub(crate) fn one_line<K: Sink, Q: FlushPort, C: Clock, P: PatternMaker, G: Gate>(
     alloc: Global,
     sink: &mut K,
     port: &mut Q,
@@ -162,7 +164,7 @@ pub(crate) fn one_line<K: Sink, Q: LookPort, C: Clock, P: PatternMaker, G: Gate>
 }
 
 // Reads the next line, answers it and writes the reply. Gives how the session ends, where it does.
-fn next_line<S: Source, K: Sink, Q: LookPort, C: Clock, P: PatternMaker, G: Gate>(
+fn next_line<S: Source, K: Sink, Q: FlushPort, C: Clock, P: PatternMaker, G: Gate>(
     alloc: Global,
     reader: &mut LineReader,
     source: &mut S,
@@ -213,7 +215,7 @@ fn next_line<S: Source, K: Sink, Q: LookPort, C: Clock, P: PatternMaker, G: Gate
 }
 
 // Answers a line and writes the reply. A line without bytes gets none, and the clock isn't asked for it.
-fn answer_line<K: Sink, Q: LookPort, C: Clock, P: PatternMaker, G: Gate>(
+fn answer_line<K: Sink, Q: FlushPort, C: Clock, P: PatternMaker, G: Gate>(
     alloc: Global,
     tally: &mut Tally,
     sink: &mut K,
@@ -263,7 +265,7 @@ fn refuse_line<K: Sink, C: Clock>(
 }
 
 // Answers a line that was read at this moment, in nanoseconds.
-fn answer<Q: LookPort, P: PatternMaker, G: Gate>(
+fn answer<Q: FlushPort, P: PatternMaker, G: Gate>(
     alloc: Global,
     port: &mut Q,
     patterns: &mut P,

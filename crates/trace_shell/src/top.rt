@@ -1,6 +1,6 @@
 //! The top call.
 
-ghost use Rattle.std.specs.Prelude.{◌≡◌, ◌≢◌, ◌⊎◌, List, [], map, string_bytes, ℕ, IsTrue};
+ghost use Rattle.std.specs.Prelude.{true, false, ◌≡◌, ◌≢◌, ◌⊎◌, List, [], map, string_bytes, ℕ, IsTrue};
 ghost use Rattle.std.specs.Process.{exit_status};
 ghost use Rattle.clap.specs.Words.{fault_of};
 ghost use Rattle.command_words.specs.Commands.{Alone, Spells};
@@ -64,17 +64,19 @@ pub fn run_alone<
     patterns: &mut P,
     gate: &G,
 ) -> Ended<D>
-    // What the words ask was done, the maker refused what the outcome says, and the status tells how it ended.
+    // What the words ask was done, the maker refused what the outcome says, and the status tells how it ended. Of a store that
+    // lists blocks it isn't said what queries tell.
     ensures ran { (o : Outcome) × RefusesOnly P.makes patterns.old patterns.new o.refused
-        × IsRunOf (map string_bytes words.now) o
+        × IsRunOf false (map string_bytes words.now) o
         (edges S.left S.faults K.taken K.faults C.moments D.Device.own source.old sink.old clock.old disk)
         (edges S.left S.faults K.taken K.faults C.moments D.Device.own source.new sink.new clock.new result.disk)
         × (result.status ≡ status_of o.ending) }
-    // Over a disk whose bytes are told and are a store's: it was done from what they store on, and what is stored as the disk is
-    // handed back, or whenever the run is stopped, holds every push that was accepted by then.
+    // Over a disk whose bytes are told and are a store's: it was done from what they store on, queries tell of all that was pushed,
+    // wherever it lies, and what is stored as the disk is handed back, or whenever the run is stopped, holds every push that was
+    // accepted by then.
     ensures recovers { IsTrue (D.tells disk) → IsSoundImage (D.held disk)
         → (o : Outcome) × RefusesOnly P.makes patterns.old patterns.new o.refused
-        × IsRunOf (map string_bytes words.now) o
+        × IsRunOf true (map string_bytes words.now) o
         (edges S.left S.faults K.taken K.faults C.moments D.Device.own source.old sink.old clock.old disk)
         (edges S.left S.faults K.taken K.faults C.moments D.Device.own source.new sink.new clock.new result.disk)
         × (result.status ≡ status_of o.ending) × Recovers D.Device.own disk result.disk o }
@@ -119,17 +121,19 @@ pub fn run<
     patterns: &mut P,
     gate: &G,
 ) -> Ended<D>
-    // What the words ask was done, the maker refused what the outcome says, and the status tells how it ended.
+    // What the words ask was done, the maker refused what the outcome says, and the status tells how it ended. Of a store that
+    // lists blocks it isn't said what queries tell.
     ensures ran { (o : Outcome) × RefusesOnly P.makes patterns.old patterns.new o.refused
-        × IsRunOf (map string_bytes words.now) o
+        × IsRunOf false (map string_bytes words.now) o
         (edges S.left S.faults K.taken K.faults C.moments D.Device.own source.old sink.old clock.old disk)
         (edges S.left S.faults K.taken K.faults C.moments D.Device.own source.new sink.new clock.new result.disk)
         × (result.status ≡ status_of o.ending) }
-    // Over a disk whose bytes are told and are a store's: it was done from what they store on, and what is stored as the disk is
-    // handed back, or whenever the run is stopped, holds every push that was accepted by then.
+    // Over a disk whose bytes are told and are a store's: it was done from what they store on, queries tell of all that was pushed,
+    // wherever it lies, and what is stored as the disk is handed back, or whenever the run is stopped, holds every push that was
+    // accepted by then.
     ensures recovers { IsTrue (D.tells disk) → IsSoundImage (D.held disk)
         → (o : Outcome) × RefusesOnly P.makes patterns.old patterns.new o.refused
-        × IsRunOf (map string_bytes words.now) o
+        × IsRunOf true (map string_bytes words.now) o
         (edges S.left S.faults K.taken K.faults C.moments D.Device.own source.old sink.old clock.old disk)
         (edges S.left S.faults K.taken K.faults C.moments D.Device.own source.new sink.new clock.new result.disk)
         × (result.status ≡ status_of o.ending) × Recovers D.Device.own disk result.disk o }

@@ -5,5 +5,5 @@ pub returns-clause-appended : goal.returns-clause-appended
 returns-clause-appended c = session_grows
 
 pub returns-clause-known_later : goal.returns-clause-known_later
-returns-clause-known_later c = λ items earlier later first last number kept rejected skipped session reply known there is.
-    knows_later earlier later items first last number kept rejected skipped reply known session there is
+returns-clause-known_later c = λ told items earlier later first last number kept rejected skipped session reply known there is.
+    knows_later told earlier later items first last number kept rejected skipped reply known session there is

@@ -1,4 +1,4 @@
-use Rattle.std.proofs.Common.{Err, ap, map, refl, string_bytes, ◌∙◌}
+use Rattle.std.proofs.Common.{false, true, Err, ap, map, refl, string_bytes, ◌∙◌}
 use Rattle.command_words.specs.Commands.{Spells, command_of}
 use Rattle.command_words.proofs.Spelled.{spelled_clean, spelled_one}
 use Rattle.session_meaning.specs.declared.ending.Ending.TheVariants.{BadWords, Starved}
@@ -15,7 +15,7 @@ returns-in-Ok-clause-ran g c =
     let old : Edges = edges g.S.Source.left g.S.Source.faults g.K.Sink.taken g.K.Sink.faults g.C.Clock.moments d c.args.source.now c.args.sink.now c.args.clock.now c.args.disk in
     let new : Edges = edges g.S.Source.left g.S.Source.faults g.K.Sink.taken g.K.Sink.faults g.C.Clock.moments d c.on_store.new.source c.on_store.new.sink c.on_store.new.clock c.on_store.result.1 in
     let ran = c.on_store.ensures.ran in
-    (ran.0, ran.1, ran.2, is_run words (command_of c.in-Ok.asked) ran.0 old new asks ran.3)
+    (ran.0, ran.1, ran.2, is_run false words (command_of c.in-Ok.asked) ran.0 old new asks ran.3)
 
 pub returns-in-Ok-clause-recovers : goal.returns-in-Ok-clause-recovers
 returns-in-Ok-clause-recovers g c = λ told sound.
@@ -25,7 +25,7 @@ returns-in-Ok-clause-recovers g c = λ told sound.
     let old : Edges = edges g.S.Source.left g.S.Source.faults g.K.Sink.taken g.K.Sink.faults g.C.Clock.moments d c.args.source.now c.args.sink.now c.args.clock.now c.args.disk in
     let new : Edges = edges g.S.Source.left g.S.Source.faults g.K.Sink.taken g.K.Sink.faults g.C.Clock.moments d c.on_store.new.source c.on_store.new.sink c.on_store.new.clock c.on_store.result.1 in
     let ran = c.on_store.ensures.recovers told sound in
-    (ran.0, ran.1, ran.2, is_run words (command_of c.in-Ok.asked) ran.0 old new asks ran.3, ran.4)
+    (ran.0, ran.1, ran.2, is_run true words (command_of c.in-Ok.asked) ran.0 old new asks ran.3, ran.4)
 
 pub returns-in-Ok-clause-nothing_done : goal.returns-in-Ok-clause-nothing_done
 returns-in-Ok-clause-nothing_done g c = λ faulty.
@@ -42,7 +42,7 @@ returns-in-Err-Refused-clause-ran g c = (
   unopened BadWords,
   refl,
   refuses-none g.P.PatternMaker.makes _ c.args.patterns.now c.args.patterns.now,
-  refused_runs (map string_bytes c.args.words.now) (edges g.S.Source.left g.S.Source.faults g.K.Sink.taken g.K.Sink.faults g.C.Clock.moments g.D.Device c.args.source.now c.args.sink.now c.args.clock.now c.args.disk)
+  refused_runs false (map string_bytes c.args.words.now) (edges g.S.Source.left g.S.Source.faults g.K.Sink.taken g.K.Sink.faults g.C.Clock.moments g.D.Device c.args.source.now c.args.sink.now c.args.clock.now c.args.disk)
       (c.read_words.ensures.refused (c.in-Err-Refused.is ∙ ap Err c.in-Err-Refused.field-0-is)),
 )
 
@@ -51,7 +51,7 @@ returns-in-Err-Refused-clause-recovers g c = λ told sound. (
   unopened BadWords,
   refl,
   refuses-none g.P.PatternMaker.makes _ c.args.patterns.now c.args.patterns.now,
-  refused_runs (map string_bytes c.args.words.now) (edges g.S.Source.left g.S.Source.faults g.K.Sink.taken g.K.Sink.faults g.C.Clock.moments g.D.Device c.args.source.now c.args.sink.now c.args.clock.now c.args.disk)
+  refused_runs true (map string_bytes c.args.words.now) (edges g.S.Source.left g.S.Source.faults g.K.Sink.taken g.K.Sink.faults g.C.Clock.moments g.D.Device c.args.source.now c.args.sink.now c.args.clock.now c.args.disk)
       (c.read_words.ensures.refused (c.in-Err-Refused.is ∙ ap Err c.in-Err-Refused.field-0-is)),
   untouched_recovers g.D.Device g.met.D.Device.only_now c.args.disk BadWords,
 )
@@ -61,7 +61,7 @@ returns-in-Err-Memory-clause-ran g c = (
   unopened Starved,
   refl,
   refuses-none g.P.PatternMaker.makes _ c.args.patterns.now c.args.patterns.now,
-  starved_runs (map string_bytes c.args.words.now) (edges g.S.Source.left g.S.Source.faults g.K.Sink.taken g.K.Sink.faults g.C.Clock.moments g.D.Device c.args.source.now c.args.sink.now c.args.clock.now c.args.disk),
+  starved_runs false (map string_bytes c.args.words.now) (edges g.S.Source.left g.S.Source.faults g.K.Sink.taken g.K.Sink.faults g.C.Clock.moments g.D.Device c.args.source.now c.args.sink.now c.args.clock.now c.args.disk),
 )
 
 pub returns-in-Err-Memory-clause-recovers : goal.returns-in-Err-Memory-clause-recovers
@@ -69,7 +69,7 @@ returns-in-Err-Memory-clause-recovers g c = λ told sound. (
   unopened Starved,
   refl,
   refuses-none g.P.PatternMaker.makes _ c.args.patterns.now c.args.patterns.now,
-  starved_runs (map string_bytes c.args.words.now) (edges g.S.Source.left g.S.Source.faults g.K.Sink.taken g.K.Sink.faults g.C.Clock.moments g.D.Device c.args.source.now c.args.sink.now c.args.clock.now c.args.disk),
+  starved_runs true (map string_bytes c.args.words.now) (edges g.S.Source.left g.S.Source.faults g.K.Sink.taken g.K.Sink.faults g.C.Clock.moments g.D.Device c.args.source.now c.args.sink.now c.args.clock.now c.args.disk),
   untouched_recovers g.D.Device g.met.D.Device.only_now c.args.disk Starved,
 )
 

@@ -4,7 +4,7 @@ use Rattle.session_meaning.specs.Asked.{AsksNext}
 use Rattle.trace_shell.specs.Turn.{CameOver}
 use Rattle.trace_shell.proofs.AloneLemmas.{alone_ends}
 use Rattle.trace_shell.proofs.RunLemmas.{session_is_not_alone}
-use Rattle.trace_shell.proofs.TurnLemmas.{over_first}
+use Rattle.session_meaning.proofs.SessionLaws.{over_one}
 use Rattle.trace_shell.proofs.dispatch.do_asked.Goals as goal
 
 pub returns-in-Session-clause-came : goal.returns-in-Session-clause-came
@@ -32,7 +32,7 @@ returns-in-Alone-clause-came g c =
       told.1 ∷ [],
       told.2,
       told.3,
-      over_first g.Q.LookPort.meaning c.args.port.now c.one_line.new.port told.0 told.1 told.4,
+      over_one g.Q.LookPort.meaning c.args.port.now c.one_line.new.port told.0 told.1 told.4,
       subst (λ a. CameOver (command_of a) (g.S.Source.left c.args.source.now) (g.K.Sink.taken c.args.sink.now) old
           (g.S.Source.left c.args.source.now) (g.K.Sink.taken c.one_line.new.sink) (g.C.Clock.moments c.one_line.new.clock) c.one_line.result (told.0 ∷ []) (told.1 ∷ []) told.2) (sym c.in-Alone.is) (
             told.0,

@@ -1,13 +1,12 @@
-use Rattle.std.proofs.Common.{◌⊎◌, List, Option, [], ap, refl, subst, sym, ℕ}
+use Rattle.std.proofs.Common.{IsTrue, false, true, List, Option, [], ap, refl, subst, sym, ℕ}
 use Rattle.command_words.specs.Commands.{command_of}
 use Rattle.session_meaning.specs.Runs.{Edges, edges}
 use Rattle.session_meaning.specs.Stops.{Recovers}
 use Rattle.store_core.proofs.Past.{stands_since_now}
-use Rattle.session_meaning.specs.Blocks.{NamesBlock}
 use Rattle.store_core.specs.Opening.{StoreBreaks}
 use Rattle.store_images.specs.Stored.{IsSoundImage}
 use Rattle.store_model.specs.History.{count_of}
-use Rattle.client_run.proofs.CoreLemmas.{shows_stepped, since_stepped}
+use Rattle.session_meaning.proofs.CoreSessions.{shown_means, since_means}
 use Rattle.traceql_types.proofs.Calls.{refuses-none}
 use Rattle.trace_shell.specs.Turn.{CameOver}
 use Rattle.trace_shell.proofs.RunLemmas.{cause_of, if_told, no_fault, unopened, unopened_done, unopened_recovers}
@@ -27,14 +26,14 @@ returns-in-Ok-clause-ran g c =
     let moment = c.now-moment.result in
     let begins = c.in-Ok.ensures.opened.begins in
     let came = c.do_asked-ending.ensures.came in
-    let steps = shows_stepped d core later came.4.calls came.4.made begins.0 begins.1.shows in
+    let run = shown_means d came.0 came.1 core later begins.0 begins.1.shows came.4.each in
     let old : Edges = edges g.S.Source.left g.S.Source.faults g.K.Sink.taken g.K.Sink.faults g.C.Clock.moments d c.args.source.now c.args.sink.now c.args.clock.now disk in
     let new : Edges = edges g.S.Source.left g.S.Source.faults g.K.Sink.taken g.K.Sink.faults g.C.Clock.moments d c.do_asked-ending.new.source c.do_asked-ending.new.sink c.do_asked-ending.new.clock c.close.result in (
-      in_a_store d moment core later begins.0 steps.machine c.do_asked-ending.result came.0 came.1 came.2,
+      in_a_store d moment core later begins.0 run.0 c.do_asked-ending.result came.0 came.1 came.2,
       refl,
       came.3,
-      opened_done d disk moment core later begins.0 steps.machine c.do_asked-ending.result came.0 came.1 came.2 begins.1 c.in-Ok.ensures.no_blocks came.4 (command_of c.args.asked) old new
-          refl refl (ap d.faults c.close.ensures) c.now-moment.ensures.moment c.in-Ok.ensures.unbroken c.in-Ok.ensures.later steps.steps
+      opened_done d disk moment core later begins.0 run.0 c.do_asked-ending.result came.0 came.1 came.2 begins.1 came.4 false (command_of c.args.asked) old new
+          refl refl (ap d.faults c.close.ensures) c.now-moment.ensures.moment c.in-Ok.ensures.unbroken c.in-Ok.ensures.later run.2
           (subst (λ (o : Option (List ℕ)). CameOver (command_of c.args.asked) old.left old.taken o new.left new.taken new.moments c.do_asked-ending.result came.0 came.1 came.2)
           c.now-moment.ensures.later came.5)
           c.do_asked-ending.ensures.endings
@@ -51,21 +50,21 @@ returns-in-Ok-clause-recovers g c = λ told sound.
     let begins = c.in-Ok.ensures.opened.founded (λ t. sound) in
     let came = c.do_asked-ending.ensures.came in
     let since = stands_since_now d g.met.D.Device.only_now core begins.0 begins.1.stands in
-    let steps = since_stepped d core later came.4.calls came.4.made begins.0 core.disk (count_of begins.0.history) since in
+    let run = since_means d core.disk (count_of begins.0.history) came.0 came.1 core later begins.0 (since, subst IsTrue (sym c.in-Ok.ensures.telling) told) came.4.each in
     let old : Edges = edges g.S.Source.left g.S.Source.faults g.K.Sink.taken g.K.Sink.faults g.C.Clock.moments d c.args.source.now c.args.sink.now c.args.clock.now disk in
     let new : Edges = edges g.S.Source.left g.S.Source.faults g.K.Sink.taken g.K.Sink.faults g.C.Clock.moments d c.do_asked-ending.new.source c.do_asked-ending.new.sink c.do_asked-ending.new.clock c.close.result in (
-      in_a_store d moment core later begins.0 steps.machine c.do_asked-ending.result came.0 came.1 came.2,
+      in_a_store d moment core later begins.0 run.0 c.do_asked-ending.result came.0 came.1 came.2,
       refl,
       came.3,
-      opened_done d disk moment core later begins.0 steps.machine c.do_asked-ending.result came.0 came.1 came.2 begins.1.over c.in-Ok.ensures.no_blocks came.4 (command_of c.args.asked) old new
-          refl refl (ap d.faults c.close.ensures) c.now-moment.ensures.moment c.in-Ok.ensures.unbroken c.in-Ok.ensures.later steps.steps
+      opened_done d disk moment core later begins.0 run.0 c.do_asked-ending.result came.0 came.1 came.2 begins.1.over came.4 true (command_of c.args.asked) old new
+          refl refl (ap d.faults c.close.ensures) c.now-moment.ensures.moment c.in-Ok.ensures.unbroken c.in-Ok.ensures.later run.2
           (subst (λ (o : Option (List ℕ)). CameOver (command_of c.args.asked) old.left old.taken o new.left new.taken new.moments c.do_asked-ending.result came.0 came.1 came.2)
           c.now-moment.ensures.later came.5)
           c.do_asked-ending.ensures.endings
           (cause_of c.do_asked-ending.result old new c.do_asked-ending.ensures.endings c.do_asked-ending.ensures.write_fault c.do_asked-ending.ensures.read_fault c.do_asked-ending.ensures.spent),
-      subst (λ x. Recovers d disk x (in_a_store d moment core later begins.0 steps.machine c.do_asked-ending.result came.0 came.1 came.2)) (sym c.close.ensures)
-          (opened_recovers d disk moment core later begins.0 steps.machine c.do_asked-ending.result came.0 came.1 came.2 begins.1.over c.in-Ok.ensures.no_blocks came.4 told begins.1
-          c.in-Ok.ensures.kept c.in-Ok.ensures.telling steps.stands),
+      subst (λ x. Recovers d disk x (in_a_store d moment core later begins.0 run.0 c.do_asked-ending.result came.0 came.1 came.2)) (sym c.close.ensures)
+          (opened_recovers d disk moment core later begins.0 run.0 c.do_asked-ending.result came.0 came.1 came.2 begins.1.over came.4 told begins.1
+          c.in-Ok.ensures.kept c.in-Ok.ensures.telling run.1.0),
     )
 
 pub returns-in-Err-clause-ran : goal.returns-in-Err-clause-ran
@@ -76,9 +75,9 @@ returns-in-Err-clause-ran g c =
       unopened c.refuse_store.result,
       refl,
       refuses-none g.P.PatternMaker.makes _ c.args.patterns.now c.args.patterns.now,
-      unopened_done (command_of c.args.asked) c.in-Err.error c.refuse_store.result old new refl c.now-moment.ensures.later c.refuse_store.ensures.told c.refuse_store.ensures.write_fault c.in-Err.ensures.fault
-          (λ file at is. if_told d c.args.disk (λ image. (StoreBreaks image file at × (IsSoundImage image → ⊥)) ⊎ NamesBlock image file at)
-          (λ told. c.in-Err.ensures.not_store told file at is)),
+      unopened_done false (command_of c.args.asked) c.in-Err.error c.refuse_store.result old new refl c.now-moment.ensures.later c.refuse_store.ensures.told c.refuse_store.ensures.write_fault c.in-Err.ensures.fault
+          (λ file at is. if_told d c.args.disk (λ image. StoreBreaks image file at × (IsSoundImage image → ⊥))
+          (λ told. (c.in-Err.ensures.not_store told file at is, λ sound. c.in-Err.ensures.sound told sound file at is))),
     )
 
 pub returns-in-Err-clause-recovers : goal.returns-in-Err-clause-recovers
@@ -89,9 +88,9 @@ returns-in-Err-clause-recovers g c = λ told sound.
       unopened c.refuse_store.result,
       refl,
       refuses-none g.P.PatternMaker.makes _ c.args.patterns.now c.args.patterns.now,
-      unopened_done (command_of c.args.asked) c.in-Err.error c.refuse_store.result old new refl c.now-moment.ensures.later c.refuse_store.ensures.told c.refuse_store.ensures.write_fault c.in-Err.ensures.fault
-          (λ file at is. if_told d c.args.disk (λ image. (StoreBreaks image file at × (IsSoundImage image → ⊥)) ⊎ NamesBlock image file at)
-          (λ told. c.in-Err.ensures.not_store told file at is)),
+      unopened_done true (command_of c.args.asked) c.in-Err.error c.refuse_store.result old new refl c.now-moment.ensures.later c.refuse_store.ensures.told c.refuse_store.ensures.write_fault c.in-Err.ensures.fault
+          (λ file at is. if_told d c.args.disk (λ image. StoreBreaks image file at × (IsSoundImage image → ⊥))
+          (λ told. (c.in-Err.ensures.not_store told file at is, λ sound. c.in-Err.ensures.sound told sound file at is))),
       unopened_recovers d c.args.disk c.in-Err.disk c.refuse_store.result (λ image left. (c.in-Err.ensures.kept_refused told).since.each image left),
     )
 
@@ -100,7 +99,7 @@ returns-in-Ok-clause-left g c = λ told file at breaks other. absurd (c.in-Ok.en
 
 pub returns-in-Err-clause-left : goal.returns-in-Err-clause-left
 returns-in-Err-clause-left g c = λ told file at breaks other.
-    c.in-Err.ensures.left told file at breaks (no_fault c.in-Err.error c.refuse_store.result (g.K.Sink.taken c.args.sink.now) (g.K.Sink.taken c.refuse_store.new.sink) c.refuse_store.ensures.told other)
+    c.in-Err.ensures.left told (no_fault c.in-Err.error c.refuse_store.result (g.K.Sink.taken c.args.sink.now) (g.K.Sink.taken c.refuse_store.new.sink) c.refuse_store.ensures.told other)
 
 pub returns-in-Ok-clause-unread : goal.returns-in-Ok-clause-unread
 returns-in-Ok-clause-unread g c = λ early. absurd (early c.do_asked-ending.ensures.endings)

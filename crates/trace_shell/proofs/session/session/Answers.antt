@@ -1,10 +1,10 @@
 use Rattle.std.proofs.Common.{[], ◌++◌, subst, refl, arith}
 use Rattle.io_edges.specs.Reader.{TakesBytes}
 use Rattle.client_run.proofs.CallLemmas.{holds_kept}
-use Rattle.session_meaning.proofs.SessionLaws.{over_begins}
+use Rattle.session_meaning.proofs.SessionLaws.{over_begins, over_then}
 use Rattle.traceql_types.proofs.Calls.{refuses-none, refuses-on}
 use Rattle.trace_shell.specs.Turn.{Turned}
-use Rattle.trace_shell.proofs.TurnLemmas.{begins_at, over_then, took_none, took_on}
+use Rattle.trace_shell.proofs.TurnLemmas.{begins_at, took_none, took_on}
 use Rattle.trace_shell.proofs.session.session.Goals as goal
 
 pub lines-init : goal.lines-init

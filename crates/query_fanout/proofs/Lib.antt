@@ -1,0 +1,4 @@
+pub mod CallLaws
+mod PageLaws
+mod BlockLaws
+pub mod QueryLaws

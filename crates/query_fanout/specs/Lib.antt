@@ -1,0 +1,4 @@
+pub mod BlockReads
+pub mod Queries
+pub mod TraceAnswers
+pub mod Reading

@@ -1,0 +1,95 @@
+//! Looking a trace up.
+
+ghost use Rattle.std.specs.Prelude.{◌≡◌, ◌++◌, IfOk, List};
+ghost use Rattle.span_types.specs.First.{IsFirstOf};
+ghost use Rattle.store_model.specs.Holds.{Hold};
+ghost use Rattle.store_state.specs.Given.{look_of};
+ghost use Rattle.store_state.specs.Meaning.{IsOpen};
+ghost use Rattle.rows_by_trace.specs.Traces.{rows_of_trace};
+ghost use Rattle.query_fanout.specs.TraceAnswers.{IsTraceAnswer};
+ghost use Rattle.query_fanout.specs.Queries.{HasAsked, all_rows};
+ghost use Rattle.query_fanout.specs.Reading.{BlocksRead};
+
+use crate::QueryError;
+use crate::blocks::block_rows;
+use span_types::{Memory, Row, Rows, TraceId, first_rows};
+use std::alloc::Global;
+use store_state::{FlushPort, Look};
+
+/// The spans of a trace.
+#[derive(Debug, Drop)]
+pub struct TraceAnswer {
+    /// The length of the history of which it tells.
+    pub as_of: u64,
+    /// Their first occurrences, in block order.
+    pub rows: Rows,
+}
+
+/// The first occurrences of a trace's spans, wherever they lie: in the rows of one look and in the blocks that it pins.
+///
+/// The blocks are read whole, one after another, and of each no other rows are kept than the trace's. So at a time the bytes of
+/// one block are in memory. The look is given back in every case.
+pub fn find_trace<P: FlushPort>(
+    alloc: Global,
+    port: &mut P,
+    id: TraceId,
+) -> Result<TraceAnswer, QueryError>
+    requires { (held : List Hold) × P.meaning.holds port.old held }
+    ensures { HasAsked P.meaning port.old (IsTraceAnswer id) result port.new }
+{
+    let look = match port.look() {
+        Ok(look) => look,
+        Err(_) => return Err(QueryError::Memory),
+    };
+    let found = trace_of_look(alloc, port, &look, id);
+    port.done(look);
+    found
+}
+
+// The first occurrences of a trace's spans among the rows of an open look and its blocks.
+fn trace_of_look<P: FlushPort>(
+    alloc: Global,
+    port: &mut P,
+    look: &Look,
+    id: TraceId,
+) -> Result<TraceAnswer, QueryError>
+    requires { IsOpen P.meaning port.old (look_of look.now) }
+    ensures { BlocksRead P.meaning look.now look.now.pin.blocks
+        (λ parts found. IsTraceAnswer id look.now.as_of (all_rows look.now.rows parts) found) port.old result port.new }
+{
+    match block_rows(alloc, port, look, Some(id)) {
+        Ok(found) => match trace_firsts(alloc, look, id, found) {
+            Ok(answer) => Ok(answer),
+            Err(Memory) => Err(QueryError::Memory),
+        },
+        Err(error) => Err(error),
+    }
+}
+
+// The first occurrences among a look's rows of the trace, and more rows.
+fn trace_firsts(
+    alloc: Global,
+    look: &Look,
+    id: TraceId,
+    found: Vec<Row>,
+) -> Result<TraceAnswer, Memory>
+    ensures firsts { IfOk result (λ answer. IsFirstOf (rows_of_trace id look.now.rows ++ found.items) answer.rows) }
+    ensures count { IfOk result (λ answer. answer.as_of ≡ look.now.as_of) }
+{
+    let rows = look.rows.rows_of(id)?;
+    let rows = joined_firsts(alloc, rows, found)?;
+    Ok(TraceAnswer {
+        as_of: look.as_of,
+        rows,
+    })
+}
+
+// The first occurrences among rows and more rows, all of which are moved.
+pub(crate) fn joined_firsts(alloc: Global, rows: Rows, found: Vec<Row>) -> Result<Rows, Memory>
+    ensures { IfOk result (λ firsts. IsFirstOf (rows ++ found.items) firsts) }
+{
+    let mut rows = rows.into_vec();
+    let mut found = found;
+    rows.append(&mut found)?;
+    first_rows(alloc, Rows::of(rows))
+}

@@ -1,0 +1,102 @@
+-- What is answered over the port of a core is a session.
+use Rattle.std.proofs.Common.{◌≡◌, ℕ, Bool, true, false, List, [], ◌∷◌, Ok, Err, IsTrue, refl, sym, ◌∙◌, ap, subst}
+use Rattle.disk_model.specs.declared.disk.Device.{Ghosts}
+use Rattle.session_text.specs.declared.reply.Reply.{Reply}
+use Rattle.session_text.specs.Items.{Item}
+use Rattle.store_model.specs.Laws.{Agrees}
+use Rattle.store_model.specs.Step.{Machine}
+use Rattle.store_images.proofs.Lists.{not_in_nil}
+use Rattle.store_core.specs.Cores.{CoreShows, CoreStandsFor}
+use Rattle.store_core.specs.Past.{StandsSince}
+use Rattle.store_core.specs.Port.{port_of, shown_by}
+use Rattle.store_core.specs.declared.store.Core.{Core}
+use Rattle.store_state.specs.Cores.{CoreKnows}
+use Rattle.store_state.specs.Made.{AreMade, Call}
+use Rattle.client_run.specs.CoreRuns.{HasStepped}
+use Rattle.client_run.proofs.CallLemmas.{tells_kept}
+use Rattle.client_run.proofs.CoreLemmas.{shows_stepped, since_stepped}
+use Rattle.session_meaning.specs.Answering.{CallsLead, IsItemAnswered, at_core}
+use Rattle.session_meaning.specs.Progress.{AreAnsweredOver, IsAnsweredOver}
+use Rattle.session_meaning.specs.Session.{IsAnsweredOrRefused, Session}
+use Rattle.session_meaning.proofs.AnswerLaws.{IsItemTold, item_means, item_means_told}
+
+module _ {D : Type 0} (g : Ghosts D) where
+  -- One item was answered over a core by calls that lead from a machine to a machine.
+  record HasMoved (is_with : Core D → Machine → Type 0) (old : Core D) (m : Machine) (item : Item) (reply : Reply) (new : Core D) : Type 0 where
+    machine : Machine
+    stands : is_with new machine
+    calls : List Call
+    answered : IsItemAnswered item reply calls
+    lead : CallsLead (at_core g old m) calls (at_core g new machine)
+
+  module _ (is_with : Core D → Machine → Type 0)
+      (steps : (old new : Core D) (calls : List Call) → AreMade (port_of g) old calls new → (m : Machine) → is_with old m → HasStepped g is_with old calls new m) where
+    moved : (old new : Core D) (m : Machine) (item : Item) (reply : Reply) → is_with old m → IsAnsweredOver (port_of g) old item reply new → HasMoved is_with old m item reply new
+    moved old new m (Ok asked) reply stands is =
+        let s = steps old new is.calls is.made m stands in
+        record { machine = s.machine; stands = s.stands; calls = is.calls; answered = is.answered; lead = s.steps }
+    moved old new m (Err why) reply stands is = record {
+      machine = m;
+      stands = subst (λ (core : Core D). is_with core m) (sym is.1) stands;
+      calls = [];
+      answered = (is.0, refl);
+      lead = (ap (λ (core : Core D). g.faults core.disk) is.1, refl);
+    }
+
+    module _ (told : Bool)
+        (means : (old new : Core D) (m : Machine) (item : Item) (reply : Reply) → is_with old m → IsAnsweredOver (port_of g) old item reply new
+        → (h : HasMoved is_with old m item reply new) → IsAnsweredOrRefused told item (at_core g old m) reply (at_core g new h.machine)) where
+      over_means : (items : List Item) (replies : List Reply) (first last : Core D) (m : Machine) → is_with first m → AreAnsweredOver (port_of g) first items replies last
+          → (m' : Machine) × is_with last m' × Session told (at_core g first m) items replies (at_core g last m')
+      over_means [] replies first last m stands is = (
+        m,
+        subst (λ (core : Core D). is_with core m) (sym is.1) stands,
+        (is.0, ap (λ (core : Core D). at_core g core m) is.1),
+      )
+      over_means (i ∷ is) [] first last m stands bad = absurd bad
+      over_means (i ∷ is) (r ∷ rs) first last m stands (between, here, later) =
+          let h = moved first between m i r stands here in
+          let rest = over_means is rs between last h.machine h.stands later in
+          (rest.0, rest.1, (at_core g between h.machine, means first between m i r stands here h, rest.2))
+
+  -- Whatever the disk holds: what queries tell isn't said where the store lists blocks.
+  pub shown_means : (items : List Item) (replies : List Reply) (first last : Core D) (m : Machine) → CoreShows g first m → AreAnsweredOver (port_of g) first items replies last
+      → (m' : Machine) × CoreShows g last m' × Session false (at_core g first m) items replies (at_core g last m')
+  shown_means = over_means (CoreShows g) (shows_stepped g) false
+      (λ old new m item reply shows is h. item_means item (at_core g old m) (at_core g new h.machine) reply h.calls shows.agrees h.answered h.lead)
+
+  -- ---- where what the blocks hold is told
+
+  -- a core knows the history of a machine that it stands for
+  knows_all : (core : Core D) (m : Machine) → CoreStandsFor g core m → CoreKnows (shown_by g) core (record { history = m.history; holds = [] })
+  knows_all core m stands = record {
+    machine = m;
+    stands = stands;
+    agrees = stands.agrees;
+    sound = stands.sound;
+    history = refl;
+    open_holds = λ hold inside. absurd (not_in_nil hold inside);
+  }
+
+  module _ (start : D) (least : ℕ) where
+    -- The core stands for the machine, with what was left since an earlier disk, and its disk tells its bytes.
+    abbrev TellsSince : Core D → Machine → Type 0
+    TellsSince core m = StandsSince g start least core m × IsTrue (g.tells core.disk)
+
+    tells_on : (old new : Core D) (calls : List Call) → AreMade (port_of g) old calls new → (m : Machine) → TellsSince old m → HasStepped g TellsSince old calls new m
+    tells_on old new calls made m (since, tells) =
+        let s = since_stepped g old new calls made m start least since in record {
+          machine = s.machine;
+          stands = (s.stands, subst IsTrue (sym (tells_kept (port_of g) old new calls made)) tells);
+          steps = s.steps;
+        }
+
+    item_told : (old new : Core D) (item : Item) (reply : Reply) (m : Machine) → TellsSince old m → IsAnsweredOver (port_of g) old item reply new → IsItemTold m.history item reply
+    item_told old new (Ok asked) reply m (since, tells) is = is.told tells (record { history = m.history; holds = [] }) (knows_all old m since.stands)
+    item_told old new (Err why) reply m (since, tells) is = tt
+
+    -- All that was pushed is told of, wherever it lies.
+    pub since_means : (items : List Item) (replies : List Reply) (first last : Core D) (m : Machine) → TellsSince first m → AreAnsweredOver (port_of g) first items replies last
+        → (m' : Machine) × TellsSince last m' × Session true (at_core g first m) items replies (at_core g last m')
+    since_means = over_means TellsSince tells_on true
+        (λ old new m item reply since is h. item_means_told item (at_core g old m) (at_core g new h.machine) reply h.calls since.0.stands.agrees h.answered h.lead (item_told old new item reply m since is))
