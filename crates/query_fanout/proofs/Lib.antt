@@ -2,3 +2,4 @@ pub mod CallLaws
 mod PageLaws
 mod BlockLaws
 pub mod QueryLaws
+mod SearchLaws

@@ -8,7 +8,9 @@
 mod blocks;
 mod error;
 mod pages;
+mod search;
 mod trace;
 
 pub use error::QueryError;
+pub use search::{Asked, SearchAnswer, search};
 pub use trace::{TraceAnswer, find_trace};
