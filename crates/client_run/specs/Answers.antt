@@ -1,13 +1,16 @@
 -- What a request is answered over a port, and which calls of the port it makes.
-use Rattle.std.specs.Prelude.{◌≡◌, ◌⊎◌, ℕ, List, [], ◌∷◌, length, Result, Ok, Err}
-use Rattle.span_types.specs.First.{IsFirstOf}
+use Rattle.std.specs.Prelude.{◌≡◌, ◌⊎◌, ℕ, List, [], ◌∷◌, length, IsTrue, Result, Ok, Err}
 use Rattle.flusher.specs.Rounds.{IsFlushRound}
 use Rattle.span_types.specs.declared.errors.Memory.{Memory}
-use Rattle.span_types.specs.declared.ids.TraceId.{TraceId}
-use Rattle.span_types.specs.declared.spans.Row.{Row}
 use Rattle.otlp_spans.specs.declared.read.Reading.{Reading}
-use Rattle.rows_by_trace.specs.Traces.{rows_of_trace}
-use Rattle.search_answer.specs.Answers.{IsAnswer}
+use Rattle.query_fanout.specs.Queries.{IsAsked, Sound, TellsOf}
+use Rattle.query_fanout.specs.SearchAnswers.{IsSearchAnswer}
+use Rattle.query_fanout.specs.TraceAnswers.{IsTraceAnswer}
+use Rattle.query_fanout.specs.declared.error.QueryError.{QueryError}
+use Rattle.query_fanout.specs.declared.error.QueryError.TheVariants as unanswered
+use Rattle.query_fanout.specs.declared.searching.Asked.{Asked}
+use Rattle.query_fanout.specs.declared.searching.SearchAnswer.{SearchAnswer}
+use Rattle.query_fanout.specs.declared.trace.TraceAnswer.{TraceAnswer}
 use Rattle.search_text.specs.Fields.{printed_fields}
 use Rattle.session_text.specs.declared.refusal.Refusal.{Refusal}
 use Rattle.session_text.specs.declared.refusal.Refusal.TheVariants as refusal
@@ -16,12 +19,13 @@ use Rattle.session_text.specs.declared.reply.Reply.TheVariants.{Pushed, Traced, 
 use Rattle.session_text.specs.declared.request.Request.{Request}
 use Rattle.session_text.specs.declared.request.Request.TheVariants as request
 use Rattle.session_text.specs.declared.request.Search.{Search}
-use Rattle.spanset_eval.specs.declared.results.TraceResult.{TraceResult}
-use Rattle.store_model.specs.Event.{Event as event, Reply as reply, Refusal as cause}
+use Rattle.store_model.specs.Event.{Event as event}
+use Rattle.store_model.specs.History.{History}
 use Rattle.store_state.specs.Replies.{count_reply, push_reply}
-use Rattle.store_state.specs.Meaning.{Meaning}
+use Rattle.store_state.specs.Meaning.{Meaning, View}
 use Rattle.store_state.specs.declared.errors.PushError.{PushError}
 use Rattle.store_state.specs.declared.errors.PushError.TheVariants as push
+use Rattle.store_state.specs.declared.rounds.Refusal.TheVariants as round_refusal
 use Rattle.store_state.specs.declared.rounds.Round.{Round}
 use Rattle.store_state.specs.declared.rounds.Round.TheVariants as round
 use Rattle.traceql_syntax.specs.Trees.{query_tree}
@@ -44,26 +48,25 @@ pushed_reply reading (Err why) = Refused (refusal_of why)
 
 -- ---- queries
 
--- A look-up is told the first occurrences of the trace's spans among the rows.
-abbrev pub IsTraceOf : TraceId → ℕ → List Row → Reply → Type 0
-IsTraceOf id as_of rows r =
-    (firsts : List Row) × IsFirstOf (rows_of_trace id rows) firsts × (r ≡ Traced as_of firsts)
+-- what is said of a query that could not be answered
+abbrev pub query_refusal : QueryError → Refusal
+query_refusal unanswered.Fault = refusal.DiskFault
+query_refusal (unanswered.NotBlock file at) = refusal.Round (round_refusal.NotBlock file at)
+query_refusal unanswered.Memory = refusal.Memory
 
--- A search is told what it finds among the first occurrences of all rows.
-abbrev pub IsSearchOf : Search → ℕ → List Row → Reply → Type 0
-IsSearchOf s as_of rows r =
-    (firsts : List Row) × (results : List TraceResult) × IsFirstOf rows firsts
-    × IsAnswer s.checked.patterns (query_tree s.checked.query) s.range s.limit s.spans_per_set firsts results
-    × (r ≡ Searched as_of (printed_fields (query_tree s.checked.query)) results)
+-- A look-up is told the trace's spans, or why not.
+abbrev pub trace_reply : Result TraceAnswer QueryError → Reply
+trace_reply (Ok answer) = Traced answer.as_of answer.rows
+trace_reply (Err error) = Refused (query_refusal error)
 
--- A query takes one look, and tells of the look's rows and as of the look's count, or that memory was wanted; then it gives the
--- look back. Where there is no memory for the look it is refused for that.
-abbrev pub IsQueryAnswered : (ℕ → List Row → Reply → Type 0) → Reply → List Call → Type 0
-IsQueryAnswered tells r calls =
-    ((calls ≡ call event.Look (reply.Refused cause.Memory) ∷ []) × (r ≡ Refused refusal.Memory))
-    ⊎ ((pin : ℕ) × (files : List ℕ) × (as_of : ℕ) × (rows : List Row)
-    × (calls ≡ call event.Look (reply.Looked pin files as_of rows) ∷ call (event.Done pin) reply.Fine ∷ [])
-    × (tells as_of rows r ⊎ (r ≡ Refused refusal.Memory)))
+abbrev pub asked_of : Search → Asked
+asked_of s = record { checked = s.checked; range = s.range; limit = s.limit; spans_per_set = s.spans_per_set }
+
+-- A search is told what it finds, or why not. Where there is no memory for the fields' texts it is refused for that.
+abbrev pub IsSearchTold : Asked → Result SearchAnswer QueryError → Reply → Type 0
+IsSearchTold asked (Ok answer) r =
+    (r ≡ Searched answer.as_of (printed_fields (query_tree asked.checked.query)) answer.results) ⊎ (r ≡ Refused refusal.Memory)
+IsSearchTold asked (Err error) r = r ≡ Refused (query_refusal error)
 
 -- ---- upkeep
 
@@ -85,22 +88,28 @@ abbrev pub IsRequestAnswered : Request → Reply → List Call → Type 0
 IsRequestAnswered (request.Push reading moment) r calls =
     (answer : Result ℕ PushError) × (r ≡ pushed_reply reading answer)
     × (calls ≡ call (event.Push reading.batch.spans moment) (push_reply answer) ∷ [])
-IsRequestAnswered (request.Trace id) r calls = IsQueryAnswered (IsTraceOf id) r calls
-IsRequestAnswered (request.Search s) r calls = IsQueryAnswered (IsSearchOf s) r calls
+IsRequestAnswered (request.Trace id) r calls =
+    (answer : Result TraceAnswer QueryError) × (r ≡ trace_reply answer) × IsAsked (IsTraceAnswer id) answer calls
+IsRequestAnswered (request.Search s) r calls =
+    (answer : Result SearchAnswer QueryError) × IsSearchTold (asked_of s) answer r × IsAsked (IsSearchAnswer (asked_of s)) answer calls
 IsRequestAnswered (request.Cut moment) r calls =
     (answer : Result ℕ Memory) × (r ≡ cut_reply Cut answer) × (calls ≡ call (event.Cut moment) (count_reply answer) ∷ [])
 IsRequestAnswered request.CutAll r calls =
     (answer : Result ℕ Memory) × (r ≡ cut_reply CutAll answer) × (calls ≡ call event.CutAll (count_reply answer) ∷ [])
 IsRequestAnswered request.Flush r calls = (round : Round) × (r ≡ flush_reply round) × IsFlushRound calls round
 
--- A request was answered over a port: the port's calls are just those that the request makes.
+-- A query's answer is told of the history, before which others may have pushed to it, and no block is found to be none.
+abbrev pub TellsHistory : History → Request → Reply → Type 0
+TellsHistory h (request.Trace id) r =
+    (answer : Result TraceAnswer QueryError) × (r ≡ trace_reply answer) × Sound (TellsOf (IsTraceAnswer id) h) answer
+TellsHistory h (request.Search s) r =
+    (answer : Result SearchAnswer QueryError) × IsSearchTold (asked_of s) answer r × Sound (TellsOf (IsSearchAnswer (asked_of s)) h) answer
+TellsHistory h _ r = Unit {0}
+
+-- A request was answered over a port: the port's calls are just those that the request makes. Where the port tells its bytes, a
+-- query's answer is that of each history that is known.
 pub record HasReplied {P : Type 0} (meaning : Meaning P) (old : P) (asked : Request) (r : Reply) (new : P) : Type 0 where
   pub calls : List Call
   pub made : AreMade meaning old calls new
   pub answered : IsRequestAnswered asked r calls
-
--- Private mechanism: a query was answered over a port. No public clause cites it.
-pub record HasTold {P : Type 0} (meaning : Meaning P) (old : P) (tells : ℕ → List Row → Reply → Type 0) (r : Reply) (new : P) : Type 0 where
-  pub calls : List Call
-  pub made : AreMade meaning old calls new
-  pub answered : IsQueryAnswered tells r calls
+  pub told : IsTrue (meaning.tells old) → (v : View) → meaning.knows old v → TellsHistory v.history asked r

@@ -1,30 +1,25 @@
 //! What a request is answered over a port.
 
-ghost use Rattle.std.specs.Prelude.{◌≡◌, ◌⊎◌, ◌^◌, ◌<◌, List, length, IfOk};
+ghost use Rattle.std.specs.Prelude.{◌≡◌, ◌^◌, ◌<◌, List, length};
 ghost use Rattle.store_model.specs.Holds.{Hold};
-ghost use Rattle.span_types.specs.First.{IsFirstOf};
-ghost use Rattle.rows_by_trace.specs.Traces.{rows_of_trace};
-ghost use Rattle.session_text.specs.declared.reply.Reply.TheVariants.{Refused};
-ghost use Rattle.session_text.specs.declared.refusal.Refusal.TheVariants.{Memory as ForMemory};
-ghost use Rattle.session_text.specs.declared.request.Request.TheVariants.{Push as AsksPush, Cut as AsksCut, CutAll as AsksCutAll, Flush as AsksFlush};
-ghost use Rattle.client_run.specs.Answers.{HasReplied, HasTold, IsSearchOf, IsTraceOf, flush_reply, refusal_of};
+ghost use Rattle.session_text.specs.declared.request.Request.TheVariants.{Push as AsksPush, Trace as AsksTrace, Search as AsksSearch, Cut as AsksCut, CutAll as AsksCutAll, Flush as AsksFlush};
+ghost use Rattle.client_run.specs.Answers.{HasReplied, IsSearchTold, asked_of, flush_reply, query_refusal, refusal_of, trace_reply};
 
 use flusher::flush_round;
 use io_edges::Gate;
 use otlp_spans::Reading;
-use search_answer::{Bounds, answer};
+use query_fanout::{Asked, QueryError, SearchAnswer, TraceAnswer, find_trace};
 use search_text::printed_fields;
 use session_text::{Refusal, Reply, Request, Search};
-use span_types::{Batch, Memory, Rows, TraceId, first_rows};
+use span_types::{Batch, Memory, TraceId};
 use std::alloc::Global;
-use store_state::{FlushPort, Look, LookPort, PushError, Round};
+use store_state::{FlushPort, LookPort, PushError, Round};
 
 /// Answers a request over a port, for the client with this number.
 ///
-/// A push and a cut are one call each, and a flush is one round. A look-up or a search takes one look and gives it back, and tells
-/// of the rows of the look, which are all rows as long as the look's pin names no block. Out of memory a request is refused for
-/// that; whether a push was refused the port says. The gate is passed at twice the client's number before a search is evaluated, and at one more after each push that
-/// was accepted.
+/// A push and a cut are one call each, and a flush is one round. A look-up or a search takes one look, reads the blocks that it
+/// pins and gives it back. Out of memory a request is refused for that; whether a push was refused the port says. The gate is
+/// passed at twice the client's number before a search is evaluated, and at one more after each push that was accepted.
 pub fn answer_request<P: FlushPort, G: Gate>(
     alloc: Global,
     port: &mut P,
@@ -39,9 +34,9 @@ pub fn answer_request<P: FlushPort, G: Gate>(
     match request {
         Request::Push { reading, moment } => push(port, reading, moment, client, gate),
         Request::Trace(id) => trace(alloc, port, id),
-        Request::Search(search) => {
+        Request::Search(asks) => {
             gate.pass(2 * client);
-            search_reply(alloc, port, &search)
+            search(alloc, port, asks)
         }
         Request::Cut { moment } => cut(port, moment),
         Request::CutAll => cut_all(port),
@@ -134,86 +129,78 @@ fn flush_reply(round: Round) -> Reply
     }
 }
 
-// Tells a trace.
-fn trace<P: LookPort>(alloc: Global, port: &mut P, id: TraceId) -> Reply
-    requires { (held : List Hold) × P.meaning.holds port.old held }
-    ensures { HasTold P.meaning port.old (IsTraceOf id) result port.new }
+// Why a query could not be answered.
+fn query_refusal(error: QueryError) -> Refusal
+    ensures { result ≡ query_refusal error }
 {
-    let look = match port.look() {
-        Ok(look) => look,
-        Err(_) => return Reply::Refused(Refusal::Memory),
-    };
-    let reply = traced(alloc, &look, id);
-    port.done(look);
-    reply
-}
-
-// Tells a trace of a look's rows.
-fn traced(alloc: Global, look: &Look, id: TraceId) -> Reply
-    ensures { IsTraceOf id look.now.as_of look.now.rows result ⊎ (result ≡ Refused ForMemory) }
-{
-    match trace_rows(alloc, look, id) {
-        Ok(rows) => Reply::Traced {
-            as_of: look.as_of,
-            rows,
-        },
-        Err(Memory) => Reply::Refused(Refusal::Memory),
+    match error {
+        QueryError::Fault => Refusal::DiskFault,
+        QueryError::NotBlock { file, at } => {
+            Refusal::Round(store_state::Refusal::NotBlock { file, at })
+        }
+        QueryError::Memory => Refusal::Memory,
     }
 }
 
-// The first occurrences of a trace's spans.
-fn trace_rows(alloc: Global, look: &Look, id: TraceId) -> Result<Rows, Memory>
-    ensures { IfOk result (λ rows. IsFirstOf (rows_of_trace id look.now.rows) rows) }
+// Tells a trace.
+fn trace<P: FlushPort>(alloc: Global, port: &mut P, id: TraceId) -> Reply
+    requires { (held : List Hold) × P.meaning.holds port.old held }
+    ensures { HasReplied P.meaning port.old (AsksTrace id) result port.new }
 {
-    let rows = look.rows.rows_of(id)?;
-    let firsts = first_rows(alloc, rows)?;
-    Ok(firsts)
+    trace_reply(find_trace(alloc, port, id))
+}
+
+// What is told of a trace.
+fn trace_reply(answer: Result<TraceAnswer, QueryError>) -> Reply
+    ensures { result ≡ trace_reply answer }
+{
+    match answer {
+        Ok(TraceAnswer { as_of, rows }) => Reply::Traced { as_of, rows },
+        Err(error) => Reply::Refused(query_refusal(error)),
+    }
 }
 
 // Tells what a search finds.
-fn search_reply<P: LookPort>(alloc: Global, port: &mut P, search: &Search) -> Reply
+fn search<P: FlushPort>(alloc: Global, port: &mut P, asks: Search) -> Reply
     requires { (held : List Hold) × P.meaning.holds port.old held }
-    ensures { HasTold P.meaning port.old (IsSearchOf search.now) result port.new }
+    ensures { HasReplied P.meaning port.old (AsksSearch asks) result port.new }
 {
-    let look = match port.look() {
-        Ok(look) => look,
-        Err(_) => return Reply::Refused(Refusal::Memory),
-    };
-    let reply = searched(alloc, &look, search);
-    port.done(look);
-    reply
+    let asked = asked_of(asks);
+    let answer = query_fanout::search(alloc, port, &asked);
+    search_reply(alloc, &asked, answer)
 }
 
-// Tells what a search finds among a look's rows.
-fn searched(alloc: Global, look: &Look, search: &Search) -> Reply
-    ensures { IsSearchOf search.now look.now.as_of look.now.rows result ⊎ (result ≡ Refused ForMemory) }
+// What is asked of a store.
+fn asked_of(asks: Search) -> Asked
+    ensures { result ≡ asked_of asks }
 {
-    match results_of(alloc, look, search) {
-        Ok(reply) => reply,
-        Err(Memory) => Reply::Refused(Refusal::Memory),
+    let Search {
+        checked,
+        range,
+        limit,
+        spans_per_set,
+    } = asks;
+    Asked {
+        checked,
+        range,
+        limit,
+        spans_per_set,
     }
 }
 
-fn results_of(alloc: Global, look: &Look, search: &Search) -> Result<Reply, Memory>
-    ensures { IfOk result (IsSearchOf search.now look.now.as_of look.now.rows) }
+// What is told of a search.
+fn search_reply(alloc: Global, asked: &Asked, answer: Result<SearchAnswer, QueryError>) -> Reply
+    ensures { IsSearchTold asked.now answer result }
 {
-    let rows = look.rows.copy_rows()?;
-    let firsts = first_rows(alloc, rows)?;
-    let bounds = Bounds {
-        limit: search.limit,
-        spans_per_set: search.spans_per_set,
-    };
-    let results = answer(
-        alloc,
-        &search.checked,
-        search.range,
-        bounds,
-        firsts.as_slice(),
-    )?;
-    let fields = printed_fields(alloc, &search.checked.query)?;
-    Ok(Reply::Searched {
-        as_of: look.as_of,
-        fields,
-        results,
-    })
+    match answer {
+        Ok(SearchAnswer { as_of, results }) => match printed_fields(alloc, &asked.checked.query) {
+            Ok(fields) => Reply::Searched {
+                as_of,
+                fields,
+                results,
+            },
+            Err(Memory) => Reply::Refused(Refusal::Memory),
+        },
+        Err(error) => Reply::Refused(query_refusal(error)),
+    }
 }

@@ -1,11 +1,10 @@
 -- How calls follow one another, and what page reads leave as it was.
-use Rattle.std.proofs.Common.{◌≡◌, ℕ, ◌+◌, List, [], ◌∷◌, ◌++◌, true, length, refl, sym, ◌∙◌, ap, subst, arith}
+use Rattle.std.proofs.Common.{◌≡◌, ℕ, ◌+◌, List, [], ◌∷◌, ◌++◌, length, refl, sym, ◌∙◌, ap, subst, arith}
 use Rattle.std.specs.Prelude.{IsTrue}
 use Rattle.store_model.specs.Event.{Reply}
 use Rattle.store_model.specs.Event.Event.{ReadPage}
 use Rattle.store_model.specs.Event.Reply.{Page}
-use Rattle.store_model.specs.Holds.{Hold, files_of}
-use Rattle.store_model.specs.State.{is_among}
+use Rattle.store_model.specs.Holds.{Hold}
 use Rattle.store_state.specs.Made.{Call, AreMade, call}
 use Rattle.store_state.specs.Meaning.{Meaning, Called, IsOpen}
 use Rattle.store_state.proofs.HoldLaws.{stays_open}

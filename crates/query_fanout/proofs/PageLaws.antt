@@ -5,7 +5,6 @@ use Rattle.std.proofs.lemmas.Bool.{eq-eqb}
 use Rattle.std.proofs.lemmas.Grind.{flat_map-append}
 use Rattle.std.proofs.lemmas.List.{length-drop, length_push, take_all, take-append-le}
 use Rattle.span_types.specs.declared.spans.Row.{Row}
-use Rattle.span_fields.specs.Breaks.{Fails}
 use Rattle.block_info.specs.InfoParts.{InfoParts}
 use Rattle.block_format.specs.Blocks.{BlockHasInfo}
 use Rattle.block_read.specs.Answers.{made_of}
@@ -14,13 +13,13 @@ use Rattle.block_read.specs.Files.{page_of}
 use Rattle.block_read.specs.declared.block.Block.{Block}
 use Rattle.block_read.proofs.BlockBoth.{block_again}
 use Rattle.store_model.specs.Event.Event.{ReadPage}
-use Rattle.store_model.specs.Event.{Reply as reply, Refusal as cause}
+use Rattle.store_model.specs.Event.{Reply as reply}
 use Rattle.store_model.specs.State.{is_among}
 use Rattle.store_state.specs.Given.{info_files, look_of}
 use Rattle.store_state.specs.Made.{Call, AreMade, call}
 use Rattle.store_state.specs.Meaning.{Meaning, Called, IsOpen}
 use Rattle.store_state.specs.declared.jobs.Look.{Look}
-use Rattle.query_fanout.specs.BlockReads.{IsRead, StopsWithin, failed_read, joined, page_reads, rows_at}
+use Rattle.query_fanout.specs.BlockReads.{failed_read, joined, page_reads, rows_at}
 use Rattle.query_fanout.specs.Queries.{Sound}
 use Rattle.query_fanout.specs.Reading.{BlockRead, LookStays, PageCalled, PagesRead, StopsReading}
 use Rattle.query_fanout.specs.declared.error.QueryError.{QueryError}

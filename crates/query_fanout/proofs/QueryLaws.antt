@@ -1,5 +1,5 @@
 -- What a query that was asked over a port tells of the history.
-use Rattle.std.proofs.Common.{◌≡◌, inl, inr, ℕ, ◌+◌, ◌-◌, ◌≤◌, Bool, List, [], ◌∷◌, ◌++◌, length, take, filter, Option, Some, None, Result, Ok, Err, append_assoc, refl, sym, ap, subst, ◌∙◌, arith}
+use Rattle.std.proofs.Common.{◌≡◌, inl, inr, ℕ, ◌+◌, ◌-◌, ◌≤◌, List, [], ◌∷◌, ◌++◌, length, Some, Result, Ok, Err, refl, sym, ap, subst, ◌∙◌, arith}
 use Rattle.std.specs.Prelude.{IsTrue}
 use Rattle.std.specs.List.{flat_map}
 use Rattle.std.proofs.lemmas.List.{take_all}
@@ -18,16 +18,16 @@ use Rattle.store_model.specs.History.{History, count_of, grown, history_rows, up
 use Rattle.store_model.specs.Holds.{Hold}
 use Rattle.store_model.proofs.FirstsExist.{firsts_exist}
 use Rattle.store_state.specs.Given.{info_files, look_of}
-use Rattle.store_state.specs.Made.{Call, AreMade, call}
+use Rattle.store_state.specs.Made.{call}
 use Rattle.store_state.specs.Meaning.{Meaning, Called, IsOpen, View}
 use Rattle.store_state.specs.Shown.{ShowsHistory}
 use Rattle.store_state.specs.declared.jobs.Look.{Look}
 use Rattle.store_state.proofs.HoldLaws.{opens_new}
 use Rattle.query_fanout.specs.TraceAnswers.{IsTraceAnswer}
-use Rattle.query_fanout.specs.Queries.{HasAsked, Sound, Taken, TellsOf, all_rows}
+use Rattle.query_fanout.specs.Queries.{HasAsked, Sound, TellsOf, all_rows}
 use Rattle.query_fanout.specs.Reading.{BlocksRead, wanted_rows}
 use Rattle.query_fanout.specs.declared.error.QueryError.{QueryError}
-use Rattle.query_fanout.specs.declared.error.QueryError.TheVariants.{Fault, NotBlock, Memory}
+use Rattle.query_fanout.specs.declared.error.QueryError.TheVariants.{Memory}
 use Rattle.query_fanout.specs.declared.trace.TraceAnswer.{TraceAnswer}
 use Rattle.query_fanout.proofs.CallLaws.{made_behind}
 use Rattle.query_fanout.proofs.PageLaws.{sound_error}

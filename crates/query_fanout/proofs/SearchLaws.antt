@@ -1,5 +1,5 @@
 -- A search tells of the first occurrences of all rows.
-use Rattle.std.proofs.Common.{◌≡◌, ℕ, List, ◌++◌, None, subst}
+use Rattle.std.proofs.Common.{◌≡◌, List, ◌++◌, None, subst}
 use Rattle.std.specs.List.{flat_map}
 use Rattle.span_types.specs.declared.spans.Row.{Row}
 use Rattle.span_types.proofs.FirstLaws.{firsts_alike}
@@ -7,8 +7,8 @@ use Rattle.store_state.specs.declared.jobs.Look.{Look}
 use Rattle.query_fanout.specs.SearchAnswers.{IsSearchAnswer}
 use Rattle.query_fanout.specs.Queries.{all_rows}
 use Rattle.query_fanout.specs.Reading.{wanted_rows}
-use Rattle.query_fanout.specs.declared.search.Asked.{Asked}
-use Rattle.query_fanout.specs.declared.search.SearchAnswer.{SearchAnswer}
+use Rattle.query_fanout.specs.declared.searching.Asked.{Asked}
+use Rattle.query_fanout.specs.declared.searching.SearchAnswer.{SearchAnswer}
 use Rattle.query_fanout.proofs.QueryLaws.{TellsFirsts}
 
 pub search_tells_firsts : (asked : Asked) → TellsFirsts (IsSearchAnswer asked)

@@ -1,6 +1,5 @@
 -- Private mechanism: what single steps of reading make of a port. No public clause cites these.
-use Rattle.std.specs.Prelude.{◌≡◌, ℕ, ◌*◌, ◌<◌, ◌≤◌, List, [], ◌∷◌, ◌++◌, length, take, Result, Ok, Err, IsTrue, true, Option, None, Some}
-use Rattle.std.specs.List.{flat_map}
+use Rattle.std.specs.Prelude.{◌≡◌, ℕ, ◌*◌, List, ◌++◌, length, take, Result, Ok, Err, IsTrue, true, Option, None, Some}
 use Rattle.span_types.specs.declared.ids.TraceId.{TraceId}
 use Rattle.span_types.specs.declared.spans.Row.{Row}
 use Rattle.block_info.specs.InfoParts.{InfoParts}
@@ -11,12 +10,12 @@ use Rattle.store_model.specs.Event.Event.{ReadPage}
 use Rattle.store_model.specs.Event.{Reply as reply, Refusal as cause}
 use Rattle.store_model.specs.Holds.{Hold, files_of}
 use Rattle.store_model.specs.State.{is_among}
-use Rattle.store_state.specs.Given.{look_of, info_files}
+use Rattle.store_state.specs.Given.{look_of}
 use Rattle.store_state.specs.Made.{Call, AreMade}
 use Rattle.store_state.specs.Meaning.{Meaning, Called, IsOpen}
 use Rattle.store_state.specs.Written.{AreBlocksOf}
 use Rattle.store_state.specs.declared.jobs.Look.{Look}
-use Rattle.query_fanout.specs.BlockReads.{ComesOf, IsRead, Stops, StopsWithin, failed_read, joined, page_reads}
+use Rattle.query_fanout.specs.BlockReads.{ComesOf, IsRead, StopsWithin, joined, page_reads}
 use Rattle.query_fanout.specs.Queries.{Sound}
 use Rattle.query_fanout.specs.declared.error.QueryError.{QueryError}
 use Rattle.query_fanout.specs.declared.error.QueryError.TheVariants.{Fault, NotBlock, Memory}

@@ -8,9 +8,9 @@
 mod blocks;
 mod error;
 mod pages;
-mod search;
+mod searching;
 mod trace;
 
 pub use error::QueryError;
-pub use search::{Asked, SearchAnswer, search};
+pub use searching::{Asked, SearchAnswer, search};
 pub use trace::{TraceAnswer, find_trace};

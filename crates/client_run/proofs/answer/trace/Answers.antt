@@ -1,14 +1,6 @@
-use Rattle.client_run.specs.Answers.{IsTraceOf}
-use Rattle.client_run.proofs.AnswerLemmas.{has_told, is_open, told_nothing}
+use Rattle.client_run.proofs.AnswerLemmas.{trace_replied}
 use Rattle.client_run.proofs.answer.trace.Goals as goal
-
-pub returns-in-Err : goal.returns-in-Err
-returns-in-Err g c = told_nothing g.P.LookPort.meaning c.args.port.now c.look.new.self (IsTraceOf c.args.id) c.in-Err.ensures.called
-
-pub done-requires : goal.done-requires
-done-requires g c = is_open g.P.LookPort.meaning c.args.port.now c.look.new.self c.in-Ok.look c.in-Ok.ensures.called c.requires
 
 pub returns : goal.returns
 returns g c =
-    has_told g.P.LookPort.meaning c.args.port.now c.look.new.self c.done.new.self c.in-Ok.look (IsTraceOf c.args.id) c.traced-reply.result
-    c.in-Ok.ensures.called c.done.ensures c.traced-reply.ensures
+    trace_replied g.P.LookPort.meaning c.args.port.now c.find_trace.new.port c.args.id c.find_trace.result c.trace_reply.result c.find_trace.ensures c.trace_reply.ensures

@@ -1,4 +1,4 @@
-use Rattle.std.proofs.Common.{◌≡◌, ℕ, List, Ok, Err, sym, ap, subst, ◌∙◌}
+use Rattle.std.proofs.Common.{◌≡◌, ℕ, List, Err, sym, ap, subst, ◌∙◌}
 use Rattle.span_types.specs.declared.spans.Row.{Row}
 use Rattle.span_fields.specs.Breaks.{Fails}
 use Rattle.span_fields.specs.declared.breaks.Break.{Break}

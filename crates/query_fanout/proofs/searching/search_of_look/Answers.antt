@@ -1,6 +1,6 @@
 use Rattle.query_fanout.proofs.QueryLaws.{read_starved, read_told}
 use Rattle.query_fanout.proofs.SearchLaws.{search_answers}
-use Rattle.query_fanout.proofs.search.search_of_look.Goals as goal
+use Rattle.query_fanout.proofs.searching.search_of_look.Goals as goal
 
 pub returns-in-Ok-search_rows : goal.returns-in-Ok-search_rows
 returns-in-Ok-search_rows g c =

@@ -41,12 +41,12 @@ pub struct SearchAnswer {
     pub results: Results,
 }
 
-/// What a search finds among the first occurrences of all spans, wherever they lie: in the rows of one look and in the blocks that
-/// it pins.
+/// What a search finds among the first occurrences of all spans, wherever they lie: in the rows of one look and in the
+/// blocks that it pins.
 ///
-/// The blocks are read whole, one after another, and their rows are moved, those of the look copied; so at a time the bytes of one
-/// block are in memory beside all rows. First occurrences are taken once, of all rows, before any trace is evaluated. The look is
-/// given back in every case.
+/// The blocks are read whole, one after another, and their rows are moved, those of the look copied; so at a time the
+/// bytes of one block are in memory beside all rows. First occurrences are taken once, of all rows, before any trace is
+/// evaluated. The look is given back in every case.
 pub fn search<P: FlushPort>(
     alloc: Global,
     port: &mut P,

@@ -1,7 +1,7 @@
 use Rattle.query_fanout.specs.SearchAnswers.{IsSearchAnswer}
 use Rattle.query_fanout.proofs.QueryLaws.{has_asked, is_open, not_looked}
 use Rattle.query_fanout.proofs.SearchLaws.{search_tells_firsts}
-use Rattle.query_fanout.proofs.search.search.Goals as goal
+use Rattle.query_fanout.proofs.searching.search.Goals as goal
 
 pub returns-in-Err : goal.returns-in-Err
 returns-in-Err g c = not_looked g.P.LookPort.meaning c.args.port.now (IsSearchAnswer c.args.asked.now) c.look.new.self c.in-Err.ensures.called
