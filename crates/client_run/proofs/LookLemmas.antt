@@ -1,7 +1,10 @@
 -- Looks that are taken and ended.
-use Rattle.std.proofs.Common.{◌≡◌, ℕ, ◌+◌, ◌<◌, ◌≤◌, zero, suc, Bool, true, false, List, [], ◌∷◌, ◌++◌, Option, Some, None, option_map, map, length, get_or, refl, sym, ◌∙◌, ap, subst, arith, append-nil, append_assoc, if◌then◌else◌}
-use Rattle.std.specs.Prelude.{set}
+use Rattle.std.proofs.Common.{◌≡◌, ℕ, ◌+◌, ◌<◌, ◌≤◌, ◌==◌, zero, suc, Bool, true, false, List, [], ◌∷◌, ◌++◌, Bor, Option, Some, None, option_map, map, length, get_or, refl, sym, ◌∙◌, ap, subst, arith, append-nil, append_assoc, if◌then◌else◌}
+use Rattle.std.specs.Prelude.{set, ◌||◌, IfNone, IfSome}
 use Rattle.std.proofs.lemmas.List.{map-append, map-set, set_at, set-get_or, get_or_at, get_or-map, get_or_past, get_or_read, length_push, length-append, length-map}
+use Rattle.std.specs.List.{list_any}
+use Rattle.std.specs.Option.{option_copied}
+use Rattle.block_info.specs.InfoParts.{InfoParts}
 use Rattle.store_model.specs.Event.{Event, Reply}
 use Rattle.store_model.specs.Event.Event.{Done}
 use Rattle.store_model.specs.Event.Reply.{Count, Fine, Nothing, Flushing, Compacting, Looked, Page, Refused}
@@ -178,6 +181,25 @@ none_at items n x less is none = (
 pub some_at : (items : List (Option Look)) (n : ℕ) (x : Option Look) (look : Look) → n < length items → x ≡ get_or items n x → x ≡ Some look
     → look_at n (looks_of items) ≡ Some (look_of look)
 some_at items n x look less is some = stands_at items n x less is ∙ ap (option_map look_of) some
+
+-- the same of a reference to what stands there
+pub none_found : (items : List (Option Look)) (n : ℕ) (x : Option Look) (found : Option (Bor Look)) → n < length items → x ≡ get_or items n x → option_copied found ≡ x
+    → IfNone found (look_at n (looks_of items) ≡ None)
+none_found items n x None less is e = let at = none_at items n x less is (sym e) in at.0
+none_found items n x (Some b) less is e = tt
+
+pub some_found : (items : List (Option Look)) (n : ℕ) (x : Option Look) (found : Option (Bor Look)) → n < length items → x ≡ get_or items n x → option_copied found ≡ x
+    → IfSome found (λ b. look_at n (looks_of items) ≡ Some (look_of b.now))
+some_found items n x None less is e = tt
+some_found items n x (Some b) less is e = some_at items n x b.now less is (sym e)
+
+any_among : (block : ℕ) (infos : List InfoParts) → list_any (λ (info : InfoParts). info.file == block) infos ≡ is_among block (info_files infos)
+any_among block [] = refl
+any_among block (x ∷ xs) = ap (λ (t : Bool). (x.file == block) || t) (any_among block xs)
+
+pub among_names : (block : ℕ) (infos : List InfoParts) (t b : Bool) → t ≡ list_any (λ (info : InfoParts). info.file == block) infos → t ≡ b
+    → is_among block (info_files infos) ≡ b
+among_names block infos t b is e = sym (any_among block infos) ∙ (sym is ∙ e)
 
 -- no look names the block where none stands at the number, or its pin doesn't
 pub none_names : (items : List (Option Look)) (n block : ℕ) → look_at n (looks_of items) ≡ None → NamesNo (look_at n (looks_of items)) block

@@ -1,6 +1,7 @@
 //! The looks of a run of events.
 
-ghost use Rattle.std.specs.Prelude.{◌≡◌, ◌++◌, ◌∷◌, [], Some, None, map, option_map, if◌then◌else◌, IfSome, IfNone, true};
+ghost use Rattle.std.specs.Prelude.{◌≡◌, ◌==◌, ◌++◌, ◌∷◌, [], Some, None, map, option_map, if◌then◌else◌, IfSome, IfNone, true};
+ghost use Rattle.std.specs.List.{list_any};
 ghost use Rattle.store_model.specs.Event.Event.{Done};
 ghost use Rattle.store_model.specs.Event.Reply.{Fine};
 ghost use Rattle.store_model.specs.State.{is_among};
@@ -85,7 +86,7 @@ fn open_look(looks: &[Option<Look>], number: u64) -> Option<&Look>
 
 // Whether a pin names a block.
 fn names(pin: &Pin, block: u32) -> bool
-    ensures { result ≡ is_among block (info_files pin.now.blocks) }
+    ensures { result ≡ list_any (λ info. info.file == block) pin.now.blocks }
 {
     let infos = pin.blocks.as_slice();
     infos.iter().any(|info| info.get().file == block)

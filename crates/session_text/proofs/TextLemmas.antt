@@ -1,8 +1,9 @@
 -- Lines that are UTF-8, and lines that aren't.
-use Rattle.std.proofs.Common.{◌≡◌, ◌≤◌, ℕ, Bool, true, false, List, Err, codes, length, refl, sym, ap}
+use Rattle.std.proofs.Common.{◌≡◌, ◌≤◌, ℕ, Bool, true, false, List, Option, Err, codes, length, refl, sym, ap, subst}
 use Rattle.std.specs.Prelude.{nat_le}
 use Rattle.std.specs.Str.{bytes_eq, is_utf8, IsUtf8}
 use Rattle.std.proofs.lemmas.Bool.{le-leb}
+use Rattle.std.proofs.lemmas.Slice.Eq.{bytes_eq-Decides}
 use Rattle.std.proofs.lemmas.Str.{IsUtf8-from_is_utf8, is_utf8-from_IsUtf8}
 use Rattle.io_edges.specs.Lines.{line_limit}
 use Rattle.session_text.specs.declared.refusal.Refusal.TheVariants.{BadRequest}
@@ -30,3 +31,23 @@ unfolding line_of
 of_bytes moment line short other not =
     let fits : nat_le (length line) line_limit ≡ true = le-leb (length line) line_limit short in
     rw (fits, other, no_text line not) refl
+
+no_word : (word text : List ℕ) → (word ≡ text → ⊥) → bytes_eq word text ≡ false
+no_word word text not = go (bytes_eq word text) refl
+  where
+    go : (b : Bool) → bytes_eq word text ≡ b → b ≡ false
+    go true is = absurd (not ((bytes_eq-Decides word text).0 is))
+    go false is = refl
+
+-- what a line is whose first part is no word of a request
+pub of_other : (moment : ℕ) (line word first : List ℕ) (rest : Option (List ℕ)) → word ≡ first → (word ≡ codes "trace" → ⊥) → (word ≡ codes "search" → ⊥) → (word ≡ codes "cut" → ⊥)
+    → (word ≡ codes "cutall" → ⊥) → (word ≡ codes "flush" → ⊥) → other_line moment first line rest ≡ plain (Err (BadRequest 0))
+of_other moment line word first rest is no_trace no_search no_cut no_cut_all no_flush =
+    subst (λ (w : List ℕ). other_line moment w line rest ≡ plain (Err (BadRequest 0))) is
+    (rw (
+      no_word word (codes "trace") no_trace,
+      no_word word (codes "search") no_search,
+      no_word word (codes "cut") no_cut,
+      no_word word (codes "cutall") no_cut_all,
+      no_word word (codes "flush") no_flush,
+    ) refl)
