@@ -21,7 +21,7 @@ const NO_PUSH: &str = "ok search as_of=0 traces=0 {\"traces\":[]}\n";
 const ONE_PUSH: &str = "ok search as_of=1 traces=0 {\"traces\":[]}\n";
 
 // What a session over the input writes on the disk, and its status. The disk is left as the run hands it back.
-fn session_on<R: Threads + Wait + Sync>(
+pub(crate) fn session_on<R: Threads + Wait + Sync>(
     rt: &R,
     alloc: Global,
     disk: &mut MemDisk,
@@ -96,7 +96,10 @@ fn status_at<R: Threads + Wait + Sync>(rt: &R, alloc: Global, call: u64) -> Resu
 }
 
 // How many calls the opening of a new store makes: as many end a run with status 4.
-fn calls_to_open<R: Threads + Wait + Sync>(rt: &R, alloc: Global) -> Result<u64, Memory> {
+pub(crate) fn calls_to_open<R: Threads + Wait + Sync>(
+    rt: &R,
+    alloc: Global,
+) -> Result<u64, Memory> {
     for call in 1..100u64 {
         if status_at(rt, alloc, call)? != 4 {
             return Ok(call - 1);
@@ -201,10 +204,15 @@ const NEW_STORE: [u8; 42] = [
 // A segment without records.
 const NO_RECORD: [u8; 2] = [1, 0];
 
+// A segment with a record of ten bytes, in which the count of runs (byte 18) is not in its shortest form.
+const BAD_RECORD: [u8; 21] = [
+    1, 1, 10, 0, 0, 0, 0, 0, 0, 0, 0, 0, 0, 0, 0, 0, 0, 0, 0x80, 0, 0,
+];
+
 // A disk with a new store's list with another next file, and floor and first number.
-fn disk_of(alloc: Global, next_file: u8, number: u64) -> Result<MemDisk, Failed> {
+pub(crate) fn disk_of(alloc: Global, next_file: u32, number: u64) -> Result<MemDisk, Failed> {
     let mut slot = NEW_STORE;
-    slot[6] = next_file;
+    slot[6..10].copy_from_slice(&next_file.to_le_bytes());
     slot[10..18].copy_from_slice(&number.to_le_bytes());
     slot[34..42].copy_from_slice(&number.to_le_bytes());
     let mut disk = MemDisk::empty(alloc);
@@ -235,5 +243,16 @@ fn bytes_that_are_no_store_are_told(rt: HostRuntime) -> Result<(), Fail> {
             "{next_file} {number}"
         );
     }
+    let mut disk = disk_of(alloc, 3, 0)?;
+    write_through(&mut disk, 2, 0, &BAD_RECORD)?;
+    assert!(rt;
+        writes(
+            &rt,
+            alloc,
+            &mut disk,
+            input.as_str(),
+            ("refused not-store file=2 at=18\n", 5)
+        )?
+    );
     Ok(())
 }
