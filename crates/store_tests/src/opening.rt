@@ -18,10 +18,10 @@ const NEW_STORE: [u8; 42] = [
 ];
 
 // A segment without records.
-const NO_RECORD: [u8; 2] = [1, 0];
+pub(crate) const NO_RECORD: [u8; 2] = [1, 0];
 
 // A disk with this slot 0, and this segment.
-fn disk_of(alloc: Global, slot: &[u8], segment: &[u8]) -> Result<MemDisk, Failed> {
+pub(crate) fn disk_of(alloc: Global, slot: &[u8], segment: &[u8]) -> Result<MemDisk, Failed> {
     let mut disk = MemDisk::empty(alloc);
     write_through(&mut disk, 0, 0, slot)?;
     write_through(&mut disk, 2, 0, segment)?;
@@ -29,7 +29,7 @@ fn disk_of(alloc: Global, slot: &[u8], segment: &[u8]) -> Result<MemDisk, Failed
 }
 
 // The slot of a new store with another next file, floor and first number of its segment.
-fn numbered(next_file: u32, floor: u64, first: u64) -> [u8; 42] {
+pub(crate) fn numbered(next_file: u32, floor: u64, first: u64) -> [u8; 42] {
     let mut slot = NEW_STORE;
     slot[6..10].copy_from_slice(&next_file.to_le_bytes());
     slot[10..18].copy_from_slice(&floor.to_le_bytes());
