@@ -1,5 +1,5 @@
 -- A port goes on saying what is open in it.
-use Rattle.std.proofs.Common.{◌≡◌, List, [], ◌∷◌, ⊥, subst, sym, absurd}
+use Rattle.std.proofs.Common.{◌≡◌, List, [], ◌∷◌, subst, sym}
 use Rattle.disk_model.specs.Images.{Image}
 use Rattle.disk_model.specs.declared.disk.Device.{Ghosts}
 use Rattle.store_model.specs.Event.{Event, Reply}

@@ -40,7 +40,6 @@ struct Sight {
     blocks: &'static [(u32, u32)],
 }
 
-#[tactic(auto, using(crate::proofs::Holding::after_call, crate::proofs::Holding::after_calls))]
 fn push<P: FlushPort>(port: &mut P, batch: Result<Batch, Memory>) -> Answer
     requires { Tells P.meaning port.old }
     ensures { Tells P.meaning port.new }
@@ -51,7 +50,6 @@ fn push<P: FlushPort>(port: &mut P, batch: Result<Batch, Memory>) -> Answer
     }
 }
 
-#[tactic(auto, using(crate::proofs::Holding::after_call, crate::proofs::Holding::after_calls))]
 fn begin<P: FlushPort>(port: &mut P) -> Result<Option<u64>, BeginError>
     requires { Tells P.meaning port.old }
     ensures { Tells P.meaning port.new }
@@ -80,7 +78,6 @@ fn is_seen(look: &Look, sight: Sight) -> bool {
     has_rows && look.as_of == sight.as_of && has_blocks(look.pin.blocks.as_slice(), sight.blocks)
 }
 
-#[tactic(auto, using(crate::proofs::Holding::after_call, crate::proofs::Holding::after_calls))]
 fn sees<P: FlushPort>(port: &mut P, sight: Sight) -> bool
     requires { Tells P.meaning port.old }
     ensures { Tells P.meaning port.new }
@@ -92,7 +89,6 @@ fn sees<P: FlushPort>(port: &mut P, sight: Sight) -> bool
 }
 
 // Whether the step is answered so.
-#[tactic(auto, using(crate::proofs::Holding::after_call, crate::proofs::Holding::after_calls))]
 fn play<P: FlushPort>(alloc: Global, port: &mut P, step: Step) -> bool
     requires { Tells P.meaning port.old }
     ensures { Tells P.meaning port.new }
