@@ -21,7 +21,7 @@ use Rattle.store_state.specs.Replies.{write_refusal}
 use Rattle.store_state.specs.Written.{IsBlockOf}
 use Rattle.store_state.specs.declared.errors.WriteError.{WriteError}
 use Rattle.store_state.specs.declared.errors.WriteError.TheVariants.{Fault}
-use Rattle.store_core.specs.Jobs.{ShowsFlush}
+use Rattle.store_core.specs.Jobs.{ShowsFlush, IsSpare}
 use Rattle.store_core.specs.NextList.{IsNextList, length_of}
 use Rattle.store_core.specs.declared.jobs.OpenFlush.{OpenFlush}
 use Rattle.store_core.specs.declared.state.CoreState.{CoreState}
@@ -116,7 +116,7 @@ has_spent core mine faults m known has = record {
   begun = has.begun;
   jobs = record {
     given = has.jobs.given;
-    files = subst (λ (k : Option OpenFlush). IfSome k (λ x. (core.list.next_file ≤ x.files.block) × (core.list.next_file ≤ x.files.segment))) known has.jobs.files;
+    files = subst (λ (k : Option OpenFlush). IfSome k (λ x. IsSpare core.list x.files.block × IsSpare core.list x.files.segment)) known has.jobs.files;
     room = room_same core mine known has.jobs.room;
   };
   used = has.used;

@@ -15,8 +15,9 @@ use Rattle.store_model.specs.History.{count_of}
 use Rattle.store_model.specs.State.{State, Block, Segment as ModelSegment, Flush, Compaction, block_files, compaction_files, live_rows}
 use Rattle.store_model.specs.After.{after_commit_flush, floor_after, least, released, staying, with_segment}
 use Rattle.store_model.specs.Step.{Machine, with_state}
-use Rattle.store_model.specs.Sound.{StateIsSound}
+use Rattle.store_model.specs.Sound.{StateIsSound, times}
 use Rattle.store_model.specs.Told.{IsAboveFloor}
+use Rattle.store_model.proofs.Numbers.{times-append}
 use Rattle.store_model.proofs.RowSetLaws.{in_head, in_tail}
 use Rattle.store_state.specs.Given.{info_files}
 use Rattle.store_state.specs.Loose.{AreFilesOf}
@@ -108,7 +109,7 @@ module _ (core : CoreState) (m : Machine) (has : HasState core m) where
         ∙ ap (λ (f : ℕ). core.list.blocks ++ record { file = f; level = 0; rows = size } ∷ []) (sym own.block) ∙ sym blocks;
     segments = ap (staying (floor_after (count_of m.history) m.state)) (with_is files job own) ∙ sym segments;
     floor = sym floor;
-    loose = ap (λ (c : Option Compaction). ((committed_state m job size firsts).loose ++ []) ++ compaction_files c) has.compaction ∙ append-nil ((committed_state m job size firsts).loose ++ []) ∙ append-nil (committed_state m job size firsts).loose
+    loose = ap (λ (c : Option Compaction). ((committed_state m job size firsts).loose ++ []) ++ compaction_files c) has.compaction.0 ∙ append-nil ((committed_state m job size firsts).loose ++ []) ∙ append-nil (committed_state m job size firsts).loose
         ∙ ap (λ (l : List ℕ). l ++ released (floor_after (count_of m.history) m.state) (with_segment (count_of m.history) job m.state)) has.loose
         ∙ ap (λ (l : List ModelSegment). core.jobs.loose.items ++ released (floor_after (count_of m.history) m.state) l) (with_is files job own) ∙ sym loose;
     next_file = has.next_file ∙ sym next_file;
@@ -168,7 +169,7 @@ has_committed core later list m job size firsts info kept file has took its name
   head = has.head ∙ sym took.head;
   flushing = took.gone;
   flush = subst (λ (k : Option OpenFlush). ShowsFlush k None) (sym took.none) refl;
-  compaction = has.compaction;
+  compaction = (has.compaction.0, λ file some. let more = all_files file in let was = has.compaction.1 file some in omega (arith, more, was));
   blocks = ap (λ (l : ListBody). l.blocks) took.listing ∙ sym names.blocks;
   infos = ap info_files took.infos ∙ map-append (λ (i : InfoParts). i.file) core.infos.items (info ∷ []) ∙ ap (λ (l : List ℕ). l ++ info.file ∷ []) has.infos
       ∙ ap (λ (n : ℕ). block_files m.state.blocks ++ n ∷ []) its.file_is ∙ sym (map-append (λ (b : Block). b.file) m.state.blocks (block ∷ []));
@@ -182,7 +183,7 @@ has_committed core later list m job size firsts info kept file has took its name
     ap (λ (l : ListBody). l.segments) took.listing ∙ segments ∙ ap (λ (n : ℕ). kept ++ ref_to n (count_of m.history) ∷ []) (sym took.file_is) ∙ ap (λ (n : ℕ). kept ++ ref_to later.segment.file n ∷ []) (sym took.first_is),
   );
   floor = names.floor ∙ sym (ap (λ (l : ListBody). l.floor) took.listing);
-  loose = sym (append-nil (committed_state m job size firsts).loose) ∙ sym (append-nil ((committed_state m job size firsts).loose ++ [])) ∙ ap (λ (c : Option Compaction). ((committed_state m job size firsts).loose ++ []) ++ compaction_files c) (sym has.compaction) ∙ names.loose ∙ sym took.loose;
+  loose = sym (append-nil (committed_state m job size firsts).loose) ∙ sym (append-nil ((committed_state m job size firsts).loose ++ [])) ∙ ap (λ (c : Option Compaction). ((committed_state m job size firsts).loose ++ []) ++ compaction_files c) (sym has.compaction.0) ∙ names.loose ∙ sym took.loose;
   next_file = has.next_file ∙ sym took.next_file;
   begun = has.begun ∙ sym took.begun;
   jobs = none_fit later.jobs later.list (let a = names.next_file in let b = has.next_file in let c = took.next_file in let d = ap (λ (l : ListBody). l.next_file) took.listing in omega (arith, a, b, c, d)) took.none;
@@ -193,6 +194,9 @@ has_committed core later list m job size firsts info kept file has took its name
   where
     block : Block
     block = new_block job size firsts
+
+    all_files : (file : ℕ) → times file (block_files (m.state.blocks ++ block ∷ [])) ≡ times file (block_files m.state.blocks) + times file (block.file ∷ [])
+    all_files file = ap (times file) (map-append (λ (b : Block). b.file) m.state.blocks (block ∷ [])) ∙ times-append file (block_files m.state.blocks) (block.file ∷ [])
 
     its_ref : listed_as info ≡ ref_of block
     its_ref =

@@ -10,6 +10,7 @@ mod Pushing
 mod PinNumbers
 mod Looking
 mod Showing
+mod Spare
 mod Founding
 mod NewCores
 mod PushEvents

@@ -21,7 +21,7 @@ use Rattle.store_core.specs.Cores.{HasState, CoreShows}
 use Rattle.store_core.specs.Events.{Did}
 use Rattle.store_core.proofs.Quiet.{quiet}
 use Rattle.store_core.proofs.PushEvents.{OnlyNow, refused_is}
-use Rattle.store_core.proofs.Looking.{stands_stepped, step_looked, taken_more, look_open, step_done, taken_less}
+use Rattle.store_core.proofs.Looking.{stands_stepped, step_looked, taken_more, look_open, step_done, taken_less, pinned_looked, pinned_done}
 
 held_is : (core : CoreState) (m : Machine) → HasState core m → length core.live.flushing + length core.live.head + length core.live.live ≡ held_of m.state
 held_is core m has =
@@ -48,7 +48,7 @@ did_looked {D} g only_now old pins number as_of files rows length_is listed is f
     let step = step_looked old.state m (g.faults old.disk) (g.faults old.disk) number as_of files rows stands.has (length_is m stands.has) (listed ∙ stands.has.infos) is free least in (
       with_state (after_look number m.state) m,
       stands_stepped told (g.held old.disk) (g.may_leave old.disk) old.state pins m (after_look number m.state) (g.faults old.disk) (g.faults old.disk) Look _ stands refl step
-          (taken_more old.state m number pins.items stands.has taken),
+          (taken_more old.state m number pins.items stands.has taken) (pinned_looked m.state number stands.has.compaction.1),
       refl,
       step,
     ))
@@ -62,7 +62,7 @@ did_look_lacking {D} g only_now old pins same =
     let step : Step (g.faults old.disk) (g.faults old.disk) m Look (Refused Memory) (with_state m.state m) = Lacks refl refl refl refl in (
       with_state m.state m,
       stands_stepped told (g.held old.disk) (g.may_leave old.disk) old.state pins m m.state (g.faults old.disk) (g.faults old.disk) Look (Refused Memory) stands refl step
-          (λ n. stands.has.pins n ∙ sym (same n)),
+          (λ n. stands.has.pins n ∙ sym (same n)) stands.has.compaction.1,
       refl,
       step,
     ))
@@ -77,7 +77,7 @@ did_done {D} g only_now old pins number is_open taken =
     let step = step_done m (g.faults old.disk) (g.faults old.disk) number (look_open old.state is_open.0 m number is_open.1.has stands.has is_open.2) in (
       with_state (after_done number m.state) m,
       stands_stepped told (g.held old.disk) (g.may_leave old.disk) old.state pins m (after_done number m.state) (g.faults old.disk) (g.faults old.disk) (Done number) Fine stands refl step
-          (taken_less old.state m number pins.items stands.has taken),
+          (taken_less old.state m number pins.items stands.has taken) (pinned_done m.state number stands.has.compaction.1),
       refl,
       step,
     ))

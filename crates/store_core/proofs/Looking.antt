@@ -1,5 +1,6 @@
 -- What a look and its end make of a core.
-use Rattle.std.proofs.Common.{◌≡◌, ℕ, ◌≤◌, ◌==◌, Bool, false, not, List, ◌++◌, Option, map, refl, sym, ◌∙◌, ap, subst}
+use Rattle.std.proofs.Common.{◌≡◌, inl, inr, ℕ, ◌≤◌, ◌==◌, Bool, true, false, not, if◌then◌else◌, List, [], ◌∷◌, ◌++◌, Option, map, refl, sym, ◌∙◌, ap, subst, arith}
+use Rattle.std.proofs.lemmas.Bool.{cases_eq}
 use Rattle.std.specs.Prelude.{◌||◌, ◌&&◌}
 use Rattle.std.specs.Prelude.{Vec}
 use Rattle.std.specs.declared.alloc.Global.{Global}
@@ -7,7 +8,8 @@ use Rattle.std.specs.List.Sorted.{IsPermutation}
 use Rattle.std.proofs.lemmas.List.Sorted.{IsPermutation-refl}
 use Rattle.span_types.specs.declared.spans.Row.{Row}
 use Rattle.disk_model.specs.Images.{Image}
-use Rattle.store_model.specs.State.{State, Flush, Compaction, LiveRow, is_among, pin_numbers, compaction_pins, block_files, flush_rows, live_rows}
+use Rattle.store_model.specs.State.{State, Block, Pinned, Flush, Compaction, LiveRow, is_among, pin_numbers, pinned_files, without_pin, compaction_pins, block_files, flush_rows, live_rows}
+use Rattle.store_model.specs.Sound.{times}
 use Rattle.store_model.specs.History.{count_of}
 use Rattle.store_model.specs.After.{after_look, after_done}
 use Rattle.store_model.specs.Event.{Event, Reply}
@@ -17,6 +19,7 @@ use Rattle.store_model.specs.Step.{Machine, Step, IsLookPin, with_state}
 use Rattle.store_model.specs.Step.Step.{Succeeds}
 use Rattle.store_model.proofs.KeepsFirsts.{step_keeps as keeps_firsts}
 use Rattle.store_model.proofs.KeepsSound.{step_keeps as keeps_sound}
+use Rattle.store_model.proofs.Numbers.{times-append}
 use Rattle.store_model.proofs.KeepsFloor.{step_keeps as keeps_floor}
 use Rattle.store_core.specs.Pins.{is_taken}
 use Rattle.store_core.specs.declared.state.CoreState.{CoreState}
@@ -28,18 +31,53 @@ use Rattle.store_core.specs.InUse.{AreInUse}
 use Rattle.store_core.proofs.Logged.{logged_still}
 use Rattle.store_core.proofs.PinNumbers.{among-more, among-less}
 
+-- each file of these pins is a listed block's
+abbrev pub ArePinned : State → List Pinned → Type 0
+ArePinned u pins = (file : ℕ) → 1 ≤ times file (pinned_files pins) → 1 ≤ times file (block_files u.blocks)
+
+pub pinned_looked : (u : State) (number : ℕ) → ArePinned u u.pins → ArePinned u (after_look number u).pins
+pinned_looked u number was file some = by_pins u.pins (was file) some
+  where
+    by_pins : (pins : List Pinned) → (1 ≤ times file (pinned_files pins) → 1 ≤ times file (block_files u.blocks))
+        → 1 ≤ times file (pinned_files (pins ++ record { number = number; blocks = u.blocks } ∷ [])) → 1 ≤ times file (block_files u.blocks)
+    by_pins [] was some = let joined = times-append file (block_files u.blocks) [] in omega (arith, joined, some)
+    by_pins (p ∷ ps) was some =
+        let joined = times-append file (block_files p.blocks) (pinned_files (ps ++ record { number = number; blocks = u.blocks } ∷ [])) in
+        let own = times-append file (block_files p.blocks) (pinned_files ps) in
+        elim (cases_eq (times file (block_files p.blocks)) 0) [
+          | inl none ↦ by_pins ps (λ more. was (omega (arith, own, more))) (omega (arith, joined, none, some))
+          | inr here ↦ was (omega (arith, own, here))
+        ]
+
+pub pinned_done : (u : State) (number : ℕ) → ArePinned u u.pins → ArePinned u (after_done number u).pins
+pinned_done u number was file some = was file (let le = fewer u.pins in omega (arith, le, some))
+  where
+    fewer : (pins : List Pinned) → times file (pinned_files (without_pin number pins)) ≤ times file (pinned_files pins)
+    fewer [] = omega arith
+    fewer (p ∷ ps) =
+        let more = fewer ps in
+        let own = times-append file (block_files p.blocks) (pinned_files ps) in
+        let left = times-append file (block_files p.blocks) (pinned_files (without_pin number ps)) in
+        elim (not (p.number == number)) as (λ t. times file (pinned_files (if t then p ∷ without_pin number ps else without_pin number ps)) ≤ times file (pinned_files (p ∷ ps))) [
+          | true ↦ omega (arith, more, own, left)
+          | false ↦ omega (arith, more, own)
+        ]
+
 -- a change of the pins alone
 has_pins : (core : CoreState) (pins : Vec Bool Global) (m m' : Machine) → HasState core m → m'.history ≡ m.history → m'.read_only ≡ m.read_only
     → m'.state ≡ record m.state { pins = m'.state.pins } → ((n : ℕ) → is_among n (pin_numbers m'.state.pins) ≡ is_taken n pins.items)
-    → HasState (record core { pins = pins }) m'
-has_pins core pins m m' has history read_only state taken = record {
+    → ArePinned m.state m'.state.pins → HasState (record core { pins = pins }) m'
+has_pins core pins m m' has history read_only state taken pinned = record {
   count = ap count_of history ∙ has.count;
   few = has.few;
   live = ap (λ (u : State). u.live) state ∙ has.live;
   head = ap (λ (u : State). u.head) state ∙ has.head;
   flushing = has.flushing ∙ ap (λ (u : State). flush_rows u.flush) (sym state);
   flush = subst (λ (f : Option Flush). ShowsFlush core.jobs.flush f) (sym (ap (λ (u : State). u.flush) state)) has.flush;
-  compaction = ap (λ (u : State). u.compaction) state ∙ has.compaction;
+  compaction = (
+    ap (λ (u : State). u.compaction) state ∙ has.compaction.0,
+    λ file some. subst (λ (l : List Block). 1 ≤ times file (block_files l)) (sym (ap (λ (u : State). u.blocks) state)) (pinned file some),
+  );
   blocks = has.blocks ∙ ap (λ (u : State). map ref_of u.blocks) (sym state);
   infos = has.infos ∙ ap (λ (u : State). block_files u.blocks) (sym state);
   listed = has.listed;
@@ -60,10 +98,10 @@ has_pins core pins m m' has history read_only state taken = record {
 -- the core stands for what the step leaves
 pub stands_stepped : (told : Type 0) (held : Image) (may_leave : Image → Type 0) (core : CoreState) (pins : Vec Bool Global) (m : Machine) (u : State) (before faults : ℕ) (e : Event) (r : Reply)
     → StandsFor told held may_leave core m → u ≡ record m.state { pins = u.pins } → Step before faults m e r (with_state u m)
-    → ((n : ℕ) → is_among n (pin_numbers u.pins) ≡ is_taken n pins.items)
+    → ((n : ℕ) → is_among n (pin_numbers u.pins) ≡ is_taken n pins.items) → ArePinned m.state u.pins
     → StandsFor told held may_leave (record core { pins = pins }) (with_state u m)
-stands_stepped told held may_leave core pins m u before faults e r s state step taken = record {
-  has = has_pins core pins m (with_state u m) s.has refl refl state taken;
+stands_stepped told held may_leave core pins m u before faults e r s state step taken pinned = record {
+  has = has_pins core pins m (with_state u m) s.has refl refl state taken pinned;
   agrees = keeps_firsts before faults m _ e r s.agrees step;
   sound = keeps_sound before faults m _ e r s.sound step;
   above = keeps_floor before faults m _ e r s.above step;
@@ -114,7 +152,7 @@ taken_more core m number pins has taken n =
 pub look_open : (core : CoreState) (m other : Machine) (pin : ℕ) → HasState core m → HasState core other → IsLookPin pin m.state → IsLookPin pin other.state
 look_open core m other pin has its open_pin = record {
   is_open = its.pins pin ∙ sym (has.pins pin) ∙ open_pin.is_open;
-  no_job = ap (λ (c : Option Compaction). is_among pin (compaction_pins c)) its.compaction;
+  no_job = ap (λ (c : Option Compaction). is_among pin (compaction_pins c)) its.compaction.0;
 }
 
 pub step_done : (m : Machine) (before faults pin : ℕ) → IsLookPin pin m.state → Step before faults m (Done pin) Fine (with_state (after_done pin m.state) m)

@@ -83,7 +83,7 @@ new_state_is core list live head flushing infos file first count gate pins write
     head = sym head;
     flushing = flushing;
     flush = subst (λ (k : Option OpenFlush). ShowsFlush k None) (sym jobs.flush) refl;
-    compaction = refl;
+    compaction = (refl, λ file some. absurd (omega (arith, some)));
     blocks = ap (λ (l : ListBody). l.blocks) list;
     infos = ap info_files infos;
     listed = ap (map listed_as) infos ∙ sym (ap (λ (l : ListBody). l.blocks) list);

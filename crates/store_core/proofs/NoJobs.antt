@@ -8,7 +8,7 @@ use Rattle.disk_model.specs.Crash.{OnlyBytes}
 use Rattle.head_log.specs.Stands.{SegmentHolds}
 use Rattle.block_info.specs.InfoParts.{InfoParts}
 use Rattle.block_list.specs.declared.body.ListBody.{ListBody}
-use Rattle.store_core.specs.Jobs.{JobsFit, CommitFits, HasCommitRoom, HasFreshSegment}
+use Rattle.store_core.specs.Jobs.{JobsFit, IsSpare, CommitFits, HasCommitRoom, HasFreshSegment}
 use Rattle.store_core.specs.declared.jobs.Jobs.{Jobs}
 use Rattle.store_core.specs.declared.jobs.OpenFlush.{OpenFlush}
 use Rattle.store_core.specs.declared.room.CommitRoom.{CommitRoom}
@@ -20,7 +20,7 @@ no_segment held may_leave jobs none = subst (λ (k : Option OpenFlush). IfSome k
 pub none_fit : (jobs : Jobs) (list : ListBody) → list.next_file ≤ jobs.next_file → jobs.flush ≡ None → JobsFit jobs list
 none_fit jobs list given none = record {
   given = given;
-  files = subst (λ (k : Option OpenFlush). IfSome k (λ mine. (list.next_file ≤ mine.files.block) × (list.next_file ≤ mine.files.segment))) (sym none) tt;
+  files = subst (λ (k : Option OpenFlush). IfSome k (λ mine. IsSpare list mine.files.block × IsSpare list mine.files.segment)) (sym none) tt;
   room = subst (λ (k : Option OpenFlush). IfSome k (λ mine. vec_len jobs.loose + length list.segments + 2 ≤ vec_capacity jobs.loose)) (sym none) tt;
 }
 

@@ -303,7 +303,7 @@ module _ (told : Type 0) (image : Image) (list : ListBody) (rules : MeetsRules l
       head = sym state.head;
       flushing = state.flushing;
       flush = subst (λ (k : Option OpenFlush). ShowsFlush k None) (sym state.jobs.flush) refl;
-      compaction = refl;
+      compaction = (refl, λ file some. absurd (omega (arith, some)));
       blocks = ap (λ (l : ListBody). l.blocks) state.listing ∙ without_by list (λ (l : ListBody). l.blocks ≡ map ref_of blocks) (λ generation loose. its);
       infos = same_block_files core.infos.items list.blocks blocks state.infos its;
       listed = state.infos ∙ sym (ap (λ (l : ListBody). l.blocks) state.listing ∙ without_by list (λ (l : ListBody). l.blocks ≡ list.blocks) (λ generation loose. refl));

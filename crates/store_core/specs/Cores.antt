@@ -11,10 +11,10 @@ use Rattle.block_list.specs.Body.{MeetsRules}
 use Rattle.block_list.specs.declared.body.BlockRef.{BlockRef}
 use Rattle.block_list.specs.declared.body.SegmentRef.{SegmentRef}
 use Rattle.store_model.specs.History.{count_of}
-use Rattle.store_model.specs.State.{Block, Segment as ModelSegment, pin_numbers, block_files, flush_rows, is_among}
+use Rattle.store_model.specs.State.{State, Block, Segment as ModelSegment, pin_numbers, pinned_files, block_files, flush_rows, is_among}
 use Rattle.store_model.specs.Step.{Machine}
 use Rattle.store_model.specs.Laws.{Agrees}
-use Rattle.store_model.specs.Sound.{StateIsSound}
+use Rattle.store_model.specs.Sound.{StateIsSound, times}
 use Rattle.store_model.specs.Told.{IsAboveFloor}
 use Rattle.store_state.specs.Given.{info_files}
 use Rattle.store_state.specs.Written.{AreBlocksOf}
@@ -48,7 +48,12 @@ rows_by_block blocks = map (λ block. block.rows) blocks
 abbrev pub AreDescribed : Image → List InfoParts → List Block → Type 0
 AreDescribed held infos blocks = AreBlocksOf (λ file. bytes_of held file) infos (rows_by_block blocks)
 
--- What the core's memory shows of the machine. No compaction is open as long as there is no call that begins one.
+-- No compaction is open, and each pinned file is a listed block's: as long as there is no call that begins a compaction.
+abbrev pub HasNoCompaction : State → Type 0
+HasNoCompaction u = (u.compaction ≡ None)
+    × ((file : ℕ) → 1 ≤ times file (pinned_files u.pins) → 1 ≤ times file (block_files u.blocks))
+
+-- What the core's memory shows of the machine.
 pub record HasState (core : CoreState) (m : Machine) : Type 0 where
   pub count : count_of m.history ≡ core.segment.first + core.segment.count
   pub few : core.segment.first + core.segment.count ≤ 4294967295
@@ -56,7 +61,7 @@ pub record HasState (core : CoreState) (m : Machine) : Type 0 where
   pub head : m.state.head ≡ core.live.head
   pub flushing : core.live.flushing ≡ flush_rows m.state.flush
   pub flush : ShowsFlush core.jobs.flush m.state.flush
-  pub compaction : m.state.compaction ≡ None
+  pub compaction : HasNoCompaction m.state
   pub blocks : core.list.blocks ≡ map ref_of m.state.blocks
   pub infos : info_files core.infos.items ≡ block_files m.state.blocks
   pub listed : map listed_as core.infos.items ≡ core.list.blocks

@@ -1,5 +1,6 @@
 -- What a core keeps of jobs: the open flush, and which files were given out.
-use Rattle.std.specs.Prelude.{◌≡◌, ℕ, ◌+◌, ◌*◌, ◌≤◌, List, [], ◌∷◌, length, Option, Some, None, IfSome, Vec}
+use Rattle.std.specs.Prelude.{◌≡◌, ◌⊎◌, ℕ, ◌+◌, ◌*◌, ◌≤◌, List, [], ◌∷◌, length, Option, Some, None, IfSome, Vec}
+use Rattle.std.specs.List.{Contains}
 use Rattle.std.specs.Vec.{vec_len, vec_capacity}
 use Rattle.std.specs.declared.alloc.Global.{Global}
 use Rattle.disk_model.specs.Images.{Image, bytes_of}
@@ -18,11 +19,15 @@ abbrev pub ShowsFlush : Option OpenFlush → Option Flush → Type 0
 ShowsFlush None flush = flush ≡ None
 ShowsFlush (Some known) flush = (job : Flush) × (flush ≡ Some job) × (job.number ≡ known.number) × AreFilesOf known.files job
 
--- No file that was given out since the list was committed is named in it, and the files of an open flush are such. Among the loose
--- files there is room for them, and for those of the list's segments.
+-- The file is neither a segment nor a block of the list: it was given out since the list was committed, or the list names it as loose.
+abbrev pub IsSpare : ListBody → ℕ → Type 0
+IsSpare list file = (list.next_file ≤ file) ⊎ Contains list.loose file
+
+-- No file is given out that the list names, and the files of an open flush are spare ones. Among the loose files there is room for
+-- them, and for those of the list's segments.
 pub record JobsFit (jobs : Jobs) (list : ListBody) : Type 0 where
   pub given : list.next_file ≤ jobs.next_file
-  pub files : IfSome jobs.flush (λ known. (list.next_file ≤ known.files.block) × (list.next_file ≤ known.files.segment))
+  pub files : IfSome jobs.flush (λ known. IsSpare list known.files.block × IsSpare list known.files.segment)
   pub room : IfSome jobs.flush (λ known. vec_len jobs.loose + length list.segments + 2 ≤ vec_capacity jobs.loose)
 
 -- There is room for the list that a flush's commit makes after this one, while so many files are loose, and for its text: a block
