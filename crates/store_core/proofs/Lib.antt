@@ -32,6 +32,9 @@ mod CommitRuns
 mod CommitEvents
 mod CommitEnds
 mod CommitAnswers
+mod ReclaimImages
+mod ReclaimStates
+mod ReclaimEvents
 mod PortEvents
 pub mod LogSteps
 mod LooseFiles

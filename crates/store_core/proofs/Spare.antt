@@ -26,7 +26,8 @@ use Rattle.store_core.specs.declared.state.CoreState.{CoreState}
 use Rattle.store_core.proofs.Described.{described_same}
 use Rattle.store_core.proofs.Logged.{logged_same, step_fewer}
 use Rattle.store_core.proofs.Apart.{list_low, below_change, keeps_below}
-use Rattle.store_core.proofs.LooseFiles.{used_files, loose_apart, loose_named, segment_used, block_used, emptied_keeps}
+use Rattle.store_core.specs.Loose.{used_files}
+use Rattle.store_core.proofs.LooseFiles.{loose_apart, loose_named, segment_used, block_used, emptied_keeps}
 
 pub spare_low : (body : ListBody) → MeetsRules body → (file : ℕ) → IsSpare body file → 2 ≤ file
 spare_low body rules file (inl above) = let least = list_low body rules in omega (arith, least, above)
@@ -56,9 +57,9 @@ renewed body generation next_file loose = record body { generation = generation;
 
 -- A settled disk stays settled by such a list, where the segments and blocks stay as they were.
 module _ (held later : Image) (may_leave may_later : Image → Type 0) (body : ListBody) (generation next_file : ℕ) (loose : List ℕ) (same : SameUsed body held later)
-    (within : Within (Reached (SameUsed body) may_leave) may_later) (ready : IsReady later may_later (Some (renewed body generation next_file loose))) where
+    (still : (file : ℕ) → Contains (used_files body) file → OnlyBytes file (bytes_of held file) may_leave → OnlyBytes file (bytes_of held file) may_later) (ready : IsReady later may_later (Some (renewed body generation next_file loose))) where
   still_used : (file : ℕ) → Contains (used_files body) file → OnlyBytes file (bytes_of held file) may_leave → OnlyBytes file (bytes_of later file) may_later
-  still_used file used only = λ image left. let r = within image left in r.2 file used ∙ only r.0 r.1 ∙ sym (same file used)
+  still_used file used only = λ image left. still file used only image left ∙ sym (same file used)
 
   pub settled_renewed : (blocks : List Block) (tail : Tail) (h : History) → IsSettled held may_leave body blocks tail h → IsSettled later may_later (renewed body generation next_file loose) blocks tail h
   settled_renewed blocks tail h s =
@@ -101,7 +102,7 @@ module _ (held later : Image) (may_leave may_later : Image → Type 0) (body : L
   pub settled_spare : IsSettled later may_later body blocks tail h
   settled_spare =
       settled_renewed held later may_leave may_later body body.generation body.next_file body.loose (used_besides body rules file held later spare besides)
-      (λ image left. let r = crash image left in (r.0, r.1, used_besides body rules file r.0 image spare r.2.besides))
+      (λ other used only image left. let r = crash image left in r.2.besides other (spare_apart body rules file other spare used) ∙ only r.0 r.1)
       (ready_besides file held later may_leave may_later (Some body) (spare_low body rules file spare) besides (λ image left. let r = crash image left in (r.0, r.1, r.2.besides)) s.lies.ready)
       blocks tail h s
 

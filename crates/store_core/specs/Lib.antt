@@ -13,5 +13,6 @@ pub mod NewCore
 pub mod LogReading
 pub mod BlockReading
 pub mod Loose
+pub mod Reclaiming
 pub mod Opening
 pub mod Port

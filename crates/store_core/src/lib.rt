@@ -21,6 +21,7 @@ mod pages;
 mod pins;
 mod port;
 mod reading;
+mod reclaiming;
 mod reviving;
 mod room;
 mod state;
