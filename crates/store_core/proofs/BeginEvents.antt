@@ -1,5 +1,5 @@
 -- A flush that begins, as an event of a core.
-use Rattle.std.proofs.Common.{◌≡◌, ◌≢◌, ℕ, ◌+◌, ◌-◌, ◌^◌, ◌<◌, ◌≤◌, ◌==◌, min, List, [], ◌∷◌, ◌++◌, length, map, take, drop, Some, None, Option, IfSome, IsTrue, Bool, true, false, refl, sym, ◌∙◌, ap, subst, arith}
+use Rattle.std.proofs.Common.{◌≡◌, ◌≢◌, inl, ℕ, ◌+◌, ◌-◌, ◌^◌, ◌<◌, ◌≤◌, ◌==◌, min, List, [], ◌∷◌, ◌++◌, length, map, take, drop, Some, None, Option, IfSome, IsTrue, Bool, true, false, refl, sym, ◌∙◌, ap, subst, arith}
 use Rattle.std.specs.Prelude.{nat_le, Vec}
 use Rattle.std.proofs.lemmas.Bool.{le-leb, lt-leb, ne_eqb}
 use Rattle.std.proofs.lemmas.List.{take-append-drop}
@@ -32,7 +32,7 @@ use Rattle.store_state.specs.declared.listing.FlushFiles.{FlushFiles}
 use Rattle.store_images.specs.Stored.{KeepsStored}
 use Rattle.store_images.proofs.Keeping.{keeps_same}
 use Rattle.store_core.specs.Files.{SameBelow}
-use Rattle.store_core.specs.Jobs.{ShowsFlush, CommitFits, HasFreshSegment}
+use Rattle.store_core.specs.Jobs.{ShowsFlush, IsSpare, CommitFits, HasFreshSegment}
 use Rattle.store_core.specs.declared.jobs.Jobs.{Jobs}
 use Rattle.store_core.specs.declared.jobs.OpenFlush.{OpenFlush}
 use Rattle.store_core.specs.declared.room.CommitRoom.{CommitRoom}
@@ -237,8 +237,8 @@ has_begun core live infos jobs m files room rows none below block segment fits k
       begun = number;
       jobs = record {
         given = (let was = has.jobs.given in let next = begun.next_file in omega (arith, was, next));
-        files = subst (λ (k : Option OpenFlush). IfSome k (λ mine. (core.list.next_file ≤ mine.files.block) × (core.list.next_file ≤ mine.files.segment))) (sym begun.flush)
-            (let was = has.jobs.given in (omega (arith, was, block), omega (arith, was, segment)));
+        files = subst (λ (k : Option OpenFlush). IfSome k (λ mine. IsSpare core.list mine.files.block × IsSpare core.list mine.files.segment)) (sym begun.flush)
+            (let was = has.jobs.given in (inl (omega (arith, was, block)), inl (omega (arith, was, segment))));
         room = subst (λ (k : Option OpenFlush). IfSome k (λ mine. vec_len jobs.loose + length core.list.segments + 2 ≤ vec_capacity jobs.loose)) (sym begun.flush) begun.loose_room;
       };
       used = used_begun core.list m.state (no_flush core m has none) has.used;

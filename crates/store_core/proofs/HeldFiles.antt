@@ -1,5 +1,5 @@
 -- A file of what is held open is no segment's.
-use Rattle.std.proofs.Common.{◌≡◌, ℕ, ◌≤◌, ◌==◌, Bool, true, false, List, [], ◌∷◌, ◌++◌, Option, Some, refl, sym, ◌∙◌, ap, subst, arith, if◌then◌else◌}
+use Rattle.std.proofs.Common.{◌≡◌, ℕ, ◌≤◌, ◌==◌, Bool, true, false, List, [], ◌∷◌, ◌++◌, Option, Some, None, refl, sym, ◌∙◌, ap, subst, arith, if◌then◌else◌}
 use Rattle.store_model.specs.State.{State, Pinned, Flush, Compaction, is_among, segment_files, block_files, flush_files, compaction_files, pinned_files, pinned_blocks}
 use Rattle.store_model.specs.Sound.{times, uses, StateIsSound}
 use Rattle.store_model.specs.Holds.{Hold, OpenIn, files_of}
@@ -78,3 +78,18 @@ held_used m (OpenCompact number own level pin files) sound is file among =
     by_head file own files (1 ≤ uses file m.state) among
     (λ here. let used = in_compaction file m.state.compaction is.job is.is_open (subst (λ (f : ℕ). 1 ≤ times file (f ∷ [])) (sym is.its_file) (one_of file own here)) in omega (arith, used))
     (λ there. pinned_used m.state sound pin file files is.its_files there)
+
+-- what is held isn't loose, where no compaction is open and each pinned file is a listed block's
+pub held_kept : (m : Machine) (hold : Hold) → StateIsSound m.state → m.state.compaction ≡ None → ((f : ℕ) → 1 ≤ times f (pinned_files m.state.pins) → 1 ≤ times f (block_files m.state.blocks))
+    → OpenIn m hold → (file : ℕ) → is_among file (files_of hold) ≡ true → times file m.state.loose ≡ 0
+held_kept m (OpenLook pin files as_of rows) sound none pinned is file among =
+    let one : 1 ≤ times file files = named file files among in
+    let same : times file (block_files (pinned_blocks pin m.state.pins)) ≡ times file files = ap (times file) is.its_files in
+    let within = pinned_within file pin m.state.pins in
+    let block = pinned file (omega (arith, one, same, within)) in
+    let once = sound.files.once file in
+    omega (arith, block, once)
+held_kept m (OpenFlush number own rows) sound none pinned is file among =
+    let used = in_flush file m.state.flush is.job is.is_open (subst (λ (f : ℕ). 1 ≤ times file (f ∷ [])) (sym is.its_file) (one_of file own among)) in
+    let once = sound.files.once file in omega (arith, used, once)
+held_kept m (OpenCompact number own level pin files) sound none pinned is file among = absurd (let bad : None ≡ Some is.job = sym none ∙ is.is_open in cc)

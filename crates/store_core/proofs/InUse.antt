@@ -15,14 +15,14 @@ use Rattle.store_core.proofs.NextLists.{NamesState, uses_are}
 
 -- ---- a list and how often it names a number
 
-contained_once : (n : ℕ) (xs : List ℕ) → Contains xs n → 1 ≤ times n xs
+pub contained_once : (n : ℕ) (xs : List ℕ) → Contains xs n → 1 ≤ times n xs
 contained_once n [] c = absurd (not_in_nil n c)
 contained_once n (x ∷ xs) c = elim (in_cons n x xs c) [
   | inl is ↦ (let joined = times-append n (x ∷ []) xs in let one : times n (x ∷ []) ≡ 1 = subst (λ (k : ℕ). times n (k ∷ []) ≡ 1) (sym is) (times_itself n) in omega (arith, joined, one))
   | inr there ↦ (let joined = times-append n (x ∷ []) xs in let more = contained_once n xs there in omega (arith, joined, more))
 ]
 
-once_contained : (n : ℕ) (xs : List ℕ) → 1 ≤ times n xs → Contains xs n
+pub once_contained : (n : ℕ) (xs : List ℕ) → 1 ≤ times n xs → Contains xs n
 once_contained n [] some = absurd (omega (arith, some))
 once_contained n (x ∷ xs) some = by_test (x == n) refl (λ more. once_contained n xs more)
   where

@@ -34,6 +34,10 @@ mod CommitAnswers
 mod PortEvents
 pub mod LogSteps
 mod LooseFiles
+mod Spare
+mod ReclaimImages
+mod ReclaimStates
+mod ReclaimEvents
 mod ReadBlocks
 mod Revived
 mod LogLaws

@@ -13,7 +13,7 @@ use Rattle.store_state.specs.Given.{IsJobOf}
 use Rattle.store_state.specs.Given.IsJobOf.{OfFlush, OfCompact}
 use Rattle.store_state.specs.Loose.{AreFilesOf}
 use Rattle.store_state.specs.declared.jobs.JobFile.{JobFile}
-use Rattle.store_core.specs.Jobs.{ShowsFlush}
+use Rattle.store_core.specs.Jobs.{ShowsFlush, IsSpare}
 use Rattle.store_core.specs.declared.jobs.OpenFlush.{OpenFlush}
 use Rattle.store_core.specs.declared.state.CoreState.{CoreState}
 use Rattle.store_core.specs.Cores.{HasState}
@@ -58,13 +58,16 @@ open_here core m0 m number file job its is its_number its_file has =
 
 pub job_here : (core : CoreState) (m0 m : Machine) (out : JobFile) → HasState core m0 → IsJobOf out (OpenIn m0) → HasState core m → IsOpenHere core m out.number out.file
 job_here core m0 m out its (OfFlush rows is) has = open_here core m0 m out.number out.file is.job its is.is_open is.its_number is.its_file has
-job_here core m0 m out its (OfCompact level pin files is) has = absurd (let bad : None ≡ Some is.job = sym its.compaction ∙ is.is_open in cc)
+job_here core m0 m out its (OfCompact level pin files is) has = absurd (let bad : None ≡ Some is.job = sym its.compaction.0 ∙ is.is_open in cc)
 
--- the list names neither of its files
-pub above_list : (core : CoreState) (m : Machine) (number file : ℕ) → HasState core m → IsOpenHere core m number file → core.list.next_file ≤ file
-above_list core m number file has here =
-    let fit = subst (λ (k : Option OpenFlush). IfSome k (λ known. (core.list.next_file ≤ known.files.block) × (core.list.next_file ≤ known.files.segment))) here.known has.jobs.files in
-    let one = here.files.block in let two = here.its_file in omega (arith, fit.0, one, two)
+-- its files are spare ones of the list
+pub spare_files : (core : CoreState) (m : Machine) (number file : ℕ) → HasState core m → (here : IsOpenHere core m number file)
+    → IsSpare core.list here.mine.files.block × IsSpare core.list here.mine.files.segment
+spare_files core m number file has here =
+    subst (λ (k : Option OpenFlush). IfSome k (λ known. IsSpare core.list known.files.block × IsSpare core.list known.files.segment)) here.known has.jobs.files
+
+pub spare_file : (core : CoreState) (m : Machine) (number file : ℕ) → HasState core m → IsOpenHere core m number file → IsSpare core.list file
+spare_file core m number file has here = subst (λ (f : ℕ). IsSpare core.list f) (here.files.block ∙ here.its_file) (spare_files core m number file has here).0
 
 -- they are two
 two_files : (file segment : ℕ) → file ≡ segment → 2 ≤ times file (file ∷ segment ∷ [])
