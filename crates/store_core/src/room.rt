@@ -1,7 +1,7 @@
 //! What commits need of memory: the begins of their jobs take it, since a commit takes none.
 
 ghost use Rattle.std.specs.Prelude.{◌≡◌, ◌≤◌, ◌+◌, ◌*◌, length, IfOk};
-ghost use Rattle.std.specs.Vec.{vec_len};
+ghost use Rattle.std.specs.Vec.{vec_len, vec_capacity};
 ghost use Rattle.block_list.specs.Body.{MeetsRules};
 ghost use Rattle.block_list.specs.Commit.{IsListText};
 ghost use Rattle.block_list.specs.declared.body.ListBody.{ListBody};
@@ -113,5 +113,17 @@ impl CommitRoom {
         let mut text = text;
         text.refill(&body);
         (body, text)
+    }
+}
+
+// Makes it the list of these segments, for which there is room.
+fn copy_segments(to: &mut Vec<SegmentRef>, from: &[SegmentRef])
+    requires { length from.now ≤ vec_capacity to.now }
+    ensures { to.new.items ≡ from.now }
+{
+    to.clear();
+    match to.extend_from_slice(from) {
+        Ok(()) => {}
+        Err(_) => unreachable!(),
     }
 }
