@@ -25,8 +25,8 @@ pub use laws::{
     the_floor_is_the_least_that_waits,
 };
 pub use listing::{
-    FlushFiles, Listing, commit_compact, commit_flush, floor_of, list_body, list_compact, list_flush,
-    listing_of,
+    FlushFiles, Listing, commit_compact, commit_flush, floor_of, list_body, list_compact,
+    list_flush, listing_of,
 };
 pub use port::{FlushPort, LookPort, Port};
 pub use rounds::{Refusal, Round, Step, begin_cause, write_cause};
