@@ -34,8 +34,8 @@ pub fn a_choice_is_few()
 
 /// The blocks that a list keeps outside of files, and the files of those inside, are those of the machine's blocks.
 pub fn a_list_parts_blocks_as_the_machine()
-    ensures outside { (files : List ℕ) (blocks : List Block) →
+    ensures stay { (files : List ℕ) (blocks : List Block) →
         outside files (map ref_of blocks) ≡ map ref_of (outside_files files blocks) }
-    ensures inside { (files : List ℕ) (blocks : List Block) →
+    ensures go { (files : List ℕ) (blocks : List Block) →
         inside files (map ref_of blocks) ≡ block_files (in_files files blocks) }
 {}

@@ -1,5 +1,5 @@
 -- So far the files that were gone over were parted.
-use Rattle.std.proofs.Common.{◌≡◌, ◌≤◌, ◌+◌, filter, not, take, length}
+use Rattle.std.proofs.Common.{◌≡◌, ◌≤◌, filter, not, take}
 use Rattle.std.specs.Vec.{vec_len, vec_capacity}
 use Rattle.store_model.specs.State.{is_among}
 use Rattle.store_state.proofs.freeing.part_loose.Given as goal

@@ -14,4 +14,4 @@ returns c =
     ∙ ap (λ xs. xs ++ inside joined c.as_slice.result.now) c.as_slice-2.ensures.value
     ∙ ap (λ bs. c.args.now.now.loose.items ++ inside joined bs) c.as_slice.ensures.value)
     refl in
-    record { listing = made.listing; others = made.others; room = record { blocks = omega arith; segments = omega arith; loose = omega arith } }
+    record { listing = made.listing; others = made.others; room = record { blocks = list.room.blocks; segments = omega (arith, list.room.segments, c.fill.ensures.room); loose = list.room.loose } }

@@ -1,4 +1,4 @@
-use Rattle.std.proofs.Common.{◌∙◌, ◌++◌, ◌∷◌, [], ap, refl, arith}
+use Rattle.std.proofs.Common.{◌∙◌, ◌++◌, ◌∷◌, [], ap, arith}
 use Rattle.store_state.specs.Parted.{inside}
 use Rattle.store_state.proofs.Listings.{each_side}
 use Rattle.store_state.proofs.listing.list_compact.Goals as goal
