@@ -68,7 +68,7 @@ between inner rows outer h low high from to = record {
 
 -- ---- the records of a log from a number on
 
-later_in : (n k : ℕ) (batches : List (List Span)) (x : Row) → Contains (entry_rows (n + k) (drop k batches)) x → Contains (entry_rows n batches) x
+pub later_in : (n k : ℕ) (batches : List (List Span)) (x : Row) → Contains (entry_rows (n + k) (drop k batches)) x → Contains (entry_rows n batches) x
 later_in n zero [] x c = absurd (not_in_nil x c)
 later_in n zero (b ∷ bs) x c = subst (λ (m : ℕ). Contains (entry_rows m (b ∷ bs)) x) (let e : n + 0 ≡ n = omega arith in e) c
 later_in n (suc k) [] x c = absurd (not_in_nil x c)
