@@ -1,5 +1,5 @@
 -- What an image stands for whose list is that of a compaction's commit.
-use Rattle.std.proofs.Common.{◌≡◌, ◌⊎◌, inl, inr, ℕ, ◌+◌, ◌-◌, ◌≤◌, List, [], ◌∷◌, ◌++◌, map, length, drop, None, Some, refl, sym, ◌∙◌, ap, subst, arith}
+use Rattle.std.proofs.Common.{◌≡◌, inl, inr, ℕ, ◌+◌, ◌-◌, ◌≤◌, List, [], ◌∷◌, ◌++◌, map, drop, None, Some, refl, sym, ◌∙◌, ap, subst, arith}
 use Rattle.std.specs.List.{Contains}
 use Rattle.std.proofs.lemmas.List.{append-nil}
 use Rattle.std.proofs.lemmas.List.Elements.{Contains-append_cases, Contains-append_left, Contains-append_right, Contains-push_cases}
@@ -10,12 +10,12 @@ use Rattle.disk_model.specs.Images.{Image}
 use Rattle.block_list.specs.Body.{MeetsRules}
 use Rattle.block_list.specs.declared.body.SegmentRef.{SegmentRef}
 use Rattle.block_list.specs.declared.body.ListBody.{ListBody}
-use Rattle.store_model.specs.History.{History, count_of, entry_rows}
+use Rattle.store_model.specs.History.{History, entry_rows}
 use Rattle.store_model.specs.Laws.{AgreesOn}
 use Rattle.store_model.specs.RowSets.{Within}
-use Rattle.store_model.specs.State.{State, Block, Compaction, block_rows, block_files, state_rows}
+use Rattle.store_model.specs.State.{State, Block, Compaction, block_rows, block_files}
 use Rattle.store_model.specs.Choice.{in_files, outside_files}
-use Rattle.store_model.specs.After.{after_commit_compact, job_files}
+use Rattle.store_model.specs.After.{after_commit_compact}
 use Rattle.store_model.specs.Event.Event.{CommitCompact}
 use Rattle.store_model.specs.Event.Reply.{Fine}
 use Rattle.store_model.specs.Step.{Machine, Step, with_state}
@@ -23,7 +23,7 @@ use Rattle.store_model.specs.Step.Step.{Succeeds}
 use Rattle.store_model.proofs.KeepsFirsts.{step_keeps}
 use Rattle.store_images.specs.Committed.{CommitsCompaction, with_joined}
 use Rattle.store_images.specs.Log.{LogHolds}
-use Rattle.store_images.specs.Stored.{ImageStandsFor, BlockStands, StoreHolds, SameFirsts, first_number, stored_rows, ref_of}
+use Rattle.store_images.specs.Stored.{ImageStandsFor, BlockStands, StoreHolds, SameFirsts, first_number, stored_rows}
 use Rattle.store_images.specs.Stored.ImageStores.{filled}
 use Rattle.store_images.proofs.Between.{later_in}
 use Rattle.store_images.proofs.Keeping.{rules_in}

@@ -1,4 +1,3 @@
-use Rattle.std.proofs.Common.{◌+◌, drop}
 use Rattle.store_model.specs.History.{entry_rows}
 use Rattle.store_images.proofs.Compacted.{rejoined, still_floored}
 use Rattle.store_images.proofs.laws.a_committed_compaction_agrees.Goals as goal
