@@ -67,7 +67,7 @@ pub fn a_committed_compaction_agrees()
         → AgreesOn (stored_rows blocks first batches) h
         → SameFirsts (stored_rows blocks first batches) (stored_rows blocks (first + gone) (drop gone batches))
         → SameFirsts (stored_rows (with_joined files blocks block) first batches)
-            (stored_rows (with_joined files blocks block) (first + gone) (drop gone batches)) }
+        (stored_rows (with_joined files blocks block) (first + gone) (drop gone batches)) }
 {}
 
 /// An image whose list is the next one of a compaction's commit stands for the history.
@@ -90,6 +90,6 @@ fn a_compaction_settles()
         → (slot : ℕ) → slot < 2 → (later : Image) (left : List Image) → Contains images held → Besides slot held later
         → IsReady later (Contains left) (Some new)
         → ((image : Image) → Contains left image
-            → Reached (WritesSlot slot (ImageHoldsEither (Some body) new)) (Contains images) image)
+        → Reached (WritesSlot slot (ImageHoldsEither (Some body) new)) (Contains images) image)
         → IsSettled later (Contains left) new (with_joined files blocks block) tail h }
 {}
