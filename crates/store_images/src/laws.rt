@@ -62,8 +62,8 @@ pub fn a_committed_compaction_agrees()
         (h : History) → IsFirstOf (block_rows (in_files files blocks)) block.rows
         → AgreesOn (stored_rows blocks first batches) h
         → AgreesOn (stored_rows (with_joined files blocks block) first batches) h }
-    ensures floored { (files : List ℕ) (blocks : List Block) (block : Block) (first gone : ℕ) (batches : List (List Span))
-        (h : History) → IsFirstOf (block_rows (in_files files blocks)) block.rows
+    ensures floored { (files : List ℕ) (blocks : List Block) (block : Block) (first gone : ℕ)
+        (batches : List (List Span)) (h : History) → IsFirstOf (block_rows (in_files files blocks)) block.rows
         → AgreesOn (stored_rows blocks first batches) h
         → SameFirsts (stored_rows blocks first batches) (stored_rows blocks (first + gone) (drop gone batches))
         → SameFirsts (stored_rows (with_joined files blocks block) first batches)
@@ -81,14 +81,17 @@ pub fn a_committed_compaction_stands()
 // slots stand for that list, with a next one to follow, the disk is settled by it, with the log's last segment as it was. Here a
 // crash leaves one of a list of images; the lemmas say it of any.
 fn a_compaction_settles()
-    ensures on_the_way { (held : Image) (images : List Image) (body new : ListBody) (files : List ℕ) (blocks : List Block)
-        (block : Block) (tail : Tail) (h : History) → MayCompact held (Contains images) body new files blocks block tail h
+    ensures on_the_way { (held : Image) (images : List Image) (body new : ListBody) (files : List ℕ)
+        (blocks : List Block) (block : Block) (tail : Tail) (h : History)
+        → MayCompact held (Contains images) body new files blocks block tail h
         → (slot : ℕ) → slot < 2 → (image : Image)
-        → Reached (WritesSlot slot (ImageHoldsEither (Some body) new)) (Contains images) image → ImageStandsFor image h }
-    ensures settled { (held : Image) (images : List Image) (body new : ListBody) (files : List ℕ) (blocks : List Block)
-        (block : Block) (tail : Tail) (h : History) → MayCompact held (Contains images) body new files blocks block tail h
-        → (slot : ℕ) → slot < 2 → (later : Image) (left : List Image) → Contains images held → Besides slot held later
-        → IsReady later (Contains left) (Some new)
+        → Reached (WritesSlot slot (ImageHoldsEither (Some body) new)) (Contains images) image
+        → ImageStandsFor image h }
+    ensures settled { (held : Image) (images : List Image) (body new : ListBody) (files : List ℕ)
+        (blocks : List Block) (block : Block) (tail : Tail) (h : History)
+        → MayCompact held (Contains images) body new files blocks block tail h
+        → (slot : ℕ) → slot < 2 → (later : Image) (left : List Image) → Contains images held
+        → Besides slot held later → IsReady later (Contains left) (Some new)
         → ((image : Image) → Contains left image
         → Reached (WritesSlot slot (ImageHoldsEither (Some body) new)) (Contains images) image)
         → IsSettled later (Contains left) new (with_joined files blocks block) tail h }
