@@ -46,6 +46,8 @@ pub record JobsFit (jobs : Jobs) (list : ListBody) : Type 0 where
   pub given : list.next_file ≤ jobs.next_file
   pub flush : IfSome jobs.flush (λ known. IsSpare list known.files.block × IsSpare list known.files.segment)
   pub compaction : IfSome jobs.compaction (λ known. IsSpare list known.file)
+  -- a level that a list may have
+  pub level : IfSome jobs.compaction (λ known. known.level ≤ 63)
   pub room : 1 ≤ open_jobs jobs
       → vec_len jobs.loose + length list.segments + length list.blocks + 2 * open_jobs jobs ≤ vec_capacity jobs.loose
 
