@@ -33,11 +33,12 @@ AreBlocksOf bytes (info ∷ infos) (rows ∷ parts) =
     BlockHasInfo info (bytes info.file) rows × AreBlocksOf bytes infos parts
 AreBlocksOf bytes _ _ = ⊥
 
--- It is a block of the first occurrences of the rows of these blocks.
+-- It is a block of the first occurrences of the rows of these parts, one for each of the blocks. Where bytes are told, they are the
+-- blocks' rows wherever the files hold blocks, as the information describes them.
 pub record IsJoinedBlock (told : Type 0) (bytes : ℕ → List ℕ) (file level : ℕ) (info : InfoParts) (infos : List InfoParts) : Type 0 where
   pub parts : List (List Row)
   pub one_each : length parts ≡ length infos
-  pub their_rows : told → AreBlocksOf bytes infos parts
+  pub their_rows : told → (others : List (List Row)) → AreBlocksOf bytes infos others → others ≡ parts
   pub block : IsBlockOf told (bytes file) file level info (flat_map (λ rows. rows) parts)
 
 -- What the file of a job holds is just as long as what was written to it.
