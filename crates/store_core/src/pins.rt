@@ -9,10 +9,7 @@ use span_types::Memory;
 use std::alloc::Global;
 
 /// Takes the least number that no pin has, for a pin that names these files. Out of memory none is taken.
-pub(crate) fn take_number(
-    pins: &mut Vec<Option<FileList>>,
-    files: FileList,
-) -> Result<u64, Memory>
+pub(crate) fn take_number(pins: &mut Vec<Option<FileList>>, files: FileList) -> Result<u64, Memory>
     ensures free { IfOk result (λ number. is_taken number pins.old.items ≡ false) }
     ensures least { IfOk result (λ number. (other : ℕ) → is_taken other pins.old.items ≡ false → number ≤ other) }
     ensures taken { IfOk result (λ number. (other : ℕ) →
@@ -32,6 +29,7 @@ pub(crate) fn take_number(
 }
 
 // The first position that is free, or the length.
+#[tactic(auto, using(crate::proofs::PinNumbers::least_of))]
 fn first_free(pins: &[Option<FileList>]) -> usize
     ensures inside { result ≤ length pins.now }
     ensures free { is_taken result pins.now ≡ false }
