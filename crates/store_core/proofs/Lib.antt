@@ -5,6 +5,7 @@ mod NextRoom
 mod States
 mod Logged
 mod HeldFiles
+mod OpenCompactions
 mod OpenJobs
 mod Pushing
 mod PinNumbers

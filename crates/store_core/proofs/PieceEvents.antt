@@ -16,13 +16,12 @@ use Rattle.store_model.specs.Step.{Machine, early, broken, if_read_only}
 use Rattle.store_model.specs.Step.Step.{Sure, Succeeds, Breaks}
 use Rattle.store_model.proofs.Numbers.{same_number}
 use Rattle.store_images.specs.Stored.{KeepsStored}
-use Rattle.store_core.specs.Jobs.{IsSpare, HasFreshSegment}
-use Rattle.store_core.specs.declared.jobs.OpenFlush.{OpenFlush}
+use Rattle.store_core.specs.Jobs.{HasFreshSegment}
 use Rattle.store_core.specs.declared.store.Core.{Core}
 use Rattle.store_core.specs.Cores.{HasState, CoreStandsFor, tail_of}
 use Rattle.store_core.specs.Events.{Did}
 use Rattle.store_core.proofs.Kept.{stands_kept, did_kept}
-use Rattle.store_core.proofs.OpenJobs.{IsOpenHere, spare_file, files_apart, fresh_moved}
+use Rattle.store_core.proofs.OpenJobs.{IsJobFile, fresh_moved}
 use Rattle.store_core.proofs.PushEvents.{OnlyNow, refused_is}
 use Rattle.store_core.proofs.Quiet.{quiet, none_begun}
 use Rattle.store_core.proofs.Spare.{SameUsed, used_besides, keeps_spare, settled_spare, described_used, logged_used}
@@ -35,32 +34,26 @@ no_piece g only_now old number file bytes faults is =
     (λ told m stands. (m, stands, refl, Sure (ap (λ (r : Option ℕ). if_read_only r None) (stands.has.read_only ∙ is)) refl))
 
 module _ {D : Type 0} (g : Ghosts D) (only_now : OnlyNow g) (old : Core D) (disk : D) (number file at : ℕ) (bytes : List ℕ) (writes : old.state.read_only ≡ None)
-    (here : (m : Machine) → HasState old.state m → IsOpenHere old.state m number file)
+    (its : IsJobFile old.state file)
     (telling : g.tells disk ≡ g.tells old.disk) (besides : IsTrue (g.tells old.disk) → Besides file (g.held old.disk) (g.held disk))
     (crash : Within (Reached (OnFile file (Torn at (length bytes))) (g.may_leave old.disk)) (g.may_leave disk))
     (time : Elapses (g.moment old.disk) (g.moment disk) (g.left_since old.disk) (g.left_since disk) (g.may_leave disk))
     (later : g.faults old.disk ≤ g.faults disk) (calls : RoseBy 1 (g.calls old.disk) (g.calls disk)) (reads : g.reads disk ≡ g.reads old.disk) where
-  spare : (m : Machine) → HasState old.state m → IsSpare old.state.list file
-  spare m has = spare_file old.state m number file has (here m has)
-
   run_keeps : IsTrue (g.tells old.disk) → (m : Machine) → CoreStandsFor g old m → Run KeepsStored g.moment g.left_since g.may_leave old.disk disk
   run_keeps told m s =
       run_more g.moment g.left_since g.may_leave (OnFile file (Torn at (length bytes))) KeepsStored old.disk disk
       (run_change g.moment g.left_since g.may_leave file (Torn at (length bytes)) (torn_same at (length bytes)) old.disk disk (only_now old.disk) crash time)
-      (λ origin image possible change. keeps_spare (g.held old.disk) (g.may_leave old.disk) old.state.list (s.settled told writes).lies.ready file (Torn at (length bytes)) origin image (spare m s.has) possible change)
+      (λ origin image possible change. keeps_spare (g.held old.disk) (g.may_leave old.disk) old.state.list (s.settled told writes).lies.ready file (Torn at (length bytes)) origin image its.spare possible change)
 
   same_used : IsTrue (g.tells old.disk) → (m : Machine) → HasState old.state m → SameUsed old.state.list (g.held old.disk) (g.held disk)
-  same_used told m has = used_besides old.state.list has.rules file (g.held old.disk) (g.held disk) (spare m has) (besides told)
+  same_used told m has = used_besides old.state.list has.rules file (g.held old.disk) (g.held disk) its.spare (besides told)
 
   free : (m : Machine) → HasState old.state m → early m (WritePiece number file bytes) ≡ None
   free m has = ap (λ (r : Option ℕ). if_read_only r None) (has.read_only ∙ writes)
 
   fresh_after : IsTrue (g.tells old.disk) → (m : Machine) → CoreStandsFor g old m → HasFreshSegment (g.held disk) (g.may_leave disk) old.state.jobs
   fresh_after told m s =
-      let mine_of = here m s.has in
-      let differs : (mine : OpenFlush) → old.state.jobs.flush ≡ Some mine → mine.files.segment ≢ file =
-      λ mine known is. files_apart old.state m number file s.sound mine_of
-      (subst (λ (k : OpenFlush). k.files.segment ≡ file) (let both : Some mine ≡ Some mine_of.mine = sym known ∙ mine_of.known in let e : mine ≡ mine_of.mine = cc in e) is) in
+      let differs = its.apart m s.has s.sound in
       fresh_moved old.state.jobs.flush (g.held old.disk) (g.held disk) (g.may_leave old.disk) (g.may_leave disk)
       (λ mine known. besides told mine.files.segment (differs mine known))
       (λ mine known b only. other_stays file mine.files.segment (Torn at (length bytes)) b (g.may_leave old.disk) (g.may_leave disk) (differs mine known) only crash)
@@ -76,7 +69,7 @@ module _ {D : Type 0} (g : Ghosts D) (only_now : OnlyNow g) (old : Core D) (disk
             (λ t. subst IsTrue telling t) s (Succeeds (free m s.has) (refl, refl)) refl s.has refl
             (λ told. (run_keeps told m s).now)
             (λ told. described_used (g.held old.disk) (g.held disk) old.state m s.has (same_used told m s.has) (s.built told))
-            (λ told writes'. settled_spare (g.held old.disk) (g.held disk) (g.may_leave old.disk) (g.may_leave disk) old.state.list file (Torn at (length bytes)) (spare m s.has) (besides told) crash
+            (λ told writes'. settled_spare (g.held old.disk) (g.held disk) (g.may_leave old.disk) (g.may_leave disk) old.state.list file (Torn at (length bytes)) its.spare (besides told) crash
             m.state.blocks (tail_of old.state.segment) m.history (s.settled told writes))
             (λ is. is) (λ told writes'. fresh_after told m s)
             (λ told writes'. logged_used (g.held old.disk) (g.held disk) old.state.list (g.faults old.disk) (g.faults disk) m m (WritePiece number file bytes) Fine (same_used told m s.has)

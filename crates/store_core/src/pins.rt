@@ -32,6 +32,7 @@ pub(crate) fn take_number(
 }
 
 // The first position that is free, or the length.
+#[tactic(auto, using(crate::proofs::PinNumbers::least_of))]
 fn first_free(pins: &[Option<FileList>]) -> usize
     ensures inside { result ≤ length pins.now }
     ensures free { is_taken result pins.now ≡ false }
