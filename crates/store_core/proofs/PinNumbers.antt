@@ -1,6 +1,8 @@
 -- Numbers of pins that are taken, and the files of the pins.
 use Rattle.std.proofs.Common.{◌≡◌, ◌≢◌, ◌⊎◌, inl, inr, arith, ◌<◌, ◌≤◌, zero, suc, length, set, ℕ, ◌==◌, Bool, true, false, not, List, [], ◌∷◌, ◌++◌, Option, Some, None, refl, sym, ◌∙◌, ap, map, filter, if◌then◌else◌}
 use Rattle.std.specs.Prelude.{◌||◌, ◌&&◌}
+use Rattle.std.specs.List.{Contains, flat_map}
+use Rattle.std.proofs.lemmas.List.Elements.{Contains-append_left, Contains-append_right, Contains-append_cases}
 use Rattle.store_model.specs.State.{Block, Pinned, is_among, pin_numbers, pinned_blocks, block_files, without_pin}
 use Rattle.store_model.proofs.Numbers.{same_number, equal_itself, below_or_not}
 use Rattle.store_model.proofs.Pins.{same_blocks-less, blocks-added}
@@ -96,6 +98,21 @@ now_files number pin pins later only other = ap files_in (only other) ∙ by (nu
     by : (t : Bool) → files_in (if t then pin else pin_at other pins) ≡ (if t then files_in pin else files_at other pins)
     by true = refl
     by false = refl
+
+-- ---- the files of all pins
+
+pub named_all : (pins : List (Option (List ℕ))) (number file : ℕ) → Contains (files_at number pins) file → Contains (flat_map files_in pins) file
+named_all [] zero file inside = inside
+named_all [] (suc k) file inside = inside
+named_all (p ∷ ps) zero file inside = Contains-append_left (files_in p) (flat_map files_in ps) file inside
+named_all (p ∷ ps) (suc k) file inside = Contains-append_right (files_in p) (flat_map files_in ps) file (named_all ps k file inside)
+
+pub named_only : (pins : List (Option (List ℕ))) (file : ℕ) → Contains (flat_map files_in pins) file → (number : ℕ) × Contains (files_at number pins) file
+named_only [] file inside = (0, inside)
+named_only (p ∷ ps) file inside = elim (Contains-append_cases (files_in p) (flat_map files_in ps) file inside) [
+  | inl here ↦ (0, here)
+  | inr there ↦ (let rest = named_only ps file there in (suc rest.0, rest.1))
+]
 
 -- ---- pins of the model
 
