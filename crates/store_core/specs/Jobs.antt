@@ -65,9 +65,9 @@ pub record HaveRoomFor (count : ℕ) (jobs : Jobs) (list : ListBody) : Type 0 wh
   pub compaction : IfSome jobs.compaction (λ known. (room : CommitRoom) × (known.room ≡ Some room) × CommitFits room list (vec_len jobs.loose) count)
 
 -- Each open job has room for what it and the other one make, and there is room for the information of their blocks.
-pub record HasCommitRoom (jobs : Jobs) (list : ListBody) (infos : Vec InfoParts Global) : Type 0 where
+pub record HasCommitRoom (jobs : Jobs) (list : ListBody) (known : Vec InfoParts Global) : Type 0 where
   pub rooms : HaveRoomFor (open_jobs jobs) jobs list
-  pub infos : 1 ≤ open_jobs jobs → vec_len infos + open_jobs jobs ≤ vec_capacity infos
+  pub infos : 1 ≤ open_jobs jobs → vec_len known + open_jobs jobs ≤ vec_capacity known
 
 -- the same flush, whatever room it has
 abbrev pub SameFlush : Option OpenFlush → Option OpenFlush → Type 0

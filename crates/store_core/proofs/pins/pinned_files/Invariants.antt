@@ -5,4 +5,4 @@ use Rattle.store_core.specs.Pins.{files_in}
 use Rattle.store_core.proofs.pins.pinned_files.Given as goal
 
 abbrev pub invariant-loop-pin : goal.invariant-loop-pin
-invariant-loop-pin l = l.files.items ≡ flat_map files_in (take l.pin-index l.pin-items)
+invariant-loop-pin l = l.files.items ≡ flat_map files_in (take l.pin-index l.pins)
