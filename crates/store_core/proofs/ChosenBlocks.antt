@@ -184,10 +184,6 @@ pub some_chosen : (chosen : List ℕ) (blocks : List Block) (end : ℕ) → end 
 some_chosen chosen blocks end is some ascend picks =
     subst (λ (l : List Block). 1 ≤ length l) (sym (picked_places chosen blocks) ∙ picks) (some_there chosen blocks end is some ascend)
 
-pub none_chosen : (chosen : List ℕ) (blocks : List Block) → length chosen ≡ 0 → picked chosen blocks ≡ choice blocks → length (choice blocks) ≡ 0
-none_chosen [] blocks none picks = ap length (sym picks)
-none_chosen (at ∷ chosen) blocks none picks = absurd (omega (arith, none))
-
 pub blocks_listed : (core : CoreState) (m : Machine) → HasState core m → length core.list.blocks ≡ length m.state.blocks
 blocks_listed core m has = ap length has.blocks ∙ same_length ref_of m.state.blocks
   where

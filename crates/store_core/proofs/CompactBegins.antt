@@ -71,17 +71,6 @@ early_writing core m compaction has writes is =
     ∙ ap (λ (r : Option ℕ). early_of r m.state.compaction (length (choice m.state.blocks)) core.jobs.next_file) writes
     ∙ ap (λ (f : Option Compaction). early_of None f (length (choice m.state.blocks)) core.jobs.next_file) is
 
-pub compact_read_only : (core : CoreState) (m : Machine) (faults : ℕ) → HasState core m → core.read_only ≡ Some faults → early m BeginCompact ≡ Some (Refused (ReadOnly faults))
-compact_read_only core m faults has is = early_by core m has ∙ ap (λ (r : Option ℕ). early_of r m.state.compaction (length (choice m.state.blocks)) core.jobs.next_file) is
-
-pub compact_busy : (core : CoreState) (m : Machine) (mine : OpenCompaction) → HasState core m → core.read_only ≡ None → core.jobs.compaction ≡ Some mine → early m BeginCompact ≡ Some (Refused (Busy mine.number))
-compact_busy core m mine has writes known =
-    let here : ShowsCompaction (Some mine) m.state.compaction = subst (λ (k : Option OpenCompaction). ShowsCompaction k m.state.compaction) known has.compaction in
-    early_writing core m (Some (record { number = mine.number; file = mine.file; level = mine.level; pin = mine.pin })) has writes here
-
-pub compact_idle : (core : CoreState) (m : Machine) → HasState core m → core.read_only ≡ None → core.jobs.compaction ≡ None → length (choice m.state.blocks) ≡ 0 → early m BeginCompact ≡ Some Nothing
-compact_idle core m has writes none empty = early_writing core m None has writes (no_compaction core m has none) ∙ ap (λ (n : ℕ). if_idle n core.jobs.next_file) empty
-
 idle_of : (work next : ℕ) (test : Bool) → (work == 0) ≡ false → nat_le 4294967294 next ≡ test → if_idle work next ≡ if_test test (Refused (FilesSpent next)) None
 idle_of work next test some is = ap (λ (t : Bool). if_test t Nothing (if_test (nat_le 4294967294 next) (Refused (FilesSpent next)) None)) some ∙ ap (λ (t : Bool). if_test t (Refused (FilesSpent next)) None) is
 

@@ -101,12 +101,6 @@ pub same_compaction : (o : Option OpenCompaction) → SameCompaction o o
 same_compaction None = refl
 same_compaction (Some known) = (known.room, refl)
 
-pub flush_as : (o later : Option OpenFlush) → later ≡ o → SameFlush o later
-flush_as o later is = subst (λ (k : Option OpenFlush). SameFlush o k) (sym is) (same_flush o)
-
-pub compaction_as : (o later : Option OpenCompaction) → later ≡ o → SameCompaction o later
-compaction_as o later is = subst (λ (k : Option OpenCompaction). SameCompaction o k) (sym is) (same_compaction o)
-
 pub same_jobs : (jobs : Jobs) → SameJobs jobs jobs
 same_jobs jobs = record { begun = refl; next_file = refl; loose = refl; flush = same_flush jobs.flush; compaction = same_compaction jobs.compaction }
 
@@ -135,10 +129,6 @@ compaction_shown (Some known) later compaction same shown = subst (λ (k : Optio
 pub flush_none : (old later : Option OpenFlush) → SameFlush old later → old ≡ None → later ≡ None
 flush_none None later same none = same
 flush_none (Some known) later same none = absurd (let bad : Some known ≡ None = none in cc)
-
-pub compaction_none : (old later : Option OpenCompaction) → SameCompaction old later → old ≡ None → later ≡ None
-compaction_none None later same none = same
-compaction_none (Some known) later same none = absurd (let bad : Some known ≡ None = none in cc)
 
 -- the files of open jobs are spare ones
 abbrev pub SpareFlush : ListBody → Option OpenFlush → Type 0
