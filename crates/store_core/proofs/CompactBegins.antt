@@ -266,10 +266,10 @@ module _ {D : Type 0} (g : Ghosts D) (old : Core D) (disk : D) (writes : old.sta
   segment_low told m s mine known = elim (cases_lt mine.files.segment file) [
     | inl under ↦ under
     | inr above ↦ absurd (
-      let one = segment_of_known old.state m mine s.has known in
-      let next = s.has.next_file in
-      let none = s.sound.files.new mine.files.segment (omega (arith, above, next)) in
-      omega (arith, one, none))
+        let one = segment_of_known old.state m mine s.has known in
+        let next = s.has.next_file in
+        let none = s.sound.files.new mine.files.segment (omega (arith, above, next)) in
+        omega (arith, one, none))
   ]
 
   fresh_later : IsTrue (g.tells old.disk) → (m : Machine) → CoreStandsFor g old m → (jobs : Jobs) → SameFlush old.state.jobs.flush jobs.flush → HasFreshSegment (g.held disk) (g.may_leave disk) jobs

@@ -142,8 +142,13 @@ impl Jobs {
         requires { self.now.next_file < 4294967294 }
         ensures number { (result ≡ self.new.begun) × (self.new.begun ≡ min (self.old.begun + 1) (2 ^ 64 - 1)) }
         ensures next_file { self.new.next_file ≡ self.old.next_file + 1 }
-        ensures compaction { self.new.compaction ≡ Some (record { number = self.new.begun; file = self.old.next_file;
-            level = level; pin = pin; room = Some room }) }
+        ensures compaction { self.new.compaction ≡ Some (record {
+          number = self.new.begun;
+          file = self.old.next_file;
+          level = level;
+          pin = pin;
+          room = Some room;
+        }) }
         ensures same { (self.new.loose ≡ self.old.loose) × (self.new.flush ≡ self.old.flush) }
     {
         self.begun = self.begun.saturating_add(1);
