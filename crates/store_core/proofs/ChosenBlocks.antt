@@ -1,5 +1,5 @@
 -- The blocks that a compaction joins, as the machine, the list and the core's memory have them.
-use Rattle.std.proofs.Common.{add-one, ◌≡◌, ◌⊎◌, inl, inr, ℕ, ◌+◌, ◌<◌, ◌≤◌, zero, suc, min, List, [], ◌∷◌, ◌++◌, length, length-append, map, take, drop, slice_index_or, append_assoc, refl, sym, ◌∙◌, ap, subst, arith}
+use Rattle.std.proofs.Common.{add-one, ◌≡◌, inl, inr, ℕ, ◌+◌, ◌<◌, ◌≤◌, zero, suc, min, List, [], ◌∷◌, ◌++◌, length, length-append, map, take, drop, slice_index_or, append_assoc, refl, sym, ◌∙◌, ap, subst, arith}
 use Rattle.std.specs.List.{Contains}
 use Rattle.std.proofs.lemmas.List.{append-nil}
 use Rattle.std.proofs.lemmas.List.Elements.{Contains-append_left, Contains-append_right}
@@ -12,7 +12,7 @@ use Rattle.store_model.specs.Step.{Machine}
 use Rattle.store_model.proofs.Numbers.{map_append}
 use Rattle.store_state.specs.Given.{info_files}
 use Rattle.store_state.specs.Listed.{picked, ref_of, Ascend}
-use Rattle.store_state.specs.Shown.{told_block, IsChoiceOf, AreFew, AreBlocks, JoinsChoice}
+use Rattle.store_state.specs.Shown.{told_block, IsChoiceOf, AreFew, JoinsChoice}
 use Rattle.store_state.specs.Written.{AreBlocksOf}
 use Rattle.store_images.proofs.Lists.{not_in_nil, in_cons, at_front, behind}
 use Rattle.store_core.specs.Beginning.{at_places}

@@ -1,24 +1,23 @@
 -- A compaction that begins, as an event of a core.
-use Rattle.std.proofs.Common.{◌≡◌, ◌≢◌, inl, inr, ℕ, ◌+◌, ◌*◌, ◌-◌, ◌^◌, ◌<◌, ◌≤◌, ◌==◌, min, List, [], ◌∷◌, ◌++◌, length, map, Some, None, Option, IfSome, IsTrue, Bool, true, false, not, refl, sym, ◌∙◌, ap, subst, arith, if◌then◌else◌}
+use Rattle.std.proofs.Common.{◌≡◌, ◌≢◌, inl, inr, ℕ, ◌+◌, ◌-◌, ◌^◌, ◌<◌, ◌≤◌, ◌==◌, min, List, [], ◌∷◌, length, map, Some, None, Option, IsTrue, Bool, true, false, not, refl, sym, ◌∙◌, ap, subst, arith, if◌then◌else◌}
 use Rattle.std.specs.Prelude.{nat_le, Vec, ◌||◌, ◌&&◌}
-use Rattle.std.proofs.lemmas.Bool.{le-leb, lt-leb, ne_eqb, cases_lt}
+use Rattle.std.proofs.lemmas.Bool.{le-leb, lt-leb, cases_lt}
 use Rattle.std.specs.Vec.{vec_len, vec_capacity}
 use Rattle.std.specs.declared.alloc.Global.{Global}
 use Rattle.span_types.specs.Faults.{Rose}
-use Rattle.disk_model.specs.Images.{Image, bytes_of}
-use Rattle.disk_model.specs.Crash.{OnlyBytes, Run}
+use Rattle.disk_model.specs.Images.{bytes_of}
+use Rattle.disk_model.specs.Crash.{Run}
 use Rattle.disk_model.specs.declared.disk.Device.{Ghosts}
 use Rattle.disk_model.proofs.Runs.{run_more}
 use Rattle.block_info.specs.InfoParts.{InfoParts}
 use Rattle.block_list.specs.declared.body.ListBody.{ListBody}
-use Rattle.store_model.specs.State.{State, Flush, Compaction, Pinned, block_files, flush_files, is_among, pinned_blocks}
-use Rattle.store_model.specs.Sound.{times, uses}
+use Rattle.store_model.specs.State.{Compaction, Pinned, block_files, is_among, pinned_blocks}
 use Rattle.store_model.specs.Choice.{choice, level_of}
 use Rattle.store_model.specs.After.{after_begin_compact, chosen_job}
 use Rattle.store_model.specs.Event.{Reply, Refusal}
 use Rattle.store_model.specs.Event.Event.{BeginCompact}
 use Rattle.store_model.specs.Event.Reply.{Nothing, Compacting, Refused}
-use Rattle.store_model.specs.Event.Refusal.{ReadOnly, Busy, FilesSpent, Fault, Memory}
+use Rattle.store_model.specs.Event.Refusal.{FilesSpent, Fault, Memory}
 use Rattle.store_model.specs.Holds.{Hold, OpenIn, files_of}
 use Rattle.store_model.specs.Step.{Machine, Step, early, broken, with_state, if_read_only, if_compacting, if_idle, if_test}
 use Rattle.store_model.specs.Step.Step.{Sure, Succeeds, Lacks, Breaks}
@@ -44,7 +43,7 @@ use Rattle.store_core.proofs.BeginEvents.{built_same, not_zero}
 use Rattle.store_core.proofs.JobRooms.{RoomOfFlush, RoomOfCompaction, SpareCompaction, LowLevel, rooms_fewer, two_at_most, flush_shown, compaction_shown, spare_flush, fresh_same}
 use Rattle.store_core.proofs.Kept.{stands_kept, did_kept, described_below}
 use Rattle.store_core.proofs.InUse.{used_begun_compact}
-use Rattle.store_core.proofs.Logged.{logged_kept, logged_still}
+use Rattle.store_core.proofs.Logged.{logged_kept}
 use Rattle.store_core.proofs.OpenJobs.{fresh_moved, segment_of_known, held_low}
 use Rattle.store_core.proofs.PinNumbers.{among-more, files-more}
 use Rattle.store_core.proofs.PushEvents.{OnlyNow, refused_is}

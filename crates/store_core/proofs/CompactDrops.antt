@@ -1,11 +1,9 @@
 -- A compaction that is given up, as an event of a core.
-use Rattle.std.proofs.Common.{◌≡◌, inl, inr, ℕ, ◌+◌, ◌≤◌, ◌==◌, Bool, not, List, [], ◌∷◌, ◌++◌, length, Some, None, Option, refl, sym, ◌∙◌, ap, subst, arith, if◌then◌else◌}
+use Rattle.std.proofs.Common.{◌≡◌, inl, inr, ℕ, ◌≤◌, ◌==◌, Bool, not, List, [], ◌∷◌, ◌++◌, length, Some, None, Option, refl, sym, ◌∙◌, ap, subst, arith, if◌then◌else◌}
 use Rattle.std.specs.Prelude.{Vec, ◌&&◌}
 use Rattle.std.specs.Vec.{vec_capacity}
 use Rattle.std.specs.declared.alloc.Global.{Global}
-use Rattle.disk_model.specs.Images.{Image}
 use Rattle.disk_model.specs.declared.disk.Device.{Ghosts}
-use Rattle.store_model.specs.State.{pinned_blocks, block_files}
 use Rattle.store_model.specs.After.{after_drop_compact}
 use Rattle.store_model.specs.Event.Event.{DropCompact}
 use Rattle.store_model.specs.Event.Reply.{Fine, Refused}
@@ -14,7 +12,7 @@ use Rattle.store_model.specs.Step.{Machine, Step, with_state}
 use Rattle.store_model.specs.Step.Step.{Succeeds}
 use Rattle.store_images.proofs.Keeping.{keeps_same}
 use Rattle.store_core.specs.Pins.{is_taken, files_at}
-use Rattle.store_core.specs.Jobs.{ShowsFlush, ShowsCompaction, HasFreshSegment, files_of_compaction, one_if}
+use Rattle.store_core.specs.Jobs.{ShowsFlush, ShowsCompaction, files_of_compaction, one_if}
 use Rattle.store_core.specs.declared.jobs.Jobs.{Jobs}
 use Rattle.store_core.specs.declared.jobs.OpenFlush.{OpenFlush}
 use Rattle.store_core.specs.declared.jobs.OpenCompaction.{OpenCompaction}

@@ -1,11 +1,11 @@
 -- What a compaction that begins makes in memory, and the event that it is then.
-use Rattle.std.proofs.Common.{◌≡◌, ◌≢◌, ℕ, ◌+◌, ◌*◌, ◌-◌, ◌^◌, ◌<◌, ◌≤◌, ◌==◌, min, List, [], ◌∷◌, length, map, Some, None, Option, IfSome, IsTrue, Bool, true, false, not, refl, sym, ◌∙◌, ap, subst, arith, if◌then◌else◌}
-use Rattle.std.specs.Prelude.{Vec, ◌||◌, ◌&&◌}
+use Rattle.std.proofs.Common.{◌≡◌, ◌≢◌, ℕ, ◌+◌, ◌-◌, ◌^◌, ◌≤◌, ◌==◌, min, List, [], ◌∷◌, length, map, Some, None, Option, IfSome, IsTrue, not, refl, sym, ◌∙◌, ap, subst, arith, if◌then◌else◌}
+use Rattle.std.specs.Prelude.{Vec, ◌&&◌}
 use Rattle.std.specs.Vec.{vec_len, vec_capacity}
 use Rattle.std.specs.List.{Contains}
 use Rattle.std.specs.declared.alloc.Global.{Global}
 use Rattle.span_types.specs.Faults.{Rose}
-use Rattle.disk_model.specs.Images.{Image, bytes_of}
+use Rattle.disk_model.specs.Images.{bytes_of}
 use Rattle.disk_model.specs.Crash.{Run}
 use Rattle.disk_model.specs.declared.disk.Device.{Ghosts}
 use Rattle.block_info.specs.InfoParts.{InfoParts}
@@ -27,8 +27,8 @@ use Rattle.store_state.specs.declared.errors.BeginError.TheVariants.{ReadOnly as
 use Rattle.store_state.specs.declared.jobs.Pin.{Pin}
 use Rattle.store_core.specs.Files.{SameBelow}
 use Rattle.store_core.specs.Pins.{is_taken, files_at}
-use Rattle.store_core.specs.Jobs.{CommitFits, HaveRoomFor, SameJobs, SameFlush}
-use Rattle.store_core.specs.Beginning.{MayCompact, KeepsRooms, HasRoomStill, HasRoomToBegin, IsMade, IsNotMade, at_places}
+use Rattle.store_core.specs.Jobs.{CommitFits, SameJobs, SameFlush}
+use Rattle.store_core.specs.Beginning.{MayCompact, HasRoomStill, HasRoomToBegin, IsMade, IsNotMade, at_places}
 use Rattle.store_core.specs.declared.jobs.Jobs.{Jobs}
 use Rattle.store_core.specs.declared.jobs.OpenFlush.{OpenFlush}
 use Rattle.store_core.specs.declared.room.CommitRoom.{CommitRoom}
@@ -37,7 +37,7 @@ use Rattle.store_core.specs.declared.store.Core.{Core}
 use Rattle.store_core.specs.Cores.{HasState, CoreStandsFor, listed_as}
 use Rattle.store_core.specs.Events.{Did}
 use Rattle.store_core.proofs.ChosenBlocks.{chosen_files, chosen_level, told_choice, in_places, some_there, level_fits, joins_choice, blocks_at}
-use Rattle.store_core.proofs.CompactBegins.{Begun, Pins, SamePins, IsChoice, did_compact, did_compact_fail, did_lack_compact, did_not_compact, given_back}
+use Rattle.store_core.proofs.CompactBegins.{Begun, Pins, IsChoice, did_compact, did_compact_fail, did_lack_compact, did_not_compact, given_back}
 use Rattle.store_core.proofs.JobRooms.{RoomOfFlush}
 use Rattle.store_core.proofs.MadeRooms.{not_made}
 use Rattle.store_core.proofs.PushEvents.{OnlyNow}

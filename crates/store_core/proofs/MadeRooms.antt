@@ -1,21 +1,15 @@
 -- Memory that the begin of a compaction takes.
-use Rattle.std.proofs.Common.{◌≡◌, ℕ, ◌+◌, ◌*◌, ◌≤◌, ◌==◌, min, List, [], length, map, Result, Ok, Err, OnOk, OnErr, IfOk, Option, None, Bool, true, false, refl, sym, ◌∙◌, ap, subst, arith, if◌then◌else◌}
-use Rattle.std.specs.Prelude.{Vec, ◌||◌}
+use Rattle.std.proofs.Common.{◌≡◌, ◌+◌, ◌≤◌, length, Result, Ok, Err, OnOk, OnErr, None, refl, arith}
+use Rattle.std.specs.Prelude.{Vec}
 use Rattle.std.specs.Vec.{vec_len, vec_capacity}
 use Rattle.std.specs.declared.alloc.Global.{Global}
 use Rattle.block_info.specs.InfoParts.{InfoParts}
-use Rattle.block_list.specs.declared.body.ListBody.{ListBody}
-use Rattle.store_model.specs.Choice.{level_of}
-use Rattle.store_state.specs.Given.{info_files}
-use Rattle.store_state.specs.Shown.{told_block}
-use Rattle.store_state.specs.declared.jobs.Pin.{Pin}
-use Rattle.store_core.specs.Beginning.{KeepsRooms, HasRoomStill, HasRoomToBegin, IsMade, IsNotMade, at_places}
-use Rattle.store_core.specs.Jobs.{CommitFits, HaveRoomFor, SameJobs, open_jobs}
-use Rattle.store_core.specs.Pins.{is_taken, files_at}
+use Rattle.store_core.specs.Beginning.{HasRoomStill, IsNotMade}
+use Rattle.store_core.specs.Jobs.{HaveRoomFor, SameJobs, open_jobs}
 use Rattle.store_core.specs.declared.jobs.Jobs.{Jobs}
 use Rattle.store_core.specs.declared.room.CommitRoom.{CommitRoom}
 use Rattle.store_core.specs.declared.state.CoreState.{CoreState}
-use Rattle.store_core.proofs.JobRooms.{kept_infos, kept_jobs, made_jobs, same_jobs, one_none, one_at_most}
+use Rattle.store_core.proofs.JobRooms.{kept_infos, kept_jobs, made_jobs, one_none, one_at_most}
 
 pub one_job : (jobs : Jobs) → jobs.compaction ≡ None → open_jobs jobs ≤ 1
 one_job jobs none = let other = one_none jobs.compaction none in let one = one_at_most jobs.flush in omega (arith, other, one)

@@ -1,4 +1,4 @@
-use Rattle.std.proofs.Common.{rules, ◌≡◌, ◌≤◌, ℕ, length, sym, ◌∙◌, arith}
+use Rattle.std.proofs.Common.{rules, ◌≤◌, length, sym, ◌∙◌, arith}
 use Rattle.store_core.proofs.ChosenBlocks.{some_chosen, refs_listed}
 use Rattle.store_core.proofs.CompactBegins.{compact_spent, compact_free}
 use Rattle.store_core.proofs.state.CoreState.admit_blocks.Goals as goal

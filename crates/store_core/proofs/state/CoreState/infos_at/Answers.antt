@@ -1,4 +1,4 @@
-use Rattle.std.proofs.Common.{◌≡◌, ℕ, List, [], ◌∷◌, ◌++◌, sym, ◌∙◌, ap, arith}
+use Rattle.std.proofs.Common.{ℕ, List, [], ◌∷◌, ◌++◌, sym, ◌∙◌, ap, arith}
 use Rattle.block_info.specs.InfoParts.{InfoParts}
 use Rattle.store_core.proofs.ChosenBlocks.{places_next}
 use Rattle.store_core.proofs.state.CoreState.infos_at.Goals as goal
