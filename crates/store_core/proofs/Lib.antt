@@ -1,5 +1,7 @@
 mod Quiet
 mod Described
+mod JobRooms
+mod MadeRooms
 mod NoJobs
 mod NextRoom
 mod States
@@ -23,6 +25,10 @@ mod PageEvents
 mod PieceEvents
 mod DropEvents
 mod BeginEvents
+mod CompactDrops
+mod ChosenBlocks
+mod CompactBegins
+mod CompactMakes
 mod NextLists
 mod InUse
 mod CommitImages

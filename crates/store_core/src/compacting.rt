@@ -1,20 +1,22 @@
 //! Compactions begin, their blocks are listed, and they are given up.
 
-ghost use Rattle.std.specs.Prelude.{◌≡◌, ◌≢◌, ◌≤◌, ℕ, None, Some, Ok, Err, IsTrue, IfOk, IfErr, IfSome};
+ghost use Rattle.std.specs.Prelude.{◌≡◌, ◌≢◌, ◌<◌, ◌≤◌, ◌+◌, ℕ, List, length, min, map, slice_index_or, None, Some, IsTrue, IfOk, IfErr, IfSome, OnErr};
 ghost use Rattle.disk_model.specs.Images.{bytes_of};
+ghost use Rattle.block_info.specs.InfoParts.{InfoParts};
 ghost use Rattle.store_model.specs.Event.Event.{BeginCompact, CommitCompact, DropCompact};
-ghost use Rattle.store_model.specs.Choice.{choice};
+ghost use Rattle.store_model.specs.State.{Block};
+ghost use Rattle.store_model.specs.Choice.{choice, level_of};
 ghost use Rattle.store_model.specs.Event.Reply.{Fine, Nothing, Refused};
 ghost use Rattle.store_model.specs.Event.Refusal.{Fault as IsFault};
 ghost use Rattle.store_model.specs.Holds.{OpenIn};
 ghost use Rattle.store_model.specs.Step.{Machine, early};
 ghost use Rattle.store_state.specs.Given.{compact_of};
-ghost use Rattle.store_state.specs.Listed.{picked};
+ghost use Rattle.store_state.specs.Listed.{picked, ref_of};
 ghost use Rattle.store_state.specs.Replies.{begin_refusal, begin_compact_reply, write_reply};
-ghost use Rattle.store_state.specs.Shown.{AreBlocks, JoinsChoice};
+ghost use Rattle.store_state.specs.Shown.{AreBlocks, JoinsChoice, told_block};
 ghost use Rattle.store_state.specs.Written.{IsJoinedBlock};
 ghost use Rattle.store_state.specs.declared.errors.BeginError.TheVariants.{Memory as Lacking};
-ghost use Rattle.store_core.specs.Beginning.{MayCompact};
+ghost use Rattle.store_core.specs.Beginning.{MayCompact, HasRoomStill, HasRoomToBegin, IsMade, IsNotMade, at_places};
 ghost use Rattle.store_core.specs.Cores.{CoreShows, CoreStandsFor, HasState};
 ghost use Rattle.store_core.specs.Events.{Did};
 
@@ -28,7 +30,7 @@ use block_list::commit;
 use disk_model::{Device, cut_through};
 use span_types::{Memory, TryCopy};
 use std::alloc::Global;
-use store_state::{BeginError, CompactJob, JobFile, Pin, WriteError, choose};
+use store_state::{BeginError, CompactJob, JobFile, Pin, WriteError, a_choice_is_few, choose};
 
 /// The first file number that no job gets any more.
 const LAST_FILE: u32 = 4_294_967_294;
@@ -37,12 +39,16 @@ impl CoreState {
     /// The positions in the list of the blocks that a compaction joins now, and none where there are no such blocks, or why none
     /// begins: in this order the store is read-only, a compaction is open, no file numbers are left, or memory is lacking.
     pub(crate) fn admit_compact(&self, alloc: Global) -> Result<Option<Vec<usize>>, BeginError>
-        ensures none { (m : Machine) → HasState self.now m → result ≡ Ok None → early m BeginCompact ≡ Some Nothing }
-        ensures chosen { (m : Machine) → HasState self.now m → IfOk result (λ found. IfSome found (λ chosen.
-            (early m BeginCompact ≡ None) × (picked chosen.items m.state.blocks ≡ choice m.state.blocks))) }
+        ensures none { (m : Machine) → HasState self.now m → IfOk result (λ found. found ≡ None →
+            early m BeginCompact ≡ Some Nothing) }
+        ensures free { (m : Machine) → HasState self.now m → IfOk result (λ found. IfSome found (λ chosen.
+            early m BeginCompact ≡ None)) }
+        ensures chosen { (listed : List Block) → map ref_of listed ≡ self.now.list.blocks → IfOk result (λ found.
+            IfSome found (λ chosen. picked chosen.items listed ≡ choice listed)) }
         ensures refused { (m : Machine) → HasState self.now m → IfErr result (λ error. error ≢ Lacking →
             early m BeginCompact ≡ Some (Refused (begin_refusal error))) }
-        ensures lacking { (m : Machine) → HasState self.now m → result ≡ Err Lacking → early m BeginCompact ≡ None }
+        ensures lacking { (m : Machine) → HasState self.now m → IfErr result (λ error. error ≡ Lacking →
+            early m BeginCompact ≡ None) }
         ensures no_fault { IfErr result (λ error. begin_refusal error ≢ IsFault) }
         ensures sure { IfOk result (λ found. IfSome found (λ chosen. MayCompact self.now chosen.items)) }
     {
@@ -54,19 +60,43 @@ impl CoreState {
                 job: compaction.number,
             });
         }
-        let chosen = choose(alloc, self.list.blocks.as_slice());
-        if let Ok(chosen) = &chosen
-            && chosen.is_empty()
-        {
-            return Ok(None);
-        }
+        self.admit_blocks(alloc)
+    }
+
+    // The same in a store that isn't read-only, where no compaction is open.
+    fn admit_blocks(&self, alloc: Global) -> Result<Option<Vec<usize>>, BeginError>
+        requires writes { self.now.read_only ≡ None }
+        requires no_job { self.now.jobs.compaction ≡ None }
+        ensures none { (m : Machine) → HasState self.now m → IfOk result (λ found. found ≡ None →
+            early m BeginCompact ≡ Some Nothing) }
+        ensures free { (m : Machine) → HasState self.now m → IfOk result (λ found. IfSome found (λ chosen.
+            early m BeginCompact ≡ None)) }
+        ensures chosen { (listed : List Block) → map ref_of listed ≡ self.now.list.blocks → IfOk result (λ found.
+            IfSome found (λ chosen. picked chosen.items listed ≡ choice listed)) }
+        ensures refused { (m : Machine) → HasState self.now m → IfErr result (λ error. error ≢ Lacking →
+            early m BeginCompact ≡ Some (Refused (begin_refusal error))) }
+        ensures lacking { (m : Machine) → HasState self.now m → IfErr result (λ error. error ≡ Lacking →
+            early m BeginCompact ≡ None) }
+        ensures no_fault { IfErr result (λ error. begin_refusal error ≢ IsFault) }
+        ensures sure { IfOk result (λ found. IfSome found (λ chosen. MayCompact self.now chosen.items)) }
+    {
         let next = self.jobs.next_file;
-        if next >= LAST_FILE {
-            return Err(BeginError::FilesSpent { next });
-        }
-        match chosen {
-            Ok(chosen) => Ok(Some(chosen)),
-            Err(_) => Err(BeginError::Memory),
+        match choose(alloc, self.list.blocks.as_slice()) {
+            Ok(chosen) => {
+                if chosen.is_empty() {
+                    return Ok(None);
+                }
+                if next >= LAST_FILE {
+                    return Err(BeginError::FilesSpent { next });
+                }
+                Ok(Some(chosen))
+            }
+            Err(_) => {
+                if next >= LAST_FILE {
+                    return Err(BeginError::FilesSpent { next });
+                }
+                Err(BeginError::Memory)
+            }
         }
     }
 
@@ -75,15 +105,17 @@ impl CoreState {
     pub(crate) fn make_compact(
         &mut self,
         alloc: Global,
-        chosen: Vec<usize>,
+        chosen: &[usize],
     ) -> Result<(u8, Pin, CommitRoom), Memory>
+        requires { self.now.jobs.compaction ≡ None }
+        ensures made { IfOk result (λ made. IsMade self.old chosen.now made.0 made.1 made.2 self.new) }
+        ensures lacking { OnErr result (IsNotMade self.old self.new) }
     {
-        let pinned = self.infos_at(alloc, chosen.as_slice())?;
+        let pinned = self.infos_at(alloc, chosen)?;
         let files = files_of(alloc, pinned.as_slice())?;
-        self.infos.reserve(2)?;
-        let room = self.jobs.make_room(alloc, &self.list)?;
-        let level = level_above(pinned.as_slice());
+        let room = self.make_room(alloc)?;
         let number = take_number(&mut self.pins, files)?;
+        let level = level_above(pinned.as_slice());
         let pin = Pin {
             number,
             blocks: pinned,
@@ -91,20 +123,46 @@ impl CoreState {
         Ok((level, pin, room))
     }
 
+    // Takes the memory that the ends of a compaction which begins and of an open flush need, and answers the room of the
+    // compaction's commit.
+    fn make_room(&mut self, alloc: Global) -> Result<CommitRoom, Memory>
+        requires { self.now.jobs.compaction ≡ None }
+        ensures made { IfOk result (λ room. HasRoomToBegin self.old.list self.new.infos self.new.jobs room) }
+        ensures still { HasRoomStill self.old self.new }
+        ensures pins { self.new.pins ≡ self.old.pins }
+    {
+        self.infos.reserve(2)?;
+        self.jobs.make_room(alloc, &self.list)
+    }
+
     // The information of the blocks at these positions, shared with this one.
     fn infos_at(&self, alloc: Global, chosen: &[usize]) -> Result<Infos, Memory>
+        ensures { IfOk result (λ infos. infos ≡ at_places chosen.now self.now.infos.items) }
     {
         let mut infos = Vec::new(alloc);
-        infos.reserve(chosen.len())?;
         for at in chosen {
-            infos.push(self.infos[*at].copy()?)?;
+            let info = self.info_at(*at)?;
+            infos.push(info)?;
         }
         Ok(Infos::of(infos))
+    }
+
+    // The information of the block at a position, shared with this one. Each listed block has its information, so that a position
+    // behind them isn't chosen; it is refused for memory.
+    fn info_at(&self, at: usize) -> Result<SharedInfo, Memory>
+        ensures { IfOk result (λ info. (at < length self.now.infos.items)
+            × ((other : InfoParts) → slice_index_or self.now.infos.items at other ≡ info)) }
+    {
+        if at >= self.infos.len() {
+            return Err(Memory);
+        }
+        self.infos[at].copy()
     }
 }
 
 // The level above that of the first of these blocks.
 fn level_above(infos: &[SharedInfo]) -> u8
+    ensures { result ≡ min (level_of (map told_block infos.now) + 1) 255 }
 {
     match infos.first() {
         Some(info) => info.get().level.saturating_add(1),
@@ -126,10 +184,14 @@ impl<D: Device> Core<D> {
         ensures blocks { IsTrue (D.tells self.new.disk) → IfOk result (λ begun. IfSome begun (λ job. (m : Machine) →
             CoreStandsFor D.Device.own self.new m → AreBlocks (λ file. bytes_of (D.held self.new.disk) file) job.pin.blocks)) }
     {
-        let Some(chosen) = self.state.admit_compact(self.alloc)? else {
-            return Ok(None);
+        // The level of what is joined has room.
+        a_choice_is_few();
+        let chosen = match self.state.admit_compact(self.alloc) {
+            Ok(Some(chosen)) => chosen,
+            Ok(None) => return Ok(None),
+            Err(error) => return Err(error),
         };
-        let Ok((level, pin, room)) = self.state.make_compact(self.alloc, chosen) else {
+        let Ok((level, pin, room)) = self.state.make_compact(self.alloc, chosen.as_slice()) else {
             return Err(BeginError::Memory);
         };
         let file = self.state.jobs.next_file;

@@ -1,8 +1,9 @@
 //! The jobs of a store.
 
-ghost use Rattle.std.specs.Prelude.{◌≡◌, ◌≤◌, ◌<◌, ◌+◌, ◌-◌, ◌*◌, ◌^◌, ◌++◌, length, min, take, None, Some, IfOk, IfSome, IsSome, OnOk, OnErr};
+ghost use Rattle.std.specs.Prelude.{◌≡◌, ℕ, ◌≤◌, ◌<◌, ◌+◌, ◌-◌, ◌*◌, ◌^◌, ◌++◌, length, min, take, None, Some, IfOk, IfSome, IsSome, OnOk, OnErr};
 ghost use Rattle.std.specs.Vec.{vec_len, vec_capacity};
-ghost use Rattle.store_core.specs.Jobs.{CommitFits, HasNoJobs, HaveRoomFor, SameJobs, files_of_flush, files_of_compaction, one_if, open_jobs};
+ghost use Rattle.block_list.specs.declared.body.ListBody.{ListBody};
+ghost use Rattle.store_core.specs.Jobs.{CommitFits, HasNoJobs, HaveRoomFor, SameJobs, SameFlush, SameCompaction, files_of_flush, files_of_compaction, one_if, open_jobs};
 ghost use Rattle.store_state.specs.Loose.{compaction_part, flush_part};
 
 use crate::room::{CommitRoom, MOST_LISTED};
@@ -93,6 +94,12 @@ impl Jobs {
 
     // The open job, if there is one, gets this room for its commit.
     fn renew(&mut self, room: CommitRoom)
+        requires { open_jobs self.now ≤ 1 }
+        ensures rooms { (list : ListBody) (count : ℕ) → CommitFits room list (vec_len self.old.loose) count →
+            HaveRoomFor count self.new list }
+        ensures same { SameFlush self.old.flush self.new.flush × SameCompaction self.old.compaction self.new.compaction }
+        ensures others { (self.new.begun ≡ self.old.begun) × (self.new.next_file ≡ self.old.next_file)
+            × (self.new.loose ≡ self.old.loose) }
     {
         if let Some(flush) = &mut self.flush {
             flush.room = Some(room);
@@ -135,8 +142,13 @@ impl Jobs {
         requires { self.now.next_file < 4294967294 }
         ensures number { (result ≡ self.new.begun) × (self.new.begun ≡ min (self.old.begun + 1) (2 ^ 64 - 1)) }
         ensures next_file { self.new.next_file ≡ self.old.next_file + 1 }
-        ensures compaction { self.new.compaction ≡ Some (record { number = self.new.begun; file = self.old.next_file;
-            level = level; pin = pin; room = Some room }) }
+        ensures compaction { self.new.compaction ≡ Some (record {
+          number = self.new.begun;
+          file = self.old.next_file;
+          level = level;
+          pin = pin;
+          room = Some room;
+        }) }
         ensures same { (self.new.loose ≡ self.old.loose) × (self.new.flush ≡ self.old.flush) }
     {
         self.begun = self.begun.saturating_add(1);

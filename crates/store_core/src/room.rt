@@ -73,7 +73,12 @@ impl CommitRoom {
             last,
             floor,
         );
-        let body = list_body(next, list.generation.wrapping_add(1), None, jobs.compact_file());
+        let body = list_body(
+            next,
+            list.generation.wrapping_add(1),
+            None,
+            jobs.compact_file(),
+        );
         let mut text = text;
         text.refill(&body);
         (body, text)
@@ -109,7 +114,12 @@ impl CommitRoom {
             joined,
             block,
         );
-        let body = list_body(next, list.generation.wrapping_add(1), jobs.flush_files(), None);
+        let body = list_body(
+            next,
+            list.generation.wrapping_add(1),
+            jobs.flush_files(),
+            None,
+        );
         let mut text = text;
         text.refill(&body);
         (body, text)
