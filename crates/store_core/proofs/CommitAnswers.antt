@@ -1,5 +1,5 @@
 -- What the steps of a flush's commit tell, put together.
-use Rattle.std.proofs.Common.{◌≡◌, ℕ, ◌+◌, ◌-◌, ◌<◌, ◌≤◌, List, [], ◌∷◌, ◌++◌, length, length-append, map, take, Some, None, Option, IfSome, IsTrue, refl, sym, ◌∙◌, ap, subst, arith}
+use Rattle.std.proofs.Common.{◌≡◌, ℕ, ◌+◌, ◌-◌, ◌≤◌, List, [], ◌∷◌, ◌++◌, length, length-append, map, take, Some, None, Option, IfSome, IsTrue, refl, sym, ◌∙◌, ap, subst, arith}
 use Rattle.std.specs.Vec.{vec_len, vec_capacity}
 use Rattle.span_types.specs.Faults.{Rose}
 use Rattle.span_types.specs.First.{IsFirstOf}
@@ -11,7 +11,7 @@ use Rattle.block_info.specs.InfoParts.{InfoParts}
 use Rattle.block_list.specs.Body.{MeetsRules, successor}
 use Rattle.block_list.specs.declared.body.ListBody.{ListBody}
 use Rattle.store_model.specs.History.{count_of}
-use Rattle.store_model.specs.State.{Flush, flush_rows}
+use Rattle.store_model.specs.State.{flush_rows}
 use Rattle.store_model.specs.After.{released}
 use Rattle.store_model.specs.Event.{Event}
 use Rattle.store_model.specs.Event.Reply.{Refused}
@@ -23,7 +23,7 @@ use Rattle.store_state.specs.Replies.{write_refusal}
 use Rattle.store_state.specs.Written.{IsBlockOf}
 use Rattle.store_state.specs.declared.errors.WriteError.{WriteError}
 use Rattle.store_state.specs.declared.errors.WriteError.TheVariants.{Fault}
-use Rattle.store_core.specs.Jobs.{ShowsFlush, IsSpare, JobsFit, one_if, files_of_compaction}
+use Rattle.store_core.specs.Jobs.{ShowsFlush, IsSpare, one_if, files_of_compaction}
 use Rattle.store_core.specs.NextList.{IsNextList, length_of, next_floor}
 use Rattle.store_core.specs.declared.jobs.OpenFlush.{OpenFlush}
 use Rattle.store_core.specs.declared.state.CoreState.{CoreState}

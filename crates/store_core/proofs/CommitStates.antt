@@ -5,15 +5,13 @@ use Rattle.std.specs.Vec.{vec_len, vec_capacity}
 use Rattle.std.proofs.lemmas.List.{append-nil, map-append, length-map}
 use Rattle.std.proofs.lemmas.List.Elements.{Contains-append_cases}
 use Rattle.span_types.specs.declared.spans.Row.{Row}
-use Rattle.head_log.specs.declared.segment.Segment.{Segment}
 use Rattle.block_info.specs.InfoParts.{InfoParts}
 use Rattle.block_list.specs.Body.{MeetsRules}
 use Rattle.block_list.specs.declared.body.BlockRef.{BlockRef}
 use Rattle.block_list.specs.declared.body.SegmentRef.{SegmentRef}
 use Rattle.block_list.specs.declared.body.ListBody.{ListBody}
-use Rattle.live_traces.specs.Parts.{LiveParts}
 use Rattle.store_model.specs.History.{count_of}
-use Rattle.store_model.specs.State.{State, Block, Segment as ModelSegment, Flush, Compaction, block_files, compaction_files, live_rows}
+use Rattle.store_model.specs.State.{State, Block, Segment as ModelSegment, Flush, block_files, compaction_files, live_rows}
 use Rattle.store_model.specs.After.{after_commit_flush, floor_after, least, released, staying, with_segment}
 use Rattle.store_model.specs.Step.{Machine, with_state}
 use Rattle.store_model.specs.Sound.{StateIsSound}
@@ -23,11 +21,10 @@ use Rattle.store_state.specs.Given.{info_files}
 use Rattle.store_state.specs.Loose.{AreFilesOf}
 use Rattle.store_state.specs.declared.listing.FlushFiles.{FlushFiles}
 use Rattle.store_images.specs.Stored.{ref_of}
-use Rattle.store_core.specs.Jobs.{ShowsFlush, ShowsCompaction, IsSpare, JobsFit, HasCommitRoom, open_jobs, one_if, files_of_compaction}
+use Rattle.store_core.specs.Jobs.{ShowsFlush, ShowsCompaction, IsSpare, open_jobs, one_if, files_of_compaction}
 use Rattle.store_core.specs.Cores.{HasState, listed_as, segment_of}
 use Rattle.store_core.specs.InUse.{AreInUse}
 use Rattle.store_core.specs.Pins.{is_taken, files_at}
-use Rattle.store_core.specs.declared.jobs.Jobs.{Jobs}
 use Rattle.store_core.specs.declared.jobs.OpenFlush.{OpenFlush}
 use Rattle.store_core.specs.declared.jobs.OpenCompaction.{OpenCompaction}
 use Rattle.store_core.specs.declared.state.CoreState.{CoreState}

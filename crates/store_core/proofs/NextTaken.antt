@@ -1,5 +1,5 @@
 -- The list that the next commit makes, where the room of the commit was taken from the jobs.
-use Rattle.std.proofs.Common.{◌≡◌, ℕ, List, [], ◌∷◌, ◌++◌, None, Some, Option, IfSome, IsSome, true, false, refl, sym, ◌∙◌, ap, subst}
+use Rattle.std.proofs.Common.{◌≡◌, ℕ, List, None, Some, Option, IfSome, IsSome, true, false, refl, sym, subst}
 use Rattle.block_list.specs.declared.body.ListBody.{ListBody}
 use Rattle.store_state.specs.declared.listing.FlushFiles.{FlushFiles}
 use Rattle.store_core.specs.Jobs.{files_of_compaction, files_of_flush}

@@ -133,6 +133,7 @@ fn keep_outside(infos: &mut Vec<SharedInfo>, joined: &[u32])
     infos.retain(|info| !is_in(info.get().file, joined));
 }
 
+// Whether the file is one of these.
 fn is_in(file: u32, files: &[u32]) -> bool
     ensures { result ≡ is_among file files.now }
 {

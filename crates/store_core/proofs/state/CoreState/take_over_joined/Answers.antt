@@ -1,4 +1,4 @@
-use Rattle.std.proofs.Common.{◌≡◌, ◌∙◌, ℕ, ◌-◌, ◌*◌, List, length, take, refl, ap, arith}
+use Rattle.std.proofs.Common.{◌∙◌, ℕ, ◌-◌, ◌*◌, List, length, take, ap, arith}
 use Rattle.store_core.specs.Jobs.{one_if}
 use Rattle.store_core.proofs.state.CoreState.take_over_joined.Goals as goal
 

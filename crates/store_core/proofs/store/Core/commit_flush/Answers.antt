@@ -1,5 +1,4 @@
-use Rattle.std.proofs.Common.{◌≡◌, ◌∙◌, ◌<◌, ◌≤◌, ◌%◌, ℕ, IsTrue, Some, refl, sym, ap, subst, arith}
-use Rattle.disk_model.specs.Images.{bytes_of}
+use Rattle.std.proofs.Common.{◌∙◌, Some, refl, arith}
 use Rattle.block_list.specs.Commit.{slot_of}
 use Rattle.block_list.proofs.ReadyLemmas.{can_lay}
 use Rattle.store_core.proofs.CommitAnswers.{did_stopped, flush_here, rules_known, commits, next_generation, other_named, infos_spent, unsure_spent, unsure_after_spent, rose_after, spent_is, has_stopped_spent, took_over}
