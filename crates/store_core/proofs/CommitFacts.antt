@@ -1,5 +1,5 @@
 -- Where a flush's commit may be made: what the core stands for, once the block was synced.
-use Rattle.std.proofs.Common.{◌≡◌, ℕ, ◌≤◌, List, [], ◌∷◌, ◌++◌, length, Some, None, Option, IfSome, IsTrue, refl, sym, ◌∙◌, ap, subst, arith, append_assoc}
+use Rattle.std.proofs.Common.{◌≡◌, ℕ, ◌≤◌, List, [], ◌∷◌, ◌++◌, length, None, Option, IfSome, refl, sym, ◌∙◌, ap, subst, arith, append_assoc}
 use Rattle.std.specs.List.{Contains}
 use Rattle.std.proofs.lemmas.List.{append-nil}
 use Rattle.span_types.specs.declared.spans.Row.{Row}
@@ -26,7 +26,7 @@ use Rattle.store_core.specs.declared.state.CoreState.{CoreState}
 use Rattle.store_core.specs.Jobs.{IsSpare}
 use Rattle.store_core.proofs.Apart.{below_same, settled_below}
 use Rattle.store_core.proofs.CommitImages.{MayCommit, firsts_in}
-use Rattle.store_core.proofs.CommitStates.{new_block, committed_state, next_last, next_parting, next_segments}
+use Rattle.store_core.proofs.CommitStates.{new_block, committed_state, next_last, next_parting}
 use Rattle.store_core.proofs.Logged.{both_within, flush_outside, head_outside, live_outside, logged_same}
 use Rattle.store_core.proofs.OpenJobs.{IsOpenHere, spare_files}
 use Rattle.store_core.proofs.Spare.{spare_low}

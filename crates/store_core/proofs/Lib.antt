@@ -4,6 +4,7 @@ mod JobRooms
 mod MadeRooms
 mod NoJobs
 mod NextRoom
+mod NextTaken
 mod States
 mod Logged
 mod HeldFiles
@@ -31,12 +32,14 @@ mod CompactBegins
 mod CompactMakes
 mod NextLists
 mod InUse
+mod RoomLeft
 mod CommitImages
 mod CommitStates
 mod CommitFacts
 mod CommitRuns
 mod CommitEvents
 mod CommitEnds
+mod FlushCommits
 mod CommitAnswers
 mod PortEvents
 pub mod LogSteps
