@@ -2,6 +2,7 @@ mod Quiet
 mod Described
 mod NoJobs
 mod NextRoom
+mod NextTaken
 mod States
 mod Logged
 mod HeldFiles
@@ -25,12 +26,14 @@ mod DropEvents
 mod BeginEvents
 mod NextLists
 mod InUse
+mod RoomLeft
 mod CommitImages
 mod CommitStates
 mod CommitFacts
 mod CommitRuns
 mod CommitEvents
 mod CommitEnds
+mod FlushCommits
 mod CommitAnswers
 mod PortEvents
 pub mod LogSteps

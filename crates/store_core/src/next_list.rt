@@ -5,6 +5,7 @@ ghost use Rattle.std.specs.Vec.{vec_len, vec_capacity};
 ghost use Rattle.block_list.specs.Body.{MeetsRules};
 ghost use Rattle.block_list.specs.Commit.{IsListText};
 ghost use Rattle.block_list.specs.declared.body.ListBody.{ListBody};
+ghost use Rattle.store_model.specs.State.{is_among};
 ghost use Rattle.store_core.specs.Jobs.{HasCommitRoom, JobsFit, one_if};
 ghost use Rattle.store_core.specs.NextList.{IsNextList, IsJoinedList, infos_outside, length_of};
 
@@ -117,8 +118,23 @@ impl CoreState {
             × (self.new.read_only ≡ self.old.read_only) × (self.new.unsure ≡ self.old.unsure) }
     {
         self.jobs.end_compact(list.loose.as_slice());
-        self.infos.retain(|known| !joined.contains(&known.get().file));
+        keep_outside(&mut self.infos, joined);
         self.infos.push_reserved(info);
         self.list = list;
     }
+}
+
+// The information of the blocks outside of these files stays, in its order.
+fn keep_outside(infos: &mut Vec<SharedInfo>, joined: &[u32])
+    ensures items { infos.new.items ≡ infos_outside joined.now infos.old.items }
+    ensures len { vec_len infos.new ≤ vec_len infos.old }
+    ensures room { vec_capacity infos.old ≤ vec_capacity infos.new }
+{
+    infos.retain(|info| !is_in(info.get().file, joined));
+}
+
+fn is_in(file: u32, files: &[u32]) -> bool
+    ensures { result ≡ is_among file files.now }
+{
+    files.iter().any(|other| *other == file)
 }
