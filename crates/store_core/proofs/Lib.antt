@@ -41,6 +41,10 @@ mod CommitEvents
 mod CommitEnds
 mod FlushCommits
 mod CommitAnswers
+mod CompactStates
+mod CompactFacts
+mod CompactCommits
+mod CompactAnswers
 mod PortEvents
 pub mod LogSteps
 mod LooseFiles
