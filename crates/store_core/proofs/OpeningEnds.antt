@@ -62,10 +62,10 @@ tells_less told told' held may_leave core m known s = record {
 }
 
 new_is_empty : (h : History) → BeginsEmpty (new_machine h)
-new_is_empty h = record { writes = refl; head = refl; loose = refl; pins = refl }
+new_is_empty h = record { writes = refl; head = refl; flush = refl; compaction = refl; begun = refl; loose = refl; pins = refl }
 
 opened_is_empty : (list : ListBody) (blocks : List Block) (batches : List (List Span)) (moment : ℕ) (h : History) → BeginsEmpty (opened_machine list blocks batches moment h)
-opened_is_empty list blocks batches moment h = record { writes = refl; head = refl; loose = refl; pins = refl }
+opened_is_empty list blocks batches moment h = record { writes = refl; head = refl; flush = refl; compaction = refl; begun = refl; loose = refl; pins = refl }
 
 none_once : IsFirstOf [] []
 none_once = record {
