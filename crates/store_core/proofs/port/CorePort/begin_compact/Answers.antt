@@ -1,4 +1,4 @@
-use Rattle.store_core.proofs.OpeningEnds.{if_ok_more}
+use Rattle.store_core.proofs.OpeningEnds.{if_ok_more, if_some_more}
 use Rattle.store_core.proofs.PortEvents.{did_is_called}
 use Rattle.store_core.proofs.port.CorePort.begin_compact.Goals as goal
 
