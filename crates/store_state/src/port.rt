@@ -118,8 +118,8 @@ pub trait Port: FlushPort {
         ensures fresh { IfOk result (λ begun. IfSome begun (λ job. job.out.written ≡ 0)) }
         ensures joins { (held : List Hold) → Self.meaning.holds self.old held → IfOk result (λ begun. IfSome begun (λ job.
             JoinsChoice (Self.meaning.lists self.old) job.level job.pin.blocks)) }
-        ensures blocks { IsTrue (Self.meaning.tells self.new) → IfOk result (λ begun. IfSome begun (λ job. (v : View) →
-            Self.meaning.knows self.new v → AreBlocks (Self.meaning.shows self.new) job.pin.blocks)) };
+        ensures blocks { IsTrue (Self.meaning.tells self.new) → IfOk result (λ begun. IfSome begun (λ job.
+            (v : View) → Self.meaning.knows self.new v → AreBlocks (Self.meaning.shows self.new) job.pin.blocks)) };
 
     /// Lists a compaction's block, which its file holds and the information describes, in the place of those that it joins. The job
     /// is spent, refused or not.
