@@ -49,6 +49,7 @@ mod PortEvents
 pub mod LogSteps
 mod LooseFiles
 mod Spare
+mod PinnedFiles
 mod ReclaimImages
 mod ReclaimStates
 mod ReclaimEvents

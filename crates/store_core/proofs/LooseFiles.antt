@@ -21,11 +21,11 @@ use Rattle.block_list.specs.declared.body.SegmentRef.{SegmentRef}
 use Rattle.block_list.specs.declared.body.ListBody.{ListBody}
 use Rattle.store_model.specs.History.{History, count_of}
 use Rattle.store_model.specs.State.{Block}
-use Rattle.store_images.specs.Stored.{StoreHolds, ImageStores, ImageStandsFor, IsTidy, KeepsStored, ref_of, named_files, next_file_of, stored_rows, first_number}
+use Rattle.store_images.specs.Stored.{StoreHolds, ImageStores, ImageStandsFor, KeepsStored, ref_of, named_files, next_file_of, stored_rows, first_number}
 use Rattle.store_images.specs.Stored.ImageStores.{vacant, filled}
 use Rattle.store_images.proofs.Lists.{in_cons, not_in_nil, in_map}
 use Rattle.store_images.proofs.Logs.{log_same}
-use Rattle.store_images.proofs.Keeping.{slots_same, blocks_same, rules_in, given_out, segment_named, block_named, one_list, keeps_same, keeps_then}
+use Rattle.store_images.proofs.Keeping.{slots_same, blocks_same, rules_in, given_out, one_list, keeps_same, keeps_then}
 use Rattle.store_core.specs.Loose.{next_without, without_loose, list_after, used_files, AreUnused, OthersStay}
 
 -- ---- loose files are neither segments nor blocks

@@ -1,14 +1,16 @@
 //! Loose files are emptied, and the list is committed without them.
 
-ghost use Rattle.std.specs.Prelude.{◌≡◌, not, filter, IfOk};
-ghost use Rattle.std.specs.List.{Contains};
+ghost use Rattle.std.specs.Prelude.{◌≡◌, ◌++◌, IfOk, OnOk};
 ghost use Rattle.block_list.specs.Body.{MeetsRules};
 ghost use Rattle.block_list.specs.Commit.{IsListText};
 ghost use Rattle.store_model.specs.Event.Event.{Reclaim};
+ghost use Rattle.store_state.specs.Loose.{compaction_part, flush_part};
 ghost use Rattle.store_state.specs.Replies.{reclaim_reply};
 ghost use Rattle.store_core.specs.Events.{Did};
+ghost use Rattle.store_core.specs.Jobs.{files_of_compaction, files_of_flush};
 ghost use Rattle.store_core.specs.NextList.{list_kept, IsParted};
 
+use crate::jobs::Jobs;
 use crate::loose::commit_without;
 use crate::pins::pinned_files;
 use crate::state::CoreState;
@@ -17,7 +19,7 @@ use block_list::{BlockRef, ListBody, PreparedList, SegmentRef, prepare_any};
 use disk_model::Device;
 use span_types::{Memory, Seq};
 use std::alloc::Global;
-use store_state::{ReclaimError, part_loose};
+use store_state::{FlushFiles, ReclaimError, part_loose};
 
 impl<D: Device> Core<D> {
     /// Empties the loose files that no pin names, and answers how many. With none it makes no device call.
@@ -70,15 +72,7 @@ impl CoreState {
             IsListText next.1 (list_kept self.now.list self.now.jobs kept.now)) }
     {
         let (blocks, segments) = copy_used(alloc, &self.list)?;
-        let mut loose = Vec::new(alloc);
-        loose.extend_from_slice(kept)?;
-        if let Some(files) = self.jobs.flush_files() {
-            loose.push(files.block)?;
-            loose.push(files.segment)?;
-        }
-        if let Some(file) = self.jobs.compact_file() {
-            loose.push(file)?;
-        }
+        let loose = files_named(alloc, kept, &self.jobs)?;
         let list = ListBody {
             generation: self.list.generation.wrapping_add(1),
             next_file: self.jobs.next_file,
@@ -102,4 +96,37 @@ fn copy_used(alloc: Global, list: &ListBody) -> Result<(Vec<BlockRef>, Vec<Segme
     let mut segments = Vec::new(alloc);
     segments.extend_from_slice(list.segments.as_slice())?;
     Ok((blocks, segments))
+}
+
+// These loose files, and behind them those of open jobs.
+fn files_named(alloc: Global, kept: &[u32], jobs: &Jobs) -> Result<Vec<u32>, Memory>
+    ensures { IfOk result (λ files. files.items ≡
+        (kept.now ++ files_of_flush jobs.now.flush) ++ files_of_compaction jobs.now.compaction) }
+{
+    let mut files = Vec::new(alloc);
+    files.extend_from_slice(kept)?;
+    add_flush(&mut files, jobs.flush_files())?;
+    add_compaction(&mut files, jobs.compact_file())?;
+    Ok(files)
+}
+
+fn add_flush(files: &mut Vec<u32>, flush: Option<FlushFiles>) -> Result<(), Memory>
+    ensures { OnOk result (files.new.items ≡ files.old.items ++ flush_part flush) }
+{
+    let Some(flush) = flush else {
+        return Ok(());
+    };
+    files.push(flush.block)?;
+    files.push(flush.segment)?;
+    Ok(())
+}
+
+fn add_compaction(files: &mut Vec<u32>, compaction: Option<u32>) -> Result<(), Memory>
+    ensures { OnOk result (files.new.items ≡ files.old.items ++ compaction_part compaction) }
+{
+    let Some(file) = compaction else {
+        return Ok(());
+    };
+    files.push(file)?;
+    Ok(())
 }

@@ -1,6 +1,4 @@
-use Rattle.std.proofs.Common.{◌≡◌, ◌<◌, ◌≤◌, ◌+◌, ◌*◌, ◌%◌, ℕ, IsTrue, List, Some, length, refl, sym, ◌∙◌, subst, arith}
-use Rattle.std.specs.List.{Contains}
-use Rattle.disk_model.specs.Images.{bytes_of}
+use Rattle.std.proofs.Common.{IsTrue, Some, sym, ◌∙◌, subst, arith}
 use Rattle.block_list.specs.Commit.{slot_of}
 use Rattle.block_list.proofs.ReadyLemmas.{can_lay}
 use Rattle.store_core.specs.Loose.{next_with}

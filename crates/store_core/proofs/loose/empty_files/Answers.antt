@@ -1,5 +1,4 @@
-use Rattle.std.proofs.Common.{◌≡◌, ◌<◌, ◌≤◌, ◌+◌, ℕ, IsTrue, List, Some, length, get_or, refl, sym, ◌∙◌, subst, arith}
-use Rattle.std.specs.List.{Contains}
+use Rattle.std.proofs.Common.{◌<◌, IsTrue, length, get_or, refl, sym, ◌∙◌, subst, arith}
 use Rattle.std.proofs.lemmas.List.Elements.{Contains-get_or}
 use Rattle.disk_model.specs.Images.{bytes_of}
 use Rattle.store_core.proofs.LooseFiles.{emptied_then, nothing_done, others_same, others_emptied, empty_now, emptied_more, emptied_all}

@@ -1,13 +1,11 @@
-use Rattle.std.proofs.Common.{◌≡◌, ◌<◌, ◌≤◌, ◌+◌, ◌%◌, ℕ, IsTrue, List, [], Some, length, refl, sym, ◌∙◌, ap, subst, arith}
+use Rattle.std.proofs.Common.{◌≡◌, ℕ, IsTrue, List, Some, sym, ◌∙◌, subst, arith}
 use Rattle.std.specs.List.{Contains}
-use Rattle.disk_model.specs.Images.{bytes_of}
-use Rattle.disk_model.specs.Crash.{OnlyBytes}
 use Rattle.block_list.specs.Body.{MeetsRules}
 use Rattle.block_list.specs.Commit.{IsListText, slot_of}
 use Rattle.block_list.specs.Loading.{IsReady}
 use Rattle.block_list.specs.declared.body.ListBody.{ListBody}
 use Rattle.block_list.proofs.ReadyLemmas.{can_lay}
-use Rattle.store_core.specs.Loose.{next_without, without_loose, AreUnused, OthersStay}
+use Rattle.store_core.specs.Loose.{next_without, AreUnused, OthersStay}
 use Rattle.store_core.proofs.LooseFiles.{nothing_done, committed_then, others_same, others_committed, rules_without, loose_unused, left_as_is, left_without}
 use Rattle.store_core.proofs.loose.empty_loose.Goals as goal
 
