@@ -21,10 +21,11 @@ use disk_model::{Device, cut_through};
 use span_types::Failed;
 use std::alloc::Global;
 
-/// Empties the loose files of the list that counts, and commits the next list without them, which is answered. A list that names
-/// none stays, and no device call is made.
+/// Empties the loose files of the list that counts, and commits the next list without them, which is answered. A list
+/// that names none stays, and no device call is made.
 ///
-/// All memory is taken before the disk is changed. The files are made to last as empty ones before the list is committed.
+/// All memory is taken before the disk is changed. The files are made to last as empty ones before the list is
+/// committed.
 pub fn empty_loose<D: Device>(
     alloc: Global,
     disk: &mut D,
@@ -35,7 +36,8 @@ pub fn empty_loose<D: Device>(
     ensures list { IfOk result (λ next. next ≡ without_loose list) }
     // Whenever a crash comes, what is stored is kept, and what is left stays tidy.
     ensures kept { KeepsDisk D.Device.own disk.old disk.new }
-    ensures ready { IsTrue (D.tells disk.old) → IfOk result (λ next. IsReady (D.held disk.new) (D.may_leave disk.new) (Some next)) }
+    ensures ready { IsTrue (D.tells disk.old) →
+        IfOk result (λ next. IsReady (D.held disk.new) (D.may_leave disk.new) (Some next)) }
     ensures others { IsTrue (D.tells disk.old) → OnOk result
         (OthersStay list.loose (D.held disk.old) (D.held disk.new) (D.may_leave disk.old) (D.may_leave disk.new)) }
     ensures telling { D.tells disk.new ≡ D.tells disk.old }
@@ -84,8 +86,8 @@ fn take_loose(alloc: Global, list: ListBody) -> (ListBody, FileList)
     (next, loose)
 }
 
-/// Empties files that are neither segments nor blocks of the list which counts, one after another, makes that last, and commits the
-/// next list, which this text is.
+/// Empties files that are neither segments nor blocks of the list which counts, one after another, makes that last, and
+/// commits the next list, which this text is.
 pub(crate) fn commit_without<D: Device>(
     disk: &mut D,
     files: &[u32],
@@ -116,10 +118,12 @@ pub(crate) fn commit_without<D: Device>(
 
 // Empties files that are neither segments nor blocks of the list which counts, one after another, and makes that last.
 fn empty_files<D: Device>(disk: &mut D, files: &[u32]) -> Result<(), Failed>
-    ensures kept { IsTrue (D.tells disk.old) → (body : ListBody) → IsReady (D.held disk.old) (D.may_leave disk.old) (Some body)
-        → AreUnused body files.now → Run KeepsStored D.moment D.left_since D.may_leave disk.old disk.new }
-    ensures ready { IsTrue (D.tells disk.old) → (body : ListBody) → IsReady (D.held disk.old) (D.may_leave disk.old) (Some body)
-        → AreUnused body files.now → IsReady (D.held disk.new) (D.may_leave disk.new) (Some body) }
+    ensures kept { IsTrue (D.tells disk.old) → (body : ListBody) →
+        IsReady (D.held disk.old) (D.may_leave disk.old) (Some body) → AreUnused body files.now →
+        Run KeepsStored D.moment D.left_since D.may_leave disk.old disk.new }
+    ensures ready { IsTrue (D.tells disk.old) → (body : ListBody) →
+        IsReady (D.held disk.old) (D.may_leave disk.old) (Some body) → AreUnused body files.now →
+        IsReady (D.held disk.new) (D.may_leave disk.new) (Some body) }
     ensures emptied { IsTrue (D.tells disk.old) → OnOk result ((file : ℕ) → Contains files.now file
         → OnlyBytes file [] (D.may_leave disk.new)) }
     ensures others { IsTrue (D.tells disk.old) →

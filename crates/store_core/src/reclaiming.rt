@@ -24,8 +24,8 @@ use store_state::{FlushFiles, ReclaimError, part_loose};
 impl<D: Device> Core<D> {
     /// Empties the loose files that no pin names, and answers how many. With none it makes no device call.
     ///
-    /// All memory is taken before the disk is changed. The files are made to last as empty ones before the list is committed
-    /// without them. After `Fault` the store is read-only, and the files stay loose in memory.
+    /// All memory is taken before the disk is changed. The files are made to last as empty ones before the list is
+    /// committed without them. After `Fault` the store is read-only, and the files stay loose in memory.
     pub fn reclaim(&mut self) -> Result<u64, ReclaimError>
         ensures { Did D.Device.own self.old Reclaim (reclaim_reply result) self.new }
     {
@@ -55,7 +55,8 @@ impl<D: Device> Core<D> {
 impl CoreState {
     // The loose files that pins name, and the others.
     fn part_files(&self, alloc: Global) -> Result<(Vec<u32>, Vec<u32>), Memory>
-        ensures { IfOk result (λ parts. IsParted self.now.pins.items self.now.jobs.loose.items parts.0.items parts.1.items) }
+        ensures { IfOk result (λ parts.
+            IsParted self.now.pins.items self.now.jobs.loose.items parts.0.items parts.1.items) }
     {
         let pinned = pinned_files(alloc, self.pins.as_slice())?;
         let loose = self.jobs.loose.as_slice();
@@ -110,6 +111,7 @@ fn files_named(alloc: Global, kept: &[u32], jobs: &Jobs) -> Result<Vec<u32>, Mem
     Ok(files)
 }
 
+// The files of a flush that is open, behind these ones.
 fn add_flush(files: &mut Vec<u32>, flush: Option<FlushFiles>) -> Result<(), Memory>
     ensures { OnOk result (files.new.items ≡ files.old.items ++ flush_part flush) }
 {
@@ -121,6 +123,7 @@ fn add_flush(files: &mut Vec<u32>, flush: Option<FlushFiles>) -> Result<(), Memo
     Ok(())
 }
 
+// The file of a compaction that is open, behind these ones.
 fn add_compaction(files: &mut Vec<u32>, compaction: Option<u32>) -> Result<(), Memory>
     ensures { OnOk result (files.new.items ≡ files.old.items ++ compaction_part compaction) }
 {
