@@ -198,9 +198,9 @@ fits_first meaning job port is_open start few empty = record {
 
 -- A page that was read, of a job that goes on.
 pub fits_turned : {P : Type 0} (meaning : Meaning P) (job : CompactJob) (parts : List (List Row)) (pages : ℕ) (bytes : List ℕ) (after : Task) (port : P) → Sizes → Turned job parts pages bytes after
-    → IsOpen meaning port (compact_of job) → job.out.written ≡ 0 → AreFew job.level job.pin.blocks → length parts < length job.pin.blocks → AreCounted job.pin.blocks parts → HasPages job parts pages
+    → IsOpen meaning port (compact_of job) → job.out.written ≡ 0 → AreFew job.level job.pin.blocks → length parts < length job.pin.blocks → AreCounted job.pin.blocks parts
     → (IsTrue (meaning.tells port) → ShowsRead (meaning.shows port) job parts pages bytes) → Fits meaning after port
-fits_turned meaning job parts pages bytes after port sizes (MorePages info infos left more) is_open start few low counted upper told = record {
+fits_turned meaning job parts pages bytes after port sizes (MorePages info infos left more) is_open start few low counted told = record {
   is_open = is_open;
   at_start = start;
   few = few;
@@ -209,9 +209,9 @@ fits_turned meaning job parts pages bytes after port sizes (MorePages info infos
   page = subst (λ (l : List InfoParts). HasPage l pages) (sym left) more;
   told = told;
 }
-fits_turned meaning job parts pages bytes after port sizes Starved is_open start few low counted upper told = is_open
-fits_turned meaning job parts pages bytes after port sizes (Malformed info infos at left all e) is_open start few low counted upper told = is_open
-fits_turned meaning job parts pages bytes after port sizes (NextBlock info infos rows left all e some count held) is_open start few low counted upper told =
+fits_turned meaning job parts pages bytes after port sizes Starved is_open start few low counted told = is_open
+fits_turned meaning job parts pages bytes after port sizes (Malformed info infos at left all e) is_open start few low counted told = is_open
+fits_turned meaning job parts pages bytes after port sizes (NextBlock info infos rows left all e some count held) is_open start few low counted told =
     let size = length_push parts rows in
     record {
       is_open = is_open;
@@ -272,7 +272,7 @@ pub page_fits : {P : Type 0} (meaning : Meaning P) (old new : P) (job : CompactJ
     → (IsTrue (meaning.tells old) → page ≡ page_of (meaning.shows old info.file) pages) → Turned job parts (pages + 1) (bytes ++ page) after → Fits meaning after new
 page_fits meaning old new job parts pages bytes page info infos after sizes is low called left gives turned =
     fits_turned meaning job parts (pages + 1) (bytes ++ page) after new sizes turned (stays_open meaning old new _ _ (compact_of job) called is.is_open refl) is.at_start is.few low is.counted
-    (has_page_more job parts pages info infos left is.page) (told_behind meaning job parts pages bytes page info infos old new is called left gives)
+    (told_behind meaning job parts pages bytes page info infos old new is called left gives)
 
 pub page_found : {P : Type 0} (meaning : Meaning P) (old new : P) (job : CompactJob) (parts : List (List Row)) (pages : ℕ) (bytes page : List ℕ) (info : InfoParts) (infos : List InfoParts) (after : Task) → Sizes
     → IsReading meaning job parts pages bytes old → Called meaning old (ReadPage job.pin.number info.file pages) (Page page) new → blocks_left job parts ≡ info ∷ infos
