@@ -5,7 +5,7 @@ use Rattle.std.proofs.lemmas.Bool.{eq-eqb, eqb-true}
 use Rattle.std.proofs.lemmas.List.{drop-drop, length-append, length-drop, take_all, take-append-le}
 use Rattle.span_types.specs.declared.spans.Row.{Row}
 use Rattle.block_info.specs.InfoParts.{InfoParts}
-use Rattle.block_format.specs.Blocks.{BlockHasInfo, index_page_of}
+use Rattle.block_format.specs.Blocks.{BlockHasInfo, BlockHolds, index_page_of}
 use Rattle.block_format.specs.Headers.{header_pages}
 use Rattle.block_read.specs.Answers.{made_of}
 use Rattle.block_read.specs.BlockReadings.{block_at, listed_at, unless_not}
@@ -14,7 +14,7 @@ use Rattle.block_read.proofs.BlockBoth.{block_again}
 use Rattle.store_model.specs.State.{is_among}
 use Rattle.store_state.specs.Given.{info_files}
 use Rattle.store_state.specs.Shown.{rows_of}
-use Rattle.store_state.specs.Written.{AreBlocksOf, page_of}
+use Rattle.store_state.specs.Written.{AreBlocksOf, HoldRows, page_of}
 use Rattle.flusher.proofs.TaskLaws.{itself}
 use Rattle.flusher.proofs.TaskLaws.{take_more as take_twice}
 use Rattle.compactor.specs.Rounds.{pages_of, rows_at}
@@ -63,7 +63,7 @@ page_behind file bytes page pages total size low begins is =
     ∙ take_twice (4096 * pages) 4096 file ∙ ap (λ (k : ℕ). take k file) next
 
 -- pages within a file are its first bytes
-within_file : (file : List ℕ) (total pages : ℕ) → length file ≡ 4096 * total → pages ≤ total → first_pages file pages ≡ take (4096 * pages) file
+pub within_file : (file : List ℕ) (total pages : ℕ) → length file ≡ 4096 * total → pages ≤ total → first_pages file pages ≡ take (4096 * pages) file
 within_file file total zero size low = refl
 within_file file total (suc pages) size low =
     page_behind file (first_pages file pages) (page_of file pages) pages total size (omega (arith, low)) (within_file file total pages size (omega (arith, low))) refl
@@ -116,6 +116,26 @@ part_at shows (suc n) (i ∷ is) (p ∷ ps) info rest are e =
     let low = inner.there in
     record { there = omega (arith, low); has = inner.has }
 
+-- the rows that the file of the block at a place holds
+pub record HasPart (shows : ℕ → List ℕ) (all : List (List Row)) (n : ℕ) (info : InfoParts) : Type 0 where
+  pub there : n < length all
+  pub holds : BlockHolds (shows info.file) (get_or all n [])
+
+pub part_held : (shows : ℕ → List ℕ) (n : ℕ) (infos : List InfoParts) (all : List (List Row)) (info : InfoParts) (rest : List InfoParts) → HoldRows shows (info_files infos) all → drop n infos ≡ info ∷ rest
+    → HasPart shows all n info
+part_held shows zero [] all info rest hold e = absurd (no_first info rest e)
+part_held shows zero (i ∷ is) [] info rest hold e = absurd hold
+part_held shows zero (i ∷ is) (p ∷ ps) info rest hold e = record {
+  there = omega arith;
+  holds = subst (λ (x : InfoParts). BlockHolds (shows x.file) p) (same_first i info is rest e) hold.0;
+}
+part_held shows (suc n) [] all info rest hold e = absurd (no_first info rest e)
+part_held shows (suc n) (i ∷ is) [] info rest hold e = absurd hold
+part_held shows (suc n) (i ∷ is) (p ∷ ps) info rest hold e =
+    let inner = part_held shows n is ps info rest hold.1 e in
+    let low = inner.there in
+    record { there = omega (arith, low); holds = inner.holds }
+
 pub among_blocks : (n : ℕ) (infos : List InfoParts) (info : InfoParts) (rest : List InfoParts) → drop n infos ≡ info ∷ rest → is_among info.file (info_files infos) ≡ true
 among_blocks zero [] info rest e = absurd (no_first info rest e)
 among_blocks zero (i ∷ is) info rest e =
@@ -123,11 +143,11 @@ among_blocks zero (i ∷ is) info rest e =
 among_blocks (suc n) [] info rest e = absurd (no_first info rest e)
 among_blocks (suc n) (i ∷ is) info rest e = or_later (eqb i.file info.file) (is_among info.file (info_files is)) (among_blocks n is info rest e)
 
-pub as_many : (shows : ℕ → List ℕ) (infos : List InfoParts) (all : List (List Row)) → AreBlocksOf shows infos all → length all ≡ length infos
-as_many shows [] [] are = refl
-as_many shows [] (p ∷ ps) are = absurd are
-as_many shows (i ∷ is) [] are = absurd are
-as_many shows (i ∷ is) (p ∷ ps) are = ap suc (as_many shows is ps are.1)
+pub as_many : (shows : ℕ → List ℕ) (infos : List InfoParts) (all : List (List Row)) → HoldRows shows (info_files infos) all → length all ≡ length infos
+as_many shows [] [] hold = refl
+as_many shows [] (p ∷ ps) hold = absurd hold
+as_many shows (i ∷ is) [] hold = absurd hold
+as_many shows (i ∷ is) (p ∷ ps) hold = ap suc (as_many shows is ps hold.1)
 
 -- ---- files that stay
 
@@ -147,6 +167,15 @@ blocks_stay old new (i ∷ is) [] stay are = are
 blocks_stay old new (i ∷ is) (p ∷ ps) stay are = (
   subst (λ (b : List ℕ). BlockHasInfo i b p) (sym (first_stays old new i.file (info_files is) stay)) are.0,
   blocks_stay old new is ps (rest_stays old new i.file (info_files is) stay) are.1,
+)
+
+pub rows_stay : (old new : ℕ → List ℕ) (infos : List InfoParts) (parts : List (List Row)) → StaySame old new (info_files infos) → HoldRows old (info_files infos) parts → HoldRows new (info_files infos) parts
+rows_stay old new [] [] stay hold = tt
+rows_stay old new [] (p ∷ ps) stay hold = hold
+rows_stay old new (i ∷ is) [] stay hold = hold
+rows_stay old new (i ∷ is) (p ∷ ps) stay hold = (
+  subst (λ (b : List ℕ). BlockHolds b p) (sym (first_stays old new i.file (info_files is) stay)) hold.0,
+  rows_stay old new is ps (rest_stays old new i.file (info_files is) stay) hold.1,
 )
 
 pub begins_stays : (old new : ℕ → List ℕ) (n : ℕ) (infos : List InfoParts) (pages : ℕ) (bytes : List ℕ) → StaySame old new (info_files infos) → BeginsWith old (drop n infos) pages bytes → BeginsWith new (drop n infos) pages bytes

@@ -1,4 +1,5 @@
 mod BlockLaws
+mod Prefixes
 mod ReadLaws
 mod BuildLaws
 mod WriteLaws

@@ -27,11 +27,12 @@ use Rattle.store_state.proofs.HoldLaws.{stays_open}
 use Rattle.compactor.specs.Rounds.{Leads, pages_of, rows_at}
 use Rattle.compactor.specs.Rounds.{Stage as stage}
 use Rattle.compactor.specs.Rounds.Leads.{begun, read, unread, block, no_block, starved}
-use Rattle.compactor.specs.Phases.{BeginsBlock, OfFirst, Turned, unread_cause}
+use Rattle.compactor.specs.Phases.{OfFirst, Turned, unread_cause}
 use Rattle.compactor.specs.Phases.Turned.{MorePages, Starved, Malformed, NextBlock}
-use Rattle.compactor.specs.Tasks.{AreCounted, BeginsWith, FindsBlocks, Fits, HasPage, IsReading, OneEvent, ShowsRead, Task, blocks_left, job_of, stage_of, steps_left}
+use Rattle.compactor.specs.Tasks.{AreCounted, BeginsWith, FindsBlocks, Fits, HasPage, IsReading, OneEvent, ShowsRead, Task, blocks_left, first_pages, job_of, stage_of, steps_left}
 use Rattle.compactor.specs.Tasks.Task.{Fresh, Reading, Failing}
-use Rattle.compactor.proofs.BlockLaws.{Sizes, StaySame, apart_block, apart_more, begins_none, begins_stays, blocks_stay, counted_more, counted_none, drop_next, first_stays, has_first_page, page_more, part_at, rest_stays, whole_rows}
+use Rattle.compactor.proofs.BlockLaws.{Sizes, StaySame, apart_block, apart_more, begins_none, begins_stays, blocks_stay, counted_more, counted_none, drop_next, first_stays, has_first_page, page_more, part_at, part_held, rest_stays, rows_stay, whole_rows}
+use Rattle.compactor.proofs.Prefixes.{same_rows}
 
 next_left : (job : CompactJob) (parts : List (List Row)) (rows : List Row) (info : InfoParts) (infos : List InfoParts) → blocks_left job parts ≡ info ∷ infos → blocks_left job (parts ++ rows ∷ []) ≡ infos
 next_left job parts rows info infos left = ap (λ (k : ℕ). drop k job.pin.blocks) (length_push parts rows) ∙ drop_next (length parts) job.pin.blocks info infos left
@@ -44,7 +45,7 @@ turned_leads job parts pages bytes after (MorePages info infos left more) calls 
 turned_leads job parts pages bytes after Starved calls round h = starved (job_of job) parts (blocks_left job parts) pages bytes h
 turned_leads job parts pages bytes after (Malformed info infos at left all e) calls round h =
     subst (λ (l : List InfoParts). Leads (stage.Reading (job_of job) parts l pages bytes) calls round) (sym left) (no_block (job_of job) parts info infos pages bytes at all e h)
-turned_leads job parts pages bytes after (NextBlock info infos rows left all e some count marked) calls round h =
+turned_leads job parts pages bytes after (NextBlock info infos rows left all e some count held) calls round h =
     subst (λ (l : List InfoParts). Leads (stage.Reading (job_of job) parts l pages bytes) calls round) (sym left)
     (block (job_of job) parts info infos pages bytes rows all e
     (subst (λ (l : List InfoParts). Leads (stage.Reading (job_of job) (parts ++ rows ∷ []) l 0 []) calls round) (next_left job parts rows info infos left) h))
@@ -74,7 +75,7 @@ pub turned_left : (job : CompactJob) (parts : List (List Row)) (pages : ℕ) (by
 turned_left job parts pages bytes after (MorePages info infos left more) near low = omega arith
 turned_left job parts pages bytes after Starved near low = omega arith
 turned_left job parts pages bytes after (Malformed info infos at left all e) near low = omega arith
-turned_left job parts pages bytes after (NextBlock info infos rows left all e some count marked) near low = (let size = length_push parts rows in omega (arith, size, near, low))
+turned_left job parts pages bytes after (NextBlock info infos rows left all e some count held) near low = (let size = length_push parts rows in omega (arith, size, near, low))
 
 -- ---- the first block that isn't read
 
@@ -99,15 +100,30 @@ page_low infos info rest pages is h = subst (λ (l : List InfoParts). HasPage l 
 
 -- ---- what is told
 
+-- the bytes begin as those of a block do
+abbrev BeginsBlock : List ℕ → Type 0
+BeginsBlock bytes = (rest : List ℕ) × (bytes ≡ 84 ∷ rest)
+
+header_begins : (header : Header) (front : List ℕ) → HeaderHolds front header → BeginsBlock front
+unfolding counts_bytes
+header_begins header front holds = (drop 1 (header_bytes header), holds.bytes_are)
+
+front_begins : (bytes front rest : List ℕ) → bytes ≡ front ++ rest → BeginsBlock front → BeginsBlock bytes
+front_begins bytes front rest is begins = (begins.0 ++ rest, is ∙ ap (λ (f : List ℕ). f ++ rest) begins.1)
+
+-- a block begins as its header does
+begins_block : (header : Header) (bytes : List ℕ) (rows : List Row) → BlockHasHeader header bytes rows → BeginsBlock bytes
+begins_block header bytes rows has = front_begins bytes has.front _ has.bytes_are (header_begins header has.front has.header_holds)
+
 told_first : (shows : ℕ → List ℕ) (job : CompactJob) → shows job.out.file ≡ [] → ShowsRead shows job [] 0 []
-told_first shows job empty = record { so_far = λ all are. refl; begins = begins_none shows job.pin.blocks; apart = tt; empty = empty }
+told_first shows job empty = record { so_far = λ all hold. refl; begins = begins_none shows job.pin.blocks; apart = tt; empty = empty }
 
 told_stays : (old new : ℕ → List ℕ) (job : CompactJob) (parts : List (List Row)) (pages : ℕ) (bytes : List ℕ) → StaySame old new (job.out.file ∷ info_files job.pin.blocks) → ShowsRead old job parts pages bytes
     → ShowsRead new job parts pages bytes
 told_stays old new job parts pages bytes stay told =
     let rest = rest_stays old new job.out.file (info_files job.pin.blocks) stay in
     record {
-      so_far = λ all are. told.so_far all (blocks_stay new old job.pin.blocks all (λ file among. sym (rest file among)) are);
+      so_far = λ all hold. told.so_far all (rows_stay new old job.pin.blocks all (λ file among. sym (rest file among)) hold);
       begins = begins_stays old new (length parts) job.pin.blocks pages bytes rest told.begins;
       apart = told.apart;
       empty = first_stays old new job.out.file (info_files job.pin.blocks) stay ∙ told.empty;
@@ -137,22 +153,22 @@ told_rows sizes shows job parts pages bytes info infos left enough few told all 
     (subst (λ (l : List InfoParts). BeginsWith shows l pages bytes) left told.begins)
 
 told_next : Sizes → (shows : ℕ → List ℕ) (job : CompactJob) (parts : List (List Row)) (pages : ℕ) (bytes : List ℕ) (info : InfoParts) (infos : List InfoParts) (rows : List Row) → blocks_left job parts ≡ info ∷ infos
-    → pages_of info ≤ pages → HasPages job parts pages → rows_at info bytes ≡ Ok rows → BeginsBlock bytes → ShowsRead shows job parts pages bytes → ShowsRead shows job (parts ++ rows ∷ []) 0 []
-told_next sizes shows job parts pages bytes info infos rows left enough few e marked told = record {
-  so_far = λ all are.
-      let part = part_at shows (length parts) job.pin.blocks all info infos are left in
-      let same : rows ≡ get_or all (length parts) [] = equal rows (get_or all (length parts) []) (sym e ∙ told_rows sizes shows job parts pages bytes info infos left enough few told all are) in
-      ap (λ (x : List Row). parts ++ x ∷ []) same ∙ ap (λ (ps : List (List Row)). ps ++ get_or all (length parts) [] ∷ []) (told.so_far all are)
-      ∙ sym (take_more all (length parts) [] part.there) ∙ ap (λ (k : ℕ). take k all) (sym (length_push parts rows));
-  begins = begins_none shows (blocks_left job (parts ++ rows ∷ []));
-  apart = apart_more job.out.file (length parts) (length (parts ++ rows ∷ [])) job.pin.blocks info infos left told.apart
-      (apart_block shows job.out.file info pages bytes marked.0 told.empty (subst (λ (l : List InfoParts). BeginsWith shows l pages bytes) left told.begins) marked.1)
-      (length_push parts rows);
-  empty = told.empty;
-}
-  where
-    equal : (xs ys : List Row) → (let a : Result (List Row) ℕ = Ok xs in let b : Result (List Row) ℕ = Ok ys in a ≡ b) → xs ≡ ys
-    equal xs ys e = cc
+    → BlockHolds bytes rows → ShowsRead shows job parts pages bytes → ShowsRead shows job (parts ++ rows ∷ []) 0 []
+told_next sizes shows job parts pages bytes info infos rows left held told =
+    let begins : bytes ≡ first_pages (shows info.file) pages = subst (λ (l : List InfoParts). BeginsWith shows l pages bytes) left told.begins in
+    let marked = begins_block held.header bytes rows held.parts in
+    record {
+      so_far = λ all hold.
+          let part = part_held shows (length parts) job.pin.blocks all info infos hold left in
+          let same : rows ≡ get_or all (length parts) [] =
+          same_rows sizes (shows info.file) pages rows (get_or all (length parts) []) (subst (λ (l : List ℕ). BlockHolds l rows) begins held) part.holds in
+          ap (λ (x : List Row). parts ++ x ∷ []) same ∙ ap (λ (ps : List (List Row)). ps ++ get_or all (length parts) [] ∷ []) (told.so_far all hold)
+          ∙ sym (take_more all (length parts) [] part.there) ∙ ap (λ (k : ℕ). take k all) (sym (length_push parts rows));
+      begins = begins_none shows (blocks_left job (parts ++ rows ∷ []));
+      apart = apart_more job.out.file (length parts) (length (parts ++ rows ∷ [])) job.pin.blocks info infos left told.apart
+          (apart_block shows job.out.file info pages bytes marked.0 told.empty begins marked.1) (length_push parts rows);
+      empty = told.empty;
+    }
 
 told_whole : Sizes → (shows : ℕ → List ℕ) (job : CompactJob) (parts : List (List Row)) (pages : ℕ) (bytes : List ℕ) (info : InfoParts) (infos : List InfoParts) (at : ℕ) → blocks_left job parts ≡ info ∷ infos
     → pages_of info ≤ pages → HasPages job parts pages → rows_at info bytes ≡ Err at → ShowsRead shows job parts pages bytes → AreBlocks shows job.pin.blocks → ⊥
@@ -182,9 +198,9 @@ fits_first meaning job port is_open start few empty = record {
 
 -- A page that was read, of a job that goes on.
 pub fits_turned : {P : Type 0} (meaning : Meaning P) (job : CompactJob) (parts : List (List Row)) (pages : ℕ) (bytes : List ℕ) (after : Task) (port : P) → Sizes → Turned job parts pages bytes after
-    → IsOpen meaning port (compact_of job) → job.out.written ≡ 0 → AreFew job.level job.pin.blocks → length parts < length job.pin.blocks → AreCounted job.pin.blocks parts → HasPages job parts pages
+    → IsOpen meaning port (compact_of job) → job.out.written ≡ 0 → AreFew job.level job.pin.blocks → length parts < length job.pin.blocks → AreCounted job.pin.blocks parts
     → (IsTrue (meaning.tells port) → ShowsRead (meaning.shows port) job parts pages bytes) → Fits meaning after port
-fits_turned meaning job parts pages bytes after port sizes (MorePages info infos left more) is_open start few low counted upper told = record {
+fits_turned meaning job parts pages bytes after port sizes (MorePages info infos left more) is_open start few low counted told = record {
   is_open = is_open;
   at_start = start;
   few = few;
@@ -193,9 +209,9 @@ fits_turned meaning job parts pages bytes after port sizes (MorePages info infos
   page = subst (λ (l : List InfoParts). HasPage l pages) (sym left) more;
   told = told;
 }
-fits_turned meaning job parts pages bytes after port sizes Starved is_open start few low counted upper told = is_open
-fits_turned meaning job parts pages bytes after port sizes (Malformed info infos at left all e) is_open start few low counted upper told = is_open
-fits_turned meaning job parts pages bytes after port sizes (NextBlock info infos rows left all e some count marked) is_open start few low counted upper told =
+fits_turned meaning job parts pages bytes after port sizes Starved is_open start few low counted told = is_open
+fits_turned meaning job parts pages bytes after port sizes (Malformed info infos at left all e) is_open start few low counted told = is_open
+fits_turned meaning job parts pages bytes after port sizes (NextBlock info infos rows left all e some count held) is_open start few low counted told =
     let size = length_push parts rows in
     record {
       is_open = is_open;
@@ -204,7 +220,7 @@ fits_turned meaning job parts pages bytes after port sizes (NextBlock info infos
       within = omega (arith, size, low);
       counted = counted_more job.pin.blocks parts rows info infos counted left count some;
       page = has_first_page (blocks_left job (parts ++ rows ∷ []));
-      told = λ tells. told_next sizes (meaning.shows port) job parts pages bytes info infos rows left all upper e marked (told tells);
+      told = λ tells. told_next sizes (meaning.shows port) job parts pages bytes info infos rows left held (told tells);
     }
 
 -- A page that was read tells of no block that it is none, where they are blocks.
@@ -215,7 +231,7 @@ found_turned meaning job parts pages bytes after port sizes (MorePages info info
 found_turned meaning job parts pages bytes after port sizes Starved upper told are = λ tells. tt
 found_turned meaning job parts pages bytes after port sizes (Malformed info infos at left all e) upper told are =
     λ tells. told_whole sizes (meaning.shows port) job parts pages bytes info infos at left all upper e (told tells) (are tells)
-found_turned meaning job parts pages bytes after port sizes (NextBlock info infos rows left all e some count marked) upper told are = are
+found_turned meaning job parts pages bytes after port sizes (NextBlock info infos rows left all e some count held) upper told are = are
 
 -- what is told behind a page that was read
 pub told_behind : {P : Type 0} (meaning : Meaning P) (job : CompactJob) (parts : List (List Row)) (pages : ℕ) (bytes page : List ℕ) (info : InfoParts) (infos : List InfoParts) (old new : P)
@@ -256,7 +272,7 @@ pub page_fits : {P : Type 0} (meaning : Meaning P) (old new : P) (job : CompactJ
     → (IsTrue (meaning.tells old) → page ≡ page_of (meaning.shows old info.file) pages) → Turned job parts (pages + 1) (bytes ++ page) after → Fits meaning after new
 page_fits meaning old new job parts pages bytes page info infos after sizes is low called left gives turned =
     fits_turned meaning job parts (pages + 1) (bytes ++ page) after new sizes turned (stays_open meaning old new _ _ (compact_of job) called is.is_open refl) is.at_start is.few low is.counted
-    (has_page_more job parts pages info infos left is.page) (told_behind meaning job parts pages bytes page info infos old new is called left gives)
+    (told_behind meaning job parts pages bytes page info infos old new is called left gives)
 
 pub page_found : {P : Type 0} (meaning : Meaning P) (old new : P) (job : CompactJob) (parts : List (List Row)) (pages : ℕ) (bytes page : List ℕ) (info : InfoParts) (infos : List InfoParts) (after : Task) → Sizes
     → IsReading meaning job parts pages bytes old → Called meaning old (ReadPage job.pin.number info.file pages) (Page page) new → blocks_left job parts ≡ info ∷ infos
@@ -287,17 +303,6 @@ pub broke : (job : CompactJob) (parts : List (List Row)) (pages : ℕ) (bytes : 
     → Fails why (rows_at info bytes) → Turned job parts pages bytes (Failing job (unread_cause info.file why))
 broke job parts pages bytes info infos (breaks.At at) left all fails = Malformed info infos at left all fails
 broke job parts pages bytes info infos breaks.Memory left all fails = Starved
-
-header_begins : (header : Header) (front : List ℕ) → HeaderHolds front header → BeginsBlock front
-unfolding counts_bytes
-header_begins header front holds = (drop 1 (header_bytes header), holds.bytes_are)
-
-front_begins : (bytes front rest : List ℕ) → bytes ≡ front ++ rest → BeginsBlock front → BeginsBlock bytes
-front_begins bytes front rest is begins = (begins.0 ++ rest, is ∙ ap (λ (f : List ℕ). f ++ rest) begins.1)
-
--- a block begins as its header does
-pub begins_block : (header : Header) (bytes : List ℕ) (rows : List Row) → BlockHasHeader header bytes rows → BeginsBlock bytes
-begins_block header bytes rows has = front_begins bytes has.front _ has.bytes_are (header_begins header has.front has.header_holds)
 
 pub has_rows : (header : Header) (bytes : List ℕ) (rows : List Row) → BlockHasHeader header bytes rows → (BlockHolds bytes [] → ⊥) → 1 ≤ length rows
 has_rows header bytes [] has none = absurd (none (record { header = header; parts = has }))

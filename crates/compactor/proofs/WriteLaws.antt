@@ -35,7 +35,7 @@ use Rattle.compactor.specs.Rounds.{Stage as stage}
 use Rattle.compactor.specs.Rounds.Leads.{built, starved, written, unwritten, listed, unlisted, over}
 use Rattle.compactor.specs.Tasks.{AreApart, IsReading, IsWriting, OneEvent, ShowsRead, ShowsWriting, Task, blocks_left, job_of}
 use Rattle.compactor.specs.Tasks.Task.{Reading, Writing, Failing}
-use Rattle.compactor.proofs.BlockLaws.{as_many, blocks_stay, counts, some_rows}
+use Rattle.compactor.proofs.BlockLaws.{as_many, counts, rows_stay, some_rows}
 
 -- ---- the new block
 
@@ -62,7 +62,7 @@ can_join meaning job parts pages bytes port is whole =
 told_joined : (shows : ℕ → List ℕ) (job : CompactJob) (parts : List (List Row)) (pages : ℕ) (read bytes : List ℕ) → ShowsRead shows job parts pages read → length parts ≡ length job.pin.blocks → job.out.written ≡ 0
     → ShowsWriting shows job parts bytes
 told_joined shows job parts pages read bytes told each start = record {
-  their_rows = λ all are. (let many = as_many shows job.pin.blocks all are in sym (told.so_far all are ∙ take_all (length parts) all (omega (arith, each, many))));
+  their_rows = λ all hold. (let many = as_many shows job.pin.blocks all hold in sym (told.so_far all hold ∙ take_all (length parts) all (omega (arith, each, many))));
   apart = subst (λ (infos : List InfoParts). AreApart job.out.file infos) (take_all (length parts) job.pin.blocks (omega (arith, each))) told.apart;
   so_far = told.empty ∙ sym (ap (λ (n : ℕ). take n bytes) start);
 }
@@ -115,11 +115,11 @@ after_piece meaning old new job bytes info piece is called part within = record 
       let told = is.told before in
       let own = job.out.file in
       record {
-        their_rows = λ all are. told.their_rows all
-            (blocks_stay (meaning.shows new) (meaning.shows old) job.pin.blocks all
+        their_rows = λ all hold. told.their_rows all
+            (rows_stay (meaning.shows new) (meaning.shows old) job.pin.blocks all
             (λ file among. sym (apart_stay (meaning.shows old) (meaning.shows new) own piece job.pin.blocks file told.apart among
             (called.bytes before (compact_of job) is.is_open refl file (later (own == file) (is_among file (info_files job.pin.blocks)) among))))
-            are);
+            hold);
         apart = told.apart;
         so_far = called.bytes before (compact_of job) is.is_open refl own (ap (λ (t : Bool). t || is_among own (info_files job.pin.blocks)) (itself own))
             ∙ ap (λ (t : Bool). if t then meaning.shows old own ++ piece else meaning.shows old own) (itself own)

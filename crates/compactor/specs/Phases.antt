@@ -5,6 +5,7 @@ use Rattle.span_types.specs.declared.spans.Row.{Row}
 use Rattle.span_fields.specs.declared.breaks.Break.{Break}
 use Rattle.span_fields.specs.declared.breaks.Break.TheVariants as breaks
 use Rattle.block_info.specs.InfoParts.{InfoParts}
+use Rattle.block_format.specs.Blocks.{BlockHolds}
 use Rattle.store_state.specs.Made.{AreMade, Call}
 use Rattle.store_state.specs.Meaning.{Meaning}
 use Rattle.store_state.specs.declared.jobs.CompactJob.{CompactJob}
@@ -35,10 +36,6 @@ abbrev pub unread_cause : ℕ → Break → Refusal
 unread_cause file (breaks.At at) = NotBlock file at
 unread_cause file breaks.Memory = Memory
 
--- the bytes begin as those of a block do
-abbrev pub BeginsBlock : List ℕ → Type 0
-BeginsBlock bytes = (rest : List ℕ) × (bytes ≡ 84 ∷ rest)
-
 -- the same information for another file and level
 abbrev pub relabelled : ℕ → ℕ → InfoParts → InfoParts
 relabelled file level i = record {
@@ -63,7 +60,7 @@ pub data Turned (job : CompactJob) (parts : List (List Row)) (pages : ℕ) (byte
   Malformed : (info : InfoParts) (infos : List InfoParts) (at : ℕ) → blocks_left job parts ≡ info ∷ infos → pages_of info ≤ pages
       → rows_at info bytes ≡ Err at → Turned job parts pages bytes (Failing job (NotBlock info.file at))
   NextBlock : (info : InfoParts) (infos : List InfoParts) (rows : List Row) → blocks_left job parts ≡ info ∷ infos → pages_of info ≤ pages
-      → rows_at info bytes ≡ Ok rows → 1 ≤ length rows → length rows ≡ info.rows → BeginsBlock bytes
+      → rows_at info bytes ≡ Ok rows → 1 ≤ length rows → length rows ≡ info.rows → BlockHolds bytes rows
       → Turned job parts pages bytes (Reading job (parts ++ rows ∷ []) 0 [])
 
 -- A round came so far: these calls were made, and whatever leads on from where the task is leads, behind them, from the begin.

@@ -4,11 +4,11 @@ use Rattle.std.specs.List.{flat_map}
 use Rattle.span_types.specs.declared.spans.Row.{Row}
 use Rattle.block_info.specs.InfoParts.{InfoParts}
 use Rattle.store_model.specs.Holds.{Hold}
-use Rattle.store_state.specs.Given.{compact_of}
+use Rattle.store_state.specs.Given.{compact_of, info_files}
 use Rattle.store_state.specs.Made.{Call}
 use Rattle.store_state.specs.Meaning.{View, Meaning, Called, IsOpen}
 use Rattle.store_state.specs.Shown.{AreBlocks, AreFew}
-use Rattle.store_state.specs.Written.{AreBlocksOf, page_of}
+use Rattle.store_state.specs.Written.{HoldRows, page_of}
 use Rattle.store_state.specs.declared.jobs.CompactJob.{CompactJob}
 use Rattle.store_state.specs.declared.rounds.Refusal.{Refusal}
 use Rattle.store_state.specs.declared.rounds.Round.{Round}
@@ -70,10 +70,10 @@ abbrev pub AreApart : ℕ → List InfoParts → Type 0
 AreApart file [] = Unit {0}
 AreApart file (info ∷ infos) = ((file == info.file) ≡ false) × AreApart file infos
 
--- Where bytes are told: whatever blocks the files hold as their information describes them, these rows are those of the first ones,
--- and these bytes the pages of the next. The job's own file is empty, and no block is in it of those that were read.
+-- Where bytes are told: whatever blocks the files hold, these rows are those of the first ones, and these bytes the pages of the
+-- next. The job's own file is empty, and no block is in it of those that were read.
 pub record ShowsRead (shows : ℕ → List ℕ) (job : CompactJob) (parts : List (List Row)) (pages : ℕ) (bytes : List ℕ) : Type 0 where
-  pub so_far : (all : List (List Row)) → AreBlocksOf shows job.pin.blocks all → parts ≡ take (length parts) all
+  pub so_far : (all : List (List Row)) → HoldRows shows (info_files job.pin.blocks) all → parts ≡ take (length parts) all
   pub begins : BeginsWith shows (blocks_left job parts) pages bytes
   pub apart : AreApart job.out.file (take (length parts) job.pin.blocks)
   pub empty : shows job.out.file ≡ []
@@ -88,10 +88,10 @@ pub record IsReading {P : Type 0} (meaning : Meaning P) (job : CompactJob) (part
   pub page : HasPage (blocks_left job parts) pages
   pub told : IsTrue (meaning.tells port) → ShowsRead (meaning.shows port) job parts pages bytes
 
--- Where bytes are told: whatever blocks the files hold as their information describes them, these are their rows, and the job's own
--- file, in which none of them is, holds the first bytes of the new one, as many as were written.
+-- Where bytes are told: whatever blocks the files hold, these are their rows, and the job's own file, in which none of them is,
+-- holds the first bytes of the new one, as many as were written.
 pub record ShowsWriting (shows : ℕ → List ℕ) (job : CompactJob) (parts : List (List Row)) (bytes : List ℕ) : Type 0 where
-  pub their_rows : (all : List (List Row)) → AreBlocksOf shows job.pin.blocks all → all ≡ parts
+  pub their_rows : (others : List (List Row)) → HoldRows shows (info_files job.pin.blocks) others → others ≡ parts
   pub apart : AreApart job.out.file job.pin.blocks
   pub so_far : shows job.out.file ≡ take job.out.written bytes
 

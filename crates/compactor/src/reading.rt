@@ -3,8 +3,9 @@
 ghost use Rattle.std.specs.Prelude.{◌≡◌, ◌⊎◌, ◌+◌, ◌^◌, ◌++◌, [], ◌∷◌, ◌<◌, ◌≤◌, IfOk, drop, length};
 ghost use Rattle.byte_fields.specs.Reading.{AreBytes};
 ghost use Rattle.span_fields.specs.Breaks.{Answers};
+ghost use Rattle.block_format.specs.Blocks.{BlockHolds};
 ghost use Rattle.compactor.specs.Rounds.{pages_of, rows_at};
-ghost use Rattle.compactor.specs.Phases.{BeginsBlock, OfFirst, Turned, task_of, unread_cause};
+ghost use Rattle.compactor.specs.Phases.{OfFirst, Turned, task_of, unread_cause};
 ghost use Rattle.compactor.specs.Tasks.{HasPage, blocks_left};
 ghost use Rattle.compactor.specs.Tasks.Task.{Failing, Reading};
 ghost use Rattle.store_state.specs.declared.rounds.Refusal.TheVariants.{Memory};
@@ -121,7 +122,7 @@ fn block_rows(alloc: Global, bytes: &[u8], info: &BlockInfo) -> Result<Rows, Bre
     ensures answers { Answers (λ x. x) result (rows_at info.now bytes.now) }
     ensures some { IfOk result (λ rows. 1 ≤ length rows) }
     ensures counted { IfOk result (λ rows. length rows ≡ info.now.rows) }
-    ensures begins { IfOk result (λ rows. BeginsBlock bytes.now) }
+    ensures holds { IfOk result (λ rows. BlockHolds bytes.now rows) }
 {
     let found = block_of(alloc, bytes)?;
     read_block_is_held();

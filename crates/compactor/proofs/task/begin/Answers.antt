@@ -44,7 +44,7 @@ returns-in-Ok-Some-clause-fits g c =
     let o : Option CompactJob = c.in-Ok-Some.field-0 in
     let called = replied meaning old new o (Some j) c.in-Ok-Some.field-0-is c.in-Ok-Some.ensures.called in
     let joins : JoinsChoice (meaning.lists old) j.level j.pin.blocks =
-    known o j (λ (job : CompactJob). JoinsChoice (meaning.lists old) job.level job.pin.blocks) c.in-Ok-Some.field-0-is c.in-Ok-Some.ensures.joins in
+    known o j (λ (job : CompactJob). JoinsChoice (meaning.lists old) job.level job.pin.blocks) c.in-Ok-Some.field-0-is (c.in-Ok-Some.ensures.joins c.requires.0 c.requires.1) in
     subst (λ (t : Task). Fits meaning t new) (sym c.unread.ensures)
     (fits_first meaning j new
     (opens_new meaning old new BeginCompact (reply.Compacting j.out.number j.out.file j.level j.pin.number (info_files j.pin.blocks)) (compact_of j) called c.requires (zero, omega arith, refl))
@@ -86,6 +86,6 @@ returns-in-Ok-Some-clause-left g c =
     let meaning = g.P.LookPort.meaning in
     let j : CompactJob = c.in-Ok-Some.job in
     let joins : JoinsChoice (meaning.lists c.args.port.now) j.level j.pin.blocks =
-    known c.in-Ok-Some.field-0 j (λ (job : CompactJob). JoinsChoice (meaning.lists c.args.port.now) job.level job.pin.blocks) c.in-Ok-Some.field-0-is c.in-Ok-Some.ensures.joins in
+    known c.in-Ok-Some.field-0 j (λ (job : CompactJob). JoinsChoice (meaning.lists c.args.port.now) job.level job.pin.blocks) c.in-Ok-Some.field-0-is (c.in-Ok-Some.ensures.joins c.requires.0 c.requires.1) in
     let four : length j.pin.blocks ≤ 4 = (c.a_choice_is_few.ensures joins.0 j.level j.pin.blocks joins.1 joins.2).four in
     subst (λ (t : Task). steps_left t ≤ 6 * 2 ^ 64 + 4) (sym c.unread.ensures) (omega (arith, four))
