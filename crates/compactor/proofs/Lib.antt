@@ -1,4 +1,4 @@
-mod BlockLaws
+pub mod BlockLaws
 mod ReadLaws
 mod BuildLaws
 mod WriteLaws
