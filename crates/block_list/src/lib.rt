@@ -14,4 +14,4 @@ pub use committing::{commit, lay, open_gate};
 pub use error::ListError;
 pub use laws::{held_list_is_read, next_may_be_laid, size_of_text, stays_ready};
 pub use loading::{load, next_generation};
-pub use prepared::{PreparedList, prepare};
+pub use prepared::{PreparedList, prepare, prepare_any};

@@ -1,6 +1,6 @@
 //! A list in bytes, ready to be written.
 
-ghost use Rattle.std.specs.Prelude.{◌≡◌, ◌≤◌, ◌+◌, ◌*◌, ◌%◌, ◌++◌, ◌∷◌, [], length, vec_len, vec_capacity, IfOk};
+ghost use Rattle.std.specs.Prelude.{◌≡◌, ◌<◌, ◌≤◌, ◌+◌, ◌*◌, ◌^◌, ◌%◌, ◌++◌, ◌∷◌, [], length, vec_len, vec_capacity, IfOk};
 ghost use Rattle.std.specs.List.{flat_map};
 ghost use Rattle.byte_fields.specs.Spelling.{fixed32_bytes, fixed64_bytes};
 ghost use Rattle.block_list.specs.Commit.{IsListText};
@@ -10,6 +10,9 @@ use crate::{BlockRef, ListBody, SegmentRef};
 use span_types::Memory;
 use std::alloc::Global;
 use std::marker::Model;
+
+// A list doesn't name more files than there are numbers for.
+const MOST_ENTRIES: usize = 4_294_967_295;
 
 /// A list in bytes, as the slot of its generation gets it behind the gate.
 #[derive(Drop)]
@@ -28,11 +31,29 @@ impl Model for PreparedList {
 }
 
 /// A body in bytes.
+#[tactic(auto, using(crate::proofs::BodyLemmas::few_segments, crate::proofs::BodyLemmas::few_blocks, crate::proofs::BodyLemmas::few_loose))]
 pub fn prepare(alloc: Global, body: &ListBody) -> Result<PreparedList, Memory>
     requires { MeetsRules body.now }
     ensures text { IfOk result (λ list. IsListText list body.now) }
     ensures room { IfOk result (λ list. length list.text ≤ list.room) }
 {
+    let mut text = Vec::with_capacity(alloc, size_of(body))?;
+    fill(&mut text, body);
+    Ok(PreparedList {
+        generation: body.generation,
+        text,
+    })
+}
+
+/// A body in bytes, where it isn't known whether it meets the rules. One with more entries of a kind than there are numbers of
+/// files is refused for memory.
+pub fn prepare_any(alloc: Global, body: &ListBody) -> Result<PreparedList, Memory>
+    ensures { MeetsRules body.now → IfOk result (λ list. IsListText list body.now) }
+{
+    let (segments, blocks, loose) = (body.segments.len(), body.blocks.len(), body.loose.len());
+    if segments > MOST_ENTRIES || blocks > MOST_ENTRIES || loose > MOST_ENTRIES {
+        return Err(Memory);
+    }
     let mut text = Vec::with_capacity(alloc, size_of(body))?;
     fill(&mut text, body);
     Ok(PreparedList {
@@ -54,6 +75,7 @@ impl PreparedList {
     }
 
     /// Another body, in the room of this one. It takes no memory.
+    #[tactic(auto, using(crate::proofs::BodyLemmas::few_segments, crate::proofs::BodyLemmas::few_blocks, crate::proofs::BodyLemmas::few_loose))]
     pub fn refill(&mut self, body: &ListBody)
         requires rules { MeetsRules body.now }
         requires room { length (text_of body.now) ≤ self.old.room }
@@ -81,9 +103,10 @@ impl PreparedList {
 }
 
 /// How many bytes a body takes behind the gate.
-#[tactic(auto, using(crate::proofs::BodyLemmas::few_segments, crate::proofs::BodyLemmas::few_blocks, crate::proofs::BodyLemmas::few_loose))]
 fn size_of(body: &ListBody) -> usize
-    requires { MeetsRules body.now }
+    requires segments { length body.now.segments < 2 ^ 32 }
+    requires blocks { length body.now.blocks < 2 ^ 32 }
+    requires loose { length body.now.loose < 2 ^ 32 }
     ensures { result ≡ length (text_of body.now) }
 {
     29 + 12 * body.segments.len() + 9 * body.blocks.len() + 4 * body.loose.len()
@@ -91,7 +114,9 @@ fn size_of(body: &ListBody) -> usize
 
 /// Adds the bytes of a body. There is room for them.
 fn fill(text: &mut Vec<u8>, body: &ListBody)
-    requires rules { MeetsRules body.now }
+    requires segments { length body.now.segments < 2 ^ 32 }
+    requires blocks { length body.now.blocks < 2 ^ 32 }
+    requires loose { length body.now.loose < 2 ^ 32 }
     requires room { vec_len text.old + length (text_of body.now) ≤ vec_capacity text.old }
     ensures text { text.new.items ≡ text.old.items ++ text_of body.now }
     ensures room { vec_capacity text.old ≤ vec_capacity text.new }
@@ -103,9 +128,10 @@ fn fill(text: &mut Vec<u8>, body: &ListBody)
 }
 
 /// Adds the fixed fields of a body.
-#[tactic(auto, using(crate::proofs::BodyLemmas::few_segments, crate::proofs::BodyLemmas::few_blocks, crate::proofs::BodyLemmas::few_loose))]
 fn fill_head(text: &mut Vec<u8>, body: &ListBody)
-    requires rules { MeetsRules body.now }
+    requires segments { length body.now.segments < 2 ^ 32 }
+    requires blocks { length body.now.blocks < 2 ^ 32 }
+    requires loose { length body.now.loose < 2 ^ 32 }
     requires room { vec_len text.old + 29 ≤ vec_capacity text.old }
     ensures text { text.new.items ≡ text.old.items ++ head_bytes body.now }
     ensures len { vec_len text.new ≡ vec_len text.old + 29 }

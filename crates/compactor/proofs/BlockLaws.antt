@@ -18,7 +18,7 @@ use Rattle.store_state.specs.Written.{AreBlocksOf, page_of}
 use Rattle.flusher.proofs.TaskLaws.{itself}
 use Rattle.flusher.proofs.TaskLaws.{take_more as take_twice}
 use Rattle.compactor.specs.Rounds.{pages_of, rows_at}
-use Rattle.compactor.specs.Tasks.{AreApart, AreCounted, BeginsWith, HasPage}
+use Rattle.compactor.specs.Tasks.{AreApart, AreCounted, BeginsWith, HasPage, first_pages}
 
 -- what a law of reading blocks says
 abbrev pub Sizes : Type 0
@@ -51,14 +51,7 @@ rows_read info bytes rows has =
     let count : length rows ≡ info.rows = sym (ap (λ (i : InfoParts). i.rows) has.info_is) in
     ap (made_of (λ (b : Block). b.rows)) (listed bytes block info.rows count (block_again bytes has.header rows has.parts))
 
--- once its pages are all read, what was read is all of its file
-pub whole_rows : Sizes → (info : InfoParts) (file bytes : List ℕ) (rows : List Row) (pages : ℕ) → BlockHasInfo info file rows → pages_of info ≤ pages → bytes ≡ take (4096 * pages) file
-    → rows_at info bytes ≡ Ok rows
-whole_rows sizes info file bytes rows pages has all begins =
-    let size = sizes file rows info has in
-    ap (rows_at info) (begins ∙ take_all (4096 * pages) file (omega (arith, size, all))) ∙ rows_read info file rows has
-
-pub page_behind : (file bytes page : List ℕ) (pages total : ℕ) → length file ≡ 4096 * total → pages < total → bytes ≡ take (4096 * pages) file → page ≡ page_of file pages
+page_behind : (file bytes page : List ℕ) (pages total : ℕ) → length file ≡ 4096 * total → pages < total → bytes ≡ take (4096 * pages) file → page ≡ page_of file pages
     → bytes ++ page ≡ take (4096 * (pages + 1)) file
 page_behind file bytes page pages total size low begins is =
     let left = length-drop (pages * 4096) file in
@@ -68,6 +61,32 @@ page_behind file bytes page pages total size low begins is =
     ∙ ap (λ (l : List ℕ). take (4096 * pages) file ++ l)
     (is ∙ take-append-le 4096 (drop (pages * 4096) file) (replicate 4096 0) (omega (arith, left, size, low)) ∙ ap (λ (k : ℕ). take 4096 (drop k file)) here)
     ∙ take_twice (4096 * pages) 4096 file ∙ ap (λ (k : ℕ). take k file) next
+
+-- pages within a file are its first bytes
+within_file : (file : List ℕ) (total pages : ℕ) → length file ≡ 4096 * total → pages ≤ total → first_pages file pages ≡ take (4096 * pages) file
+within_file file total zero size low = refl
+within_file file total (suc pages) size low =
+    page_behind file (first_pages file pages) (page_of file pages) pages total size (omega (arith, low)) (within_file file total pages size (omega (arith, low))) refl
+    ∙ ap (λ (k : ℕ). take k file) (next pages)
+  where
+    next : (n : ℕ) → 4096 * (n + 1) ≡ 4096 * suc n
+    next n = omega arith
+
+-- once its pages are all read, what was read is all of its file
+pub whole_rows : Sizes → (info : InfoParts) (file bytes : List ℕ) (rows : List Row) (pages : ℕ) → BlockHasInfo info file rows → pages_of info ≤ pages → pages ≤ pages_of info → bytes ≡ first_pages file pages
+    → rows_at info bytes ≡ Ok rows
+whole_rows sizes info file bytes rows pages has all few begins =
+    let size = sizes file rows info has in
+    let some = some_pages info file rows has in
+    ap (rows_at info) (begins ∙ within_file file info.pages pages size (omega (arith, some, few)) ∙ take_all (4096 * pages) file (omega (arith, size, all))) ∙ rows_read info file rows has
+
+-- one page more
+pub page_more : (file bytes page : List ℕ) (pages : ℕ) → bytes ≡ first_pages file pages → page ≡ page_of file pages → bytes ++ page ≡ first_pages file (pages + 1)
+page_more file bytes page pages begins is =
+    ap (λ (l : List ℕ). l ++ page) begins ∙ ap (λ (l : List ℕ). first_pages file pages ++ l) is ∙ ap (first_pages file) (next pages)
+  where
+    next : (n : ℕ) → suc n ≡ n + 1
+    next n = omega arith
 
 -- ---- several blocks
 
@@ -132,25 +151,64 @@ blocks_stay old new (i ∷ is) (p ∷ ps) stay are = (
 
 pub begins_stays : (old new : ℕ → List ℕ) (n : ℕ) (infos : List InfoParts) (pages : ℕ) (bytes : List ℕ) → StaySame old new (info_files infos) → BeginsWith old (drop n infos) pages bytes → BeginsWith new (drop n infos) pages bytes
 begins_stays old new zero [] pages bytes stay begins = tt
-begins_stays old new zero (i ∷ is) pages bytes stay begins = begins ∙ ap (take (4096 * pages)) (sym (first_stays old new i.file (info_files is) stay))
+begins_stays old new zero (i ∷ is) pages bytes stay begins = begins ∙ ap (λ (f : List ℕ). first_pages f pages) (sym (first_stays old new i.file (info_files is) stay))
 begins_stays old new (suc n) [] pages bytes stay begins = tt
 begins_stays old new (suc n) (i ∷ is) pages bytes stay begins = begins_stays old new n is pages bytes (rest_stays old new i.file (info_files is) stay) begins
 
 -- ---- a file apart
 
-apart_from : Sizes → (shows : ℕ → List ℕ) (own : ℕ) (info : InfoParts) (rows : List Row) → BlockHasInfo info (shows info.file) rows → shows own ≡ [] → (t : Bool) → eqb own info.file ≡ t → t ≡ false
-apart_from sizes shows own info rows has empty false e = refl
-apart_from sizes shows own info rows has empty true e =
-    let none : shows info.file ≡ [] = ap shows (sym (eqb-true own info.file e)) ∙ empty in
-    let size : length (shows info.file) ≡ 4096 * info.pages = sizes (shows info.file) rows info has in
-    let short : length (shows info.file) ≡ 0 = ap length none in
-    let some = some_pages info (shows info.file) rows has in
-    absurd (omega (arith, size, short, some))
+-- each of these bytes is zero
+abbrev Zeros : List ℕ → Type 0
+Zeros [] = Unit {0}
+Zeros (x ∷ xs) = (x ≡ 0) × Zeros xs
 
-pub are_apart : Sizes → (shows : ℕ → List ℕ) (own : ℕ) (infos : List InfoParts) (parts : List (List Row)) → AreBlocksOf shows infos parts → shows own ≡ [] → AreApart own infos
-are_apart sizes shows own [] parts are empty = tt
-are_apart sizes shows own (i ∷ is) [] are empty = absurd are
-are_apart sizes shows own (i ∷ is) (p ∷ ps) are empty = (apart_from sizes shows own i p are.0 empty (eqb own i.file) refl, are_apart sizes shows own is ps are.1 empty)
+zeros_behind : (xs ys : List ℕ) → Zeros xs → Zeros ys → Zeros (xs ++ ys)
+zeros_behind [] ys hx hy = hy
+zeros_behind (x ∷ xs) ys hx hy = (hx.0, zeros_behind xs ys hx.1 hy)
+
+zeros_front : (n : ℕ) (xs : List ℕ) → Zeros xs → Zeros (take n xs)
+zeros_front zero xs h = tt
+zeros_front (suc n) [] h = tt
+zeros_front (suc n) (x ∷ xs) h = (h.0, zeros_front n xs h.1)
+
+zeros_many : (n : ℕ) → Zeros (replicate n 0)
+zeros_many zero = tt
+zeros_many (suc n) = (refl, zeros_many n)
+
+zeros_none : (n : ℕ) → Zeros (drop n [])
+zeros_none zero = tt
+zeros_none (suc n) = tt
+
+-- the pages of an empty file
+zero_pages : (pages : ℕ) → Zeros (first_pages [] pages)
+zero_pages zero = tt
+zero_pages (suc pages) =
+    zeros_behind (first_pages [] pages) (page_of [] pages) (zero_pages pages)
+    (zeros_front 4096 (drop (pages * 4096) [] ++ replicate 4096 0) (zeros_behind (drop (pages * 4096) []) (replicate 4096 0) (zeros_none (pages * 4096)) (zeros_many 4096)))
+
+-- a file whose pages begin as a block is none that is empty
+apart_from : (shows : ℕ → List ℕ) (own : ℕ) (info : InfoParts) (pages : ℕ) (rest : List ℕ) → shows own ≡ [] → first_pages (shows info.file) pages ≡ 84 ∷ rest → (t : Bool) → eqb own info.file ≡ t → t ≡ false
+apart_from shows own info pages rest empty begins false e = refl
+apart_from shows own info pages rest empty begins true e =
+    let none : shows info.file ≡ [] = ap shows (sym (eqb-true own info.file e)) ∙ empty in
+    let first : Zeros (84 ∷ rest) = subst Zeros (ap (λ (f : List ℕ). first_pages f pages) (sym none) ∙ begins) (zero_pages pages) in
+    let is : 84 ≡ 0 = first.0 in
+    absurd (omega (arith, is))
+
+pub apart_block : (shows : ℕ → List ℕ) (own : ℕ) (info : InfoParts) (pages : ℕ) (bytes rest : List ℕ) → shows own ≡ [] → bytes ≡ first_pages (shows info.file) pages → bytes ≡ 84 ∷ rest → eqb own info.file ≡ false
+apart_block shows own info pages bytes rest empty begins marked = apart_from shows own info pages rest empty (sym begins ∙ marked) (eqb own info.file) refl
+
+-- one block more
+apart_suc : (own n : ℕ) (infos : List InfoParts) (info : InfoParts) (rest : List InfoParts) → drop n infos ≡ info ∷ rest → AreApart own (take n infos) → eqb own info.file ≡ false → AreApart own (take (suc n) infos)
+apart_suc own zero [] info rest e apart here = tt
+apart_suc own zero (i ∷ is) info rest e apart here = (ap (λ (x : InfoParts). eqb own x.file) (same_first i info is rest e) ∙ here, tt)
+apart_suc own (suc n) [] info rest e apart here = tt
+apart_suc own (suc n) (i ∷ is) info rest e apart here = (apart.0, apart_suc own n is info rest e apart.1 here)
+
+pub apart_more : (own n m : ℕ) (infos : List InfoParts) (info : InfoParts) (rest : List InfoParts) → drop n infos ≡ info ∷ rest → AreApart own (take n infos) → eqb own info.file ≡ false → m ≡ n + 1
+    → AreApart own (take m infos)
+apart_more own n m infos info rest e apart here next =
+    subst (λ (k : ℕ). AreApart own (take k infos)) (let same : suc n ≡ m = omega (arith, next) in same) (apart_suc own n infos info rest e apart here)
 
 -- ---- counts
 

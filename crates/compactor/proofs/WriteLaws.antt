@@ -17,7 +17,7 @@ use Rattle.store_state.specs.Meaning.{Meaning, IsOpen, Called}
 use Rattle.store_state.specs.Replies.{write_refusal}
 use Rattle.store_state.specs.Rounds.{begin_cause, write_cause}
 use Rattle.store_state.specs.Shown.{rows_of}
-use Rattle.store_state.specs.Written.{AreBlocksOf, HasWritten, IsJoinedBlock}
+use Rattle.store_state.specs.Written.{HasWritten, IsJoinedBlock}
 use Rattle.store_state.specs.declared.errors.BeginError.{BeginError}
 use Rattle.store_state.specs.declared.errors.BeginError.TheVariants as begin
 use Rattle.store_state.specs.declared.errors.WriteError.{WriteError}
@@ -35,7 +35,7 @@ use Rattle.compactor.specs.Rounds.{Stage as stage}
 use Rattle.compactor.specs.Rounds.Leads.{built, starved, written, unwritten, listed, unlisted, over}
 use Rattle.compactor.specs.Tasks.{AreApart, IsReading, IsWriting, OneEvent, ShowsRead, ShowsWriting, Task, blocks_left, job_of}
 use Rattle.compactor.specs.Tasks.Task.{Reading, Writing, Failing}
-use Rattle.compactor.proofs.BlockLaws.{Sizes, are_apart, as_many, blocks_stay, counts, some_rows}
+use Rattle.compactor.proofs.BlockLaws.{as_many, blocks_stay, counts, some_rows}
 
 -- ---- the new block
 
@@ -59,20 +59,17 @@ can_join meaning job parts pages bytes port is whole =
       few = omega (arith, size, rows);
     }
 
-told_joined : Sizes → (shows : ℕ → List ℕ) (job : CompactJob) (parts : List (List Row)) (pages : ℕ) (read bytes : List ℕ) → ShowsRead shows job parts pages read → length parts ≡ length job.pin.blocks → job.out.written ≡ 0
+told_joined : (shows : ℕ → List ℕ) (job : CompactJob) (parts : List (List Row)) (pages : ℕ) (read bytes : List ℕ) → ShowsRead shows job parts pages read → length parts ≡ length job.pin.blocks → job.out.written ≡ 0
     → ShowsWriting shows job parts bytes
-told_joined sizes shows job parts pages read bytes told each start =
-    let many = as_many shows job.pin.blocks told.all told.blocks in
-    let same : parts ≡ told.all = told.so_far ∙ take_all (length parts) told.all (omega (arith, each, many)) in
-    record {
-      blocks = subst (λ (ps : List (List Row)). AreBlocksOf shows job.pin.blocks ps) (sym same) told.blocks;
-      apart = are_apart sizes shows job.out.file job.pin.blocks told.all told.blocks told.empty;
-      so_far = told.empty ∙ sym (ap (λ (n : ℕ). take n bytes) start);
-    }
+told_joined shows job parts pages read bytes told each start = record {
+  their_rows = λ all are. (let many = as_many shows job.pin.blocks all are in sym (told.so_far all are ∙ take_all (length parts) all (omega (arith, each, many))));
+  apart = subst (λ (infos : List InfoParts). AreApart job.out.file infos) (take_all (length parts) job.pin.blocks (omega (arith, each))) told.apart;
+  so_far = told.empty ∙ sym (ap (λ (n : ℕ). take n bytes) start);
+}
 
-pub begins_writing : {P : Type 0} (meaning : Meaning P) (job : CompactJob) (parts : List (List Row)) (pages : ℕ) (read bytes : List ℕ) (info : InfoParts) (port : P) → Sizes → IsReading meaning job parts pages read port
+pub begins_writing : {P : Type 0} (meaning : Meaning P) (job : CompactJob) (parts : List (List Row)) (pages : ℕ) (read bytes : List ℕ) (info : InfoParts) (port : P) → IsReading meaning job parts pages read port
     → length job.pin.blocks ≤ length parts → IsJoined job.out.file job.level parts bytes info → IsWriting meaning job bytes info port
-begins_writing meaning job parts pages read bytes info port sizes is whole joined =
+begins_writing meaning job parts pages read bytes info port is whole joined =
     let can = can_join meaning job parts pages read port is whole in
     let start = is.at_start in
     record {
@@ -84,7 +81,7 @@ begins_writing meaning job parts pages read bytes info port sizes is whole joine
       few = can.few;
       block = joined;
       within = omega (arith, start);
-      told = λ tells. told_joined sizes (meaning.shows port) job parts pages read bytes (is.told tells) can.one_each is.at_start;
+      told = λ tells. told_joined (meaning.shows port) job parts pages read bytes (is.told tells) can.one_each is.at_start;
     }
 
 -- ---- pieces
@@ -118,10 +115,11 @@ after_piece meaning old new job bytes info piece is called part within = record 
       let told = is.told before in
       let own = job.out.file in
       record {
-        blocks = blocks_stay (meaning.shows old) (meaning.shows new) job.pin.blocks is.parts
-            (λ file among. apart_stay (meaning.shows old) (meaning.shows new) own piece job.pin.blocks file told.apart among
-            (called.bytes before (compact_of job) is.is_open refl file (later (own == file) (is_among file (info_files job.pin.blocks)) among)))
-            told.blocks;
+        their_rows = λ all are. told.their_rows all
+            (blocks_stay (meaning.shows new) (meaning.shows old) job.pin.blocks all
+            (λ file among. sym (apart_stay (meaning.shows old) (meaning.shows new) own piece job.pin.blocks file told.apart among
+            (called.bytes before (compact_of job) is.is_open refl file (later (own == file) (is_among file (info_files job.pin.blocks)) among))))
+            are);
         apart = told.apart;
         so_far = called.bytes before (compact_of job) is.is_open refl own (ap (λ (t : Bool). t || is_among own (info_files job.pin.blocks)) (itself own))
             ∙ ap (λ (t : Bool). if t then meaning.shows old own ++ piece else meaning.shows old own) (itself own)
@@ -175,7 +173,7 @@ pub may_be_listed : {P : Type 0} (meaning : Meaning P) (job : CompactJob) (bytes
 may_be_listed meaning job bytes info port is whole = record {
   parts = is.parts;
   one_each = is.one_each;
-  their_rows = λ tells. (is.told tells).blocks;
+  their_rows = λ tells. (is.told tells).their_rows;
   block = record {
     its_info = record {
       its_file = is.block.its_file;

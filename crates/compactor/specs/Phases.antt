@@ -13,7 +13,7 @@ use Rattle.store_state.specs.declared.rounds.Refusal.TheVariants.{Memory, NotBlo
 use Rattle.store_state.specs.declared.rounds.Round.{Round}
 use Rattle.compactor.specs.Rounds.{Leads, pages_of, rows_at}
 use Rattle.compactor.specs.Rounds.{Stage as stage}
-use Rattle.compactor.specs.Tasks.{Fits, Task, blocks_left, stage_of}
+use Rattle.compactor.specs.Tasks.{FindsBlocks, Fits, Known, Task, blocks_left, stage_of}
 use Rattle.compactor.specs.Tasks.Task.{Fresh, Reading, Writing, Failing, Ended}
 use Rattle.compactor.specs.declared.task.Phase.{Phase}
 use Rattle.compactor.specs.declared.task.Phase.TheVariants as phase
@@ -34,6 +34,10 @@ OfFirst (info ∷ infos) Holds = Holds info
 abbrev pub unread_cause : ℕ → Break → Refusal
 unread_cause file (breaks.At at) = NotBlock file at
 unread_cause file breaks.Memory = Memory
+
+-- the bytes begin as those of a block do
+abbrev pub BeginsBlock : List ℕ → Type 0
+BeginsBlock bytes = (rest : List ℕ) × (bytes ≡ 84 ∷ rest)
 
 -- the same information for another file and level
 abbrev pub relabelled : ℕ → ℕ → InfoParts → InfoParts
@@ -59,11 +63,13 @@ pub data Turned (job : CompactJob) (parts : List (List Row)) (pages : ℕ) (byte
   Malformed : (info : InfoParts) (infos : List InfoParts) (at : ℕ) → blocks_left job parts ≡ info ∷ infos → pages_of info ≤ pages
       → rows_at info bytes ≡ Err at → Turned job parts pages bytes (Failing job (NotBlock info.file at))
   NextBlock : (info : InfoParts) (infos : List InfoParts) (rows : List Row) → blocks_left job parts ≡ info ∷ infos → pages_of info ≤ pages
-      → rows_at info bytes ≡ Ok rows → 1 ≤ length rows → length rows ≡ info.rows → Turned job parts pages bytes (Reading job (parts ++ rows ∷ []) 0 [])
+      → rows_at info bytes ≡ Ok rows → 1 ≤ length rows → length rows ≡ info.rows → BeginsBlock bytes
+      → Turned job parts pages bytes (Reading job (parts ++ rows ∷ []) 0 [])
 
 -- A round came so far: these calls were made, and whatever leads on from where the task is leads, behind them, from the begin.
 pub record IsUnderWay {P : Type 0} (meaning : Meaning P) (start : P) (task : Task) (now : P) : Type 0 where
   pub fits : Fits meaning task now
+  pub found : Known meaning start → FindsBlocks meaning task now
   pub telling : meaning.tells now ≡ meaning.tells start
   pub calls : List Call
   pub made : AreMade meaning start calls now

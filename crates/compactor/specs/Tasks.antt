@@ -1,14 +1,14 @@
 -- A compaction as a task: how far it is, what it stands on, and what one step does.
-use Rattle.std.specs.Prelude.{◌≡◌, ℕ, ◌+◌, ◌-◌, ◌*◌, ◌^◌, ◌<◌, ◌≤◌, ◌==◌, false, List, [], ◌∷◌, length, take, drop, IsTrue}
+use Rattle.std.specs.Prelude.{◌≡◌, ℕ, zero, suc, ◌+◌, ◌-◌, ◌*◌, ◌^◌, ◌<◌, ◌≤◌, ◌==◌, false, List, [], ◌∷◌, ◌++◌, length, take, drop, IsTrue}
 use Rattle.std.specs.List.{flat_map}
 use Rattle.span_types.specs.declared.spans.Row.{Row}
 use Rattle.block_info.specs.InfoParts.{InfoParts}
 use Rattle.store_model.specs.Holds.{Hold}
 use Rattle.store_state.specs.Given.{compact_of}
 use Rattle.store_state.specs.Made.{Call}
-use Rattle.store_state.specs.Meaning.{Meaning, Called, IsOpen}
-use Rattle.store_state.specs.Shown.{AreFew}
-use Rattle.store_state.specs.Written.{AreBlocksOf}
+use Rattle.store_state.specs.Meaning.{View, Meaning, Called, IsOpen}
+use Rattle.store_state.specs.Shown.{AreBlocks, AreFew}
+use Rattle.store_state.specs.Written.{AreBlocksOf, page_of}
 use Rattle.store_state.specs.declared.jobs.CompactJob.{CompactJob}
 use Rattle.store_state.specs.declared.rounds.Refusal.{Refusal}
 use Rattle.store_state.specs.declared.rounds.Round.{Round}
@@ -55,17 +55,27 @@ AreCounted infos [] = Unit {0}
 AreCounted [] (rows ∷ parts) = ⊥
 AreCounted (info ∷ infos) (rows ∷ parts) = (length rows ≡ info.rows) × (1 ≤ length rows) × AreCounted infos parts
 
--- The bytes of the first of these blocks begin with these.
+-- so many pages of a file from its first on, each as it is read
+abbrev pub first_pages : List ℕ → ℕ → List ℕ
+first_pages bytes zero = []
+first_pages bytes (suc pages) = first_pages bytes pages ++ page_of bytes pages
+
+-- These are the first pages of the first of these blocks.
 abbrev pub BeginsWith : (ℕ → List ℕ) → List InfoParts → ℕ → List ℕ → Type 0
 BeginsWith shows [] pages bytes = Unit {0}
-BeginsWith shows (info ∷ infos) pages bytes = bytes ≡ take (4096 * pages) (shows info.file)
+BeginsWith shows (info ∷ infos) pages bytes = bytes ≡ first_pages (shows info.file) pages
 
--- Where bytes are told: the blocks of the job are blocks, of which these rows and bytes were read, and its own file is empty.
+-- no block is in this file
+abbrev pub AreApart : ℕ → List InfoParts → Type 0
+AreApart file [] = Unit {0}
+AreApart file (info ∷ infos) = ((file == info.file) ≡ false) × AreApart file infos
+
+-- Where bytes are told: whatever blocks the files hold as their information describes them, these rows are those of the first ones,
+-- and these bytes the pages of the next. The job's own file is empty, and no block is in it of those that were read.
 pub record ShowsRead (shows : ℕ → List ℕ) (job : CompactJob) (parts : List (List Row)) (pages : ℕ) (bytes : List ℕ) : Type 0 where
-  pub all : List (List Row)
-  pub blocks : AreBlocksOf shows job.pin.blocks all
-  pub so_far : parts ≡ take (length parts) all
+  pub so_far : (all : List (List Row)) → AreBlocksOf shows job.pin.blocks all → parts ≡ take (length parts) all
   pub begins : BeginsWith shows (blocks_left job parts) pages bytes
+  pub apart : AreApart job.out.file (take (length parts) job.pin.blocks)
   pub empty : shows job.out.file ≡ []
 
 -- The port gave the job out, its file is empty, and so much of its blocks was read.
@@ -78,15 +88,10 @@ pub record IsReading {P : Type 0} (meaning : Meaning P) (job : CompactJob) (part
   pub page : HasPage (blocks_left job parts) pages
   pub told : IsTrue (meaning.tells port) → ShowsRead (meaning.shows port) job parts pages bytes
 
--- no block is in this file
-abbrev pub AreApart : ℕ → List InfoParts → Type 0
-AreApart file [] = Unit {0}
-AreApart file (info ∷ infos) = ((file == info.file) ≡ false) × AreApart file infos
-
--- Where bytes are told: these are the rows of the job's blocks, and its own file holds the first bytes of the new one, as many as
--- were written.
+-- Where bytes are told: whatever blocks the files hold as their information describes them, these are their rows, and the job's own
+-- file, in which none of them is, holds the first bytes of the new one, as many as were written.
 pub record ShowsWriting (shows : ℕ → List ℕ) (job : CompactJob) (parts : List (List Row)) (bytes : List ℕ) : Type 0 where
-  pub blocks : AreBlocksOf shows job.pin.blocks parts
+  pub their_rows : (all : List (List Row)) → AreBlocksOf shows job.pin.blocks all → all ≡ parts
   pub apart : AreApart job.out.file job.pin.blocks
   pub so_far : shows job.out.file ≡ take job.out.written bytes
 
@@ -102,18 +107,26 @@ pub record IsWriting {P : Type 0} (meaning : Meaning P) (job : CompactJob) (byte
   pub within : job.out.written ≤ length bytes
   pub told : IsTrue (meaning.tells port) → ShowsWriting (meaning.shows port) job parts bytes
 
--- A job is given up, where bytes are told never for a block that is none.
-pub record IsFailing {P : Type 0} (meaning : Meaning P) (job : CompactJob) (why : Refusal) (port : P) : Type 0 where
-  pub is_open : IsOpen meaning port (compact_of job)
-  pub told : IsTrue (meaning.tells port) → FoundBlocks (Refused why)
-
 -- The port has what the task stands on. A task that hasn't begun asks of it that it says what is open in it.
 abbrev pub Fits : {P : Type 0} → Meaning P → Task → P → Type 0
 Fits meaning Fresh port = (held : List Hold) × meaning.holds port held
 Fits meaning (Reading job parts pages bytes) port = IsReading meaning job parts pages bytes port
 Fits meaning (Writing job bytes info) port = IsWriting meaning job bytes info port
-Fits meaning (Failing job why) port = IsFailing meaning job why port
-Fits meaning (Ended round) port = IsTrue (meaning.tells port) → FoundBlocks round
+Fits meaning (Failing job why) port = IsOpen meaning port (compact_of job)
+Fits meaning (Ended round) port = Unit {0}
+
+-- the port knows a history
+abbrev pub Known : {P : Type 0} → Meaning P → P → Type 0
+Known meaning port = (v : View) × meaning.knows port v
+
+-- Where bytes are told, the task finds no block to be none. Before its begin this wants that the port knows a history; while it reads,
+-- that the job's blocks are blocks; behind that, that it found none to be none.
+abbrev pub FindsBlocks : {P : Type 0} → Meaning P → Task → P → Type 0
+FindsBlocks meaning Fresh port = Known meaning port
+FindsBlocks meaning (Reading job parts pages bytes) port = IsTrue (meaning.tells port) → AreBlocks (meaning.shows port) job.pin.blocks
+FindsBlocks meaning (Writing job bytes info) port = Unit {0}
+FindsBlocks meaning (Failing job why) port = IsTrue (meaning.tells port) → FoundBlocks (Refused why)
+FindsBlocks meaning (Ended round) port = IsTrue (meaning.tells port) → FoundBlocks round
 
 -- ---- steps
 

@@ -4,7 +4,7 @@ ghost use Rattle.std.specs.Prelude.{◌≡◌, ◌⊎◌, ◌+◌, ◌^◌, ◌+
 ghost use Rattle.byte_fields.specs.Reading.{AreBytes};
 ghost use Rattle.span_fields.specs.Breaks.{Answers};
 ghost use Rattle.compactor.specs.Rounds.{pages_of, rows_at};
-ghost use Rattle.compactor.specs.Phases.{OfFirst, Turned, task_of, unread_cause};
+ghost use Rattle.compactor.specs.Phases.{BeginsBlock, OfFirst, Turned, task_of, unread_cause};
 ghost use Rattle.compactor.specs.Tasks.{HasPage, blocks_left};
 ghost use Rattle.compactor.specs.Tasks.Task.{Failing, Reading};
 ghost use Rattle.store_state.specs.declared.rounds.Refusal.TheVariants.{Memory};
@@ -121,6 +121,7 @@ fn block_rows(alloc: Global, bytes: &[u8], info: &BlockInfo) -> Result<Rows, Bre
     ensures answers { Answers (λ x. x) result (rows_at info.now bytes.now) }
     ensures some { IfOk result (λ rows. 1 ≤ length rows) }
     ensures counted { IfOk result (λ rows. length rows ≡ info.now.rows) }
+    ensures begins { IfOk result (λ rows. BeginsBlock bytes.now) }
 {
     let found = block_of(alloc, bytes)?;
     read_block_is_held();

@@ -3,10 +3,12 @@
 ghost use Rattle.std.specs.Prelude.{◌≡◌, ◌+◌, ◌-◌, ◌*◌, ◌^◌, ◌<◌, ◌≤◌, [], IsTrue, List, length};
 ghost use Rattle.store_state.specs.declared.rounds.Round.TheVariants.{Did};
 ghost use Rattle.store_model.specs.Holds.{Hold};
+ghost use Rattle.store_state.specs.Given.{compact_of};
 ghost use Rattle.store_state.specs.Made.{AreMade, Call};
+ghost use Rattle.store_state.specs.Meaning.{IsOpen};
 ghost use Rattle.compactor.specs.Rounds.{FoundBlocks, IsCompactRound};
 ghost use Rattle.compactor.specs.Phases.{task_of};
-ghost use Rattle.compactor.specs.Tasks.{Answers, Fits, IsFailing, IsReading, IsWriting, OneEvent, Steps, steps_left};
+ghost use Rattle.compactor.specs.Tasks.{Answers, FindsBlocks, Fits, IsReading, IsWriting, Known, OneEvent, Steps, steps_left};
 ghost use Rattle.compactor.specs.Tasks.Task.{Ended, Failing, Fresh, Reading, Writing};
 
 use crate::building::{Block, build_block};
@@ -60,11 +62,13 @@ impl CompactTask {
 
     /// Makes the next event of the round. Behind its end it makes none and answers the same end again.
     ///
-    /// All steps of a task are made on one port, or on those that stand for it, so that the job stays open.
+    /// All steps of a task are made on one port, or on those that stand for it, so that the job stays open. Where the port
+    /// tells its bytes, and knows a history as the round begins, no block is found to be malformed.
     pub fn step<P: Port>(&mut self, port: &mut P) -> Step
         requires { Fits P.meaning self.old port.old }
         ensures steps { Steps P.meaning self.old port.old self.new port.new }
         ensures fits { Fits P.meaning self.new port.new }
+        ensures found { FindsBlocks P.meaning self.old port.old → FindsBlocks P.meaning self.new port.new }
         ensures left { steps_left self.new ≤ steps_left self.old - 1 }
         ensures answers { Answers result self.new }
     {
@@ -81,6 +85,7 @@ fn advance<P: Port>(alloc: Global, phase: Phase, port: &mut P) -> Phase
     requires { Fits P.meaning (task_of phase) port.old }
     ensures steps { Steps P.meaning (task_of phase) port.old (task_of result) port.new }
     ensures fits { Fits P.meaning (task_of result) port.new }
+    ensures found { FindsBlocks P.meaning (task_of phase) port.old → FindsBlocks P.meaning (task_of result) port.new }
     ensures left { steps_left (task_of result) ≤ steps_left (task_of phase) - 1 }
 {
     match phase {
@@ -97,6 +102,7 @@ fn begin<P: Port>(alloc: Global, port: &mut P) -> Phase
     requires { (held : List Hold) × P.meaning.holds port.old held }
     ensures steps { OneEvent P.meaning Fresh port.old (task_of result) port.new }
     ensures fits { Fits P.meaning (task_of result) port.new }
+    ensures found { Known P.meaning port.old → FindsBlocks P.meaning (task_of result) port.new }
     ensures left { steps_left (task_of result) ≤ 6 * 2 ^ 64 + 4 }
 {
     a_choice_is_few();
@@ -126,6 +132,8 @@ fn read_or_join<P: Port>(alloc: Global, reading: Progress, port: &mut P) -> Phas
     ensures steps { OneEvent P.meaning (Reading reading.job reading.parts.items reading.pages reading.bytes.items) port.old
         (task_of result) port.new }
     ensures fits { Fits P.meaning (task_of result) port.new }
+    ensures found { FindsBlocks P.meaning (Reading reading.job reading.parts.items reading.pages reading.bytes.items) port.old
+        → FindsBlocks P.meaning (task_of result) port.new }
     ensures left { steps_left (task_of result)
         ≤ (length reading.job.pin.blocks - length reading.parts.items) * 2 ^ 64 + (2 ^ 64 - reading.pages) + 2 ^ 64 + 3 }
 {
@@ -144,6 +152,8 @@ fn read<P: Port>(alloc: Global, reading: Progress, port: &mut P) -> Phase
     ensures steps { OneEvent P.meaning (Reading reading.job reading.parts.items reading.pages reading.bytes.items) port.old
         (task_of result) port.new }
     ensures fits { Fits P.meaning (task_of result) port.new }
+    ensures found { FindsBlocks P.meaning (Reading reading.job reading.parts.items reading.pages reading.bytes.items) port.old
+        → FindsBlocks P.meaning (task_of result) port.new }
     ensures left { steps_left (task_of result)
         ≤ (length reading.job.pin.blocks - length reading.parts.items) * 2 ^ 64 + (2 ^ 64 - reading.pages) + 2 ^ 64 + 3 }
 {
@@ -165,9 +175,9 @@ fn join<P: Port>(alloc: Global, reading: Progress, port: &mut P) -> Phase
     ensures steps { OneEvent P.meaning (Reading reading.job reading.parts.items reading.pages reading.bytes.items) port.old
         (task_of result) port.new }
     ensures fits { Fits P.meaning (task_of result) port.new }
+    ensures found { FindsBlocks P.meaning (task_of result) port.new }
     ensures left { steps_left (task_of result) ≤ 2 ^ 64 + 3 }
 {
-    described_block_is_read();
     let Progress { job, parts, .. } = reading;
     match build_block(alloc, parts, job.out.file, job.level) {
         Ok(block) => go_on(job, block, port),
@@ -180,6 +190,7 @@ fn go_on<P: Port>(job: CompactJob, block: Block, port: &mut P) -> Phase
     requires { IsWriting P.meaning job block.bytes block.info port.old }
     ensures steps { OneEvent P.meaning (Writing job block.bytes block.info) port.old (task_of result) port.new }
     ensures fits { Fits P.meaning (task_of result) port.new }
+    ensures found { FindsBlocks P.meaning (task_of result) port.new }
     ensures left { steps_left (task_of result) ≤ length block.bytes - job.out.written + 1 }
     ensures near { length block.bytes < 2 ^ 64 }
 {
@@ -196,6 +207,7 @@ fn write<P: Port>(job: CompactJob, block: Block, port: &mut P) -> Phase
     requires more { job.out.written < length block.bytes }
     ensures steps { OneEvent P.meaning (Writing job block.bytes block.info) port.old (task_of result) port.new }
     ensures fits { Fits P.meaning (task_of result) port.new }
+    ensures found { FindsBlocks P.meaning (task_of result) port.new }
     ensures left { steps_left (task_of result) ≤ length block.bytes - job.out.written + 1 }
 {
     let mut job = job;
@@ -212,6 +224,7 @@ fn commit<P: Port>(job: CompactJob, block: Block, port: &mut P) -> Phase
     requires whole { job.out.written ≡ length block.bytes }
     ensures steps { OneEvent P.meaning (Writing job block.bytes block.info) port.old (task_of result) port.new }
     ensures fits { Fits P.meaning (task_of result) port.new }
+    ensures found { FindsBlocks P.meaning (task_of result) port.new }
     ensures left { steps_left (task_of result) ≡ 0 }
 {
     let done = done_of(&job, &block.info);
@@ -234,9 +247,10 @@ fn done_of(job: &CompactJob, info: &SharedInfo) -> Round
 
 // Gives a job up.
 fn give_up<P: Port>(job: CompactJob, why: Refusal, port: &mut P) -> Phase
-    requires { IsFailing P.meaning job why port.old }
+    requires { IsOpen P.meaning port.old (compact_of job) }
     ensures steps { OneEvent P.meaning (Failing job why) port.old (task_of result) port.new }
     ensures fits { Fits P.meaning (task_of result) port.new }
+    ensures found { FindsBlocks P.meaning (Failing job why) port.old → FindsBlocks P.meaning (task_of result) port.new }
     ensures left { steps_left (task_of result) ≡ 0 }
 {
     port.drop_compact(job);
@@ -245,11 +259,12 @@ fn give_up<P: Port>(job: CompactJob, why: Refusal, port: &mut P) -> Phase
 
 /// Joins the blocks that are to be joined next: one whole round, which says what it did or why it was refused.
 ///
-/// The port says what is open in it, as each port does.
+/// The port says what is open in it, as each port does. Where it tells its bytes, and knows a history, no block is found to be
+/// malformed.
 pub fn compact_round<P: Port>(alloc: Global, port: &mut P) -> Round
     requires { (held : List Hold) × P.meaning.holds port.old held }
     ensures made { (calls : List Call) × AreMade P.meaning port.old calls port.new × IsCompactRound calls result }
-    ensures told { IsTrue (P.meaning.tells port.old) → FoundBlocks result }
+    ensures told { IsTrue (P.meaning.tells port.old) → Known P.meaning port.old → FoundBlocks result }
 {
     let mut task = CompactTask::new(alloc);
     loop {

@@ -1,5 +1,5 @@
 -- A flush that begins, as an event of a core.
-use Rattle.std.proofs.Common.{◌≡◌, ◌≢◌, ℕ, ◌+◌, ◌-◌, ◌^◌, ◌<◌, ◌≤◌, ◌==◌, min, List, [], ◌∷◌, ◌++◌, length, map, take, drop, Some, None, Option, IfSome, IsTrue, Bool, true, false, refl, sym, ◌∙◌, ap, subst, arith}
+use Rattle.std.proofs.Common.{◌≡◌, ◌≢◌, inl, ℕ, ◌+◌, ◌-◌, ◌^◌, ◌<◌, ◌≤◌, ◌==◌, min, List, [], ◌∷◌, ◌++◌, length, map, take, drop, Some, None, Option, IfSome, IsTrue, Bool, true, false, refl, sym, ◌∙◌, ap, subst, arith}
 use Rattle.std.specs.Prelude.{nat_le, Vec}
 use Rattle.std.proofs.lemmas.Bool.{le-leb, lt-leb, ne_eqb}
 use Rattle.std.proofs.lemmas.List.{take-append-drop}
@@ -32,7 +32,7 @@ use Rattle.store_state.specs.declared.listing.FlushFiles.{FlushFiles}
 use Rattle.store_images.specs.Stored.{KeepsStored}
 use Rattle.store_images.proofs.Keeping.{keeps_same}
 use Rattle.store_core.specs.Files.{SameBelow}
-use Rattle.store_core.specs.Jobs.{ShowsFlush, CommitFits, HasFreshSegment}
+use Rattle.store_core.specs.Jobs.{ShowsFlush, CommitFits, HasFreshSegment, SameCompaction, open_jobs}
 use Rattle.store_core.specs.declared.jobs.Jobs.{Jobs}
 use Rattle.store_core.specs.declared.jobs.OpenFlush.{OpenFlush}
 use Rattle.store_core.specs.declared.room.CommitRoom.{CommitRoom}
@@ -40,12 +40,13 @@ use Rattle.store_core.specs.declared.state.CoreState.{CoreState}
 use Rattle.store_core.specs.declared.store.Core.{Core}
 use Rattle.store_core.specs.Cores.{HasState, StandsFor, CoreStandsFor, CoreShows, AreDescribed, listed_as, tail_of}
 use Rattle.store_core.specs.Events.{Did}
-use Rattle.store_core.specs.Beginning.{unless_rows}
+use Rattle.store_core.specs.Beginning.{KeepsRooms, unless_rows}
 use Rattle.store_core.proofs.Apart.{keeps_below, settled_below}
 use Rattle.store_core.proofs.Kept.{stands_kept, did_kept, described_below}
 use Rattle.store_core.proofs.InUse.{used_begun}
 use Rattle.store_core.proofs.Logged.{logged_kept}
-use Rattle.store_core.proofs.NoJobs.{no_commit_room, no_segment, none_fit}
+use Rattle.store_core.proofs.JobRooms.{RoomOfFlush, RoomOfCompaction, SpareFlush, rooms_fewer, two_at_most, flush_shown, compaction_shown, flush_none, spare_compaction_file, low_level}
+use Rattle.store_core.proofs.NoJobs.{no_segment}
 use Rattle.store_core.proofs.OpenJobs.{held_low}
 use Rattle.store_core.proofs.PushEvents.{OnlyNow, refused_is}
 use Rattle.store_core.proofs.Quiet.{quiet, none_begun}
@@ -79,7 +80,7 @@ begin_busy core m mine has writes known =
     let here : ShowsFlush (Some mine) m.state.flush = subst (λ (k : Option OpenFlush). ShowsFlush k m.state.flush) known has.flush in
     early_writing core m (Some here.0) has writes here.1 ∙ ap (λ (n : ℕ). Some (Refused (Busy n))) here.2
 
-not_zero : (n : ℕ) → 1 ≤ n → (n == 0) ≡ false
+pub not_zero : (n : ℕ) → 1 ≤ n → (n == 0) ≡ false
 not_zero n some = ne_eqb n 0 (λ is. omega (arith, is, some))
 
 pub begin_idle : (core : CoreState) (m : Machine) → HasState core m → core.read_only ≡ None → core.jobs.flush ≡ None → length core.live.head ≡ 0 → early m BeginFlush ≡ Some Nothing
@@ -123,13 +124,6 @@ did_idle g only_now old is =
 
 -- ---- memory was taken
 
--- the same jobs, with room for others
-pub record SameJobs (old new : Jobs) : Type 0 where
-  pub begun : new.begun ≡ old.begun
-  pub next_file : new.next_file ≡ old.next_file
-  pub loose : new.loose.items ≡ old.loose.items
-  pub flush : new.flush ≡ old.flush
-
 -- the parts in memory without an open flush, or with its rows back in front of the head
 pub record SameRows (old new : LiveParts) : Type 0 where
   pub live : new.live ≡ old.live
@@ -140,48 +134,49 @@ pub record SameRows (old new : LiveParts) : Type 0 where
 none_flushing : (core : CoreState) (m : Machine) → HasState core m → core.jobs.flush ≡ None → core.live.flushing ≡ []
 none_flushing core m has none = has.flushing ∙ ap flush_rows (no_flush core m has none)
 
-has_memory : (core : CoreState) (live : LiveParts) (infos : Vec InfoParts Global) (jobs : Jobs) (m : Machine) → core.jobs.flush ≡ None → infos.items ≡ core.infos.items → SameJobs core.jobs jobs → SameRows core.live live → HasState core m
+has_memory : (core : CoreState) (live : LiveParts) (infos : Vec InfoParts Global) (jobs : Jobs) (m : Machine) → core.jobs.flush ≡ None → KeepsRooms core.list core.infos infos core.jobs jobs → SameRows core.live live → HasState core m
     → HasState (record core { live = live; infos = infos; jobs = jobs }) m
-has_memory core live infos jobs m none known same rows has = record {
+has_memory core live infos jobs m none kept rows has = record {
   count = has.count;
   few = has.few;
   live = has.live ∙ sym rows.live;
   head = has.head ∙ sym (rows.head ∙ ap (λ (r : List Row). r ++ core.live.head) (none_flushing core m has none));
   flushing = rows.flushing ∙ sym (ap flush_rows (no_flush core m has none));
-  flush = subst (λ (k : Option OpenFlush). ShowsFlush k m.state.flush) (sym same.flush) has.flush;
-  compaction = has.compaction;
+  flush = flush_shown core.jobs.flush jobs.flush m.state.flush kept.same.flush has.flush;
+  compaction = compaction_shown core.jobs.compaction jobs.compaction m.state.compaction kept.same.compaction has.compaction;
   blocks = has.blocks;
-  infos = ap info_files known ∙ has.infos;
-  listed = ap (map listed_as) known ∙ has.listed;
-  commit = λ free. no_commit_room jobs core.list infos (same.flush ∙ none);
+  infos = ap info_files kept.infos ∙ has.infos;
+  listed = ap (map listed_as) kept.infos ∙ has.listed;
+  commit = λ free. kept.rooms (has.commit free);
   rules = has.rules;
   segments = has.segments;
   last = has.last;
   floor = has.floor;
-  loose = has.loose ∙ sym same.loose;
-  next_file = has.next_file ∙ sym same.next_file;
-  begun = has.begun ∙ sym same.begun;
-  jobs = none_fit jobs core.list (subst (λ (n : ℕ). core.list.next_file ≤ n) (sym same.next_file) has.jobs.given) (same.flush ∙ none);
+  loose = has.loose ∙ sym kept.same.loose;
+  next_file = has.next_file ∙ sym kept.same.next_file;
+  begun = has.begun ∙ sym kept.same.begun;
+  jobs = kept.fit has.jobs;
   used = has.used;
   pins = has.pins;
+  pinned = has.pinned;
   read_only = has.read_only;
 }
 
 -- the blocks are described by the same information
-built_same : (held : Image) (core : CoreState) (infos : Vec InfoParts Global) (m : Machine) → infos.items ≡ core.infos.items → AreDescribed held core.infos.items m.state.blocks → AreDescribed held infos.items m.state.blocks
+pub built_same : (held : Image) (core : CoreState) (infos : Vec InfoParts Global) (m : Machine) → infos.items ≡ core.infos.items → AreDescribed held core.infos.items m.state.blocks → AreDescribed held infos.items m.state.blocks
 built_same held core infos m known was = subst (λ (i : List InfoParts). AreDescribed held i m.state.blocks) (sym known) was
 
 pub did_lack : {D : Type 0} (g : Ghosts D) (only_now : OnlyNow g) (old : Core D) (live : LiveParts) (infos : Vec InfoParts Global) (jobs : Jobs) → ((m : Machine) → HasState old.state m → early m BeginFlush ≡ None)
-    → old.state.jobs.flush ≡ None → infos.items ≡ old.state.infos.items → SameJobs old.state.jobs jobs
+    → old.state.jobs.flush ≡ None → KeepsRooms old.state.list old.state.infos infos old.state.jobs jobs
     → ((m : Machine) → HasState old.state m → SameRows old.state.live live) → Did g old BeginFlush (Refused Memory) (record old { state = record old.state { live = live; infos = infos; jobs = jobs } })
-did_lack {D} g only_now old live infos jobs free none known same rows =
+did_lack {D} g only_now old live infos jobs free none kept rows =
     quiet g only_now old (record old.state { live = live; infos = infos; jobs = jobs }) BeginFlush (Refused Memory) (λ file bytes. refl) (λ e. let bad = refused_is Memory Fault e in cc) (λ n. refl) refl refl
     (λ told m s.
     let step : Step (g.faults old.disk) (g.faults old.disk) m BeginFlush (Refused Memory) m = Lacks (free m s.has) refl refl refl in (
       m,
       stands_kept told told (g.held old.disk) (g.held old.disk) (g.may_leave old.disk) (g.may_leave old.disk) old.state (record old.state { live = live; infos = infos; jobs = jobs }) m m (g.faults old.disk) (g.faults old.disk) BeginFlush (Refused Memory)
-          (λ t. t) s step refl (has_memory old.state live infos jobs m none known same (rows m s.has) s.has) refl (λ t image left. (image, left, keeps_same image)) (λ t. built_same (g.held old.disk) old.state infos m known (s.built t)) s.settled (λ free. free)
-          (λ t free. no_segment (g.held old.disk) (g.may_leave old.disk) jobs (same.flush ∙ none)) s.logged,
+          (λ t. t) s step refl (has_memory old.state live infos jobs m none kept (rows m s.has) s.has) refl (λ t image left. (image, left, keeps_same image)) (λ t. built_same (g.held old.disk) old.state infos m kept.infos (s.built t)) s.settled (λ free. free)
+          (λ t free. no_segment (g.held old.disk) (g.may_leave old.disk) jobs (flush_none old.state.jobs.flush jobs.flush kept.same.flush none)) s.logged,
       refl,
       step,
     ))
@@ -194,8 +189,10 @@ pub record Begun (old new : Jobs) (files : FlushFiles) (list : ListBody) (room :
   pub number : new.begun ≡ min (old.begun + 1) (2 ^ 64 - 1)
   pub loose : new.loose.items ≡ old.loose.items
   pub flush : new.flush ≡ Some (record { number = new.begun; files = files; room = Some room })
-  pub loose_room : vec_len new.loose + length list.segments + 2 ≤ vec_capacity new.loose
-  pub fits : CommitFits room list (vec_len new.loose)
+  pub compaction : SameCompaction old.compaction new.compaction
+  pub loose_room : vec_len new.loose + length list.segments + length list.blocks + 4 ≤ vec_capacity new.loose
+  pub mine : CommitFits room list (vec_len new.loose) 2
+  pub other : RoomOfCompaction list (vec_len new.loose) 2 new.compaction
 
 pub record TakesHead (old new : LiveParts) (rows : List Row) : Type 0 where
   pub live : new.live ≡ old.live
@@ -205,7 +202,7 @@ pub record TakesHead (old new : LiveParts) (rows : List Row) : Type 0 where
 
 has_begun : (core : CoreState) (live : LiveParts) (infos : Vec InfoParts Global) (jobs : Jobs) (m : Machine) (files : FlushFiles) (room : CommitRoom) (rows : List Row) → core.jobs.flush ≡ None → core.jobs.next_file < 4294967294
     → files.block ≡ core.jobs.next_file → files.segment ≡ core.jobs.next_file + 1 → m.state.begun + 3 ≤ m.state.next_file
-    → infos.items ≡ core.infos.items → vec_len infos + 1 ≤ vec_capacity infos → Begun core.jobs jobs files core.list room → TakesHead core.live live rows → HasState core m
+    → infos.items ≡ core.infos.items → vec_len infos + 2 ≤ vec_capacity infos → Begun core.jobs jobs files core.list room → TakesHead core.live live rows → HasState core m
     → HasState (record core { live = live; infos = infos; jobs = jobs }) (with_state (after_begin_flush m.state) m)
 has_begun core live infos jobs m files room rows none below block segment fits known spare begun takes has =
     let whole : core.live.flushing ++ core.live.head ≡ m.state.head = ap (λ (r : List Row). r ++ core.live.head) (none_flushing core m has none) ∙ sym has.head in
@@ -222,12 +219,17 @@ has_begun core live infos jobs m files room rows none below block segment fits k
         number,
         record { block = block ∙ sym has.next_file; segment = segment ∙ ap (λ (n : ℕ). n + 1) (sym has.next_file) },
       );
-      compaction = has.compaction;
+      compaction = compaction_shown core.jobs.compaction jobs.compaction m.state.compaction begun.compaction has.compaction;
       blocks = has.blocks;
       infos = ap info_files known ∙ has.infos;
       listed = ap (map listed_as) known ∙ has.listed;
-      commit = λ free. subst (λ (k : Option OpenFlush). IfSome k (λ mine. (room : CommitRoom) × (mine.room ≡ Some room) × CommitFits room core.list (vec_len jobs.loose) × (vec_len infos + 1 ≤ vec_capacity infos))) (sym begun.flush)
-          (room, refl, begun.fits, spare);
+      commit = λ free. record {
+        rooms = rooms_fewer jobs core.list 2 (open_jobs jobs) (two_at_most jobs) (record {
+          flush = subst (λ (k : Option OpenFlush). RoomOfFlush core.list (vec_len jobs.loose) 2 k) (sym begun.flush) (room, refl, begun.mine);
+          compaction = begun.other;
+        });
+        infos = λ some. let few = two_at_most jobs in omega (arith, few, spare);
+      };
       rules = has.rules;
       segments = has.segments;
       last = has.last;
@@ -237,12 +239,15 @@ has_begun core live infos jobs m files room rows none below block segment fits k
       begun = number;
       jobs = record {
         given = (let was = has.jobs.given in let next = begun.next_file in omega (arith, was, next));
-        files = subst (λ (k : Option OpenFlush). IfSome k (λ mine. (core.list.next_file ≤ mine.files.block) × (core.list.next_file ≤ mine.files.segment))) (sym begun.flush)
-            (let was = has.jobs.given in (omega (arith, was, block), omega (arith, was, segment)));
-        room = subst (λ (k : Option OpenFlush). IfSome k (λ mine. vec_len jobs.loose + length core.list.segments + 2 ≤ vec_capacity jobs.loose)) (sym begun.flush) begun.loose_room;
+        flush = subst (λ (k : Option OpenFlush). SpareFlush core.list k) (sym begun.flush)
+            (let was = has.jobs.given in (inl (omega (arith, was, block)), inl (omega (arith, was, segment))));
+        compaction = spare_compaction_file core.list core.jobs.compaction jobs.compaction begun.compaction has.jobs.compaction;
+        level = low_level core.jobs.compaction jobs.compaction begun.compaction has.jobs.level;
+        room = λ some. let few = two_at_most jobs in let room = begun.loose_room in omega (arith, few, room);
       };
       used = used_begun core.list m.state (no_flush core m has none) has.used;
       pins = has.pins;
+      pinned = has.pinned;
       read_only = has.read_only;
     }
 
@@ -272,7 +277,7 @@ module _ {D : Type 0} (g : Ghosts D) (old : Core D) (disk : D) (files : FlushFil
       let next = s.has.next_file in
       others told file (λ is. omega (arith, is, block, under, next)) (λ is. omega (arith, is, segment, under, next))
 
-  module _ (live : LiveParts) (infos : Vec InfoParts Global) (jobs : Jobs) (room : CommitRoom) (rows : List Row) (known : infos.items ≡ old.state.infos.items) (spare : vec_len infos + 1 ≤ vec_capacity infos)
+  module _ (live : LiveParts) (infos : Vec InfoParts Global) (jobs : Jobs) (room : CommitRoom) (rows : List Row) (known : infos.items ≡ old.state.infos.items) (spare : vec_len infos + 2 ≤ vec_capacity infos)
       (begun : Begun old.state.jobs jobs files old.state.list room) (takes : TakesHead old.state.live live rows) where
     after : (told told' : Type 0) → (told' → told) → (told → IsTrue (g.tells old.disk)) → (m : Machine) → StandsFor told (g.held old.disk) (g.may_leave old.disk) old.state m
         → Step (g.faults old.disk) (g.faults disk) m BeginFlush (Flushing jobs.begun files.block rows) (with_state (after_begin_flush m.state) m)
@@ -339,18 +344,18 @@ module _ {D : Type 0} (g : Ghosts D) (old : Core D) (disk : D) (files : FlushFil
     did_begin_as number is empty made =
         subst (λ (n : ℕ). Did g old BeginFlush (Flushing n files.block rows) (record old { disk = disk; state = record old.state { live = live; infos = infos; jobs = jobs } })) (sym is) (did_begin empty made)
 
-  pub did_begin_fail : (live : LiveParts) (infos : Vec InfoParts Global) (jobs : Jobs) (faults : ℕ) → faults ≡ g.faults disk → Rose (g.faults old.disk) (g.faults disk) → infos.items ≡ old.state.infos.items
-      → SameJobs old.state.jobs jobs
+  pub did_begin_fail : (live : LiveParts) (infos : Vec InfoParts Global) (jobs : Jobs) (faults : ℕ) → faults ≡ g.faults disk → Rose (g.faults old.disk) (g.faults disk)
+      → KeepsRooms old.state.list old.state.infos infos old.state.jobs jobs
       → ((m : Machine) → HasState old.state m → SameRows old.state.live live)
       → Did g old BeginFlush (Refused Fault) (record old { disk = disk; state = record old.state { live = live; infos = infos; jobs = jobs; read_only = Some faults } })
-  did_begin_fail live infos jobs faults counted rose known same rows =
+  did_begin_fail live infos jobs faults counted rose kept rows =
       subst (λ (n : ℕ). Did g old BeginFlush (Refused Fault) (record old { disk = disk; state = record old.state { live = live; infos = infos; jobs = jobs; read_only = Some n } })) (sym counted)
       (did_kept g old disk (record old.state { live = live; infos = infos; jobs = jobs; read_only = Some (g.faults disk) }) BeginFlush (Refused Fault) telling run_keeps refl refl
       (λ m s. (
         broken (g.faults disk) m,
         stands_kept (IsTrue (g.tells old.disk)) (IsTrue (g.tells disk)) (g.held old.disk) (g.held disk) (g.may_leave old.disk) (g.may_leave disk) old.state (record old.state { live = live; infos = infos; jobs = jobs; read_only = Some (g.faults disk) }) m (broken (g.faults disk) m)
             (g.faults old.disk) (g.faults disk) BeginFlush (Refused Fault) (λ t. subst IsTrue telling t) s (Breaks (free m s.has) refl refl rose refl) refl (has m s.has) refl
-            (λ told. (run_keeps told m s).now) (λ told. built_same (g.held disk) old.state infos m known (described_below (g.held old.disk) (g.held disk) old.state m s.has (same_held told m s.has) (s.built told)))
+            (λ told. (run_keeps told m s).now) (λ told. built_same (g.held disk) old.state infos m kept.infos (described_below (g.held old.disk) (g.held disk) old.state m s.has (same_held told m s.has) (s.built told)))
             (λ told is. absurd (let bad : Some (g.faults disk) ≡ None = is in cc)) (λ is. absurd (let bad : Some (g.faults disk) ≡ None = is in cc)) (λ told is. absurd (let bad : Some (g.faults disk) ≡ None = is in cc))
             (λ told is. absurd (let bad : Some (g.faults disk) ≡ None = is in cc)),
         refl,
@@ -368,7 +373,7 @@ module _ {D : Type 0} (g : Ghosts D) (old : Core D) (disk : D) (files : FlushFil
       later (λ is. rose) calls (omega (arith, reads), omega (arith, reads)))
     where
       has : (m : Machine) → HasState old.state m → HasState (record old.state { live = live; infos = infos; jobs = jobs; read_only = Some (g.faults disk) }) (broken (g.faults disk) m)
-      has m was = has_stopped (record old.state { live = live; infos = infos; jobs = jobs }) (g.faults disk) m (has_memory old.state live infos jobs m none known same (rows m was) was)
+      has m was = has_stopped (record old.state { live = live; infos = infos; jobs = jobs }) (g.faults disk) m (has_memory old.state live infos jobs m none kept (rows m was) was)
 
 -- the rows that were taken are put back
 pub back_in_front : (old mid new : LiveParts) (rows : List Row) → TakesHead old mid rows → new.head ≡ mid.flushing ++ mid.head → new.flushing ≡ [] → new.live ≡ mid.live → SameRows old new

@@ -1,5 +1,5 @@
 -- What the steps of a flush's commit tell, put together.
-use Rattle.std.proofs.Common.{◌≡◌, ℕ, ◌+◌, ◌<◌, ◌≤◌, List, [], ◌∷◌, ◌++◌, length, Some, None, Option, IfSome, IsTrue, refl, sym, ◌∙◌, ap, subst, arith}
+use Rattle.std.proofs.Common.{◌≡◌, ℕ, ◌+◌, ◌-◌, ◌≤◌, List, [], ◌∷◌, ◌++◌, length, length-append, map, take, Some, None, Option, IfSome, IsTrue, refl, sym, ◌∙◌, ap, subst, arith}
 use Rattle.std.specs.Vec.{vec_len, vec_capacity}
 use Rattle.span_types.specs.Faults.{Rose}
 use Rattle.span_types.specs.First.{IsFirstOf}
@@ -11,26 +11,29 @@ use Rattle.block_info.specs.InfoParts.{InfoParts}
 use Rattle.block_list.specs.Body.{MeetsRules, successor}
 use Rattle.block_list.specs.declared.body.ListBody.{ListBody}
 use Rattle.store_model.specs.History.{count_of}
-use Rattle.store_model.specs.State.{Flush, flush_rows}
+use Rattle.store_model.specs.State.{flush_rows}
+use Rattle.store_model.specs.After.{released}
 use Rattle.store_model.specs.Event.{Event}
 use Rattle.store_model.specs.Event.Reply.{Refused}
 use Rattle.store_model.specs.Event.Refusal.{Fault as IsFault}
 use Rattle.store_model.specs.Holds.{IsOpenFlush}
 use Rattle.store_model.specs.Step.{Machine, broken}
+use Rattle.store_state.specs.Listed.{segment_of}
 use Rattle.store_state.specs.Replies.{write_refusal}
 use Rattle.store_state.specs.Written.{IsBlockOf}
 use Rattle.store_state.specs.declared.errors.WriteError.{WriteError}
 use Rattle.store_state.specs.declared.errors.WriteError.TheVariants.{Fault}
-use Rattle.store_core.specs.Jobs.{ShowsFlush}
-use Rattle.store_core.specs.NextList.{IsNextList, length_of}
+use Rattle.store_core.specs.Jobs.{ShowsFlush, IsSpare, one_if, files_of_compaction}
+use Rattle.store_core.specs.NextList.{IsNextList, length_of, next_floor}
 use Rattle.store_core.specs.declared.jobs.OpenFlush.{OpenFlush}
 use Rattle.store_core.specs.declared.state.CoreState.{CoreState}
 use Rattle.store_core.specs.declared.store.Core.{Core}
 use Rattle.store_core.specs.Cores.{HasState, CoreShows, unsure_of}
 use Rattle.store_core.specs.Events.{Did}
-use Rattle.store_core.proofs.CommitEnds.{Commits, meets_rules}
+use Rattle.store_core.proofs.FlushCommits.{Commits, meets_rules}
 use Rattle.store_core.proofs.CommitStates.{TookOver}
 use Rattle.store_core.proofs.OpenJobs.{IsOpenHere, open_here}
+use Rattle.store_core.proofs.RoomLeft.{one_of_compaction}
 
 -- the refusal that is answered, and the core as it is said
 pub did_stopped : {D : Type 0} (g : Ghosts D) (old new target : Core D) (event : Event) (why : WriteError) → why ≡ Fault → new ≡ target → Did g old event (Refused IsFault) target → Did g old event (Refused (write_refusal why)) new
@@ -116,17 +119,16 @@ has_spent core mine faults m known has = record {
   begun = has.begun;
   jobs = record {
     given = has.jobs.given;
-    files = subst (λ (k : Option OpenFlush). IfSome k (λ x. (core.list.next_file ≤ x.files.block) × (core.list.next_file ≤ x.files.segment))) known has.jobs.files;
-    room = room_same core mine known has.jobs.room;
+    flush = subst (λ (k : Option OpenFlush). IfSome k (λ x. IsSpare core.list x.files.block × IsSpare core.list x.files.segment)) known has.jobs.flush;
+    compaction = has.jobs.compaction;
+    level = has.jobs.level;
+    room = λ some. let one : one_if core.jobs.flush ≡ 1 = ap (λ (o : Option OpenFlush). one_if o) known in let fits = has.jobs.room (omega (arith, one)) in omega (arith, one, fits);
   };
   used = has.used;
   pins = has.pins;
+  pinned = has.pinned;
   read_only = refl;
 }
-  where
-    room_same : (core : CoreState) (mine : OpenFlush) → core.jobs.flush ≡ Some mine → IfSome core.jobs.flush (λ x. vec_len core.jobs.loose + length core.list.segments + 2 ≤ vec_capacity core.jobs.loose)
-        → vec_len core.jobs.loose + length core.list.segments + 2 ≤ vec_capacity core.jobs.loose
-    room_same core mine known fits = subst (λ (k : Option OpenFlush). IfSome k (λ x. vec_len core.jobs.loose + length core.list.segments + 2 ≤ vec_capacity core.jobs.loose)) known fits
 
 pub has_stopped_spent : (core later : CoreState) (mine : OpenFlush) (faults : ℕ) (m : Machine) → core.jobs.flush ≡ Some mine → later ≡ spent core mine → HasState core m → HasState (record later { read_only = Some faults }) (broken faults m)
 has_stopped_spent core later mine faults m known is has =
@@ -134,14 +136,28 @@ has_stopped_spent core later mine faults m known is has =
 
 -- ---- the memory that took over the list
 
-pub took_over : (core before later : CoreState) (list : ListBody) (info : InfoParts) (m : Machine) (mine : OpenFlush) → HasState core m → before ≡ spent core mine
+-- the list names the file of the other job
+pub other_named : (core before : CoreState) (mine : OpenFlush) (count : ℕ) (list : ListBody) → core.jobs.flush ≡ Some mine → before ≡ spent core mine
+    → IfSome core.jobs.flush (λ known. IsNextList core known.files count list) → one_if before.jobs.compaction ≤ length list.loose
+other_named core before mine count list known is next =
+    let its : IsNextList core mine.files count list = subst (λ (k : Option OpenFlush). IfSome k (λ x. IsNextList core x.files count list)) known next in
+    let front : List ℕ = core.jobs.loose.items ++ released (next_floor core) (map segment_of (core.list.segments ++ record { file = mine.files.segment; first = length_of core } ∷ [])) in
+    let named = ap (λ (l : List ℕ). length l) its.its_loose in
+    let joined = length-append front (files_of_compaction core.jobs.compaction) in
+    let file = one_of_compaction core.jobs.compaction in
+    subst (λ (x : CoreState). one_if x.jobs.compaction ≤ length list.loose) (sym is) (omega (arith, named, joined, file))
+
+pub took_over : (core before later : CoreState) (list : ListBody) (info : InfoParts) (m : Machine) (mine : OpenFlush) → HasState core m → core.jobs.flush ≡ Some mine → before ≡ spent core mine
+    → length list.segments + length list.loose ≡ length core.list.segments + 1 + vec_len core.jobs.loose + one_if core.jobs.compaction
     → later.list ≡ list → later.infos.items ≡ before.infos.items ++ info ∷ [] → IfSome before.jobs.flush (λ known. later.segment.file ≡ known.files.segment)
     → (later.segment.first ≡ length_of before) × (later.segment.count ≡ 0) × (later.segment.gate ≡ 1)
-    → (later.jobs.flush ≡ None) × (later.jobs.loose.items ≡ list.loose) × (later.jobs.begun ≡ before.jobs.begun) × (later.jobs.next_file ≡ before.jobs.next_file)
+    → (later.jobs.flush ≡ None) × (later.jobs.compaction ≡ before.jobs.compaction) × (later.jobs.begun ≡ before.jobs.begun) × (later.jobs.next_file ≡ before.jobs.next_file)
+    → later.jobs.loose.items ≡ take (length list.loose - one_if before.jobs.compaction) list.loose
+    → (vec_capacity before.jobs.loose ≤ vec_capacity later.jobs.loose) × (vec_capacity before.infos ≤ vec_capacity later.infos)
     → (later.live.flushing ≡ []) × (later.live.head ≡ before.live.head) × (later.live.live ≡ before.live.live)
     → (later.pins ≡ before.pins) × (later.read_only ≡ before.read_only) × (later.unsure ≡ before.unsure)
     → TookOver core later list info mine.files.segment (count_of m.history)
-took_over core before later list info m mine has is listing infos segment empty jobs rows same = record {
+took_over core before later list info m mine has known is each listing infos segment empty jobs loose room rows same = record {
   listing = listing;
   infos = infos ∙ ap (λ (x : CoreState). x.infos.items ++ info ∷ []) is;
   file_is = subst (λ (x : CoreState). IfSome x.jobs.flush (λ known. later.segment.file ≡ known.files.segment)) is segment;
@@ -150,19 +166,26 @@ took_over core before later list info m mine has is listing infos segment empty 
   gate = empty.2;
   begun = jobs.2 ∙ ap (λ (x : CoreState). x.jobs.begun) is;
   next_file = jobs.3 ∙ ap (λ (x : CoreState). x.jobs.next_file) is;
-  loose = jobs.1;
+  loose = loose ∙ ap (λ (x : CoreState). take (length list.loose - one_if x.jobs.compaction) list.loose) is;
+  was_open = ap (λ (o : Option OpenFlush). one_if o) known;
   none = jobs.0;
+  compaction = jobs.1 ∙ ap (λ (x : CoreState). x.jobs.compaction) is;
+  each_file = each;
+  room = subst (λ (x : CoreState). vec_capacity x.jobs.loose ≤ vec_capacity later.jobs.loose) is room.0;
+  info_room = subst (λ (x : CoreState). vec_capacity x.infos ≤ vec_capacity later.infos) is room.1;
   gone = rows.0;
   head = rows.1 ∙ ap (λ (x : CoreState). x.live.head) is;
   rows = rows.2 ∙ ap (λ (x : CoreState). x.live.live) is;
   pins = pins_same before later same.0 ∙ ap (λ (x : CoreState). x.pins.items) is;
   read_only = same.1 ∙ ap (λ (x : CoreState). x.read_only) is;
-  unsure = unsure_same before later same.2 ∙ ap unsure_of is;
 }
   where
     pins_same : (a b : CoreState) → b.pins ≡ a.pins → b.pins.items ≡ a.pins.items
     pins_same a b is = cc
 
+pub unsure_after_spent : (core before later : CoreState) (mine : OpenFlush) → before ≡ spent core mine → later.unsure ≡ before.unsure → unsure_of later ≡ unsure_of core
+unsure_after_spent core before later mine is same = unsure_same before later same ∙ ap unsure_of is
+  where
     unsure_same : (a b : CoreState) → b.unsure ≡ a.unsure → unsure_of b ≡ unsure_of a
     unsure_same a b is = cc
 

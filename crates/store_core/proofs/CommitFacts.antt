@@ -1,5 +1,5 @@
 -- Where a flush's commit may be made: what the core stands for, once the block was synced.
-use Rattle.std.proofs.Common.{◌≡◌, ℕ, ◌≤◌, List, [], ◌∷◌, ◌++◌, length, Some, None, Option, IfSome, IsTrue, refl, sym, ◌∙◌, ap, subst, arith, append_assoc}
+use Rattle.std.proofs.Common.{◌≡◌, ℕ, ◌≤◌, List, [], ◌∷◌, ◌++◌, length, None, Option, IfSome, refl, sym, ◌∙◌, ap, subst, arith, append_assoc}
 use Rattle.std.specs.List.{Contains}
 use Rattle.std.proofs.lemmas.List.{append-nil}
 use Rattle.span_types.specs.declared.spans.Row.{Row}
@@ -23,11 +23,13 @@ use Rattle.store_images.specs.Stored.{ref_of}
 use Rattle.store_core.specs.Cores.{StandsFor, tail_of}
 use Rattle.store_core.specs.declared.jobs.OpenFlush.{OpenFlush}
 use Rattle.store_core.specs.declared.state.CoreState.{CoreState}
-use Rattle.store_core.proofs.Apart.{list_low, below_same, settled_below}
+use Rattle.store_core.specs.Jobs.{IsSpare}
+use Rattle.store_core.proofs.Apart.{below_same, settled_below}
 use Rattle.store_core.proofs.CommitImages.{MayCommit, firsts_in}
-use Rattle.store_core.proofs.CommitStates.{new_block, committed_state, next_last, next_parting, next_segments}
+use Rattle.store_core.proofs.CommitStates.{new_block, committed_state, next_last, next_parting}
 use Rattle.store_core.proofs.Logged.{both_within, flush_outside, head_outside, live_outside, logged_same}
-use Rattle.store_core.proofs.OpenJobs.{IsOpenHere, above_list}
+use Rattle.store_core.proofs.OpenJobs.{IsOpenHere, spare_files}
+use Rattle.store_core.proofs.Spare.{spare_low}
 
 module _ (told : Type 0) (known : told) (held mid : Image) (may_leave may_mid : Image → Type 0) (core : CoreState) (m : Machine) (s : StandsFor told held may_leave core m) (writes : core.read_only ≡ None)
     (number file size : ℕ) (here : IsOpenHere core m number file) (firsts : List Row) (list : ListBody) (before faults : ℕ)
@@ -36,14 +38,11 @@ module _ (told : Type 0) (known : told) (held mid : Image) (may_leave may_mid : 
   abbrev last : SegmentRef
   last = next_last here.mine.files m
 
-  low_list : 2 ≤ core.list.next_file
-  low_list = list_low core.list s.has.rules
-
   fresh_here : ((first : ℕ) → SegmentHolds first [] 1 (bytes_of held here.mine.files.segment)) × OnlyBytes here.mine.files.segment (bytes_of held here.mine.files.segment) may_leave
   fresh_here = subst (λ (k : Option OpenFlush). IfSome k (λ mine. ((first : ℕ) → SegmentHolds first [] 1 (bytes_of held mine.files.segment)) × OnlyBytes mine.files.segment (bytes_of held mine.files.segment) may_leave)) here.known (s.fresh known writes)
 
-  given_here : (core.list.next_file ≤ here.mine.files.block) × (core.list.next_file ≤ here.mine.files.segment)
-  given_here = subst (λ (k : Option OpenFlush). IfSome k (λ mine. (core.list.next_file ≤ mine.files.block) × (core.list.next_file ≤ mine.files.segment))) here.known s.has.jobs.files
+  spare_here : IsSpare core.list here.mine.files.block × IsSpare core.list here.mine.files.segment
+  spare_here = spare_files core m number file s.has here
 
   still : (f : ℕ) (bytes : List ℕ) → bytes ≡ bytes_of held f → OnlyBytes f bytes may_leave → OnlyBytes f (bytes_of mid f) may_mid
   still f bytes is only = λ image left. only image (crash image left) ∙ is ∙ sym (same f)
@@ -64,8 +63,8 @@ module _ (told : Type 0) (known : told) (held mid : Image) (may_leave may_mid : 
     parting = next_parting core m s.has here.mine.files s.above;
     segments = segments;
     blocks_are = blocks;
-    low = (let least = low_list in let given = given_here.0 in let is = here.files.block in omega (arith, least, given, is));
-    low_segment = (let least = low_list in let given = given_here.1 in omega (arith, least, given));
+    low = subst (λ (f : ℕ). 2 ≤ f) here.files.block (spare_low core.list s.has.rules here.mine.files.block spare_here.0);
+    low_segment = spare_low core.list s.has.rules here.mine.files.segment spare_here.1;
     first = refl;
     fresh = subst (λ (b : List ℕ). SegmentHolds (count_of m.history) [] 1 b) (sym (same here.mine.files.segment)) (fresh_here.0 (count_of m.history));
     fresh_only = still here.mine.files.segment (bytes_of held here.mine.files.segment) refl fresh_here.1;

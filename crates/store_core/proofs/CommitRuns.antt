@@ -1,24 +1,16 @@
--- What a crash leaves at any moment of a flush's commit: of the sync of its block, and of the writing of the list.
-use Rattle.std.proofs.Common.{◌≡◌, ◌⊎◌, ℕ, ◌<◌, ◌≤◌, List, Some, IsTrue, sym, subst}
-use Rattle.std.specs.List.{Contains}
-use Rattle.span_types.specs.declared.spans.Row.{Row}
+-- What a crash leaves at any moment of a commit: of the sync of its block, and of the writing of the list.
+use Rattle.std.proofs.Common.{◌≡◌, ℕ, ◌<◌, ◌≤◌, Some, IsTrue, sym, subst}
 use Rattle.disk_model.specs.Images.{Image, bytes_of, SameBytes, Besides}
 use Rattle.disk_model.specs.Counts.{RoseBy}
 use Rattle.disk_model.specs.Crash.{OnlyBytes, Within, Reached, Elapses, LeavesOnly, Run}
 use Rattle.disk_model.specs.declared.disk.Device.{Ghosts}
 use Rattle.disk_model.proofs.Moments.{joined, widened, still}
-use Rattle.block_list.specs.Body.{files_of}
 use Rattle.block_list.specs.Commit.{ImageHoldsEither, WritesSlot}
 use Rattle.block_list.specs.Loading.{IsReady}
-use Rattle.block_list.specs.declared.body.SegmentRef.{SegmentRef}
 use Rattle.block_list.specs.declared.body.ListBody.{ListBody}
 use Rattle.store_model.specs.History.{History}
-use Rattle.store_model.specs.State.{Block}
 use Rattle.store_state.specs.Calls.{RoseAtMost}
 use Rattle.store_images.specs.Stored.{ImageStandsFor, IsTidy}
-use Rattle.store_images.specs.Settled.{Tail, IsSettled}
-use Rattle.store_images.proofs.Storing.{settled_now}
-use Rattle.store_core.proofs.CommitImages.{MayCommit, image_stands, tidy_stands}
 use Rattle.store_core.proofs.PushEvents.{OnlyNow}
 
 -- what the sync of the block tells
@@ -43,11 +35,17 @@ pub record Ran {D : Type 0} (g : Ghosts D) (mid new : D) (list next : ListBody) 
   pub calls : RoseAtMost 6 (g.calls mid) (g.calls new)
   pub reads : g.reads new ≡ g.reads mid
 
-module _ {D : Type 0} (g : Ghosts D) (only_now : OnlyNow g) (old mid new : D) (file slot : ℕ) (list next : ListBody) (blocks : List Block) (block : Block) (tail : Tail) (h : History) (last : SegmentRef) (waiting : List Row)
-    (synced : Synced g old mid file) (ran : Ran g mid new list next slot) (told : IsTrue (g.tells old)) (settled : IsSettled (g.held old) (g.may_leave old) list blocks tail h)
-    (c : MayCommit (g.held mid) (g.may_leave mid) list next blocks block tail h last waiting) where
+-- The list may be written in the place of the one that counts: every image that the writing makes stands for the history, and is
+-- tidy where the one before it was.
+pub record MayList (held : Image) (may_leave : Image → Type 0) (body new : ListBody) (h : History) : Type 0 where
+  pub ready : IsReady held may_leave (Some body)
+  pub stands : (slot : ℕ) → slot < 2 → (origin image : Image) → may_leave origin → WritesSlot slot (ImageHoldsEither (Some body) new) origin image → ImageStandsFor image h
+  pub tidy : (slot : ℕ) → slot < 2 → (origin image : Image) → may_leave origin → WritesSlot slot (ImageHoldsEither (Some body) new) origin image → IsTidy origin → IsTidy image
+
+module _ {D : Type 0} (g : Ghosts D) (only_now : OnlyNow g) (old mid new : D) (file slot : ℕ) (list next : ListBody) (h : History) (synced : Synced g old mid file) (ran : Ran g mid new list next slot)
+    (told : IsTrue (g.tells old)) (before : (image : Image) → g.may_leave old image → ImageStandsFor image h) (c : MayList (g.held mid) (g.may_leave mid) list next h) where
   pub its_run : Run (WritesSlot slot (ImageHoldsEither (Some list) next)) g.moment g.left_since g.may_leave mid new
-  its_run = ran.run (subst IsTrue (sym synced.telling) told) c.settled.lies.ready
+  its_run = ran.run (subst IsTrue (sym synced.telling) told) c.ready
 
   -- a property that each image has before, and each one that the writing makes
   since_then : (P : Image → Type 0) → ((image : Image) → g.may_leave old image → P image)
@@ -59,15 +57,13 @@ module _ {D : Type 0} (g : Ghosts D) (only_now : OnlyNow g) (old mid new : D) (f
       (widened g.moment g.left_since mid new (Reached (WritesSlot slot (ImageHoldsEither (Some list) next)) (g.may_leave mid)) P its_run.since second)
 
   stands : (image : Image) → Reached (WritesSlot slot (ImageHoldsEither (Some list) next)) (g.may_leave mid) image → ImageStandsFor image h
-  stands image r = image_stands (g.held mid) (g.may_leave mid) list next blocks block tail h last waiting c slot ran.below r.0 image r.1 r.2
+  stands image r = c.stands slot ran.below r.0 image r.1 r.2
 
   pub stands_since : LeavesOnly g.moment g.left_since old new (λ image. ImageStandsFor image h)
-  stands_since = since_then (λ image. ImageStandsFor image h) (λ image left. settled_now (g.held old) (g.may_leave old) list blocks tail h settled image left) stands
+  stands_since = since_then (λ image. ImageStandsFor image h) before stands
 
   pub stands_now : (image : Image) → g.may_leave new image → ImageStandsFor image h
   stands_now image left = stands image (its_run.now image left)
 
-  pub tidy_since : ((f : ℕ) → Contains (files_of list) f ⊎ ((list.next_file ≤ f) × (f < next.next_file)) → Contains (files_of next) f)
-      → ((image : Image) → g.may_leave old image → IsTidy image) → LeavesOnly g.moment g.left_since old new IsTidy
-  tidy_since named tidy = since_then IsTidy tidy (λ image r.
-      tidy_stands (g.held mid) (g.may_leave mid) list next blocks block tail h last waiting c named slot ran.below r.0 image r.1 r.2 (tidy r.0 (synced.crash r.0 r.1)))
+  pub tidy_since : ((image : Image) → g.may_leave old image → IsTidy image) → LeavesOnly g.moment g.left_since old new IsTidy
+  tidy_since tidy = since_then IsTidy tidy (λ image r. c.tidy slot ran.below r.0 image r.1 r.2 (tidy r.0 (synced.crash r.0 r.1)))

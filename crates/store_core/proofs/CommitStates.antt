@@ -1,18 +1,17 @@
 -- The memory of a core whose flush was committed.
-use Rattle.std.proofs.Common.{◌≡◌, inl, inr, ℕ, ◌+◌, ◌<◌, ◌≤◌, List, [], ◌∷◌, ◌++◌, map, length, get_or, None, Option, refl, sym, ◌∙◌, ap, subst, arith}
+use Rattle.std.proofs.Common.{◌≡◌, inl, inr, ℕ, ◌+◌, ◌-◌, ◌<◌, ◌≤◌, List, [], ◌∷◌, ◌++◌, map, length, length-append, take, get_or, None, Option, IfSome, refl, sym, ◌∙◌, ap, subst, arith}
 use Rattle.std.specs.List.{Contains}
-use Rattle.std.proofs.lemmas.List.{append-nil, map-append}
+use Rattle.std.specs.Vec.{vec_len, vec_capacity}
+use Rattle.std.proofs.lemmas.List.{append-nil, map-append, length-map}
 use Rattle.std.proofs.lemmas.List.Elements.{Contains-append_cases}
 use Rattle.span_types.specs.declared.spans.Row.{Row}
-use Rattle.head_log.specs.declared.segment.Segment.{Segment}
 use Rattle.block_info.specs.InfoParts.{InfoParts}
 use Rattle.block_list.specs.Body.{MeetsRules}
 use Rattle.block_list.specs.declared.body.BlockRef.{BlockRef}
 use Rattle.block_list.specs.declared.body.SegmentRef.{SegmentRef}
 use Rattle.block_list.specs.declared.body.ListBody.{ListBody}
-use Rattle.live_traces.specs.Parts.{LiveParts}
 use Rattle.store_model.specs.History.{count_of}
-use Rattle.store_model.specs.State.{State, Block, Segment as ModelSegment, Flush, Compaction, block_files, compaction_files, live_rows}
+use Rattle.store_model.specs.State.{State, Block, Segment as ModelSegment, Flush, block_files, compaction_files, live_rows}
 use Rattle.store_model.specs.After.{after_commit_flush, floor_after, least, released, staying, with_segment}
 use Rattle.store_model.specs.Step.{Machine, with_state}
 use Rattle.store_model.specs.Sound.{StateIsSound}
@@ -22,17 +21,17 @@ use Rattle.store_state.specs.Given.{info_files}
 use Rattle.store_state.specs.Loose.{AreFilesOf}
 use Rattle.store_state.specs.declared.listing.FlushFiles.{FlushFiles}
 use Rattle.store_images.specs.Stored.{ref_of}
-use Rattle.store_core.specs.Jobs.{ShowsFlush}
-use Rattle.store_core.specs.Cores.{HasState, listed_as, segment_of, unsure_of}
+use Rattle.store_core.specs.Jobs.{ShowsFlush, ShowsCompaction, IsSpare, open_jobs, one_if, files_of_compaction}
+use Rattle.store_core.specs.Cores.{HasState, listed_as, segment_of}
 use Rattle.store_core.specs.InUse.{AreInUse}
-use Rattle.store_core.specs.Pins.{is_taken}
-use Rattle.store_core.specs.declared.jobs.Jobs.{Jobs}
+use Rattle.store_core.specs.Pins.{is_taken, files_at}
 use Rattle.store_core.specs.declared.jobs.OpenFlush.{OpenFlush}
+use Rattle.store_core.specs.declared.jobs.OpenCompaction.{OpenCompaction}
 use Rattle.store_core.specs.declared.state.CoreState.{CoreState}
 use Rattle.store_core.proofs.InUse.{used_listed}
 use Rattle.store_core.proofs.Logged.{head_outside, live_outside}
 use Rattle.store_core.proofs.NextLists.{Parting, NamesState, first_in, parting, order_with, next_rules, same_segments}
-use Rattle.store_core.proofs.NoJobs.{no_commit_room, none_fit}
+use Rattle.store_core.proofs.RoomLeft.{GrewByOne, compaction_shown, one_of_compaction, front_left, spare_compaction, commit_room_left, jobs_left}
 use Rattle.store_core.proofs.States.{ref_to}
 
 -- the block that is listed
@@ -101,16 +100,17 @@ module _ (core : CoreState) (m : Machine) (has : HasState core m) where
   pub names_next : (files : FlushFiles) (job : Flush) (size : ℕ) (firsts : List Row) (list : ListBody) → AreFilesOf files job
       → list.blocks ≡ core.list.blocks ++ record { file = files.block; level = 0; rows = size } ∷ []
       → map segment_of list.segments ≡ staying (floor_after (count_of m.history) m.state) (map segment_of (core.list.segments ++ next_last files m ∷ []))
-      → list.loose ≡ core.jobs.loose.items ++ released (floor_after (count_of m.history) m.state) (map segment_of (core.list.segments ++ next_last files m ∷ []))
+      → list.loose ≡ (core.jobs.loose.items ++ released (floor_after (count_of m.history) m.state) (map segment_of (core.list.segments ++ next_last files m ∷ []))) ++ files_of_compaction core.jobs.compaction
       → list.floor ≡ floor_after (count_of m.history) m.state → list.next_file ≡ core.jobs.next_file → NamesState list (committed_state m job size firsts)
   names_next files job size firsts list own blocks segments loose floor next_file = record {
     blocks = map-append ref_of m.state.blocks (new_block job size firsts ∷ []) ∙ ap (λ (l : List BlockRef). l ++ record { file = job.file; level = 0; rows = size } ∷ []) (sym has.blocks)
         ∙ ap (λ (f : ℕ). core.list.blocks ++ record { file = f; level = 0; rows = size } ∷ []) (sym own.block) ∙ sym blocks;
     segments = ap (staying (floor_after (count_of m.history) m.state)) (with_is files job own) ∙ sym segments;
     floor = sym floor;
-    loose = ap (λ (c : Option Compaction). ((committed_state m job size firsts).loose ++ []) ++ compaction_files c) has.compaction ∙ append-nil ((committed_state m job size firsts).loose ++ []) ∙ append-nil (committed_state m job size firsts).loose
-        ∙ ap (λ (l : List ℕ). l ++ released (floor_after (count_of m.history) m.state) (with_segment (count_of m.history) job m.state)) has.loose
-        ∙ ap (λ (l : List ModelSegment). core.jobs.loose.items ++ released (floor_after (count_of m.history) m.state) l) (with_is files job own) ∙ sym loose;
+    loose = ap (λ (l : List ℕ). l ++ compaction_files m.state.compaction) (append-nil (committed_state m job size firsts).loose)
+        ∙ ap (λ (l : List ℕ). (committed_state m job size firsts).loose ++ l) (compaction_shown core.jobs.compaction m.state.compaction has.compaction)
+        ∙ ap (λ (l : List ℕ). (l ++ released (floor_after (count_of m.history) m.state) (with_segment (count_of m.history) job m.state)) ++ files_of_compaction core.jobs.compaction) has.loose
+        ∙ ap (λ (l : List ModelSegment). (core.jobs.loose.items ++ released (floor_after (count_of m.history) m.state) l) ++ files_of_compaction core.jobs.compaction) (with_is files job own) ∙ sym loose;
     next_file = has.next_file ∙ sym next_file;
   }
 
@@ -142,14 +142,19 @@ pub record TookOver (core later : CoreState) (list : ListBody) (info : InfoParts
   pub gate : later.segment.gate ≡ 1
   pub begun : later.jobs.begun ≡ core.jobs.begun
   pub next_file : later.jobs.next_file ≡ core.jobs.next_file
-  pub loose : later.jobs.loose.items ≡ list.loose
+  -- without the file of the other job, which the list names last
+  pub loose : later.jobs.loose.items ≡ take (length list.loose - one_if core.jobs.compaction) list.loose
+  pub was_open : one_if core.jobs.flush ≡ 1
   pub none : later.jobs.flush ≡ None
+  pub compaction : later.jobs.compaction ≡ core.jobs.compaction
+  pub each_file : length list.segments + length list.loose ≡ length core.list.segments + 1 + vec_len core.jobs.loose + one_if core.jobs.compaction
+  pub room : vec_capacity core.jobs.loose ≤ vec_capacity later.jobs.loose
+  pub info_room : vec_capacity core.infos ≤ vec_capacity later.infos
   pub gone : later.live.flushing ≡ []
   pub head : later.live.head ≡ core.live.head
   pub rows : later.live.live ≡ core.live.live
   pub pins : later.pins.items ≡ core.pins.items
   pub read_only : later.read_only ≡ core.read_only
-  pub unsure : unsure_of later ≡ unsure_of core
 
 -- the information is that of the job's block
 pub record IsItsInfo (info : InfoParts) (file size : ℕ) : Type 0 where
@@ -168,13 +173,13 @@ has_committed core later list m job size firsts info kept file has took its name
   head = has.head ∙ sym took.head;
   flushing = took.gone;
   flush = subst (λ (k : Option OpenFlush). ShowsFlush k None) (sym took.none) refl;
-  compaction = has.compaction;
+  compaction = subst (λ (k : Option OpenCompaction). ShowsCompaction k m.state.compaction) (sym took.compaction) has.compaction;
   blocks = ap (λ (l : ListBody). l.blocks) took.listing ∙ sym names.blocks;
   infos = ap info_files took.infos ∙ map-append (λ (i : InfoParts). i.file) core.infos.items (info ∷ []) ∙ ap (λ (l : List ℕ). l ++ info.file ∷ []) has.infos
       ∙ ap (λ (n : ℕ). block_files m.state.blocks ++ n ∷ []) its.file_is ∙ sym (map-append (λ (b : Block). b.file) m.state.blocks (block ∷ []));
   listed = ap (map listed_as) took.infos ∙ map-append listed_as core.infos.items (info ∷ []) ∙ ap (λ (l : List BlockRef). l ++ listed_as info ∷ []) (has.listed ∙ has.blocks)
       ∙ ap (λ (r : BlockRef). map ref_of m.state.blocks ++ r ∷ []) its_ref ∙ sym (map-append ref_of m.state.blocks (block ∷ [])) ∙ names.blocks ∙ sym (ap (λ (l : ListBody). l.blocks) took.listing);
-  commit = λ free. no_commit_room later.jobs later.list later.infos took.none;
+  commit = λ free. commit_room_left core.jobs later.jobs core.list later.list core.infos later.infos one_less (inl took.none) (inr took.compaction) grew info_len took.info_room (has.commit (sym took.read_only ∙ free));
   rules = subst MeetsRules (sym took.listing) rules;
   segments = names.segments ∙ sym (ap (λ (l : ListBody). map segment_of l.segments) took.listing);
   last = (
@@ -182,17 +187,70 @@ has_committed core later list m job size firsts info kept file has took its name
     ap (λ (l : ListBody). l.segments) took.listing ∙ segments ∙ ap (λ (n : ℕ). kept ++ ref_to n (count_of m.history) ∷ []) (sym took.file_is) ∙ ap (λ (n : ℕ). kept ++ ref_to later.segment.file n ∷ []) (sym took.first_is),
   );
   floor = names.floor ∙ sym (ap (λ (l : ListBody). l.floor) took.listing);
-  loose = sym (append-nil (committed_state m job size firsts).loose) ∙ sym (append-nil ((committed_state m job size firsts).loose ++ [])) ∙ ap (λ (c : Option Compaction). ((committed_state m job size firsts).loose ++ []) ++ compaction_files c) (sym has.compaction) ∙ names.loose ∙ sym took.loose;
+  loose = loose_is;
   next_file = has.next_file ∙ sym took.next_file;
   begun = has.begun ∙ sym took.begun;
-  jobs = none_fit later.jobs later.list (let a = names.next_file in let b = has.next_file in let c = took.next_file in let d = ap (λ (l : ListBody). l.next_file) took.listing in omega (arith, a, b, c, d)) took.none;
+  jobs = jobs_left core.jobs later.jobs core.list later.list one_less grew took.room
+      (let a = names.next_file in let b = has.next_file in let c = took.next_file in let d = ap (λ (l : ListBody). l.next_file) took.listing in omega (arith, a, b, c, d))
+      (subst (λ (k : Option OpenFlush). IfSome k (λ mine. IsSpare later.list mine.files.block × IsSpare later.list mine.files.segment)) (sym took.none) tt)
+      (spare_compaction later.jobs.compaction later.list u.loose (ap (λ (l : ListBody). l.loose) took.listing ∙ named ∙ ap (λ (k : Option OpenCompaction). u.loose ++ files_of_compaction k) (sym took.compaction)))
+      (inr took.compaction) has.jobs;
   used = subst (λ (l : ListBody). AreInUse l (committed_state m job size firsts)) (sym took.listing) (used_listed list (committed_state m job size firsts) names);
   pins = λ n. has.pins n ∙ ap (is_taken n) (sym took.pins);
+  pinned = λ n. has.pinned n ∙ ap (files_at n) (sym took.pins);
   read_only = has.read_only ∙ sym took.read_only;
 }
   where
     block : Block
     block = new_block job size firsts
+
+    u : State
+    u = committed_state m job size firsts
+
+    others : compaction_files m.state.compaction ≡ files_of_compaction core.jobs.compaction
+    others = compaction_shown core.jobs.compaction m.state.compaction has.compaction
+
+    named : list.loose ≡ u.loose ++ files_of_compaction core.jobs.compaction
+    named = sym names.loose ∙ ap (λ (l : List ℕ). l ++ compaction_files m.state.compaction) (append-nil u.loose) ∙ ap (λ (l : List ℕ). u.loose ++ l) others
+
+    loose_is : u.loose ≡ later.jobs.loose.items
+    loose_is = sym (took.loose ∙ front_left list.loose u.loose (files_of_compaction core.jobs.compaction) (one_if core.jobs.compaction) named (sym (one_of_compaction core.jobs.compaction)))
+
+    one_less : open_jobs core.jobs ≡ 1 + open_jobs later.jobs
+    one_less =
+        let a = took.was_open in
+        let b : one_if later.jobs.flush ≡ 0 = ap (λ (o : Option OpenFlush). one_if o) took.none in
+        let c : one_if later.jobs.compaction ≡ one_if core.jobs.compaction = ap (λ (o : Option OpenCompaction). one_if o) took.compaction in
+        omega (arith, a, b, c)
+
+    grew_list : GrewByOne core.list (vec_len core.jobs.loose) list (vec_len later.jobs.loose)
+    grew_list =
+        let each = took.each_file in
+        let all = ap (λ (l : List ℕ). length l) named ∙ length-append u.loose (files_of_compaction core.jobs.compaction) in
+        let other = one_of_compaction core.jobs.compaction in
+        let mine = ap (λ (l : List ℕ). length l) loose_is in
+        let more : length u.loose ≡ length m.state.loose + length (released (floor_after (count_of m.history) m.state) (with_segment (count_of m.history) job m.state)) = length-append m.state.loose (released (floor_after (count_of m.history) m.state) (with_segment (count_of m.history) job m.state)) in
+        let was = ap (λ (l : List ℕ). length l) has.loose in
+        let old : vec_len core.jobs.loose ≡ length core.jobs.loose.items = core.jobs.loose.ok.0 in
+        let new : vec_len later.jobs.loose ≡ length later.jobs.loose.items = later.jobs.loose.ok.0 in
+        let blocks = sym (ap (λ (l : List BlockRef). length l) names.blocks) ∙ length-map (m.state.blocks ++ block ∷ []) ref_of ∙ length-append m.state.blocks (block ∷ []) in
+        let before = ap (λ (l : List BlockRef). length l) has.blocks ∙ length-map m.state.blocks ref_of in
+        record {
+          segments = omega (arith, each, all, other, mine, more, was, old, new);
+          blocks = omega (arith, blocks, before);
+          files = omega (arith, each, all, other, mine, old, new, blocks, before);
+          text = omega (arith, each, all, other, mine, more, was, old, new, blocks, before);
+        }
+
+    grew : GrewByOne core.list (vec_len core.jobs.loose) later.list (vec_len later.jobs.loose)
+    grew = subst (λ (l : ListBody). GrewByOne core.list (vec_len core.jobs.loose) l (vec_len later.jobs.loose)) (sym took.listing) grew_list
+
+    info_len : vec_len later.infos ≤ vec_len core.infos + 1
+    info_len =
+        let a : vec_len later.infos ≡ length later.infos.items = later.infos.ok.0 in
+        let b : vec_len core.infos ≡ length core.infos.items = core.infos.ok.0 in
+        let c = ap (λ (l : List InfoParts). length l) took.infos ∙ length-append core.infos.items (info ∷ []) in
+        omega (arith, a, b, c)
 
     its_ref : listed_as info ≡ ref_of block
     its_ref =

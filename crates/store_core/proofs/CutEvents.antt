@@ -55,6 +55,7 @@ has_cut core live m goes moved has head stay flushing = record {
   jobs = has.jobs;
   used = has.used;
   pins = has.pins;
+  pinned = has.pinned;
   read_only = has.read_only;
 }
 

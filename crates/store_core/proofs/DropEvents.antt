@@ -1,5 +1,6 @@
 -- A flush that is given up, as an event of a core.
-use Rattle.std.proofs.Common.{◌≡◌, ℕ, ◌≤◌, List, [], ◌∷◌, ◌++◌, None, Option, refl, sym, ◌∙◌, ap, subst}
+use Rattle.std.proofs.Common.{◌≡◌, inl, inr, ℕ, ◌≤◌, List, [], ◌∷◌, ◌++◌, length, Some, None, Option, refl, sym, ◌∙◌, ap, subst, arith}
+use Rattle.std.specs.Vec.{vec_capacity}
 use Rattle.span_types.specs.declared.spans.Row.{Row}
 use Rattle.disk_model.specs.declared.disk.Device.{Ghosts}
 use Rattle.live_traces.specs.Parts.{LiveParts}
@@ -11,9 +12,10 @@ use Rattle.store_model.specs.Event.Refusal.{Fault}
 use Rattle.store_model.specs.Step.{Machine, Step, with_state}
 use Rattle.store_model.specs.Step.Step.{Succeeds}
 use Rattle.store_images.proofs.Keeping.{keeps_same}
-use Rattle.store_core.specs.Jobs.{ShowsFlush, files_of_flush}
+use Rattle.store_core.specs.Jobs.{ShowsFlush, ShowsCompaction, files_of_flush, one_if}
 use Rattle.store_core.specs.declared.jobs.Jobs.{Jobs}
 use Rattle.store_core.specs.declared.jobs.OpenFlush.{OpenFlush}
+use Rattle.store_core.specs.declared.jobs.OpenCompaction.{OpenCompaction}
 use Rattle.store_core.specs.declared.state.CoreState.{CoreState}
 use Rattle.store_core.specs.declared.store.Core.{Core}
 use Rattle.store_core.specs.Cores.{HasState}
@@ -21,7 +23,8 @@ use Rattle.store_core.specs.Events.{Did}
 use Rattle.store_core.proofs.Kept.{stands_kept}
 use Rattle.store_core.proofs.InUse.{used_dropped}
 use Rattle.store_core.proofs.Logged.{logged_still}
-use Rattle.store_core.proofs.NoJobs.{no_commit_room, no_segment, none_fit}
+use Rattle.store_core.proofs.JobRooms.{EndsOne, fit_ended, rooms_ended, loose_more, one_none, one_some}
+use Rattle.store_core.proofs.NoJobs.{no_segment}
 use Rattle.store_core.proofs.OpenJobs.{IsOpenHere}
 use Rattle.store_core.proofs.PushEvents.{OnlyNow}
 use Rattle.store_core.proofs.Quiet.{quiet}
@@ -32,6 +35,26 @@ pub record Dropped (old : Jobs) (new : Jobs) : Type 0 where
   pub loose : new.loose.items ≡ old.loose.items ++ files_of_flush old.flush
   pub begun : new.begun ≡ old.begun
   pub next_file : new.next_file ≡ old.next_file
+  pub compaction : new.compaction ≡ old.compaction
+  pub capacity : vec_capacity old.loose ≤ vec_capacity new.loose
+
+-- the other job has the room that it needs
+ends_one : (old new : Jobs) (mine : OpenFlush) → old.flush ≡ Some mine → Dropped old new → EndsOne old new
+ends_one old new mine known dropped = record {
+  fewer =
+      let one = one_some old.flush mine known in
+      let none = one_none new.flush dropped.gone in
+      let same : one_if new.compaction ≡ one_if old.compaction = ap one_if dropped.compaction in
+      omega (arith, one, none, same);
+  few =
+      let more = loose_more old.loose new.loose (files_of_flush old.flush) dropped.loose in
+      let two : length (files_of_flush old.flush) ≡ 2 = ap (λ (k : Option OpenFlush). length (files_of_flush k)) known in
+      omega (arith, more, two);
+  capacity = dropped.capacity;
+  next_file = dropped.next_file;
+  flush = inl dropped.gone;
+  compaction = inr dropped.compaction;
+}
 
 has_dropped : (core : CoreState) (live : LiveParts) (jobs : Jobs) (m : Machine) (number file : ℕ) (here : IsOpenHere core m number file) → HasState core m → Dropped core.jobs jobs
     → live.flushing ≡ [] → live.head ≡ core.live.flushing ++ core.live.head → live.live ≡ core.live.live
@@ -43,11 +66,11 @@ has_dropped core live jobs m number file here has dropped gone back same = recor
   head = ap (λ (r : List Row). r ++ m.state.head) (sym (has.flushing ∙ ap flush_rows here.is_open)) ∙ ap (λ (r : List Row). core.live.flushing ++ r) has.head ∙ sym back;
   flushing = gone;
   flush = subst (λ (k : Option OpenFlush). ShowsFlush k None) (sym dropped.gone) refl;
-  compaction = has.compaction;
+  compaction = subst (λ (k : Option OpenCompaction). ShowsCompaction k m.state.compaction) (sym dropped.compaction) has.compaction;
   blocks = has.blocks;
   infos = has.infos;
   listed = has.listed;
-  commit = λ free. no_commit_room jobs core.list core.infos dropped.gone;
+  commit = λ free. rooms_ended core.jobs jobs core.list core.infos (ends_one core.jobs jobs here.mine here.known dropped) (has.commit free);
   rules = has.rules;
   segments = has.segments;
   last = has.last;
@@ -58,9 +81,10 @@ has_dropped core live jobs m number file here has dropped gone back same = recor
       ∙ ap (λ (k : Option OpenFlush). core.jobs.loose.items ++ files_of_flush k) (sym here.known) ∙ sym dropped.loose;
   next_file = has.next_file ∙ sym dropped.next_file;
   begun = has.begun ∙ sym dropped.begun;
-  jobs = none_fit jobs core.list (subst (λ (n : ℕ). core.list.next_file ≤ n) (sym dropped.next_file) has.jobs.given) dropped.gone;
+  jobs = fit_ended core.jobs jobs core.list (ends_one core.jobs jobs here.mine here.known dropped) has.jobs;
   used = used_dropped core.list m.state here.job here.is_open has.used;
   pins = has.pins;
+  pinned = has.pinned;
   read_only = has.read_only;
 }
 

@@ -1,13 +1,13 @@
--- A file of what is held open is no segment's.
-use Rattle.std.proofs.Common.{◌≡◌, ℕ, ◌≤◌, ◌==◌, Bool, true, false, List, [], ◌∷◌, ◌++◌, Option, Some, refl, sym, ◌∙◌, ap, subst, arith, if◌then◌else◌}
-use Rattle.store_model.specs.State.{State, Pinned, Flush, Compaction, is_among, segment_files, block_files, flush_files, compaction_files, pinned_files, pinned_blocks}
+-- A file of what is held open is no segment's, and isn't loose without being pinned.
+use Rattle.std.proofs.Common.{◌≡◌, ℕ, ◌+◌, ◌≤◌, ◌==◌, Bool, true, false, not, filter, List, [], ◌∷◌, ◌++◌, Option, Some, refl, sym, ◌∙◌, ap, subst, arith, if◌then◌else◌}
+use Rattle.store_model.specs.State.{State, Pinned, Flush, Compaction, is_among, segment_files, block_files, flush_files, compaction_files, pinned_files, pinned_blocks, free_files}
 use Rattle.store_model.specs.Sound.{times, uses, StateIsSound}
 use Rattle.store_model.specs.Holds.{Hold, OpenIn, files_of}
 use Rattle.store_model.specs.Holds.Hold.{OpenLook, OpenFlush, OpenCompact}
 use Rattle.store_model.specs.Step.{Machine}
-use Rattle.store_model.proofs.Numbers.{times-append, named}
+use Rattle.store_model.proofs.Numbers.{times-append, named, among as is_named, not_named, passes, fewer_left}
 
-pinned_within : (file n : ℕ) (pins : List Pinned) → times file (block_files (pinned_blocks n pins)) ≤ times file (pinned_files pins)
+pub pinned_within : (file n : ℕ) (pins : List Pinned) → times file (block_files (pinned_blocks n pins)) ≤ times file (pinned_files pins)
 pinned_within file n [] = omega arith
 pinned_within file n (p ∷ ps) =
     let joined = times-append file (block_files p.blocks) (pinned_files ps) in
@@ -78,3 +78,38 @@ held_used m (OpenCompact number own level pin files) sound is file among =
     by_head file own files (1 ≤ uses file m.state) among
     (λ here. let used = in_compaction file m.state.compaction is.job is.is_open (subst (λ (f : ℕ). 1 ≤ times file (f ∷ [])) (sym is.its_file) (one_of file own here)) in omega (arith, used))
     (λ there. pinned_used m.state sound pin file files is.its_files there)
+
+-- what a filter refuses is not among what it leaves
+pub none_left : (n : ℕ) (p : ℕ → Bool) (xs : List ℕ) → p n ≡ false → times n (filter p xs) ≡ 0
+none_left n p xs refused = not_named n (filter p xs) (at (is_among n (filter p xs)) refl)
+  where
+    at : (t : Bool) → is_among n (filter p xs) ≡ t → is_among n (filter p xs) ≡ false
+    at false e = e
+    at true e = absurd (let bad : true ≡ false = sym (passes n p xs e) ∙ refused in cc)
+
+-- a pinned file isn't free
+pinned_kept : (u : State) (pin file : ℕ) (files : List ℕ) → block_files (pinned_blocks pin u.pins) ≡ files → is_among file files ≡ true → times file (free_files u) ≡ 0
+pinned_kept u pin file files its among =
+    let one : 1 ≤ times file files = named file files among in
+    let same : times file (block_files (pinned_blocks pin u.pins)) ≡ times file files = ap (times file) its in
+    let within = pinned_within file pin u.pins in
+    none_left file (λ (f : ℕ). not (is_among f (pinned_files u.pins))) u.loose (ap not (is_named file (pinned_files u.pins) (omega (arith, one, same, within))))
+
+-- and neither is the file of an open job
+other_kept : (u : State) → StateIsSound u → (file : ℕ) → 1 ≤ times file (flush_files u.flush) + times file (compaction_files u.compaction) → times file (free_files u) ≡ 0
+other_kept u sound file used =
+    let once = sound.files.once file in
+    let fewer = fewer_left file (λ (f : ℕ). not (is_among f (pinned_files u.pins))) u.loose in
+    omega (arith, used, once, fewer)
+
+-- what is held isn't among the loose files that no pin names
+pub held_kept : (m : Machine) (hold : Hold) → StateIsSound m.state → OpenIn m hold → (file : ℕ) → is_among file (files_of hold) ≡ true → times file (free_files m.state) ≡ 0
+held_kept m (OpenLook pin files as_of rows) sound is file among = pinned_kept m.state pin file files is.its_files among
+held_kept m (OpenFlush number own rows) sound is file among =
+    let used = in_flush file m.state.flush is.job is.is_open (subst (λ (f : ℕ). 1 ≤ times file (f ∷ [])) (sym is.its_file) (one_of file own among)) in
+    other_kept m.state sound file (omega (arith, used))
+held_kept m (OpenCompact number own level pin files) sound is file among =
+    by_head file own files (times file (free_files m.state) ≡ 0) among
+    (λ here. let used = in_compaction file m.state.compaction is.job is.is_open (subst (λ (f : ℕ). 1 ≤ times file (f ∷ [])) (sym is.its_file) (one_of file own here)) in
+    other_kept m.state sound file (omega (arith, used)))
+    (λ there. pinned_kept m.state pin file files is.its_files there)

@@ -1,12 +1,12 @@
 -- The files that a list names, and those that were given out since, stay in use.
-use Rattle.std.proofs.Common.{◌≡◌, ◌⊎◌, inl, inr, ℕ, ◌+◌, ◌<◌, ◌≤◌, ◌==◌, nat_le, zero, suc, Bool, true, false, List, [], ◌∷◌, ◌++◌, Some, None, Option, if◌then◌else◌, refl, sym, ◌∙◌, ap, subst, arith}
+use Rattle.std.proofs.Common.{◌≡◌, ◌⊎◌, inl, inr, ℕ, ◌+◌, ◌<◌, ◌≤◌, ◌==◌, nat_le, Bool, true, false, List, [], ◌∷◌, Some, None, Option, if◌then◌else◌, refl, sym, ◌∙◌, ap, subst, arith}
 use Rattle.std.specs.List.{Contains}
 use Rattle.std.proofs.lemmas.Bool.{cases_eq, cases_lt}
 use Rattle.span_types.specs.declared.spans.Row.{Row}
 use Rattle.block_list.specs.Body.{files_of}
 use Rattle.block_list.specs.declared.body.ListBody.{ListBody}
-use Rattle.store_model.specs.State.{State, Block, Segment, Flush, block_files, segment_files, flush_files}
-use Rattle.store_model.specs.After.{after_begin_flush, after_commit_flush, after_drop_flush, staying, released, floor_after, with_segment}
+use Rattle.store_model.specs.State.{State, Block, Segment, Flush, Compaction, block_files, segment_files, flush_files, compaction_files}
+use Rattle.store_model.specs.After.{after_begin_flush, after_begin_compact, after_commit_flush, after_drop_flush, after_drop_compact, staying, released, floor_after, with_segment}
 use Rattle.store_model.specs.Sound.{times, uses}
 use Rattle.store_model.proofs.Numbers.{times-append, map_append, times_itself, times_pair, same_number}
 use Rattle.store_images.proofs.Lists.{not_in_nil, in_cons, at_front, behind}
@@ -15,14 +15,14 @@ use Rattle.store_core.proofs.NextLists.{NamesState, uses_are}
 
 -- ---- a list and how often it names a number
 
-contained_once : (n : ℕ) (xs : List ℕ) → Contains xs n → 1 ≤ times n xs
+pub contained_once : (n : ℕ) (xs : List ℕ) → Contains xs n → 1 ≤ times n xs
 contained_once n [] c = absurd (not_in_nil n c)
 contained_once n (x ∷ xs) c = elim (in_cons n x xs c) [
   | inl is ↦ (let joined = times-append n (x ∷ []) xs in let one : times n (x ∷ []) ≡ 1 = subst (λ (k : ℕ). times n (k ∷ []) ≡ 1) (sym is) (times_itself n) in omega (arith, joined, one))
   | inr there ↦ (let joined = times-append n (x ∷ []) xs in let more = contained_once n xs there in omega (arith, joined, more))
 ]
 
-once_contained : (n : ℕ) (xs : List ℕ) → 1 ≤ times n xs → Contains xs n
+pub once_contained : (n : ℕ) (xs : List ℕ) → 1 ≤ times n xs → Contains xs n
 once_contained n [] some = absurd (omega (arith, some))
 once_contained n (x ∷ xs) some = by_test (x == n) refl (λ more. once_contained n xs more)
   where
@@ -61,6 +61,24 @@ used_begun list u none was = λ file given. elim given [
 pub used_dropped : (list : ListBody) (u : State) (job : Flush) → u.flush ≡ Some job → AreInUse list u → AreInUse list (after_drop_flush job u)
 used_dropped list u job here = used_still list u (after_drop_flush job u) refl
     (λ f. let more = times-append f u.loose (job.file ∷ job.segment ∷ []) in let own : times f (flush_files u.flush) ≡ times f (job.file ∷ job.segment ∷ []) = ap (λ (o : Option Flush). times f (flush_files o)) here in omega (arith, more, own))
+
+-- a compaction that begins takes the next file
+pub used_begun_compact : (list : ListBody) (u : State) (pin : ℕ) → u.compaction ≡ None → AreInUse list u → AreInUse list (after_begin_compact pin u)
+used_begun_compact list u pin none was = λ file given. elim given [
+  | inl c ↦ (let old = was file (inl c) in let empty = nothing file in omega (arith, old, empty))
+  | inr r ↦ elim (cases_lt file u.next_file) [
+    | inl under ↦ (let old = was file (inr (r.0, under)) in let empty = nothing file in omega (arith, old, empty))
+    | inr over ↦ (let high = r.1 in let is : file ≡ u.next_file = omega (arith, over, high) in
+        let one : times file (u.next_file ∷ []) ≡ 1 = subst (λ (k : ℕ). times file (k ∷ []) ≡ 1) is (times_itself file) in omega (arith, one))
+  ]
+]
+  where
+    nothing : (f : ℕ) → times f (compaction_files u.compaction) ≡ 0
+    nothing f = ap (λ (o : Option Compaction). times f (compaction_files o)) none
+
+pub used_dropped_compact : (list : ListBody) (u : State) (job : Compaction) → u.compaction ≡ Some job → AreInUse list u → AreInUse list (after_drop_compact job u)
+used_dropped_compact list u job here = used_still list u (after_drop_compact job u) refl
+    (λ f. let more = times-append f u.loose (job.file ∷ []) in let own : times f (compaction_files u.compaction) ≡ times f (job.file ∷ []) = ap (λ (o : Option Compaction). times f (compaction_files o)) here in omega (arith, more, own))
 
 -- a committed list names what is in use
 pub used_listed : (list : ListBody) (u : State) → NamesState list u → AreInUse list u

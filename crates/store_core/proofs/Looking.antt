@@ -1,5 +1,5 @@
 -- What a look and its end make of a core.
-use Rattle.std.proofs.Common.{◌≡◌, ℕ, ◌≤◌, ◌==◌, Bool, false, not, List, ◌++◌, Option, map, refl, sym, ◌∙◌, ap, subst}
+use Rattle.std.proofs.Common.{◌≡◌, ℕ, ◌≤◌, ◌==◌, Bool, false, not, List, [], ◌++◌, Option, Some, None, map, refl, sym, ◌∙◌, ap, subst, if◌then◌else◌}
 use Rattle.std.specs.Prelude.{◌||◌, ◌&&◌}
 use Rattle.std.specs.Prelude.{Vec}
 use Rattle.std.specs.declared.alloc.Global.{Global}
@@ -7,7 +7,7 @@ use Rattle.std.specs.List.Sorted.{IsPermutation}
 use Rattle.std.proofs.lemmas.List.Sorted.{IsPermutation-refl}
 use Rattle.span_types.specs.declared.spans.Row.{Row}
 use Rattle.disk_model.specs.Images.{Image}
-use Rattle.store_model.specs.State.{State, Flush, Compaction, LiveRow, is_among, pin_numbers, compaction_pins, block_files, flush_rows, live_rows}
+use Rattle.store_model.specs.State.{State, Flush, Compaction, Pinned, LiveRow, is_among, pin_numbers, pinned_blocks, compaction_pins, block_files, flush_rows, live_rows}
 use Rattle.store_model.specs.History.{count_of}
 use Rattle.store_model.specs.After.{after_look, after_done}
 use Rattle.store_model.specs.Event.{Event, Reply}
@@ -18,28 +18,34 @@ use Rattle.store_model.specs.Step.Step.{Succeeds}
 use Rattle.store_model.proofs.KeepsFirsts.{step_keeps as keeps_firsts}
 use Rattle.store_model.proofs.KeepsSound.{step_keeps as keeps_sound}
 use Rattle.store_model.proofs.KeepsFloor.{step_keeps as keeps_floor}
-use Rattle.store_core.specs.Pins.{is_taken}
+use Rattle.store_core.specs.Pins.{is_taken, files_at}
+use Rattle.store_core.specs.declared.jobs.OpenCompaction.{OpenCompaction}
 use Rattle.store_core.specs.declared.state.CoreState.{CoreState}
 use Rattle.store_images.specs.Stored.{ref_of}
 use Rattle.store_images.specs.Settled.{IsSettled}
-use Rattle.store_core.specs.Jobs.{ShowsFlush}
+use Rattle.store_core.specs.Jobs.{ShowsFlush, ShowsCompaction}
 use Rattle.store_core.specs.Cores.{HasState, StandsFor, AreDescribed, tail_of}
 use Rattle.store_core.specs.InUse.{AreInUse}
 use Rattle.store_core.proofs.Logged.{logged_still}
-use Rattle.store_core.proofs.PinNumbers.{among-more, among-less}
+use Rattle.store_core.proofs.PinNumbers.{among-more, among-less, files-more, files-less}
+
+-- the pins that are known are those of the model
+pub record ShowsPins (pins : List Pinned) (known : List (Option (List ℕ))) : Type 0 where
+  pub numbers : (n : ℕ) → is_among n (pin_numbers pins) ≡ is_taken n known
+  pub files : (n : ℕ) → block_files (pinned_blocks n pins) ≡ files_at n known
 
 -- a change of the pins alone
-has_pins : (core : CoreState) (pins : Vec Bool Global) (m m' : Machine) → HasState core m → m'.history ≡ m.history → m'.read_only ≡ m.read_only
-    → m'.state ≡ record m.state { pins = m'.state.pins } → ((n : ℕ) → is_among n (pin_numbers m'.state.pins) ≡ is_taken n pins.items)
+has_pins : (core : CoreState) (pins : Vec (Option (List ℕ)) Global) (m m' : Machine) → HasState core m → m'.history ≡ m.history → m'.read_only ≡ m.read_only
+    → m'.state ≡ record m.state { pins = m'.state.pins } → ShowsPins m'.state.pins pins.items
     → HasState (record core { pins = pins }) m'
-has_pins core pins m m' has history read_only state taken = record {
+has_pins core pins m m' has history read_only state shown = record {
   count = ap count_of history ∙ has.count;
   few = has.few;
   live = ap (λ (u : State). u.live) state ∙ has.live;
   head = ap (λ (u : State). u.head) state ∙ has.head;
   flushing = has.flushing ∙ ap (λ (u : State). flush_rows u.flush) (sym state);
   flush = subst (λ (f : Option Flush). ShowsFlush core.jobs.flush f) (sym (ap (λ (u : State). u.flush) state)) has.flush;
-  compaction = ap (λ (u : State). u.compaction) state ∙ has.compaction;
+  compaction = subst (λ (c : Option Compaction). ShowsCompaction core.jobs.compaction c) (sym (ap (λ (u : State). u.compaction) state)) has.compaction;
   blocks = has.blocks ∙ ap (λ (u : State). map ref_of u.blocks) (sym state);
   infos = has.infos ∙ ap (λ (u : State). block_files u.blocks) (sym state);
   listed = has.listed;
@@ -53,17 +59,18 @@ has_pins core pins m m' has history read_only state taken = record {
   begun = ap (λ (u : State). u.begun) state ∙ has.begun;
   jobs = has.jobs;
   used = subst (λ (v : State). AreInUse core.list v) (sym state) has.used;
-  pins = taken;
+  pins = shown.numbers;
+  pinned = shown.files;
   read_only = read_only ∙ has.read_only;
 }
 
 -- the core stands for what the step leaves
-pub stands_stepped : (told : Type 0) (held : Image) (may_leave : Image → Type 0) (core : CoreState) (pins : Vec Bool Global) (m : Machine) (u : State) (before faults : ℕ) (e : Event) (r : Reply)
+pub stands_stepped : (told : Type 0) (held : Image) (may_leave : Image → Type 0) (core : CoreState) (pins : Vec (Option (List ℕ)) Global) (m : Machine) (u : State) (before faults : ℕ) (e : Event) (r : Reply)
     → StandsFor told held may_leave core m → u ≡ record m.state { pins = u.pins } → Step before faults m e r (with_state u m)
-    → ((n : ℕ) → is_among n (pin_numbers u.pins) ≡ is_taken n pins.items)
+    → ShowsPins u.pins pins.items
     → StandsFor told held may_leave (record core { pins = pins }) (with_state u m)
-stands_stepped told held may_leave core pins m u before faults e r s state step taken = record {
-  has = has_pins core pins m (with_state u m) s.has refl refl state taken;
+stands_stepped told held may_leave core pins m u before faults e r s state step shown = record {
+  has = has_pins core pins m (with_state u m) s.has refl refl state shown;
   agrees = keeps_firsts before faults m _ e r s.agrees step;
   sound = keeps_sound before faults m _ e r s.sound step;
   above = keeps_floor before faults m _ e r s.above step;
@@ -101,27 +108,43 @@ step_looked core m before faults number as_of files rows has length listed is fr
       refl,
     )
 
-pub taken_more : (core : CoreState) (m : Machine) (number : ℕ) (pins : List Bool) → HasState core m
+pub shown_more : (core : CoreState) (m : Machine) (number : ℕ) (files : List ℕ) (pins : List (Option (List ℕ))) → HasState core m → is_taken number core.pins.items ≡ false
+    → files ≡ block_files m.state.blocks
     → ((other : ℕ) → is_taken other pins ≡ (is_taken other core.pins.items || (number == other)))
-    → (n : ℕ) → is_among n (pin_numbers (after_look number m.state).pins) ≡ is_taken n pins
-taken_more core m number pins has taken n =
-    among-more n m.state.pins (record { number = number; blocks = m.state.blocks })
-    ∙ ap (λ (b : Bool). b || (number == n)) (has.pins n) ∙ sym (taken n)
+    → ((other : ℕ) → files_at other pins ≡ (if number == other then files else files_at other core.pins.items))
+    → ShowsPins (after_look number m.state).pins pins
+shown_more core m number files pins has free listed taken named = record {
+  numbers = λ n. among-more n m.state.pins pin ∙ ap (λ (b : Bool). b || (number == n)) (has.pins n) ∙ sym (taken n);
+  files = λ n. files-more n m.state.pins pin (has.pins number ∙ free)
+      ∙ ap (λ (fs : List ℕ). if number == n then fs else block_files (pinned_blocks n m.state.pins)) (sym listed)
+      ∙ ap (λ (fs : List ℕ). if number == n then files else fs) (has.pinned n) ∙ sym (named n);
+}
+  where
+    pin : Pinned
+    pin = record { number = number; blocks = m.state.blocks }
 
 -- ---- its end
+
+-- what is known of the compaction is all that it is
+same_compaction : (known : Option OpenCompaction) (a b : Option Compaction) → ShowsCompaction known a → ShowsCompaction known b → b ≡ a
+same_compaction None a b one other = other ∙ sym one
+same_compaction (Some mine) a b one other = other ∙ sym one
 
 -- a pin that is open in one machine that the core stands for is open in each
 pub look_open : (core : CoreState) (m other : Machine) (pin : ℕ) → HasState core m → HasState core other → IsLookPin pin m.state → IsLookPin pin other.state
 look_open core m other pin has its open_pin = record {
   is_open = its.pins pin ∙ sym (has.pins pin) ∙ open_pin.is_open;
-  no_job = ap (λ (c : Option Compaction). is_among pin (compaction_pins c)) its.compaction;
+  no_job = ap (λ (c : Option Compaction). is_among pin (compaction_pins c)) (same_compaction core.jobs.compaction m.state.compaction other.state.compaction has.compaction its.compaction) ∙ open_pin.no_job;
 }
 
 pub step_done : (m : Machine) (before faults pin : ℕ) → IsLookPin pin m.state → Step before faults m (Done pin) Fine (with_state (after_done pin m.state) m)
 step_done m before faults pin open_pin = Succeeds refl (open_pin, refl, refl)
 
-pub taken_less : (core : CoreState) (m : Machine) (number : ℕ) (pins : List Bool) → HasState core m
+pub shown_less : (core : CoreState) (m : Machine) (number : ℕ) (pins : List (Option (List ℕ))) → HasState core m
     → ((other : ℕ) → is_taken other pins ≡ (is_taken other core.pins.items && not (number == other)))
-    → (n : ℕ) → is_among n (pin_numbers (after_done number m.state).pins) ≡ is_taken n pins
-taken_less core m number pins has taken n =
-    among-less n number m.state.pins ∙ ap (λ (b : Bool). b && not (number == n)) (has.pins n) ∙ sym (taken n)
+    → ((other : ℕ) → files_at other pins ≡ (if number == other then [] else files_at other core.pins.items))
+    → ShowsPins (after_done number m.state).pins pins
+shown_less core m number pins has taken named = record {
+  numbers = λ n. among-less n number m.state.pins ∙ ap (λ (b : Bool). b && not (number == n)) (has.pins n) ∙ sym (taken n);
+  files = λ n. files-less n number m.state.pins ∙ ap (λ (fs : List ℕ). if number == n then [] else fs) (has.pinned n) ∙ sym (named n);
+}

@@ -21,18 +21,14 @@ use Rattle.block_list.specs.declared.body.SegmentRef.{SegmentRef}
 use Rattle.block_list.specs.declared.body.ListBody.{ListBody}
 use Rattle.store_model.specs.History.{History, count_of}
 use Rattle.store_model.specs.State.{Block}
-use Rattle.store_images.specs.Stored.{StoreHolds, ImageStores, ImageStandsFor, IsTidy, KeepsStored, ref_of, named_files, next_file_of, stored_rows, first_number}
+use Rattle.store_images.specs.Stored.{StoreHolds, ImageStores, ImageStandsFor, KeepsStored, ref_of, named_files, next_file_of, stored_rows, first_number}
 use Rattle.store_images.specs.Stored.ImageStores.{vacant, filled}
 use Rattle.store_images.proofs.Lists.{in_cons, not_in_nil, in_map}
 use Rattle.store_images.proofs.Logs.{log_same}
-use Rattle.store_images.proofs.Keeping.{slots_same, blocks_same, rules_in, given_out, segment_named, block_named, one_list, keeps_same, keeps_then}
-use Rattle.store_core.specs.Loose.{next_without, without_loose, list_after, OthersStay}
+use Rattle.store_images.proofs.Keeping.{slots_same, blocks_same, rules_in, given_out, one_list, keeps_same, keeps_then}
+use Rattle.store_core.specs.Loose.{next_without, without_loose, list_after, used_files, AreUnused, OthersStay}
 
 -- ---- loose files are neither segments nor blocks
-
--- the files of its segments and blocks
-abbrev pub used_files : ListBody → List ℕ
-used_files body = map (λ (segment : SegmentRef). segment.file) body.segments ++ map (λ (block : BlockRef). block.file) body.blocks
 
 differs : (a b : ℕ) → nat_eq a b ≡ false → a ≢ b
 differs a b apart is = let e = eq-eqb a b is in cc
@@ -74,9 +70,9 @@ used_low body rules file c = (given_out body file rules (Contains-append_left (u
 
 -- ---- a list with the same segments and blocks
 
-module _ (a b : Image) (body : ListBody) (generation : ℕ) (loose : List ℕ) (same : (file : ℕ) → Contains (used_files body) file → bytes_of b file ≡ bytes_of a file)
-    (listed : ImageHoldsList b (Some (record body { generation = generation; loose = loose }))) where
-  store_moved : (blocks : List Block) (batches : List (List Span)) → StoreHolds a body blocks batches → StoreHolds b (record body { generation = generation; loose = loose }) blocks batches
+module _ (a b : Image) (body : ListBody) (generation next_file : ℕ) (loose : List ℕ) (same : (file : ℕ) → Contains (used_files body) file → bytes_of b file ≡ bytes_of a file)
+    (listed : ImageHoldsList b (Some (record body { generation = generation; next_file = next_file; loose = loose }))) where
+  store_moved : (blocks : List Block) (batches : List (List Span)) → StoreHolds a body blocks batches → StoreHolds b (record body { generation = generation; next_file = next_file; loose = loose }) blocks batches
   store_moved blocks batches s = record {
     listed = listed;
     its_blocks = s.its_blocks;
@@ -93,10 +89,14 @@ module _ (a b : Image) (body : ListBody) (generation : ℕ) (loose : List ℕ) (
       moved rows count (vacant holds no_rows no_count) = absurd (let bad : None ≡ Some body = one_list a None (Some body) holds there in cc)
       moved rows count (filled other blocks batches s is counts) =
           let e : other ≡ body = same_some other body (one_list a (Some other) (Some body) s.listed there) in
-          filled (record body { generation = generation; loose = loose }) blocks batches (store_moved blocks batches (subst (λ (o : ListBody). StoreHolds a o blocks batches) e s))
+          filled (record body { generation = generation; next_file = next_file; loose = loose }) blocks batches (store_moved blocks batches (subst (λ (o : ListBody). StoreHolds a o blocks batches) e s))
           (is ∙ ap (λ (o : ListBody). stored_rows blocks (first_number o) batches) e) (counts ∙ ap (λ (o : ListBody). first_number o + length batches) e)
 
--- ---- one loose file is emptied
+-- ---- one file is emptied
+
+cut_empty : (bytes : List ℕ) → HalfCut 0 [] bytes → bytes ≡ []
+cut_empty [] cut = refl
+cut_empty (x ∷ xs) cut = absurd (let most = cut.no_longer in omega (arith, most))
 
 module _ (held : Image) (may_leave : Image → Type 0) (body : ListBody) (ready : IsReady held may_leave (Some body)) where
   ready_rules : MeetsRules body
@@ -108,31 +108,47 @@ module _ (held : Image) (may_leave : Image → Type 0) (body : ListBody) (ready 
     | inr other ↦ subst (λ (n : ℕ). bytes_of origin n ≡ bytes_of held n) (omega (arith, below, other)) (ready.slot_1 origin possible)
   ]
 
-  origin_holds : (origin : Image) → may_leave origin → ImageHoldsList origin (Some body)
+  pub origin_holds : (origin : Image) → may_leave origin → ImageHoldsList origin (Some body)
   origin_holds origin possible = slots_same held origin (Some body) (in_slot origin possible) ready.stands
 
   pub loose_low : (file : ℕ) → Contains body.loose file → 2 ≤ file
   loose_low file c = (given_out body file ready_rules (loose_named body file c)).0
 
-  pub emptied_keeps : (file : ℕ) (step : List ℕ → List ℕ → Type 0) (origin image : Image) → Contains body.loose file → may_leave origin → OnFile file step origin image → KeepsStored origin image
-  emptied_keeps file step origin image c possible on =
-      let low = loose_low file c in
+  -- a file changes that is neither a segment nor a block: the list names it as loose, or it stays empty where it was so
+  changed_keeps : (file : ℕ) (step : List ℕ → List ℕ → Type 0) (origin image : Image) → 2 ≤ file → ((other : ℕ) → Contains (used_files body) other → other ≢ file) → may_leave origin → OnFile file step origin image
+      → Contains body.loose file ⊎ (bytes_of origin file ≡ [] → bytes_of image file ≡ []) → KeepsStored origin image
+  changed_keeps file step origin image low apart possible on either =
       let there = origin_holds origin possible in
       let here : ImageHoldsList image (Some body) = slots_same origin image (Some body) (λ slot below. on.besides slot (λ is. omega (arith, low, is, below))) there in
       record {
-        stands = stands_moved origin image body body.generation body.loose (λ other used. on.besides other (loose_apart body ready_rules file other c used)) here there;
-        only = stands_moved image origin body body.generation body.loose (λ other used. sym (on.besides other (loose_apart body ready_rules file other c used))) there here;
+        stands = stands_moved origin image body body.generation body.next_file body.loose (λ other used. on.besides other (apart other used)) here there;
+        only = stands_moved image origin body body.generation body.next_file body.loose (λ other used. sym (on.besides other (apart other used))) there here;
         tidy = λ t.
             let its : t.list ≡ Some body = one_list origin t.list (Some body) t.counts there in
             record {
               list = t.list;
               counts = subst (λ (l : Option ListBody). ImageHoldsList image l) (sym its) here;
               files = λ f first given. elim (cases_eq f file) [
-                | inl is ↦ inr (subst (λ (n : ℕ). Contains (named_files t.list) n) (sym is) (subst (λ (l : Option ListBody). Contains (named_files l) file) (sym its) (loose_named body file c)))
+                | inl is ↦ elim either [
+                  | inl c ↦ inr (subst (λ (n : ℕ). Contains (named_files t.list) n) (sym is) (subst (λ (l : Option ListBody). Contains (named_files l) file) (sym its) (loose_named body file c)))
+                  | inr still ↦ elim (t.files f first given) [
+                    | inl empty ↦ inl (subst (λ (n : ℕ). bytes_of image n ≡ []) (sym is) (still (subst (λ (n : ℕ). bytes_of origin n ≡ []) is empty)))
+                    | inr named ↦ inr named
+                  ]
+                ]
                 | inr other ↦ elim (t.files f first given) [ inl empty ↦ inl (on.besides f other ∙ empty) | inr named ↦ inr named ]
               ];
             };
       }
+
+  pub emptied_keeps : (file : ℕ) (step : List ℕ → List ℕ → Type 0) (origin image : Image) → Contains body.loose file → may_leave origin → OnFile file step origin image → KeepsStored origin image
+  emptied_keeps file step origin image c possible on =
+      changed_keeps file step origin image (loose_low file c) (λ other used. loose_apart body ready_rules file other c used) possible on (inl c)
+
+  pub unused_keeps : (files : List ℕ) → AreUnused body files → (file : ℕ) (origin image : Image) → Contains files file → may_leave origin → OnFile file (HalfCut 0) origin image → KeepsStored origin image
+  unused_keeps files unused file origin image c possible on =
+      changed_keeps file (HalfCut 0) origin image (unused file c).0 (λ other used is. (unused file c).1 (subst (λ (n : ℕ). Contains (used_files body) n) is used)) possible on
+      (inr (λ empty. cut_empty (bytes_of image file) (subst (λ (b : List ℕ). HalfCut 0 b (bytes_of image file)) empty on.changed)))
 
   -- ---- the list is committed without them
 
@@ -146,12 +162,12 @@ module _ (held : Image) (may_leave : Image → Type 0) (body : ListBody) (ready 
         λ file c. same file (given_out body file rules (Contains-append_left (used_files body) body.loose file c)).0 in
         record {
           stands = λ h s. elim writes.list [
-            | inl old ↦ stands_moved origin image body body.generation body.loose used old there h s
-            | inr new ↦ stands_moved origin image body (successor body.generation) [] used new there h s
+            | inl old ↦ stands_moved origin image body body.generation body.next_file body.loose used old there h s
+            | inr new ↦ stands_moved origin image body (successor body.generation) body.next_file [] used new there h s
           ];
           only = λ h s. elim writes.list [
-            | inl old ↦ stands_moved image origin body body.generation body.loose (λ file c. sym (used file c)) there old h s
-            | inr new ↦ stands_moved image origin (next_without body) body.generation body.loose (λ file c. sym (used file c)) there new h s
+            | inl old ↦ stands_moved image origin body body.generation body.next_file body.loose (λ file c. sym (used file c)) there old h s
+            | inr new ↦ stands_moved image origin (next_without body) body.generation body.next_file body.loose (λ file c. sym (used file c)) there new h s
           ];
           tidy = λ t.
               let its : t.list ≡ Some body = one_list origin t.list (Some body) t.counts there in
@@ -176,6 +192,10 @@ module _ (held : Image) (may_leave : Image → Type 0) (body : ListBody) (ready 
                 }
               ];
         }
+
+-- a list's loose files are unused
+pub loose_unused : (body : ListBody) → MeetsRules body → AreUnused body body.loose
+loose_unused body rules file c = ((given_out body file rules (loose_named body file c)).0, λ used. loose_apart body rules file file c used refl)
 
 -- the next list meets the rules too
 pub rules_without : (body : ListBody) → MeetsRules body → MeetsRules (next_without body)
@@ -215,15 +235,15 @@ left_without body some = by_list body.loose some
 -- ---- runs
 
 module _ {D : Type 0} (moment : D → ℕ) (left_since : D → ℕ → Image → Type 0) (may_leave : D → Image → Type 0) where
-  -- one more loose file is emptied
-  pub emptied_then : (old mid new : D) (held later : Image) (body : ListBody) (file : ℕ) (step : List ℕ → List ℕ → Type 0) → Run KeepsStored moment left_since may_leave old mid
-      → IsReady held (may_leave mid) (Some body) → Contains body.loose file
-      → LeavesOnly moment left_since mid new (Reached (OnFile file step) (may_leave mid)) → Within (Reached (OnFile file step) (may_leave mid)) (may_leave new) → Besides file held later
+  -- one more file is emptied
+  pub emptied_then : (old mid new : D) (held later : Image) (body : ListBody) (files : List ℕ) → AreUnused body files → (file : ℕ) → Run KeepsStored moment left_since may_leave old mid
+      → IsReady held (may_leave mid) (Some body) → Contains files file
+      → LeavesOnly moment left_since mid new (Reached (OnFile file (HalfCut 0)) (may_leave mid)) → Within (Reached (OnFile file (HalfCut 0)) (may_leave mid)) (may_leave new) → Besides file held later
       → Run KeepsStored moment left_since may_leave old new × IsReady later (may_leave new) (Some body)
-  emptied_then old mid new held later body file step first ready c since now besides = (
+  emptied_then old mid new held later body files unused file first ready c since now besides = (
     run_on moment left_since may_leave KeepsStored old mid new keeps_then first
-        (run_more moment left_since may_leave (OnFile file step) KeepsStored mid new (record { since = since; now = now }) (λ origin image possible on. emptied_keeps held (may_leave mid) body ready file step origin image c possible on)),
-    ready_besides file held later (may_leave mid) (may_leave new) (Some body) (loose_low held (may_leave mid) body ready file c) besides (λ image left. let r = now image left in (r.0, r.1, r.2.besides)) ready,
+        (run_more moment left_since may_leave (OnFile file (HalfCut 0)) KeepsStored mid new (record { since = since; now = now }) (λ origin image possible on. unused_keeps held (may_leave mid) body ready files unused file origin image c possible on)),
+    ready_besides file held later (may_leave mid) (may_leave new) (Some body) (unused file c).0 besides (λ image left. let r = now image left in (r.0, r.1, r.2.besides)) ready,
   )
 
   -- and the list is committed without them

@@ -13,10 +13,11 @@ use Rattle.store_images.proofs.Lists.{not_in_nil}
 use Rattle.store_images.proofs.Storing.{settled_now}
 use Rattle.store_core.specs.declared.state.CoreState.{CoreState}
 use Rattle.store_state.specs.Given.{info_files}
-use Rattle.store_core.specs.Pins.{is_taken}
+use Rattle.store_core.specs.Pins.{is_taken, files_at}
 use Rattle.store_core.specs.Cores.{StandsFor, listed_as, segment_of, tail_of, unsure_of}
-use Rattle.store_core.specs.Jobs.{ShowsFlush, HasNoJobs}
+use Rattle.store_core.specs.Jobs.{ShowsFlush, ShowsCompaction, HasNoJobs}
 use Rattle.store_core.specs.declared.jobs.OpenFlush.{OpenFlush}
+use Rattle.store_core.specs.declared.jobs.OpenCompaction.{OpenCompaction}
 use Rattle.store_core.specs.New.{new_list, new_tail, IsEmptyHistory, IsNewStore}
 use Rattle.store_core.specs.NewCore.{new_machine, IsNewState}
 use Rattle.store_core.specs.InUse.{AreInUse}
@@ -83,11 +84,11 @@ new_state_is core list live head flushing infos file first count gate pins write
     head = sym head;
     flushing = flushing;
     flush = subst (λ (k : Option OpenFlush). ShowsFlush k None) (sym jobs.flush) refl;
-    compaction = refl;
+    compaction = subst (λ (k : Option OpenCompaction). ShowsCompaction k None) (sym jobs.compaction) refl;
     blocks = ap (λ (l : ListBody). l.blocks) list;
     infos = ap info_files infos;
     listed = ap (map listed_as) infos ∙ sym (ap (λ (l : ListBody). l.blocks) list);
-    commit = λ free. no_commit_room core.jobs core.list core.infos jobs.flush;
+    commit = λ free. no_commit_room core.jobs core.list core.infos jobs.flush jobs.compaction;
     rules = subst MeetsRules (sym list) rules_new;
     segments = sym (ap (λ (l : ListBody). map segment_of l.segments) list);
     last = ([], ap (λ (l : ListBody). l.segments) list ∙ ap (λ (n : ℕ). ref_to n 0 ∷ []) (sym file) ∙ ap (λ (n : ℕ). ref_to core.segment.file n ∷ []) (sym first));
@@ -95,10 +96,11 @@ new_state_is core list live head flushing infos file first count gate pins write
     loose = sym jobs.loose;
     next_file = sym (jobs.next_file_is ∙ ap (λ (l : ListBody). l.next_file) list);
     begun = sym jobs.begun;
-    jobs = none_fit core.jobs core.list (let same = jobs.next_file_is in omega (arith, same)) jobs.flush;
+    jobs = none_fit core.jobs core.list (let same = jobs.next_file_is in omega (arith, same)) jobs.flush jobs.compaction;
     used = subst (λ (l : ListBody). AreInUse l (new_machine h).state) (sym list)
         (used_listed new_list (new_machine h).state (record { blocks = refl; segments = refl; floor = refl; loose = refl; next_file = refl }));
     pins = λ n. sym (ap (is_taken n) pins);
+    pinned = λ n. sym (ap (files_at n) pins);
     read_only = sym writes;
   };
   list = list;

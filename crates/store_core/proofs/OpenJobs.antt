@@ -4,20 +4,21 @@ use Rattle.std.proofs.lemmas.Bool.{cases_lt}
 use Rattle.disk_model.specs.Images.{Image, bytes_of}
 use Rattle.disk_model.specs.Crash.{OnlyBytes}
 use Rattle.head_log.specs.Stands.{SegmentHolds}
-use Rattle.store_model.specs.State.{Flush, flush_files, is_among}
+use Rattle.store_model.specs.State.{Flush, flush_files, compaction_files, is_among}
 use Rattle.store_model.specs.Sound.{times, StateIsSound}
-use Rattle.store_model.specs.Holds.{Hold, OpenIn, files_of}
+use Rattle.store_model.specs.Holds.{Hold, OpenIn, IsOpenCompact, files_of}
 use Rattle.store_model.specs.Step.{Machine}
 use Rattle.store_model.proofs.Numbers.{times-append, times_itself}
 use Rattle.store_state.specs.Given.{IsJobOf}
 use Rattle.store_state.specs.Given.IsJobOf.{OfFlush, OfCompact}
 use Rattle.store_state.specs.Loose.{AreFilesOf}
 use Rattle.store_state.specs.declared.jobs.JobFile.{JobFile}
-use Rattle.store_core.specs.Jobs.{ShowsFlush}
+use Rattle.store_core.specs.Jobs.{ShowsFlush, IsSpare}
 use Rattle.store_core.specs.declared.jobs.OpenFlush.{OpenFlush}
 use Rattle.store_core.specs.declared.state.CoreState.{CoreState}
 use Rattle.store_core.specs.Cores.{HasState}
 use Rattle.store_core.proofs.HeldFiles.{held_used}
+use Rattle.store_core.proofs.OpenCompactions.{IsCompactionHere, compaction_here, spare_compaction, file_of_compaction}
 
 some_is : (a b : Flush) → Some a ≡ Some b → a ≡ b
 some_is a b is = cc
@@ -56,15 +57,14 @@ open_here core m0 m number file job its is its_number its_file has =
       files = here.3;
     }
 
-pub job_here : (core : CoreState) (m0 m : Machine) (out : JobFile) → HasState core m0 → IsJobOf out (OpenIn m0) → HasState core m → IsOpenHere core m out.number out.file
-job_here core m0 m out its (OfFlush rows is) has = open_here core m0 m out.number out.file is.job its is.is_open is.its_number is.its_file has
-job_here core m0 m out its (OfCompact level pin files is) has = absurd (let bad : None ≡ Some is.job = sym its.compaction ∙ is.is_open in cc)
+-- its files are spare ones of the list
+pub spare_files : (core : CoreState) (m : Machine) (number file : ℕ) → HasState core m → (here : IsOpenHere core m number file)
+    → IsSpare core.list here.mine.files.block × IsSpare core.list here.mine.files.segment
+spare_files core m number file has here =
+    subst (λ (k : Option OpenFlush). IfSome k (λ known. IsSpare core.list known.files.block × IsSpare core.list known.files.segment)) here.known has.jobs.flush
 
--- the list names neither of its files
-pub above_list : (core : CoreState) (m : Machine) (number file : ℕ) → HasState core m → IsOpenHere core m number file → core.list.next_file ≤ file
-above_list core m number file has here =
-    let fit = subst (λ (k : Option OpenFlush). IfSome k (λ known. (core.list.next_file ≤ known.files.block) × (core.list.next_file ≤ known.files.segment))) here.known has.jobs.files in
-    let one = here.files.block in let two = here.its_file in omega (arith, fit.0, one, two)
+pub spare_file : (core : CoreState) (m : Machine) (number file : ℕ) → HasState core m → IsOpenHere core m number file → IsSpare core.list file
+spare_file core m number file has here = subst (λ (f : ℕ). IsSpare core.list f) (here.files.block ∙ here.its_file) (spare_files core m number file has here).0
 
 -- they are two
 two_files : (file segment : ℕ) → file ≡ segment → 2 ≤ times file (file ∷ segment ∷ [])
@@ -103,6 +103,43 @@ segment_of_known core m mine has known =
     let joined = times-append here.0.segment (here.0.file ∷ []) (here.0.segment ∷ []) in
     let there : 1 ≤ times here.0.segment (flush_files m.state.flush) = subst (λ (o : Option Flush). 1 ≤ times here.0.segment (flush_files o)) (sym here.1) (omega (arith, one, joined)) in
     subst (λ (n : ℕ). 1 ≤ times n (flush_files m.state.flush)) (sym here.3.segment) there
+
+-- ---- the file of an open job of either kind
+
+-- It is a spare one of the list, and not the new segment of an open flush.
+pub record IsJobFile (core : CoreState) (file : ℕ) : Type 0 where
+  pub spare : IsSpare core.list file
+  pub apart : (m : Machine) → HasState core m → StateIsSound m.state → (mine : OpenFlush) → core.jobs.flush ≡ Some mine → mine.files.segment ≢ file
+
+flush_file : (core : CoreState) (m0 : Machine) (number file : ℕ) (job : Flush) → HasState core m0 → m0.state.flush ≡ Some job → job.number ≡ number → job.file ≡ file → IsJobFile core file
+flush_file core m0 number file job its is its_number its_file = record {
+  spare = spare_file core m0 number file its (open_here core m0 m0 number file job its is its_number its_file its);
+  apart = λ m has sound mine known same.
+      let here = open_here core m0 m number file job its is its_number its_file has in
+      files_apart core m number file sound here (subst (λ (k : OpenFlush). k.files.segment ≡ file) (mine_is mine here.mine (sym known ∙ here.known)) same);
+}
+
+-- a compaction's file has no other use
+compact_apart : (core : CoreState) (m : Machine) (number file level pin : ℕ) (files : List ℕ) → HasState core m → StateIsSound m.state → IsCompactionHere core m number file level pin files
+    → (mine : OpenFlush) → core.jobs.flush ≡ Some mine → mine.files.segment ≢ file
+compact_apart core m number file level pin files has sound here mine known same =
+    let segment = segment_of_known core m mine has known in
+    let compaction : 1 ≤ times mine.files.segment (compaction_files m.state.compaction) =
+    subst (λ (f : ℕ). 1 ≤ times f (compaction_files m.state.compaction)) (here.its_file ∙ sym same) (file_of_compaction core m here.mine has here.known) in
+    let once = sound.files.once mine.files.segment in
+    absurd (omega (arith, segment, compaction, once))
+
+compact_file : (core : CoreState) (m0 : Machine) (number file level pin : ℕ) (files : List ℕ) → HasState core m0 → IsOpenCompact m0 number file level pin files → IsJobFile core file
+compact_file core m0 number file level pin files its is =
+    let here0 = compaction_here core m0 m0 number file level pin files its is its in
+    record {
+      spare = subst (λ (f : ℕ). IsSpare core.list f) here0.its_file (spare_compaction core m0 here0.mine its here0.known);
+      apart = λ m has sound. compact_apart core m number file level pin files has sound (compaction_here core m0 m number file level pin files its is has);
+    }
+
+pub job_file : (core : CoreState) (m0 : Machine) (out : JobFile) → HasState core m0 → IsJobOf out (OpenIn m0) → IsJobFile core out.file
+job_file core m0 out its (OfFlush rows is) = flush_file core m0 out.number out.file is.job its is.is_open is.its_number is.its_file
+job_file core m0 out its (OfCompact level pin files is) = compact_file core m0 out.number out.file level pin files its is
 
 -- ---- a file that is held was given out
 

@@ -32,7 +32,7 @@ use Rattle.store_images.proofs.Lists.{not_in_nil, in_cons, in_map}
 use Rattle.store_images.proofs.Storing.{settled_now, last_first}
 use Rattle.store_core.specs.declared.state.CoreState.{CoreState}
 use Rattle.store_state.specs.Given.{info_files}
-use Rattle.store_core.specs.Pins.{is_taken}
+use Rattle.store_core.specs.Pins.{is_taken, files_at}
 use Rattle.store_core.specs.Cores.{AreDescribed, HasState, StandsFor, listed_as, segment_of, tail_of, unsure_of}
 use Rattle.store_core.specs.InUse.{AreInUse}
 use Rattle.store_core.specs.Waiting.{rows_outside, AreLogged}
@@ -46,8 +46,9 @@ use Rattle.store_core.proofs.LogLaws.{one_log}
 use Rattle.store_core.proofs.NextLists.{NamesState}
 use Rattle.store_core.proofs.LogSteps.{read_size}
 use Rattle.store_core.proofs.Revived.{live_of_arrived}
-use Rattle.store_core.specs.Jobs.{ShowsFlush}
+use Rattle.store_core.specs.Jobs.{ShowsFlush, ShowsCompaction}
 use Rattle.store_core.specs.declared.jobs.OpenFlush.{OpenFlush}
+use Rattle.store_core.specs.declared.jobs.OpenCompaction.{OpenCompaction}
 use Rattle.store_core.proofs.NoJobs.{no_commit_room, no_segment, none_fit}
 
 -- ---- the list that is left has the same segments, blocks and numbers
@@ -303,11 +304,11 @@ module _ (told : Type 0) (image : Image) (list : ListBody) (rules : MeetsRules l
       head = sym state.head;
       flushing = state.flushing;
       flush = subst (λ (k : Option OpenFlush). ShowsFlush k None) (sym state.jobs.flush) refl;
-      compaction = refl;
+      compaction = subst (λ (k : Option OpenCompaction). ShowsCompaction k None) (sym state.jobs.compaction) refl;
       blocks = ap (λ (l : ListBody). l.blocks) state.listing ∙ without_by list (λ (l : ListBody). l.blocks ≡ map ref_of blocks) (λ generation loose. its);
       infos = same_block_files core.infos.items list.blocks blocks state.infos its;
       listed = state.infos ∙ sym (ap (λ (l : ListBody). l.blocks) state.listing ∙ without_by list (λ (l : ListBody). l.blocks ≡ list.blocks) (λ generation loose. refl));
-      commit = λ free. no_commit_room core.jobs core.list core.infos state.jobs.flush;
+      commit = λ free. no_commit_room core.jobs core.list core.infos state.jobs.flush state.jobs.compaction;
       rules = subst MeetsRules (sym state.listing) (rules_after list rules list.loose);
       segments = without_by list (λ (l : ListBody). map segment_of list.segments ≡ map segment_of l.segments) (λ generation loose. refl) ∙ sym (ap (λ (l : ListBody). map segment_of l.segments) state.listing);
       last = (read.front, ap (λ (l : ListBody). l.segments) state.listing ∙ without_by list (λ (l : ListBody). l.segments ≡ list.segments) (λ generation loose. refl) ∙ read.last);
@@ -315,9 +316,10 @@ module _ (told : Type 0) (image : Image) (list : ListBody) (rules : MeetsRules l
       loose = sym state.jobs.loose;
       next_file = without_by list (λ (l : ListBody). list.next_file ≡ l.next_file) (λ generation loose. refl) ∙ sym (ap (λ (l : ListBody). l.next_file) state.listing) ∙ sym state.jobs.next_file_is;
       begun = sym state.jobs.begun;
-      jobs = none_fit core.jobs core.list (let same = state.jobs.next_file_is in omega (arith, same)) state.jobs.flush;
+      jobs = none_fit core.jobs core.list (let same = state.jobs.next_file_is in omega (arith, same)) state.jobs.flush state.jobs.compaction;
       used = subst (λ (l : ListBody). AreInUse l (opened_state list blocks batches moment)) (sym state.listing) (used_listed (without_loose list) (opened_state list blocks batches moment) names);
       pins = λ n. sym (ap (is_taken n) state.pins);
+      pinned = λ n. sym (ap (files_at n) state.pins);
       read_only = sym state.writes;
     }
 

@@ -1,5 +1,5 @@
 -- How an opening ends.
-use Rattle.std.proofs.Common.{◌≡◌, ◌≢◌, ℕ, ◌+◌, ◌≤◌, Bool, true, false, IsTrue, List, [], length, map, Some, None, Option, Result, Ok, Err, IfOk, IfErr, refl, sym, ◌∙◌, ap, subst, arith}
+use Rattle.std.proofs.Common.{◌≡◌, ◌≢◌, ℕ, ◌+◌, ◌≤◌, Bool, true, false, IsTrue, List, [], length, map, Some, None, Option, Result, Ok, Err, IfOk, IfErr, IfSome, refl, sym, ◌∙◌, ap, subst, arith}
 use Rattle.std.specs.List.{Contains}
 use Rattle.span_types.specs.declared.spans.Span.{Span}
 use Rattle.span_types.specs.declared.spans.Row.{Row}
@@ -62,10 +62,10 @@ tells_less told told' held may_leave core m known s = record {
 }
 
 new_is_empty : (h : History) → BeginsEmpty (new_machine h)
-new_is_empty h = record { writes = refl; head = refl; loose = refl; pins = refl }
+new_is_empty h = record { writes = refl; head = refl; flush = refl; compaction = refl; begun = refl; loose = refl; pins = refl }
 
 opened_is_empty : (list : ListBody) (blocks : List Block) (batches : List (List Span)) (moment : ℕ) (h : History) → BeginsEmpty (opened_machine list blocks batches moment h)
-opened_is_empty list blocks batches moment h = record { writes = refl; head = refl; loose = refl; pins = refl }
+opened_is_empty list blocks batches moment h = record { writes = refl; head = refl; flush = refl; compaction = refl; begun = refl; loose = refl; pins = refl }
 
 none_once : IsFirstOf [] []
 none_once = record {
@@ -277,6 +277,10 @@ module _ {D : Type 0} (g : Ghosts D) where
 pub if_ok_more : {X E : Type 0} (r : Result X E) (P Q : X → Type 0) → ((x : X) → P x → Q x) → IfOk r P → IfOk r Q
 if_ok_more (Ok x) P Q more p = more x p
 if_ok_more (Err e) P Q more p = tt
+
+pub if_some_more : {X : Type 0} (o : Option X) (P Q : X → Type 0) → ((x : X) → P x → Q x) → IfSome o P → IfSome o Q
+if_some_more None P Q more p = tt
+if_some_more (Some x) P Q more p = more x p
 
 pub if_err_more : {X E : Type 0} (r : Result X E) (P Q : E → Type 0) → ((e : E) → P e → Q e) → IfErr r P → IfErr r Q
 if_err_more (Ok x) P Q more p = tt

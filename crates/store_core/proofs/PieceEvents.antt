@@ -1,5 +1,5 @@
 -- A piece that is written to a job's file, as an event of a core.
-use Rattle.std.proofs.Common.{◌≡◌, ◌≢◌, ℕ, ◌≤◌, ◌==◌, List, ◌++◌, length, Some, None, Option, IsTrue, true, false, if◌then◌else◌, refl, sym, ◌∙◌, ap, subst, arith, eq-eqb}
+use Rattle.std.proofs.Common.{◌≡◌, ℕ, ◌≤◌, ◌==◌, List, ◌++◌, length, Some, None, Option, IsTrue, true, false, if◌then◌else◌, refl, sym, ◌∙◌, ap, subst, arith, eq-eqb}
 use Rattle.span_types.specs.Faults.{Rose}
 use Rattle.disk_model.specs.Images.{bytes_of, Besides, OnFile}
 use Rattle.disk_model.specs.Bytes.{overwritten, Torn}
@@ -16,18 +16,15 @@ use Rattle.store_model.specs.Step.{Machine, early, broken, if_read_only}
 use Rattle.store_model.specs.Step.Step.{Sure, Succeeds, Breaks}
 use Rattle.store_model.proofs.Numbers.{same_number}
 use Rattle.store_images.specs.Stored.{KeepsStored}
-use Rattle.store_core.specs.Files.{SameBelow}
 use Rattle.store_core.specs.Jobs.{HasFreshSegment}
-use Rattle.store_core.specs.declared.jobs.OpenFlush.{OpenFlush}
 use Rattle.store_core.specs.declared.store.Core.{Core}
 use Rattle.store_core.specs.Cores.{HasState, CoreStandsFor, tail_of}
 use Rattle.store_core.specs.Events.{Did}
-use Rattle.store_core.proofs.Apart.{below_change, keeps_below, settled_below}
-use Rattle.store_core.proofs.Kept.{stands_kept, did_kept, described_below}
-use Rattle.store_core.proofs.Logged.{logged_kept}
-use Rattle.store_core.proofs.OpenJobs.{IsOpenHere, above_list, files_apart, fresh_moved}
+use Rattle.store_core.proofs.Kept.{stands_kept, did_kept}
+use Rattle.store_core.proofs.OpenJobs.{IsJobFile, fresh_moved}
 use Rattle.store_core.proofs.PushEvents.{OnlyNow, refused_is}
 use Rattle.store_core.proofs.Quiet.{quiet, none_begun}
+use Rattle.store_core.proofs.Spare.{SameUsed, used_besides, keeps_spare, settled_spare, described_used, logged_used}
 use Rattle.store_core.proofs.States.{has_stopped}
 
 pub no_piece : {D : Type 0} (g : Ghosts D) (only_now : OnlyNow g) (old : Core D) (number file : ℕ) (bytes : List ℕ) (faults : ℕ) → old.state.read_only ≡ Some faults
@@ -37,40 +34,26 @@ no_piece g only_now old number file bytes faults is =
     (λ told m stands. (m, stands, refl, Sure (ap (λ (r : Option ℕ). if_read_only r None) (stands.has.read_only ∙ is)) refl))
 
 module _ {D : Type 0} (g : Ghosts D) (only_now : OnlyNow g) (old : Core D) (disk : D) (number file at : ℕ) (bytes : List ℕ) (writes : old.state.read_only ≡ None)
-    (here : (m : Machine) → HasState old.state m → IsOpenHere old.state m number file)
+    (its : IsJobFile old.state file)
     (telling : g.tells disk ≡ g.tells old.disk) (besides : IsTrue (g.tells old.disk) → Besides file (g.held old.disk) (g.held disk))
     (crash : Within (Reached (OnFile file (Torn at (length bytes))) (g.may_leave old.disk)) (g.may_leave disk))
     (time : Elapses (g.moment old.disk) (g.moment disk) (g.left_since old.disk) (g.left_since disk) (g.may_leave disk))
     (later : g.faults old.disk ≤ g.faults disk) (calls : RoseBy 1 (g.calls old.disk) (g.calls disk)) (reads : g.reads disk ≡ g.reads old.disk) where
-  abbrev limit : ℕ
-  limit = old.state.list.next_file
-
-  above : (m : Machine) → HasState old.state m → limit ≤ file
-  above m has = above_list old.state m number file has (here m has)
-
-  run_below : (m : Machine) → HasState old.state m → Run (SameBelow limit) g.moment g.left_since g.may_leave old.disk disk
-  run_below m has =
-      run_more g.moment g.left_since g.may_leave (OnFile file (Torn at (length bytes))) (SameBelow limit) old.disk disk
-      (run_change g.moment g.left_since g.may_leave file (Torn at (length bytes)) (torn_same at (length bytes)) old.disk disk (only_now old.disk) crash time)
-      (λ origin image possible change. below_change limit file (Torn at (length bytes)) origin image (above m has) change)
-
   run_keeps : IsTrue (g.tells old.disk) → (m : Machine) → CoreStandsFor g old m → Run KeepsStored g.moment g.left_since g.may_leave old.disk disk
   run_keeps told m s =
-      run_more g.moment g.left_since g.may_leave (SameBelow limit) KeepsStored old.disk disk (run_below m s.has)
-      (λ origin image possible same. keeps_below (g.held old.disk) (g.may_leave old.disk) old.state.list (s.settled told writes).lies.ready origin image possible same)
+      run_more g.moment g.left_since g.may_leave (OnFile file (Torn at (length bytes))) KeepsStored old.disk disk
+      (run_change g.moment g.left_since g.may_leave file (Torn at (length bytes)) (torn_same at (length bytes)) old.disk disk (only_now old.disk) crash time)
+      (λ origin image possible change. keeps_spare (g.held old.disk) (g.may_leave old.disk) old.state.list (s.settled told writes).lies.ready file (Torn at (length bytes)) origin image its.spare possible change)
 
-  same_held : IsTrue (g.tells old.disk) → (m : Machine) → HasState old.state m → SameBelow limit (g.held old.disk) (g.held disk)
-  same_held told m has = λ f below. besides told f (λ is. let up = above m has in omega (arith, is, up, below))
+  same_used : IsTrue (g.tells old.disk) → (m : Machine) → HasState old.state m → SameUsed old.state.list (g.held old.disk) (g.held disk)
+  same_used told m has = used_besides old.state.list has.rules file (g.held old.disk) (g.held disk) its.spare (besides told)
 
   free : (m : Machine) → HasState old.state m → early m (WritePiece number file bytes) ≡ None
   free m has = ap (λ (r : Option ℕ). if_read_only r None) (has.read_only ∙ writes)
 
   fresh_after : IsTrue (g.tells old.disk) → (m : Machine) → CoreStandsFor g old m → HasFreshSegment (g.held disk) (g.may_leave disk) old.state.jobs
   fresh_after told m s =
-      let mine_of = here m s.has in
-      let differs : (mine : OpenFlush) → old.state.jobs.flush ≡ Some mine → mine.files.segment ≢ file =
-      λ mine known is. files_apart old.state m number file s.sound mine_of
-      (subst (λ (k : OpenFlush). k.files.segment ≡ file) (let both : Some mine ≡ Some mine_of.mine = sym known ∙ mine_of.known in let e : mine ≡ mine_of.mine = cc in e) is) in
+      let differs = its.apart m s.has s.sound in
       fresh_moved old.state.jobs.flush (g.held old.disk) (g.held disk) (g.may_leave old.disk) (g.may_leave disk)
       (λ mine known. besides told mine.files.segment (differs mine known))
       (λ mine known b only. other_stays file mine.files.segment (Torn at (length bytes)) b (g.may_leave old.disk) (g.may_leave disk) (differs mine known) only crash)
@@ -85,11 +68,11 @@ module _ {D : Type 0} (g : Ghosts D) (only_now : OnlyNow g) (old : Core D) (disk
         stands_kept (IsTrue (g.tells old.disk)) (IsTrue (g.tells disk)) (g.held old.disk) (g.held disk) (g.may_leave old.disk) (g.may_leave disk) old.state old.state m m (g.faults old.disk) (g.faults disk) (WritePiece number file bytes) Fine
             (λ t. subst IsTrue telling t) s (Succeeds (free m s.has) (refl, refl)) refl s.has refl
             (λ told. (run_keeps told m s).now)
-            (λ told. described_below (g.held old.disk) (g.held disk) old.state m s.has (same_held told m s.has) (s.built told))
-            (λ told writes'. settled_below (g.held old.disk) (g.may_leave old.disk) old.state.list (s.settled told writes).lies.ready (g.held disk) (g.may_leave disk) (same_held told m s.has) (run_below m s.has).now
+            (λ told. described_used (g.held old.disk) (g.held disk) old.state m s.has (same_used told m s.has) (s.built told))
+            (λ told writes'. settled_spare (g.held old.disk) (g.held disk) (g.may_leave old.disk) (g.may_leave disk) old.state.list file (Torn at (length bytes)) its.spare (besides told) crash
             m.state.blocks (tail_of old.state.segment) m.history (s.settled told writes))
             (λ is. is) (λ told writes'. fresh_after told m s)
-            (λ told writes'. logged_kept (g.held old.disk) (g.held disk) old.state.list (g.faults old.disk) (g.faults disk) m m (WritePiece number file bytes) Fine s.has.rules (same_held told m s.has)
+            (λ told writes'. logged_used (g.held old.disk) (g.held disk) old.state.list (g.faults old.disk) (g.faults disk) m m (WritePiece number file bytes) Fine (same_used told m s.has)
             (Succeeds (free m s.has) (refl, refl)) refl (s.logged told writes)),
         refl,
         Succeeds (free m s.has) (refl, refl),
@@ -120,7 +103,7 @@ module _ {D : Type 0} (g : Ghosts D) (only_now : OnlyNow g) (old : Core D) (disk
         stands_kept (IsTrue (g.tells old.disk)) (IsTrue (g.tells disk)) (g.held old.disk) (g.held disk) (g.may_leave old.disk) (g.may_leave disk) old.state (record old.state { read_only = Some (g.faults disk) }) m (broken (g.faults disk) m)
             (g.faults old.disk) (g.faults disk) (WritePiece number file bytes) (Refused Fault) (λ t. subst IsTrue telling t) s (Breaks (free m s.has) refl refl rose refl) refl (has_stopped old.state (g.faults disk) m s.has) refl
             (λ told. (run_keeps told m s).now)
-            (λ told. described_below (g.held old.disk) (g.held disk) old.state m s.has (same_held told m s.has) (s.built told))
+            (λ told. described_used (g.held old.disk) (g.held disk) old.state m s.has (same_used told m s.has) (s.built told))
             (λ told none. absurd (let bad : Some (g.faults disk) ≡ None = none in cc)) (λ none. absurd (let bad : Some (g.faults disk) ≡ None = none in cc)) (λ told none. absurd (let bad : Some (g.faults disk) ≡ None = none in cc))
             (λ told none. absurd (let bad : Some (g.faults disk) ≡ None = none in cc)),
         refl,

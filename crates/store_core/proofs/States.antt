@@ -61,6 +61,7 @@ has_same core live m same has = record {
   jobs = has.jobs;
   used = has.used;
   pins = has.pins;
+  pinned = has.pinned;
   read_only = has.read_only;
 }
 
@@ -126,6 +127,7 @@ has_pushed core live segment m spans moment number has added head flushing is be
       jobs = has.jobs;
       used = has.used;
       pins = has.pins;
+      pinned = has.pinned;
       read_only = has.read_only;
     }
 
@@ -179,6 +181,7 @@ has_broken core live segment ready faults m same still has = record {
   jobs = has.jobs;
   used = has.used;
   pins = has.pins;
+  pinned = has.pinned;
   read_only = refl;
 }
 
@@ -225,6 +228,7 @@ has_stopped core faults m has = record {
   jobs = has.jobs;
   used = has.used;
   pins = has.pins;
+  pinned = has.pinned;
   read_only = refl;
 }
 

@@ -11,7 +11,7 @@ use Rattle.block_list.specs.Body.{MeetsRules}
 use Rattle.block_list.specs.declared.body.BlockRef.{BlockRef}
 use Rattle.block_list.specs.declared.body.SegmentRef.{SegmentRef}
 use Rattle.store_model.specs.History.{count_of}
-use Rattle.store_model.specs.State.{Block, Segment as ModelSegment, pin_numbers, block_files, flush_rows, is_among}
+use Rattle.store_model.specs.State.{Block, Segment as ModelSegment, pin_numbers, block_files, flush_rows, pinned_blocks, is_among}
 use Rattle.store_model.specs.Step.{Machine}
 use Rattle.store_model.specs.Laws.{Agrees}
 use Rattle.store_model.specs.Sound.{StateIsSound}
@@ -20,8 +20,8 @@ use Rattle.store_state.specs.Given.{info_files}
 use Rattle.store_state.specs.Written.{AreBlocksOf}
 use Rattle.store_images.specs.Stored.{MayStandFor, ref_of}
 use Rattle.store_images.specs.Settled.{Tail, IsSettled}
-use Rattle.store_core.specs.Pins.{is_taken}
-use Rattle.store_core.specs.Jobs.{ShowsFlush, JobsFit, HasCommitRoom, HasFreshSegment}
+use Rattle.store_core.specs.Pins.{is_taken, files_at}
+use Rattle.store_core.specs.Jobs.{ShowsFlush, ShowsCompaction, JobsFit, HasCommitRoom, HasFreshSegment}
 use Rattle.store_core.specs.Waiting.{rows_outside, AreLogged}
 use Rattle.store_core.specs.InUse.{AreInUse}
 use Rattle.store_core.specs.declared.state.CoreState.{CoreState}
@@ -48,7 +48,7 @@ rows_by_block blocks = map (λ block. block.rows) blocks
 abbrev pub AreDescribed : Image → List InfoParts → List Block → Type 0
 AreDescribed held infos blocks = AreBlocksOf (λ file. bytes_of held file) infos (rows_by_block blocks)
 
--- What the core's memory shows of the machine. No compaction is open as long as there is no call that begins one.
+-- What the core's memory shows of the machine.
 pub record HasState (core : CoreState) (m : Machine) : Type 0 where
   pub count : count_of m.history ≡ core.segment.first + core.segment.count
   pub few : core.segment.first + core.segment.count ≤ 4294967295
@@ -56,7 +56,7 @@ pub record HasState (core : CoreState) (m : Machine) : Type 0 where
   pub head : m.state.head ≡ core.live.head
   pub flushing : core.live.flushing ≡ flush_rows m.state.flush
   pub flush : ShowsFlush core.jobs.flush m.state.flush
-  pub compaction : m.state.compaction ≡ None
+  pub compaction : ShowsCompaction core.jobs.compaction m.state.compaction
   pub blocks : core.list.blocks ≡ map ref_of m.state.blocks
   pub infos : info_files core.infos.items ≡ block_files m.state.blocks
   pub listed : map listed_as core.infos.items ≡ core.list.blocks
@@ -72,6 +72,7 @@ pub record HasState (core : CoreState) (m : Machine) : Type 0 where
   pub jobs : JobsFit core.jobs core.list
   pub used : AreInUse core.list m.state
   pub pins : (n : ℕ) → is_among n (pin_numbers m.state.pins) ≡ is_taken n core.pins.items
+  pub pinned : (n : ℕ) → block_files (pinned_blocks n m.state.pins) ≡ files_at n core.pins.items
   pub read_only : m.read_only ≡ core.read_only
 
 -- A core with this memory, over a disk that holds this and may leave that, stands for the machine: what it keeps has the

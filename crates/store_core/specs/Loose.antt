@@ -1,9 +1,11 @@
 -- Loose files, which an opening empties, and the list that it leaves.
-use Rattle.std.specs.Prelude.{◌≡◌, ◌≤◌, ℕ, List, [], ◌∷◌}
+use Rattle.std.specs.Prelude.{◌≡◌, ◌⊎◌, ◌<◌, ◌≤◌, ℕ, List, [], ◌∷◌, ◌++◌, map}
 use Rattle.std.specs.List.{Contains}
 use Rattle.disk_model.specs.Images.{Image, bytes_of}
 use Rattle.disk_model.specs.Crash.{OnlyBytes}
-use Rattle.block_list.specs.Body.{successor}
+use Rattle.block_list.specs.Body.{successor, files_of}
+use Rattle.block_list.specs.declared.body.BlockRef.{BlockRef}
+use Rattle.block_list.specs.declared.body.SegmentRef.{SegmentRef}
 use Rattle.block_list.specs.declared.body.ListBody.{ListBody}
 
 -- the next list, which names no loose file
@@ -17,6 +19,25 @@ list_after (file ∷ files) body = next_without body
 
 abbrev pub without_loose : ListBody → ListBody
 without_loose body = list_after body.loose body
+
+-- the files of its segments and blocks
+abbrev pub used_files : ListBody → List ℕ
+used_files body = map (λ (segment : SegmentRef). segment.file) body.segments ++ map (λ (block : BlockRef). block.file) body.blocks
+
+-- files from 2 on that are none of those
+abbrev pub AreUnused : ListBody → List ℕ → Type 0
+AreUnused body files = (file : ℕ) → Contains files file → (2 ≤ file) × (Contains (used_files body) file → ⊥)
+
+-- the next list, with this next file and these loose files
+abbrev pub next_with : ListBody → ℕ → List ℕ → ListBody
+next_with body next_file loose = record body { generation = successor body.generation; next_file = next_file; loose = loose }
+
+-- Files may be emptied and the next list be committed without them: none of them is a segment's or a block's, and each other file that
+-- the list names, or that was given out since, is named by the next one.
+pub record MayEmpty (body : ListBody) (next_file : ℕ) (loose files : List ℕ) : Type 0 where
+  pub unused : AreUnused body files
+  pub named : (file : ℕ) → Contains (files_of body) file ⊎ ((body.next_file ≤ file) × (file < next_file))
+      → Contains (files_of (next_with body next_file loose)) file ⊎ Contains files file
 
 -- Each file from 2 on but these holds what it held, and where it had one image it has that one still.
 pub record OthersStay (files : List ℕ) (held later : Image) (before after : Image → Type 0) : Type 0 where

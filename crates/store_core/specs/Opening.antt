@@ -78,10 +78,14 @@ pub record BeginsAs (image : Image) (moment : ℕ) (m : Machine) : Type 0 where
       → m.state ≡ opened_state list blocks batches moment
   pub writes : m.read_only ≡ None
 
--- A machine in which a store begins, over whatever bytes: it writes, its head is empty, no file is loose and no pin is open.
+-- A machine in which a store begins, over whatever bytes: it writes, its head is empty, no job was begun and none is open, no file
+-- is loose and no pin is open.
 pub record BeginsEmpty (m : Machine) : Type 0 where
   pub writes : m.read_only ≡ None
   pub head : m.state.head ≡ []
+  pub flush : m.state.flush ≡ None
+  pub compaction : m.state.compaction ≡ None
+  pub begun : m.state.begun ≡ 0
   pub loose : m.state.loose ≡ []
   pub pins : m.state.pins ≡ []
 

@@ -48,8 +48,8 @@ impl<D: Device> Core<D> {
         }
     }
 
-    // A write failed: from now on the store is read-only, with the disk's count of faults.
-    fn stop_writing(&mut self) -> WriteError
+    /// A write failed: from now on the store is read-only, with the disk's count of faults.
+    pub(crate) fn stop_writing(&mut self) -> WriteError
         ensures fault { result ≡ Fault }
         ensures stopped { self.new ≡ record self.old { state = record self.old.state { read_only = Some (D.faults self.old.disk) } } }
     {
@@ -59,8 +59,8 @@ impl<D: Device> Core<D> {
     }
 }
 
-// How many rows a block has, as its information says.
-fn rows_in(info: &SharedInfo) -> u32
+/// How many rows a block has, as its information says.
+pub(crate) fn rows_in(info: &SharedInfo) -> u32
     ensures { result ≡ info.now.rows }
 {
     info.get().rows

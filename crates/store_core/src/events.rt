@@ -66,7 +66,8 @@ impl<D: Device> Core<D> {
         let as_of = self.state.length();
         let rows = self.state.live.runs()?;
         let blocks = self.state.copy_infos()?;
-        let number = take_number(&mut self.state.pins)?;
+        let files = self.state.copy_files()?;
+        let number = take_number(&mut self.state.pins, files)?;
         Ok(Look {
             pin: Pin { number, blocks },
             as_of,

@@ -99,7 +99,7 @@ impl<D: Device> Core<D> {
         }
         // No flush is open, so that no row stands in one.
         self.state.live.undo_flush();
-        let Ok(()) = self.state.infos.reserve(1) else {
+        let Ok(()) = self.state.infos.reserve(2) else {
             return Err(BeginError::Memory);
         };
         let Ok(room) = self.state.jobs.make_room(self.alloc, &self.state.list) else {

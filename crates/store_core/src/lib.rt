@@ -6,6 +6,7 @@
 mod admit;
 mod blocks;
 mod committing;
+mod compacting;
 mod cutting;
 mod error;
 mod events;
@@ -21,13 +22,14 @@ mod pages;
 mod pins;
 mod port;
 mod reading;
+mod reclaiming;
 mod reviving;
 mod room;
 mod state;
 mod store;
 
 pub use error::OpenError;
-pub use jobs::{Jobs, OpenFlush};
+pub use jobs::{Jobs, OpenCompaction, OpenFlush};
 pub use laws::images_since_opening;
 pub use loose::empty_loose;
 pub use new_store::{make_store, open_new};

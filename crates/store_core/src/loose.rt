@@ -1,27 +1,31 @@
 //! The files that a list names as loose are emptied, and the list is committed without them.
 
-ghost use Rattle.std.specs.Prelude.{◌≡◌, ◌≢◌, ◌≤◌, ℕ, [], Some, Err, IsTrue, IfOk, IfErr, OnOk};
+ghost use Rattle.std.specs.Prelude.{◌≡◌, ◌≢◌, ◌≤◌, ◌+◌, ◌*◌, ℕ, List, [], length, Some, Err, IsTrue, IfOk, IfErr, OnOk};
 ghost use Rattle.std.specs.List.{Contains};
 ghost use Rattle.span_types.specs.Faults.{Rose};
+ghost use Rattle.disk_model.specs.Images.{bytes_of};
 ghost use Rattle.disk_model.specs.Crash.{OnlyBytes, Run, HasCause};
 ghost use Rattle.block_list.specs.Body.{MeetsRules};
+ghost use Rattle.block_list.specs.Commit.{IsListText};
 ghost use Rattle.block_list.specs.Loading.{IsReady};
 ghost use Rattle.block_list.specs.declared.body.ListBody.{ListBody};
 ghost use Rattle.store_images.specs.Stored.{KeepsStored};
-ghost use Rattle.store_core.specs.Loose.{next_without, without_loose, OthersStay};
+ghost use Rattle.store_state.specs.Calls.{RoseAtMost};
+ghost use Rattle.store_core.specs.Loose.{next_without, next_with, without_loose, AreUnused, MayEmpty, OthersStay};
 ghost use Rattle.store_core.specs.Opening.{KeepsDisk};
 ghost use Rattle.store_core.specs.declared.error.OpenError.TheVariants.{Fault, NotStore};
 
 use crate::error::OpenError;
-use block_list::{FileList, ListBody, commit, prepare};
+use block_list::{FileList, ListBody, PreparedList, commit, prepare};
 use disk_model::{Device, cut_through};
 use span_types::Failed;
 use std::alloc::Global;
 
-/// Empties the loose files of the list that counts, and commits the next list without them, which is answered. A list that names
-/// none stays, and no device call is made.
+/// Empties the loose files of the list that counts, and commits the next list without them, which is answered. A list
+/// that names none stays, and no device call is made.
 ///
-/// All memory is taken before the disk is changed. The files are made to last as empty ones before the list is committed.
+/// All memory is taken before the disk is changed. The files are made to last as empty ones before the list is
+/// committed.
 pub fn empty_loose<D: Device>(
     alloc: Global,
     disk: &mut D,
@@ -32,7 +36,8 @@ pub fn empty_loose<D: Device>(
     ensures list { IfOk result (λ next. next ≡ without_loose list) }
     // Whenever a crash comes, what is stored is kept, and what is left stays tidy.
     ensures kept { KeepsDisk D.Device.own disk.old disk.new }
-    ensures ready { IsTrue (D.tells disk.old) → IfOk result (λ next. IsReady (D.held disk.new) (D.may_leave disk.new) (Some next)) }
+    ensures ready { IsTrue (D.tells disk.old) →
+        IfOk result (λ next. IsReady (D.held disk.new) (D.may_leave disk.new) (Some next)) }
     ensures others { IsTrue (D.tells disk.old) → OnOk result
         (OthersStay list.loose (D.held disk.old) (D.held disk.new) (D.may_leave disk.old) (D.may_leave disk.new)) }
     ensures telling { D.tells disk.new ≡ D.tells disk.old }
@@ -81,18 +86,52 @@ fn take_loose(alloc: Global, list: ListBody) -> (ListBody, FileList)
     (next, loose)
 }
 
-// Empties files that the list which counts names as loose, one after another, and makes that last.
+/// Empties files that are neither segments nor blocks of the list which counts, one after another, makes that last, and
+/// commits the next list, which this text is.
+pub(crate) fn commit_without<D: Device>(
+    disk: &mut D,
+    files: &[u32],
+    text: &PreparedList,
+) -> Result<(), Failed>
+    ensures kept { IsTrue (D.tells disk.old) → (body : ListBody) (next_file : ℕ) (loose : List ℕ) →
+        IsReady (D.held disk.old) (D.may_leave disk.old) (Some body) → MayEmpty body next_file loose files.now →
+        IsListText text.now (next_with body next_file loose) →
+        Run KeepsStored D.moment D.left_since D.may_leave disk.old disk.new }
+    ensures ready { IsTrue (D.tells disk.old) → (body : ListBody) (next_file : ℕ) (loose : List ℕ) →
+        IsReady (D.held disk.old) (D.may_leave disk.old) (Some body) → MayEmpty body next_file loose files.now →
+        IsListText text.now (next_with body next_file loose) →
+        OnOk result (IsReady (D.held disk.new) (D.may_leave disk.new) (Some (next_with body next_file loose))) }
+    ensures others { IsTrue (D.tells disk.old) → (body : ListBody) (next_file : ℕ) (loose : List ℕ) →
+        IsReady (D.held disk.old) (D.may_leave disk.old) (Some body) → MayEmpty body next_file loose files.now →
+        IsListText text.now (next_with body next_file loose) →
+        OthersStay files.now (D.held disk.old) (D.held disk.new) (D.may_leave disk.old) (D.may_leave disk.new) }
+    ensures still { IsTrue (D.tells disk.old) → (file : ℕ) → 2 ≤ file → (Contains files.now file → ⊥) →
+        bytes_of (D.held disk.new) file ≡ bytes_of (D.held disk.old) file }
+    ensures telling { D.tells disk.new ≡ D.tells disk.old }
+    ensures cause { HasCause (D.faults disk.old) (D.faults disk.new) result }
+    ensures calls { RoseAtMost (2 * length files.now + 6) (D.calls disk.old) (D.calls disk.new) }
+    ensures no_read { D.reads disk.new ≡ D.reads disk.old }
+{
+    empty_files(disk, files)?;
+    commit(disk, text)
+}
+
+// Empties files that are neither segments nor blocks of the list which counts, one after another, and makes that last.
 fn empty_files<D: Device>(disk: &mut D, files: &[u32]) -> Result<(), Failed>
-    ensures kept { IsTrue (D.tells disk.old) → (body : ListBody) → IsReady (D.held disk.old) (D.may_leave disk.old) (Some body)
-        → files.now ≡ body.loose → Run KeepsStored D.moment D.left_since D.may_leave disk.old disk.new }
-    ensures ready { IsTrue (D.tells disk.old) → (body : ListBody) → IsReady (D.held disk.old) (D.may_leave disk.old) (Some body)
-        → files.now ≡ body.loose → IsReady (D.held disk.new) (D.may_leave disk.new) (Some body) }
+    ensures kept { IsTrue (D.tells disk.old) → (body : ListBody) →
+        IsReady (D.held disk.old) (D.may_leave disk.old) (Some body) → AreUnused body files.now →
+        Run KeepsStored D.moment D.left_since D.may_leave disk.old disk.new }
+    ensures ready { IsTrue (D.tells disk.old) → (body : ListBody) →
+        IsReady (D.held disk.old) (D.may_leave disk.old) (Some body) → AreUnused body files.now →
+        IsReady (D.held disk.new) (D.may_leave disk.new) (Some body) }
     ensures emptied { IsTrue (D.tells disk.old) → OnOk result ((file : ℕ) → Contains files.now file
         → OnlyBytes file [] (D.may_leave disk.new)) }
     ensures others { IsTrue (D.tells disk.old) →
         OthersStay files.now (D.held disk.old) (D.held disk.new) (D.may_leave disk.old) (D.may_leave disk.new) }
     ensures telling { D.tells disk.new ≡ D.tells disk.old }
     ensures cause { HasCause (D.faults disk.old) (D.faults disk.new) result }
+    ensures calls { RoseAtMost (2 * length files.now) (D.calls disk.old) (D.calls disk.new) }
+    ensures no_read { D.reads disk.new ≡ D.reads disk.old }
 {
     for file in files {
         cut_through(disk, *file, 0)?;

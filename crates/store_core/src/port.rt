@@ -1,4 +1,4 @@
-//! A core as a port, for pushes, looks and flushes.
+//! A core as a port.
 
 ghost use Rattle.std.specs.Prelude.{[]};
 ghost use Rattle.store_model.specs.Event.{Event, Reply};
@@ -13,7 +13,8 @@ use block_info::SharedInfo;
 use disk_model::Device;
 use span_types::{Batch, Failed, Memory};
 use store_state::{
-    BeginError, FlushJob, FlushPort, JobFile, Look, LookPort, Pin, PushError, WriteError,
+    BeginError, CompactJob, FlushJob, FlushPort, JobFile, Look, LookPort, Pin, Port, PushError,
+    ReclaimError, WriteError,
 };
 
 impl<D: Device> LookPort for Core<D> {
@@ -69,6 +70,24 @@ impl<D: Device> FlushPort for Core<D> {
         buf: &mut [u8; 4096],
     ) -> Result<(), Failed> {
         self.read_page(pin, block, page, buf)
+    }
+}
+
+impl<D: Device> Port for Core<D> {
+    fn begin_compact(&mut self) -> Result<Option<CompactJob>, BeginError> {
+        self.begin_compact()
+    }
+
+    fn commit_compact(&mut self, job: CompactJob, info: SharedInfo) -> Result<(), WriteError> {
+        self.commit_compact(job, info)
+    }
+
+    fn drop_compact(&mut self, job: CompactJob) {
+        self.drop_compact(job);
+    }
+
+    fn reclaim(&mut self) -> Result<u64, ReclaimError> {
+        self.reclaim()
     }
 }
 

@@ -1,5 +1,5 @@
 -- Rows that lie between two lists which have a history's first occurrences, and those of a store whose flush was committed.
-use Rattle.std.proofs.Common.{◌≡◌, ◌⊎◌, inl, inr, ℕ, ◌+◌, ◌<◌, ◌≤◌, zero, suc, List, [], ◌∷◌, ◌++◌, length, drop, Option, None, Some, Bool, true, false, if◌then◌else◌, refl, sym, ◌∙◌, ap, subst, arith}
+use Rattle.std.proofs.Common.{◌≡◌, ◌⊎◌, inl, inr, ℕ, ◌+◌, ◌≤◌, zero, suc, List, [], ◌∷◌, ◌++◌, drop, Option, None, Some, Bool, true, false, if◌then◌else◌, refl, sym, ◌∙◌, ap, subst, arith}
 use Rattle.std.specs.List.{Contains}
 use Rattle.std.specs.Ordering.{is_lt, ordering_reverse}
 use Rattle.std.specs.declared.cmp.Ordering.{Ordering}
@@ -8,7 +8,6 @@ use Rattle.std.proofs.lemmas.Grind.{flat_map-append}
 use Rattle.std.proofs.lemmas.List.{append-nil}
 use Rattle.std.proofs.lemmas.List.Elements.{Contains-append_cases, Contains-append_left, Contains-append_right}
 use Rattle.span_types.specs.declared.ids.Key.{Key}
-use Rattle.span_types.specs.declared.ids.Place.{Place}
 use Rattle.span_types.specs.declared.spans.Span.{Span}
 use Rattle.span_types.specs.declared.spans.Row.{Row}
 use Rattle.span_types.specs.Orders.{place_cmp}
@@ -68,7 +67,7 @@ between inner rows outer h low high from to = record {
 
 -- ---- the records of a log from a number on
 
-later_in : (n k : ℕ) (batches : List (List Span)) (x : Row) → Contains (entry_rows (n + k) (drop k batches)) x → Contains (entry_rows n batches) x
+pub later_in : (n k : ℕ) (batches : List (List Span)) (x : Row) → Contains (entry_rows (n + k) (drop k batches)) x → Contains (entry_rows n batches) x
 later_in n zero [] x c = absurd (not_in_nil x c)
 later_in n zero (b ∷ bs) x c = subst (λ (m : ℕ). Contains (entry_rows m (b ∷ bs)) x) (let e : n + 0 ≡ n = omega arith in e) c
 later_in n (suc k) [] x c = absurd (not_in_nil x c)

@@ -5,3 +5,5 @@ pub mod Keeping
 pub mod Storing
 pub mod Between
 pub mod Committed
+pub mod Compacted
+pub mod CompactImages

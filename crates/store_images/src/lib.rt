@@ -7,6 +7,6 @@
 mod laws;
 
 pub use laws::{
-    a_committed_flush_agrees, a_committed_flush_stands, loaded_keeps_stored, one_stored_list,
-    steps_that_keep,
+    a_committed_compaction_agrees, a_committed_compaction_stands, a_committed_flush_agrees,
+    a_committed_flush_stands, loaded_keeps_stored, one_stored_list, steps_that_keep,
 };

@@ -209,6 +209,7 @@ each_file floor last segments stay loose all stays go = omega (arith, same, more
     whole : length (map segment_of (segments ++ last ∷ [])) ≡ length segments + 1
     whole = length-map (segments ++ last ∷ []) segment_of ∙ length-append segments (last ∷ [])
 
+-- each block stays, or its file is loose
 sides_length : (files : List ℕ) (blocks : List BlockRef) → length (outside files blocks) + length (inside files blocks) ≡ length blocks
 sides_length files [] = refl
 sides_length files (b ∷ bs) = by_test (is_among b.file files) (sides_length files bs)
@@ -218,6 +219,21 @@ sides_length files (b ∷ bs) = by_test (is_among b.file files) (sides_length fi
         + length (map (λ (r : BlockRef). r.file) (if t then b ∷ filter (λ (r : BlockRef). is_among r.file files) bs else filter (λ (r : BlockRef). is_among r.file files) bs)) ≡ length (b ∷ bs)
     by_test true h = omega (arith, h)
     by_test false h = omega (arith, h)
+
+-- the same where a block and loose files are listed beside them
+pub each_side : (joined : List ℕ) (block : BlockRef) (blocks stay : List BlockRef) (loose all : List ℕ) →
+    stay ≡ outside joined blocks ++ block ∷ [] → all ≡ loose ++ inside joined blocks →
+    length stay + length all ≡ length blocks + 1 + length loose
+each_side joined block blocks stay loose all stays go = omega (arith, more, both, whole)
+  where
+    more : length stay ≡ length (outside joined blocks) + 1
+    more = ap length stays ∙ length-append (outside joined blocks) (block ∷ [])
+
+    both : length (outside joined blocks) + length (inside joined blocks) ≡ length blocks
+    both = sides_length joined blocks
+
+    whole : length all ≡ length loose + length (inside joined blocks)
+    whole = ap length go ∙ length-append loose (inside joined blocks)
 
 -- a list with more at its end
 more_length : {X : Type 0} (xs ys zs : List X) → zs ≡ xs ++ ys → length zs ≡ length xs + length ys

@@ -1,4 +1,4 @@
--- Blocks of a list by their files. (Private: no contract of a public call cites it.)
+-- Blocks of a list by their files: what a compaction's commit leaves in it, and what it makes loose.
 use Rattle.std.specs.Prelude.{ℕ, List, map, filter, not}
 use Rattle.block_list.specs.declared.body.BlockRef.{BlockRef}
 use Rattle.store_model.specs.State.{is_among}

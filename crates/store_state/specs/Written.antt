@@ -1,10 +1,10 @@
 -- Pages, and the information of a block that is to be listed.
-use Rattle.std.specs.Prelude.{◌≡◌, ℕ, ◌*◌, List, [], ◌∷◌, ◌++◌, length, take, drop, replicate}
+use Rattle.std.specs.Prelude.{◌≡◌, ℕ, ◌*◌, List, [], ◌∷◌, ◌++◌, length, map, take, drop, replicate}
 use Rattle.std.specs.List.{flat_map}
 use Rattle.span_types.specs.First.{IsFirstOf}
 use Rattle.span_types.specs.declared.spans.Row.{Row}
 use Rattle.block_info.specs.InfoParts.{InfoParts}
-use Rattle.block_format.specs.Blocks.{BlockHasInfo}
+use Rattle.block_format.specs.Blocks.{BlockHasInfo, BlockHolds}
 use Rattle.store_state.specs.declared.jobs.JobFile.{JobFile}
 
 -- a page of a file; behind the file's end it has zeros
@@ -33,11 +33,18 @@ AreBlocksOf bytes (info ∷ infos) (rows ∷ parts) =
     BlockHasInfo info (bytes info.file) rows × AreBlocksOf bytes infos parts
 AreBlocksOf bytes _ _ = ⊥
 
--- It is a block of the first occurrences of the rows of these blocks.
+-- Blocks in these files, each of which holds the rows of one part.
+abbrev pub HoldRows : (ℕ → List ℕ) → List ℕ → List (List Row) → Type 0
+HoldRows bytes [] [] = Unit {0}
+HoldRows bytes (file ∷ files) (rows ∷ parts) = BlockHolds (bytes file) rows × HoldRows bytes files parts
+HoldRows bytes _ _ = ⊥
+
+-- It is a block of the first occurrences of the rows of these parts, one for each of the blocks. Where bytes are told, they are the
+-- rows of whatever blocks the files hold.
 pub record IsJoinedBlock (told : Type 0) (bytes : ℕ → List ℕ) (file level : ℕ) (info : InfoParts) (infos : List InfoParts) : Type 0 where
   pub parts : List (List Row)
   pub one_each : length parts ≡ length infos
-  pub their_rows : told → AreBlocksOf bytes infos parts
+  pub their_rows : told → (others : List (List Row)) → HoldRows bytes (map (λ i. i.file) infos) others → others ≡ parts
   pub block : IsBlockOf told (bytes file) file level info (flat_map (λ rows. rows) parts)
 
 -- What the file of a job holds is just as long as what was written to it.

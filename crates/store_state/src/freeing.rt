@@ -23,19 +23,23 @@ pub fn reclaim(now: &Listing, next: &mut Listing, pinned: &[u32], free: &mut Vec
     fill(&mut next.segments, now.segments.as_slice());
     next.floor = now.floor;
     next.next_file = now.next_file;
-    part_files(now.loose.as_slice(), pinned, &mut next.loose, free);
+    part_loose(now.loose.as_slice(), pinned, &mut next.loose, free);
 }
 
-// The files that are among the pinned ones, and the others.
-fn part_files(now: &[u32], pinned: &[u32], kept: &mut Vec<u32>, free: &mut Vec<u32>)
-    requires kept { length now.now ≤ vec_capacity kept.now }
-    requires free { length now.now ≤ vec_capacity free.now }
-    ensures kept { kept.new.items ≡ filter (λ file. is_among file pinned.now) now.now }
-    ensures free { free.new.items ≡ filter (λ file. not (is_among file pinned.now)) now.now }
+/// The same from lists alone: `kept` becomes those of these loose files that are among the pinned ones, and `free` the others,
+/// each in the list's order. It goes over the pinned ones for each loose file, so that its time is up to the product of the two
+/// lengths.
+pub fn part_loose(loose: &[u32], pinned: &[u32], kept: &mut Vec<u32>, free: &mut Vec<u32>)
+    requires kept { length loose.now ≤ vec_capacity kept.now }
+    requires free { length loose.now ≤ vec_capacity free.now }
+    ensures kept { kept.new.items ≡ filter (λ file. is_among file pinned.now) loose.now }
+    ensures free { free.new.items ≡ filter (λ file. not (is_among file pinned.now)) loose.now }
+    ensures kept_room { vec_capacity kept.old ≤ vec_capacity kept.new }
+    ensures free_room { vec_capacity free.old ≤ vec_capacity free.new }
 {
     kept.clear();
     free.clear();
-    for file in now {
+    for file in loose {
         part_file(*file, pinned, kept, free);
     }
 }

@@ -1,11 +1,13 @@
-//! What a step of the machine is to a port that shows it.
+//! What a step of the machine is to a port that shows it, and what a list has of the machine's state.
 
-ghost use Rattle.std.specs.Prelude.{◌≡◌, ◌≤◌, ◌++◌, ℕ, List, length};
+ghost use Rattle.std.specs.Prelude.{◌≡◌, ◌≤◌, ◌++◌, ℕ, List, length, map};
 ghost use Rattle.block_info.specs.InfoParts.{InfoParts};
-ghost use Rattle.store_model.specs.State.{State, live_rows};
+ghost use Rattle.store_model.specs.State.{State, Block, block_files, live_rows};
 ghost use Rattle.store_model.specs.After.{floor_after};
+ghost use Rattle.store_model.specs.Choice.{in_files, outside_files};
 ghost use Rattle.live_traces.specs.Parts.{least_number};
-ghost use Rattle.store_state.specs.Listed.{floor_from};
+ghost use Rattle.store_state.specs.Listed.{floor_from, ref_of};
+ghost use Rattle.store_state.specs.Parted.{inside, outside};
 ghost use Rattle.store_model.specs.Event.{Event, Reply};
 ghost use Rattle.store_model.specs.Step.{Machine, Step};
 ghost use Rattle.store_state.specs.Meaning.{Learns};
@@ -28,4 +30,12 @@ pub fn the_floor_is_the_least_that_waits()
 pub fn a_choice_is_few()
     ensures { (listed : List InfoParts) (level : ℕ) (pinned : List InfoParts) → IsChoiceOf listed level pinned →
         1 ≤ length pinned → AreFew level pinned }
+{}
+
+/// The blocks that a list keeps outside of files, and the files of those inside, are those of the machine's blocks.
+pub fn a_list_parts_blocks_as_the_machine()
+    ensures stay { (files : List ℕ) (blocks : List Block) →
+        outside files (map ref_of blocks) ≡ map ref_of (outside_files files blocks) }
+    ensures go { (files : List ℕ) (blocks : List Block) →
+        inside files (map ref_of blocks) ≡ block_files (in_files files blocks) }
 {}

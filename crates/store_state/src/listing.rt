@@ -9,6 +9,7 @@ ghost use Rattle.store_model.specs.After.{after_begin_flush, after_begin_compact
 ghost use Rattle.live_traces.specs.Parts.{least_number};
 ghost use Rattle.store_state.specs.Listed.{HasRoomFor, IsListingOf, KeepsRoom, NamesTheSame, TakesOneJob, floor_from, listed_body, segment_of};
 ghost use Rattle.store_state.specs.Loose.{AreFilesOf, compaction_part, flush_part};
+ghost use Rattle.store_state.specs.Parted.{inside, outside};
 
 use crate::parts::{part_blocks, part_segments};
 use crate::room::{fill, put};
@@ -135,16 +136,40 @@ pub fn commit_compact(now: &Listing, next: &mut Listing, joined: &[u32], block: 
     ensures others { TakesOneJob now.now next.new }
     ensures room { KeepsRoom next.old next.new }
 {
+    list_compact(
+        now.blocks.as_slice(),
+        now.loose.as_slice(),
+        next,
+        joined,
+        block,
+    );
     fill(&mut next.segments, now.segments.as_slice());
-    fill(&mut next.loose, now.loose.as_slice());
     next.floor = now.floor;
     next.next_file = now.next_file;
-    part_blocks(
-        now.blocks.as_slice(),
-        joined,
-        &mut next.blocks,
-        &mut next.loose,
-    );
+}
+
+/// The same from lists alone: `next` names those of these blocks that aren't in the joined files, with a block at the end, and
+/// as loose these files and those of the other blocks. It leaves the segments, the floor and the next file alone.
+pub fn list_compact(
+    blocks: &[BlockRef],
+    loose: &[u32],
+    next: &mut Listing,
+    joined: &[u32],
+    block: BlockRef,
+)
+    requires blocks { length blocks.now + 1 ≤ vec_capacity next.now.blocks }
+    requires loose { length loose.now + length blocks.now ≤ vec_capacity next.now.loose }
+    ensures blocks { next.new.blocks.items ≡ outside joined.now blocks.now ++ block ∷ [] }
+    ensures loose { next.new.loose.items ≡ loose.now ++ inside joined.now blocks.now }
+    ensures segments { next.new.segments ≡ next.old.segments }
+    ensures floor { next.new.floor ≡ next.old.floor }
+    ensures next_file { next.new.next_file ≡ next.old.next_file }
+    ensures each_file { length next.new.blocks.items + length next.new.loose.items
+        ≡ length blocks.now + 1 + length loose.now }
+    ensures room { KeepsRoom next.old next.new }
+{
+    fill(&mut next.loose, loose);
+    part_blocks(blocks, joined, &mut next.blocks, &mut next.loose);
     put(&mut next.blocks, block);
 }
 

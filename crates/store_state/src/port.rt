@@ -4,6 +4,7 @@ ghost use Rattle.std.specs.Prelude.{◌≡◌, ◌≢◌, ◌≤◌, ◌+◌, Li
 ghost use Rattle.block_info.specs.InfoParts.{InfoParts};
 ghost use Rattle.store_model.specs.Event.Event.{Push, Cut, CutAll, Held, BeginFlush, BeginCompact, WritePiece, CommitFlush, CommitCompact, DropFlush, DropCompact, Look as TakeLook, ReadPage, Done, Reclaim};
 ghost use Rattle.store_model.specs.Event.Reply.{Count, Fine};
+ghost use Rattle.store_model.specs.Holds.{Hold};
 ghost use Rattle.store_state.specs.Meaning.{View, Meaning, Called, IsOpen};
 ghost use Rattle.store_state.specs.Given.{look_of, flush_of, compact_of, IsJobOf, IsPinOf};
 ghost use Rattle.store_state.specs.Replies.{push_reply, count_reply, begin_flush_reply, begin_compact_reply, write_reply, look_reply, page_reply, reclaim_reply};
@@ -110,14 +111,15 @@ pub trait FlushPort: LookPort {
 /// All calls of a store, each of which is one event: those of a `FlushPort`, and with these compactions and the emptying of loose
 /// files.
 pub trait Port: FlushPort {
-    /// Begins a compaction of the blocks that are to be joined next; none where no two of a level below 63 fit together.
+    /// Begins a compaction of the blocks that are to be joined next; none where no two of a level below 63 fit together. Their
+    /// files hold blocks, as their information describes them, where a history is known after it.
     fn begin_compact(&mut self) -> Result<Option<CompactJob>, BeginError>
         ensures called { Called Self.meaning self.old BeginCompact (begin_compact_reply result) self.new }
         ensures fresh { IfOk result (λ begun. IfSome begun (λ job. job.out.written ≡ 0)) }
-        ensures joins { IfOk result (λ begun. IfSome begun (λ job.
+        ensures joins { (held : List Hold) → Self.meaning.holds self.old held → IfOk result (λ begun. IfSome begun (λ job.
             JoinsChoice (Self.meaning.lists self.old) job.level job.pin.blocks)) }
         ensures blocks { IsTrue (Self.meaning.tells self.new) → IfOk result (λ begun. IfSome begun (λ job.
-            AreBlocks (Self.meaning.shows self.new) job.pin.blocks)) };
+            (v : View) → Self.meaning.knows self.new v → AreBlocks (Self.meaning.shows self.new) job.pin.blocks)) };
 
     /// Lists a compaction's block, which its file holds and the information describes, in the place of those that it joins. The job
     /// is spent, refused or not.

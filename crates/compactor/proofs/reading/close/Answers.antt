@@ -3,7 +3,7 @@ use Rattle.span_fields.specs.Breaks.{Fails}
 use Rattle.block_info.specs.InfoParts.{InfoParts}
 use Rattle.store_state.specs.declared.rounds.Refusal.{Refusal}
 use Rattle.compactor.specs.Rounds.{pages_of, rows_at}
-use Rattle.compactor.specs.Phases.{Turned, unread_cause}
+use Rattle.compactor.specs.Phases.{BeginsBlock, Turned, unread_cause}
 use Rattle.compactor.specs.Phases.Turned.{Starved, NextBlock}
 use Rattle.compactor.specs.Tasks.{Task, blocks_left}
 use Rattle.compactor.specs.Tasks.Task.{Failing}
@@ -18,9 +18,10 @@ returns-in-Ok c =
     let rest = drop (length parts + 1) job.pin.blocks in
     let whole = first_holds (blocks_left job parts) info rest (λ (i : InfoParts). pages_of i ≤ c.args.reading.pages) c.current-block.ensures c.requires.whole in
     let read : rows_at info c.args.reading.bytes.items ≡ Ok c.in-Ok.rows = subst (λ (b : List ℕ). rows_at info b ≡ Ok c.in-Ok.rows) c.as_slice.ensures.value c.in-Ok.ensures.answers in
+    let begins : BeginsBlock c.args.reading.bytes.items = subst BeginsBlock c.as_slice.ensures.value c.in-Ok.ensures.begins in
     elim c.keep.ensures [
       | inl e ↦ subst (λ (t : Task). Turned job parts c.args.reading.pages c.args.reading.bytes.items t) (sym e)
-          (NextBlock info rest c.in-Ok.rows c.current-block.ensures whole read c.in-Ok.ensures.some c.in-Ok.ensures.counted)
+          (NextBlock info rest c.in-Ok.rows c.current-block.ensures whole read c.in-Ok.ensures.some c.in-Ok.ensures.counted begins)
       | inr e ↦ subst (λ (t : Task). Turned job parts c.args.reading.pages c.args.reading.bytes.items t) (sym e) Starved
     ]
 

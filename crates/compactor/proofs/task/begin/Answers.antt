@@ -4,7 +4,7 @@ use Rattle.store_model.specs.Event.Event.{BeginCompact}
 use Rattle.store_model.specs.Event.{Reply as reply}
 use Rattle.store_state.specs.Given.{compact_of, info_files}
 use Rattle.store_state.specs.Made.{call}
-use Rattle.store_state.specs.Meaning.{Meaning, Called}
+use Rattle.store_state.specs.Meaning.{View, Meaning, Called}
 use Rattle.store_state.specs.Replies.{begin_compact_reply, begin_refusal}
 use Rattle.store_state.specs.Shown.{AreBlocks, JoinsChoice}
 use Rattle.store_state.specs.declared.jobs.CompactJob.{CompactJob}
@@ -15,7 +15,7 @@ use Rattle.flusher.proofs.TaskLaws.{itself}
 use Rattle.compactor.specs.Rounds.{FoundBlocks, Leads}
 use Rattle.compactor.specs.Rounds.{Stage as stage}
 use Rattle.compactor.specs.Rounds.Leads.{nothing, no_job}
-use Rattle.compactor.specs.Tasks.{Fits, OneEvent, Task, steps_left}
+use Rattle.compactor.specs.Tasks.{FindsBlocks, Fits, OneEvent, Task, steps_left}
 use Rattle.compactor.specs.Tasks.Task.{Fresh}
 use Rattle.compactor.proofs.ReadLaws.{begun_event, fits_first}
 use Rattle.compactor.proofs.WriteLaws.{begin_found, ends_in}
@@ -50,8 +50,18 @@ returns-in-Ok-Some-clause-fits g c =
     (opens_new meaning old new BeginCompact (reply.Compacting j.out.number j.out.file j.level j.pin.number (info_files j.pin.blocks)) (compact_of j) called c.requires (zero, omega arith, refl))
     (known o j (λ (job : CompactJob). job.out.written ≡ 0) c.in-Ok-Some.field-0-is c.in-Ok-Some.ensures.fresh)
     (c.a_choice_is_few.ensures joins.0 j.level j.pin.blocks joins.1 joins.2)
-    (λ tells. known o j (λ (job : CompactJob). AreBlocks (meaning.shows new) job.pin.blocks) c.in-Ok-Some.field-0-is (c.in-Ok-Some.ensures.blocks tells))
     (λ tells. called.empty (subst IsTrue called.telling tells) j.out.file (ap (λ (t : Bool). t || false) (itself j.out.file))))
+
+pub returns-in-Ok-Some-clause-found : goal.returns-in-Ok-Some-clause-found
+returns-in-Ok-Some-clause-found g c = λ knows.
+    let meaning = g.P.LookPort.meaning in
+    let old = c.args.port.now in
+    let new = c.begin_compact.new.self in
+    let j : CompactJob = c.in-Ok-Some.job in
+    let o : Option CompactJob = c.in-Ok-Some.field-0 in
+    let after = (replied meaning old new o (Some j) c.in-Ok-Some.field-0-is c.in-Ok-Some.ensures.called).learns knows.0 knows.1 in
+    subst (λ (t : Task). FindsBlocks meaning t new) (sym c.unread.ensures)
+    (λ tells. known o j (λ (job : CompactJob). (v : View) → meaning.knows new v → AreBlocks (meaning.shows new) job.pin.blocks) c.in-Ok-Some.field-0-is (c.in-Ok-Some.ensures.blocks tells) after.0 after.1)
 
 pub returns-in-Ok-None-clause-steps : goal.returns-in-Ok-None-clause-steps
 returns-in-Ok-None-clause-steps g c = record {
@@ -68,8 +78,8 @@ returns-in-Err-clause-steps g c = record {
       (subst (λ (why : Refusal). Leads stage.Fresh (call BeginCompact (reply.Refused (begin_refusal c.in-Err.error)) ∷ []) (Refused why)) (sym c.begin_cause.ensures) (no_job c.in-Err.error));
 }
 
-pub returns-in-Err-clause-fits : goal.returns-in-Err-clause-fits
-returns-in-Err-clause-fits g c = λ tells. subst (λ (why : Refusal). FoundBlocks (Refused why)) (sym c.begin_cause.ensures) (begin_found c.in-Err.error)
+pub returns-in-Err-clause-found : goal.returns-in-Err-clause-found
+returns-in-Err-clause-found g c = λ knows tells. subst (λ (why : Refusal). FoundBlocks (Refused why)) (sym c.begin_cause.ensures) (begin_found c.in-Err.error)
 
 pub returns-in-Ok-Some-clause-left : goal.returns-in-Ok-Some-clause-left
 returns-in-Ok-Some-clause-left g c =

@@ -36,8 +36,8 @@ returns-in-Ok-clause-steps g c =
           (leads_listed (job_of c.args.job) c.args.block.info.rows rest (drop_all c.args.job.out.written c.args.block.bytes (omega (arith, c.requires.whole)))));
     }
 
-pub returns-in-Ok-clause-fits : goal.returns-in-Ok-clause-fits
-returns-in-Ok-clause-fits g c = λ tells. subst (λ (r : Round). FoundBlocks r) (sym c.done_of-done.ensures) tt
+pub returns-in-Ok-clause-found : goal.returns-in-Ok-clause-found
+returns-in-Ok-clause-found g c = λ tells. subst (λ (r : Round). FoundBlocks r) (sym c.done_of-done.ensures) tt
 
 pub returns-clause-steps : goal.returns-clause-steps
 returns-clause-steps g c =
@@ -52,5 +52,5 @@ returns-clause-steps g c =
           (leads_unlisted (job_of c.args.job) c.args.block.info.rows rest c.in-Err.error (drop_all c.args.job.out.written c.args.block.bytes (omega (arith, c.requires.whole)))));
     }
 
-pub returns-clause-fits : goal.returns-clause-fits
-returns-clause-fits g c = λ tells. subst (λ (why : Refusal). FoundBlocks (Refused why)) (sym c.write_cause.ensures) (write_found c.in-Err.error)
+pub returns-clause-found : goal.returns-clause-found
+returns-clause-found g c = λ tells. subst (λ (why : Refusal). FoundBlocks (Refused why)) (sym c.write_cause.ensures) (write_found c.in-Err.error)

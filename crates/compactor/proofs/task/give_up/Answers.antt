@@ -16,5 +16,5 @@ returns-clause-steps g c = record {
   leads = ends_in (stage.Failing c.args.job.out.number c.args.why) (call (DropCompact c.args.job.out.number) Fine) (Refused c.args.why) (dropped c.args.job.out.number c.args.why);
 }
 
-pub returns-clause-fits : goal.returns-clause-fits
-returns-clause-fits g c = λ tells. c.requires.told (subst IsTrue c.drop_compact.ensures.telling tells)
+pub returns-clause-found : goal.returns-clause-found
+returns-clause-found g c = λ found tells. found (subst IsTrue c.drop_compact.ensures.telling tells)

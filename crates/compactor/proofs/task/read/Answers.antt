@@ -7,10 +7,10 @@ use Rattle.store_state.specs.Given.IsPinOf.{OfJob}
 use Rattle.store_state.specs.Meaning.{IsOpen, Called}
 use Rattle.store_state.specs.Written.{page_of}
 use Rattle.compactor.specs.Phases.{task_of}
-use Rattle.compactor.specs.Tasks.{Fits, OneEvent, Task}
+use Rattle.compactor.specs.Tasks.{FindsBlocks, Fits, OneEvent, Task}
 use Rattle.compactor.specs.Tasks.Task.{Reading}
 use Rattle.compactor.proofs.BlockLaws.{among_blocks}
-use Rattle.compactor.proofs.ReadLaws.{no_page_event, no_page_fits, page_event, page_fits, turned_left}
+use Rattle.compactor.proofs.ReadLaws.{no_page_event, no_page_fits, page_event, page_fits, page_found, turned_left}
 use Rattle.compactor.proofs.task.read.Goals as goal
 
 pub read_page-requires : goal.read_page-requires
@@ -46,6 +46,18 @@ returns-in-Ok-clause-fits g c =
     (λ tells. subst (λ (f : ℕ). c.read_page.new.buf ≡ page_of (g.P.LookPort.meaning.shows c.args.port.now f) pages) c.file_of-file.ensures (c.in-Ok.ensures.bytes tells))
     c.turn.ensures.turned
 
+pub returns-in-Ok-clause-found : goal.returns-in-Ok-clause-found
+returns-in-Ok-clause-found g c =
+    let job = c.args.reading.job in
+    let parts = c.args.reading.parts.items in
+    let pages = c.args.reading.pages in
+    page_found g.P.LookPort.meaning c.args.port.now c.read_page.new.self job parts pages c.args.reading.bytes.items c.read_page.new.buf c.current-block.result.now (drop (length parts + 1) job.pin.blocks)
+    (task_of c.turn.result) c.described_block_is_read.ensures.size c.requires.is_reading
+    (subst (λ (f : ℕ). Called g.P.LookPort.meaning c.args.port.now (ReadPage job.pin.number f pages) (Page c.read_page.new.buf) c.read_page.new.self) c.file_of-file.ensures c.in-Ok.ensures.called)
+    c.current-block.ensures
+    (λ tells. subst (λ (f : ℕ). c.read_page.new.buf ≡ page_of (g.P.LookPort.meaning.shows c.args.port.now f) pages) c.file_of-file.ensures (c.in-Ok.ensures.bytes tells))
+    c.turn.ensures.turned
+
 pub returns-in-Ok-clause-left : goal.returns-in-Ok-clause-left
 returns-in-Ok-clause-left g c =
     turned_left c.args.reading.job c.args.reading.parts.items c.args.reading.pages _ (task_of c.turn.result) c.turn.ensures.turned c.turn.ensures.near c.requires.more
@@ -68,3 +80,6 @@ returns-in-Err-clause-fits g c =
     subst (λ (t : Task). Fits g.P.LookPort.meaning t c.read_page.new.self) (sym c.fail.ensures)
     (no_page_fits g.P.LookPort.meaning c.args.port.now c.read_page.new.self job c.current-block.result.now pages c.requires.is_reading.is_open
     (subst (λ (f : ℕ). Called g.P.LookPort.meaning c.args.port.now (ReadPage job.pin.number f pages) (reply.Refused refusal.Fault) c.read_page.new.self) c.file_of-file.ensures c.in-Err.ensures.called))
+
+pub returns-in-Err-clause-found : goal.returns-in-Err-clause-found
+returns-in-Err-clause-found g c = λ are. subst (λ (t : Task). FindsBlocks g.P.LookPort.meaning t c.read_page.new.self) (sym c.fail.ensures) (λ tells. tt)

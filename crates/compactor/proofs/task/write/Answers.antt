@@ -61,9 +61,9 @@ returns-in-Err-clause-steps g c =
     }
 
 pub returns-in-Err-clause-fits : goal.returns-in-Err-clause-fits
-returns-in-Err-clause-fits g c = record {
-  is_open = still_open g.P.LookPort.meaning c.write_piece.new.self c.args.job c.write_piece.new.out
-      (stays_open g.P.LookPort.meaning c.args.port.now c.write_piece.new.self _ _ (compact_of c.args.job) c.in-Err.ensures.called c.requires.is_writing.is_open refl)
-      c.write_piece.ensures.same.0 c.write_piece.ensures.same.1;
-  told = λ tells. subst (λ (why : Refusal). FoundBlocks (Refused why)) (sym c.write_cause.ensures) (write_found c.in-Err.error);
-}
+returns-in-Err-clause-fits g c = still_open g.P.LookPort.meaning c.write_piece.new.self c.args.job c.write_piece.new.out
+    (stays_open g.P.LookPort.meaning c.args.port.now c.write_piece.new.self _ _ (compact_of c.args.job) c.in-Err.ensures.called c.requires.is_writing.is_open refl)
+    c.write_piece.ensures.same.0 c.write_piece.ensures.same.1
+
+pub returns-in-Err-clause-found : goal.returns-in-Err-clause-found
+returns-in-Err-clause-found g c = λ tells. subst (λ (why : Refusal). FoundBlocks (Refused why)) (sym c.write_cause.ensures) (write_found c.in-Err.error)

@@ -1,5 +1,4 @@
-use Rattle.std.proofs.Common.{◌≡◌, ◌<◌, ◌≤◌, ◌+◌, ℕ, IsTrue, List, Some, length, get_or, refl, sym, ◌∙◌, subst, arith}
-use Rattle.std.specs.List.{Contains}
+use Rattle.std.proofs.Common.{◌<◌, IsTrue, length, get_or, refl, sym, ◌∙◌, subst, arith}
 use Rattle.std.proofs.lemmas.List.Elements.{Contains-get_or}
 use Rattle.disk_model.specs.Images.{bytes_of}
 use Rattle.store_core.proofs.LooseFiles.{emptied_then, nothing_done, others_same, others_emptied, empty_now, emptied_more, emptied_all}
@@ -15,6 +14,8 @@ loop-file-init g c =
       others = λ told. others_same c.args.files.now (d.held disk) (d.may_leave disk);
       telling = refl;
       later = omega arith;
+      calls = (omega arith, omega arith);
+      reads = refl;
     }
 
 pub loop-file-preserved : goal.loop-file-preserved
@@ -29,8 +30,8 @@ loop-file-preserved g c =
       so_far = λ told body ready is.
           let so_far = c.loop-file.invariant.so_far told body ready is in
           let told_mid : IsTrue (d.tells mid) = subst IsTrue (sym c.loop-file.invariant.telling) told in
-          emptied_then d.moment d.left_since d.may_leave c.args.disk.now mid new (d.held mid) (d.held new) body (get_or files n 0) _ so_far.0 so_far.1
-          (subst (λ (l : List ℕ). Contains l (get_or files n 0)) is (Contains-get_or files n 0 inside)) c.cut_through.ensures.any_moment c.cut_through.ensures.crash (c.cut_through.ensures.besides told_mid);
+          emptied_then d.moment d.left_since d.may_leave c.args.disk.now mid new (d.held mid) (d.held new) body files is (get_or files n 0) so_far.0 so_far.1
+          (Contains-get_or files n 0 inside) c.cut_through.ensures.any_moment c.cut_through.ensures.crash (c.cut_through.ensures.besides told_mid);
       emptied = λ told.
           let told_mid : IsTrue (d.tells mid) = subst IsTrue (sym c.loop-file.invariant.telling) told in
           emptied_more files n _ (d.may_leave mid) (d.may_leave new) (c.loop-file.invariant.emptied told) c.cut_through.ensures.crash
@@ -41,7 +42,25 @@ loop-file-preserved g c =
           (get_or files n 0) _ (Contains-get_or files n 0 inside) (c.cut_through.ensures.besides told_mid) c.cut_through.ensures.crash;
       telling = c.cut_through.ensures.telling ∙ c.loop-file.invariant.telling;
       later = omega (arith, c.cut_through.ensures.cause.later);
+      calls = (let was = c.loop-file.invariant.calls in let more = c.cut_through.ensures.calls in (omega (arith, was.0, more.later), omega (arith, was.1, more.at_most)));
+      reads = c.cut_through.ensures.no_read ∙ c.loop-file.invariant.reads;
     }
+
+pub returns-in_err-cut_through-clause-calls : goal.returns-in_err-cut_through-clause-calls
+returns-in_err-cut_through-clause-calls g c =
+    let inside : c.loop-file.file-index < length c.args.files.now = omega arith in
+    let was = c.loop-file.invariant.calls in
+    let more = c.cut_through.ensures.calls in
+    (omega (arith, was.0, more.later), omega (arith, was.1, more.at_most, inside))
+
+pub returns-in_err-cut_through-clause-no_read : goal.returns-in_err-cut_through-clause-no_read
+returns-in_err-cut_through-clause-no_read g c = c.cut_through.ensures.no_read ∙ c.loop-file.invariant.reads
+
+pub returns-clause-calls : goal.returns-clause-calls
+returns-clause-calls g c = let was = c.loop-file.invariant.calls in (omega (arith, was.0), omega (arith, was.1))
+
+pub returns-clause-no_read : goal.returns-clause-no_read
+returns-clause-no_read g c = c.loop-file.invariant.reads
 
 pub returns-in_err-cut_through-clause-kept : goal.returns-in_err-cut_through-clause-kept
 returns-in_err-cut_through-clause-kept g c = λ told body ready is.
@@ -53,8 +72,8 @@ returns-in_err-cut_through-clause-kept g c = λ told body ready is.
     let inside : n < length files = omega arith in
     let so_far = c.loop-file.invariant.so_far told body ready is in
     let told_mid : IsTrue (d.tells mid) = subst IsTrue (sym c.loop-file.invariant.telling) told in
-    (emptied_then d.moment d.left_since d.may_leave c.args.disk.now mid new (d.held mid) (d.held new) body (get_or files n 0) _ so_far.0 so_far.1
-    (subst (λ (l : List ℕ). Contains l (get_or files n 0)) is (Contains-get_or files n 0 inside)) c.cut_through.ensures.any_moment c.cut_through.ensures.crash (c.cut_through.ensures.besides told_mid)).0
+    (emptied_then d.moment d.left_since d.may_leave c.args.disk.now mid new (d.held mid) (d.held new) body files is (get_or files n 0) so_far.0 so_far.1
+    (Contains-get_or files n 0 inside) c.cut_through.ensures.any_moment c.cut_through.ensures.crash (c.cut_through.ensures.besides told_mid)).0
 
 pub returns-in_err-cut_through-clause-ready : goal.returns-in_err-cut_through-clause-ready
 returns-in_err-cut_through-clause-ready g c = λ told body ready is.
@@ -66,8 +85,8 @@ returns-in_err-cut_through-clause-ready g c = λ told body ready is.
     let inside : n < length files = omega arith in
     let so_far = c.loop-file.invariant.so_far told body ready is in
     let told_mid : IsTrue (d.tells mid) = subst IsTrue (sym c.loop-file.invariant.telling) told in
-    (emptied_then d.moment d.left_since d.may_leave c.args.disk.now mid new (d.held mid) (d.held new) body (get_or files n 0) _ so_far.0 so_far.1
-    (subst (λ (l : List ℕ). Contains l (get_or files n 0)) is (Contains-get_or files n 0 inside)) c.cut_through.ensures.any_moment c.cut_through.ensures.crash (c.cut_through.ensures.besides told_mid)).1
+    (emptied_then d.moment d.left_since d.may_leave c.args.disk.now mid new (d.held mid) (d.held new) body files is (get_or files n 0) so_far.0 so_far.1
+    (Contains-get_or files n 0 inside) c.cut_through.ensures.any_moment c.cut_through.ensures.crash (c.cut_through.ensures.besides told_mid)).1
 
 pub returns-in_err-cut_through-clause-others : goal.returns-in_err-cut_through-clause-others
 returns-in_err-cut_through-clause-others g c = λ told.

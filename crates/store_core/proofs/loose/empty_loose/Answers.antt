@@ -1,14 +1,12 @@
-use Rattle.std.proofs.Common.{◌≡◌, ◌<◌, ◌≤◌, ◌+◌, ◌%◌, ℕ, IsTrue, List, [], Some, length, refl, sym, ◌∙◌, ap, subst, arith}
+use Rattle.std.proofs.Common.{◌≡◌, ℕ, IsTrue, List, Some, sym, ◌∙◌, subst, arith}
 use Rattle.std.specs.List.{Contains}
-use Rattle.disk_model.specs.Images.{bytes_of}
-use Rattle.disk_model.specs.Crash.{OnlyBytes}
 use Rattle.block_list.specs.Body.{MeetsRules}
 use Rattle.block_list.specs.Commit.{IsListText, slot_of}
 use Rattle.block_list.specs.Loading.{IsReady}
 use Rattle.block_list.specs.declared.body.ListBody.{ListBody}
 use Rattle.block_list.proofs.ReadyLemmas.{can_lay}
-use Rattle.store_core.specs.Loose.{next_without, without_loose, OthersStay}
-use Rattle.store_core.proofs.LooseFiles.{nothing_done, committed_then, others_same, others_committed, rules_without, left_as_is, left_without}
+use Rattle.store_core.specs.Loose.{next_without, AreUnused, OthersStay}
+use Rattle.store_core.proofs.LooseFiles.{nothing_done, committed_then, others_same, others_committed, rules_without, loose_unused, left_as_is, left_without}
 use Rattle.store_core.proofs.loose.empty_loose.Goals as goal
 
 pub returns-then-len-eq0-clause-list : goal.returns-then-len-eq0-clause-list
@@ -32,7 +30,7 @@ prepare-requires g c = subst MeetsRules (sym c.take_loose-next.ensures.list) (ru
 
 pub returns-in_default-empty_files-clause-kept : goal.returns-in_default-empty_files-clause-kept
 returns-in_default-empty_files-clause-kept g c = λ told.
-    c.empty_files.ensures.kept told c.args.list (c.requires.ready told) (c.as_slice.ensures ∙ c.take_loose-next.ensures.loose)
+    c.empty_files.ensures.kept told c.args.list (c.requires.ready told) (subst (AreUnused c.args.list) (sym (c.as_slice.ensures ∙ c.take_loose-next.ensures.loose)) (loose_unused c.args.list c.requires.rules))
 
 pub returns-in_default-commit-clause-kept : goal.returns-in_default-commit-clause-kept
 returns-in_default-commit-clause-kept g c = λ told.
@@ -43,10 +41,10 @@ returns-in_default-commit-clause-kept g c = λ told.
     let told_mid : IsTrue (d.tells mid) = subst IsTrue (sym c.empty_files.ensures.telling) told in
     let text : IsListText prepared (next_without list) = subst (λ (l : ListBody). IsListText prepared l) c.take_loose-next.ensures.list c.in-Ok.ensures.text in
     let are : _ ≡ list.loose = c.as_slice.ensures ∙ c.take_loose-next.ensures.loose in
-    let ready = c.empty_files.ensures.ready told list (c.requires.ready told) are in
+    let ready = c.empty_files.ensures.ready told list (c.requires.ready told) (subst (AreUnused list) (sym are) (loose_unused list c.requires.rules)) in
     let can = can_lay (d.held mid) (d.may_leave mid) (Some list) prepared ready text.generation in
     committed_then d.moment d.left_since d.may_leave c.args.disk.now mid c.commit.new.disk (d.held mid) list (slot_of prepared)
-    (c.empty_files.ensures.kept told list (c.requires.ready told) are) ready
+    (c.empty_files.ensures.kept told list (c.requires.ready told) (subst (AreUnused list) (sym are) (loose_unused list c.requires.rules))) ready
     (λ file inside. c.in-Ok-empty_files.ensures.emptied told file (subst (λ (l : List ℕ). Contains l file) (sym are) inside)) (omega arith)
     (c.commit.ensures.any_moment told_mid can (Some list) (next_without list) ready.stands text.generation text)
 
@@ -62,10 +60,10 @@ returns-clause-kept g c = λ told.
     let told_mid : IsTrue (d.tells mid) = subst IsTrue (sym c.empty_files.ensures.telling) told in
     let text : IsListText prepared (next_without list) = subst (λ (l : ListBody). IsListText prepared l) c.take_loose-next.ensures.list c.in-Ok.ensures.text in
     let are : _ ≡ list.loose = c.as_slice.ensures ∙ c.take_loose-next.ensures.loose in
-    let ready = c.empty_files.ensures.ready told list (c.requires.ready told) are in
+    let ready = c.empty_files.ensures.ready told list (c.requires.ready told) (subst (AreUnused list) (sym are) (loose_unused list c.requires.rules)) in
     let can = can_lay (d.held mid) (d.may_leave mid) (Some list) prepared ready text.generation in
     committed_then d.moment d.left_since d.may_leave c.args.disk.now mid c.commit.new.disk (d.held mid) list (slot_of prepared)
-    (c.empty_files.ensures.kept told list (c.requires.ready told) are) ready
+    (c.empty_files.ensures.kept told list (c.requires.ready told) (subst (AreUnused list) (sym are) (loose_unused list c.requires.rules))) ready
     (λ file inside. c.in-Ok-empty_files.ensures.emptied told file (subst (λ (l : List ℕ). Contains l file) (sym are) inside)) (omega arith)
     (c.commit.ensures.any_moment told_mid can (Some list) (next_without list) ready.stands text.generation text)
 
@@ -78,7 +76,7 @@ returns-clause-ready g c = λ told.
     let prepared = c.in-Ok.prepared in
     let told_mid : IsTrue (d.tells mid) = subst IsTrue (sym c.empty_files.ensures.telling) told in
     let text : IsListText prepared (next_without list) = subst (λ (l : ListBody). IsListText prepared l) c.take_loose-next.ensures.list c.in-Ok.ensures.text in
-    let ready = c.empty_files.ensures.ready told list (c.requires.ready told) (c.as_slice.ensures ∙ c.take_loose-next.ensures.loose) in
+    let ready = c.empty_files.ensures.ready told list (c.requires.ready told) (subst (AreUnused list) (sym (c.as_slice.ensures ∙ c.take_loose-next.ensures.loose)) (loose_unused list c.requires.rules)) in
     let can = can_lay (d.held mid) (d.may_leave mid) (Some list) prepared ready text.generation in
     subst (λ (l : ListBody). IsReady (d.held new) (d.may_leave new) (Some l)) (sym c.take_loose-next.ensures.list)
     (c.in-Ok-commit.ensures.ready told_mid can (Some list) (next_without list) ready text)
@@ -94,7 +92,7 @@ returns-clause-others g c = λ told.
     let told_mid : IsTrue (d.tells mid) = subst IsTrue (sym c.empty_files.ensures.telling) told in
     let text : IsListText prepared (next_without list) = subst (λ (l : ListBody). IsListText prepared l) c.take_loose-next.ensures.list c.in-Ok.ensures.text in
     let are : _ ≡ list.loose = c.as_slice.ensures ∙ c.take_loose-next.ensures.loose in
-    let ready = c.empty_files.ensures.ready told list (c.requires.ready told) are in
+    let ready = c.empty_files.ensures.ready told list (c.requires.ready told) (subst (AreUnused list) (sym are) (loose_unused list c.requires.rules)) in
     let can = can_lay (d.held mid) (d.may_leave mid) (Some list) prepared ready text.generation in
     others_committed list.loose (d.held disk) (d.held mid) (d.held new) (d.may_leave disk) (d.may_leave mid) (d.may_leave new)
     (subst (λ (l : List ℕ). OthersStay l (d.held disk) (d.held mid) (d.may_leave disk) (d.may_leave mid)) are (c.empty_files.ensures.others told))

@@ -5,7 +5,7 @@ use Rattle.block_list.specs.declared.body.ListBody.{ListBody}
 use Rattle.store_model.specs.After.{released, staying}
 use Rattle.store_state.specs.Listed.{segment_of}
 use Rattle.store_core.specs.declared.jobs.Jobs.{Jobs}
-use Rattle.store_core.proofs.NextRoom.{made}
+use Rattle.store_core.proofs.NextRoom.{made, one_file}
 use Rattle.store_core.proofs.room.CommitRoom.list_after.Goals as goal
 
 pub list_flush-requires-clause-blocks : goal.list_flush-requires-clause-blocks
@@ -31,10 +31,16 @@ list_flush-requires-clause-loose c =
 
 pub list_body-body-requires : goal.list_body-body-requires
 list_body-body-requires c =
-    let v = c.list_flush.new.next.loose in
-    let len = v.ok.0 in
-    let cap = v.ok.1 in
-    omega (arith, len, cap)
+    let jobs : Jobs = c.args.jobs.now in
+    let each = c.list_flush.ensures.each_file in
+    let more = c.list_flush.ensures.room.loose in
+    let segment_len = ap (λ (l : List SegmentRef). length l) c.as_slice-2.ensures in
+    let len = ap (λ (l : List ℕ). length l) c.as_slice-3.ensures.value in
+    let known : jobs.loose.len ≡ length jobs.loose.items = jobs.loose.ok.0 in
+    let part = ap (λ (l : List ℕ). length l) c.compact_file.ensures in
+    let one = one_file jobs.compaction in
+    let fits = c.requires.fits.files in
+    omega (arith, each, more, segment_len, len, known, part, one, fits)
 
 pub refill-requires-clause-rules : goal.refill-requires-clause-rules
 refill-requires-clause-rules c =
@@ -50,7 +56,7 @@ refill-requires-clause-rules c =
     let segment_len : length c.as_slice-2.result.now ≡ length list.segments = ap (λ (l : List SegmentRef). length l) segments in
     let loose_len : length c.as_slice-3.result.now ≡ length jobs.loose.items = ap (λ (l : List ℕ). length l) loose in
     let each = listed.each_file in
-    let it = made list jobs block last floor room.text.room _ c.list_flush.new.next c.list_body-body.result c.list_body-body.ensures.body refl listed.next_file listed.floor
+    let it = made list jobs block last floor room.text.room _ c.list_flush.new.next c.compact_file.result c.list_body-body.result c.list_body-body.ensures.body c.compact_file.ensures refl listed.next_file listed.floor
     (listed.blocks ∙ ap (λ (l : List BlockRef). l ++ block ∷ []) c.as_slice.ensures)
     (listed.segments ∙ ap (λ (l : List SegmentRef). staying floor (map segment_of (l ++ last ∷ []))) segments)
     (listed.loose ∙ ap (λ (l : List ℕ). l ++ released floor (map segment_of (c.as_slice-2.result.now ++ last ∷ []))) loose
@@ -72,7 +78,7 @@ refill-requires-clause-room c =
     let segment_len : length c.as_slice-2.result.now ≡ length list.segments = ap (λ (l : List SegmentRef). length l) segments in
     let loose_len : length c.as_slice-3.result.now ≡ length jobs.loose.items = ap (λ (l : List ℕ). length l) loose in
     let each = listed.each_file in
-    let it = made list jobs block last floor room.text.room _ c.list_flush.new.next c.list_body-body.result c.list_body-body.ensures.body refl listed.next_file listed.floor
+    let it = made list jobs block last floor room.text.room _ c.list_flush.new.next c.compact_file.result c.list_body-body.result c.list_body-body.ensures.body c.compact_file.ensures refl listed.next_file listed.floor
     (listed.blocks ∙ ap (λ (l : List BlockRef). l ++ block ∷ []) c.as_slice.ensures)
     (listed.segments ∙ ap (λ (l : List SegmentRef). staying floor (map segment_of (l ++ last ∷ []))) segments)
     (listed.loose ∙ ap (λ (l : List ℕ). l ++ released floor (map segment_of (c.as_slice-2.result.now ++ last ∷ []))) loose
@@ -94,7 +100,7 @@ returns-clause-list c =
     let segment_len : length c.as_slice-2.result.now ≡ length list.segments = ap (λ (l : List SegmentRef). length l) segments in
     let loose_len : length c.as_slice-3.result.now ≡ length jobs.loose.items = ap (λ (l : List ℕ). length l) loose in
     let each = listed.each_file in
-    let it = made list jobs block last floor room.text.room _ c.list_flush.new.next c.list_body-body.result c.list_body-body.ensures.body refl listed.next_file listed.floor
+    let it = made list jobs block last floor room.text.room _ c.list_flush.new.next c.compact_file.result c.list_body-body.result c.list_body-body.ensures.body c.compact_file.ensures refl listed.next_file listed.floor
     (listed.blocks ∙ ap (λ (l : List BlockRef). l ++ block ∷ []) c.as_slice.ensures)
     (listed.segments ∙ ap (λ (l : List SegmentRef). staying floor (map segment_of (l ++ last ∷ []))) segments)
     (listed.loose ∙ ap (λ (l : List ℕ). l ++ released floor (map segment_of (c.as_slice-2.result.now ++ last ∷ []))) loose
@@ -116,7 +122,7 @@ returns-clause-few c =
     let segment_len : length c.as_slice-2.result.now ≡ length list.segments = ap (λ (l : List SegmentRef). length l) segments in
     let loose_len : length c.as_slice-3.result.now ≡ length jobs.loose.items = ap (λ (l : List ℕ). length l) loose in
     let each = listed.each_file in
-    let it = made list jobs block last floor room.text.room _ c.list_flush.new.next c.list_body-body.result c.list_body-body.ensures.body refl listed.next_file listed.floor
+    let it = made list jobs block last floor room.text.room _ c.list_flush.new.next c.compact_file.result c.list_body-body.result c.list_body-body.ensures.body c.compact_file.ensures refl listed.next_file listed.floor
     (listed.blocks ∙ ap (λ (l : List BlockRef). l ++ block ∷ []) c.as_slice.ensures)
     (listed.segments ∙ ap (λ (l : List SegmentRef). staying floor (map segment_of (l ++ last ∷ []))) segments)
     (listed.loose ∙ ap (λ (l : List ℕ). l ++ released floor (map segment_of (c.as_slice-2.result.now ++ last ∷ []))) loose

@@ -1,12 +1,19 @@
-use Rattle.std.proofs.Common.{◌≡◌, ◌∙◌, ℕ, List, length, refl, ap, arith}
+use Rattle.std.proofs.Common.{◌≡◌, ◌∙◌, ℕ, ◌-◌, List, length, take, refl, ap, arith}
 use Rattle.std.proofs.lemmas.Option.{IfSome_then}
 use Rattle.store_state.specs.declared.listing.FlushFiles.{FlushFiles}
+use Rattle.store_core.specs.Jobs.{one_if}
 use Rattle.store_core.specs.NextList.{length_of}
 use Rattle.store_core.specs.declared.state.CoreState.{CoreState}
 use Rattle.store_core.proofs.state.CoreState.take_over.Goals as goal
 
 pub end_flush-files-requires-clause-open : goal.end_flush-files-requires-clause-open
 end_flush-files-requires-clause-open c = c.requires.open
+
+pub end_flush-files-requires-clause-other : goal.end_flush-files-requires-clause-other
+end_flush-files-requires-clause-other c =
+    let len = ap (λ (l : List ℕ). length l) c.as_slice.ensures in
+    let some = c.requires.other in
+    omega (arith, len, some)
 
 pub end_flush-files-requires-clause-room : goal.end_flush-files-requires-clause-room
 end_flush-files-requires-clause-room c =
@@ -27,7 +34,10 @@ returns-clause-empty c =
     (fresh.1 ∙ first_is, fresh.2, fresh.3)
 
 pub returns-clause-jobs : goal.returns-clause-jobs
-returns-clause-jobs c = let e = c.end_flush-files.ensures in (e.gone, e.loose ∙ c.as_slice.ensures, e.same.0, e.same.1)
+returns-clause-jobs c = let e = c.end_flush-files.ensures in (e.gone, e.same.2, e.same.0, e.same.1)
+
+pub returns-clause-loose : goal.returns-clause-loose
+returns-clause-loose c = c.end_flush-files.ensures.loose ∙ ap (λ (l : List ℕ). take (length l - one_if c.args.self.now.jobs.compaction) l) c.as_slice.ensures
 
 pub returns-clause-rows : goal.returns-clause-rows
 returns-clause-rows c = let e = c.end_flush.ensures in (e.gone, e.same.1, e.same.0)

@@ -1,11 +1,13 @@
-use Rattle.std.proofs.Common.{◌≡◌, ◌+◌, ◌-◌, ◌^◌, ◌≤◌, min, ℕ, List, ◌++◌, length, take, drop, refl, sym, ◌∙◌, ap, subst, arith, length-append, length-take}
+use Rattle.std.proofs.Common.{◌≡◌, ◌+◌, ◌-◌, ◌^◌, ◌≤◌, min, ℕ, Option, List, ◌++◌, length, take, drop, refl, sym, ◌∙◌, ap, subst, arith, length-append, length-take}
 use Rattle.std.specs.Prelude.{Vec}
 use Rattle.std.specs.Vec.{vec_len, vec_capacity}
 use Rattle.std.specs.declared.alloc.Global.{Global}
 use Rattle.span_types.specs.declared.spans.Row.{Row}
 use Rattle.store_model.specs.Choice.{most_rows}
 use Rattle.store_state.specs.Replies.{begin_refusal}
-use Rattle.store_core.specs.Jobs.{CommitFits}
+use Rattle.store_core.specs.Jobs.{CommitFits, SameCompaction}
+use Rattle.store_core.specs.declared.jobs.OpenCompaction.{OpenCompaction}
+use Rattle.store_core.proofs.JobRooms.{RoomOfCompaction, kept_infos, kept_jobs, made_jobs, one_none, one_at_most}
 use Rattle.store_core.proofs.BeginEvents.{did_not_begin, did_idle, did_lack, did_begin_as, did_begin_fail, back_in_front, idle_is, free_is}
 use Rattle.store_core.proofs.store.Core.begin_flush.Goals as goal
 
@@ -18,22 +20,30 @@ returns-then-not-some-clause-begun g c = did_idle g.D.Device g.met.D.Device.only
 pub take_head-requires : goal.take_head-requires
 take_head-requires g c = c.undo_flush.ensures.gone
 
+pub make_room-requires : goal.make_room-requires
+make_room-requires g c =
+    let jobs = c.args.self.now.state.jobs in
+    let may = c.in-Ok.ensures.sure c.if-not-some.false in
+    let none = one_none jobs.flush may.none in
+    let one = one_at_most jobs.compaction in
+    omega (arith, none, one)
+
 pub next_files-files-requires : goal.next_files-files-requires
-next_files-files-requires g c = let may = c.in-Ok.ensures.sure c.if-not-some.false in let same = c.make_room.ensures.same.1 in let low = may.files in omega (arith, same, low)
+next_files-files-requires g c = let may = c.in-Ok.ensures.sure c.if-not-some.false in let same = c.make_room.ensures.same.next_file in let low = may.files in omega (arith, same, low)
 
 pub make_files-requires : goal.make_files-requires
 make_files-requires g c = λ is. let block = c.next_files-files.ensures.0 in let segment = c.next_files-files.ensures.1 in omega (arith, is, block, segment)
 
 pub begin_flush-number-requires : goal.begin_flush-number-requires
-begin_flush-number-requires g c = let may = c.in-Ok.ensures.sure c.if-not-some.false in let same = c.make_room.ensures.same.1 in let low = may.files in omega (arith, same, low)
+begin_flush-number-requires g c = let may = c.in-Ok.ensures.sure c.if-not-some.false in let same = c.make_room.ensures.same.next_file in let low = may.files in omega (arith, same, low)
 
 pub returns-in_default-clause-begun : goal.returns-in_default-clause-begun
 returns-in_default-clause-begun g c =
     let core = c.args.self.now in
     let may = c.in-Ok.ensures.sure c.if-not-some.false in
     let undone = c.undo_flush.ensures in
-    did_lack g.D.Device g.met.D.Device.only_now core c.undo_flush.new.self c.reserve.new.self core.state.jobs (λ m has. free_is c.in-Ok.some m c.if-not-some.false (c.in-Ok.ensures.free m has)) may.none c.reserve.ensures.items
-    (record { begun = refl; next_file = refl; loose = refl; flush = refl })
+    did_lack g.D.Device g.met.D.Device.only_now core c.undo_flush.new.self c.reserve.new.self core.state.jobs (λ m has. free_is c.in-Ok.some m c.if-not-some.false (c.in-Ok.ensures.free m has)) may.none
+    (kept_infos core.state.list core.state.infos c.reserve.new.self core.state.jobs c.reserve.ensures.items c.reserve.ensures.capacity)
     (λ m has. record { live = undone.same; head = undone.back; flushing = undone.gone })
 
 pub returns-in_default-make_room-clause-begun : goal.returns-in_default-make_room-clause-begun
@@ -42,8 +52,8 @@ returns-in_default-make_room-clause-begun g c =
     let may = c.in-Ok.ensures.sure c.if-not-some.false in
     let same = c.make_room.ensures.same in
     let undone = c.undo_flush.ensures in
-    did_lack g.D.Device g.met.D.Device.only_now core c.undo_flush.new.self c.reserve.new.self c.make_room.new.self (λ m has. free_is c.in-Ok.some m c.if-not-some.false (c.in-Ok.ensures.free m has)) may.none c.reserve.ensures.items
-    (record { begun = same.0; next_file = same.1; loose = same.2; flush = same.3 })
+    did_lack g.D.Device g.met.D.Device.only_now core c.undo_flush.new.self c.reserve.new.self c.make_room.new.self (λ m has. free_is c.in-Ok.some m c.if-not-some.false (c.in-Ok.ensures.free m has)) may.none
+    (kept_jobs core.state.list core.state.infos c.reserve.new.self core.state.jobs c.make_room.new.self same c.in_default-make_room.ensures.refused c.reserve.ensures.items c.reserve.ensures.capacity)
     (λ m has. record { live = undone.same; head = undone.back; flushing = undone.gone })
 
 pub returns-in_default-take_head-clause-begun : goal.returns-in_default-take_head-clause-begun
@@ -53,8 +63,8 @@ returns-in_default-take_head-clause-begun g c =
     let same = c.make_room.ensures.same in
     let undone = c.undo_flush.ensures in
     let lacks = c.in_default-take_head.ensures.refused in
-    did_lack g.D.Device g.met.D.Device.only_now core c.take_head.new.self c.reserve.new.self c.make_room.new.self (λ m has. free_is c.in-Ok.some m c.if-not-some.false (c.in-Ok.ensures.free m has)) may.none c.reserve.ensures.items
-    (record { begun = same.0; next_file = same.1; loose = same.2; flush = same.3 })
+    did_lack g.D.Device g.met.D.Device.only_now core c.take_head.new.self c.reserve.new.self c.make_room.new.self (λ m has. free_is c.in-Ok.some m c.if-not-some.false (c.in-Ok.ensures.free m has)) may.none
+    (made_jobs core.state.list core.state.infos c.reserve.new.self core.state.jobs c.make_room.new.self same c.in-Ok-make_room.ensures.others c.in-Ok-make_room.ensures.room c.reserve.ensures.items c.in-Ok-reserve.ensures.ok)
     (λ m has. record { live = c.take_head.ensures.same ∙ undone.same; head = lacks.1 ∙ undone.back; flushing = lacks.0 })
 
 pub returns-in-Ok-make_files-clause-begun : goal.returns-in-Ok-make_files-clause-begun
@@ -67,17 +77,20 @@ returns-in-Ok-make_files-clause-begun g c =
     let took = c.in-Ok-take_head.ensures.taken in
     let begun = c.begin_flush-number.ensures in
     let files = c.next_files-files in
-    did_begin_as d core c.make_files.new.disk files.result may.writes may.none may.files (files.ensures.0 ∙ same.1) (files.ensures.1 ∙ ap (λ (n : ℕ). n + 1) same.1)
+    did_begin_as d core c.make_files.new.disk files.result may.writes may.none may.files (files.ensures.0 ∙ same.next_file) (files.ensures.1 ∙ ap (λ (n : ℕ). n + 1) same.next_file)
     (λ m has. free_is c.in-Ok.some m c.if-not-some.false (c.in-Ok.ensures.free m has))
     c.make_files.ensures.telling c.make_files.ensures.any_moment c.make_files.ensures.others c.make_files.ensures.cause.later (c.make_files.ensures.calls.later, c.make_files.ensures.calls.at_most) c.make_files.ensures.no_read
     c.take_head.new.self c.reserve.new.self c.begin_flush-number.new.self c.in-Ok-make_room.room c.in-Ok-take_head.rows c.reserve.ensures.items c.in-Ok-reserve.ensures.ok
     (record {
-      next_file = begun.next_file ∙ ap (λ (n : ℕ). n + 2) same.1;
-      number = subst (λ (n : ℕ). c.begin_flush-number.new.self.begun ≡ min (n + 1) (2 ^ 64 - 1)) same.0 begun.number.1;
-      loose = ap (λ (v : Vec ℕ Global). v.items) begun.loose ∙ same.2;
+      next_file = begun.next_file ∙ ap (λ (n : ℕ). n + 2) same.next_file;
+      number = subst (λ (n : ℕ). c.begin_flush-number.new.self.begun ≡ min (n + 1) (2 ^ 64 - 1)) same.begun begun.number.1;
+      loose = ap (λ (v : Vec ℕ Global). v.items) begun.same.0 ∙ same.loose;
       flush = begun.flush;
-      loose_room = subst (λ (v : Vec ℕ Global). vec_len v + length core.state.list.segments + 2 ≤ vec_capacity v) (sym begun.loose) c.in-Ok-make_room.ensures.room;
-      fits = subst (λ (v : Vec ℕ Global). CommitFits c.in-Ok-make_room.room core.state.list (vec_len v)) (sym begun.loose) c.in-Ok-make_room.ensures.fits;
+      compaction = subst (λ (k : Option OpenCompaction). SameCompaction core.state.jobs.compaction k) (sym begun.same.1) same.compaction;
+      loose_room = subst (λ (v : Vec ℕ Global). vec_len v + length core.state.list.segments + length core.state.list.blocks + 4 ≤ vec_capacity v) (sym begun.same.0) c.in-Ok-make_room.ensures.room;
+      mine = subst (λ (v : Vec ℕ Global). CommitFits c.in-Ok-make_room.room core.state.list (vec_len v) 2) (sym begun.same.0) c.in-Ok-make_room.ensures.fits;
+      other = subst (λ (v : Vec ℕ Global). RoomOfCompaction core.state.list (vec_len v) 2 c.begin_flush-number.new.self.compaction) (sym begun.same.0)
+          (subst (λ (k : Option OpenCompaction). RoomOfCompaction core.state.list (vec_len c.make_room.new.self.loose) 2 k) (sym begun.same.1) c.in-Ok-make_room.ensures.others.compaction);
     })
     (record {
       live = c.take_head.ensures.same ∙ undone.same;
@@ -110,11 +123,11 @@ returns-in-Err-make_files-clause-begun g c =
     let took = c.in-Ok-take_head.ensures.taken in
     let files = c.next_files-files in
     let back = c.undo_flush-in-Err-make_files.ensures in
-    did_begin_fail d core c.make_files.new.disk files.result may.writes may.none may.files (files.ensures.0 ∙ same.1) (files.ensures.1 ∙ ap (λ (n : ℕ). n + 1) same.1)
+    did_begin_fail d core c.make_files.new.disk files.result may.writes may.none may.files (files.ensures.0 ∙ same.next_file) (files.ensures.1 ∙ ap (λ (n : ℕ). n + 1) same.next_file)
     (λ m has. free_is c.in-Ok.some m c.if-not-some.false (c.in-Ok.ensures.free m has))
     c.make_files.ensures.telling c.make_files.ensures.any_moment c.make_files.ensures.others c.make_files.ensures.cause.later (c.make_files.ensures.calls.later, c.make_files.ensures.calls.at_most) c.make_files.ensures.no_read
-    c.undo_flush-in-Err-make_files.new.self c.reserve.new.self c.make_room.new.self c.faults-faults.result c.faults-faults.ensures (c.in-Err-make_files.ensures.cause.rose refl) c.reserve.ensures.items
-    (record { begun = same.0; next_file = same.1; loose = same.2; flush = same.3 })
+    c.undo_flush-in-Err-make_files.new.self c.reserve.new.self c.make_room.new.self c.faults-faults.result c.faults-faults.ensures (c.in-Err-make_files.ensures.cause.rose refl)
+    (made_jobs core.state.list core.state.infos c.reserve.new.self core.state.jobs c.make_room.new.self same c.in-Ok-make_room.ensures.others c.in-Ok-make_room.ensures.room c.reserve.ensures.items c.in-Ok-reserve.ensures.ok)
     (λ m has. back_in_front core.state.live c.take_head.new.self c.undo_flush-in-Err-make_files.new.self c.in-Ok-take_head.rows
     (record {
       live = c.take_head.ensures.same ∙ undone.same;

@@ -2,4 +2,4 @@ use Rattle.store_core.proofs.LookEvents.{did_done}
 use Rattle.store_core.proofs.store.Core.end_look.Goals as goal
 
 pub returns : goal.returns
-returns g c = did_done g.D.Device g.met.D.Device.only_now c.args.self.now c.free_number.new.pins c.args.look.pin.number c.requires.open c.free_number.ensures
+returns g c = did_done g.D.Device g.met.D.Device.only_now c.args.self.now c.free_number.new.pins c.args.look.pin.number c.requires.open c.free_number.ensures.taken c.free_number.ensures.files

@@ -1,4 +1,4 @@
-use Rattle.std.proofs.Common.{◌≡◌, ◌++◌, ℕ, List, IsTrue, refl, sym, ◌∙◌, ap, subst}
+use Rattle.std.proofs.Common.{◌++◌, ℕ, List, refl, sym, ◌∙◌, ap, subst}
 use Rattle.span_types.specs.declared.spans.Span.{Span}
 use Rattle.disk_model.specs.Images.{bytes_of}
 use Rattle.head_log.specs.Stands.{IsBatchBody}

@@ -1,6 +1,7 @@
-use Rattle.std.proofs.Common.{◌≡◌, ◌+◌, IsTrue, ap, refl, arith}
+use Rattle.std.proofs.Common.{◌≡◌, ◌==◌, ◌+◌, ℕ, List, IsTrue, if◌then◌else◌, ap, refl, sym, ◌∙◌, subst, arith}
 use Rattle.std.proofs.lemmas.Result.{err_from_is_err_and}
 use Rattle.store_state.specs.Given.{info_files}
+use Rattle.store_core.specs.Pins.{files_at}
 use Rattle.store_core.proofs.Showing.{look_shows}
 use Rattle.store_core.proofs.LookEvents.{did_looked, did_look_lacking}
 use Rattle.store_core.proofs.store.Core.take_look.Goals as goal
@@ -8,23 +9,29 @@ use Rattle.store_core.proofs.store.Core.take_look.Goals as goal
 pub returns-in_err-rows-clause-looked : goal.returns-in_err-rows-clause-looked
 returns-in_err-rows-clause-looked g c =
     let p = err_from_is_err_and c.from_residual.result c.from_residual.ensures.1 in
-    rw p.1 (did_look_lacking g.D.Device g.met.D.Device.only_now c.args.self.now c.args.self.now.state.pins (λ n. refl))
+    rw p.1 (did_look_lacking g.D.Device g.met.D.Device.only_now c.args.self.now c.args.self.now.state.pins (λ n. refl) (λ n. refl))
 
 pub returns-in_err-blocks-clause-looked : goal.returns-in_err-blocks-clause-looked
 returns-in_err-blocks-clause-looked g c =
     let p = err_from_is_err_and c.from_residual-in_err-blocks.result c.from_residual-in_err-blocks.ensures.1 in
-    rw p.1 (did_look_lacking g.D.Device g.met.D.Device.only_now c.args.self.now c.args.self.now.state.pins (λ n. refl))
+    rw p.1 (did_look_lacking g.D.Device g.met.D.Device.only_now c.args.self.now c.args.self.now.state.pins (λ n. refl) (λ n. refl))
+
+pub returns-in_err-files-clause-looked : goal.returns-in_err-files-clause-looked
+returns-in_err-files-clause-looked g c =
+    let p = err_from_is_err_and c.from_residual-in_err-files.result c.from_residual-in_err-files.ensures.1 in
+    rw p.1 (did_look_lacking g.D.Device g.met.D.Device.only_now c.args.self.now c.args.self.now.state.pins (λ n. refl) (λ n. refl))
 
 pub returns-in_err-number-clause-looked : goal.returns-in_err-number-clause-looked
 returns-in_err-number-clause-looked g c =
     let p = err_from_is_err_and c.from_residual-in_err-number.result c.from_residual-in_err-number.ensures.1 in
-    rw p.1 (did_look_lacking g.D.Device g.met.D.Device.only_now c.args.self.now c.take_number.new.pins c.in_err-number.ensures.refused)
+    rw p.1 (did_look_lacking g.D.Device g.met.D.Device.only_now c.args.self.now c.take_number.new.pins c.in_err-number.ensures.refused c.in_err-number.ensures.refused_files)
 
 pub returns-clause-looked : goal.returns-clause-looked
 returns-clause-looked g c =
     let number = c.in_ok-number.ensures in
+    let same : c.in_ok-files.files ≡ info_files c.in_ok-blocks.blocks = c.in_ok-files.ensures ∙ sym (ap info_files c.in_ok-blocks.ensures) in
     did_looked g.D.Device g.met.D.Device.only_now c.args.self.now c.take_number.new.pins _ _ _ _ c.length-as_of.ensures.count (ap info_files c.in_ok-blocks.ensures) c.in_ok-rows.ensures
-    number.free number.least number.taken
+    number.free number.least number.taken (subst (λ (f : List ℕ). (other : ℕ) → files_at other c.take_number.new.pins.items ≡ (if c.in_ok-number.number == other then f else files_at other c.args.self.now.state.pins.items)) same number.files)
 
 pub returns-clause-shows : goal.returns-clause-shows
 returns-clause-shows g c = λ m stands.

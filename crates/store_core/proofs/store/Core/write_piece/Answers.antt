@@ -1,7 +1,7 @@
 use Rattle.std.proofs.Common.{ℕ, List, length, refl, ◌∙◌, ap, arith, length-append}
 use Rattle.disk_model.specs.Images.{bytes_of}
 use Rattle.disk_model.proofs.BytesLemmas.{overwritten_end}
-use Rattle.store_core.proofs.OpenJobs.{job_here}
+use Rattle.store_core.proofs.OpenJobs.{job_file}
 use Rattle.store_core.proofs.PieceEvents.{no_piece, did_piece, did_piece_fail}
 use Rattle.store_core.proofs.States.{none_of}
 use Rattle.store_core.proofs.store.Core.write_piece.Goals as goal
@@ -17,7 +17,7 @@ returns-in-Ok-clause-did g c =
     let core = c.args.self.now in
     let known = c.requires.job in
     did_piece g.D.Device g.met.D.Device.only_now core c.write.new.self c.args.out.now.number c.args.out.now.file c.args.out.now.written c.args.bytes.now (none_of core.state.read_only c.in_default.not-Some)
-    (λ m has. job_here core.state known.0 m c.args.out.now known.1.has known.2 has)
+    (job_file core.state known.0 c.args.out.now known.1.has known.2)
     c.write.ensures.telling c.write.ensures.besides c.write.ensures.crash c.write.ensures.time c.write.ensures.cause.later c.write.ensures.one_call c.write.ensures.no_read
     c.in-Ok.ensures.written c.requires.whole
 
@@ -35,6 +35,6 @@ returns-in-Err-clause-did g c =
     let core = c.args.self.now in
     let known = c.requires.job in
     did_piece_fail g.D.Device g.met.D.Device.only_now core c.write.new.self c.args.out.now.number c.args.out.now.file c.args.out.now.written c.args.bytes.now (none_of core.state.read_only c.in_default.not-Some)
-    (λ m has. job_here core.state known.0 m c.args.out.now known.1.has known.2 has)
+    (job_file core.state known.0 c.args.out.now known.1.has known.2)
     c.write.ensures.telling c.write.ensures.besides c.write.ensures.crash c.write.ensures.time c.write.ensures.cause.later c.write.ensures.one_call c.write.ensures.no_read
     c.faults-faults.result c.faults-faults.ensures (c.in-Err.ensures.cause.rose refl)

@@ -1,0 +1,60 @@
+use Rattle.std.proofs.Common.{◌∙◌, refl, sym}
+use Rattle.store_core.proofs.PinnedFiles.{parted_as}
+use Rattle.store_core.proofs.ReclaimEvents.{no_reclaim, lacks_memory, none_to_empty, did_reclaim_fail, did_reclaimed, none_there, some_there, kept_fit, named_loose}
+use Rattle.store_core.proofs.States.{none_of}
+use Rattle.store_core.proofs.store.Core.reclaim.Goals as goal
+
+pub returns-in-Some : goal.returns-in-Some
+returns-in-Some g c = no_reclaim g.D.Device g.met.D.Device.only_now c.args.self.now c.in-Some.faults c.in-Some.is
+
+pub returns-in_default-part_files : goal.returns-in_default-part_files
+returns-in_default-part_files g c = lacks_memory g.D.Device g.met.D.Device.only_now c.args.self.now (none_of c.args.self.now.state.read_only c.in_default.not-Some)
+
+pub returns-in_default-list_without : goal.returns-in_default-list_without
+returns-in_default-list_without g c = lacks_memory g.D.Device g.met.D.Device.only_now c.args.self.now (none_of c.args.self.now.state.read_only c.in_default.not-Some)
+
+pub returns-then-is_empty : goal.returns-then-is_empty
+returns-then-is_empty g c =
+    let core = c.args.self.now in
+    none_to_empty g.D.Device g.met.D.Device.only_now core c.in-Ok.kept.items c.in-Ok.free.items (none_of core.state.read_only c.in_default.not-Some) c.in-Ok.ensures
+    (none_there c.in-Ok.free (sym c.is_empty.ensures ∙ c.if-is_empty.true))
+
+pub returns-in_default-commit_without : goal.returns-in_default-commit_without
+returns-in_default-commit_without g c =
+    let core = c.args.self.now in
+    let kept = c.as_slice.result.now in
+    let free = c.as_slice-2.result.now in
+    let w = c.commit_without.ensures in
+    let text = c.in-Ok-list_without.ensures.text in
+    did_reclaim_fail g.D.Device core c.commit_without.new.disk (none_of core.state.read_only c.in_default.not-Some) kept free
+    (parted_as core.state.pins.items core.state.jobs.loose.items c.in-Ok.kept.items kept c.in-Ok.free.items free c.as_slice.ensures.value c.as_slice-2.ensures.value c.in-Ok.ensures)
+    (some_there c.in-Ok.free free c.as_slice-2.ensures.value (sym c.is_empty.ensures ∙ c.if-is_empty.false))
+    w.telling
+    (λ told ready may rules. w.kept told core.state.list core.state.jobs.next_file (named_loose core.state kept) ready may (text rules))
+    (λ told ready may rules. w.others told core.state.list core.state.jobs.next_file (named_loose core.state kept) ready may (text rules))
+    w.still w.cause.later w.calls w.no_read
+    c.faults-faults.result c.faults-faults.ensures (c.in_default-commit_without.ensures.cause.rose refl)
+
+pub keep_loose-requires : goal.keep_loose-requires
+keep_loose-requires g c =
+    let core = c.args.self.now in
+    kept_fit core.state.pins.items core.state.jobs.loose c.in-Ok.kept.items c.in-Ok.free.items c.as_slice-3.result.now c.as_slice-3.ensures.value c.in-Ok.ensures
+
+pub returns : goal.returns
+returns g c =
+    let core = c.args.self.now in
+    let kept = c.as_slice.result.now in
+    let free = c.as_slice-2.result.now in
+    let w = c.commit_without.ensures in
+    let list = c.in-Ok-list_without.ensures in
+    let loose = c.keep_loose.ensures in
+    did_reclaimed g.D.Device core c.commit_without.new.disk (none_of core.state.read_only c.in_default.not-Some) kept free
+    (parted_as core.state.pins.items core.state.jobs.loose.items c.in-Ok.kept.items kept c.in-Ok.free.items free c.as_slice.ensures.value c.as_slice-2.ensures.value c.in-Ok.ensures)
+    (some_there c.in-Ok.free free c.as_slice-2.ensures.value (sym c.is_empty.ensures ∙ c.if-is_empty.false))
+    w.telling
+    (λ told ready may rules. w.kept told core.state.list core.state.jobs.next_file (named_loose core.state kept) ready may (list.text rules))
+    (λ told ready may rules. w.others told core.state.list core.state.jobs.next_file (named_loose core.state kept) ready may (list.text rules))
+    w.still w.cause.later w.calls w.no_read
+    c.len.result (c.len.ensures ∙ sym c.as_slice-2.ensures.len) c.keep_loose.new.self.loose (loose.loose ∙ c.as_slice-3.ensures.value ∙ sym c.as_slice.ensures.value) loose.room
+    (λ told ready may rules. c.in-Ok-commit_without.ensures.ready told core.state.list core.state.jobs.next_file (named_loose core.state kept) ready may (list.text rules))
+    c.in-Ok-list_without.list c.keep_loose.new.self list.list loose.same
