@@ -2,6 +2,7 @@
 use Rattle.std.proofs.Common.{◌≡◌, ℕ, List, [], ◌∷◌, Result, refl, subst}
 use Rattle.std.specs.Prelude.{IsTrue}
 use Rattle.compactor.specs.Rounds.{FoundBlocks, IsCompactRound}
+use Rattle.compactor.specs.Tasks.{Known}
 use Rattle.flusher.specs.Rounds.{IsFlushRound}
 use Rattle.span_types.specs.declared.errors.Memory.{Memory}
 use Rattle.otlp_spans.specs.declared.read.Reading.{Reading}
@@ -64,13 +65,13 @@ flush_replied meaning old new round r made is = record {
 }
 
 pub compact_replied : {P : Type 0} (meaning : Meaning P) (old new : P) (round : Round) (r : Reply)
-    → ((calls : List Call) × AreMade meaning old calls new × IsCompactRound calls round) → (IsTrue (meaning.tells old) → FoundBlocks round) → r ≡ compact_reply round
+    → ((calls : List Call) × AreMade meaning old calls new × IsCompactRound calls round) → (IsTrue (meaning.tells old) → Known meaning old → FoundBlocks round) → r ≡ compact_reply round
     → HasReplied meaning old request.Compact r new
 compact_replied meaning old new round r made found is = record {
   calls = made.0;
   made = made.1;
   answered = (round, is, made.2);
-  told = λ told v known. (round, is, found told);
+  told = λ told v known. (round, is, found told (v, known));
 }
 
 pub reclaim_replied : {P : Type 0} (meaning : Meaning P) (old new : P) (answer : Result ℕ ReclaimError) (r : Reply) → Called meaning old event.Reclaim (reclaim_reply answer) new

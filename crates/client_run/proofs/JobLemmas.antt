@@ -1,5 +1,5 @@
 -- What a flush and a compaction stand on stays behind calls that aren't their own.
-use Rattle.std.proofs.Common.{◌≡◌, ℕ, List, [], ◌∷◌, length, Bool, true, false, ◌∙◌, ap, subst}
+use Rattle.std.proofs.Common.{◌≡◌, ℕ, List, [], ◌∷◌, length, Bool, true, false, sym, ◌∙◌, ap, subst}
 use Rattle.std.specs.Prelude.{IsTrue, ◌||◌}
 use Rattle.compactor.proofs.BlockLaws.{StaySame, begins_stays, blocks_stay, first_stays, rest_stays}
 use Rattle.compactor.specs.Tasks.{ShowsRead, ShowsWriting, Task as CompactTask}
@@ -74,22 +74,25 @@ flush_stays meaning old new e r (flushing.Ended round) called none same holds fi
 
 -- ---- a compaction
 
+back : (old new : ℕ → List ℕ) (files : List ℕ) → StaySame old new files → StaySame new old files
+back old new files stay file among = sym (stay file among)
+
 read_stays : (old new : ℕ → List ℕ) (job : CompactJob) (parts : List (List Row)) (pages : ℕ) (bytes : List ℕ) → StaySame old new (job.out.file ∷ info_files job.pin.blocks)
     → ShowsRead old job parts pages bytes → ShowsRead new job parts pages bytes
 read_stays old new job parts pages bytes stay told =
     let rest = rest_stays old new job.out.file (info_files job.pin.blocks) stay in
     record {
-      all = told.all;
-      blocks = blocks_stay old new job.pin.blocks told.all rest told.blocks;
-      so_far = told.so_far;
+      so_far = λ all are. told.so_far all (blocks_stay new old job.pin.blocks all (back old new (info_files job.pin.blocks) rest) are);
       begins = begins_stays old new (length parts) job.pin.blocks pages bytes rest told.begins;
+      apart = told.apart;
       empty = first_stays old new job.out.file (info_files job.pin.blocks) stay ∙ told.empty;
     }
 
 written_stays : (old new : ℕ → List ℕ) (job : CompactJob) (parts : List (List Row)) (bytes : List ℕ) → StaySame old new (job.out.file ∷ info_files job.pin.blocks)
     → ShowsWriting old job parts bytes → ShowsWriting new job parts bytes
 written_stays old new job parts bytes stay told = record {
-  blocks = blocks_stay old new job.pin.blocks parts (rest_stays old new job.out.file (info_files job.pin.blocks) stay) told.blocks;
+  their_rows = λ all are.
+      told.their_rows all (blocks_stay new old job.pin.blocks all (back old new (info_files job.pin.blocks) (rest_stays old new job.out.file (info_files job.pin.blocks) stay)) are);
   apart = told.apart;
   so_far = first_stays old new job.out.file (info_files job.pin.blocks) stay ∙ told.so_far;
 }
@@ -128,12 +131,9 @@ compaction_stays meaning old new e r (compacting.Writing job bytes info) called 
           (λ file among. same_file meaning old new e r (compact_of job) file called ends_not (same job fits.is_open file among) fits.is_open among tells)
           (fits.told (subst IsTrue called.telling tells));
     }
-compaction_stays meaning old new e r (compacting.Failing job why) called none same holds fits = record {
-  is_open = stays_open meaning old new e r (compact_of job) called fits.is_open
-      (none job.out.number job.out.file job.level job.pin.number (info_files job.pin.blocks));
-  told = λ tells. fits.told (subst IsTrue called.telling tells);
-}
-compaction_stays meaning old new e r (compacting.Ended round) called none same holds fits = λ tells. fits (subst IsTrue called.telling tells)
+compaction_stays meaning old new e r (compacting.Failing job why) called none same holds fits =
+    stays_open meaning old new e r (compact_of job) called fits (none job.out.number job.out.file job.level job.pin.number (info_files job.pin.blocks))
+compaction_stays meaning old new e r (compacting.Ended round) called none same holds fits = fits
 
 -- ---- both
 

@@ -2,6 +2,9 @@
 
 ghost use Rattle.client_run.specs.OwnFiles.{HaveOwnFiles};
 
+use crate::laws::jobs_of_a_core_have_own_files;
+use disk_model::Device;
+use store_core::Core;
 use store_state::Port;
 
 /// A port whose open jobs have files of their own, as each store over a disk has.
@@ -12,4 +15,10 @@ pub trait OwnFiles: Port {
     /// that it joins. It does nothing.
     fn jobs_have_own_files(&self)
         ensures { HaveOwnFiles Self.meaning self.now };
+}
+
+impl<D: Device> OwnFiles for Core<D> {
+    fn jobs_have_own_files(&self) {
+        jobs_of_a_core_have_own_files(self);
+    }
 }
