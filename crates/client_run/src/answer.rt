@@ -18,10 +18,10 @@ use store_state::{FlushPort, LookPort, Port, PushError, ReclaimError, Round};
 
 /// Answers a request over a port, for the client with this number.
 ///
-/// A push, a cut and the emptying of loose files are one call each, and a flush and a compaction are one round each. A look-up or a search takes one look, reads the
-/// blocks that it pins and gives it back. Out of memory a request is refused for that; whether a push was refused the
-/// port says. The gate is passed at twice the client's number before a search is evaluated, and at one more after each
-/// push that was accepted.
+/// A push, a cut and the emptying of loose files are one call each, and a flush and a compaction are one round each. A
+/// look-up or a search takes one look, reads the blocks that it pins and gives it back. Out of memory a request is
+/// refused for that; whether a push was refused the port says. The gate is passed at twice the client's number before a
+/// search is evaluated, and at one more after each push that was accepted.
 pub fn answer_request<P: Port, G: Gate>(
     alloc: Global,
     port: &mut P,

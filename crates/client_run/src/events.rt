@@ -22,9 +22,9 @@ use store_state::{FlushPort, Look, LookPort, Port, Step};
 /// Runs events on a port, one after another, and gives one reply for each.
 ///
 /// An event on a look that isn't open, or on a block that its look's pin doesn't name, is answered `Idle`, and
-/// nothing is done. The steps of flushes are made for one task after another, and so are those of compactions. Out of memory the
-/// events so far have happened. The looks that aren't given back keep their pins, and a flush or a compaction that isn't at its end
-/// stays open.
+/// nothing is done. The steps of flushes are made for one task after another, and so are those of compactions. Out of
+/// memory the events so far have happened. The looks that aren't given back keep their pins, and a flush or a
+/// compaction that isn't at its end stays open.
 pub fn run_events<P: OwnFiles>(
     alloc: Global,
     port: &mut P,
@@ -119,7 +119,8 @@ fn flush_step<P: OwnFiles>(alloc: Global, port: &mut P, tasks: &mut Tasks) -> Ev
 fn compact_step<P: OwnFiles>(alloc: Global, port: &mut P, tasks: &mut Tasks) -> EventReply
     requires { (looks : Looks) × IsReady P.meaning port.old looks tasks.old }
     ensures { (items : List (Option Given)) → IsReady P.meaning port.old (looks_of items) tasks.old →
-        HasAnswered P.meaning port.old (looks_of items) tasks.old CompactStep result port.new (looks_of items) tasks.new }
+        HasAnswered P.meaning port.old (looks_of items) tasks.old CompactStep result port.new (looks_of items)
+        tasks.new }
 {
     port.jobs_have_own_files();
     match tasks.compaction.step(port) {

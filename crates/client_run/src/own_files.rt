@@ -11,8 +11,8 @@ use store_state::Port;
 ///
 /// So steps of a flush and of a compaction may be made on it in turns: neither writes to a file of the other.
 pub trait OwnFiles: Port {
-    /// Says for proofs that the file of an open flush is no file of an open compaction: neither its own, nor that of a block
-    /// that it joins. It does nothing.
+    /// Says for proofs that the file of an open flush is no file of an open compaction: neither its own, nor that of a
+    /// block that it joins. It does nothing.
     fn jobs_have_own_files(&self)
         ensures { HaveOwnFiles Self.meaning self.now };
 }

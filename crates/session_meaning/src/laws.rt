@@ -179,17 +179,17 @@ pub fn compactions_have_their_causes()
         → IsCompacted told before (IsRefused why) after → HasCompactCause told why before after }
     // Where no two blocks of one level below 63 fit together, in a store that writes, it is told just that.
     ensures none_fit { (told : Bool) (before after : At) (round : Round) → before.machine.read_only ≡ None
-        → IsClosed before.machine → length (choice before.machine.state.blocks) ≡ 0 → IsCompacted told before round after
-        → round ≡ Nothing }
+        → IsClosed before.machine → length (choice before.machine.state.blocks) ≡ 0
+        → IsCompacted told before round after → round ≡ Nothing }
     // And where it is told that, no two fitted, and the store is as it was.
     ensures nothing { (told : Bool) (before after : At) → IsCompacted told before Nothing after
         → (length (choice before.machine.state.blocks) ≡ 0) × IsStill before after }
-    // It joins the blocks that the store chooses, and is told how many these are. The new block stands in their place, and where
-    // what the blocks hold is told it is told how many first occurrences their rows have.
-    ensures joined { (told : Bool) (before after : At) (blocks rows : ℕ) → IsCompacted told before (Did blocks rows) after
-        → HasJoined told before.machine blocks rows after.machine }
-    // Without faults, in a store that writes, has file numbers left and tells what its blocks hold, it is done or memory was
-    // wanted.
+    // It joins the blocks that the store chooses, and is told how many these are. The new block stands in their place, and
+    // where what the blocks hold is told it is told how many first occurrences their rows have.
+    ensures joined { (told : Bool) (before after : At) (blocks rows : ℕ)
+        → IsCompacted told before (Did blocks rows) after → HasJoined told before.machine blocks rows after.machine }
+    // Without faults, in a store that writes, has file numbers left and tells what its blocks hold, it is done or memory
+    // was wanted.
     ensures well { (before after : At) (round : Round) → (Rose before.faults after.faults → ⊥)
         → before.machine.read_only ≡ None → IsClosed before.machine → before.machine.state.next_file < 4294967294
         → IsCompacted true before round after → IsDoneOrStarved round }

@@ -44,12 +44,9 @@ fn four_blocks_are_joined(rt: HostRuntime) -> Result<(), Memory> {
         for number in 0..blocks {
             let push = PUSH_X.replace(alloc, "00000000000000b1", SPANS[number as usize])?;
             input.push_str(format!(in alloc; "{push}\ncutall\nflush\n")?.as_str())?;
-            wanted.push_str(
-                format!(in alloc;
-                    "ok push {number} accepted=1 rejected=0 skipped=0\nok cutall moved=1\nok flush rows=1\n"
-                )?
-                .as_str(),
-            )?;
+            wanted.push_str(format!(in alloc;
+                "ok push {number} accepted=1 rejected=0 skipped=0\nok cutall moved=1\nok flush rows=1\n"
+            )?.as_str())?;
         }
         input.push_str("compact\ncompact\n")?;
         wanted.push_str("ok compact blocks=4 rows=4\nok compact nothing\n")?;
