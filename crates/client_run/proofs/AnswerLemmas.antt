@@ -1,5 +1,8 @@
 -- What requests make of a port.
 use Rattle.std.proofs.Common.{◌≡◌, ℕ, List, [], ◌∷◌, Result, refl, subst}
+use Rattle.std.specs.Prelude.{IsTrue}
+use Rattle.compactor.specs.Rounds.{FoundBlocks, IsCompactRound}
+use Rattle.compactor.specs.Tasks.{Known}
 use Rattle.flusher.specs.Rounds.{IsFlushRound}
 use Rattle.span_types.specs.declared.errors.Memory.{Memory}
 use Rattle.otlp_spans.specs.declared.read.Reading.{Reading}
@@ -17,10 +20,11 @@ use Rattle.session_text.specs.declared.request.Request.TheVariants as request
 use Rattle.session_text.specs.declared.request.Search.{Search}
 use Rattle.store_model.specs.Event.{Event as event}
 use Rattle.store_state.specs.Meaning.{Meaning, Called}
-use Rattle.store_state.specs.Replies.{count_reply, push_reply}
+use Rattle.store_state.specs.Replies.{count_reply, push_reply, reclaim_reply}
 use Rattle.store_state.specs.declared.errors.PushError.{PushError}
+use Rattle.store_state.specs.declared.errors.ReclaimError.{ReclaimError}
 use Rattle.store_state.specs.declared.rounds.Round.{Round}
-use Rattle.client_run.specs.Answers.{HasReplied, IsSearchTold, asked_of, cut_reply, flush_reply, pushed_reply, trace_reply}
+use Rattle.client_run.specs.Answers.{HasReplied, IsSearchTold, asked_of, compact_reply, cut_reply, flush_reply, pushed_reply, reclaimed_reply, trace_reply}
 use Rattle.store_state.specs.Made.{AreMade, Call, call}
 
 pub push_replied : {P : Type 0} (meaning : Meaning P) (old new : P) (reading : Reading) (moment : ℕ) (answer : Result ℕ PushError) (r : Reply)
@@ -57,6 +61,25 @@ flush_replied meaning old new round r made is = record {
   calls = made.0;
   made = made.1;
   answered = (round, is, made.2);
+  told = λ told v known. tt;
+}
+
+pub compact_replied : {P : Type 0} (meaning : Meaning P) (old new : P) (round : Round) (r : Reply)
+    → ((calls : List Call) × AreMade meaning old calls new × IsCompactRound calls round) → (IsTrue (meaning.tells old) → Known meaning old → FoundBlocks round) → r ≡ compact_reply round
+    → HasReplied meaning old request.Compact r new
+compact_replied meaning old new round r made found is = record {
+  calls = made.0;
+  made = made.1;
+  answered = (round, is, made.2);
+  told = λ told v known. (round, is, found told (v, known));
+}
+
+pub reclaim_replied : {P : Type 0} (meaning : Meaning P) (old new : P) (answer : Result ℕ ReclaimError) (r : Reply) → Called meaning old event.Reclaim (reclaim_reply answer) new
+    → r ≡ reclaimed_reply answer → HasReplied meaning old request.Reclaim r new
+reclaim_replied meaning old new answer r called is = record {
+  calls = call event.Reclaim (reclaim_reply answer) ∷ [];
+  made = (new, called, refl);
+  answered = (answer, is, refl);
   told = λ told v known. tt;
 }
 

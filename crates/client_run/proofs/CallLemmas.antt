@@ -1,13 +1,12 @@
 -- How calls of a port follow one another.
 use Rattle.std.proofs.Common.{◌≡◌, List, [], ◌∷◌, ◌++◌, refl, sym, ◌∙◌, ap, subst, append-nil, append_assoc}
-use Rattle.flusher.specs.Rounds.{Stage}
 use Rattle.store_model.specs.Holds.{Hold, holds_after}
 use Rattle.store_state.specs.Meaning.{Meaning}
 use Rattle.client_run.specs.declared.event.Event.{Event}
 use Rattle.client_run.specs.declared.event.EventReply.{EventReply}
 use Rattle.store_state.specs.Made.{Call, AreMade}
 use Rattle.client_run.specs.Calls.{Looks, after_call, after_calls}
-use Rattle.client_run.specs.EventRuns.{AreEventsAnswered, IsEventAnswered}
+use Rattle.client_run.specs.EventRuns.{AreEventsAnswered, IsEventAnswered, Stages}
 
 pub after-append : (front back : List Call) (looks : Looks) → after_calls (front ++ back) looks ≡ after_calls back (after_calls front looks)
 after-append [] back looks = refl
@@ -29,7 +28,7 @@ pub tells_kept : {P : Type 0} (meaning : Meaning P) (old new : P) (calls : List 
 tells_kept meaning old new [] made = ap meaning.tells made
 tells_kept meaning old new (c ∷ cs) made = tells_kept meaning made.0 new cs made.2 ∙ made.1.telling
 
-pub answered-push : (looks : Looks) (before after last : Stage) (events : List Event) (replies : List EventReply) (e : Event) (r : EventReply) (calls now : List Call)
+pub answered-push : (looks : Looks) (before after last : Stages) (events : List Event) (replies : List EventReply) (e : Event) (r : EventReply) (calls now : List Call)
     → AreEventsAnswered looks before events replies calls after → IsEventAnswered (after_calls calls looks) after e r now last
     → AreEventsAnswered looks before (events ++ e ∷ []) (replies ++ r ∷ []) (calls ++ now) last
 answered-push looks before after last [] replies e r calls now h a =
@@ -38,7 +37,7 @@ answered-push looks before after last [] replies e r calls now h a =
       [],
       last,
       sym (append-nil now),
-      subst (λ (s : Stage). IsEventAnswered looks s e r now last) h.2 (subst (λ (cs : List Call). IsEventAnswered (after_calls cs looks) after e r now last) h.1 a),
+      subst (λ (s : Stages). IsEventAnswered looks s e r now last) h.2 (subst (λ (cs : List Call). IsEventAnswered (after_calls cs looks) after e r now last) h.1 a),
       (refl, refl, refl),
     )
 answered-push looks before after last (x ∷ xs) [] e r calls now h a = absurd h

@@ -1,8 +1,12 @@
 pub mod CallLemmas
 pub mod LookLemmas
+pub mod JobLemmas
+pub mod StepLemmas
 pub mod FlushLemmas
+pub mod CompactLemmas
 pub mod EventLemmas
 pub mod RunLemmas
 pub mod CoreLemmas
 pub mod PinLemmas
 pub mod AnswerLemmas
+pub mod OwnFileLaws

@@ -1,5 +1,6 @@
 -- What a request is answered over a port, and which calls of the port it makes.
 use Rattle.std.specs.Prelude.{◌≡◌, ◌⊎◌, ℕ, List, [], ◌∷◌, length, IsTrue, Result, Ok, Err}
+use Rattle.compactor.specs.Rounds.{FoundBlocks, IsCompactRound}
 use Rattle.flusher.specs.Rounds.{IsFlushRound}
 use Rattle.span_types.specs.declared.errors.Memory.{Memory}
 use Rattle.otlp_spans.specs.declared.read.Reading.{Reading}
@@ -15,16 +16,18 @@ use Rattle.search_text.specs.Fields.{printed_fields}
 use Rattle.session_text.specs.declared.refusal.Refusal.{Refusal}
 use Rattle.session_text.specs.declared.refusal.Refusal.TheVariants as refusal
 use Rattle.session_text.specs.declared.reply.Reply.{Reply}
-use Rattle.session_text.specs.declared.reply.Reply.TheVariants.{Pushed, Traced, Searched, Cut, CutAll, Flushed, NothingFlushed, Refused}
+use Rattle.session_text.specs.declared.reply.Reply.TheVariants.{Pushed, Traced, Searched, Cut, CutAll, Flushed, NothingFlushed, Compacted, NothingCompacted, Reclaimed, Refused}
 use Rattle.session_text.specs.declared.request.Request.{Request}
 use Rattle.session_text.specs.declared.request.Request.TheVariants as request
 use Rattle.session_text.specs.declared.request.Search.{Search}
 use Rattle.store_model.specs.Event.{Event as event}
 use Rattle.store_model.specs.History.{History}
-use Rattle.store_state.specs.Replies.{count_reply, push_reply}
+use Rattle.store_state.specs.Replies.{count_reply, push_reply, reclaim_reply}
 use Rattle.store_state.specs.Meaning.{Meaning, View}
 use Rattle.store_state.specs.declared.errors.PushError.{PushError}
 use Rattle.store_state.specs.declared.errors.PushError.TheVariants as push
+use Rattle.store_state.specs.declared.errors.ReclaimError.{ReclaimError}
+use Rattle.store_state.specs.declared.errors.ReclaimError.TheVariants as reclaim
 use Rattle.store_state.specs.declared.rounds.Refusal.TheVariants as round_refusal
 use Rattle.store_state.specs.declared.rounds.Round.{Round}
 use Rattle.store_state.specs.declared.rounds.Round.TheVariants as round
@@ -75,15 +78,35 @@ abbrev pub cut_reply : (ℕ → Reply) → Result ℕ Memory → Reply
 cut_reply tells (Ok moved) = tells moved
 cut_reply tells (Err e) = Refused refusal.Memory
 
--- A flush is told how many rows its block has, that nothing waited, or why its round was refused.
+-- A round is told what it did, that there was nothing to do, or why it was refused.
+abbrev pub round_reply : (ℕ → ℕ → Reply) → Reply → Round → Reply
+round_reply did nothing (round.Did blocks rows) = did blocks rows
+round_reply did nothing round.Nothing = nothing
+round_reply did nothing (round.Refused why) = Refused (refusal.Round why)
+
+-- A flush is told how many rows its block has, or that nothing waited.
 abbrev pub flush_reply : Round → Reply
-flush_reply (round.Did blocks rows) = Flushed rows
-flush_reply round.Nothing = NothingFlushed
-flush_reply (round.Refused why) = Refused (refusal.Round why)
+flush_reply ended = round_reply (λ blocks rows. Flushed rows) NothingFlushed ended
+
+-- A compaction is told how many blocks it joined and how many rows the new one has, or that no two fit together.
+abbrev pub compact_reply : Round → Reply
+compact_reply ended = round_reply Compacted NothingCompacted ended
+
+-- what is said where no loose files were emptied
+abbrev pub reclaim_cause : ReclaimError → Refusal
+reclaim_cause (reclaim.ReadOnly faults) = refusal.ReadOnly faults
+reclaim_cause reclaim.Fault = refusal.DiskFault
+reclaim_cause reclaim.Memory = refusal.Memory
+
+-- It is told how many loose files were emptied, or why none were.
+abbrev pub reclaimed_reply : Result ℕ ReclaimError → Reply
+reclaimed_reply (Ok files) = Reclaimed files
+reclaimed_reply (Err why) = Refused (reclaim_cause why)
 
 -- ---- a request
 
--- A request is answered so, by these calls. A push and a cut are one call each, and a flush is one round.
+-- A request is answered so, by these calls. A push, a cut and the emptying of loose files are one call each, and a flush and a
+-- compaction are one round each.
 abbrev pub IsRequestAnswered : Request → Reply → List Call → Type 0
 IsRequestAnswered (request.Push reading moment) r calls =
     (answer : Result ℕ PushError) × (r ≡ pushed_reply reading answer)
@@ -97,17 +120,22 @@ IsRequestAnswered (request.Cut moment) r calls =
 IsRequestAnswered request.CutAll r calls =
     (answer : Result ℕ Memory) × (r ≡ cut_reply CutAll answer) × (calls ≡ call event.CutAll (count_reply answer) ∷ [])
 IsRequestAnswered request.Flush r calls = (round : Round) × (r ≡ flush_reply round) × IsFlushRound calls round
+IsRequestAnswered request.Compact r calls = (round : Round) × (r ≡ compact_reply round) × IsCompactRound calls round
+IsRequestAnswered request.Reclaim r calls =
+    (answer : Result ℕ ReclaimError) × (r ≡ reclaimed_reply answer) × (calls ≡ call event.Reclaim (reclaim_reply answer) ∷ [])
 
--- A query's answer is told of the history, before which others may have pushed to it, and no block is found to be none.
+-- A query's answer is told of the history, before which others may have pushed to it. Neither a query nor a compaction finds that a
+-- block is none.
 abbrev pub TellsHistory : History → Request → Reply → Type 0
 TellsHistory h (request.Trace id) r =
     (answer : Result TraceAnswer QueryError) × (r ≡ trace_reply answer) × Sound (TellsOf (IsTraceAnswer id) h) answer
 TellsHistory h (request.Search s) r =
     (answer : Result SearchAnswer QueryError) × IsSearchTold (asked_of s) answer r × Sound (TellsOf (IsSearchAnswer (asked_of s)) h) answer
+TellsHistory h request.Compact r = (round : Round) × (r ≡ compact_reply round) × FoundBlocks round
 TellsHistory h _ r = Unit {0}
 
 -- A request was answered over a port: the port's calls are just those that the request makes. Where the port tells its bytes, a
--- query's answer is that of each history that is known.
+-- query's answer is that of each history that is known, and each block that was read is one.
 pub record HasReplied {P : Type 0} (meaning : Meaning P) (old : P) (asked : Request) (r : Reply) (new : P) : Type 0 where
   pub calls : List Call
   pub made : AreMade meaning old calls new

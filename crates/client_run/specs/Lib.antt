@@ -4,3 +4,4 @@ pub mod Taken
 pub mod Walked
 pub mod CoreRuns
 pub mod Answers
+pub mod OwnFiles

@@ -2,9 +2,10 @@
 
 ghost use Rattle.std.specs.Prelude.{◌≡◌, ◌^◌, ◌<◌, List, length};
 ghost use Rattle.store_model.specs.Holds.{Hold};
-ghost use Rattle.session_text.specs.declared.request.Request.TheVariants.{Push as AsksPush, Trace as AsksTrace, Search as AsksSearch, Cut as AsksCut, CutAll as AsksCutAll, Flush as AsksFlush};
-ghost use Rattle.client_run.specs.Answers.{HasReplied, IsSearchTold, asked_of, flush_reply, query_refusal, refusal_of, trace_reply};
+ghost use Rattle.session_text.specs.declared.request.Request.TheVariants.{Push as AsksPush, Trace as AsksTrace, Search as AsksSearch, Cut as AsksCut, CutAll as AsksCutAll, Flush as AsksFlush, Compact as AsksCompact, Reclaim as AsksReclaim};
+ghost use Rattle.client_run.specs.Answers.{HasReplied, IsSearchTold, asked_of, compact_reply, flush_reply, query_refusal, reclaim_cause, refusal_of, trace_reply};
 
+use compactor::compact_round;
 use flusher::flush_round;
 use io_edges::Gate;
 use otlp_spans::Reading;
@@ -13,15 +14,15 @@ use search_text::printed_fields;
 use session_text::{Refusal, Reply, Request, Search};
 use span_types::{Batch, Memory, TraceId};
 use std::alloc::Global;
-use store_state::{FlushPort, LookPort, PushError, Round};
+use store_state::{FlushPort, LookPort, Port, PushError, ReclaimError, Round};
 
 /// Answers a request over a port, for the client with this number.
 ///
-/// A push and a cut are one call each, and a flush is one round. A look-up or a search takes one look, reads the
-/// blocks that it pins and gives it back. Out of memory a request is refused for that; whether a push was refused the
-/// port says. The gate is passed at twice the client's number before a search is evaluated, and at one more after each
-/// push that was accepted.
-pub fn answer_request<P: FlushPort, G: Gate>(
+/// A push, a cut and the emptying of loose files are one call each, and a flush and a compaction are one round each. A
+/// look-up or a search takes one look, reads the blocks that it pins and gives it back. Out of memory a request is
+/// refused for that; whether a push was refused the port says. The gate is passed at twice the client's number before a
+/// search is evaluated, and at one more after each push that was accepted.
+pub fn answer_request<P: Port, G: Gate>(
     alloc: Global,
     port: &mut P,
     request: Request,
@@ -42,6 +43,8 @@ pub fn answer_request<P: FlushPort, G: Gate>(
         Request::Cut { moment } => cut(port, moment),
         Request::CutAll => cut_all(port),
         Request::Flush => flush(alloc, port),
+        Request::Compact => compact(alloc, port),
+        Request::Reclaim => reclaim(port),
     }
 }
 
@@ -127,6 +130,46 @@ fn flush_reply(round: Round) -> Reply
         Round::Did { rows, .. } => Reply::Flushed { rows },
         Round::Nothing => Reply::NothingFlushed,
         Round::Refused(why) => Reply::Refused(Refusal::Round(why)),
+    }
+}
+
+// Joins blocks of one level.
+fn compact<P: Port>(alloc: Global, port: &mut P) -> Reply
+    requires { (held : List Hold) × P.meaning.holds port.old held }
+    ensures { HasReplied P.meaning port.old AsksCompact result port.new }
+{
+    compact_reply(compact_round(alloc, port))
+}
+
+// What is told of a compaction's round.
+fn compact_reply(round: Round) -> Reply
+    ensures { result ≡ compact_reply round }
+{
+    match round {
+        Round::Did { blocks, rows } => Reply::Compacted { blocks, rows },
+        Round::Nothing => Reply::NothingCompacted,
+        Round::Refused(why) => Reply::Refused(Refusal::Round(why)),
+    }
+}
+
+// Empties the loose files that no pin names.
+fn reclaim<P: Port>(port: &mut P) -> Reply
+    ensures { HasReplied P.meaning port.old AsksReclaim result port.new }
+{
+    match port.reclaim() {
+        Ok(files) => Reply::Reclaimed { files },
+        Err(error) => Reply::Refused(reclaim_cause(error)),
+    }
+}
+
+// Why no loose files were emptied.
+fn reclaim_cause(error: ReclaimError) -> Refusal
+    ensures { result ≡ reclaim_cause error }
+{
+    match error {
+        ReclaimError::ReadOnly { faults } => Refusal::ReadOnly { faults },
+        ReclaimError::Fault => Refusal::DiskFault,
+        ReclaimError::Memory => Refusal::Memory,
     }
 }
 

@@ -1,7 +1,7 @@
 //! Events and their replies, as plain values.
 
 use span_types::{Batch, Bytes, Failed, Memory, Rows, Seq};
-use store_state::{PushError, Step};
+use store_state::{PushError, ReclaimError, Step};
 
 /// An event of a store.
 #[derive(Debug, Drop)]
@@ -23,6 +23,8 @@ pub enum Event {
     /// The next step of a flush. One step after another they make whole rounds: a step behind the end of a round begins
     /// the next.
     FlushStep,
+    /// The next step of a compaction, in the same way. A page that a compaction reads is a step too.
+    CompactStep,
     /// A look is taken. Looks are numbered from 0 as they are taken; one that is refused has no number.
     Look,
     /// A page of a block is read.
@@ -39,6 +41,8 @@ pub enum Event {
         /// Its number.
         look: u64,
     },
+    /// The loose files that no pin names are emptied.
+    Reclaim,
 }
 
 /// What a look sees.
@@ -61,7 +65,7 @@ pub enum EventReply {
     Cut(Result<u64, Memory>),
     /// A cut of all: how many rows it moved.
     CutAll(Result<u64, Memory>),
-    /// A step of a flush: whether its round goes on, or how it ended.
+    /// A step of a flush or of a compaction: whether its round goes on, or how it ended.
     Stepped(Step),
     /// A look: what it sees.
     Looked(Result<Seen, Memory>),
@@ -69,6 +73,8 @@ pub enum EventReply {
     Paged(Result<Bytes, Failed>),
     /// The look was given back.
     Ended,
+    /// How many loose files were emptied.
+    Reclaimed(Result<u64, ReclaimError>),
 }
 
 /// Events in order.

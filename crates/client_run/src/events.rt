@@ -1,27 +1,31 @@
 //! Lists of events.
 
 ghost use Rattle.std.specs.Prelude.{◌≡◌, List, Option, IfOk, OnErr};
-ghost use Rattle.flusher.specs.Tasks.{Task};
 ghost use Rattle.store_model.specs.Holds.{Hold};
 ghost use Rattle.store_state.specs.declared.jobs.Look.{Look as Given};
-ghost use Rattle.client_run.specs.declared.event.Event.TheVariants.{Push, Cut, CutAll, FlushStep, Look as TakeLook, Page, Done};
+ghost use Rattle.client_run.specs.declared.event.Event.TheVariants.{Push, Cut, CutAll, FlushStep, CompactStep, Look as TakeLook, Page, Done, Reclaim};
 ghost use Rattle.client_run.specs.Calls.{Looks};
+ghost use Rattle.client_run.specs.declared.tasks.Tasks.{Tasks};
 ghost use Rattle.client_run.specs.EventRuns.{HasRun, HasRunFirst};
 ghost use Rattle.client_run.specs.Taken.{HasAnswered, IsReady, MayHaveAnswered, looks_of};
 
 use crate::event::{Event, EventReply, Events, Replies, Seen};
+use crate::own_files::OwnFiles;
 use crate::taken::{end_look, look_with};
+use crate::tasks::{Tasks, no_steps};
+use compactor::CompactTask;
 use flusher::FlushTask;
 use span_types::{Batch, Bytes, Memory, TryCopy};
 use std::alloc::Global;
-use store_state::{FlushPort, Look, LookPort, Step};
+use store_state::{FlushPort, Look, LookPort, Port, Step};
 
 /// Runs events on a port, one after another, and gives one reply for each.
 ///
 /// An event on a look that isn't open, or on a block that its look's pin doesn't name, is answered `Idle`, and
-/// nothing is done. The steps of flushes are made for one task after another. Out of memory the events so far have
-/// happened. The looks that aren't given back keep their pins, and a flush that isn't at its end stays open.
-pub fn run_events<P: FlushPort>(
+/// nothing is done. The steps of flushes are made for one task after another, and so are those of compactions. Out of
+/// memory the events so far have happened. The looks that aren't given back keep their pins, and a flush or a
+/// compaction that isn't at its end stays open.
+pub fn run_events<P: OwnFiles>(
     alloc: Global,
     port: &mut P,
     events: &Events,
@@ -31,46 +35,48 @@ pub fn run_events<P: FlushPort>(
     ensures stopped { OnErr result (HasRunFirst P.meaning port.old events.now port.new) }
 {
     let mut looks = Vec::new(alloc);
-    let mut flush = FlushTask::new(alloc);
+    let mut tasks = no_steps(alloc);
     let mut replies = Vec::new(alloc);
     let all = events.as_slice();
     for event in all {
-        let reply = run_event(alloc, port, &mut looks, &mut flush, event)?;
+        let reply = run_event(alloc, port, &mut looks, &mut tasks, event)?;
         replies.push(reply)?;
     }
     Ok(Replies::of(replies))
 }
 
 // Runs an event on a port.
-fn run_event<P: FlushPort>(
+fn run_event<P: OwnFiles>(
     alloc: Global,
     port: &mut P,
     looks: &mut Vec<Option<Look>>,
-    flush: &mut FlushTask,
+    tasks: &mut Tasks,
     event: &Event,
 ) -> Result<EventReply, Memory>
-    requires { IsReady P.meaning port.old (looks_of looks.old.items) flush.old }
-    ensures answered { IfOk result (λ reply. HasAnswered P.meaning port.old (looks_of looks.old.items) flush.old event.now reply
-        port.new (looks_of looks.new.items) flush.new) }
-    ensures stopped { OnErr result (MayHaveAnswered P.meaning port.old (looks_of looks.old.items) flush.old event.now port.new) }
+    requires { IsReady P.meaning port.old (looks_of looks.old.items) tasks.old }
+    ensures answered { IfOk result (λ reply. HasAnswered P.meaning port.old (looks_of looks.old.items) tasks.old event.now reply
+        port.new (looks_of looks.new.items) tasks.new) }
+    ensures stopped { OnErr result (MayHaveAnswered P.meaning port.old (looks_of looks.old.items) tasks.old event.now port.new) }
 {
     match event {
         Event::Push { batch, moment } => push(port, batch, *moment),
         Event::Cut { moment } => Ok(cut(port, *moment)),
         Event::CutAll => Ok(cut_all(port)),
-        Event::FlushStep => Ok(step(alloc, port, flush)),
+        Event::FlushStep => Ok(flush_step(alloc, port, tasks)),
+        Event::CompactStep => Ok(compact_step(alloc, port, tasks)),
         Event::Look => take_look(port, looks),
         Event::Page { look, block, page } => {
             read_page(alloc, port, looks.as_slice(), *look, *block, *page)
         }
         Event::Done { look } => Ok(give_back(port, looks, *look)),
+        Event::Reclaim => Ok(reclaim(port)),
     }
 }
 
 // Pushes a copy of a batch.
 fn push<P: LookPort>(port: &mut P, batch: &Batch, moment: u64) -> Result<EventReply, Memory>
-    ensures answered { (looks : Looks) (flush : Task) → IsReady P.meaning port.old looks flush →
-        IfOk result (λ reply. HasAnswered P.meaning port.old looks flush (Push batch.now moment) reply port.new looks flush) }
+    ensures answered { (looks : Looks) (tasks : Tasks) → IsReady P.meaning port.old looks tasks →
+        IfOk result (λ reply. HasAnswered P.meaning port.old looks tasks (Push batch.now moment) reply port.new looks tasks) }
     ensures stopped { OnErr result (port.new ≡ port.old) }
 {
     let batch = batch.copy()?;
@@ -79,29 +85,47 @@ fn push<P: LookPort>(port: &mut P, batch: &Batch, moment: u64) -> Result<EventRe
 
 // Moves the idle traces to the head.
 fn cut<P: FlushPort>(port: &mut P, moment: u64) -> EventReply
-    ensures { (looks : Looks) (flush : Task) → IsReady P.meaning port.old looks flush →
-        HasAnswered P.meaning port.old looks flush (Cut moment) result port.new looks flush }
+    ensures { (looks : Looks) (tasks : Tasks) → IsReady P.meaning port.old looks tasks →
+        HasAnswered P.meaning port.old looks tasks (Cut moment) result port.new looks tasks }
 {
     EventReply::Cut(port.cut(moment))
 }
 
 // Moves all live traces to the head.
 fn cut_all<P: FlushPort>(port: &mut P) -> EventReply
-    ensures { (looks : Looks) (flush : Task) → IsReady P.meaning port.old looks flush →
-        HasAnswered P.meaning port.old looks flush CutAll result port.new looks flush }
+    ensures { (looks : Looks) (tasks : Tasks) → IsReady P.meaning port.old looks tasks →
+        HasAnswered P.meaning port.old looks tasks CutAll result port.new looks tasks }
 {
     EventReply::CutAll(port.cut_all())
 }
 
-// Makes the next step of a flush. Behind the end of a round stands a flush that has made none.
-fn step<P: FlushPort>(alloc: Global, port: &mut P, flush: &mut FlushTask) -> EventReply
-    requires { (looks : Looks) × IsReady P.meaning port.old looks flush.old }
-    ensures { (items : List (Option Given)) → IsReady P.meaning port.old (looks_of items) flush.old →
-        HasAnswered P.meaning port.old (looks_of items) flush.old FlushStep result port.new (looks_of items) flush.new }
+// Makes the next step of the flush. Behind the end of a round stands a flush that has made none.
+fn flush_step<P: OwnFiles>(alloc: Global, port: &mut P, tasks: &mut Tasks) -> EventReply
+    requires { (looks : Looks) × IsReady P.meaning port.old looks tasks.old }
+    ensures { (items : List (Option Given)) → IsReady P.meaning port.old (looks_of items) tasks.old →
+        HasAnswered P.meaning port.old (looks_of items) tasks.old FlushStep result port.new (looks_of items) tasks.new }
 {
-    match flush.step(port) {
+    port.jobs_have_own_files();
+    match tasks.flush.step(port) {
         Step::Ended(round) => {
-            *flush = FlushTask::new(alloc);
+            tasks.flush = FlushTask::new(alloc);
+            EventReply::Stepped(Step::Ended(round))
+        }
+        Step::More => EventReply::Stepped(Step::More),
+    }
+}
+
+// Makes the next step of the compaction. Behind the end of a round stands a compaction that has made none.
+fn compact_step<P: OwnFiles>(alloc: Global, port: &mut P, tasks: &mut Tasks) -> EventReply
+    requires { (looks : Looks) × IsReady P.meaning port.old looks tasks.old }
+    ensures { (items : List (Option Given)) → IsReady P.meaning port.old (looks_of items) tasks.old →
+        HasAnswered P.meaning port.old (looks_of items) tasks.old CompactStep result port.new (looks_of items)
+        tasks.new }
+{
+    port.jobs_have_own_files();
+    match tasks.compaction.step(port) {
+        Step::Ended(round) => {
+            tasks.compaction = CompactTask::new(alloc);
             EventReply::Stepped(Step::Ended(round))
         }
         Step::More => EventReply::Stepped(Step::More),
@@ -110,11 +134,11 @@ fn step<P: FlushPort>(alloc: Global, port: &mut P, flush: &mut FlushTask) -> Eve
 
 // Takes a look.
 fn take_look<P: LookPort>(port: &mut P, looks: &mut Vec<Option<Look>>) -> Result<EventReply, Memory>
-    ensures answered { (flush : Task) → IsReady P.meaning port.old (looks_of looks.old.items) flush →
-        IfOk result (λ reply. HasAnswered P.meaning port.old (looks_of looks.old.items) flush TakeLook reply
-        port.new (looks_of looks.new.items) flush) }
-    ensures stopped { (flush : Task) → IsReady P.meaning port.old (looks_of looks.old.items) flush →
-        OnErr result (MayHaveAnswered P.meaning port.old (looks_of looks.old.items) flush TakeLook port.new) }
+    ensures answered { (tasks : Tasks) → IsReady P.meaning port.old (looks_of looks.old.items) tasks →
+        IfOk result (λ reply. HasAnswered P.meaning port.old (looks_of looks.old.items) tasks TakeLook reply
+        port.new (looks_of looks.new.items) tasks) }
+    ensures stopped { (tasks : Tasks) → IsReady P.meaning port.old (looks_of looks.old.items) tasks →
+        OnErr result (MayHaveAnswered P.meaning port.old (looks_of looks.old.items) tasks TakeLook port.new) }
 {
     let look = match port.look() {
         Ok(look) => look,
@@ -137,12 +161,12 @@ fn read_page<P: FlushPort>(
     block: u32,
     page: u64,
 ) -> Result<EventReply, Memory>
-    requires { (flush : Task) × IsReady P.meaning port.old (looks_of looks.now) flush }
-    ensures answered { (flush : Task) → IsReady P.meaning port.old (looks_of looks.now) flush →
-        IfOk result (λ reply. HasAnswered P.meaning port.old (looks_of looks.now) flush (Page number block page) reply
-        port.new (looks_of looks.now) flush) }
-    ensures stopped { (flush : Task) → IsReady P.meaning port.old (looks_of looks.now) flush →
-        OnErr result (MayHaveAnswered P.meaning port.old (looks_of looks.now) flush (Page number block page) port.new) }
+    requires { (tasks : Tasks) × IsReady P.meaning port.old (looks_of looks.now) tasks }
+    ensures answered { (tasks : Tasks) → IsReady P.meaning port.old (looks_of looks.now) tasks →
+        IfOk result (λ reply. HasAnswered P.meaning port.old (looks_of looks.now) tasks (Page number block page) reply
+        port.new (looks_of looks.now) tasks) }
+    ensures stopped { (tasks : Tasks) → IsReady P.meaning port.old (looks_of looks.now) tasks →
+        OnErr result (MayHaveAnswered P.meaning port.old (looks_of looks.now) tasks (Page number block page) port.new) }
 {
     let Some(look) = look_with(looks, number, block) else {
         return Ok(EventReply::Idle);
@@ -164,10 +188,10 @@ fn page_bytes(alloc: Global, page: &[u8]) -> Result<Bytes, Memory>
 
 // Gives a look back, where it is open.
 fn give_back<P: LookPort>(port: &mut P, looks: &mut Vec<Option<Look>>, number: u64) -> EventReply
-    requires { (flush : Task) × IsReady P.meaning port.old (looks_of looks.old.items) flush }
-    ensures { (flush : Task) → IsReady P.meaning port.old (looks_of looks.old.items) flush →
-        HasAnswered P.meaning port.old (looks_of looks.old.items) flush (Done number) result
-        port.new (looks_of looks.new.items) flush }
+    requires { (tasks : Tasks) × IsReady P.meaning port.old (looks_of looks.old.items) tasks }
+    ensures { (tasks : Tasks) → IsReady P.meaning port.old (looks_of looks.old.items) tasks →
+        HasAnswered P.meaning port.old (looks_of looks.old.items) tasks (Done number) result
+        port.new (looks_of looks.new.items) tasks }
 {
     match end_look(looks, number) {
         Some(look) => {
@@ -176,4 +200,12 @@ fn give_back<P: LookPort>(port: &mut P, looks: &mut Vec<Option<Look>>, number: u
         }
         None => EventReply::Idle,
     }
+}
+
+// Empties the loose files that no pin names.
+fn reclaim<P: Port>(port: &mut P) -> EventReply
+    ensures { (looks : Looks) (tasks : Tasks) → IsReady P.meaning port.old looks tasks →
+        HasAnswered P.meaning port.old looks tasks Reclaim result port.new looks tasks }
+{
+    EventReply::Reclaimed(port.reclaim())
 }

@@ -8,6 +8,7 @@ ghost use Rattle.store_core.specs.Port.{port_of};
 ghost use Rattle.store_state.specs.Made.{AreMade, Call};
 ghost use Rattle.client_run.specs.Calls.{after_calls};
 ghost use Rattle.client_run.specs.CoreRuns.{HasStepped, HaveOwnPins, unsure_after_calls};
+ghost use Rattle.client_run.specs.OwnFiles.{HaveOwnFiles};
 
 use disk_model::Device;
 use store_core::Core;
@@ -34,4 +35,9 @@ pub fn calls_are_steps<D: Device>(old: &Core<D>, new: &Core<D>)
 pub fn looks_have_their_own_pins<D: Device>(old: &Core<D>, new: &Core<D>)
     ensures { (calls : List Call) → AreMade (port_of D.Device.own) old.now calls new.now → (m : Machine)
         → CoreShows D.Device.own old.now m → HaveOwnPins (after_calls calls []) }
+{}
+
+/// The jobs that are open in a core have files of their own, whatever its disk holds.
+pub fn jobs_of_a_core_have_own_files<D: Device>(core: &Core<D>)
+    ensures { HaveOwnFiles (port_of D.Device.own) core.now }
 {}

@@ -9,9 +9,12 @@ mod answer;
 mod event;
 mod events;
 mod laws;
+mod own_files;
 mod taken;
+mod tasks;
 
 pub use answer::answer_request;
 pub use event::{Event, EventReply, Events, Replies, Seen};
 pub use events::run_events;
-pub use laws::{calls_are_steps, looks_have_their_own_pins};
+pub use laws::{calls_are_steps, jobs_of_a_core_have_own_files, looks_have_their_own_pins};
+pub use own_files::OwnFiles;

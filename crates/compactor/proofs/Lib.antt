@@ -1,4 +1,4 @@
-mod BlockLaws
+pub mod BlockLaws
 mod Prefixes
 mod ReadLaws
 mod BuildLaws

@@ -24,27 +24,36 @@ use Rattle.session_text.specs.declared.request.Search.{Search}
 use Rattle.session_text.specs.Items.{Item}
 use Rattle.store_model.specs.Cut.{is_idle}
 use Rattle.store_model.specs.Event.{Event as event, Reply as reply}
+use Rattle.store_model.specs.Event.Event.{BeginCompact, BeginFlush}
 use Rattle.store_model.specs.History.{History, count_of, history_rows}
 use Rattle.store_model.specs.Laws.{Agrees}
 use Rattle.store_model.specs.Step.{Machine, Step}
+use Rattle.store_model.specs.Told.{AreCounted}
 use Rattle.store_model.proofs.KeepsFirsts as firsts
 use Rattle.store_model.proofs.Outcomes.{kept_by}
 use Rattle.store_images.specs.Stored.{SameFirsts}
-use Rattle.store_state.specs.Replies.{count_reply, push_reply}
+use Rattle.store_state.specs.Replies.{count_reply, push_reply, reclaim_reply}
 use Rattle.store_state.specs.Made.{Call, call}
 use Rattle.store_state.specs.declared.rounds.Refusal.TheVariants as cause
-use Rattle.client_run.specs.Answers.{IsSearchTold, TellsHistory, asked_of, query_refusal, trace_reply}
+use Rattle.store_state.specs.declared.rounds.Round.{Round as RoundEnd}
+use Rattle.store_state.specs.declared.rounds.Round.TheVariants as round_is
+use Rattle.client_run.specs.Answers.{IsSearchTold, TellsHistory, asked_of, compact_reply, query_refusal, trace_reply}
+use Rattle.compactor.specs.Rounds.{FoundBlocks}
 use Rattle.client_run.specs.CoreRuns.{AreSteps}
 use Rattle.session_meaning.specs.Answering.{AreItemsAnswered, CallsLead, IsItemAnswered}
 use Rattle.session_meaning.specs.At.{At, IsStep, IsStill, history_of}
 use Rattle.session_meaning.specs.Causes.{HasQueryCause}
+use Rattle.session_meaning.specs.Rounds.{IsTold}
 use Rattle.session_meaning.specs.Session.{IsAnswered, IsAnsweredOrRefused, IsSure, Session}
 use Rattle.session_meaning.specs.Upkeep.{IsClosed}
 use Rattle.session_meaning.proofs.CutLaws.{cut_closes, cuts_all, cuts_idle}
 use Rattle.session_meaning.proofs.Firsts.{trace_alike}
-use Rattle.session_meaning.proofs.FlushLaws.{flush_closes, flush_keeps}
 use Rattle.session_meaning.proofs.QueryLaws.{Says, asked_says, told_exactly}
-use Rattle.session_meaning.proofs.Rounds.{one_step, round_does}
+use Rattle.session_meaning.proofs.ReclaimLaws.{reclaim_closes}
+use Rattle.session_meaning.proofs.RoundLaws.{round_closes, round_keeps}
+use Rattle.session_meaning.proofs.RoundSteps.IsBegin.{OfCompaction, OfFlush}
+use Rattle.session_meaning.proofs.Rounds.{compaction_does, flush_does}
+use Rattle.session_meaning.proofs.Steps.{one_step}
 
 -- ---- one item
 
@@ -177,54 +186,98 @@ search_told s before after r (Err error.Memory) other is still any also sound = 
 by_call : (e : event) (r : reply) (before after : At) (calls : List Call) → calls ≡ call e r ∷ [] → CallsLead before calls after → IsStep before e r after
 by_call e r before after calls are lead = one_step before after e r (subst (λ (cs : List Call). CallsLead before cs after) are lead)
 
+-- ---- what is told by the way
+
+-- What is told of the history, and of blocks that are read.
+abbrev pub IsItemTold : History → Item → Reply → Type 0
+IsItemTold h (Ok asked) r = TellsHistory h asked r
+IsItemTold h (Err why) r = ⊤
+
+-- Where what the blocks hold is told: that, and how many rows the listed blocks have afterwards.
+abbrev pub TellsBlocks : Bool → History → Item → Reply → At → Type 0
+TellsBlocks told h item r after = told ≡ true → IsItemTold h item r × AreCounted after.machine.state.blocks
+
+same_round : (a b : RoundEnd) → compact_reply a ≡ compact_reply b → a ≡ b
+same_round (round_is.Did b r) (round_is.Did c s) e = cc
+same_round (round_is.Did b r) round_is.Nothing e = let bad : ⊥ = cc in absurd bad
+same_round (round_is.Did b r) (round_is.Refused w) e = let bad : ⊥ = cc in absurd bad
+same_round round_is.Nothing (round_is.Did c s) e = let bad : ⊥ = cc in absurd bad
+same_round round_is.Nothing round_is.Nothing e = refl
+same_round round_is.Nothing (round_is.Refused w) e = let bad : ⊥ = cc in absurd bad
+same_round (round_is.Refused v) (round_is.Did c s) e = let bad : ⊥ = cc in absurd bad
+same_round (round_is.Refused v) round_is.Nothing e = let bad : ⊥ = cc in absurd bad
+same_round (round_is.Refused v) (round_is.Refused w) e = cc
+
+is_told : (round : RoundEnd) (after : At) → FoundBlocks round → AreCounted after.machine.state.blocks → IsTold round after
+is_told (round_is.Did blocks rows) after found are = are
+is_told round_is.Nothing after found are = tt
+is_told (round_is.Refused (cause.NotBlock file at)) after found are = found
+is_told (round_is.Refused (cause.ReadOnly faults)) after found are = tt
+is_told (round_is.Refused (cause.Busy number)) after found are = tt
+is_told (round_is.Refused (cause.FilesSpent next)) after found are = tt
+is_told (round_is.Refused cause.Fault) after found are = tt
+is_told (round_is.Refused cause.Memory) after found are = tt
+
+compaction_told : (told : Bool) (h : History) (r : Reply) (round : RoundEnd) (after : At) → r ≡ compact_reply round → TellsBlocks told h (Ok request.Compact) r after → told ≡ true → IsTold round after
+compaction_told told h r round after is tells sure =
+    let all = tells sure in
+    let other = all.0 in
+    is_told round after (subst FoundBlocks (sym (same_round round other.0 (sym is ∙ other.1))) other.2) all.1
+
+untold : (h : History) (item : Item) (r : Reply) (after : At) → TellsBlocks false h item r after
+untold h item r after e = let bad : ⊥ = cc in absurd bad
+
 abbrev pub IsQuery : Item → Type 0
 IsQuery (Ok (request.Trace id)) = ⊤
 IsQuery (Ok (request.Search s)) = ⊤
 IsQuery _ = ⊥
 
-pub line_means : (told : Bool) (item : Item) (before after : At) (r : Reply) (calls : List Call) → (IsQuery item → ⊥) → IsItemAnswered item r calls → CallsLead before calls after
-    → IsAnswered told item before r after
-line_means told (Ok (request.Push reading moment)) before after r calls none (answer, is, are) lead =
+pub line_means : (told : Bool) (item : Item) (before after : At) (r : Reply) (calls : List Call) → (IsQuery item → ⊥) → TellsBlocks told (history_of before) item r after
+    → IsItemAnswered item r calls → CallsLead before calls after → IsAnswered told item before r after
+line_means told (Ok (request.Push reading moment)) before after r calls none tells (answer, is, are) lead =
     (answer, is, by_call (event.Push reading.batch.spans moment) (push_reply answer) before after calls are lead)
-line_means told (Ok (request.Trace id)) before after r calls none a lead = absurd (none tt)
-line_means told (Ok (request.Search s)) before after r calls none a lead = absurd (none tt)
-line_means told (Ok (request.Cut moment)) before after r calls none (answer, is, are) lead =
+line_means told (Ok (request.Trace id)) before after r calls none tells a lead = absurd (none tt)
+line_means told (Ok (request.Search s)) before after r calls none tells a lead = absurd (none tt)
+line_means told (Ok (request.Cut moment)) before after r calls none tells (answer, is, are) lead =
     (answer, is, by_call (event.Cut moment) (count_reply answer) before after calls are lead)
-line_means told (Ok request.CutAll) before after r calls none (answer, is, are) lead =
+line_means told (Ok request.CutAll) before after r calls none tells (answer, is, are) lead =
     (answer, is, by_call event.CutAll (count_reply answer) before after calls are lead)
-line_means told (Ok request.Flush) before after r calls none (round, is, leads) lead = (round, is, round_does calls round before after leads lead)
-line_means told (Err why) before after r calls none a lead =
+line_means told (Ok request.Flush) before after r calls none tells (round, is, leads) lead = (round, is, flush_does calls round before after leads lead)
+line_means told (Ok request.Compact) before after r calls none tells (round, is, leads) lead =
+    (round, is, (compaction_does calls round before after leads lead, compaction_told told (history_of before) r round after is tells))
+line_means told (Ok request.Reclaim) before after r calls none tells (answer, is, are) lead =
+    (answer, is, by_call event.Reclaim (reclaim_reply answer) before after calls are lead)
+line_means told (Err why) before after r calls none tells a lead =
     let s = subst (λ (cs : List Call). CallsLead before cs after) a.1 lead in (a.0, at_same before after s.0 s.1)
 
 pub item_means : (item : Item) (before after : At) (r : Reply) (calls : List Call) → Agrees before.machine → IsItemAnswered item r calls → CallsLead before calls after
     → IsAnsweredOrRefused false item before r after
-item_means (Ok (request.Push reading moment)) before after r calls agrees a lead = inl (line_means false (Ok (request.Push reading moment)) before after r calls (λ q. q) a lead)
+item_means (Ok (request.Push reading moment)) before after r calls agrees a lead = inl (line_means false (Ok (request.Push reading moment)) before after r calls (λ q. q) (untold (history_of before) (Ok (request.Push reading moment)) r after) a lead)
 item_means (Ok (request.Trace id)) before after r calls agrees (answer, is, asked) lead =
     let says = asked_says (IsTraceAnswer id) answer before after calls agrees asked lead in trace_means id before after r answer is says.0 says.1
 item_means (Ok (request.Search s)) before after r calls agrees (answer, is, asked) lead =
     let says = asked_says (IsSearchAnswer (asked_of s)) answer before after calls agrees asked lead in search_means s before after r answer is says.0 says.1
-item_means (Ok (request.Cut moment)) before after r calls agrees a lead = inl (line_means false (Ok (request.Cut moment)) before after r calls (λ q. q) a lead)
-item_means (Ok request.CutAll) before after r calls agrees a lead = inl (line_means false (Ok request.CutAll) before after r calls (λ q. q) a lead)
-item_means (Ok request.Flush) before after r calls agrees a lead = inl (line_means false (Ok request.Flush) before after r calls (λ q. q) a lead)
-item_means (Err why) before after r calls agrees a lead = inl (line_means false (Err why) before after r calls (λ q. q) a lead)
-
--- What is told of the history by the way.
-abbrev pub IsItemTold : History → Item → Reply → Type 0
-IsItemTold h (Ok asked) r = TellsHistory h asked r
-IsItemTold h (Err why) r = ⊤
+item_means (Ok (request.Cut moment)) before after r calls agrees a lead = inl (line_means false (Ok (request.Cut moment)) before after r calls (λ q. q) (untold (history_of before) (Ok (request.Cut moment)) r after) a lead)
+item_means (Ok request.CutAll) before after r calls agrees a lead = inl (line_means false (Ok request.CutAll) before after r calls (λ q. q) (untold (history_of before) (Ok request.CutAll) r after) a lead)
+item_means (Ok request.Flush) before after r calls agrees a lead = inl (line_means false (Ok request.Flush) before after r calls (λ q. q) (untold (history_of before) (Ok request.Flush) r after) a lead)
+item_means (Ok request.Compact) before after r calls agrees a lead = inl (line_means false (Ok request.Compact) before after r calls (λ q. q) (untold (history_of before) (Ok request.Compact) r after) a lead)
+item_means (Ok request.Reclaim) before after r calls agrees a lead = inl (line_means false (Ok request.Reclaim) before after r calls (λ q. q) (untold (history_of before) (Ok request.Reclaim) r after) a lead)
+item_means (Err why) before after r calls agrees a lead = inl (line_means false (Err why) before after r calls (λ q. q) (untold (history_of before) (Err why) r after) a lead)
 
 -- The same where what the blocks hold is told.
 pub item_means_told : (item : Item) (before after : At) (r : Reply) (calls : List Call) → Agrees before.machine → IsItemAnswered item r calls → CallsLead before calls after
-    → IsItemTold (history_of before) item r → IsAnsweredOrRefused true item before r after
-item_means_told (Ok (request.Push reading moment)) before after r calls agrees a lead t = inl (line_means true (Ok (request.Push reading moment)) before after r calls (λ q. q) a lead)
-item_means_told (Ok (request.Trace id)) before after r calls agrees (answer, is, asked) lead (other, also, sound) =
+    → IsItemTold (history_of before) item r → AreCounted after.machine.state.blocks → IsAnsweredOrRefused true item before r after
+item_means_told (Ok (request.Push reading moment)) before after r calls agrees a lead t are = inl (line_means true (Ok (request.Push reading moment)) before after r calls (λ q. q) (λ sure. (t, are)) a lead)
+item_means_told (Ok (request.Trace id)) before after r calls agrees (answer, is, asked) lead (other, also, sound) are =
     let says = asked_says (IsTraceAnswer id) answer before after calls agrees asked lead in trace_told id before after r answer other is says.0 says.1 also sound
-item_means_told (Ok (request.Search s)) before after r calls agrees (answer, is, asked) lead (other, also, sound) =
+item_means_told (Ok (request.Search s)) before after r calls agrees (answer, is, asked) lead (other, also, sound) are =
     let says = asked_says (IsSearchAnswer (asked_of s)) answer before after calls agrees asked lead in search_told s before after r answer other is says.0 says.1 also sound
-item_means_told (Ok (request.Cut moment)) before after r calls agrees a lead t = inl (line_means true (Ok (request.Cut moment)) before after r calls (λ q. q) a lead)
-item_means_told (Ok request.CutAll) before after r calls agrees a lead t = inl (line_means true (Ok request.CutAll) before after r calls (λ q. q) a lead)
-item_means_told (Ok request.Flush) before after r calls agrees a lead t = inl (line_means true (Ok request.Flush) before after r calls (λ q. q) a lead)
-item_means_told (Err why) before after r calls agrees a lead t = inl (line_means true (Err why) before after r calls (λ q. q) a lead)
+item_means_told (Ok (request.Cut moment)) before after r calls agrees a lead t are = inl (line_means true (Ok (request.Cut moment)) before after r calls (λ q. q) (λ sure. (t, are)) a lead)
+item_means_told (Ok request.CutAll) before after r calls agrees a lead t are = inl (line_means true (Ok request.CutAll) before after r calls (λ q. q) (λ sure. (t, are)) a lead)
+item_means_told (Ok request.Flush) before after r calls agrees a lead t are = inl (line_means true (Ok request.Flush) before after r calls (λ q. q) (λ sure. (t, are)) a lead)
+item_means_told (Ok request.Compact) before after r calls agrees a lead t are = inl (line_means true (Ok request.Compact) before after r calls (λ q. q) (λ sure. (t, are)) a lead)
+item_means_told (Ok request.Reclaim) before after r calls agrees a lead t are = inl (line_means true (Ok request.Reclaim) before after r calls (λ q. q) (λ sure. (t, are)) a lead)
+item_means_told (Err why) before after r calls agrees a lead t are = inl (line_means true (Err why) before after r calls (λ q. q) (λ sure. (t, are)) a lead)
 
 -- ---- what an item keeps of the store
 
@@ -245,12 +298,18 @@ item_keeps P keeps told (Ok (request.Cut moment)) before after r (inl (answer, i
 item_keeps P keeps told (Ok request.CutAll) before after r (inl (answer, is, step)) has =
     keeps before.faults after.faults before.machine after.machine event.CutAll (count_reply answer) step.1 has
 item_keeps P keeps told (Ok request.Flush) before after r (inl (round, is, flushed)) has =
-    flush_keeps P (λ f g m m' e x none step had. keeps f g m m' e x step had) before round after flushed has
+    round_keeps P (λ f g m m' e x none step had. keeps f g m m' e x step had) BeginFlush OfFlush before round after flushed has
+item_keeps P keeps told (Ok request.Compact) before after r (inl (round, is, compacted)) has =
+    round_keeps P (λ f g m m' e x none step had. keeps f g m m' e x step had) BeginCompact OfCompaction before round after compacted.0 has
+item_keeps P keeps told (Ok request.Reclaim) before after r (inl (answer, is, step)) has =
+    keeps before.faults after.faults before.machine after.machine event.Reclaim (reclaim_reply answer) step.1 has
 item_keeps P keeps told (Err why) before after r (inl (is, same)) has = subst (λ (at : At). P at.machine) (sym same) has
 item_keeps P keeps told (Ok (request.Push reading moment)) before after r (inr bad) has = absurd bad
 item_keeps P keeps told (Ok (request.Cut moment)) before after r (inr bad) has = absurd bad
 item_keeps P keeps told (Ok request.CutAll) before after r (inr bad) has = absurd bad
 item_keeps P keeps told (Ok request.Flush) before after r (inr bad) has = absurd bad
+item_keeps P keeps told (Ok request.Compact) before after r (inr bad) has = absurd bad
+item_keeps P keeps told (Ok request.Reclaim) before after r (inr bad) has = absurd bad
 item_keeps P keeps told (Err why) before after r (inr bad) has = absurd bad
 
 pub item_keeps_agreeing : (told : Bool) (item : Item) (before after : At) (r : Reply) → IsAnsweredOrRefused told item before r after → Agrees before.machine → Agrees after.machine
@@ -261,7 +320,9 @@ item_keeps_agreeing = item_keeps Agrees (λ f g m m' e r step is. firsts.step_ke
 pushed_closes : (f g : ℕ) (m m' : Machine) (spans : List Span) (moment : ℕ) (r : reply) → Step f g m (event.Push spans moment) r m' → IsClosed m → IsClosed m'
 pushed_closes f g m m' spans moment r step closed =
     kept_by IsClosed f g m m' (event.Push spans moment) r closed (λ writes. let bad : ⊥ = cc in absurd bad) (λ gone free writes. let bad : ⊥ = cc in absurd bad)
-    (λ early done writes. ap (λ (n : Machine). n.state.flush) done.1 ∙ closed (sym (ap (λ (n : Machine). n.read_only) done.1) ∙ writes)) step
+    (λ early done writes.
+    let none = closed (sym (ap (λ (n : Machine). n.read_only) done.1) ∙ writes) in
+    record { flush = ap (λ (n : Machine). n.state.flush) done.1 ∙ none.flush; compaction = ap (λ (n : Machine). n.state.compaction) done.1 ∙ none.compaction }) step
 
 pub item_closes : (told : Bool) (item : Item) (before after : At) (r : Reply) → IsAnsweredOrRefused told item before r after → IsClosed before.machine → IsClosed after.machine
 item_closes told (Ok (request.Push reading moment)) before after r (inl (answer, is, step)) closed =
@@ -276,12 +337,17 @@ item_closes told (Ok (request.Cut moment)) before after r (inl (answer, is, step
 item_closes told (Ok request.CutAll) before after r (inl (answer, is, step)) closed =
     let m = before.machine in
     cut_closes (λ entry. true) m (count_reply answer) after.machine (cuts_all before.faults after.faults m after.machine (count_reply answer) step.1) closed
-item_closes told (Ok request.Flush) before after r (inl (round, is, flushed)) closed = flush_closes before round after flushed closed
+item_closes told (Ok request.Flush) before after r (inl (round, is, flushed)) closed = round_closes BeginFlush OfFlush before round after flushed closed
+item_closes told (Ok request.Compact) before after r (inl (round, is, compacted)) closed = round_closes BeginCompact OfCompaction before round after compacted.0 closed
+item_closes told (Ok request.Reclaim) before after r (inl (answer, is, step)) closed =
+    reclaim_closes before.faults after.faults before.machine after.machine (reclaim_reply answer) step.1 closed
 item_closes told (Err why) before after r (inl (is, same)) closed = subst (λ (at : At). IsClosed at.machine) (sym same) closed
 item_closes told (Ok (request.Push reading moment)) before after r (inr bad) closed = absurd bad
 item_closes told (Ok (request.Cut moment)) before after r (inr bad) closed = absurd bad
 item_closes told (Ok request.CutAll) before after r (inr bad) closed = absurd bad
 item_closes told (Ok request.Flush) before after r (inr bad) closed = absurd bad
+item_closes told (Ok request.Compact) before after r (inr bad) closed = absurd bad
+item_closes told (Ok request.Reclaim) before after r (inr bad) closed = absurd bad
 item_closes told (Err why) before after r (inr bad) closed = absurd bad
 
 -- ---- a session

@@ -19,6 +19,7 @@ use Rattle.session_meaning.specs.Answering.{CallsLead, IsItemAnswered, at_core}
 use Rattle.session_meaning.specs.Progress.{AreAnsweredOver, IsAnsweredOver}
 use Rattle.session_meaning.specs.Session.{IsAnsweredOrRefused, Session}
 use Rattle.session_meaning.proofs.AnswerLaws.{IsItemTold, item_means, item_means_told}
+use Rattle.session_meaning.proofs.Counted.{blocks_counted}
 
 module _ {D : Type 0} (g : Ghosts D) where
   -- One item was answered over a core by calls that lead from a machine to a machine.
@@ -99,4 +100,5 @@ module _ {D : Type 0} (g : Ghosts D) where
     pub since_means : (items : List Item) (replies : List Reply) (first last : Core D) (m : Machine) → TellsSince first m → AreAnsweredOver (port_of g) first items replies last
         → (m' : Machine) × TellsSince last m' × Session true (at_core g first m) items replies (at_core g last m')
     since_means = over_means TellsSince tells_on true
-        (λ old new m item reply since is h. item_means_told item (at_core g old m) (at_core g new h.machine) reply h.calls since.0.stands.agrees h.answered h.lead (item_told old new item reply m since is))
+        (λ old new m item reply since is h. item_means_told item (at_core g old m) (at_core g new h.machine) reply h.calls since.0.stands.agrees h.answered h.lead (item_told old new item reply m since is)
+        (blocks_counted g new h.machine h.stands.0.stands h.stands.1))

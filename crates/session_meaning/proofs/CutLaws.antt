@@ -14,7 +14,7 @@ use Rattle.store_model.specs.State.{LiveRow, flush_rows, live_rows}
 use Rattle.store_model.specs.Step.{IsCut, Machine, Step, with_state}
 use Rattle.store_model.specs.Step.Step.{Sure, Succeeds, Lacks, Unread, Breaks, Halts}
 use Rattle.session_meaning.specs.Upkeep.{IsClosed}
-use Rattle.session_meaning.proofs.FlushLaws.{KeepsRoom, room_itself}
+use Rattle.session_meaning.proofs.RoundRoom.{KeepsRoom, room_itself}
 
 -- The rows that go are moved, or memory was wanted.
 abbrev pub CutsOrLacks : (LiveRow → Bool) → Machine → reply → Machine → Type 0
@@ -48,7 +48,7 @@ moved_room goes m moved are = record {
       let parts = length-filter_both goes (λ entry. not (goes entry)) (λ x. refl) m.state.live in
       omega (arith, joined, went, rows, parts);
   files = omega arith;
-  closed = λ closed. closed;
+  closed = λ closed. record { flush = closed.flush; compaction = closed.compaction };
 }
 
 pub cut_room : (goes : LiveRow → Bool) (m : Machine) (r : reply) (m' : Machine) → CutsOrLacks goes m r m' → KeepsRoom 0 m m'
@@ -57,5 +57,7 @@ cut_room goes m r m' (inr (told, same)) = room_itself 0 m m' same
 
 pub cut_closes : (goes : LiveRow → Bool) (m : Machine) (r : reply) (m' : Machine) → CutsOrLacks goes m r m' → IsClosed m → IsClosed m'
 cut_closes goes m r m' (inl (moved, are, told, leaves)) closed =
-    λ writes. ap (λ (n : Machine). n.state.flush) leaves ∙ closed (sym (ap (λ (n : Machine). n.read_only) leaves) ∙ writes)
+    λ writes.
+    let none = closed (sym (ap (λ (n : Machine). n.read_only) leaves) ∙ writes) in
+    record { flush = ap (λ (n : Machine). n.state.flush) leaves ∙ none.flush; compaction = ap (λ (n : Machine). n.state.compaction) leaves ∙ none.compaction }
 cut_closes goes m r m' (inr (told, same)) closed = subst IsClosed (sym same) closed

@@ -1,9 +1,14 @@
+mod Steps
 mod Looks
 mod QueryLaws
 pub mod Firsts
-mod FlushSteps
+mod RoundSteps
 mod Rounds
+mod RoundLaws
+mod RoundRoom
 mod FlushLaws
+mod CompactLaws
+mod ReclaimLaws
 mod CutLaws
 mod Pushless
 pub mod AnswerLaws
@@ -13,6 +18,7 @@ mod Kept
 mod PushCauses
 mod Room
 mod ReadOnly
+mod Counted
 pub mod CoreSessions
 pub mod EndLaws
 pub mod Unsure

@@ -3,6 +3,8 @@ use Rattle.std.proofs.Common.{◌≡◌, List, [], ◌∷◌, ◌++◌, inl, inr
 use Rattle.std.specs.List.{AllByRecursion}
 use Rattle.span_types.specs.declared.spans.Row.{Row}
 use Rattle.block_info.specs.InfoParts.{InfoParts}
+use Rattle.compactor.specs.Rounds.{IsCompactRound, Leads as CompactLeads, Stage as CompactStage}
+use Rattle.compactor.specs.Rounds.{Leads as joins, Stage as joining}
 use Rattle.flusher.specs.Rounds.{IsFlushRound, Leads, Stage}
 use Rattle.flusher.specs.Rounds.{Leads as leads, Stage as stage}
 use Rattle.query_fanout.specs.BlockReads.{AreRead, ComesOf, IsRead, Stops, StopsAt, StopsWithin, page_reads}
@@ -13,8 +15,9 @@ use Rattle.store_model.specs.Event.Event.{Done}
 use Rattle.store_model.specs.Event.Reply.{Fine}
 use Rattle.store_state.specs.Made.{Call, call}
 use Rattle.store_state.specs.Rounds.{write_cause}
+use Rattle.store_state.specs.declared.rounds.Refusal.TheVariants.{Fault, Memory, NotBlock}
 use Rattle.store_state.specs.declared.rounds.Round.{Round}
-use Rattle.session_meaning.proofs.FlushLaws.{PushesNothing}
+use Rattle.session_meaning.proofs.RoundLaws.{PushesNothing}
 
 abbrev pub PushesNoBatch : Call → Type 0
 PushesNoBatch c = PushesNothing c.event
@@ -38,8 +41,31 @@ pushes_nothing at calls round (leads.unlisted number file size why) = (tt, tt)
 pushes_nothing at calls round (leads.dropped number why) = (tt, tt)
 pushes_nothing at calls round (leads.over last) = tt
 
-pub round_pushes_nothing : (calls : List Call) (round : Round) → IsFlushRound calls round → AllPushNothing calls
-round_pushes_nothing calls round leads = pushes_nothing stage.Fresh calls round leads
+pub flush_pushes_nothing : (calls : List Call) (round : Round) → IsFlushRound calls round → AllPushNothing calls
+flush_pushes_nothing calls round leads = pushes_nothing stage.Fresh calls round leads
+
+joins_nothing : (at : CompactStage) (calls : List Call) (round : Round) → CompactLeads at calls round → AllPushNothing calls
+joins_nothing at calls round joins.nothing = (tt, tt)
+joins_nothing at calls round (joins.no_job why) = (tt, tt)
+joins_nothing at calls round (joins.begun {calls = cs} {round = r} job rest) = (tt, joins_nothing (joining.Reading job [] job.blocks 0 []) cs r rest)
+joins_nothing at calls round (joins.read {calls = cs} {round = r} job parts info infos pages bytes page more rest) =
+    (tt, joins_nothing (joining.Reading job parts (info ∷ infos) (pages + 1) (bytes ++ page)) cs r rest)
+joins_nothing at calls round (joins.unread {calls = cs} {round = r} job parts info infos pages bytes more rest) = (tt, joins_nothing (joining.Failing job.number Fault) cs r rest)
+joins_nothing at calls round (joins.block {calls = cs} {round = r} job parts info infos pages bytes rows all is rest) =
+    joins_nothing (joining.Reading job (parts ++ rows ∷ []) infos 0 []) cs r rest
+joins_nothing at calls round (joins.no_block {calls = cs} {round = r} job parts info infos pages bytes place all is rest) =
+    joins_nothing (joining.Failing job.number (NotBlock info.file place)) cs r rest
+joins_nothing at calls round (joins.starved {calls = cs} {round = r} job parts infos pages bytes rest) = joins_nothing (joining.Failing job.number Memory) cs r rest
+joins_nothing at calls round (joins.built {calls = cs} {round = r} job parts pages read bytes info is rest) = joins_nothing (joining.Writing job bytes info.rows) cs r rest
+joins_nothing at calls round (joins.written {calls = cs} {round = r} job bytes size some rest) = (tt, joins_nothing (joining.Writing job (drop 65536 bytes) size) cs r rest)
+joins_nothing at calls round (joins.unwritten {calls = cs} {round = r} job bytes size why some rest) = (tt, joins_nothing (joining.Failing job.number (write_cause why)) cs r rest)
+joins_nothing at calls round (joins.listed job size) = (tt, tt)
+joins_nothing at calls round (joins.unlisted job size why) = (tt, tt)
+joins_nothing at calls round (joins.dropped number why) = (tt, tt)
+joins_nothing at calls round (joins.over last) = tt
+
+pub compaction_pushes_nothing : (calls : List Call) (round : Round) → IsCompactRound calls round → AllPushNothing calls
+compaction_pushes_nothing calls round leads = joins_nothing joining.Fresh calls round leads
 
 -- ---- a query
 

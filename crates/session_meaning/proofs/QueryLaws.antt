@@ -31,39 +31,7 @@ use Rattle.client_run.specs.CoreRuns.{AreSteps}
 use Rattle.session_meaning.specs.Answering.{CallsLead}
 use Rattle.session_meaning.specs.At.{At, IsStep, IsStill, history_of}
 use Rattle.session_meaning.proofs.Looks.{look_ended, look_refused, look_taken, still_after}
-use Rattle.session_meaning.proofs.Rounds.{first_step, one_step}
-
--- ---- page reads
-
--- a page read changes nothing
-read_still : (f g : ℕ) (m m' : Machine) (pin block page : ℕ) (r : reply) → Step f g m (ReadPage pin block page) r m' → m' ≡ m
-read_still f g m m' pin block page r (Sure told same) = same
-read_still f g m m' pin block page r (Succeeds none done) = done.2
-read_still f g m m' pin block page r (Lacks none takes told same) = same
-read_still f g m m' pin block page r (Unread reads told rose same) = same
-read_still f g m m' pin block page r (Breaks none writes told rose same) = let bad : ⊥ = cc in absurd bad
-read_still f g m m' pin block page r (Halts none reclaims writes told rose emptied fewer same) = let bad : ⊥ = cc in absurd bad
-
--- one is refused for a fault only where the count of faults rose
-read_rose : (f g : ℕ) (m m' : Machine) (pin block page : ℕ) → Step f g m (ReadPage pin block page) (Refused Fault) m' → Rose f g
-read_rose f g m m' pin block page (Sure told same) = let bad : ⊥ = cc in absurd bad
-read_rose f g m m' pin block page (Succeeds none done) = let bad : ⊥ = (let is = done.1 in cc) in absurd bad
-read_rose f g m m' pin block page (Lacks none takes told same) = let bad : ⊥ = cc in absurd bad
-read_rose f g m m' pin block page (Unread reads told rose same) = rose
-read_rose f g m m' pin block page (Breaks none writes told rose same) = rose
-read_rose f g m m' pin block page (Halts none reclaims writes told rose emptied fewer same) = rose
-
-two : (a b c : ℕ) → a ≤ b → b ≤ c → a ≤ c
-two a b c first second = omega (arith, first, second)
-
-still_twice : (a b c : At) → IsStill a b → IsStill b c → IsStill a c
-still_twice a b c first second = (second.0 ∙ first.0, two a.faults b.faults c.faults first.1 second.1)
-
-rose_from : (a b c : ℕ) → a ≤ b → Rose b c → Rose a c
-rose_from a b c earlier rose = omega (arith, earlier, rose)
-
-rose_to : (a b c : ℕ) → Rose a b → b ≤ c → Rose a c
-rose_to a b c rose later = two _ b c rose later
+use Rattle.session_meaning.proofs.Steps.{first_step, one_step, read_rose, read_still, rose_from, rose_to, still_twice, two}
 
 -- calls in two parts
 parted : (before after : At) (front back : List Call) → CallsLead before (front ++ back) after → (mid : At) × CallsLead before front mid × CallsLead mid back after

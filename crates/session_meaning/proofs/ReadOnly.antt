@@ -5,34 +5,16 @@ use Rattle.session_text.specs.declared.reply.Reply.{Reply}
 use Rattle.session_text.specs.declared.request.Request.TheVariants as request
 use Rattle.session_text.specs.Items.{Item}
 use Rattle.store_model.specs.Event.{Event as event, Reply as reply}
-use Rattle.store_model.specs.Event.Event.{BeginCompact, BeginFlush, CommitCompact, CommitFlush, Cut, CutAll, Done, DropCompact, DropFlush, Held, Look, Push, ReadPage, Reclaim, WritePiece}
-use Rattle.store_model.specs.Step.{Happens, Machine, Step}
+use Rattle.store_model.specs.Event.Event.{BeginCompact, BeginFlush, Cut, CutAll, Push, Reclaim}
+use Rattle.store_model.specs.Step.{Machine, Step}
 use Rattle.store_model.specs.Step.Step.{Sure, Succeeds, Lacks, Unread, Breaks, Halts}
-use Rattle.store_state.specs.Replies.{count_reply, push_reply}
+use Rattle.store_state.specs.Replies.{count_reply, push_reply, reclaim_reply}
 use Rattle.session_meaning.specs.At.{At, IsStep, IsStill}
 use Rattle.session_meaning.specs.Session.{IsAnsweredOrRefused, Session}
 use Rattle.session_meaning.specs.Upkeep.{HasFailedSince}
-use Rattle.session_meaning.proofs.FlushLaws.{flush_carries}
-
-abbrev read_only : Machine → Option ℕ
-read_only m = m.read_only
-
-happens_writes : (m m' : Machine) (e : event) (r : reply) → Happens m e r m' → m'.read_only ≡ m.read_only
-happens_writes m m' (Push spans moment) r d = ap read_only d.1
-happens_writes m m' (Cut moment) r d = ap read_only d.3
-happens_writes m m' CutAll r d = ap read_only d.3
-happens_writes m m' Held r d = ap read_only d.1
-happens_writes m m' BeginFlush r d = ap read_only d.1
-happens_writes m m' BeginCompact r d = ap read_only d.3
-happens_writes m m' (WritePiece job file bytes) r d = ap read_only d.1
-happens_writes m m' (CommitFlush number size) r d = ap read_only d.6
-happens_writes m m' (CommitCompact number size) r d = ap read_only d.6
-happens_writes m m' (DropFlush number) r d = ap read_only d.4
-happens_writes m m' (DropCompact number) r d = ap read_only d.4
-happens_writes m m' Look r d = ap read_only d.5
-happens_writes m m' (ReadPage pin block page) r d = ap read_only d.2
-happens_writes m m' (Done pin) r d = ap read_only d.2
-happens_writes m m' Reclaim r d = ap read_only d.1
+use Rattle.session_meaning.proofs.RoundLaws.{round_carries}
+use Rattle.session_meaning.proofs.RoundSteps.IsBegin.{OfCompaction, OfFlush}
+use Rattle.session_meaning.proofs.Steps.{happens_writes, read_only, rose_from, two}
 
 step_fails : (f g : ℕ) (m m' : Machine) (e : event) (r : reply) → Step f g m e r m' → (m'.read_only ≡ m.read_only) ⊎ (Rose f g × (m'.read_only ≡ Some g))
 step_fails f g m m' e r (Sure told same) = inl (ap read_only same)
@@ -41,12 +23,6 @@ step_fails f g m m' e r (Lacks none takes told same) = inl (ap read_only same)
 step_fails f g m m' e r (Unread reads told rose same) = inl (ap read_only same)
 step_fails f g m m' e r (Breaks none writes told rose same) = inr (rose, ap read_only same)
 step_fails f g m m' e r (Halts none reclaims writes told rose emptied fewer same) = inr (rose, ap read_only same)
-
-two : (a b c : ℕ) → a ≤ b → b ≤ c → a ≤ c
-two a b c first second = omega (arith, first, second)
-
-rose_from : (a b c : ℕ) → a ≤ b → Rose b c → Rose a c
-rose_from a b c earlier rose = omega (arith, earlier, rose)
 
 abbrev Since : ℕ → At → Type 0
 Since start at = (start ≤ at.faults) × HasFailedSince start at
@@ -79,8 +55,13 @@ item_since start told (Ok (request.Cut moment)) before after r (inr bad) since =
 item_since start told (Ok request.CutAll) before after r (inl (answer, is, step)) since = by_step start before after CutAll (count_reply answer) step since
 item_since start told (Ok request.CutAll) before after r (inr bad) since = absurd bad
 item_since start told (Ok request.Flush) before after r (inl (round, is, flushed)) since =
-    flush_carries (Since start) (λ b a e x none step has. by_step start b a e x step has) (λ b a still has. by_still start b a still has) before round after flushed since
+    round_carries (Since start) (λ b a e x none step has. by_step start b a e x step has) (λ b a still has. by_still start b a still has) BeginFlush OfFlush before round after flushed since
 item_since start told (Ok request.Flush) before after r (inr bad) since = absurd bad
+item_since start told (Ok request.Compact) before after r (inl (round, is, compacted)) since =
+    round_carries (Since start) (λ b a e x none step has. by_step start b a e x step has) (λ b a still has. by_still start b a still has) BeginCompact OfCompaction before round after compacted.0 since
+item_since start told (Ok request.Compact) before after r (inr bad) since = absurd bad
+item_since start told (Ok request.Reclaim) before after r (inl (answer, is, step)) since = by_step start before after Reclaim (reclaim_reply answer) step since
+item_since start told (Ok request.Reclaim) before after r (inr bad) since = absurd bad
 item_since start told (Err why) before after r (inl (is, same)) since = subst (Since start) (sym same) since
 item_since start told (Err why) before after r (inr bad) since = absurd bad
 

@@ -1,5 +1,5 @@
 -- A store that has room refuses nothing but for memory, as long as its disk doesn't fail.
-use Rattle.std.proofs.Common.{rules, ◌≡◌, inl, inr, ◌∙◌, ℕ, ◌+◌, ◌*◌, ◌<◌, ◌≤◌, ◌||◌, suc, nat_le, nat_lt, Bool, true, false, List, [], ◌∷◌, ◌++◌, Option, None, Result, Ok, Err, ap, arith, length, length-append, refl, sym, subst, le_trans}
+use Rattle.std.proofs.Common.{rules, ◌≡◌, ◌⊎◌, inl, inr, ◌∙◌, ℕ, ◌+◌, ◌*◌, ◌<◌, ◌≤◌, ◌||◌, suc, nat_le, nat_lt, Bool, true, false, List, [], ◌∷◌, ◌++◌, Option, None, Result, Ok, Err, ap, arith, length, length-append, refl, sym, subst}
 use Rattle.std.specs.List.{list_any}
 use Rattle.std.proofs.lemmas.List.{length-map}
 use Rattle.span_types.specs.Faults.{Rose}
@@ -9,42 +9,44 @@ use Rattle.otlp_spans.specs.declared.read.Reading.{Reading}
 use Rattle.session_text.specs.declared.refusal.Refusal.{Refusal}
 use Rattle.session_text.specs.declared.refusal.Refusal.TheVariants as refusal
 use Rattle.session_text.specs.declared.reply.Reply.{Reply}
-use Rattle.session_text.specs.declared.reply.Reply.TheVariants.{Cut, CutAll}
+use Rattle.session_text.specs.declared.reply.Reply.TheVariants.{Compacted, Cut, CutAll, Flushed, NothingCompacted, NothingFlushed}
 use Rattle.session_text.specs.declared.request.Request.TheVariants as request
 use Rattle.session_text.specs.Items.{Item}
 use Rattle.store_model.specs.After.{arrived}
 use Rattle.store_model.specs.Event.{Reply as reply, Refusal as cause}
-use Rattle.store_model.specs.Event.Event.{Push}
+use Rattle.store_model.specs.Event.Event.{BeginCompact, BeginFlush, Push}
 use Rattle.store_model.specs.Event.Reply.{Count, Refused}
 use Rattle.store_model.specs.History.{batch_rows, count_of, pushed, rows_at}
 use Rattle.store_model.specs.State.{State, flush_rows, held_of}
 use Rattle.store_model.specs.Step.{Machine, Step, early, if_full, if_read_only, if_test}
 use Rattle.store_model.specs.Step.Step.{Sure, Succeeds, Lacks, Unread, Breaks, Halts}
 use Rattle.store_images.proofs.Growing.{count_of-pushed}
-use Rattle.store_state.specs.Replies.{count_reply, push_refusal, push_reply}
+use Rattle.store_state.specs.Replies.{count_reply, push_refusal, push_reply, reclaim_refusal, reclaim_reply}
 use Rattle.store_state.specs.declared.errors.PushError.{PushError}
 use Rattle.store_state.specs.declared.errors.PushError.TheVariants as push
+use Rattle.store_state.specs.declared.errors.ReclaimError.{ReclaimError}
+use Rattle.store_state.specs.declared.errors.ReclaimError.TheVariants as reclaim
 use Rattle.span_types.specs.declared.errors.Memory.{Memory}
 use Rattle.store_model.specs.Cut.{is_idle}
 use Rattle.store_state.specs.declared.rounds.Refusal.TheVariants as round_refusal
 use Rattle.store_state.specs.declared.rounds.Round.{Round}
 use Rattle.store_state.specs.declared.rounds.Round.TheVariants.{Did, Nothing, Refused as RoundRefused}
-use Rattle.client_run.specs.Answers.{cut_reply, flush_reply, pushed_reply}
+use Rattle.client_run.specs.Answers.{compact_reply, cut_reply, flush_reply, pushed_reply, reclaimed_reply, round_reply}
 use Rattle.session_meaning.specs.Causes.{HasQueryCause}
-use Rattle.session_meaning.specs.Flushed.{IsDoneOrStarved, IsFlushed}
-use Rattle.session_meaning.specs.Pushes.{HasRoomFor, flushes_in}
+use Rattle.session_meaning.specs.Rounds.{IsCompacted, IsDoneOrStarved, IsFlushed}
+use Rattle.session_meaning.specs.Upkeep.{HasNoJob}
+use Rattle.session_meaning.specs.Pushes.{HasRoomFor, rounds_in}
 use Rattle.session_meaning.specs.At.{At}
 use Rattle.session_meaning.specs.Session.{IsAnsweredOrRefused, Session, is_for_other, is_refusal, is_refused}
 use Rattle.session_meaning.proofs.CutLaws.{cut_room, cuts_all, cuts_idle}
-use Rattle.session_meaning.proofs.FlushLaws.{KeepsRoom, flush_later, flush_without_faults, room_itself}
+use Rattle.session_meaning.proofs.CompactLaws.{compaction_without_faults}
+use Rattle.session_meaning.proofs.FlushLaws.{flush_without_faults}
+use Rattle.session_meaning.proofs.ReclaimLaws.{reclaim_room}
+use Rattle.session_meaning.proofs.RoundLaws.{round_later}
+use Rattle.session_meaning.proofs.RoundRoom.{KeepsRoom, room_itself}
+use Rattle.session_meaning.proofs.Steps.{rose_from, rose_to}
 
 -- ---- counts of faults
-
-rose_to : (a b c : ℕ) → Rose a b → b ≤ c → Rose a c
-rose_to a b c rose later = le_trans rose later
-
-rose_from : (a b c : ℕ) → a ≤ b → Rose b c → Rose a c
-rose_from a b c earlier rose = omega (arith, earlier, rose)
 
 item_later : (told : Bool) (item : Item) (before after : At) (r : Reply) → IsAnsweredOrRefused told item before r after → before.faults ≤ after.faults
 item_later told (Ok (request.Push reading moment)) before after r (inl (answer, is, step)) = step.0
@@ -57,8 +59,12 @@ item_later told (Ok (request.Cut moment)) before after r (inl (answer, is, step)
 item_later told (Ok (request.Cut moment)) before after r (inr bad) = absurd bad
 item_later told (Ok request.CutAll) before after r (inl (answer, is, step)) = step.0
 item_later told (Ok request.CutAll) before after r (inr bad) = absurd bad
-item_later told (Ok request.Flush) before after r (inl (round, is, flushed)) = flush_later before round after flushed
+item_later told (Ok request.Flush) before after r (inl (round, is, flushed)) = round_later BeginFlush before round after flushed
 item_later told (Ok request.Flush) before after r (inr bad) = absurd bad
+item_later told (Ok request.Compact) before after r (inl (round, is, compacted)) = round_later BeginCompact before round after compacted.0
+item_later told (Ok request.Compact) before after r (inr bad) = absurd bad
+item_later told (Ok request.Reclaim) before after r (inl (answer, is, step)) = step.0
+item_later told (Ok request.Reclaim) before after r (inr bad) = absurd bad
 item_later told (Err why) before after r (inl (is, same)) = let e = ap (λ (at : At). at.faults) same in omega (arith, e)
 item_later told (Err why) before after r (inr bad) = absurd bad
 
@@ -92,7 +98,7 @@ unsure m spans moment writes pushes rows =
 -- it is accepted, or memory is wanted
 data Taken (spans : List Span) (moment : ℕ) (m : Machine) (r : reply) (m' : Machine) : Type 0 where
   kept : r ≡ Count (count_of m.history) → m'.history ≡ pushed m.history spans → m'.read_only ≡ m.read_only
-      → held_of m'.state ≡ held_of m.state + length spans → m'.state.next_file ≡ m.state.next_file → m'.state.flush ≡ m.state.flush → Taken spans moment m r m'
+      → held_of m'.state ≡ held_of m.state + length spans → m'.state.next_file ≡ m.state.next_file → (HasNoJob m → HasNoJob m') → Taken spans moment m r m'
   starved : r ≡ Refused cause.Memory → m' ≡ m → Taken spans moment m r m'
 
 length_rows_at : (n p : ℕ) (spans : List Span) → length (rows_at n p spans) ≡ length spans
@@ -112,7 +118,8 @@ taken f g m m' spans moment r early well (Sure told same) = let bad : ⊥ = cc i
 taken f g m m' spans moment r early well (Succeeds none done) =
     kept done.0 (ap (λ (n : Machine). n.history) done.1) (ap (λ (n : Machine). n.read_only) done.1)
     (ap (λ (n : Machine). held_of n.state) done.1 ∙ more_held m.state (count_of m.history) moment spans)
-    (ap (λ (n : Machine). n.state.next_file) done.1) (ap (λ (n : Machine). n.state.flush) done.1)
+    (ap (λ (n : Machine). n.state.next_file) done.1)
+    (λ no. record { flush = ap (λ (n : Machine). n.state.flush) done.1 ∙ no.flush; compaction = ap (λ (n : Machine). n.state.compaction) done.1 ∙ no.compaction })
 taken f g m m' spans moment r early well (Lacks none takes told same) = starved told same
 taken f g m m' spans moment r early well (Unread reads told rose same) = absurd (well rose)
 taken f g m m' spans moment r early well (Breaks none writes told rose same) = absurd (well rose)
@@ -145,7 +152,7 @@ starved_plain reading (Err why) e = memory_plain reading why (same_cause (push_r
 abbrev GoesOn : Reply → List Item → Machine → Type 0
 GoesOn r items m = IsPlain r × HasRoomFor items m
 
-still_room : (item : Item) (items : List Item) (m m' : Machine) → KeepsRoom (2 * flushes_in item) m m' → HasRoomFor (item ∷ items) m → HasRoomFor items m'
+still_room : (item : Item) (items : List Item) (m m' : Machine) → KeepsRoom (2 * rounds_in item) m m' → HasRoomFor (item ∷ items) m → HasRoomFor items m'
 still_room item items m m' keeps room = record {
   writes = keeps.writes ∙ room.writes;
   pushes = let all = room.pushes in let count = ap count_of keeps.history in omega (arith, all, count);
@@ -155,18 +162,18 @@ still_room item items m m' keeps room = record {
 }
 
 same_room : (item : Item) (items : List Item) (m m' : Machine) → m' ≡ m → HasRoomFor (item ∷ items) m → HasRoomFor items m'
-same_room item items m m' same room = still_room item items m m' (room_itself (2 * flushes_in item) m m' same) room
+same_room item items m m' same room = still_room item items m m' (room_itself (2 * rounds_in item) m m' same) room
 
 push_goes_on : (reading : Reading) (moment : ℕ) (items : List Item) (m m' : Machine) (answer : Result ℕ PushError) → HasRoomFor (Ok (request.Push reading moment) ∷ items) m
     → Taken reading.batch.spans moment m (push_reply answer) m' → GoesOn (pushed_reply reading answer) items m'
-push_goes_on reading moment items m m' answer room (kept told history writes rows files flush) = (
+push_goes_on reading moment items m m' answer room (kept told history writes rows files closed) = (
   count_plain reading answer (count_of m.history) told,
   record {
     writes = writes ∙ room.writes;
     pushes = let all = room.pushes in let count = ap count_of history ∙ count_of-pushed m.history reading.batch.spans in omega (arith, all, count);
     rows = let all = room.rows in omega (arith, all, rows);
     files = let all = room.files in omega (arith, all, files);
-    closed = flush ∙ room.closed;
+    closed = closed room.closed;
   },
 )
 push_goes_on reading moment items m m' answer room (starved told same) =
@@ -176,21 +183,38 @@ cut_plain : (tells : ℕ → Reply) (answer : Result ℕ Memory) → ((moved : �
 cut_plain tells (Ok moved) plain = plain moved
 cut_plain tells (Err e) plain = refl
 
-flush_plain : (round : Round) → IsDoneOrStarved round → IsPlain (flush_reply round)
-flush_plain (Did blocks rows) done = refl
-flush_plain Nothing done = refl
-flush_plain (RoundRefused round_refusal.Memory) done = refl
-flush_plain (RoundRefused (round_refusal.ReadOnly faults)) done = absurd done
-flush_plain (RoundRefused (round_refusal.Busy job)) done = absurd done
-flush_plain (RoundRefused (round_refusal.FilesSpent next)) done = absurd done
-flush_plain (RoundRefused round_refusal.Fault) done = absurd done
-flush_plain (RoundRefused (round_refusal.NotBlock file at)) done = absurd done
+round_plain : (did : ℕ → ℕ → Reply) (nothing : Reply) (round : Round) → ((blocks rows : ℕ) → IsPlain (did blocks rows)) → IsPlain nothing → IsDoneOrStarved round
+    → IsPlain (round_reply did nothing round)
+round_plain did nothing (Did blocks rows) plain idle done = plain blocks rows
+round_plain did nothing Nothing plain idle done = idle
+round_plain did nothing (RoundRefused round_refusal.Memory) plain idle done = refl
+round_plain did nothing (RoundRefused (round_refusal.ReadOnly faults)) plain idle done = absurd done
+round_plain did nothing (RoundRefused (round_refusal.Busy job)) plain idle done = absurd done
+round_plain did nothing (RoundRefused (round_refusal.FilesSpent next)) plain idle done = absurd done
+round_plain did nothing (RoundRefused round_refusal.Fault) plain idle done = absurd done
+round_plain did nothing (RoundRefused (round_refusal.NotBlock file at)) plain idle done = absurd done
 
 flush_goes_on : (round : Round) (items : List Item) (before after : At) → IsFlushed before round after → (Rose before.faults after.faults → ⊥)
     → HasRoomFor (Ok request.Flush ∷ items) before.machine → GoesOn (flush_reply round) items after.machine
 flush_goes_on round items before after flushed well room =
     let on = flush_without_faults before round after flushed well room.writes (λ writes. room.closed) (let most = room.files in omega (arith, most)) in
-    (flush_plain round on.0, still_room (Ok request.Flush) items before.machine after.machine on.1 room)
+    (round_plain (λ blocks rows. Flushed rows) NothingFlushed round (λ blocks rows. refl) refl on.0, still_room (Ok request.Flush) items before.machine after.machine on.1 room)
+
+compaction_goes_on : (round : Round) (items : List Item) (before after : At) → IsCompacted true before round after → (Rose before.faults after.faults → ⊥)
+    → HasRoomFor (Ok request.Compact ∷ items) before.machine → GoesOn (compact_reply round) items after.machine
+compaction_goes_on round items before after compacted well room =
+    let on = compaction_without_faults before round after compacted well room.writes (λ writes. room.closed) (let most = room.files in omega (arith, most)) in
+    (round_plain Compacted NothingCompacted round (λ blocks rows. refl) refl on.0, still_room (Ok request.Compact) items before.machine after.machine on.1 room)
+
+reclaim_memory : (why : ReclaimError) → reclaim_refusal why ≡ cause.Memory → IsPlain (reclaimed_reply (Err why))
+reclaim_memory (reclaim.ReadOnly faults) e = let bad : ⊥ = cc in absurd bad
+reclaim_memory reclaim.Fault e = let bad : ⊥ = cc in absurd bad
+reclaim_memory reclaim.Memory e = refl
+
+reclaim_plain : (answer : Result ℕ ReclaimError) → ((n : ℕ) × (reclaim_reply answer ≡ Count n)) ⊎ (reclaim_reply answer ≡ Refused cause.Memory) → IsPlain (reclaimed_reply answer)
+reclaim_plain (Ok files) so = refl
+reclaim_plain (Err why) (inl (n, e)) = let bad : ⊥ = cc in absurd bad
+reclaim_plain (Err why) (inr e) = reclaim_memory why (same_cause (reclaim_refusal why) cause.Memory e)
 
 query_plain : (why : Refusal) (before after : At) → HasQueryCause true why before after → (Rose before.faults after.faults → ⊥) → is_for_other why ≡ false
 query_plain refusal.Memory before after cause well = refl
@@ -249,6 +273,13 @@ item_goes_on (Ok request.CutAll) items before after r (inr bad) well none room =
 item_goes_on (Ok request.Flush) items before after r (inl (round, is, flushed)) well none room =
     let on = flush_goes_on round items before after flushed well room in (subst IsPlain (sym is) on.0, on.1)
 item_goes_on (Ok request.Flush) items before after r (inr bad) well none room = absurd bad
+item_goes_on (Ok request.Compact) items before after r (inl (round, is, compacted)) well none room =
+    let on = compaction_goes_on round items before after compacted well room in (subst IsPlain (sym is) on.0, on.1)
+item_goes_on (Ok request.Compact) items before after r (inr bad) well none room = absurd bad
+item_goes_on (Ok request.Reclaim) items before after r (inl (answer, is, step)) well none room =
+    let on = reclaim_room before.faults after.faults before.machine after.machine (reclaim_reply answer) well room.writes step.1 in
+    (subst IsPlain (sym is) (reclaim_plain answer on.0), still_room (Ok request.Reclaim) items before.machine after.machine on.1 room)
+item_goes_on (Ok request.Reclaim) items before after r (inr bad) well none room = absurd bad
 item_goes_on (Err why) items before after r (inl (is, same)) well none room =
     (ap is_refusal is ∙ none, same_room (Err why) items before.machine after.machine (ap (λ (at : At). at.machine) same) room)
 item_goes_on (Err why) items before after r (inr bad) well none room = absurd bad

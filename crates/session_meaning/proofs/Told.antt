@@ -4,27 +4,30 @@ use Rattle.std.specs.List.{Contains}
 use Rattle.span_types.specs.declared.spans.Span.{Span}
 use Rattle.otlp_spans.specs.declared.read.Reading.{Reading}
 use Rattle.session_text.specs.declared.reply.Reply.{Reply}
-use Rattle.session_text.specs.declared.reply.Reply.TheVariants.{Cut, CutAll, Pushed, Refused, Searched, Traced}
+use Rattle.session_text.specs.declared.reply.Reply.TheVariants.{Compacted, Cut, CutAll, Flushed, NothingCompacted, NothingFlushed, Pushed, Reclaimed, Refused, Searched, Traced}
 use Rattle.session_text.specs.declared.request.Request.TheVariants as request
 use Rattle.session_text.specs.Items.{Item}
 use Rattle.store_model.specs.Event.{Event as event}
+use Rattle.store_model.specs.Event.Event.{BeginCompact, BeginFlush}
 use Rattle.store_model.specs.History.{History, count_of, grown}
 use Rattle.store_model.specs.Step.{Machine}
 use Rattle.store_model.specs.Told.{TellsLength, history_after}
 use Rattle.store_model.proofs.TellsHistory.{step_tells}
 use Rattle.store_images.proofs.Growing.{count_of-pushed}
-use Rattle.store_state.specs.Replies.{count_reply, push_reply}
+use Rattle.store_state.specs.Replies.{count_reply, push_reply, reclaim_reply}
 use Rattle.store_state.specs.declared.errors.PushError.{PushError}
+use Rattle.store_state.specs.declared.errors.ReclaimError.{ReclaimError}
 use Rattle.store_state.specs.declared.rounds.Round.{Round}
 use Rattle.store_state.specs.declared.rounds.Round.TheVariants.{Did, Nothing, Refused as RoundRefused}
 use Rattle.traceql_syntax.specs.Trees.{query_tree}
 use Rattle.search_text.specs.Fields.{printed_fields}
 use Rattle.span_types.specs.declared.errors.Memory.{Memory}
-use Rattle.client_run.specs.Answers.{cut_reply, flush_reply, pushed_reply}
+use Rattle.client_run.specs.Answers.{compact_reply, cut_reply, flush_reply, pushed_reply, reclaimed_reply, round_reply}
 use Rattle.session_meaning.specs.Pushes.{accepted_batch, accepted_batches, known_pushes}
 use Rattle.session_meaning.specs.At.{At, history_of}
 use Rattle.session_meaning.specs.Session.{IsAnsweredOrRefused, Session}
-use Rattle.session_meaning.proofs.FlushLaws.{flush_history}
+use Rattle.session_meaning.proofs.RoundLaws.{round_history}
+use Rattle.session_meaning.proofs.RoundSteps.IsBegin.{OfCompaction, OfFlush}
 
 -- ---- the last history
 
@@ -65,8 +68,15 @@ item_grows told (Ok request.CutAll) before after r (inl (answer, is, step)) =
     (step_tells before.faults after.faults before.machine after.machine event.CutAll (count_reply answer) step.1).0
 item_grows told (Ok request.CutAll) before after r (inr bad) = absurd bad
 item_grows told (Ok request.Flush) before after r (inl (round, is, flushed)) =
-    history_grown before after (accepted_batch (Ok request.Flush) r) refl (flush_history before round after flushed)
+    history_grown before after (accepted_batch (Ok request.Flush) r) refl (round_history BeginFlush OfFlush before round after flushed)
 item_grows told (Ok request.Flush) before after r (inr bad) = absurd bad
+item_grows told (Ok request.Compact) before after r (inl (round, is, compacted)) =
+    history_grown before after (accepted_batch (Ok request.Compact) r) refl (round_history BeginCompact OfCompaction before round after compacted.0)
+item_grows told (Ok request.Compact) before after r (inr bad) = absurd bad
+item_grows told (Ok request.Reclaim) before after r (inl (answer, is, step)) =
+    history_grown before after (accepted_batch (Ok request.Reclaim) r) refl
+    (step_tells before.faults after.faults before.machine after.machine event.Reclaim (reclaim_reply answer) step.1).0
+item_grows told (Ok request.Reclaim) before after r (inr bad) = absurd bad
 item_grows told (Err why) before after r (inl (is, same)) = still_grown before after (accepted_batch (Err why) r) refl (ap (λ (at : At). at.machine) same)
 item_grows told (Err why) before after r (inr bad) = absurd bad
 
@@ -107,10 +117,15 @@ cut_unknown : (tells : ℕ → Reply) (answer : Result ℕ Memory) (n : ℕ) →
 cut_unknown tells (Ok moved) n none e = none_some n (sym (none moved) ∙ e)
 cut_unknown tells (Err memory) n none e = none_some n e
 
-flush_unknown : (round : Round) (n : ℕ) → known_pushes (flush_reply round) ≡ Some n → ⊥
-flush_unknown (Did blocks rows) n e = none_some n e
-flush_unknown Nothing n e = none_some n e
-flush_unknown (RoundRefused why) n e = none_some n e
+round_unknown : (did : ℕ → ℕ → Reply) (nothing : Reply) (round : Round) (n : ℕ) → ((blocks rows : ℕ) → known_pushes (did blocks rows) ≡ None) → known_pushes nothing ≡ None
+    → known_pushes (round_reply did nothing round) ≡ Some n → ⊥
+round_unknown did nothing (Did blocks rows) n none idle e = none_some n (sym (none blocks rows) ∙ e)
+round_unknown did nothing Nothing n none idle e = none_some n (sym idle ∙ e)
+round_unknown did nothing (RoundRefused why) n none idle e = none_some n e
+
+reclaim_unknown : (answer : Result ℕ ReclaimError) (n : ℕ) → known_pushes (reclaimed_reply answer) ≡ Some n → ⊥
+reclaim_unknown (Ok files) n e = none_some n e
+reclaim_unknown (Err why) n e = none_some n e
 
 -- A query that is answered knows of just the pushes before it.
 pub item_knows : (told : Bool) (item : Item) (before after : At) (r : Reply) (n : ℕ) → IsAnsweredOrRefused told item before r after → known_pushes r ≡ Some n
@@ -129,8 +144,15 @@ item_knows told (Ok (request.Cut moment)) before after r n (inr bad) known = abs
 item_knows told (Ok request.CutAll) before after r n (inl (answer, is, step)) known =
     absurd (cut_unknown CutAll answer n (λ moved. refl) (by_reply r (cut_reply CutAll answer) n known is))
 item_knows told (Ok request.CutAll) before after r n (inr bad) known = absurd bad
-item_knows told (Ok request.Flush) before after r n (inl (round, is, flushed)) known = absurd (flush_unknown round n (by_reply r (flush_reply round) n known is))
+item_knows told (Ok request.Flush) before after r n (inl (round, is, flushed)) known =
+    absurd (round_unknown (λ blocks rows. Flushed rows) NothingFlushed round n (λ blocks rows. refl) refl (by_reply r (flush_reply round) n known is))
 item_knows told (Ok request.Flush) before after r n (inr bad) known = absurd bad
+item_knows told (Ok request.Compact) before after r n (inl (round, is, compacted)) known =
+    absurd (round_unknown Compacted NothingCompacted round n (λ blocks rows. refl) refl (by_reply r (compact_reply round) n known is))
+item_knows told (Ok request.Compact) before after r n (inr bad) known = absurd bad
+item_knows told (Ok request.Reclaim) before after r n (inl (answer, is, step)) known =
+    absurd (reclaim_unknown answer n (by_reply r (reclaimed_reply answer) n known is))
+item_knows told (Ok request.Reclaim) before after r n (inr bad) known = absurd bad
 item_knows told (Err why) before after r n (inl (is, same)) known = absurd (none_some n (by_reply r (Refused why) n known is))
 item_knows told (Err why) before after r n (inr bad) known = absurd bad
 
@@ -154,10 +176,15 @@ not_pushed : (tells : ℕ → Reply) (answer : Result ℕ Memory) (number kept r
 not_pushed tells (Ok moved) number kept rejected skipped none e = none moved e
 not_pushed tells (Err memory) number kept rejected skipped none e = cc
 
-not_flushed : (round : Round) (number kept rejected skipped : ℕ) → Pushed number kept rejected skipped ≡ flush_reply round → ⊥
-not_flushed (Did blocks rows) number kept rejected skipped e = cc
-not_flushed Nothing number kept rejected skipped e = cc
-not_flushed (RoundRefused why) number kept rejected skipped e = cc
+not_round : (did : ℕ → ℕ → Reply) (nothing : Reply) (round : Round) (number kept rejected skipped : ℕ) → ((blocks rows : ℕ) → Pushed number kept rejected skipped ≡ did blocks rows → ⊥)
+    → (Pushed number kept rejected skipped ≡ nothing → ⊥) → Pushed number kept rejected skipped ≡ round_reply did nothing round → ⊥
+not_round did nothing (Did blocks rows) number kept rejected skipped none idle e = none blocks rows e
+not_round did nothing Nothing number kept rejected skipped none idle e = idle e
+not_round did nothing (RoundRefused why) number kept rejected skipped none idle e = cc
+
+not_reclaimed : (answer : Result ℕ ReclaimError) (number kept rejected skipped : ℕ) → Pushed number kept rejected skipped ≡ reclaimed_reply answer → ⊥
+not_reclaimed (Ok files) number kept rejected skipped e = cc
+not_reclaimed (Err why) number kept rejected skipped e = cc
 
 -- A push that is accepted is told how many came before it, and there is then one more.
 pub push_numbers : (told : Bool) (item : Item) (before after : At) (number kept rejected skipped : ℕ) → IsAnsweredOrRefused told item before (Pushed number kept rejected skipped) after
@@ -182,8 +209,14 @@ push_numbers told (Ok (request.Cut moment)) before after number kept rejected sk
 push_numbers told (Ok request.CutAll) before after number kept rejected skipped (inl (answer, is, step)) =
     absurd (not_pushed CutAll answer number kept rejected skipped (λ moved e. cc) is)
 push_numbers told (Ok request.CutAll) before after number kept rejected skipped (inr bad) = absurd bad
-push_numbers told (Ok request.Flush) before after number kept rejected skipped (inl (round, is, flushed)) = absurd (not_flushed round number kept rejected skipped is)
+push_numbers told (Ok request.Flush) before after number kept rejected skipped (inl (round, is, flushed)) =
+    absurd (not_round (λ blocks rows. Flushed rows) NothingFlushed round number kept rejected skipped (λ blocks rows e. cc) (λ e. cc) is)
 push_numbers told (Ok request.Flush) before after number kept rejected skipped (inr bad) = absurd bad
+push_numbers told (Ok request.Compact) before after number kept rejected skipped (inl (round, is, compacted)) =
+    absurd (not_round Compacted NothingCompacted round number kept rejected skipped (λ blocks rows e. cc) (λ e. cc) is)
+push_numbers told (Ok request.Compact) before after number kept rejected skipped (inr bad) = absurd bad
+push_numbers told (Ok request.Reclaim) before after number kept rejected skipped (inl (answer, is, step)) = absurd (not_reclaimed answer number kept rejected skipped is)
+push_numbers told (Ok request.Reclaim) before after number kept rejected skipped (inr bad) = absurd bad
 push_numbers told (Err why) before after number kept rejected skipped (inl (is, same)) = let bad : ⊥ = cc in absurd bad
 push_numbers told (Err why) before after number kept rejected skipped (inr bad) = absurd bad
 

@@ -8,10 +8,10 @@ use Rattle.session_text.specs.declared.reply.Reply.TheVariants as told
 use Rattle.session_text.specs.declared.request.Request.TheVariants as request
 use Rattle.session_text.specs.Items.{Item}
 use Rattle.store_model.specs.Event.{Event, Reply as reply}
-use Rattle.store_model.specs.Event.Event.{Cut, CutAll, Push}
+use Rattle.store_model.specs.Event.Event.{Cut, CutAll, Push, Reclaim}
 use Rattle.store_model.specs.Event.Reply.{Refused}
 use Rattle.store_model.specs.Event.Refusal.{Fault}
-use Rattle.store_state.specs.Replies.{count_reply, push_reply}
+use Rattle.store_state.specs.Replies.{count_reply, push_reply, reclaim_reply}
 use Rattle.store_state.specs.declared.errors.PushError.{PushError}
 use Rattle.store_state.specs.declared.errors.PushError.TheVariants as push
 use Rattle.store_core.specs.Events.{unsure_after}
@@ -21,8 +21,8 @@ use Rattle.client_run.specs.Answers.{asked_of, pushed_reply}
 use Rattle.store_state.specs.Made.{Call, call}
 use Rattle.session_meaning.specs.Answering.{AreItemsAnswered, IsItemAnswered}
 use Rattle.session_meaning.specs.Pushes.{unsure_batch, unsure_or}
-use Rattle.session_meaning.proofs.FlushLaws.{PushesNothing}
-use Rattle.session_meaning.proofs.Pushless.{AllPushNothing, query_pushes_nothing, round_pushes_nothing}
+use Rattle.session_meaning.proofs.RoundLaws.{PushesNothing}
+use Rattle.session_meaning.proofs.Pushless.{AllPushNothing, compaction_pushes_nothing, flush_pushes_nothing, query_pushes_nothing}
 
 abbrev Batch : Type 0
 Batch = Option (List Span)
@@ -89,7 +89,10 @@ module _ (after : List Call → Batch → Batch) (none : (u : Batch) → after [
       ap (λ (cs : List Call). after cs u) are ∙ upkeep_unsure (call (Cut moment) (count_reply answer) ∷ []) u (tt, tt) ∙ first_none u
   item_unsure (Ok request.CutAll) r calls u (answer, told, are) =
       ap (λ (cs : List Call). after cs u) are ∙ upkeep_unsure (call CutAll (count_reply answer) ∷ []) u (tt, tt) ∙ first_none u
-  item_unsure (Ok request.Flush) r calls u (round, told, leads) = upkeep_unsure calls u (round_pushes_nothing calls round leads) ∙ first_none u
+  item_unsure (Ok request.Flush) r calls u (round, told, leads) = upkeep_unsure calls u (flush_pushes_nothing calls round leads) ∙ first_none u
+  item_unsure (Ok request.Compact) r calls u (round, told, leads) = upkeep_unsure calls u (compaction_pushes_nothing calls round leads) ∙ first_none u
+  item_unsure (Ok request.Reclaim) r calls u (answer, told, are) =
+      ap (λ (cs : List Call). after cs u) are ∙ upkeep_unsure (call Reclaim (reclaim_reply answer) ∷ []) u (tt, tt) ∙ first_none u
   item_unsure (Err why) r calls u a = ap (λ (cs : List Call). after cs u) a.1 ∙ none u ∙ first_none u
 
   pub items_unsure : (items : List Item) (replies : List Reply) (calls : List Call) (u : Batch) → AreItemsAnswered items replies calls

@@ -1,7 +1,7 @@
 pub mod At
 pub mod Asked
 pub mod Statuses
-pub mod Flushed
+pub mod Rounds
 pub mod Upkeep
 pub mod Session
 pub mod Pushes

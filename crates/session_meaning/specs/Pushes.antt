@@ -1,7 +1,7 @@
 -- What the replies of a session tell of its pushes.
 use Rattle.std.specs.Prelude.{◌≡◌, ℕ, ◌+◌, ◌*◌, ◌<◌, ◌≤◌, List, [], ◌∷◌, ◌++◌, length, Option, Some, None, Ok}
 use Rattle.span_types.specs.declared.spans.Span.{Span}
-use Rattle.session_text.specs.declared.request.Request.TheVariants.{Flush, Push}
+use Rattle.session_text.specs.declared.request.Request.TheVariants.{Compact, Flush, Push}
 use Rattle.session_text.specs.declared.refusal.Refusal.TheVariants.{DiskFault}
 use Rattle.session_text.specs.declared.reply.Reply.{Reply}
 use Rattle.session_text.specs.declared.reply.Reply.TheVariants.{Pushed, Traced, Searched, Refused}
@@ -9,6 +9,7 @@ use Rattle.session_text.specs.Items.{Item}
 use Rattle.store_model.specs.History.{count_of}
 use Rattle.store_model.specs.State.{held_of}
 use Rattle.store_model.specs.Step.{Machine}
+use Rattle.session_meaning.specs.Upkeep.{HasNoJob}
 
 -- the batch of a push that was accepted
 abbrev pub accepted_batch : Item → Reply → List (List Span)
@@ -58,23 +59,24 @@ abbrev pub all_spans : List Item → ℕ
 all_spans [] = 0
 all_spans (item ∷ items) = spans_in item + all_spans items
 
--- whether it is a flush, as a number
-abbrev pub flushes_in : Item → ℕ
-flushes_in (Ok Flush) = 1
-flushes_in _ = 0
+-- whether it is a flush or a compaction, as a number
+abbrev pub rounds_in : Item → ℕ
+rounds_in (Ok Flush) = 1
+rounds_in (Ok Compact) = 1
+rounds_in _ = 0
 
-abbrev pub all_flushes : List Item → ℕ
-all_flushes [] = 0
-all_flushes (item ∷ items) = flushes_in item + all_flushes items
+abbrev pub all_rounds : List Item → ℕ
+all_rounds [] = 0
+all_rounds (item ∷ items) = rounds_in item + all_rounds items
 
--- There is room in the store for all of this: it writes, no flush is open in it, neither the history nor what is held in memory will
--- be full, and there are two file numbers for each flush.
+-- There is room in the store for all of this: it writes, no job is open in it, neither the history nor what is held in memory will
+-- be full, and there are two file numbers for each flush and each compaction.
 pub record HasRoomFor (items : List Item) (m : Machine) : Type 0 where
   pub writes : m.read_only ≡ None
-  pub closed : m.state.flush ≡ None
+  pub closed : HasNoJob m
   pub pushes : count_of m.history + all_pushes items ≤ 4294967295
   pub rows : held_of m.state + all_spans items ≤ 262144
-  pub files : m.state.next_file + 2 * all_flushes items ≤ 4294967295
+  pub files : m.state.next_file + 2 * all_rounds items ≤ 4294967295
 
 -- There is room in the store for a push of so many spans.
 pub record HasRoomForPush (spans : ℕ) (m : Machine) : Type 0 where

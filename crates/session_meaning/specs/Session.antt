@@ -22,14 +22,15 @@ use Rattle.session_text.specs.Replies.{reply_text}
 use Rattle.span_types.specs.declared.errors.Memory.{Memory}
 use Rattle.store_model.specs.History.{History, count_of, history_rows}
 use Rattle.store_model.specs.Event.{Event as event}
-use Rattle.store_state.specs.Replies.{count_reply, push_reply}
+use Rattle.store_state.specs.Replies.{count_reply, push_reply, reclaim_reply}
 use Rattle.store_state.specs.declared.errors.PushError.{PushError}
+use Rattle.store_state.specs.declared.errors.ReclaimError.{ReclaimError}
 use Rattle.store_state.specs.declared.rounds.Refusal.TheVariants as round
 use Rattle.store_state.specs.declared.rounds.Round.{Round}
-use Rattle.client_run.specs.Answers.{cut_reply, flush_reply, pushed_reply}
+use Rattle.client_run.specs.Answers.{compact_reply, cut_reply, flush_reply, pushed_reply, reclaimed_reply}
 use Rattle.session_meaning.specs.At.{At, IsStep, IsStill, history_of}
 use Rattle.session_meaning.specs.Causes.{HasQueryCause}
-use Rattle.session_meaning.specs.Flushed.{IsFlushed}
+use Rattle.session_meaning.specs.Rounds.{IsCompacted, IsFlushed}
 use Rattle.session_meaning.specs.declared.ending.Ending.{Ending}
 use Rattle.session_meaning.specs.declared.ending.Ending.TheVariants.{Answered, ReadFault, Spent, Starved, WriteFault}
 use Rattle.session_meaning.specs.declared.ending.Ending.TheVariants as ending
@@ -55,8 +56,10 @@ IsSure told at = (told ≡ true) ⊎ (at.machine.state.blocks ≡ [])
 -- rejected, and how much was skipped, and its spans are appended to the history. Refused, it is told a cause that holds.
 -- A look-up is told how many pushes there were, and what it finds in all of them. So is a search. They change nothing.
 -- A cut is a step of the store that moves the rows of some traces to the head, and is told how many these are; or memory was
--- wanted. A flush makes a block of rows that wait in the head, and is told how many it has, or that none waited, or why not. Of
--- what was pushed they change nothing.
+-- wanted. A flush makes a block of rows that wait in the head, and is told how many it has, or that none waited, or why not. A
+-- compaction joins blocks, and is told how many these are and how many rows the new one has, or that no two fit together, or why not.
+-- The emptying of loose files is a step of the store that is told how many they were, or why it isn't done. Of what was pushed they
+-- change nothing.
 -- A line that asks nothing is refused for its cause, and changes nothing.
 abbrev pub IsAnswered : Bool → Item → At → Reply → At → Type 0
 IsAnswered told (Ok (request.Push reading moment)) before reply after =
@@ -75,9 +78,13 @@ IsAnswered told (Ok request.CutAll) before reply after =
     (answer : Result ℕ Memory) × (reply ≡ cut_reply CutAll answer) × IsStep before event.CutAll (count_reply answer) after
 IsAnswered told (Ok request.Flush) before reply after =
     (round : Round) × (reply ≡ flush_reply round) × IsFlushed before round after
+IsAnswered told (Ok request.Compact) before reply after =
+    (round : Round) × (reply ≡ compact_reply round) × IsCompacted told before round after
+IsAnswered told (Ok request.Reclaim) before reply after =
+    (answer : Result ℕ ReclaimError) × (reply ≡ reclaimed_reply answer) × IsStep before event.Reclaim (reclaim_reply answer) after
 IsAnswered told (Err why) before reply after = (reply ≡ Refused why) × (after ≡ before)
 
--- A query is refused for its cause, and changes nothing. When a push, a cut or a flush is, its steps say.
+-- A query is refused for its cause, and changes nothing. When a line that pushes or keeps the store up is, its steps say.
 abbrev pub IsQueryRefused : Bool → At → Reply → At → Type 0
 IsQueryRefused told before reply after =
     (why : Refusal) × (reply ≡ Refused why) × HasQueryCause told why before after × IsStill before after

@@ -4,6 +4,7 @@ ghost use Rattle.std.specs.Prelude.{Bool, IsTrue, true, ◌≡◌, ◌⊎◌, �
 ghost use Rattle.std.specs.List.{Contains, list_any};
 ghost use Rattle.command_words.specs.Commands.{Command, Spells};
 ghost use Rattle.disk_model.specs.Images.{Image};
+ghost use Rattle.compactor.specs.Rounds.{IsCompactRound};
 ghost use Rattle.flusher.specs.Rounds.{IsFlushRound};
 ghost use Rattle.span_types.specs.Faults.{Rose};
 ghost use Rattle.span_types.specs.First.{IsFirstOf};
@@ -11,9 +12,11 @@ ghost use Rattle.span_types.specs.declared.spans.Row.{Row};
 ghost use Rattle.otlp_spans.specs.declared.read.Reading.{Reading};
 ghost use Rattle.session_text.specs.declared.refusal.Refusal.{Refusal};
 ghost use Rattle.session_text.specs.declared.reply.Reply.{Reply};
-ghost use Rattle.session_text.specs.declared.reply.Reply.TheVariants.{Pushed, Refused};
-ghost use Rattle.session_text.specs.declared.request.Request.TheVariants.{Push};
+ghost use Rattle.session_text.specs.declared.reply.Reply.TheVariants.{Pushed, Reclaimed, Refused};
+ghost use Rattle.session_text.specs.declared.request.Request.TheVariants.{Push, Reclaim};
 ghost use Rattle.session_text.specs.Items.{Item};
+ghost use Rattle.store_model.specs.Choice.{choice};
+ghost use Rattle.store_model.specs.Event.Event.{BeginCompact};
 ghost use Rattle.store_model.specs.History.{History, count_of, grown};
 ghost use Rattle.store_model.specs.Laws.{Agrees};
 ghost use Rattle.store_images.specs.Stored.{ImageStandsFor, MayStandFor};
@@ -26,8 +29,8 @@ ghost use Rattle.store_state.specs.declared.rounds.Refusal.{Refusal as Cause};
 ghost use Rattle.store_state.specs.declared.rounds.Round.{Round};
 ghost use Rattle.store_state.specs.declared.rounds.Round.TheVariants.{Did, Nothing, Refused as IsRefused};
 ghost use Rattle.session_meaning.specs.Answering.{AreItemsAnswered, CallsLead, IsAnsweredByCalls, at_core};
-ghost use Rattle.session_meaning.specs.Causes.{HasFlushCause, HasPushCause};
-ghost use Rattle.session_meaning.specs.Flushed.{HasListed, IsDoneOrStarved, IsFlushed};
+ghost use Rattle.session_meaning.specs.Causes.{HasCompactCause, HasFlushCause, HasPushCause, HasWriteCause};
+ghost use Rattle.session_meaning.specs.Rounds.{HasJoined, HasListed, IsCompacted, IsDoneOrStarved, IsFlushed, IsRound};
 ghost use Rattle.session_meaning.specs.declared.ending.Ending.TheVariants.{Answered, Starved};
 ghost use Rattle.session_meaning.specs.Progress.{AreAnsweredOver};
 ghost use Rattle.session_meaning.specs.Pushes.{HasRoomFor, HasRoomForPush, accepted_batches, known_pushes};
@@ -35,7 +38,7 @@ ghost use Rattle.session_meaning.specs.Runs.{ComesToItsEnd, Edges, GoesWell, IsR
 ghost use Rattle.session_meaning.specs.At.{At, IsStill, history_of};
 ghost use Rattle.session_meaning.specs.Session.{IsAnswered, IsAnsweredOrRefused, Session, is_refused};
 ghost use Rattle.session_meaning.specs.Stops.{StandsForLast, StandsWithin, unsure_spans};
-ghost use Rattle.session_meaning.specs.Upkeep.{HasFailedSince, IsClosed};
+ghost use Rattle.session_meaning.specs.Upkeep.{HasEmptied, HasFailedSince, IsClosed};
 
 use disk_model::Device;
 use store_core::Core;
@@ -67,7 +70,7 @@ pub fn a_core_answers_as_the_history_says<D: Device>(old: &Core<D>, new: &Core<D
         × Session true (at_core D.Device.own old.now m) items replies (at_core D.Device.own new.now later) }
 {}
 
-/// A session keeps that the rows of the store are those of its history, and leaves no flush open while the store writes.
+/// A session keeps that the rows of the store are those of its history, and leaves no job open while the store writes.
 pub fn sessions_keep_the_store()
     ensures agrees { (told : Bool) (items : List Item) (replies : List Reply) (first last : At)
         → Session told first items replies last → Agrees first.machine → Agrees last.machine }
@@ -161,7 +164,46 @@ pub fn flushes_have_their_causes()
     ensures well { (before after : At) (round : Round) → (Rose before.faults after.faults → ⊥)
         → before.machine.read_only ≡ None → IsClosed before.machine → before.machine.state.next_file < 4294967294
         → IsFlushed before round after → IsDoneOrStarved round }
-    // It leaves no flush open in a store that writes, and the history as it was.
+    // It leaves no job open in a store that writes, and the history as it was.
     ensures kept { (before after : At) (round : Round) → IsClosed before.machine → IsFlushed before round after
         → IsClosed after.machine × (history_of after ≡ history_of before) }
+{}
+
+/// What a compaction makes of the store.
+pub fn compactions_have_their_causes()
+    // The calls of a round make of the store what a compaction does.
+    ensures by_calls { (calls : List Call) (round : Round) (before after : At) → IsCompactRound calls round
+        → CallsLead before calls after → IsRound BeginCompact before round after }
+    // Refused, it has the cause that it is told.
+    ensures refused { (told : Bool) (before after : At) (why : Cause) → IsClosed before.machine
+        → IsCompacted told before (IsRefused why) after → HasCompactCause told why before after }
+    // Where no two blocks of one level below 63 fit together, in a store that writes, it is told just that.
+    ensures none_fit { (told : Bool) (before after : At) (round : Round) → before.machine.read_only ≡ None
+        → IsClosed before.machine → length (choice before.machine.state.blocks) ≡ 0
+        → IsCompacted told before round after → round ≡ Nothing }
+    // And where it is told that, no two fitted, and the store is as it was.
+    ensures nothing { (told : Bool) (before after : At) → IsCompacted told before Nothing after
+        → (length (choice before.machine.state.blocks) ≡ 0) × IsStill before after }
+    // It joins the blocks that the store chooses, and is told how many these are. The new block stands in their place, and
+    // where what the blocks hold is told it is told how many first occurrences their rows have.
+    ensures joined { (told : Bool) (before after : At) (blocks rows : ℕ)
+        → IsCompacted told before (Did blocks rows) after → HasJoined told before.machine blocks rows after.machine }
+    // Without faults, in a store that writes, has file numbers left and tells what its blocks hold, it is done or memory
+    // was wanted.
+    ensures well { (before after : At) (round : Round) → (Rose before.faults after.faults → ⊥)
+        → before.machine.read_only ≡ None → IsClosed before.machine → before.machine.state.next_file < 4294967294
+        → IsCompacted true before round after → IsDoneOrStarved round }
+    // It leaves no job open in a store that writes, and the history as it was.
+    ensures kept { (told : Bool) (before after : At) (round : Round) → IsClosed before.machine
+        → IsCompacted told before round after → IsClosed after.machine × (history_of after ≡ history_of before) }
+{}
+
+/// What the emptying of loose files makes of the store.
+pub fn reclaims_have_their_causes()
+    // Refused, it has the cause that it is told.
+    ensures refused { (told : Bool) (before after : At) (why : Refusal)
+        → IsAnswered told (Ok Reclaim) before (Refused why) after → HasWriteCause why before after }
+    // Else the store writes, and it is told how many loose files no pin named: these are loose no more.
+    ensures emptied { (told : Bool) (before after : At) (files : ℕ)
+        → IsAnswered told (Ok Reclaim) before (Reclaimed files) after → HasEmptied before.machine files after.machine }
 {}

@@ -3,6 +3,8 @@
 #![tactic(auto)]
 
 #[cfg(test)]
+mod compact_tests;
+#[cfg(test)]
 mod durable_tests;
 #[cfg(test)]
 mod flush_tests;

@@ -49,6 +49,8 @@ fn asked(alloc: Global, line: &[u8]) -> Result<Text, Memory> {
         Ok(Request::Cut { moment }) => Ok(Text::of(format!(in alloc; "cut at {moment}\n")?)),
         Ok(Request::CutAll) => Ok(Text::of(String::from_str(alloc, "cutall\n")?)),
         Ok(Request::Flush) => Ok(Text::of(String::from_str(alloc, "flush\n")?)),
+        Ok(Request::Compact) => Ok(Text::of(String::from_str(alloc, "compact\n")?)),
+        Ok(Request::Reclaim) => Ok(Text::of(String::from_str(alloc, "reclaim\n")?)),
         Err(why) => write_reply(alloc, &Reply::Refused(why)),
     }
 }
@@ -105,6 +107,12 @@ cut_all => refused bad-request at=4
 flush => flush
 flush_ => refused bad-request at=6
 flush_now => refused bad-request at=6
+compact => compact
+compact_ => refused bad-request at=8
+compaction => refused bad-request at=0
+reclaim => reclaim
+reclaim_2 => refused bad-request at=8
+Reclaim => refused bad-request at=0
 _flush => refused bad-request at=0
 Search_{_} => refused bad-request at=0
 searches_{_} => refused bad-request at=0
@@ -264,13 +272,21 @@ fn a_search_without_results_is_written(rt: HostRuntime) -> Result<(), Fail> {
 }
 
 #[test]
-fn cuts_and_flushes_are_acknowledged(rt: HostRuntime) -> Result<(), Fail> {
+fn lines_of_upkeep_are_acknowledged(rt: HostRuntime) -> Result<(), Fail> {
     check_reply(&rt, &Reply::Cut { moved: 0 }, "ok cut moved=0\n")?;
     let all = Reply::CutAll { moved: 262_144 };
     check_reply(&rt, &all, "ok cutall moved=262144\n")?;
     let flushed = Reply::Flushed { rows: 1_048_576 };
     check_reply(&rt, &flushed, "ok flush rows=1048576\n")?;
     check_reply(&rt, &Reply::NothingFlushed, "ok flush nothing\n")?;
+    let compacted = Reply::Compacted {
+        blocks: 4,
+        rows: 1_048_576,
+    };
+    check_reply(&rt, &compacted, "ok compact blocks=4 rows=1048576\n")?;
+    check_reply(&rt, &Reply::NothingCompacted, "ok compact nothing\n")?;
+    let reclaimed = Reply::Reclaimed { files: 0 };
+    check_reply(&rt, &reclaimed, "ok reclaim files=0\n")?;
     Ok(())
 }
 

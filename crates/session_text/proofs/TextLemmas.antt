@@ -41,8 +41,9 @@ no_word word text not = go (bytes_eq word text) refl
 
 -- what a line is whose first part is no word of a request
 pub of_other : (moment : ℕ) (line word first : List ℕ) (rest : Option (List ℕ)) → word ≡ first → (word ≡ codes "trace" → ⊥) → (word ≡ codes "search" → ⊥) → (word ≡ codes "cut" → ⊥)
-    → (word ≡ codes "cutall" → ⊥) → (word ≡ codes "flush" → ⊥) → other_line moment first line rest ≡ plain (Err (BadRequest 0))
-of_other moment line word first rest is no_trace no_search no_cut no_cut_all no_flush =
+    → (word ≡ codes "cutall" → ⊥) → (word ≡ codes "flush" → ⊥) → (word ≡ codes "compact" → ⊥)
+    → (word ≡ codes "reclaim" → ⊥) → other_line moment first line rest ≡ plain (Err (BadRequest 0))
+of_other moment line word first rest is no_trace no_search no_cut no_cut_all no_flush no_compact no_reclaim =
     subst (λ (w : List ℕ). other_line moment w line rest ≡ plain (Err (BadRequest 0))) is
     (rw (
       no_word word (codes "trace") no_trace,
@@ -50,4 +51,6 @@ of_other moment line word first rest is no_trace no_search no_cut no_cut_all no_
       no_word word (codes "cut") no_cut,
       no_word word (codes "cutall") no_cut_all,
       no_word word (codes "flush") no_flush,
+      no_word word (codes "compact") no_compact,
+      no_word word (codes "reclaim") no_reclaim,
     ) refl)

@@ -9,7 +9,7 @@ use Rattle.session_text.specs.declared.refusal.QueryFault.TheVariants as query
 use Rattle.session_text.specs.declared.refusal.Refusal.{Refusal}
 use Rattle.session_text.specs.declared.refusal.Refusal.TheVariants.{TooLong, BadRequest, BadJson, BadOtlp, TooMany, BadQuery, BadType, BadPattern, PatternTooBig, LiveFull, StoreFull, ReadOnly, DiskFault, Round, NotStore, Memory}
 use Rattle.session_text.specs.declared.reply.Reply.{Reply}
-use Rattle.session_text.specs.declared.reply.Reply.TheVariants.{Pushed, Traced, Searched, Cut, CutAll, Flushed, NothingFlushed, Refused}
+use Rattle.session_text.specs.declared.reply.Reply.TheVariants.{Pushed, Traced, Searched, Cut, CutAll, Flushed, NothingFlushed, Compacted, NothingCompacted, Reclaimed, Refused}
 use Rattle.store_state.specs.declared.rounds.Refusal.{Refusal as RoundRefusal}
 use Rattle.store_state.specs.declared.rounds.Refusal.TheVariants as round
 
@@ -45,6 +45,14 @@ cut_all_text moved = texts (codes "ok cutall moved=" ∷ decimal moved ∷ codes
 -- A flush: how many rows its block has, or that there was nothing to do.
 abbrev pub flushed_text : ℕ → List ℕ
 flushed_text rows = texts (codes "ok flush rows=" ∷ decimal rows ∷ codes "\n" ∷ [])
+
+-- A compaction: how many blocks were joined and how many rows the new one has, or that there was nothing to do.
+abbrev pub compacted_text : ℕ → ℕ → List ℕ
+compacted_text blocks rows = texts (codes "ok compact blocks=" ∷ decimal blocks ∷ codes " rows=" ∷ decimal rows ∷ codes "\n" ∷ [])
+
+-- How many loose files were emptied.
+abbrev pub reclaimed_text : ℕ → List ℕ
+reclaimed_text files = texts (codes "ok reclaim files=" ∷ decimal files ∷ codes "\n" ∷ [])
 
 -- A refusal with what it names.
 abbrev pub refused_text : List ℕ → List ℕ → List ℕ
@@ -111,4 +119,7 @@ reply_text (Cut moved) = cut_text moved
 reply_text (CutAll moved) = cut_all_text moved
 reply_text (Flushed rows) = flushed_text rows
 reply_text NothingFlushed = codes "ok flush nothing\n"
+reply_text (Compacted blocks rows) = compacted_text blocks rows
+reply_text NothingCompacted = codes "ok compact nothing\n"
+reply_text (Reclaimed files) = reclaimed_text files
 reply_text (Refused why) = refusal_text why

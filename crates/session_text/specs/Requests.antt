@@ -11,7 +11,7 @@ use Rattle.otlp_spans.specs.Reading as otlp
 use Rattle.session_text.specs.declared.refusal.Refusal.{Refusal}
 use Rattle.session_text.specs.declared.refusal.Refusal.TheVariants.{TooLong, BadRequest, BadJson, BadOtlp, TooMany, Memory}
 use Rattle.session_text.specs.declared.request.Request.{Request}
-use Rattle.session_text.specs.declared.request.Request.TheVariants.{Push, Trace, Search, Cut, CutAll, Flush}
+use Rattle.session_text.specs.declared.request.Request.TheVariants.{Push, Trace, Search, Cut, CutAll, Flush, Compact, Reclaim}
 use Rattle.session_text.specs.Lines.{first_part, other_parts}
 use Rattle.session_text.specs.Options.{SearchLine, search_parts}
 use Rattle.session_text.specs.Searches.{ReadsSearch}
@@ -68,6 +68,8 @@ other_line moment word line rest =
     else if bytes_eq word (codes "cut") then plain (alone word rest (Cut moment))
     else if bytes_eq word (codes "cutall") then plain (alone word rest CutAll)
     else if bytes_eq word (codes "flush") then plain (alone word rest Flush)
+    else if bytes_eq word (codes "compact") then plain (alone word rest Compact)
+    else if bytes_eq word (codes "reclaim") then plain (alone word rest Reclaim)
     else plain (Err (BadRequest 0))
 
 -- What a request is that was read at a moment, by its first part. Only a push may have bytes that aren't UTF-8, and its JSON

@@ -26,7 +26,8 @@ const LINE_LIMIT: usize = MOST_LINE_BYTES as usize;
 /// - `search [limit=n] [spss=n] [start=T] [end=T] QUERY`: a search. The options stand in this order, each n is a number
 ///   from 1 to 1,000 and each T a count of nanoseconds or a timestamp. The QUERY is the rest of the line. The maker
 ///   makes its patterns.
-/// - `cut`, `cutall`, `flush`: a cut at the moment, a cut of all, a flush. Nothing stands behind the word.
+/// - `cut`, `cutall`, `flush`, `compact`, `reclaim`: a cut at the moment, a cut of all, a flush, a compaction, and the
+///   emptying of loose files. Nothing stands behind the word.
 ///
 /// One space stands between the parts. A line that is none of these is refused at the first byte of the first part that
 /// can't stand there, and at its length where a part is missing. A line that isn't UTF-8 is refused at its first byte,
@@ -90,6 +91,8 @@ fn asked_by<P: PatternMaker>(
         "cut" => alone(word, rest, Request::Cut { moment }),
         "cutall" => alone(word, rest, Request::CutAll),
         "flush" => alone(word, rest, Request::Flush),
+        "compact" => alone(word, rest, Request::Compact),
+        "reclaim" => alone(word, rest, Request::Reclaim),
         _ => Err(Refusal::BadRequest { at: 0 }),
     }
 }

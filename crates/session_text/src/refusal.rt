@@ -58,7 +58,7 @@ pub enum Refusal {
     },
     /// A call of the disk failed for this request.
     DiskFault,
-    /// A round of a flush was refused.
+    /// A round of a flush or of a compaction was refused.
     Round(store_state::Refusal),
     /// What the disk holds is no store.
     NotStore {

@@ -52,6 +52,20 @@ pub enum Reply {
     },
     /// No row waited for a flush.
     NothingFlushed,
+    /// Blocks were joined, and the new one was listed in their place.
+    Compacted {
+        /// How many blocks were joined.
+        blocks: u32,
+        /// How many rows the new one has.
+        rows: u32,
+    },
+    /// No two blocks fit together.
+    NothingCompacted,
+    /// Loose files were emptied.
+    Reclaimed {
+        /// How many.
+        files: u64,
+    },
     /// The line is refused, and nothing was kept.
     Refused(Refusal),
 }

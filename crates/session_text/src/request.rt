@@ -28,6 +28,10 @@ pub enum Request {
     CutAll,
     /// `flush`: a block is to be made of rows that wait in the head.
     Flush,
+    /// `compact`: blocks of one level are to be joined into one of the next.
+    Compact,
+    /// `reclaim`: the loose files that no pin names are to be emptied.
+    Reclaim,
 }
 
 /// A search.

@@ -2,7 +2,7 @@
 
 ghost use Rattle.std.specs.Prelude.{◌≡◌, IfOk, codes, string_bytes};
 ghost use Rattle.session_text.specs.declared.reply.Reply.TheVariants.{Searched, Traced};
-ghost use Rattle.session_text.specs.Replies.{cut_all_text, cut_text, flushed_text, kind_text, not_block_text, not_store_text, pushed_text, query_text, refusal_text, refused_text, reply_text, round_text, searched_text, traced_text};
+ghost use Rattle.session_text.specs.Replies.{compacted_text, cut_all_text, cut_text, flushed_text, kind_text, not_block_text, not_store_text, pushed_text, query_text, reclaimed_text, refusal_text, refused_text, reply_text, round_text, searched_text, traced_text};
 
 use crate::{KindFault, QueryFault, Refusal, Reply};
 use otlp_spans::write_trace;
@@ -42,6 +42,9 @@ fn text_of(alloc: Global, reply: &Reply) -> Result<String, Memory>
         Reply::CutAll { moved } => Ok(cut_all(alloc, *moved)?),
         Reply::Flushed { rows } => Ok(flushed(alloc, *rows)?),
         Reply::NothingFlushed => Ok(String::from_str(alloc, "ok flush nothing\n")?),
+        Reply::Compacted { blocks, rows } => Ok(compacted(alloc, *blocks, *rows)?),
+        Reply::NothingCompacted => Ok(String::from_str(alloc, "ok compact nothing\n")?),
+        Reply::Reclaimed { files } => Ok(reclaimed(alloc, *files)?),
         Reply::Refused(why) => Ok(refused(alloc, why)?),
     }
 }
@@ -115,6 +118,20 @@ fn flushed(alloc: Global, rows: u32) -> Result<String, AllocError>
     ensures { IfOk result (λ text. string_bytes text ≡ flushed_text rows) }
 {
     format!(in alloc; "ok flush rows={rows}\n")
+}
+
+/// The reply to a compaction that joined blocks.
+fn compacted(alloc: Global, blocks: u32, rows: u32) -> Result<String, AllocError>
+    ensures { IfOk result (λ text. string_bytes text ≡ compacted_text blocks rows) }
+{
+    format!(in alloc; "ok compact blocks={blocks} rows={rows}\n")
+}
+
+/// The reply to the emptying of loose files.
+fn reclaimed(alloc: Global, files: u64) -> Result<String, AllocError>
+    ensures { IfOk result (λ text. string_bytes text ≡ reclaimed_text files) }
+{
+    format!(in alloc; "ok reclaim files={files}\n")
 }
 
 /// A refusal.

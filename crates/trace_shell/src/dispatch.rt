@@ -28,7 +28,7 @@ use session_text::{Refusal, Reply, write_reply};
 use span_types::{Failed, Memory};
 use std::alloc::Global;
 use store_core::{Core, OpenError};
-use store_state::FlushPort;
+use store_state::Port;
 use traceql_types::PatternMaker;
 
 /// Does what the words say, and tells how it ended. The disk is handed back.
@@ -106,7 +106,7 @@ fn on_store<S: Source, K: Sink, D: Device, C: Clock, P: PatternMaker, G: Gate>(
 }
 
 // Does what is asked over the port of a store that was opened.
-fn do_asked<S: Source, K: Sink, Q: FlushPort, C: Clock, P: PatternMaker, G: Gate>(
+fn do_asked<S: Source, K: Sink, Q: Port, C: Clock, P: PatternMaker, G: Gate>(
     alloc: Global,
     asked: Asked,
     source: &mut S,

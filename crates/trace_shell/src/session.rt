@@ -25,7 +25,7 @@ use session_meaning::Ending;
 use session_text::{Refusal, Reply, read_request, write_reply};
 use span_types::{Failed, Memory};
 use std::alloc::Global;
-use store_state::{FlushPort, Refusal as Cause};
+use store_state::{Port, Refusal as Cause};
 use traceql_types::PatternMaker;
 
 /// Which client a session is: there is no other one.
@@ -88,7 +88,7 @@ fn is_for_memory(reply: &Reply) -> bool
 
 /// Answers the lines of the source in order over a store's port, and writes each reply before it reads the next line. The clock
 /// is asked once for each line that has bytes.
-pub(crate) fn session<S: Source, K: Sink, Q: FlushPort, C: Clock, P: PatternMaker, G: Gate>(
+pub(crate) fn session<S: Source, K: Sink, Q: Port, C: Clock, P: PatternMaker, G: Gate>(
     alloc: Global,
     source: &mut S,
     sink: &mut K,
@@ -132,7 +132,7 @@ pub(crate) fn session<S: Source, K: Sink, Q: FlushPort, C: Clock, P: PatternMake
 }
 
 /// Answers one line over a store's port, and nothing else. The clock is asked once.
-pub(crate) fn one_line<K: Sink, Q: FlushPort, C: Clock, P: PatternMaker, G: Gate>(
+pub(crate) fn one_line<K: Sink, Q: Port, C: Clock, P: PatternMaker, G: Gate>(
     alloc: Global,
     sink: &mut K,
     port: &mut Q,
@@ -164,7 +164,7 @@ pub(crate) fn one_line<K: Sink, Q: FlushPort, C: Clock, P: PatternMaker, G: Gate
 }
 
 // Reads the next line, answers it and writes the reply. Gives how the session ends, where it does.
-fn next_line<S: Source, K: Sink, Q: FlushPort, C: Clock, P: PatternMaker, G: Gate>(
+fn next_line<S: Source, K: Sink, Q: Port, C: Clock, P: PatternMaker, G: Gate>(
     alloc: Global,
     reader: &mut LineReader,
     source: &mut S,
@@ -215,7 +215,7 @@ fn next_line<S: Source, K: Sink, Q: FlushPort, C: Clock, P: PatternMaker, G: Gat
 }
 
 // Answers a line and writes the reply. A line without bytes gets none, and the clock isn't asked for it.
-fn answer_line<K: Sink, Q: FlushPort, C: Clock, P: PatternMaker, G: Gate>(
+fn answer_line<K: Sink, Q: Port, C: Clock, P: PatternMaker, G: Gate>(
     alloc: Global,
     tally: &mut Tally,
     sink: &mut K,
@@ -265,7 +265,7 @@ fn refuse_line<K: Sink, C: Clock>(
 }
 
 // Answers a line that was read at this moment, in nanoseconds.
-fn answer<Q: FlushPort, P: PatternMaker, G: Gate>(
+fn answer<Q: Port, P: PatternMaker, G: Gate>(
     alloc: Global,
     port: &mut Q,
     patterns: &mut P,

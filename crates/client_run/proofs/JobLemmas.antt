@@ -1,0 +1,151 @@
+-- What a flush and a compaction stand on stays behind calls that aren't their own.
+use Rattle.std.proofs.Common.{◌≡◌, ℕ, List, [], ◌∷◌, length, Bool, true, false, sym, ◌∙◌, ap, subst}
+use Rattle.std.specs.Prelude.{IsTrue, ◌||◌}
+use Rattle.compactor.proofs.BlockLaws.{StaySame, begins_stays, blocks_stay, first_stays, rest_stays}
+use Rattle.compactor.specs.Tasks.{ShowsRead, ShowsWriting, Task as CompactTask}
+use Rattle.compactor.specs.Tasks as compaction
+use Rattle.compactor.specs.Tasks.{Task as compacting}
+use Rattle.flusher.specs.Tasks.{Task as FlushTask}
+use Rattle.flusher.specs.Tasks as flush
+use Rattle.flusher.specs.Tasks.{Task as flushing}
+use Rattle.span_types.specs.declared.spans.Row.{Row}
+use Rattle.store_model.proofs.Numbers.{equal_itself}
+use Rattle.store_model.specs.Event.{Event as event, Reply as reply}
+use Rattle.store_model.specs.Holds.{Hold, ends, files_of, holds_after}
+use Rattle.store_model.specs.Holds.Hold.{OpenCompact, OpenFlush}
+use Rattle.store_model.specs.State.{is_among}
+use Rattle.store_state.proofs.HoldLaws.{stays_open}
+use Rattle.store_state.specs.Given.{compact_of, flush_of, info_files}
+use Rattle.store_state.specs.Meaning.{Meaning, Called, IsOpen, Rewritten}
+use Rattle.store_state.specs.declared.jobs.CompactJob.{CompactJob}
+use Rattle.store_state.specs.declared.jobs.FlushJob.{FlushJob}
+use Rattle.client_run.specs.Taken.{Fit}
+use Rattle.client_run.specs.declared.tasks.Tasks.{Tasks}
+
+-- the call writes nothing to the file
+abbrev pub Untouched : event → reply → ℕ → Type 0
+Untouched e r file = (before after : List ℕ) → Rewritten e r file before after → after ≡ before
+
+abbrev pub EndsNoFlush : event → reply → Type 0
+EndsNoFlush e r = (number file : ℕ) (rows : List Row) → ends e r (OpenFlush number file rows) ≡ false
+
+abbrev pub EndsNoCompaction : event → reply → Type 0
+EndsNoCompaction e r = (number file level pin : ℕ) (files : List ℕ) → ends e r (OpenCompact number file level pin files) ≡ false
+
+-- a file of what is open is as it was behind a call that doesn't write to it
+same_file : {P : Type 0} (meaning : Meaning P) (old new : P) (e : event) (r : reply) (hold : Hold) (file : ℕ) → Called meaning old e r new → ends e r hold ≡ false
+    → Untouched e r file → IsOpen meaning old hold → is_among file (files_of hold) ≡ true → IsTrue (meaning.tells new) → meaning.shows new file ≡ meaning.shows old file
+same_file meaning old new e r hold file called none same is_open among tells =
+    same (meaning.shows old file) (meaning.shows new file) (called.bytes (subst IsTrue called.telling tells) hold is_open none file among)
+
+among_itself : (file : ℕ) (files : List ℕ) → is_among file (file ∷ files) ≡ true
+among_itself file files = ap (λ (t : Bool). t || is_among file files) (equal_itself file)
+
+-- ---- a flush
+
+pub flush_stays : {P : Type 0} (meaning : Meaning P) (old new : P) (e : event) (r : reply) (task : FlushTask) → Called meaning old e r new → EndsNoFlush e r
+    → ((job : FlushJob) → IsOpen meaning old (flush_of job) → Untouched e r job.out.file)
+    → ((held : List Hold) × meaning.holds old held) → flush.Fits meaning task old → flush.Fits meaning task new
+flush_stays meaning old new e r flushing.Fresh called none same holds fits = (holds_after e r holds.0, called.holds holds.0 holds.1)
+flush_stays meaning old new e r (flushing.Begun job) called none same holds fits = record {
+  is_open = stays_open meaning old new e r (flush_of job) called fits.is_open (none job.out.number job.out.file job.rows);
+  at_start = fits.at_start;
+  some = fits.some;
+  few = fits.few;
+  empty = λ tells.
+      same_file meaning old new e r (flush_of job) job.out.file called (none job.out.number job.out.file job.rows) (same job fits.is_open) fits.is_open
+      (among_itself job.out.file []) tells
+      ∙ fits.empty (subst IsTrue called.telling tells);
+}
+flush_stays meaning old new e r (flushing.Writing job bytes info) called none same holds fits = record {
+  is_open = stays_open meaning old new e r (flush_of job) called fits.is_open (none job.out.number job.out.file job.rows);
+  some = fits.some;
+  few = fits.few;
+  block = fits.block;
+  within = fits.within;
+  so_far = λ tells.
+      same_file meaning old new e r (flush_of job) job.out.file called (none job.out.number job.out.file job.rows) (same job fits.is_open) fits.is_open
+      (among_itself job.out.file []) tells
+      ∙ fits.so_far (subst IsTrue called.telling tells);
+}
+flush_stays meaning old new e r (flushing.Failing job why) called none same holds fits =
+    stays_open meaning old new e r (flush_of job) called fits (none job.out.number job.out.file job.rows)
+flush_stays meaning old new e r (flushing.Ended round) called none same holds fits = fits
+
+-- ---- a compaction
+
+back : (old new : ℕ → List ℕ) (files : List ℕ) → StaySame old new files → StaySame new old files
+back old new files stay file among = sym (stay file among)
+
+read_stays : (old new : ℕ → List ℕ) (job : CompactJob) (parts : List (List Row)) (pages : ℕ) (bytes : List ℕ) → StaySame old new (job.out.file ∷ info_files job.pin.blocks)
+    → ShowsRead old job parts pages bytes → ShowsRead new job parts pages bytes
+read_stays old new job parts pages bytes stay told =
+    let rest = rest_stays old new job.out.file (info_files job.pin.blocks) stay in
+    record {
+      so_far = λ all are. told.so_far all (blocks_stay new old job.pin.blocks all (back old new (info_files job.pin.blocks) rest) are);
+      begins = begins_stays old new (length parts) job.pin.blocks pages bytes rest told.begins;
+      apart = told.apart;
+      empty = first_stays old new job.out.file (info_files job.pin.blocks) stay ∙ told.empty;
+    }
+
+written_stays : (old new : ℕ → List ℕ) (job : CompactJob) (parts : List (List Row)) (bytes : List ℕ) → StaySame old new (job.out.file ∷ info_files job.pin.blocks)
+    → ShowsWriting old job parts bytes → ShowsWriting new job parts bytes
+written_stays old new job parts bytes stay told = record {
+  their_rows = λ all are.
+      told.their_rows all (blocks_stay new old job.pin.blocks all (back old new (info_files job.pin.blocks) (rest_stays old new job.out.file (info_files job.pin.blocks) stay)) are);
+  apart = told.apart;
+  so_far = first_stays old new job.out.file (info_files job.pin.blocks) stay ∙ told.so_far;
+}
+
+pub compaction_stays : {P : Type 0} (meaning : Meaning P) (old new : P) (e : event) (r : reply) (task : CompactTask) → Called meaning old e r new → EndsNoCompaction e r
+    → ((job : CompactJob) → IsOpen meaning old (compact_of job) → (file : ℕ) → is_among file (files_of (compact_of job)) ≡ true → Untouched e r file)
+    → ((held : List Hold) × meaning.holds old held) → compaction.Fits meaning task old → compaction.Fits meaning task new
+compaction_stays meaning old new e r compacting.Fresh called none same holds fits = (holds_after e r holds.0, called.holds holds.0 holds.1)
+compaction_stays meaning old new e r (compacting.Reading job parts pages bytes) called none same holds fits =
+    let ends_not = none job.out.number job.out.file job.level job.pin.number (info_files job.pin.blocks) in
+    record {
+      is_open = stays_open meaning old new e r (compact_of job) called fits.is_open ends_not;
+      at_start = fits.at_start;
+      few = fits.few;
+      within = fits.within;
+      counted = fits.counted;
+      page = fits.page;
+      told = λ tells.
+          read_stays (meaning.shows old) (meaning.shows new) job parts pages bytes
+          (λ file among. same_file meaning old new e r (compact_of job) file called ends_not (same job fits.is_open file among) fits.is_open among tells)
+          (fits.told (subst IsTrue called.telling tells));
+    }
+compaction_stays meaning old new e r (compacting.Writing job bytes info) called none same holds fits =
+    let ends_not = none job.out.number job.out.file job.level job.pin.number (info_files job.pin.blocks) in
+    record {
+      is_open = stays_open meaning old new e r (compact_of job) called fits.is_open ends_not;
+      joins = fits.joins;
+      parts = fits.parts;
+      one_each = fits.one_each;
+      some = fits.some;
+      few = fits.few;
+      block = fits.block;
+      within = fits.within;
+      told = λ tells.
+          written_stays (meaning.shows old) (meaning.shows new) job fits.parts bytes
+          (λ file among. same_file meaning old new e r (compact_of job) file called ends_not (same job fits.is_open file among) fits.is_open among tells)
+          (fits.told (subst IsTrue called.telling tells));
+    }
+compaction_stays meaning old new e r (compacting.Failing job why) called none same holds fits =
+    stays_open meaning old new e r (compact_of job) called fits (none job.out.number job.out.file job.level job.pin.number (info_files job.pin.blocks))
+compaction_stays meaning old new e r (compacting.Ended round) called none same holds fits = fits
+
+-- ---- both
+
+-- the call ends no job, and writes to no file
+pub record LeavesJobs (e : event) (r : reply) : Type 0 where
+  pub flush : EndsNoFlush e r
+  pub compaction : EndsNoCompaction e r
+  pub files : (file : ℕ) → Untouched e r file
+
+pub still_fit : {P : Type 0} (meaning : Meaning P) (old new : P) (e : event) (r : reply) (tasks : Tasks) → Called meaning old e r new → LeavesJobs e r
+    → ((held : List Hold) × meaning.holds old held) → Fit meaning tasks old → Fit meaning tasks new
+still_fit meaning old new e r tasks called leaves holds fit = (
+  flush_stays meaning old new e r tasks.flush called leaves.flush (λ job is_open. leaves.files job.out.file) holds fit.0,
+  compaction_stays meaning old new e r tasks.compaction called leaves.compaction (λ job is_open file among. leaves.files file) holds fit.1,
+)
