@@ -129,11 +129,11 @@ fn unread(alloc: Global, job: CompactJob) -> Phase
 fn read_or_join<P: Port>(alloc: Global, reading: Progress, port: &mut P) -> Phase
     requires { IsReading P.meaning reading.job reading.parts.items reading.pages reading.bytes.items
         port.old }
-    ensures steps { OneEvent P.meaning (Reading reading.job reading.parts.items reading.pages reading.bytes.items) port.old
-        (task_of result) port.new }
+    ensures steps { OneEvent P.meaning (Reading reading.job reading.parts.items reading.pages reading.bytes.items)
+        port.old (task_of result) port.new }
     ensures fits { Fits P.meaning (task_of result) port.new }
-    ensures found { FindsBlocks P.meaning (Reading reading.job reading.parts.items reading.pages reading.bytes.items) port.old
-        → FindsBlocks P.meaning (task_of result) port.new }
+    ensures found { FindsBlocks P.meaning (Reading reading.job reading.parts.items reading.pages reading.bytes.items)
+        port.old → FindsBlocks P.meaning (task_of result) port.new }
     ensures left { steps_left (task_of result)
         ≤ (length reading.job.pin.blocks - length reading.parts.items) * 2 ^ 64 + (2 ^ 64 - reading.pages) + 2 ^ 64 + 3 }
 {
@@ -149,11 +149,11 @@ fn read<P: Port>(alloc: Global, reading: Progress, port: &mut P) -> Phase
     requires is_reading { IsReading P.meaning reading.job reading.parts.items reading.pages reading.bytes.items
         port.old }
     requires more { length reading.parts.items < length reading.job.pin.blocks }
-    ensures steps { OneEvent P.meaning (Reading reading.job reading.parts.items reading.pages reading.bytes.items) port.old
-        (task_of result) port.new }
+    ensures steps { OneEvent P.meaning (Reading reading.job reading.parts.items reading.pages reading.bytes.items)
+        port.old (task_of result) port.new }
     ensures fits { Fits P.meaning (task_of result) port.new }
-    ensures found { FindsBlocks P.meaning (Reading reading.job reading.parts.items reading.pages reading.bytes.items) port.old
-        → FindsBlocks P.meaning (task_of result) port.new }
+    ensures found { FindsBlocks P.meaning (Reading reading.job reading.parts.items reading.pages reading.bytes.items)
+        port.old → FindsBlocks P.meaning (task_of result) port.new }
     ensures left { steps_left (task_of result)
         ≤ (length reading.job.pin.blocks - length reading.parts.items) * 2 ^ 64 + (2 ^ 64 - reading.pages) + 2 ^ 64 + 3 }
 {
@@ -172,8 +172,8 @@ fn join<P: Port>(alloc: Global, reading: Progress, port: &mut P) -> Phase
     requires is_reading { IsReading P.meaning reading.job reading.parts.items reading.pages reading.bytes.items
         port.old }
     requires whole { length reading.job.pin.blocks ≤ length reading.parts.items }
-    ensures steps { OneEvent P.meaning (Reading reading.job reading.parts.items reading.pages reading.bytes.items) port.old
-        (task_of result) port.new }
+    ensures steps { OneEvent P.meaning (Reading reading.job reading.parts.items reading.pages reading.bytes.items)
+        port.old (task_of result) port.new }
     ensures fits { Fits P.meaning (task_of result) port.new }
     ensures found { FindsBlocks P.meaning (task_of result) port.new }
     ensures left { steps_left (task_of result) ≤ 2 ^ 64 + 3 }
@@ -250,7 +250,8 @@ fn give_up<P: Port>(job: CompactJob, why: Refusal, port: &mut P) -> Phase
     requires { IsOpen P.meaning port.old (compact_of job) }
     ensures steps { OneEvent P.meaning (Failing job why) port.old (task_of result) port.new }
     ensures fits { Fits P.meaning (task_of result) port.new }
-    ensures found { FindsBlocks P.meaning (Failing job why) port.old → FindsBlocks P.meaning (task_of result) port.new }
+    ensures found { FindsBlocks P.meaning (Failing job why) port.old
+        → FindsBlocks P.meaning (task_of result) port.new }
     ensures left { steps_left (task_of result) ≡ 0 }
 {
     port.drop_compact(job);
