@@ -135,7 +135,8 @@ fn read_or_join<P: Port>(alloc: Global, reading: Progress, port: &mut P) -> Phas
     ensures found { FindsBlocks P.meaning (Reading reading.job reading.parts.items reading.pages reading.bytes.items)
         port.old → FindsBlocks P.meaning (task_of result) port.new }
     ensures left { steps_left (task_of result)
-        ≤ (length reading.job.pin.blocks - length reading.parts.items) * 2 ^ 64 + (2 ^ 64 - reading.pages) + 2 ^ 64 + 3 }
+        ≤ (length reading.job.pin.blocks - length reading.parts.items) * 2 ^ 64 + (2 ^ 64 - reading.pages)
+            + 2 ^ 64 + 3 }
 {
     if reading.parts.len() < reading.job.pin.blocks.len() {
         read(alloc, reading, port)
@@ -155,7 +156,8 @@ fn read<P: Port>(alloc: Global, reading: Progress, port: &mut P) -> Phase
     ensures found { FindsBlocks P.meaning (Reading reading.job reading.parts.items reading.pages reading.bytes.items)
         port.old → FindsBlocks P.meaning (task_of result) port.new }
     ensures left { steps_left (task_of result)
-        ≤ (length reading.job.pin.blocks - length reading.parts.items) * 2 ^ 64 + (2 ^ 64 - reading.pages) + 2 ^ 64 + 3 }
+        ≤ (length reading.job.pin.blocks - length reading.parts.items) * 2 ^ 64 + (2 ^ 64 - reading.pages)
+            + 2 ^ 64 + 3 }
 {
     described_block_is_read();
     let mut page = [0; 4096];
@@ -260,8 +262,8 @@ fn give_up<P: Port>(job: CompactJob, why: Refusal, port: &mut P) -> Phase
 
 /// Joins the blocks that are to be joined next: one whole round, which says what it did or why it was refused.
 ///
-/// The port says what is open in it, as each port does. Where it tells its bytes, and knows a history, no block is found to be
-/// malformed.
+/// The port says what is open in it, as each opened store does. Where it tells its bytes, and knows a history, no block is
+/// found to be malformed.
 pub fn compact_round<P: Port>(alloc: Global, port: &mut P) -> Round
     requires { (held : List Hold) × P.meaning.holds port.old held }
     ensures made { (calls : List Call) × AreMade P.meaning port.old calls port.new × IsCompactRound calls result }
