@@ -136,7 +136,7 @@ fn read_or_join<P: Port>(alloc: Global, reading: Progress, port: &mut P) -> Phas
         port.old → FindsBlocks P.meaning (task_of result) port.new }
     ensures left { steps_left (task_of result)
         ≤ (length reading.job.pin.blocks - length reading.parts.items) * 2 ^ 64 + (2 ^ 64 - reading.pages)
-            + 2 ^ 64 + 3 }
+        + 2 ^ 64 + 3 }
 {
     if reading.parts.len() < reading.job.pin.blocks.len() {
         read(alloc, reading, port)
@@ -157,7 +157,7 @@ fn read<P: Port>(alloc: Global, reading: Progress, port: &mut P) -> Phase
         port.old → FindsBlocks P.meaning (task_of result) port.new }
     ensures left { steps_left (task_of result)
         ≤ (length reading.job.pin.blocks - length reading.parts.items) * 2 ^ 64 + (2 ^ 64 - reading.pages)
-            + 2 ^ 64 + 3 }
+        + 2 ^ 64 + 3 }
 {
     described_block_is_read();
     let mut page = [0; 4096];
