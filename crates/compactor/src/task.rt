@@ -129,13 +129,14 @@ fn unread(alloc: Global, job: CompactJob) -> Phase
 fn read_or_join<P: Port>(alloc: Global, reading: Progress, port: &mut P) -> Phase
     requires { IsReading P.meaning reading.job reading.parts.items reading.pages reading.bytes.items
         port.old }
-    ensures steps { OneEvent P.meaning (Reading reading.job reading.parts.items reading.pages reading.bytes.items) port.old
-        (task_of result) port.new }
+    ensures steps { OneEvent P.meaning (Reading reading.job reading.parts.items reading.pages reading.bytes.items)
+        port.old (task_of result) port.new }
     ensures fits { Fits P.meaning (task_of result) port.new }
-    ensures found { FindsBlocks P.meaning (Reading reading.job reading.parts.items reading.pages reading.bytes.items) port.old
-        → FindsBlocks P.meaning (task_of result) port.new }
+    ensures found { FindsBlocks P.meaning (Reading reading.job reading.parts.items reading.pages reading.bytes.items)
+        port.old → FindsBlocks P.meaning (task_of result) port.new }
     ensures left { steps_left (task_of result)
-        ≤ (length reading.job.pin.blocks - length reading.parts.items) * 2 ^ 64 + (2 ^ 64 - reading.pages) + 2 ^ 64 + 3 }
+        ≤ (length reading.job.pin.blocks - length reading.parts.items) * 2 ^ 64 + (2 ^ 64 - reading.pages)
+        + 2 ^ 64 + 3 }
 {
     if reading.parts.len() < reading.job.pin.blocks.len() {
         read(alloc, reading, port)
@@ -149,13 +150,14 @@ fn read<P: Port>(alloc: Global, reading: Progress, port: &mut P) -> Phase
     requires is_reading { IsReading P.meaning reading.job reading.parts.items reading.pages reading.bytes.items
         port.old }
     requires more { length reading.parts.items < length reading.job.pin.blocks }
-    ensures steps { OneEvent P.meaning (Reading reading.job reading.parts.items reading.pages reading.bytes.items) port.old
-        (task_of result) port.new }
+    ensures steps { OneEvent P.meaning (Reading reading.job reading.parts.items reading.pages reading.bytes.items)
+        port.old (task_of result) port.new }
     ensures fits { Fits P.meaning (task_of result) port.new }
-    ensures found { FindsBlocks P.meaning (Reading reading.job reading.parts.items reading.pages reading.bytes.items) port.old
-        → FindsBlocks P.meaning (task_of result) port.new }
+    ensures found { FindsBlocks P.meaning (Reading reading.job reading.parts.items reading.pages reading.bytes.items)
+        port.old → FindsBlocks P.meaning (task_of result) port.new }
     ensures left { steps_left (task_of result)
-        ≤ (length reading.job.pin.blocks - length reading.parts.items) * 2 ^ 64 + (2 ^ 64 - reading.pages) + 2 ^ 64 + 3 }
+        ≤ (length reading.job.pin.blocks - length reading.parts.items) * 2 ^ 64 + (2 ^ 64 - reading.pages)
+        + 2 ^ 64 + 3 }
 {
     described_block_is_read();
     let mut page = [0; 4096];
@@ -172,8 +174,8 @@ fn join<P: Port>(alloc: Global, reading: Progress, port: &mut P) -> Phase
     requires is_reading { IsReading P.meaning reading.job reading.parts.items reading.pages reading.bytes.items
         port.old }
     requires whole { length reading.job.pin.blocks ≤ length reading.parts.items }
-    ensures steps { OneEvent P.meaning (Reading reading.job reading.parts.items reading.pages reading.bytes.items) port.old
-        (task_of result) port.new }
+    ensures steps { OneEvent P.meaning (Reading reading.job reading.parts.items reading.pages reading.bytes.items)
+        port.old (task_of result) port.new }
     ensures fits { Fits P.meaning (task_of result) port.new }
     ensures found { FindsBlocks P.meaning (task_of result) port.new }
     ensures left { steps_left (task_of result) ≤ 2 ^ 64 + 3 }
@@ -250,7 +252,8 @@ fn give_up<P: Port>(job: CompactJob, why: Refusal, port: &mut P) -> Phase
     requires { IsOpen P.meaning port.old (compact_of job) }
     ensures steps { OneEvent P.meaning (Failing job why) port.old (task_of result) port.new }
     ensures fits { Fits P.meaning (task_of result) port.new }
-    ensures found { FindsBlocks P.meaning (Failing job why) port.old → FindsBlocks P.meaning (task_of result) port.new }
+    ensures found { FindsBlocks P.meaning (Failing job why) port.old
+        → FindsBlocks P.meaning (task_of result) port.new }
     ensures left { steps_left (task_of result) ≡ 0 }
 {
     port.drop_compact(job);
@@ -259,8 +262,8 @@ fn give_up<P: Port>(job: CompactJob, why: Refusal, port: &mut P) -> Phase
 
 /// Joins the blocks that are to be joined next: one whole round, which says what it did or why it was refused.
 ///
-/// The port says what is open in it, as each port does. Where it tells its bytes, and knows a history, no block is found to be
-/// malformed.
+/// The port says what is open in it, as each opened store does. Where it tells its bytes, and knows a history, no block is
+/// found to be malformed.
 pub fn compact_round<P: Port>(alloc: Global, port: &mut P) -> Round
     requires { (held : List Hold) × P.meaning.holds port.old held }
     ensures made { (calls : List Call) × AreMade P.meaning port.old calls port.new × IsCompactRound calls result }
