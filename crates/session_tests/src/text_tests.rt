@@ -170,8 +170,6 @@ search_{_}_|_avg(duration_/_2)_>_1 => refused bad-type division-in-aggregate at=
 search_{_}_|_avg(name)_>_1 => refused bad-type not-number at=10
 search_limit=5_{_.a_=~_"("_} => refused bad-pattern at=8
 search_{_.a_=~_"x"_&&_.b_=~_"y"_} => refused pattern-too-big at=21
-compact => refused bad-request at=0
-reclaim => refused bad-request at=0
 "#;
 
 fn check_line(rt: &(impl Abort + AllocGlobal), line: &[u8], wanted: &str) -> Result<(), Memory> {
