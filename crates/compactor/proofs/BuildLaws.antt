@@ -1,20 +1,23 @@
 -- The block that is built of several lists of rows.
-use Rattle.std.proofs.Common.{◌≡◌, ℕ, List, refl, ap, subst, sym}
+use Rattle.std.proofs.Common.{◌≡◌, ℕ, List, refl, ap, subst, sym, ◌∙◌}
 use Rattle.std.specs.List.{flat_map}
 use Rattle.span_types.specs.declared.spans.Row.{Row}
 use Rattle.span_types.specs.First.{IsFirstOf}
-use Rattle.span_types.proofs.FirstLaws.{first_at-firsts, firsts_alike}
 use Rattle.block_info.specs.InfoParts.{InfoParts}
 use Rattle.block_build.specs.Built.{IsBlockOf}
 use Rattle.block_build.specs.declared.building.BuiltBlock.{BuiltBlock}
 use Rattle.compactor.specs.Rounds.{IsJoined}
 use Rattle.compactor.specs.Phases.{relabelled}
 
-joined_with : (file level : ℕ) (parts : List (List Row)) (rows : List Row) (built : BuiltBlock) → IsFirstOf (flat_map (λ (rows : List Row). rows) parts) rows → IsBlockOf rows built
+-- the rows of all parts, where the parts are known by another name
+pub all_rows : (given parts : List (List Row)) (rows : List Row) → given ≡ parts → rows ≡ flat_map (λ (rows : List Row). rows) given → rows ≡ flat_map (λ (rows : List Row). rows) parts
+all_rows given parts rows same is = is ∙ ap (λ (ps : List (List Row)). flat_map (λ (rows : List Row). rows) ps) same
+
+joined_with : (file level : ℕ) (parts : List (List Row)) (rows : List Row) (built : BuiltBlock) → rows ≡ flat_map (λ (rows : List Row). rows) parts → IsBlockOf rows built
     → IsJoined file level parts built.bytes (relabelled file level built.info)
-joined_with file level parts rows built merged is = record {
+joined_with file level parts rows built all is = record {
   firsts = is.firsts;
-  are_first = firsts_alike rows (flat_map (λ (rows : List Row). rows) parts) is.firsts (first_at-firsts (flat_map (λ (rows : List Row). rows) parts) rows merged) is.firsts_are;
+  are_first = subst (λ (rows : List Row). IsFirstOf rows is.firsts) all is.firsts_are;
   describes = record {
     header = is.describes.header;
     parts = is.describes.parts;
@@ -25,6 +28,6 @@ joined_with file level parts rows built merged is = record {
   its_level = refl;
 }
 
-pub joined_block : (file level : ℕ) (parts : List (List Row)) (rows : List Row) (built : BuiltBlock) (info : InfoParts) → IsFirstOf (flat_map (λ (rows : List Row). rows) parts) rows → IsBlockOf rows built
+pub joined_block : (file level : ℕ) (parts : List (List Row)) (rows : List Row) (built : BuiltBlock) (info : InfoParts) → rows ≡ flat_map (λ (rows : List Row). rows) parts → IsBlockOf rows built
     → info ≡ relabelled file level built.info → IsJoined file level parts built.bytes info
-joined_block file level parts rows built info merged is same = subst (λ (i : InfoParts). IsJoined file level parts built.bytes i) (sym same) (joined_with file level parts rows built merged is)
+joined_block file level parts rows built info all is same = subst (λ (i : InfoParts). IsJoined file level parts built.bytes i) (sym same) (joined_with file level parts rows built all is)

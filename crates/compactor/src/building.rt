@@ -5,7 +5,7 @@ ghost use Rattle.std.specs.List.{flat_map};
 ghost use Rattle.compactor.specs.Rounds.{IsJoined};
 ghost use Rattle.compactor.specs.Phases.{relabelled};
 
-use crate::merge::merge_rows;
+use crate::merge::joined;
 use block_build::{BuiltBlock, build};
 use block_info::{BlockInfo, SharedInfo};
 use span_types::{Bytes, Memory, Rows, Seq};
@@ -18,7 +18,8 @@ pub(crate) struct Block {
     pub(crate) info: SharedInfo,
 }
 
-/// Builds the block of the rows of all parts, of which there are 1 to 1,048,576, for this file and this level.
+/// Builds the block of the first occurrences of the rows of all parts, of which there are 1 to 1,048,576, for this file and
+/// this level.
 pub(crate) fn build_block(
     alloc: Global,
     parts: Vec<Rows>,
@@ -29,7 +30,7 @@ pub(crate) fn build_block(
     requires few { length (flat_map (λ rows. rows) parts.items) ≤ 1048576 }
     ensures { IfOk result (λ block. IsJoined file level parts.items block.bytes block.info) }
 {
-    let rows = merge_rows(alloc, Seq::of(parts))?;
+    let rows = joined(alloc, Seq::of(parts))?;
     let built = build(alloc, rows)?;
     let block = labelled(alloc, built, file, level)?;
     Ok(block)

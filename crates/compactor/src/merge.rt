@@ -11,7 +11,8 @@ use std::alloc::Global;
 pub type RowLists = Seq<Rows>;
 
 /// The first occurrences of the rows of all parts, in block order: of several rows of one span, in whichever parts they
-/// are, the row that came in first stays. Rows are moved and not copied.
+/// are, the row that came in first stays. No row is copied; each is moved many times, through one list, a map of whole rows
+/// and a sort.
 pub fn merge_rows(alloc: Global, parts: RowLists) -> Result<Rows, Memory>
     ensures { IfOk result (λ firsts. IsFirstOf (flat_map (λ rows. rows) parts) firsts) }
 {
@@ -20,7 +21,7 @@ pub fn merge_rows(alloc: Global, parts: RowLists) -> Result<Rows, Memory>
 }
 
 // The rows of all parts, one part after the other.
-fn joined(alloc: Global, parts: RowLists) -> Result<Rows, Memory>
+pub(crate) fn joined(alloc: Global, parts: RowLists) -> Result<Rows, Memory>
     ensures { IfOk result (λ rows. rows ≡ flat_map (λ rows. rows) parts) }
 {
     let mut rows = Vec::new(alloc);

@@ -262,8 +262,8 @@ fn give_up<P: Port>(job: CompactJob, why: Refusal, port: &mut P) -> Phase
 
 /// Joins the blocks that are to be joined next: one whole round, which says what it did or why it was refused.
 ///
-/// The port says what is open in it, as each opened store does. Where it tells its bytes, and knows a history, no block is
-/// found to be malformed.
+/// It asks that the port says what is open in it. Where the port tells its bytes, and knows a history as the round begins, no
+/// block is found to be malformed.
 pub fn compact_round<P: Port>(alloc: Global, port: &mut P) -> Round
     requires { (held : List Hold) × P.meaning.holds port.old held }
     ensures made { (calls : List Call) × AreMade P.meaning port.old calls port.new × IsCompactRound calls result }

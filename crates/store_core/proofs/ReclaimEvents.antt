@@ -1,5 +1,5 @@
 -- A reclaim as an event of a core.
-use Rattle.std.proofs.Common.{◌≡◌, ◌≢◌, inl, inr, ℕ, ◌+◌, ◌*◌, ◌≤◌, ◌==◌, not, if◌then◌else◌, List, [], ◌∷◌, ◌++◌, length, Some, None, Option, IsTrue, Bool, true, false, refl, sym, ◌∙◌, ap, subst, arith}
+use Rattle.std.proofs.Common.{◌≡◌, ◌≢◌, inl, inr, ℕ, ◌+◌, ◌*◌, ◌≤◌, ◌==◌, not, filter, if◌then◌else◌, List, [], ◌∷◌, ◌++◌, length, Some, None, Option, IsTrue, Bool, true, false, refl, sym, ◌∙◌, ap, subst, arith}
 use Rattle.std.specs.Prelude.{Vec}
 use Rattle.std.specs.Vec.{vec_len, vec_capacity}
 use Rattle.std.specs.declared.alloc.Global.{Global}
@@ -13,7 +13,7 @@ use Rattle.disk_model.specs.declared.disk.Device.{Ghosts}
 use Rattle.block_list.specs.Body.{MeetsRules, files_of, successor}
 use Rattle.block_list.specs.Loading.{IsReady}
 use Rattle.block_list.specs.declared.body.ListBody.{ListBody}
-use Rattle.store_model.specs.State.{free_files, is_among, flush_files}
+use Rattle.store_model.specs.State.{free_files, is_among, flush_files, pinned_files}
 use Rattle.store_model.specs.Event.Event.{Reclaim}
 use Rattle.store_model.specs.Event.Reply.{Count, Refused}
 use Rattle.store_model.specs.Event.Refusal.{ReadOnly, Fault, Memory}
@@ -67,13 +67,13 @@ none_in : (xs : List ℕ) → length xs ≡ 0 → xs ≡ []
 none_in [] none = refl
 none_in (x ∷ xs) none = absurd (omega (arith, none))
 
-pub none_to_empty : {D : Type 0} (g : Ghosts D) (only_now : OnlyNow g) (old : Core D) (kept free : List ℕ) → old.state.read_only ≡ None
-    → IsParted old.state.pins.items old.state.jobs.loose.items kept free → length free ≡ 0
+none_freed : {D : Type 0} (g : Ghosts D) (only_now : OnlyNow g) (old : Core D) → old.state.read_only ≡ None
+    → ((m : Machine) → HasState old.state m → StateIsSound m.state → free_files m.state ≡ [])
     → Did g old Reclaim (Count 0) (record old { state = old.state })
-none_to_empty g only_now old kept free writes parts none =
+none_freed g only_now old writes none =
     quiet g only_now old old.state Reclaim (Count 0) (λ f b. refl) (λ e. let bad : Count 0 ≡ Refused Fault = e in cc) (λ n. (omega arith, omega arith)) refl refl
     (λ told m stands.
-    let empty : free_files m.state ≡ [] = sym (free_is old.state m stands.has stands.sound kept free parts) ∙ none_in free none in (
+    let empty : free_files m.state ≡ [] = none m stands.has stands.sound in (
       m,
       stands,
       refl,
@@ -82,6 +82,18 @@ none_to_empty g only_now old kept free writes parts none =
         ap (λ (l : List ℕ). with_state (record m.state { loose = l }) m) (sym (all_kept m.state empty)),
       ),
     ))
+
+pub none_loose : {D : Type 0} (g : Ghosts D) (only_now : OnlyNow g) (old : Core D) → old.state.read_only ≡ None → length old.state.jobs.loose.items ≡ 0
+    → Did g old Reclaim (Count 0) (record old { state = old.state })
+none_loose g only_now old writes none =
+    none_freed g only_now old writes
+    (λ m has sound. ap (λ (l : List ℕ). filter (λ (f : ℕ). not (is_among f (pinned_files m.state.pins))) l) (has.loose ∙ none_in old.state.jobs.loose.items none))
+
+pub none_to_empty : {D : Type 0} (g : Ghosts D) (only_now : OnlyNow g) (old : Core D) (kept free : List ℕ) → old.state.read_only ≡ None
+    → IsParted old.state.pins.items old.state.jobs.loose.items kept free → length free ≡ 0
+    → Did g old Reclaim (Count 0) (record old { state = old.state })
+none_to_empty g only_now old kept free writes parts none =
+    none_freed g only_now old writes (λ m has sound. sym (free_is old.state m has sound kept free parts) ∙ none_in free none)
 
 -- what a vector's test says of its items
 pub none_there : (v : Vec ℕ Global) → (vec_len v == 0) ≡ true → length v.items ≡ 0

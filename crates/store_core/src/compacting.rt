@@ -218,7 +218,7 @@ impl<D: Device> Core<D> {
     /// files become loose: the file is synced, and the list is committed. The job is spent, refused or not.
     ///
     /// It makes seven device calls at most, and takes no memory. After `Fault` the store is read-only, its list and looks are in
-    /// memory as they were, and the job stays open.
+    /// memory as they were, and the job stays open; a later opening may find the list with the new block or the one before it.
     pub fn commit_compact(&mut self, job: CompactJob, info: SharedInfo) -> Result<(), WriteError>
         requires job { (m : Machine) × CoreShows D.Device.own self.now m × OpenIn m (compact_of job) }
         requires size { (1 ≤ info.rows) × (info.rows ≤ 1048576) }

@@ -24,13 +24,17 @@ use store_state::{FlushFiles, ReclaimError, part_loose};
 impl<D: Device> Core<D> {
     /// Empties the loose files that no pin names, and answers how many. With none it makes no device call.
     ///
-    /// All memory is taken before the disk is changed. The files are made to last as empty ones before the list is
-    /// committed without them. After `Fault` the store is read-only, and the files stay loose in memory.
+    /// All memory is taken before the disk is changed; with no loose file none is taken. The files are made to last as empty
+    /// ones before the list is committed without them. After `Fault` the store is read-only, some of these files may be empty,
+    /// and all stay loose in memory, or some are loose no more.
     pub fn reclaim(&mut self) -> Result<u64, ReclaimError>
         ensures { Did D.Device.own self.old Reclaim (reclaim_reply result) self.new }
     {
         if let Some(faults) = self.state.read_only {
             return Err(ReclaimError::ReadOnly { faults });
+        }
+        if self.state.jobs.loose.is_empty() {
+            return Ok(0);
         }
         let Ok((kept, free)) = self.state.part_files(self.alloc) else {
             return Err(ReclaimError::Memory);

@@ -1,4 +1,4 @@
--- How many device calls an event makes. One that fails isn't made again: with it the count would pass that of a run that succeeds.
+-- How many device calls an event makes at most. The emptying of loose files that answers a fault has no bound.
 use Rattle.std.specs.Prelude.{◌≡◌, ℕ, ◌+◌, ◌*◌, ◌==◌, ◌≤◌, if◌then◌else◌}
 use Rattle.disk_model.specs.Counts.{RoseBy}
 use Rattle.store_model.specs.Event.{Event, Reply}

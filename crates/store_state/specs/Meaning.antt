@@ -76,7 +76,7 @@ pub record Called {P : Type 0} (meaning : Meaning P) (old : P) (event : Event) (
   -- faults are counted, and one is answered only where the count rose
   pub later : meaning.faults old ≤ meaning.faults new
   pub cause : reply ≡ Refused Fault → Rose (meaning.faults old) (meaning.faults new)
-  -- as many device calls as the event makes by itself: one that fails is not made again
+  -- so many device calls at most; an emptying of loose files that answers a fault has no bound
   pub calls : MadeCalls event reply (meaning.calls old) (meaning.calls new)
   -- a page read alone may count as a read, and as one
   pub reads_rise : meaning.reads old ≤ meaning.reads new

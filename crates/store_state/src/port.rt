@@ -112,7 +112,7 @@ pub trait FlushPort: LookPort {
 /// files.
 pub trait Port: FlushPort {
     /// Begins a compaction of the blocks that are to be joined next; none where no two of a level below 63 fit together. Their
-    /// files hold blocks, as their information describes them, where a history is known after it.
+    /// files hold blocks as their information describes them where bytes are told and a history is known after it.
     fn begin_compact(&mut self) -> Result<Option<CompactJob>, BeginError>
         ensures called { Called Self.meaning self.old BeginCompact (begin_compact_reply result) self.new }
         ensures fresh { IfOk result (λ begun. IfSome begun (λ job. job.out.written ≡ 0)) }
@@ -136,7 +136,9 @@ pub trait Port: FlushPort {
         requires { IsOpen Self.meaning self.now (compact_of job) }
         ensures { Called Self.meaning self.old (DropCompact job.out.number) Fine self.new };
 
-    /// Empties the loose files that no pin names, and answers how many.
+    /// Empties the loose files that no pin names, and answers how many: at 0 it made no device call, and else two for each file
+    /// and six more at most. What is open stays open, and the bytes of its files stay. After `Fault` any of the loose files may
+    /// be empty.
     fn reclaim(&mut self) -> Result<u64, ReclaimError>
         ensures { Called Self.meaning self.old Reclaim (reclaim_reply result) self.new };
 }

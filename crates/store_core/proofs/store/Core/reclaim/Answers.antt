@@ -1,11 +1,17 @@
 use Rattle.std.proofs.Common.{◌∙◌, refl, sym}
 use Rattle.store_core.proofs.PinnedFiles.{parted_as}
-use Rattle.store_core.proofs.ReclaimEvents.{no_reclaim, lacks_memory, none_to_empty, did_reclaim_fail, did_reclaimed, none_there, some_there, kept_fit, named_loose}
+use Rattle.store_core.proofs.ReclaimEvents.{no_reclaim, lacks_memory, none_loose, none_to_empty, did_reclaim_fail, did_reclaimed, none_there, some_there, kept_fit, named_loose}
 use Rattle.store_core.proofs.States.{none_of}
 use Rattle.store_core.proofs.store.Core.reclaim.Goals as goal
 
 pub returns-in-Some : goal.returns-in-Some
 returns-in-Some g c = no_reclaim g.D.Device g.met.D.Device.only_now c.args.self.now c.in-Some.faults c.in-Some.is
+
+pub returns-then-is_empty : goal.returns-then-is_empty
+returns-then-is_empty g c =
+    let core = c.args.self.now in
+    none_loose g.D.Device g.met.D.Device.only_now core (none_of core.state.read_only c.in_default.not-Some)
+    (none_there core.state.jobs.loose (sym c.is_empty.ensures ∙ c.if-is_empty.true))
 
 pub returns-in_default-part_files : goal.returns-in_default-part_files
 returns-in_default-part_files g c = lacks_memory g.D.Device g.met.D.Device.only_now c.args.self.now (none_of c.args.self.now.state.read_only c.in_default.not-Some)
@@ -13,11 +19,11 @@ returns-in_default-part_files g c = lacks_memory g.D.Device g.met.D.Device.only_
 pub returns-in_default-list_without : goal.returns-in_default-list_without
 returns-in_default-list_without g c = lacks_memory g.D.Device g.met.D.Device.only_now c.args.self.now (none_of c.args.self.now.state.read_only c.in_default.not-Some)
 
-pub returns-then-is_empty : goal.returns-then-is_empty
-returns-then-is_empty g c =
+pub returns-then-is_empty-2 : goal.returns-then-is_empty-2
+returns-then-is_empty-2 g c =
     let core = c.args.self.now in
     none_to_empty g.D.Device g.met.D.Device.only_now core c.in-Ok.kept.items c.in-Ok.free.items (none_of core.state.read_only c.in_default.not-Some) c.in-Ok.ensures
-    (none_there c.in-Ok.free (sym c.is_empty.ensures ∙ c.if-is_empty.true))
+    (none_there c.in-Ok.free (sym c.is_empty-2.ensures ∙ c.if-is_empty-2.true))
 
 pub returns-in_default-commit_without : goal.returns-in_default-commit_without
 returns-in_default-commit_without g c =
@@ -28,7 +34,7 @@ returns-in_default-commit_without g c =
     let text = c.in-Ok-list_without.ensures.text in
     did_reclaim_fail g.D.Device core c.commit_without.new.disk (none_of core.state.read_only c.in_default.not-Some) kept free
     (parted_as core.state.pins.items core.state.jobs.loose.items c.in-Ok.kept.items kept c.in-Ok.free.items free c.as_slice.ensures.value c.as_slice-2.ensures.value c.in-Ok.ensures)
-    (some_there c.in-Ok.free free c.as_slice-2.ensures.value (sym c.is_empty.ensures ∙ c.if-is_empty.false))
+    (some_there c.in-Ok.free free c.as_slice-2.ensures.value (sym c.is_empty-2.ensures ∙ c.if-is_empty-2.false))
     w.telling
     (λ told ready may rules. w.kept told core.state.list core.state.jobs.next_file (named_loose core.state kept) ready may (text rules))
     (λ told ready may rules. w.others told core.state.list core.state.jobs.next_file (named_loose core.state kept) ready may (text rules))
@@ -50,7 +56,7 @@ returns g c =
     let loose = c.keep_loose.ensures in
     did_reclaimed g.D.Device core c.commit_without.new.disk (none_of core.state.read_only c.in_default.not-Some) kept free
     (parted_as core.state.pins.items core.state.jobs.loose.items c.in-Ok.kept.items kept c.in-Ok.free.items free c.as_slice.ensures.value c.as_slice-2.ensures.value c.in-Ok.ensures)
-    (some_there c.in-Ok.free free c.as_slice-2.ensures.value (sym c.is_empty.ensures ∙ c.if-is_empty.false))
+    (some_there c.in-Ok.free free c.as_slice-2.ensures.value (sym c.is_empty-2.ensures ∙ c.if-is_empty-2.false))
     w.telling
     (λ told ready may rules. w.kept told core.state.list core.state.jobs.next_file (named_loose core.state kept) ready may (list.text rules))
     (λ told ready may rules. w.others told core.state.list core.state.jobs.next_file (named_loose core.state kept) ready may (list.text rules))
