@@ -1,7 +1,6 @@
 -- What is open in a port before a flush, and once it began.
-use Rattle.std.proofs.Common.{◌≡◌, [], ◌∷◌, zero, refl, subst, arith}
+use Rattle.std.proofs.Common.{◌≡◌, ◌∷◌, zero, refl, subst, arith}
 use Rattle.std.specs.Prelude.{List, Option, Some, Ok}
-use Rattle.disk_model.specs.declared.disk.Device.{Ghosts}
 use Rattle.store_model.specs.Event.{Event, Reply}
 use Rattle.store_model.specs.Event.Event.{BeginFlush}
 use Rattle.store_model.specs.Event.Reply.{Flushing}
@@ -11,11 +10,6 @@ use Rattle.store_state.specs.Meaning.{Meaning, Called, IsOpen}
 use Rattle.store_state.specs.Replies.{begin_flush_reply}
 use Rattle.store_state.specs.declared.jobs.FlushJob.{FlushJob}
 use Rattle.store_state.proofs.HoldLaws.{opens_new}
-use Rattle.store_core.proofs.PortEvents.{holds_nothing}
-use Rattle.store_core.specs.Opening.{OpensOver}
-use Rattle.store_core.specs.Port.{port_of}
-use Rattle.store_core.specs.declared.store.Core.{Core}
-use Rattle.store_model.specs.Step.{Machine}
 
 -- A port goes on saying what is open in it.
 pub goes_on : {P : Type 0} (meaning : Meaning P) (old new : P) (event : Event) (reply : Reply) → Called meaning old event reply new
@@ -28,7 +22,3 @@ pub begun_is_open : {P : Type 0} (meaning : Meaning P) (old new : P) (begun : Op
 begun_is_open meaning old new begun job same called holds =
     opens_new meaning old new BeginFlush (Flushing job.out.number job.out.file job.rows) (flush_of job)
         (subst (λ (x : Option FlushJob). Called meaning old BeginFlush (begin_flush_reply (Ok x)) new) same called) holds (zero, omega arith, refl)
-
--- A core that was opened says that nothing of a caller's is open in it.
-pub opened_says : {D : Type 0} (g : Ghosts D) (core : Core D) → ((m : Machine) × OpensOver g core m) → (held : List Hold) × (port_of g).holds core held
-opened_says g core (m, over) = ([], holds_nothing g core m over.shows)

@@ -14,7 +14,7 @@ use flusher::flush_round;
 use span_types::Memory;
 use std::alloc::Global;
 use std::test::Fail;
-use store_core::Core;
+use store_core::{Core, a_shown_core_is_a_port};
 use store_state::{BeginError, FlushJob, FlushPort, Look, LookPort, Refusal, Round};
 
 // The disk of a store with one push of two rows. It has the list in slot 0, and one segment.
@@ -61,6 +61,7 @@ fn opens_and_begins<D: Device>(alloc: Global, disk: D) -> bool {
     match Core::open_store(alloc, disk, 7) {
         Ok(core) => {
             let mut core = core;
+            a_shown_core_is_a_port(&core);
             begins_twice(&mut core)
         }
         Err(_) => false,
@@ -97,6 +98,7 @@ fn flushed<D: Device>(alloc: Global, disk: D) -> (Option<End>, D) {
     match Core::open_store(alloc, disk, 7) {
         Ok(core) => {
             let mut core = core;
+            a_shown_core_is_a_port(&core);
             let end = flush(alloc, &mut core);
             (Some(end), core.close())
         }
