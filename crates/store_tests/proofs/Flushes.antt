@@ -1,5 +1,5 @@
 -- What is open in a port before a flush, and once it began.
-use Rattle.std.proofs.Common.{◌≡◌, ◌∷◌, zero, refl, subst, arith}
+use Rattle.std.proofs.Common.{◌≡◌, zero, refl, subst, arith}
 use Rattle.std.specs.Prelude.{List, Option, Some, Ok}
 use Rattle.store_model.specs.Event.{Event, Reply}
 use Rattle.store_model.specs.Event.Event.{BeginFlush}
@@ -21,4 +21,4 @@ pub begun_is_open : {P : Type 0} (meaning : Meaning P) (old new : P) (begun : Op
     → Called meaning old BeginFlush (begin_flush_reply (Ok begun)) new → ((held : List Hold) × meaning.holds old held) → IsOpen meaning new (flush_of job)
 begun_is_open meaning old new begun job same called holds =
     opens_new meaning old new BeginFlush (Flushing job.out.number job.out.file job.rows) (flush_of job)
-        (subst (λ (x : Option FlushJob). Called meaning old BeginFlush (begin_flush_reply (Ok x)) new) same called) holds (zero, omega arith, refl)
+    (subst (λ (x : Option FlushJob). Called meaning old BeginFlush (begin_flush_reply (Ok x)) new) same called) holds (zero, omega arith, refl)
