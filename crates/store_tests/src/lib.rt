@@ -6,6 +6,8 @@ mod blocks;
 #[cfg(test)]
 mod events;
 #[cfg(test)]
+mod flushing;
+#[cfg(test)]
 mod live;
 #[cfg(test)]
 mod opening;

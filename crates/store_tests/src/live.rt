@@ -130,7 +130,7 @@ pub(crate) fn are_at(rows: &Rows, places: &[(u64, u32)]) -> bool {
     same
 }
 
-fn has_rows(rows: Result<Rows, Memory>, places: &[(u64, u32)]) -> bool {
+pub(crate) fn has_rows(rows: Result<Rows, Memory>, places: &[(u64, u32)]) -> bool {
     match rows {
         Ok(rows) => are_at(&rows, places),
         Err(_) => false,

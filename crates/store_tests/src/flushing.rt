@@ -1,0 +1,208 @@
+//! Flushes of a store over a disk in memory: one is open at a time, and what each device call of a flush leaves that fails or is
+//! the last one before a crash.
+
+ghost use Rattle.std.specs.Prelude.{List};
+ghost use Rattle.store_model.specs.Holds.{Hold};
+ghost use Rattle.store_state.specs.Given.{flush_of};
+ghost use Rattle.store_state.specs.Meaning.{IsOpen};
+
+use crate::live::has_rows;
+use crate::store::{Step, Upset, Upsets, played};
+use block_info::SharedInfo;
+use disk_model::{Device, MemDisk};
+use flusher::flush_round;
+use span_types::Memory;
+use std::alloc::Global;
+use std::test::Fail;
+use store_core::{Core, a_shown_core_is_a_port};
+use store_state::{BeginError, FlushJob, FlushPort, Look, LookPort, Refusal, Round};
+
+// The disk of a store with one push of two rows. It has the list in slot 0, and one segment.
+fn with_push(alloc: Global) -> (bool, MemDisk) {
+    played(alloc, MemDisk::empty(alloc), &[Step::Both(Ok(0))])
+}
+
+// Whether a flush has this number and the rows of that push, by trace.
+fn is_job(job: &FlushJob, number: u64) -> bool {
+    job.out.number == number && has_rows(job.rows.copy_rows(), &[(0, 1), (0, 0)])
+}
+
+fn begins<P: FlushPort>(port: &mut P, number: u64) -> bool {
+    match port.begin_flush() {
+        Ok(Some(job)) => is_job(&job, number),
+        _ => false,
+    }
+}
+
+// Whether no flush begins beside the first one, and its rows are those of the next one once it is dropped.
+fn begins_again<P: FlushPort>(port: &mut P, job: FlushJob) -> bool
+    requires { IsOpen P.meaning port.old (flush_of job) }
+{
+    let is_busy = match port.begin_flush() {
+        Err(error) => error == BeginError::Busy { job: 1 },
+        Ok(_) => false,
+    };
+    port.drop_flush(job);
+    is_busy && begins(port, 2)
+}
+
+// Whether that is so once all rows are cut and a flush began.
+fn begins_twice<P: FlushPort>(port: &mut P) -> bool
+    requires { (held : List Hold) × P.meaning.holds port.old held }
+{
+    let cut = port.cut_all();
+    match port.begin_flush() {
+        Ok(Some(job)) => cut == Ok(2) && is_job(&job, 1) && begins_again(port, job),
+        _ => false,
+    }
+}
+
+fn opens_and_begins<D: Device>(alloc: Global, disk: D) -> bool {
+    match Core::open_store(alloc, disk, 7) {
+        Ok(core) => {
+            let mut core = core;
+            a_shown_core_is_a_port(&core);
+            begins_twice(&mut core)
+        }
+        Err(_) => false,
+    }
+}
+
+#[test]
+fn one_flush_is_open_at_a_time(rt: HostRuntime) {
+    let alloc = rt.alloc();
+    let (pushed, disk) = with_push(alloc);
+    assert!(rt; pushed && opens_and_begins(alloc, disk));
+}
+
+// How a flush of all rows ends, and how often the disk has failed by then if the store is read-only.
+type End = (Round, Option<u64>);
+
+fn flush<P: FlushPort>(alloc: Global, port: &mut P) -> End
+    requires { (held : List Hold) × P.meaning.holds port.old held }
+{
+    let _cut = port.cut_all();
+    let round = flush_round(alloc, port);
+    (round, read_only(port))
+}
+
+fn read_only<P: FlushPort>(port: &mut P) -> Option<u64> {
+    match port.begin_flush() {
+        Err(BeginError::ReadOnly { faults }) => Some(faults),
+        _ => None,
+    }
+}
+
+// A flush of all rows in the store that a disk holds, none where it isn't opened, and the disk.
+fn flushed<D: Device>(alloc: Global, disk: D) -> (Option<End>, D) {
+    match Core::open_store(alloc, disk, 7) {
+        Ok(core) => {
+            let mut core = core;
+            a_shown_core_is_a_port(&core);
+            let end = flush(alloc, &mut core);
+            (Some(end), core.close())
+        }
+        Err((_, disk)) => (None, disk),
+    }
+}
+
+// Where the rows of the push are.
+#[derive(Clone, Copy)]
+enum Place {
+    InMemory,
+    InBlock,
+    InEither,
+}
+
+fn wait(look: &Look) -> bool {
+    look.pin.blocks.len() == 0 && has_rows(look.rows.copy_rows(), &[(0, 0), (0, 1)])
+}
+
+fn is_block(infos: &[SharedInfo]) -> bool {
+    infos.len() == 1 && infos[0].get().rows == 2
+}
+
+fn are_listed(look: &Look) -> bool {
+    is_block(look.pin.blocks.as_slice()) && has_rows(look.rows.copy_rows(), &[])
+}
+
+// Whether a look is of that push alone, whose rows are there.
+fn is_push(look: &Look, place: Place) -> bool {
+    let is_there = match place {
+        Place::InMemory => wait(look),
+        Place::InBlock => are_listed(look),
+        Place::InEither => wait(look) || are_listed(look),
+    };
+    is_there && look.as_of == 1
+}
+
+fn shows<D: Device>(alloc: Global, disk: D, place: Place) -> bool {
+    match Core::open_store(alloc, disk, 7) {
+        Ok(core) => {
+            let mut core = core;
+            match core.look() {
+                Ok(look) => is_push(&look, place),
+                Err(_) => false,
+            }
+        }
+        Err(_) => false,
+    }
+}
+
+// Whether each image of a disk is a store with that push alone.
+fn images_show(alloc: Global, disk: &MemDisk, place: Place) -> Result<bool, Memory> {
+    let mut same = true;
+    for pick in 0u64..12 {
+        same &= shows(alloc, disk.image(pick)?, place);
+    }
+    Ok(same)
+}
+
+// Whether a flush that is upset ends so, and the push is there in all that it leaves.
+fn ends(alloc: Global, what: Upset, end: End, place: Place) -> Result<bool, Memory> {
+    let (pushed, disk) = with_push(alloc);
+    let mut disk = disk;
+    let ready = disk.upset(alloc, what);
+    let (found, disk) = flushed(alloc, disk);
+    Ok(pushed && ready && found == Some(end) && images_show(alloc, &disk, place)?)
+}
+
+// The opening makes nine calls: both slots are synced, measured and read, and the segment is synced and read in two.
+const OPENING: u64 = 9;
+
+// What a flush answers that fails, and then the next one.
+const FAILS: End = (Round::Refused(Refusal::Fault), Some(1));
+
+const ENDS: End = (Round::Did { blocks: 1, rows: 2 }, None);
+
+// A flush makes five calls for its two files, one for the block's piece, one that makes the block last, and six for the list, the
+// last but one of which writes the byte with which the list counts.
+#[test]
+fn a_flush_that_is_stopped_keeps_the_push(rt: HostRuntime) -> Result<(), Fail> {
+    let alloc = rt.alloc();
+    for calls in 0u64..14 {
+        let (end, place) = match calls {
+            13 => (ENDS, Place::InBlock),
+            12 => (FAILS, Place::InEither),
+            _ => (FAILS, Place::InMemory),
+        };
+        let what = Upset::Stops(OPENING + calls);
+        assert!(rt; ends(alloc, what, end, place)?, "{calls} calls");
+    }
+    Ok(())
+}
+
+#[test]
+fn a_flush_with_a_failed_call_keeps_the_push(rt: HostRuntime) -> Result<(), Fail> {
+    let alloc = rt.alloc();
+    for call in 1u64..14 {
+        let place = if call < 12 {
+            Place::InMemory
+        } else {
+            Place::InEither
+        };
+        let what = Upset::Fails(OPENING + call);
+        assert!(rt; ends(alloc, what, FAILS, place)?, "call {call}");
+    }
+    Ok(())
+}
