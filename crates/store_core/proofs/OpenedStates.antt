@@ -36,10 +36,10 @@ use Rattle.store_core.specs.Pins.{is_taken, files_at}
 use Rattle.store_core.specs.Cores.{AreDescribed, HasState, StandsFor, listed_as, segment_of, tail_of, unsure_of}
 use Rattle.store_core.specs.InUse.{AreInUse}
 use Rattle.store_core.specs.Waiting.{rows_outside, AreLogged}
-use Rattle.store_core.specs.Loose.{without_loose, list_after}
+use Rattle.store_core.specs.Loose.{without_loose, list_after, used_files}
 use Rattle.store_core.specs.LogReading.{LogRead}
 use Rattle.store_core.specs.Opening.{opened_state, IsOpenedState}
-use Rattle.store_core.proofs.LooseFiles.{used_files, distinct_front, rules_without}
+use Rattle.store_core.proofs.LooseFiles.{distinct_front, rules_without}
 use Rattle.store_core.proofs.ReadBlocks.{files_of_refs, same_block_files}
 use Rattle.store_core.proofs.InUse.{used_listed}
 use Rattle.store_core.proofs.LogLaws.{one_log}

@@ -12,7 +12,8 @@ use Rattle.store_images.proofs.Keeping.{keeps_same, keeps_then}
 use Rattle.store_core.specs.Cores.{tail_of}
 use Rattle.store_core.specs.declared.error.OpenError.TheVariants.{NotStore}
 use Rattle.store_core.proofs.LogSteps.{handed_on}
-use Rattle.store_core.proofs.LooseFiles.{segment_used, used_files, used_low}
+use Rattle.store_core.specs.Loose.{used_files}
+use Rattle.store_core.proofs.LooseFiles.{segment_used, used_low}
 use Rattle.store_core.proofs.OpeningSteps.{block_low, listed_used, segment_low, settled_again, used_by, used_stays}
 use Rattle.store_core.proofs.opening.read_store.Goals as goal
 
