@@ -1,5 +1,5 @@
 -- The compaction of a run of events.
-use Rattle.std.proofs.Common.{◌≡◌, ℕ, List, [], ◌∷◌, drop, ◌++◌, ◌+◌, length, Option, Some, None, take, refl, sym, subst, arith}
+use Rattle.std.proofs.Common.{◌≡◌, ℕ, List, [], ◌∷◌, ◌++◌, length, Option, take, refl, sym, subst, arith}
 use Rattle.compactor.specs.Rounds.{Leads, Stage}
 use Rattle.compactor.specs.Rounds.{Stage as stage}
 use Rattle.compactor.specs.Rounds.{Leads as lead}

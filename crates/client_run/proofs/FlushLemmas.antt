@@ -1,5 +1,5 @@
 -- The flush of a run of events.
-use Rattle.std.proofs.Common.{◌≡◌, ℕ, List, [], ◌∷◌, false, true, Option, Some, None, take, refl, sym, subst, arith}
+use Rattle.std.proofs.Common.{◌≡◌, ℕ, List, [], ◌∷◌, true, Option, take, refl, sym, subst, arith}
 use Rattle.flusher.specs.Rounds.{Leads, Stage}
 use Rattle.flusher.specs.Rounds.{Stage as stage}
 use Rattle.flusher.specs.Rounds.{Leads as lead}

@@ -1,8 +1,8 @@
 -- A core's jobs have files of their own.
-use Rattle.std.proofs.Common.{◌≡◌, ℕ, ◌+◌, ◌≤◌, ◌==◌, Bool, true, false, List, [], ◌∷◌, ◌++◌, Option, Some, None, refl, sym, ◌∙◌, ap, subst, arith, if◌then◌else◌}
+use Rattle.std.proofs.Common.{◌≡◌, ℕ, ◌≤◌, ◌==◌, Bool, true, false, List, [], ◌∷◌, ◌++◌, Option, Some, None, refl, sym, ◌∙◌, ap, subst, arith, if◌then◌else◌}
 use Rattle.disk_model.specs.declared.disk.Device.{Ghosts}
 use Rattle.store_model.specs.Holds.{IsOpenCompact}
-use Rattle.store_model.specs.Sound.{StateIsSound, times, uses}
+use Rattle.store_model.specs.Sound.{StateIsSound, times}
 use Rattle.store_model.specs.State.{Compaction, Flush, Pinned, State, block_files, compaction_files, flush_files, is_among, pinned_blocks, pinned_files}
 use Rattle.store_model.specs.Step.{Machine}
 use Rattle.store_model.proofs.Numbers.{named, same_number, times-append, times_itself}

@@ -1,9 +1,8 @@
 -- What steps of either kind have in common: the looks stay, and so do the files of the other kind's job.
-use Rattle.std.proofs.Common.{◌≡◌, ℕ, ◌==◌, List, [], ◌∷◌, ◌++◌, Bool, true, false, Option, Some, None, map, refl, sym, ◌∙◌, ap, append-nil, if◌then◌else◌}
+use Rattle.std.proofs.Common.{◌≡◌, ℕ, ◌==◌, List, [], ◌∷◌, ◌++◌, Bool, true, false, Option, Some, None, map, refl, ◌∙◌, ap, append-nil, if◌then◌else◌}
 use Rattle.std.specs.Prelude.{◌||◌}
 use Rattle.std.proofs.lemmas.Bool.{eqb-true}
 use Rattle.span_types.specs.declared.spans.Row.{Row}
-use Rattle.store_model.specs.Event.{Event as event, Reply as reply}
 use Rattle.store_model.specs.Event.Event.{WritePiece}
 use Rattle.store_model.specs.Event.Reply.{Fine, Refused}
 use Rattle.store_model.specs.Holds.{Hold, ends}

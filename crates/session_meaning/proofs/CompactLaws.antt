@@ -1,12 +1,11 @@
 -- What a compaction does, and why it is refused.
-use Rattle.std.proofs.Common.{◌≡◌, inl, inr, ℕ, ◌<◌, ◌≤◌, Bool, true, false, List, [], ◌∷◌, ◌++◌, Option, Some, None, length, map, refl, sym, ◌∙◌, ap, subst, le_trans}
+use Rattle.std.proofs.Common.{◌≡◌, inl, inr, ℕ, ◌<◌, Bool, true, false, List, [], ◌∷◌, ◌++◌, Some, None, length, refl, sym, ◌∙◌, ap, subst}
 use Rattle.std.proofs.lemmas.List.{length-map}
 use Rattle.span_types.specs.Faults.{Rose}
 use Rattle.span_types.specs.First.{IsFirstOf}
 use Rattle.span_types.specs.declared.spans.Row.{Row}
 use Rattle.store_model.specs.After.{after_begin_compact, after_commit_compact, chosen_job, job_files}
 use Rattle.store_model.specs.Choice.{choice, in_files}
-use Rattle.store_model.specs.Event.{Reply as reply}
 use Rattle.store_model.specs.Event.Event.{BeginCompact}
 use Rattle.store_model.specs.Event.Reply.{Fine}
 use Rattle.store_model.specs.State.{Block, Compaction, IsFreeNumber, block_files, block_rows}
@@ -20,13 +19,13 @@ use Rattle.store_state.specs.declared.rounds.Round.{Round}
 use Rattle.store_state.specs.declared.rounds.Round.TheVariants.{Did, Refused}
 use Rattle.session_meaning.specs.At.{At}
 use Rattle.session_meaning.specs.Causes.{HasCompactCause}
-use Rattle.session_meaning.specs.Rounds.{HasJoined, IsCompacted, IsDoneOrStarved, IsRound, IsTold, Job, blocks_of, given}
+use Rattle.session_meaning.specs.Rounds.{HasJoined, IsCompacted, IsDoneOrStarved, IsTold, Job}
 use Rattle.session_meaning.specs.Rounds.{IsRound as round_of}
 use Rattle.session_meaning.specs.Upkeep.{IsClosed}
 use Rattle.session_meaning.proofs.RoundLaws.{Ending, HasBegun, HasFailed, IsRefusedFor, OfKind, has_begun, not_did, round_caused, same_files}
 use Rattle.session_meaning.proofs.RoundLaws.Ending.{Breaks, GivesUp, Lists, Misreads}
 use Rattle.session_meaning.proofs.RoundLaws.OfKind.{Blocks}
-use Rattle.session_meaning.proofs.RoundRoom.{FoundNone, KeepsRoom, round_without_faults}
+use Rattle.session_meaning.proofs.RoundRoom.{KeepsRoom, round_without_faults}
 use Rattle.session_meaning.proofs.RoundSteps.IsBegin.{OfCompaction}
 use Rattle.session_meaning.proofs.Steps.{rose_to}
 

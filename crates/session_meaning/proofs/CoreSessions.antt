@@ -1,9 +1,8 @@
 -- What is answered over the port of a core is a session.
-use Rattle.std.proofs.Common.{◌≡◌, ℕ, Bool, true, false, List, [], ◌∷◌, Ok, Err, IsTrue, refl, sym, ◌∙◌, ap, subst}
+use Rattle.std.proofs.Common.{ℕ, Bool, true, false, List, [], ◌∷◌, Ok, Err, IsTrue, refl, sym, ap, subst}
 use Rattle.disk_model.specs.declared.disk.Device.{Ghosts}
 use Rattle.session_text.specs.declared.reply.Reply.{Reply}
 use Rattle.session_text.specs.Items.{Item}
-use Rattle.store_model.specs.Laws.{Agrees}
 use Rattle.store_model.specs.Step.{Machine}
 use Rattle.store_images.proofs.Lists.{not_in_nil}
 use Rattle.store_core.specs.Cores.{CoreShows, CoreStandsFor}

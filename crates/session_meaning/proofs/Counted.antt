@@ -1,6 +1,5 @@
 -- The blocks of a core whose disk tells its bytes have as many rows as their information says.
 use Rattle.std.proofs.Common.{◌≡◌, ℕ, List, [], ◌∷◌, IsTrue, length, map, sym, ◌∙◌, ap}
-use Rattle.std.specs.Prelude.{⊤}
 use Rattle.span_types.specs.declared.spans.Row.{Row}
 use Rattle.disk_model.specs.Images.{Image, bytes_of}
 use Rattle.disk_model.specs.declared.disk.Device.{Ghosts}

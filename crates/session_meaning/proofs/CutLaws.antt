@@ -1,16 +1,16 @@
 -- What a cut makes of the store.
-use Rattle.std.proofs.Common.{◌≡◌, ◌⊎◌, inl, inr, ℕ, ◌+◌, ◌≤◌, Bool, true, not, List, ◌++◌, filter, arith, length, length-append, refl, sym, ap, subst, ◌∙◌}
+use Rattle.std.proofs.Common.{◌≡◌, ◌⊎◌, inl, inr, ℕ, Bool, true, not, List, filter, arith, length, length-append, refl, sym, ap, subst, ◌∙◌}
 use Rattle.std.proofs.lemmas.List.{length-map}
 use Rattle.std.proofs.lemmas.List.Filters.{length-filter_both}
 use Rattle.std.proofs.lemmas.List.Sorted.{length_permutation}
 use Rattle.span_types.specs.declared.spans.Row.{Row}
 use Rattle.store_model.specs.After.{after_cut}
 use Rattle.store_model.specs.Cut.{AreMoved, is_idle}
-use Rattle.store_model.specs.Event.{Event as event, Reply as reply}
+use Rattle.store_model.specs.Event.{Reply as reply}
 use Rattle.store_model.specs.Event.Event.{Cut, CutAll}
 use Rattle.store_model.specs.Event.Reply.{Refused}
 use Rattle.store_model.specs.Event.Refusal.{Memory}
-use Rattle.store_model.specs.State.{LiveRow, flush_rows, live_rows}
+use Rattle.store_model.specs.State.{LiveRow, live_rows}
 use Rattle.store_model.specs.Step.{IsCut, Machine, Step, with_state}
 use Rattle.store_model.specs.Step.Step.{Sure, Succeeds, Lacks, Unread, Breaks, Halts}
 use Rattle.session_meaning.specs.Upkeep.{IsClosed}

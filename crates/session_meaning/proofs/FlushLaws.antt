@@ -1,5 +1,5 @@
 -- What a flush does, and why it is refused.
-use Rattle.std.proofs.Common.{◌≡◌, inl, inr, ℕ, ◌<◌, ◌≤◌, List, Some, None, length, refl, sym, ◌∙◌, ap, subst, take}
+use Rattle.std.proofs.Common.{◌≡◌, inl, inr, ℕ, ◌<◌, ◌≤◌, List, Some, None, sym, ◌∙◌, ap, subst, take}
 use Rattle.span_types.specs.Faults.{Rose}
 use Rattle.span_types.specs.First.{IsFirstOf}
 use Rattle.span_types.specs.declared.spans.Row.{Row}

@@ -1,5 +1,5 @@
 -- Why a push is refused, and what it had where it is accepted.
-use Rattle.std.proofs.Common.{rules, ◌≡◌, ℕ, ◌+◌, ◌<◌, ◌≤◌, nat_le, nat_lt, inl, Bool, true, false, List, [], ◌∷◌, Option, Some, None, Result, Ok, Err, ap, arith, length, refl, sym, subst}
+use Rattle.std.proofs.Common.{rules, ◌≡◌, ℕ, ◌+◌, ◌<◌, ◌≤◌, nat_le, nat_lt, inl, Bool, true, false, List, Option, Some, None, Result, Ok, Err, ap, length, refl, sym, subst}
 use Rattle.std.specs.Prelude.{Bool, ⊤}
 use Rattle.span_types.specs.Faults.{Rose}
 use Rattle.span_types.specs.declared.spans.Span.{Span}

@@ -1,6 +1,6 @@
 -- What the calls of a query make of the store's machine: nothing. And of which rows it tells.
 use Rattle.std.specs.Prelude.{⊤}
-use Rattle.std.proofs.Common.{◌≡◌, ◌⊎◌, inl, inr, ℕ, ◌+◌, ◌≤◌, ◌==◌, ◌||◌, Bool, true, false, List, [], ◌∷◌, ◌++◌, Result, Ok, Err, append-nil, append_assoc, arith, length, length-append, map, refl, sym, ◌∙◌, ap, subst}
+use Rattle.std.proofs.Common.{◌≡◌, inl, inr, ℕ, ◌+◌, ◌==◌, ◌||◌, Bool, true, false, List, [], ◌∷◌, ◌++◌, Result, Ok, Err, append-nil, arith, length, length-append, refl, sym, ◌∙◌, ap, subst}
 use Rattle.std.specs.List.Sorted.{IsPermutation}
 use Rattle.span_types.specs.Faults.{Rose}
 use Rattle.span_types.specs.First.{first_at}
@@ -8,26 +8,24 @@ use Rattle.span_types.specs.declared.ids.Key.{Key}
 use Rattle.span_types.specs.declared.spans.Row.{Row}
 use Rattle.span_types.specs.declared.spans.Span.{Span}
 use Rattle.block_info.specs.InfoParts.{InfoParts}
-use Rattle.query_fanout.specs.BlockReads.{AreRead, ComesOf, IsRead, Stops, StopsAt, StopsWithin, failed_read, page_reads}
-use Rattle.query_fanout.specs.Queries.{IsAsked, Sound, Taken, TellsOf, all_rows, look_call}
+use Rattle.query_fanout.specs.BlockReads.{AreRead, ComesOf, IsRead, Stops, StopsAt, StopsWithin, page_reads}
+use Rattle.query_fanout.specs.Queries.{IsAsked, Sound, TellsOf, all_rows}
 use Rattle.query_fanout.specs.declared.error.QueryError.{QueryError}
 use Rattle.query_fanout.specs.declared.error.QueryError.TheVariants as error
 use Rattle.store_images.specs.Stored.{SameFirsts}
 use Rattle.store_model.specs.After.{after_done}
-use Rattle.store_model.specs.Event.{Event as event, Reply as reply}
+use Rattle.store_model.specs.Event.{Reply as reply}
 use Rattle.store_model.specs.Event.Event.{Done, Look, ReadPage}
 use Rattle.store_model.specs.Event.Reply.{Fine, Page, Refused}
 use Rattle.store_model.specs.Event.Refusal.{Fault, Memory}
 use Rattle.store_model.specs.History.{History, count_of, grown, history_rows}
 use Rattle.store_model.specs.Laws.{Agrees}
 use Rattle.store_model.specs.State.{Block, block_files, block_rows, flush_rows, is_among, live_rows}
-use Rattle.store_model.specs.Step.{IsLook, Machine, Step, with_state}
-use Rattle.store_model.specs.Step.Step.{Sure, Succeeds, Lacks, Unread, Breaks, Halts}
+use Rattle.store_model.specs.Step.{IsLook, Machine, with_state}
 use Rattle.store_model.proofs.KeepsFirsts as firsts
 use Rattle.store_model.proofs.Numbers.{equal_itself}
 use Rattle.store_state.specs.Given.{info_files}
 use Rattle.store_state.specs.Made.{Call, call}
-use Rattle.client_run.specs.CoreRuns.{AreSteps}
 use Rattle.session_meaning.specs.Answering.{CallsLead}
 use Rattle.session_meaning.specs.At.{At, IsStep, IsStill, history_of}
 use Rattle.session_meaning.proofs.Looks.{look_ended, look_refused, look_taken, still_after}

@@ -1,5 +1,5 @@
 -- A store writes no more only where a call failed since it wrote.
-use Rattle.std.proofs.Common.{Bool, ◌≡◌, ◌⊎◌, inl, inr, ◌∙◌, ℕ, ◌≤◌, List, [], ◌∷◌, Option, Some, None, Ok, Err, ap, arith, refl, sym, subst}
+use Rattle.std.proofs.Common.{Bool, ◌≡◌, ◌⊎◌, inl, inr, ◌∙◌, ℕ, ◌≤◌, List, [], ◌∷◌, Some, None, Ok, Err, ap, arith, sym, subst}
 use Rattle.span_types.specs.Faults.{Rose}
 use Rattle.session_text.specs.declared.reply.Reply.{Reply}
 use Rattle.session_text.specs.declared.request.Request.TheVariants as request

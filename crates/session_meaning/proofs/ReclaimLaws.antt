@@ -1,14 +1,13 @@
 -- What the emptying of loose files makes of the store.
-use Rattle.std.proofs.Common.{◌≡◌, ◌⊎◌, inl, inr, ℕ, Option, Some, None, Result, Ok, Err, arith, length, refl, sym, ap, subst, ◌∙◌}
+use Rattle.std.proofs.Common.{◌≡◌, ◌⊎◌, inl, inr, ℕ, Option, Some, None, Result, Ok, Err, arith, refl, sym, ap, subst, ◌∙◌}
 use Rattle.std.specs.Prelude.{⊤}
 use Rattle.span_types.specs.Faults.{Rose}
 use Rattle.session_text.specs.declared.refusal.Refusal.{Refusal}
-use Rattle.session_text.specs.declared.reply.Reply.{Reply}
 use Rattle.session_text.specs.declared.reply.Reply.TheVariants.{Reclaimed, Refused}
 use Rattle.store_model.specs.Event.{Reply as reply, Refusal as cause}
 use Rattle.store_model.specs.Event.Event.{Reclaim}
 use Rattle.store_model.specs.Event.Reply.{Count}
-use Rattle.store_model.specs.Step.{Happens, Machine, Step, if_read_only, with_state}
+use Rattle.store_model.specs.Step.{Machine, Step, if_read_only}
 use Rattle.store_model.specs.Step.Step.{Sure, Succeeds, Lacks, Unread, Breaks, Halts}
 use Rattle.store_model.proofs.Outcomes.{kept_by}
 use Rattle.store_state.specs.Replies.{reclaim_reply, reclaim_refusal}
@@ -17,7 +16,7 @@ use Rattle.store_state.specs.declared.errors.ReclaimError.TheVariants as error
 use Rattle.client_run.specs.Answers.{reclaim_cause, reclaimed_reply}
 use Rattle.session_meaning.specs.At.{At, IsStep}
 use Rattle.session_meaning.specs.Causes.{HasWriteCause}
-use Rattle.session_meaning.specs.Upkeep.{HasEmptied, HasNoJob, IsClosed}
+use Rattle.session_meaning.specs.Upkeep.{HasEmptied, IsClosed}
 use Rattle.session_meaning.proofs.RoundRoom.{KeepsRoom, room_itself}
 
 -- what an event that tests only whether the store writes answers surely

@@ -1,15 +1,15 @@
 -- What a round keeps of the store, and how it ends.
-use Rattle.std.proofs.Common.{◌≡◌, ◌⊎◌, inl, inr, ℕ, ◌+◌, ◌<◌, ◌≤◌, List, [], ◌∷◌, ◌++◌, Option, Some, None, arith, drop, length, length-append, option_map, refl, sym, ◌∙◌, ap, subst, take}
+use Rattle.std.proofs.Common.{◌≡◌, ◌⊎◌, inl, inr, ℕ, ◌≤◌, List, Option, Some, None, arith, option_map, refl, sym, ◌∙◌, ap, subst}
 use Rattle.std.specs.Prelude.{⊤, true}
 use Rattle.span_types.specs.Faults.{Rose}
 use Rattle.span_types.specs.declared.spans.Row.{Row}
 use Rattle.store_model.specs.Choice.{choice}
 use Rattle.store_model.specs.Event.{Event as event, Reply as reply, Refusal as why}
-use Rattle.store_model.specs.Event.Event.{BeginCompact, BeginFlush, CommitCompact, CommitFlush, DropCompact, DropFlush, Push, ReadPage, WritePiece}
+use Rattle.store_model.specs.Event.Event.{BeginCompact, BeginFlush, Push, ReadPage, WritePiece}
 use Rattle.store_model.specs.Event.Reply.{Fine}
 use Rattle.store_model.specs.History.{History}
 use Rattle.store_model.specs.State.{Compaction, Flush, block_files, is_among}
-use Rattle.store_model.specs.Step.{Happens, Machine, Step, broken}
+use Rattle.store_model.specs.Step.{Happens, Machine, Step}
 use Rattle.store_model.specs.Told.{history_after}
 use Rattle.store_model.proofs.Chosen.{choice_part, part_within}
 use Rattle.store_model.proofs.Numbers.{among, named}

@@ -1,16 +1,13 @@
 -- What a round in which no call failed leaves.
-use Rattle.std.proofs.Common.{◌≡◌, ℕ, ◌+◌, ◌<◌, ◌≤◌, List, [], ◌++◌, Option, Some, None, arith, drop, length, length-append, option_map, refl, sym, ◌∙◌, ap, subst, take}
-use Rattle.std.specs.Prelude.{⊤}
+use Rattle.std.proofs.Common.{◌≡◌, ℕ, ◌+◌, ◌<◌, ◌≤◌, List, Option, Some, None, arith, drop, length, length-append, option_map, refl, sym, ◌∙◌, ap, subst, take}
 use Rattle.std.proofs.lemmas.List.{length-drop, length-take}
 use Rattle.span_types.specs.Faults.{Rose}
 use Rattle.span_types.specs.declared.spans.Row.{Row}
-use Rattle.store_model.specs.After.{after_begin_compact, after_begin_flush, after_commit_compact, after_commit_flush, after_drop_compact, after_drop_flush, taken}
+use Rattle.store_model.specs.After.{after_begin_compact, after_begin_flush, after_drop_flush, taken}
 use Rattle.store_model.specs.Choice.{most_rows}
 use Rattle.store_model.specs.Event.{Event as event}
-use Rattle.store_model.specs.Event.Event.{BeginCompact, BeginFlush}
 use Rattle.store_model.specs.Event.Reply.{Fine}
-use Rattle.store_model.specs.History.{count_of}
-use Rattle.store_model.specs.State.{Compaction, Flush, State, flush_rows, held_of}
+use Rattle.store_model.specs.State.{Flush, State, flush_rows, held_of}
 use Rattle.store_model.specs.Step.{Happens, IsCommittedCompact, IsCommittedFlush, IsDroppedCompact, IsDroppedFlush, Machine, with_state}
 use Rattle.store_state.specs.Replies.{begin_refusal}
 use Rattle.store_state.specs.Rounds.{begin_cause}
@@ -19,16 +16,16 @@ use Rattle.store_state.specs.declared.errors.BeginError.TheVariants as begin
 use Rattle.store_state.specs.declared.rounds.Refusal.{Refusal}
 use Rattle.store_state.specs.declared.rounds.Refusal.TheVariants.{Busy, Fault, FilesSpent, Memory, NotBlock, ReadOnly}
 use Rattle.store_state.specs.declared.rounds.Round.{Round}
-use Rattle.store_state.specs.declared.rounds.Round.TheVariants.{Did, Nothing, Refused}
+use Rattle.store_state.specs.declared.rounds.Round.TheVariants.{Refused}
 use Rattle.session_meaning.specs.At.{At}
-use Rattle.session_meaning.specs.Rounds.{IsDoneOrStarved, IsGivenUpFor, IsRound, Job, blocks_of, commit_of, drop_of, given}
+use Rattle.session_meaning.specs.Rounds.{IsDoneOrStarved, IsGivenUpFor, IsRound, Job, commit_of, drop_of, given}
 use Rattle.session_meaning.specs.Rounds.{IsRound as round_of}
 use Rattle.session_meaning.specs.Rounds.Job.{OfBlocks, OfRows}
 use Rattle.session_meaning.specs.Upkeep.{HasNoJob, IsClosed}
 use Rattle.session_meaning.proofs.RoundLaws.{Ending, HasBegun, OfKind, busy_not, has_begun, none_open}
 use Rattle.session_meaning.proofs.RoundLaws.Ending.{Breaks, GivesUp, Lists, Misreads}
 use Rattle.session_meaning.proofs.RoundLaws.OfKind.{Blocks, Rows}
-use Rattle.session_meaning.proofs.RoundSteps.{BeginCause, IsBegin, idle, not_begun, open_job, work}
+use Rattle.session_meaning.proofs.RoundSteps.{BeginCause, IsBegin, idle, not_begun, open_job}
 use Rattle.session_meaning.proofs.Steps.{rose_from, rose_to}
 
 -- Nothing more waits, and at most so many file numbers were given out.

@@ -1,8 +1,7 @@
 -- The calls of a round make of the store what a flush or a compaction does.
-use Rattle.std.proofs.Common.{◌≡◌, ℕ, ◌+◌, ◌||◌, Bool, true, false, List, [], ◌∷◌, ◌++◌, length, map, None, refl, sym, ◌∙◌, ap, subst, take, drop}
+use Rattle.std.proofs.Common.{◌≡◌, ℕ, ◌+◌, ◌||◌, Bool, true, false, List, [], ◌∷◌, ◌++◌, length, None, refl, sym, ◌∙◌, ap, subst, take, drop}
 use Rattle.std.specs.Prelude.{⊤}
 use Rattle.std.proofs.lemmas.List.{length-map}
-use Rattle.span_types.specs.First.{IsFirstOf}
 use Rattle.span_types.specs.declared.spans.Row.{Row}
 use Rattle.block_info.specs.InfoParts.{InfoParts}
 use Rattle.compactor.specs.Rounds.{IsCompactRound, Leads as CompactLeads, Stage as CompactStage}
@@ -11,8 +10,8 @@ use Rattle.compactor.specs.Rounds.{Leads as joins, Stage as joining}
 use Rattle.flusher.specs.Rounds.{IsFlushRound, Leads, Stage}
 use Rattle.flusher.specs.Rounds.{Leads as leads, Stage as stage}
 use Rattle.store_model.specs.Event.{Event as event, Reply as reply, Refusal as refusal}
-use Rattle.store_model.specs.Event.Event.{BeginCompact, BeginFlush, CommitCompact, CommitFlush, DropCompact, DropFlush, ReadPage, WritePiece}
-use Rattle.store_model.specs.Event.Reply.{Compacting, Fine, Flushing, Page}
+use Rattle.store_model.specs.Event.Event.{BeginCompact, BeginFlush, DropCompact, DropFlush, ReadPage, WritePiece}
+use Rattle.store_model.specs.Event.Reply.{Fine, Flushing, Page}
 use Rattle.store_model.specs.State.{is_among}
 use Rattle.store_model.specs.Step.{Machine}
 use Rattle.store_model.proofs.Numbers.{equal_itself}

@@ -4,7 +4,7 @@ use Rattle.std.specs.List.{Contains}
 use Rattle.span_types.specs.declared.spans.Span.{Span}
 use Rattle.otlp_spans.specs.declared.read.Reading.{Reading}
 use Rattle.session_text.specs.declared.reply.Reply.{Reply}
-use Rattle.session_text.specs.declared.reply.Reply.TheVariants.{Compacted, Cut, CutAll, Flushed, NothingCompacted, NothingFlushed, Pushed, Reclaimed, Refused, Searched, Traced}
+use Rattle.session_text.specs.declared.reply.Reply.TheVariants.{Compacted, Cut, CutAll, Flushed, NothingCompacted, NothingFlushed, Pushed, Refused, Searched, Traced}
 use Rattle.session_text.specs.declared.request.Request.TheVariants as request
 use Rattle.session_text.specs.Items.{Item}
 use Rattle.store_model.specs.Event.{Event as event}
