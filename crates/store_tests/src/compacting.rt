@@ -110,7 +110,12 @@ fn flushes_each<P: Port>(alloc: Global, port: &mut P, count: u64) -> bool
 }
 
 // Whether a list names these blocks and one segment with its first number, and as loose these files.
-pub(crate) fn says(list: &ListBody, blocks: &[BlockRef], segment: (u32, u64), loose: &[u32]) -> bool {
+pub(crate) fn says(
+    list: &ListBody,
+    blocks: &[BlockRef],
+    segment: (u32, u64),
+    loose: &[u32],
+) -> bool {
     let mut same = list.segments.len() == 1;
     for found in list.segments.as_slice() {
         same &= found.file == segment.0 && found.first == segment.1;
@@ -251,7 +256,12 @@ fn four_blocks_are_joined_at_once(rt: HostRuntime) {
 }
 
 // The disk of a store that joins the two blocks and empties loose files once its disk is upset, and whether all that was answered.
-fn upset_rounds(alloc: Global, what: Upset, round: Round, emptied: Result<u64, ReclaimError>) -> (bool, MemDisk) {
+fn upset_rounds(
+    alloc: Global,
+    what: Upset,
+    round: Round,
+    emptied: Result<u64, ReclaimError>,
+) -> (bool, MemDisk) {
     match Core::open_store(alloc, MemDisk::empty(alloc), 7) {
         Ok(core) => {
             let mut store = core;
@@ -306,8 +316,16 @@ fn opens_to_first(alloc: Global, image: MemDisk) -> Result<bool, Fail> {
 
 fn names(list: &ListBody, file: u32) -> bool {
     list.loose.as_slice().contains(&file)
-        || list.blocks.as_slice().iter().any(|block| block.file == file)
-        || list.segments.as_slice().iter().any(|segment| segment.file == file)
+        || list
+            .blocks
+            .as_slice()
+            .iter()
+            .any(|block| block.file == file)
+        || list
+            .segments
+            .as_slice()
+            .iter()
+            .any(|segment| segment.file == file)
 }
 
 // Whether the list names each file below its next one that isn't empty.

@@ -14,7 +14,7 @@ pub returns : goal.returns
 returns g c =
     let made = c.compact_round-joined.ensures.made in
     let behind = open_behind_round (port_of g.D.Device) c.add_blocks-read.new.store c.compact_round-joined.new.port made.0 c.compact_round-joined.result c.args.look.now
-        made.1 made.2 (c.add_blocks-read.ensures (look_of c.args.look.now) c.requires) in
+    made.1 made.2 (c.add_blocks-read.ensures (look_of c.args.look.now) c.requires) in
     c.add_blocks-again.ensures (look_of c.args.look.now)
-        (stays_open (port_of g.D.Device) c.compact_round-joined.new.port c.reclaim-emptied.new.self _ _ (look_of c.args.look.now)
-        (did_is_called g.D.Device c.compact_round-joined.new.port _ _ c.reclaim-emptied.new.self c.reclaim-emptied.ensures) behind refl)
+    (stays_open (port_of g.D.Device) c.compact_round-joined.new.port c.reclaim-emptied.new.self _ _ (look_of c.args.look.now)
+    (did_is_called g.D.Device c.compact_round-joined.new.port _ _ c.reclaim-emptied.new.self c.reclaim-emptied.ensures) behind refl)
