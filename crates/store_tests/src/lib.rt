@@ -4,8 +4,6 @@
 #[cfg(test)]
 mod blocks;
 #[cfg(test)]
-mod compacting;
-#[cfg(test)]
 mod events;
 #[cfg(test)]
 mod flushing;

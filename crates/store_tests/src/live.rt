@@ -32,7 +32,7 @@ fn text(alloc: Global) -> Result<Text, Memory> {
     Ok(Text::of(String::from_str(alloc, "")?))
 }
 
-pub(crate) fn span(alloc: Global, key: Key) -> Result<Span, Memory>
+fn span(alloc: Global, key: Key) -> Result<Span, Memory>
     requires { AreNames key.trace key.span None }
 {
     let attrs = Attrs::none(alloc);
