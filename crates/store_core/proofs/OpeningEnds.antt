@@ -160,7 +160,7 @@ module _ {D : Type 0} (g : Ghosts D) where
         (read_whole (IsTrue (g.tells mid)) (g.held mid) list.segments (first_number list) batches (tail_of core.state.segment) read told)
 
     stands_mid : IsTrue (g.tells disk) → (h : History) → ImageStandsFor (g.held disk) h → ImageStandsFor (g.held mid) h
-    stands_mid told h s = stands_moved (g.held disk) (g.held mid) list list.generation list.loose (λ file used. same told file (used_low list rules file used)) (there_mid told) (there told) h s
+    stands_mid told h s = stands_moved (g.held disk) (g.held mid) list list.generation list.next_file list.loose (λ file used. same told file (used_low list rules file used)) (there_mid told) (there told) h s
 
     -- ---- the blocks
 
