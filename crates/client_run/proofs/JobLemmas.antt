@@ -1,7 +1,7 @@
 -- What a flush and a compaction stand on stays behind calls that aren't their own.
 use Rattle.std.proofs.Common.{◌≡◌, ℕ, List, [], ◌∷◌, length, Bool, true, false, sym, ◌∙◌, ap, subst}
 use Rattle.std.specs.Prelude.{IsTrue, ◌||◌}
-use Rattle.compactor.proofs.BlockLaws.{StaySame, begins_stays, blocks_stay, first_stays, rest_stays}
+use Rattle.compactor.proofs.BlockLaws.{StaySame, begins_stays, first_stays, rest_stays, rows_stay}
 use Rattle.compactor.specs.Tasks.{ShowsRead, ShowsWriting, Task as CompactTask}
 use Rattle.compactor.specs.Tasks as compaction
 use Rattle.compactor.specs.Tasks.{Task as compacting}
@@ -82,7 +82,7 @@ read_stays : (old new : ℕ → List ℕ) (job : CompactJob) (parts : List (List
 read_stays old new job parts pages bytes stay told =
     let rest = rest_stays old new job.out.file (info_files job.pin.blocks) stay in
     record {
-      so_far = λ all are. told.so_far all (blocks_stay new old job.pin.blocks all (back old new (info_files job.pin.blocks) rest) are);
+      so_far = λ all are. told.so_far all (rows_stay new old job.pin.blocks all (back old new (info_files job.pin.blocks) rest) are);
       begins = begins_stays old new (length parts) job.pin.blocks pages bytes rest told.begins;
       apart = told.apart;
       empty = first_stays old new job.out.file (info_files job.pin.blocks) stay ∙ told.empty;
@@ -92,7 +92,7 @@ written_stays : (old new : ℕ → List ℕ) (job : CompactJob) (parts : List (L
     → ShowsWriting old job parts bytes → ShowsWriting new job parts bytes
 written_stays old new job parts bytes stay told = record {
   their_rows = λ all are.
-      told.their_rows all (blocks_stay new old job.pin.blocks all (back old new (info_files job.pin.blocks) (rest_stays old new job.out.file (info_files job.pin.blocks) stay)) are);
+      told.their_rows all (rows_stay new old job.pin.blocks all (back old new (info_files job.pin.blocks) (rest_stays old new job.out.file (info_files job.pin.blocks) stay)) are);
   apart = told.apart;
   so_far = first_stays old new job.out.file (info_files job.pin.blocks) stay ∙ told.so_far;
 }
