@@ -52,8 +52,8 @@ many_rows = 131072
 
 -- What is to do, as the store holds so many rows.
 abbrev pub due : ℕ → List Duty → List Duty
-due held (keep_small ∷ later) = if nat_le many_rows held then ask CutAll ∷ ask Flush ∷ later else later
-due held (compact_all times ∷ later) = if times == 0 then later else compact_all times ∷ later
+due held (keep_small ∷ later) = if nat_le many_rows held then ask CutAll ∷ ask Flush ∷ later else due held later
+due held (compact_all times ∷ later) = if times == 0 then due held later else compact_all times ∷ later
 due held todo = todo
 
 abbrev pub due_at : At → List Duty → List Duty
