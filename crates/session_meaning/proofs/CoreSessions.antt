@@ -79,8 +79,7 @@ module _ {D : Type 0} (g : Ghosts D) where
       ingest_means held todo moments (i ∷ is) [] first last m left to_tell stands bad = absurd bad
       ingest_means held todo moments (i ∷ is) (r ∷ rs) first last m left to_tell stands (between, later, told_later, is_due, here, more) =
           let h = moved first between m i r stands here in
-          let rest = ingest_means held later told_later is rs between last h.machine left to_tell h.stands more in
-          (
+          let rest = ingest_means held later told_later is rs between last h.machine left to_tell h.stands more in (
             rest.0,
             rest.1,
             (

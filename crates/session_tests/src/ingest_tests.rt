@@ -11,7 +11,8 @@ use traceql_types::RegexMaker;
 
 const PUSHED_1: &str = "ok push 1 accepted=1 rejected=0 skipped=0\n";
 
-const NOTHING_MORE: &str = "ok cutall moved=0\nok flush nothing\nok compact nothing\nok reclaim files=0\n";
+const NOTHING_MORE: &str =
+    "ok cutall moved=0\nok flush nothing\nok compact nothing\nok reclaim files=0\n";
 
 // What a line pushes, without the word before it.
 fn pushed(line: &str) -> &str {
@@ -25,13 +26,29 @@ fn lines_are_pushed_and_the_store_is_kept_up(rt: HostRuntime) -> Result<(), Memo
     let two = format!(in alloc; "{x}\n{y}\n")?;
     let kept = "ok cutall moved=2\nok flush rows=1\nok compact nothing\nok reclaim files=1\n";
     let wanted = format!(in alloc; "{PUSHED_0}{PUSHED_1}{kept}")?;
-    check(&rt, alloc, &["ingest"], two.as_str(), (&[], &[]), wanted.as_str(), 0)?;
+    check(
+        &rt,
+        alloc,
+        &["ingest"],
+        two.as_str(),
+        (&[], &[]),
+        wanted.as_str(),
+        0,
+    )?;
     check(&rt, alloc, &["ingest"], "", (&[], &[]), NOTHING_MORE, 0)?;
     // Lines without bytes get no reply, and the word of a session's line is no JSON.
     let odd = format!(in alloc; "\n\r\n{x}\r\n{PUSH_X}\n\n")?;
     let one = "ok cutall moved=1\nok flush rows=1\nok compact nothing\nok reclaim files=1\n";
     let wanted = format!(in alloc; "{PUSHED_0}refused bad-json\n{one}")?;
-    check(&rt, alloc, &["ingest"], odd.as_str(), (&[], &[]), wanted.as_str(), 7)?;
+    check(
+        &rt,
+        alloc,
+        &["ingest"],
+        odd.as_str(),
+        (&[], &[]),
+        wanted.as_str(),
+        7,
+    )?;
     Ok(())
 }
 
@@ -44,13 +61,53 @@ fn a_failing_device_ends_an_ingest(rt: HostRuntime) -> Result<(), Memory> {
     let second = format!(in alloc; "{first}ok flush rows=1\n")?;
     let third = format!(in alloc; "{second}ok compact nothing\n")?;
     check(&rt, alloc, &["ingest"], one.as_str(), (&[], &[1]), "", 1)?;
-    check(&rt, alloc, &["ingest"], one.as_str(), (&[], &[2]), PUSHED_0, 1)?;
-    check(&rt, alloc, &["ingest"], one.as_str(), (&[], &[3]), first.as_str(), 1)?;
-    check(&rt, alloc, &["ingest"], one.as_str(), (&[], &[4]), second.as_str(), 1)?;
-    check(&rt, alloc, &["ingest"], one.as_str(), (&[], &[5]), third.as_str(), 1)?;
+    check(
+        &rt,
+        alloc,
+        &["ingest"],
+        one.as_str(),
+        (&[], &[2]),
+        PUSHED_0,
+        1,
+    )?;
+    check(
+        &rt,
+        alloc,
+        &["ingest"],
+        one.as_str(),
+        (&[], &[3]),
+        first.as_str(),
+        1,
+    )?;
+    check(
+        &rt,
+        alloc,
+        &["ingest"],
+        one.as_str(),
+        (&[], &[4]),
+        second.as_str(),
+        1,
+    )?;
+    check(
+        &rt,
+        alloc,
+        &["ingest"],
+        one.as_str(),
+        (&[], &[5]),
+        third.as_str(),
+        1,
+    )?;
     // Where the source fails nothing is done for its end.
     check(&rt, alloc, &["ingest"], one.as_str(), (&[1], &[]), "", 3)?;
-    check(&rt, alloc, &["ingest"], one.as_str(), (&[2], &[]), PUSHED_0, 3)?;
+    check(
+        &rt,
+        alloc,
+        &["ingest"],
+        one.as_str(),
+        (&[2], &[]),
+        PUSHED_0,
+        3,
+    )?;
     Ok(())
 }
 
@@ -68,10 +125,26 @@ fn the_limit_counts_the_line_alone(rt: HostRuntime) -> Result<(), Memory> {
     let alloc = rt.alloc();
     let most = line_of(alloc, 16_777_216)?;
     let wanted = format!(in alloc; "ok push 0 accepted=0 rejected=0 skipped=0\n{NOTHING_MORE}")?;
-    check(&rt, alloc, &["ingest"], most.as_str(), (&[], &[]), wanted.as_str(), 0)?;
+    check(
+        &rt,
+        alloc,
+        &["ingest"],
+        most.as_str(),
+        (&[], &[]),
+        wanted.as_str(),
+        0,
+    )?;
     let more = line_of(alloc, 16_777_217)?;
     let wanted = format!(in alloc; "refused too-long length=16777217\n{NOTHING_MORE}")?;
-    check(&rt, alloc, &["ingest"], more.as_str(), (&[], &[]), wanted.as_str(), 7)?;
+    check(
+        &rt,
+        alloc,
+        &["ingest"],
+        more.as_str(),
+        (&[], &[]),
+        wanted.as_str(),
+        7,
+    )?;
     Ok(())
 }
 
@@ -101,9 +174,21 @@ fn many_rows_are_flushed_before_the_next_line(rt: HostRuntime) -> Result<(), Mem
         wanted.push_str(reply.as_str())?;
     }
     input.push_str("{}\n")?;
-    wanted.push_str("ok cutall moved=131072\nok flush rows=131072\nok push 8 accepted=0 rejected=0 skipped=0\n")?;
-    wanted.push_str("ok cutall moved=0\nok flush nothing\nok compact nothing\nok reclaim files=1\n")?;
-    check(&rt, alloc, &["ingest"], input.as_str(), (&[], &[]), wanted.as_str(), 0)?;
+    wanted.push_str(
+        "ok cutall moved=131072\nok flush rows=131072\nok push 8 accepted=0 rejected=0 skipped=0\n",
+    )?;
+    wanted.push_str(
+        "ok cutall moved=0\nok flush nothing\nok compact nothing\nok reclaim files=1\n",
+    )?;
+    check(
+        &rt,
+        alloc,
+        &["ingest"],
+        input.as_str(),
+        (&[], &[]),
+        wanted.as_str(),
+        0,
+    )?;
     Ok(())
 }
 
@@ -130,16 +215,28 @@ fn run_on(
         &mut RegexMaker::new(alloc),
         &OpenGate,
     );
-    Ok((sink.taken() == wanted.0.as_bytes() && status == wanted.1, disk))
+    Ok((
+        sink.taken() == wanted.0.as_bytes() && status == wanted.1,
+        disk,
+    ))
 }
 
 #[test]
 fn blocks_of_several_ingests_are_joined(rt: HostRuntime) -> Result<(), Memory> {
     let alloc = rt.alloc();
-    let first = format!(in alloc; "{PUSHED_0}ok cutall moved=1\nok flush rows=1\nok compact nothing\nok reclaim files=1\n")?;
-    let (fine, disk) = run_on(&rt, MemDisk::empty(alloc), &["ingest"], pushed(PUSH_X), (first.as_str(), 0))?;
+    let first = format!(in alloc;
+        "{PUSHED_0}ok cutall moved=1\nok flush rows=1\nok compact nothing\nok reclaim files=1\n"
+    )?;
+    let (fine, disk) = run_on(
+        &rt,
+        MemDisk::empty(alloc),
+        &["ingest"],
+        pushed(PUSH_X),
+        (first.as_str(), 0),
+    )?;
     assert!(rt; fine);
-    let kept = "ok cutall moved=1\nok flush rows=1\nok compact blocks=2 rows=1\nok compact nothing\nok reclaim files=3\n";
+    let kept =
+        "ok cutall moved=1\nok flush rows=1\nok compact blocks=2 rows=1\nok compact nothing\nok reclaim files=3\n";
     let second = format!(in alloc; "{PUSHED_1}{kept}")?;
     let (fine, disk) = run_on(&rt, disk, &["ingest"], pushed(PUSH_Y), (second.as_str(), 0))?;
     assert!(rt; fine);

@@ -67,9 +67,12 @@ module _ {D : Type 0} (g : Ghosts D) (is_with : Core D → Machine → Type 0) (
   came_to session core later m old_left old_taken told left taken to_tell e items replies blamed stands came =
       let run = sessions items replies core later m stands came.0.each in (run.0, run.1, run.2, came.1)
   came_to ingest core later m old_left old_taken told left taken to_tell e items replies blamed stands (pushed, after, todo, over, is_left, none, ends) =
-      let run = ingests (duties (pushed ++ after)) told items replies core later m todo to_tell stands over.each in
-      (run.0, run.1, ingest_is_session sure (duties (pushed ++ after)) todo told to_tell items replies (at_core g core m) (at_core g later run.0) run.2,
-      (pushed, after, todo, run.2, is_left, none, ends))
+      let run = ingests (duties (pushed ++ after)) told items replies core later m todo to_tell stands over.each in (
+        run.0,
+        run.1,
+        ingest_is_session sure (duties (pushed ++ after)) todo told to_tell items replies (at_core g core m) (at_core g later run.0) run.2,
+        (pushed, after, todo, run.2, is_left, none, ends),
+      )
   came_to (Alone line) core later m old_left old_taken told left taken to_tell e items replies blamed stands came =
       let run = sessions items replies core later m stands came.0.each in (run.0, run.1, run.2, came.1)
 

@@ -289,7 +289,12 @@ fn answer<Q: Port, P: PatternMaker, G: Gate>(
 }
 
 // Writes a reply. Gives how the session ends, where it can't be written.
-pub(crate) fn write<K: Sink>(alloc: Global, tally: &mut Tally, sink: &mut K, reply: &Reply) -> Option<Ending>
+pub(crate) fn write<K: Sink>(
+    alloc: Global,
+    tally: &mut Tally,
+    sink: &mut K,
+    reply: &Reply,
+) -> Option<Ending>
     ensures given { HasGiven (K.taken sink.old) (K.taken sink.new) tally.old tally.new reply.now result }
     ensures sink_counted { K.faults sink.old ≤ K.faults sink.new }
     ensures write_fault { IfSome result (λ ending. ending ≡ WriteFault → Rose (K.faults sink.old) (K.faults sink.new)) }
