@@ -63,23 +63,27 @@ abbrev pub is_joined : Reply → Bool
 is_joined (Compacted blocks rows) = true
 is_joined _ = false
 
--- By what is due this is asked next; after this reply the rest is to do, and the clock has the rest of its moments to tell. A line is
--- read at the clock's next moment.
+-- By what is due this is asked next; after this reply the rest is to do, and the clock has the rest of its moments to
+-- tell. A line is read at the clock's next moment.
 abbrev pub IsDue : List Duty → Option (List ℕ) → Item → Reply → List Duty → Option (List ℕ) → Type 0
 IsDue (push line ∷ later) told item reply todo to_tell =
-    ((moment : ℕ) × IsNextMoment told moment × AsksPush moment line item) × (todo ≡ later) × (to_tell ≡ after_moment told)
+    ((moment : ℕ) × IsNextMoment told moment × AsksPush moment line item)
+    × (todo ≡ later) × (to_tell ≡ after_moment told)
 IsDue (ask request ∷ later) told item reply todo to_tell = (item ≡ Ok request) × (todo ≡ later) × (to_tell ≡ told)
 IsDue (compact_all times ∷ later) told item reply todo to_tell =
-    (item ≡ Ok Compact) × (todo ≡ (if is_joined reply then compact_all (times - 1) ∷ later else later)) × (to_tell ≡ told)
+    (item ≡ Ok Compact) × (to_tell ≡ told)
+    × (todo ≡ (if is_joined reply then compact_all (times - 1) ∷ later else later))
 IsDue _ told item reply todo to_tell = ⊥
 
--- What is due is asked, and answered in order, from a store to a store; and that is left to do then, with or without a look at what is
--- due of it. `sure` says that what the blocks
--- hold is told, and `told` and `to_tell` are what the clock has to tell before and after.
-abbrev pub Ingests : Bool → List Duty → Option (List ℕ) → At → List Item → List Reply → At → List Duty → Option (List ℕ) → Type 0
+-- What is due is asked, and answered in order, from a store to a store; and that is left to do then, with or without a
+-- look at what is due of it. `sure` says that what the blocks hold is told, and `told` and `to_tell` are what the clock
+-- has to tell before and after.
+abbrev pub Ingests : Bool → List Duty → Option (List ℕ) → At → List Item → List Reply → At → List Duty
+    → Option (List ℕ) → Type 0
 Ingests sure todo told before [] replies after left to_tell =
     (replies ≡ []) × (after ≡ before) × ((left ≡ todo) ⊎ (left ≡ due_at before todo)) × (to_tell ≡ told)
 Ingests sure todo told before (item ∷ items) [] after left to_tell = ⊥
 Ingests sure todo told before (item ∷ items) (reply ∷ replies) after left to_tell =
-    (between : At) × (later : List Duty) × (told_later : Option (List ℕ)) × IsDue (due_at before todo) told item reply later told_later
-    × IsAnsweredOrRefused sure item before reply between × Ingests sure later told_later between items replies after left to_tell
+    (between : At) × (later : List Duty) × (told_later : Option (List ℕ))
+    × IsDue (due_at before todo) told item reply later told_later × IsAnsweredOrRefused sure item before reply between
+    × Ingests sure later told_later between items replies after left to_tell
