@@ -23,3 +23,4 @@ pub mod CoreSessions
 pub mod EndLaws
 pub mod Unsure
 pub mod IngestLaws
+mod IngestRounds

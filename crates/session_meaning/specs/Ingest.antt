@@ -1,6 +1,6 @@
 -- What an ingest asks. It is a session whose lines are each `push`, one space and a line of the source, and that is asked besides to
 -- cut, flush, compact and empty loose files, as the store has come to need it.
-use Rattle.std.specs.Prelude.{◌≡◌, ◌⊎◌, ℕ, ◌-◌, ◌==◌, Bool, true, false, nat_le, if◌then◌else◌, List, [], ◌∷◌, Option, Ok}
+use Rattle.std.specs.Prelude.{◌≡◌, ◌⊎◌, ⊤, ℕ, ◌-◌, ◌==◌, Bool, true, false, nat_le, if◌then◌else◌, List, [], ◌∷◌, Option, Ok}
 use Rattle.session_text.specs.declared.reply.Reply.{Reply}
 use Rattle.session_text.specs.declared.reply.Reply.TheVariants.{Compacted}
 use Rattle.session_text.specs.declared.request.Request.{Request}
@@ -62,6 +62,12 @@ due_at at todo = due (held_of at.machine.state) todo
 abbrev pub is_joined : Reply → Bool
 is_joined (Compacted blocks rows) = true
 is_joined _ = false
+
+-- Compactions, each of which joined blocks.
+abbrev pub AreJoined : List Item → List Reply → Type 0
+AreJoined [] replies = ⊤
+AreJoined (item ∷ items) [] = ⊥
+AreJoined (item ∷ items) (reply ∷ replies) = (item ≡ Ok Compact) × (is_joined reply ≡ true) × AreJoined items replies
 
 -- By what is due this is asked next; after this reply the rest is to do, and the clock has the rest of its moments to
 -- tell. A line is read at the clock's next moment.

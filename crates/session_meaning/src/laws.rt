@@ -36,7 +36,7 @@ ghost use Rattle.session_meaning.specs.Progress.{AreAnsweredOver, IngestsOver};
 ghost use Rattle.session_meaning.specs.Pushes.{HasRoomFor, HasRoomForPush, accepted_batches, known_pushes};
 ghost use Rattle.session_meaning.specs.Runs.{ComesToItsEnd, Edges, GoesWell, IsRunOf, Outcome};
 ghost use Rattle.session_meaning.specs.At.{At, IsStill, history_of};
-ghost use Rattle.session_meaning.specs.Ingest.{Duty, Ingests};
+ghost use Rattle.session_meaning.specs.Ingest.{AreJoined, Duty, Ingests, most_rounds};
 ghost use Rattle.session_meaning.specs.Session.{IsAnswered, IsAnsweredOrRefused, Session, is_refused};
 ghost use Rattle.session_meaning.specs.Stops.{StandsForLast, StandsWithin, unsure_spans};
 ghost use Rattle.session_meaning.specs.Upkeep.{HasEmptied, HasFailedSince, IsClosed};
@@ -218,6 +218,13 @@ pub fn compactions_have_their_causes()
     // It leaves no job open in a store that writes, and the history as it was.
     ensures kept { (told : Bool) (before after : At) (round : Round) → IsClosed before.machine
         → IsCompacted told before round after → IsClosed after.machine × (history_of after ≡ history_of before) }
+{}
+
+/// Compactions one after another that each join blocks come to an end: there are fewer than an ingest makes at most, so it makes one that
+/// joins none.
+pub fn compactions_come_to_an_end()
+    ensures { (told : Bool) (items : List Item) (replies : List Reply) (first last : At) → AreJoined items replies
+        → Session told first items replies last → length items < most_rounds }
 {}
 
 /// What the emptying of loose files makes of the store.
