@@ -24,16 +24,18 @@ pub due_again : (held : ℕ) (todo : List Duty) → due held (due held todo) ≡
 due_again held [] = refl
 due_again held (push line ∷ later) = refl
 due_again held (ask request ∷ later) = refl
-due_again held (keep_small ∷ later) = go (nat_le many_rows held)
+due_again held (keep_small ∷ later) = go (nat_le many_rows held) (due_again held later)
   where
-    go : (b : Bool) → due held (if b then ask CutAll ∷ ask Flush ∷ later else due held later) ≡ (if b then ask CutAll ∷ ask Flush ∷ later else due held later)
-    go true = refl
-    go false = due_again held later
-due_again held (compact_all times ∷ later) = go (times == 0) refl
+    go : (b : Bool) → due held (due held later) ≡ due held later
+        → due held (if b then ask CutAll ∷ ask Flush ∷ later else due held later) ≡ (if b then ask CutAll ∷ ask Flush ∷ later else due held later)
+    go true again = refl
+    go false again = again
+due_again held (compact_all times ∷ later) = go (times == 0) refl (due_again held later)
   where
-    go : (b : Bool) → (times == 0) ≡ b → due held (if b then due held later else compact_all times ∷ later) ≡ (if b then due held later else compact_all times ∷ later)
-    go true is = due_again held later
-    go false is = rw is refl
+    go : (b : Bool) → (times == 0) ≡ b → due held (due held later) ≡ due held later
+        → due held (if b then due held later else compact_all times ∷ later) ≡ (if b then due held later else compact_all times ∷ later)
+    go true is again = again
+    go false is again = rw is refl
 
 module _ {D : Type 0} (g : Ghosts D) where
   -- What is due of a list of duties is what the list asks.
