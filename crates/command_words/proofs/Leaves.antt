@@ -12,7 +12,7 @@ use Rattle.clap.specs.Faults.{check_fault, defaults_fault, level_fault, settle_f
 use Rattle.clap.specs.Simple.{Shape, built_leaf, inherited}
 use Rattle.clap.specs.Walk.{Held, Row, Text, Walk, finished, first_of, nothing_held, settled, walk, rows_after, walk_from, walked}
 use Rattle.command_words.specs.Spelling.{is_flag}
-use Rattle.command_words.specs.Table.{bare_app, search_shape, session_shape, trace_shape}
+use Rattle.command_words.specs.Table.{bare_app, ingest_shape, search_shape, session_shape, trace_shape}
 use Rattle.command_words.proofs.Full.{TakeOne, ends_full, given_is_found}
 use Rattle.command_words.proofs.Turns.{HasNoFlags, IsBare, dashes, dashes_text, flag, holding, leaf_end_fault, leaf_ends, none_first, placed, standing, stray_is_fault, trailing_none, turned, walk_next}
 
@@ -23,11 +23,17 @@ leaf s = built_leaf (inherited (record bare_app.top { is_leaf = false; is_built 
 abbrev pub session_leaf : Shape
 session_leaf = leaf session_shape
 
+abbrev pub ingest_leaf : Shape
+ingest_leaf = leaf ingest_shape
+
 abbrev pub trace_leaf : Shape
 trace_leaf = leaf trace_shape
 
 session_flags : HasNoFlags session_leaf.rules
 session_flags = record { no_long = λ name. refl; no_short = λ c. refl }
+
+ingest_flags : HasNoFlags ingest_leaf.rules
+ingest_flags = record { no_long = λ name. refl; no_short = λ c. refl }
 
 trace_flags : HasNoFlags trace_leaf.rules
 trace_flags = record { no_long = λ name. refl; no_short = λ c. refl }
@@ -40,6 +46,16 @@ session_rest (w ∷ rest) h =
       | dashes is clean after ↦ inr (ap₂ (λ (x : Text) (xs : List Text). x ∷ xs) is (trailing_none session_leaf [] nothing_held 1 rest refl (rw after at next.1)))
       | flag bad ↦ absurd (bad next.0)
       | placed bare stray after ↦ absurd (stray_is_fault session_leaf (sym stray ∙ next.0))
+    ]
+
+pub ingest_rest : (rest : List Text) → level_fault ingest_leaf [] nothing_held rest false [] ≡ [] → (rest ≡ []) ⊎ (rest ≡ dashes_text ∷ [])
+ingest_rest [] h = inl refl
+ingest_rest (w ∷ rest) h =
+    let next = walk_next ingest_leaf [] (walk_from nothing_held) w rest (none_first _ _ h).0 in
+    elim (turned ingest_leaf [] [] None 1 w ingest_flags refl) [
+      | dashes is clean after ↦ inr (ap₂ (λ (x : Text) (xs : List Text). x ∷ xs) is (trailing_none ingest_leaf [] nothing_held 1 rest refl (rw after at next.1)))
+      | flag bad ↦ absurd (bad next.0)
+      | placed bare stray after ↦ absurd (stray_is_fault ingest_leaf (sym stray ∙ next.0))
     ]
 
 -- The words are an id, with `--` before it or after it or not at all.

@@ -10,13 +10,13 @@ use Rattle.clap.specs.declared.parser.matches.Found.{Found}
 use Rattle.clap.specs.Faults.{fault_of}
 use Rattle.clap.specs.Walk.{Text}
 use Rattle.clap.proofs.OnLiterals.{clap_on_literals}
-use Rattle.command_words.specs.Commands.{Alone, Command, Session, Spells, command_of, search, session, trace}
-use Rattle.command_words.specs.Spelling.{Given, IsSearch, IsSession, IsTaken, IsTrace, found_value, given_in, is_flag, search_line, trace_line}
+use Rattle.command_words.specs.Commands.{Alone, Command, Ingest, Session, Spells, command_of, ingest, search, session, trace}
+use Rattle.command_words.specs.Spelling.{Given, IsIngest, IsSearch, IsSession, IsTaken, IsTrace, found_value, given_in, is_flag, search_line, trace_line}
 use Rattle.command_words.specs.Table.{words_app}
 use Rattle.command_words.specs.declared.asked.Asked.{Asked}
 use Rattle.command_words.specs.declared.asked.WordsError.{WordsError}
 use Rattle.command_words.specs.declared.asked.WordsError.TheVariants.{Refused, Memory}
-use Rattle.command_words.proofs.Found.{FindsSearch}
+use Rattle.command_words.proofs.Found.{FindsSearch, ingest_is_not_search}
 use Rattle.command_words.proofs.Leaves.{alone_clean, before_clean}
 use Rattle.command_words.proofs.Taken.{taken_asks, taken_clean}
 use Rattle.command_words.proofs.Whole as read
@@ -26,6 +26,11 @@ session_clean : (words : List Text) → IsSession words → fault_of words_app w
 unfolding words_app clap_on_literals
 session_clean words (inl is) = subst (λ (xs : List Text). fault_of words_app xs ≡ []) (sym is) refl
 session_clean words (inr is) = subst (λ (xs : List Text). fault_of words_app xs ≡ []) (sym is) refl
+
+ingest_clean : (words : List Text) → IsIngest words → fault_of words_app words ≡ []
+unfolding words_app clap_on_literals
+ingest_clean words (inl is) = subst (λ (xs : List Text). fault_of words_app xs ≡ []) (sym is) refl
+ingest_clean words (inr is) = subst (λ (xs : List Text). fault_of words_app xs ≡ []) (sym is) refl
 
 trace_clean : (words : List Text) (id : List ℕ) → IsTrace id words → fault_of words_app words ≡ []
 unfolding words_app clap_on_literals
@@ -74,6 +79,11 @@ unfolding words_app clap_on_literals
 session_name words (inl is) = subst (λ (xs : List Text). name_of xs ≡ Some (codes "session")) (sym is) refl
 session_name words (inr is) = subst (λ (xs : List Text). name_of xs ≡ Some (codes "session")) (sym is) refl
 
+ingest_name : (words : List Text) → IsIngest words → name_of words ≡ Some (codes "ingest")
+unfolding words_app clap_on_literals
+ingest_name words (inl is) = subst (λ (xs : List Text). name_of xs ≡ Some (codes "ingest")) (sym is) refl
+ingest_name words (inr is) = subst (λ (xs : List Text). name_of xs ≡ Some (codes "ingest")) (sym is) refl
+
 trace_name : (words : List Text) (id : List ℕ) → IsTrace id words → name_of words ≡ Some (codes "trace")
 unfolding words_app clap_on_literals
 trace_name words id (inl (is, _)) = subst (λ (xs : List Text). name_of xs ≡ Some (codes "trace")) (sym is) refl
@@ -85,6 +95,17 @@ session_no_search words given is also = let both : Some (codes "session") ≡ So
 
 trace_no_search : (words : List Text) (id : List ℕ) (given : Given) → IsTrace id words → IsSearch given words → ⊥
 trace_no_search words id given is also = let both : Some (codes "trace") ≡ Some (codes "search") = sym (trace_name words id is) ∙ also.name in cc
+
+ingest_no_session : (words : List Text) → IsIngest words → IsSession words → ⊥
+ingest_no_session words is also = let both : Some (codes "ingest") ≡ Some (codes "session") = sym (ingest_name words is) ∙ session_name words also in cc
+
+ingest_no_trace : (words : List Text) (id : List ℕ) → IsIngest words → IsTrace id words → ⊥
+ingest_no_trace words id is also = let both : Some (codes "ingest") ≡ Some (codes "trace") = sym (ingest_name words is) ∙ trace_name words id also in cc
+
+ingest_no_search : (words : List Text) (given : Given) → IsIngest words → IsSearch given words → ⊥
+ingest_no_search words given is also =
+    let both : Some (codes "ingest") ≡ Some (codes "search") = sym (ingest_name words is) ∙ also.name in
+    ingest_is_not_search cc
 
 same_search : (words : List Text) (a b : Given) → IsSearch a words → IsSearch b words → a ≡ b
 same_search words a b x y =
@@ -100,17 +121,25 @@ same_search words a b x y =
 
 pub spelled_clean : (words : List Text) (c : Command) → Spells words c → fault_of words_app words ≡ []
 spelled_clean words c (session is) = session_clean words is
+spelled_clean words c (ingest is) = ingest_clean words is
 spelled_clean words c (trace id is) = trace_clean words id is
 spelled_clean words c (search given is clean) = clean
 
 pub spelled_one : (words : List Text) (c d : Command) → Spells words c → Spells words d → c ≡ d
 spelled_one words c d (session is) (session also) = refl
+spelled_one words c d (session is) (ingest also) = absurd (ingest_no_session words also is)
 spelled_one words c d (session is) (trace id also) = absurd (not_both words id is also)
 spelled_one words c d (session is) (search given also clean) = absurd (session_no_search words given is also)
+spelled_one words c d (ingest is) (session also) = absurd (ingest_no_session words is also)
+spelled_one words c d (ingest is) (ingest also) = refl
+spelled_one words c d (ingest is) (trace id also) = absurd (ingest_no_trace words id is also)
+spelled_one words c d (ingest is) (search given also clean) = absurd (ingest_no_search words given is also)
 spelled_one words c d (trace id is) (session also) = absurd (not_both words id also is)
+spelled_one words c d (trace id is) (ingest also) = absurd (ingest_no_trace words id also is)
 spelled_one words c d (trace id is) (trace other also) = ap (λ (i : List ℕ). Alone (trace_line i)) (same_id words id other is also)
 spelled_one words c d (trace id is) (search given also clean) = absurd (trace_no_search words id given is also)
 spelled_one words c d (search given is clean) (session also) = absurd (session_no_search words given also is)
+spelled_one words c d (search given is clean) (ingest also) = absurd (ingest_no_search words given also is)
 spelled_one words c d (search given is clean) (trace id also) = absurd (trace_no_search words id given also is)
 spelled_one words c d (search given is clean) (search other also free) = ap (λ (g : Given). Alone (search_line g)) (same_search words given other is also)
 
@@ -151,6 +180,7 @@ spelled_some words all clean = go (read_from words clean)
   where
     go : Read words (subcommand_of words_app words) → (c : Command) × Spells words c
     go (read.session name is) = (Session, session is)
+    go (read.ingest name is) = (Ingest, ingest is)
     go (read.trace id name gives is) = (Alone (trace_line id), trace id (trace_from_bare id words (id_is_text words id all is) is))
     go (read.search name query) = search_spelled words clean name query
 

@@ -9,14 +9,14 @@ use Rattle.clap.specs.Simple.{App, built, entered, names_of, subcommand_of, with
 use Rattle.clap.specs.declared.error.kind.ErrorKind.{ErrorKind}
 use Rattle.clap.specs.declared.error.kind.ErrorKind.TheVariants as kind
 use Rattle.clap.specs.Walk.{Row, Text, Walk, answers_to, finished, first_of, nothing_held, settled, walk, walk_from, walked}
-use Rattle.command_words.specs.Spelling.{IsSession, IsTrace}
-use Rattle.command_words.specs.Table.{bare_app, search_shape, session_shape, trace_shape, words_app}
-use Rattle.command_words.proofs.Leaves.{IsIdRest, bare_is_no_flag, search_rest, session_rest, trace_rest}
+use Rattle.command_words.specs.Spelling.{IsIngest, IsSession, IsTrace}
+use Rattle.command_words.specs.Table.{bare_app, ingest_shape, search_shape, session_shape, trace_shape, words_app}
+use Rattle.command_words.proofs.Leaves.{IsIdRest, bare_is_no_flag, ingest_rest, search_rest, session_rest, trace_rest}
 use Rattle.command_words.proofs.Turns.{HasNoFlags, IsBare, dashes, dashes_text, flag, none_first, placed, standing, stop_more, stray_is_fault, trailing_none, turned, walk_next}
 
 -- The command as it is built.
 abbrev pub whole : App
-whole = built (with_subcommand (with_subcommand (with_subcommand bare_app session_shape) trace_shape) search_shape)
+whole = built (with_subcommand (with_subcommand (with_subcommand (with_subcommand bare_app session_shape) ingest_shape) trace_shape) search_shape)
 
 -- As `IsTrace`, where the id is bare rather than no flag.
 abbrev pub IsBareTrace : Text → List Text → Type 0
@@ -31,6 +31,7 @@ trace_from_bare id words text (inr (inr (is, bare))) = inr (inr (is, bare_is_no_
 -- What the words are and what `clap` finds in them.
 pub data Read (words : List Text) (found : Option (Text × List Row)) : Type 0 where
   session : option_map (λ p. p.0) found ≡ Some (codes "session") → IsSession words → Read words found
+  ingest : option_map (λ p. p.0) found ≡ Some (codes "ingest") → IsIngest words → Read words found
   trace : (id : Text) → option_map (λ p. p.0) found ≡ Some (codes "trace")
       → option_and_then (λ p. first_of (codes "id") p.1) found ≡ Some id → IsBareTrace id words → Read words found
   search : option_map (λ p. p.0) found ≡ Some (codes "search")
@@ -80,6 +81,20 @@ session_first w rest same h =
     with_first is (inl none) = inl (ap₂ (λ (x : Text) (xs : List Text). x ∷ xs) (sym is) none)
     with_first is (inr one) = inr (ap₂ (λ (x : Text) (xs : List Text). x ∷ xs) (sym is) one)
 
+ingest_first : (w : Text) (rest : List Text) → bytes_eq (codes "ingest") w ≡ true → fault_of words_app (w ∷ rest) ≡ []
+    → Read (w ∷ rest) (subcommand_of words_app (w ∷ rest))
+unfolding walked
+ingest_first w rest same h =
+    let is : codes "ingest" ≡ w = (bytes_decides (codes "ingest") w).0 same in
+    let end = stops_at w rest (codes "ingest")
+    (subst (λ (x : Text). walked [] (names_of whole) start x ≡ record start { stopped = Some (codes "ingest", []) }) is refl) in
+    let clean = (none_first _ _ (ends_clean (w ∷ rest) _ end h).1).0 in
+    ingest (ap (option_map (λ p. p.0)) (found_at (w ∷ rest) _ end)) (with_first is (ingest_rest rest clean))
+  where
+    with_first : codes "ingest" ≡ w → (rest ≡ []) ⊎ (rest ≡ dashes_text ∷ []) → IsIngest (w ∷ rest)
+    with_first is (inl none) = inl (ap₂ (λ (x : Text) (xs : List Text). x ∷ xs) (sym is) none)
+    with_first is (inr one) = inr (ap₂ (λ (x : Text) (xs : List Text). x ∷ xs) (sym is) one)
+
 trace_first : (w : Text) (rest : List Text) → bytes_eq (codes "trace") w ≡ true → fault_of words_app (w ∷ rest) ≡ []
     → Read (w ∷ rest) (subcommand_of words_app (w ∷ rest))
 unfolding walked
@@ -118,10 +133,10 @@ unfolding defaults_fault
 none_met is_trailing h = some_kind kind.MissingSubcommand h
 
 -- No other first word is without fault.
-other_first : (w : Text) (rest : List Text) → bytes_eq (codes "session") w ≡ false → bytes_eq (codes "trace") w ≡ false
-    → bytes_eq (codes "search") w ≡ false → fault_of words_app (w ∷ rest) ≡ [] → ⊥
-other_first w rest session_not trace_not search_not h =
-    let unmet : find (answers_to w) (names_of whole) ≡ None = rw (session_not, trace_not, search_not) refl in
+other_first : (w : Text) (rest : List Text) → bytes_eq (codes "session") w ≡ false → bytes_eq (codes "ingest") w ≡ false
+    → bytes_eq (codes "trace") w ≡ false → bytes_eq (codes "search") w ≡ false → fault_of words_app (w ∷ rest) ≡ [] → ⊥
+other_first w rest session_not ingest_not trace_not search_not h =
+    let unmet : find (answers_to w) (names_of whole) ≡ None = rw (session_not, ingest_not, trace_not, search_not) refl in
     let next = walk_next whole.top (names_of whole) start w rest (ends_clean (w ∷ rest) _ refl h).0 in
     elim (turned whole.top (names_of whole) [] None 1 w whole_flags unmet) [
       | dashes is clean after ↦
@@ -138,11 +153,13 @@ other_first w rest session_not trace_not search_not h =
 
 pub read_from : (words : List Text) → fault_of words_app words ≡ [] → Read words (subcommand_of words_app words)
 read_from [] h = absurd (none_met false (ends_clean [] start refl h).1)
-read_from (w ∷ rest) h = go (bytes_eq (codes "session") w) refl (bytes_eq (codes "trace") w) refl (bytes_eq (codes "search") w) refl
+read_from (w ∷ rest) h =
+    go (bytes_eq (codes "session") w) refl (bytes_eq (codes "ingest") w) refl (bytes_eq (codes "trace") w) refl (bytes_eq (codes "search") w) refl
   where
-    go : (a : Bool) → bytes_eq (codes "session") w ≡ a → (b : Bool) → bytes_eq (codes "trace") w ≡ b → (c : Bool) → bytes_eq (codes "search") w ≡ c
-        → Read (w ∷ rest) (subcommand_of words_app (w ∷ rest))
-    go true is b other c third = session_first w rest is h
-    go false not_session true is c third = trace_first w rest is h
-    go false not_session false not_trace true is = search_first w rest is h
-    go false not_session false not_trace false not_search = absurd (other_first w rest not_session not_trace not_search h)
+    go : (a : Bool) → bytes_eq (codes "session") w ≡ a → (b : Bool) → bytes_eq (codes "ingest") w ≡ b → (c : Bool) → bytes_eq (codes "trace") w ≡ c
+        → (d : Bool) → bytes_eq (codes "search") w ≡ d → Read (w ∷ rest) (subcommand_of words_app (w ∷ rest))
+    go true is b other c third d fourth = session_first w rest is h
+    go false not_session true is c third d fourth = ingest_first w rest is h
+    go false not_session false not_ingest true is d fourth = trace_first w rest is h
+    go false not_session false not_ingest false not_trace true is = search_first w rest is h
+    go false not_session false not_ingest false not_trace false not_search = absurd (other_first w rest not_session not_ingest not_trace not_search h)

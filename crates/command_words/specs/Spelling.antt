@@ -13,6 +13,10 @@ is_flag _ = false
 abbrev pub IsSession : List (List ℕ) → Type 0
 IsSession words = (words ≡ codes "session" ∷ []) ⊎ (words ≡ codes "session" ∷ codes "--" ∷ [])
 
+-- The word `ingest`, which `--` may follow too.
+abbrev pub IsIngest : List (List ℕ) → Type 0
+IsIngest words = (words ≡ codes "ingest" ∷ []) ⊎ (words ≡ codes "ingest" ∷ codes "--" ∷ [])
+
 -- The word `trace` and the id, which is no flag, or stands behind the word `--`. That word may also follow the id.
 abbrev pub IsTrace : List ℕ → List (List ℕ) → Type 0
 IsTrace id words = ((words ≡ codes "trace" ∷ id ∷ []) × (is_flag id ≡ false))

@@ -7,6 +7,10 @@ use Rattle.clap.specs.declared.builder.action.ArgAction.TheVariants.{Set}
 abbrev pub session_shape : Shape
 session_shape = (new_app (codes "session")).top
 
+-- `ingest`, which takes no words.
+abbrev pub ingest_shape : Shape
+ingest_shape = (new_app (codes "ingest")).top
+
 -- The id of a trace: it is wanted, and is one word.
 abbrev pub id_rule : Rule
 id_rule = record (new_rule (codes "id")) { required = true; action = Some Set }
@@ -42,4 +46,5 @@ bare_app = record (new_app (codes "vurnda")) {
 
 -- The whole command.
 unfoldable pub words_app : App
-words_app = with_subcommand (with_subcommand (with_subcommand bare_app session_shape) trace_shape) search_shape
+words_app =
+    with_subcommand (with_subcommand (with_subcommand (with_subcommand bare_app session_shape) ingest_shape) trace_shape) search_shape

@@ -7,6 +7,8 @@ use thiserror::Error;
 pub enum Asked {
     /// Answer each request line of the input.
     Session,
+    /// Push each line of the input, and keep the store up.
+    Ingest,
     /// Answer one request line.
     Alone {
         /// The line that the words make: `trace ID`, or `search` with its options and its query. Each stands in it as it

@@ -3,7 +3,7 @@
 ghost use Rattle.std.specs.Prelude.{◌≡◌, IfOk, false};
 ghost use Rattle.clap.specs.Words.{app_of, rule_of, shape_of};
 ghost use Rattle.clap.specs.declared.builder.command.Command.TheViews.{out-Command as fields_of};
-ghost use Rattle.command_words.specs.Table.{bare_app, option_rule, query_rule, search_shape, session_shape, trace_shape, words_app};
+ghost use Rattle.command_words.specs.Table.{bare_app, ingest_shape, option_rule, query_rule, search_shape, session_shape, trace_shape, words_app};
 
 use clap::{Arg, ArgAction, Command};
 use std::alloc::{AllocError, Global};
@@ -14,6 +14,7 @@ pub(crate) fn whole_command<'a>(alloc: Global) -> Result<Command<'a>, AllocError
 {
     bare_command(alloc)
         .subcommand(session_command(alloc))?
+        .subcommand(ingest_command(alloc))?
         .subcommand(trace_command(alloc)?)?
         .subcommand(search_command(alloc)?)
 }
@@ -35,6 +36,14 @@ fn session_command<'a>(alloc: Global) -> Command<'a>
     ensures local { (fields_of result).has_globals ≡ false }
 {
     Command::new(alloc, "session")
+}
+
+// `ingest` takes no words.
+fn ingest_command<'a>(alloc: Global) -> Command<'a>
+    ensures shape { shape_of result ≡ ingest_shape }
+    ensures local { (fields_of result).has_globals ≡ false }
+{
+    Command::new(alloc, "ingest")
 }
 
 // `trace` takes one id.

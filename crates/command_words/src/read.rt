@@ -29,6 +29,7 @@ pub fn read_words(alloc: Global, words: &[String]) -> Result<Asked, WordsError>
     };
     match name {
         "session" => Ok(Asked::Session),
+        "ingest" => Ok(Asked::Ingest),
         "trace" => asked_trace(alloc, id_of(given)),
         "search" => asked_search(alloc, given),
         _ => unreachable!(),

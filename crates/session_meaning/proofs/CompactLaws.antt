@@ -1,5 +1,5 @@
 -- What a compaction does, and why it is refused.
-use Rattle.std.proofs.Common.{◌≡◌, inl, inr, ℕ, ◌<◌, Bool, true, false, List, [], ◌∷◌, ◌++◌, Some, None, length, refl, sym, ◌∙◌, ap, subst}
+use Rattle.std.proofs.Common.{◌≡◌, inl, inr, ℕ, ◌+◌, ◌<◌, Bool, true, false, List, [], ◌∷◌, ◌++◌, Some, None, length, refl, sym, ◌∙◌, ap, subst}
 use Rattle.std.proofs.lemmas.List.{length-map}
 use Rattle.span_types.specs.Faults.{Rose}
 use Rattle.span_types.specs.First.{IsFirstOf}
@@ -112,6 +112,20 @@ blocks_joined told before after blocks count (round_of.nothing step is, tells) =
 blocks_joined told before after blocks count (round_of.no_job b step is, tells) = absurd (not_did (begin_cause b) blocks count is)
 blocks_joined told before after blocks count (round_of.job job at step ends, tells) =
     let has = has_begun BeginCompact OfCompaction before at job (Did blocks count) after step ends in ended_joined told before job blocks count after has has.kind tells has.ended
+
+-- A compaction that joined blocks took a number for its file, and there was one.
+pub joined_takes_a_number : (told : Bool) (before after : At) (blocks count : ℕ) → IsCompacted told before (Did blocks count) after
+    → (after.machine.state.next_file ≡ before.machine.state.next_file + 1) × (before.machine.state.next_file < 4294967294)
+joined_takes_a_number told before after blocks count is = (
+  ap (λ (m : Machine). m.state.next_file) (blocks_joined told before after blocks count is).leaves,
+  had_one is.0,
+)
+  where
+    had_one : round_of BeginCompact before (Did blocks count) after → before.machine.state.next_file < 4294967294
+    had_one (round_of.nothing step is) = let bad : ⊥ = cc in absurd bad
+    had_one (round_of.no_job b step is) = absurd (not_did (begin_cause b) blocks count is)
+    had_one (round_of.job job at step ends) =
+        (has_begun BeginCompact OfCompaction before at job (Did blocks count) after step ends).is_free.files
 
 -- ---- without faults
 

@@ -1,11 +1,12 @@
 -- What is answered over the port of a core is a session.
-use Rattle.std.proofs.Common.{ℕ, Bool, true, false, List, [], ◌∷◌, Ok, Err, IsTrue, refl, sym, ap, subst}
+use Rattle.std.proofs.Common.{◌≡◌, ◌⊎◌, Option, ℕ, Bool, true, false, List, [], ◌∷◌, Ok, Err, IsTrue, refl, sym, ap, subst}
 use Rattle.disk_model.specs.declared.disk.Device.{Ghosts}
 use Rattle.session_text.specs.declared.reply.Reply.{Reply}
 use Rattle.session_text.specs.Items.{Item}
 use Rattle.store_model.specs.Step.{Machine}
 use Rattle.store_images.proofs.Lists.{not_in_nil}
-use Rattle.store_core.specs.Cores.{CoreShows, CoreStandsFor}
+use Rattle.store_model.specs.State.{held_of}
+use Rattle.store_core.specs.Cores.{CoreShows, CoreStandsFor, HasState, held_in}
 use Rattle.store_core.specs.Past.{StandsSince}
 use Rattle.store_core.specs.Port.{port_of, shown_by}
 use Rattle.store_core.specs.declared.store.Core.{Core}
@@ -15,7 +16,8 @@ use Rattle.client_run.specs.CoreRuns.{HasStepped}
 use Rattle.client_run.proofs.CallLemmas.{tells_kept}
 use Rattle.client_run.proofs.CoreLemmas.{shows_stepped, since_stepped}
 use Rattle.session_meaning.specs.Answering.{CallsLead, IsItemAnswered, at_core}
-use Rattle.session_meaning.specs.Progress.{AreAnsweredOver, IsAnsweredOver}
+use Rattle.session_meaning.specs.Ingest.{Duty, Ingests, IsDue, due}
+use Rattle.session_meaning.specs.Progress.{AreAnsweredOver, IngestsOver, IsAnsweredOver}
 use Rattle.session_meaning.specs.Session.{IsAnsweredOrRefused, Session}
 use Rattle.session_meaning.proofs.AnswerLaws.{IsItemTold, item_means, item_means_told}
 use Rattle.session_meaning.proofs.Counted.{blocks_counted}
@@ -59,11 +61,53 @@ module _ {D : Type 0} (g : Ghosts D) where
           let rest = over_means is rs between last h.machine h.stands later in
           (rest.0, rest.1, (at_core g between h.machine, means first between m i r stands here h, rest.2))
 
+      -- The same of an ingest, of which the core's memory says what is due.
+      ingest_means : ((core : Core D) (m : Machine) → is_with core m → held_in core ≡ held_of m.state)
+          → (todo : List Duty) (moments : Option (List ℕ)) (items : List Item) (replies : List Reply) (first last : Core D) (m : Machine) (left : List Duty) (to_tell : Option (List ℕ))
+          → is_with first m → IngestsOver g todo moments first items replies last left to_tell
+          → (m' : Machine) × is_with last m' × Ingests told todo moments (at_core g first m) items replies (at_core g last m') left to_tell
+      ingest_means held todo moments [] replies first last m left to_tell stands (none, is, left_is, moments_are) = (
+        m,
+        subst (λ (core : Core D). is_with core m) (sym is) stands,
+        (
+          none,
+          ap (λ (core : Core D). at_core g core m) is,
+          subst (λ (n : ℕ). (left ≡ todo) ⊎ (left ≡ due n todo)) (held first m stands) left_is,
+          moments_are,
+        ),
+      )
+      ingest_means held todo moments (i ∷ is) [] first last m left to_tell stands bad = absurd bad
+      ingest_means held todo moments (i ∷ is) (r ∷ rs) first last m left to_tell stands (between, later, told_later, is_due, here, more) =
+          let h = moved first between m i r stands here in
+          let rest = ingest_means held later told_later is rs between last h.machine left to_tell h.stands more in (
+            rest.0,
+            rest.1,
+            (
+              at_core g between h.machine,
+              later,
+              told_later,
+              subst (λ (n : ℕ). IsDue (due n todo) moments i r later told_later) (held first m stands) is_due,
+              means first between m i r stands here h,
+              rest.2,
+            ),
+          )
+
+  -- How many rows the memory of a core holds are those of the machine that it shows.
+  held_shown : (core : Core D) (m : Machine) → HasState core.state m → held_in core ≡ held_of m.state
+  held_shown core m has = let flushing = has.flushing in let head = has.head in let live = has.live in cc
+
   -- Whatever the disk holds: what queries tell isn't said where the store lists blocks.
   pub shown_means : (items : List Item) (replies : List Reply) (first last : Core D) (m : Machine) → CoreShows g first m → AreAnsweredOver (port_of g) first items replies last
       → (m' : Machine) × CoreShows g last m' × Session false (at_core g first m) items replies (at_core g last m')
   shown_means = over_means (CoreShows g) (shows_stepped g) false
       (λ old new m item reply shows is h. item_means item (at_core g old m) (at_core g new h.machine) reply h.calls shows.agrees h.answered h.lead)
+
+  pub shown_ingests : (todo : List Duty) (moments : Option (List ℕ)) (items : List Item) (replies : List Reply) (first last : Core D) (m : Machine) (left : List Duty) (to_tell : Option (List ℕ))
+      → CoreShows g first m → IngestsOver g todo moments first items replies last left to_tell
+      → (m' : Machine) × CoreShows g last m' × Ingests false todo moments (at_core g first m) items replies (at_core g last m') left to_tell
+  shown_ingests = ingest_means (CoreShows g) (shows_stepped g) false
+      (λ old new m item reply shows is h. item_means item (at_core g old m) (at_core g new h.machine) reply h.calls shows.agrees h.answered h.lead)
+      (λ core m shows. held_shown core m shows.has)
 
   -- ---- where what the blocks hold is told
 
@@ -101,3 +145,11 @@ module _ {D : Type 0} (g : Ghosts D) where
     since_means = over_means TellsSince tells_on true
         (λ old new m item reply since is h. item_means_told item (at_core g old m) (at_core g new h.machine) reply h.calls since.0.stands.agrees h.answered h.lead (item_told old new item reply m since is)
         (blocks_counted g new h.machine h.stands.0.stands h.stands.1))
+
+    pub since_ingests : (todo : List Duty) (moments : Option (List ℕ)) (items : List Item) (replies : List Reply) (first last : Core D) (m : Machine) (left : List Duty) (to_tell : Option (List ℕ))
+        → TellsSince first m → IngestsOver g todo moments first items replies last left to_tell
+        → (m' : Machine) × TellsSince last m' × Ingests true todo moments (at_core g first m) items replies (at_core g last m') left to_tell
+    since_ingests = ingest_means TellsSince tells_on true
+        (λ old new m item reply since is h. item_means_told item (at_core g old m) (at_core g new h.machine) reply h.calls since.0.stands.agrees h.answered h.lead (item_told old new item reply m since is)
+        (blocks_counted g new h.machine h.stands.0.stands h.stands.1))
+        (λ core m since. held_shown core m since.0.stands.has)

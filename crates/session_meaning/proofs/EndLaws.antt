@@ -3,7 +3,7 @@ use Rattle.std.proofs.Common.{◌≡◌, ◌⊎◌, inl, inr, ◌∙◌, ℕ, �
 use Rattle.std.specs.Prelude.{IfSome}
 use Rattle.std.specs.List.{list_any}
 use Rattle.clap.specs.Words.{Kinds}
-use Rattle.command_words.specs.Commands.{Alone, Command, Session as session, Spells}
+use Rattle.command_words.specs.Commands.{Alone, Command, Ingest as ingest, Session as session, Spells}
 use Rattle.command_words.proofs.Spelled.{spelled_clean}
 use Rattle.disk_model.specs.Images.{Image}
 use Rattle.io_edges.specs.Lines.{taken_limit}
@@ -12,7 +12,7 @@ use Rattle.session_text.specs.declared.reply.Reply.{Reply}
 use Rattle.session_meaning.specs.declared.ending.Ending.{Ending}
 use Rattle.session_meaning.specs.declared.ending.Ending.TheVariants.{Answered, BadWords, NotOpened, NotStore, ReadFault, Refused, Spent, Starved, WriteFault}
 use Rattle.session_meaning.specs.Pushes.{HasRoomFor}
-use Rattle.session_meaning.specs.Runs.{ComesToItsEnd, DoesInStore, Edges, EndsUnopened, FitsWords, GoesWell, HasAnswered, HasCause, HasItsStore, HasRun, IsNoStore, IsRunOf, NeedsNoSource, Outcome}
+use Rattle.session_meaning.specs.Runs.{ComesToItsEnd, DoesInStore, Edges, EndsUnopened, FitsWords, GoesWell, HasAnswered, HasCause, HasIngested, HasItsStore, HasRun, IsNoStore, IsRunOf, NeedsNoSource, Outcome, ReadsWell}
 use Rattle.session_meaning.specs.Session.{Ends, EndsAlone, Session, end_of, is_for_memory, is_refusal, is_refused}
 use Rattle.session_meaning.proofs.Room.{replies_plain}
 
@@ -49,9 +49,10 @@ module _ (sure : Bool) (words : List (List ℕ)) (o : Outcome) (old new : Edges)
   is_store : HasItsStore old new → (file at : ℕ) → o.ending ≡ NotStore file at → ⊥
   is_store store file at is = (subst (λ (held : Option Image). IsNoStore file at held) store.1 (caused (NotStore file at) is)).1 store.2
 
-  pub run_ends : (c : Command) → Spells words c → GoesWell c old new → ComesToItsEnd o.ending
-  run_ends session s well =
-      by_ending o.ending (not_bad sure words session o old new s run)
+  -- a command that reads the source
+  source_ends : (c : Command) → Spells words c → ReadsWell old new → ComesToItsEnd o.ending
+  source_ends c s well =
+      by_ending o.ending (not_bad sure words c o old new s run)
       (λ is. well.1 (caused WriteFault is))
       (λ is. well.2 (caused ReadFault is))
       (opens well.0) (is_store well.0)
@@ -59,6 +60,10 @@ module _ (sure : Bool) (words : List (List ℕ)) (o : Outcome) (old new : Edges)
       let most = taken_within well.3 new.left taken_limit (subst (λ (l : Option (List ℕ)). TakesBytes l new.left 0 taken_limit) well.4 took) in
       let less = well.5 in
       absurd (omega (arith, most, less)))
+
+  pub run_ends : (c : Command) → Spells words c → GoesWell c old new → ComesToItsEnd o.ending
+  run_ends session s well = source_ends session s well
+  run_ends ingest s well = source_ends ingest s well
   run_ends (Alone line) s well =
       by_ending o.ending (not_bad sure words (Alone line) o old new s run)
       (λ is. well.1 (caused WriteFault is))
@@ -85,21 +90,30 @@ module _ (sure : Bool) (words : List (List ℕ)) (o : Outcome) (old new : Edges)
   refused_session text before did e =
       (subst (λ (k : Ending). Ends k text did.later new.left before o.replies new.taken) e did.ends).1
 
+  refused_ingest : (text before : List ℕ) → HasIngested sure text before o old new → o.ending ≡ Refused → end_of o.replies ≡ Refused
+  refused_ingest text before did e =
+      (subst (λ (k : Ending). Ends k text did.later new.left before o.replies new.taken) e did.ends).1
+
   refused_alone : (line before : List ℕ) → HasAnswered line before o old new → o.ending ≡ Refused → end_of o.replies ≡ Refused
   refused_alone line before did e =
       ap end_of did.replies_are ∙ (subst (λ (k : Ending). EndsAlone k before did.reply new.taken) e did.ends).1
 
   -- a refusal is among the replies
-  refused_in : (c : Command) → GoesWell c old new → (before : List ℕ) → old.taken ≡ Some before → DoesInStore c o old new → o.ending ≡ Refused → end_of o.replies ≡ Refused
+  refused_in : (c : Command) → GoesWell c old new → (before : List ℕ) → old.taken ≡ Some before → DoesInStore sure c o old new → o.ending ≡ Refused → end_of o.replies ≡ Refused
   refused_in session well before told does e =
       let at_text : IfSome (Some well.3) (λ text. IfSome old.taken (λ b. HasRun text b o old new)) =
       subst (λ (l : Option (List ℕ)). IfSome l (λ text. IfSome old.taken (λ b. HasRun text b o old new))) well.4 does in
       refused_session well.3 before (subst (λ (t : Option (List ℕ)). IfSome t (λ b. HasRun well.3 b o old new)) told at_text) e
+  refused_in ingest well before told does e =
+      let at_text : IfSome (Some well.3) (λ text. IfSome old.taken (λ b. HasIngested sure text b o old new)) =
+      subst (λ (l : Option (List ℕ)). IfSome l (λ text. IfSome old.taken (λ b. HasIngested sure text b o old new))) well.4 does in
+      refused_ingest well.3 before (subst (λ (t : Option (List ℕ)). IfSome t (λ b. HasIngested sure well.3 b o old new)) told at_text) e
   refused_in (Alone line) well before told does e =
       refused_alone line before (subst (λ (t : Option (List ℕ)). IfSome t (λ b. HasAnswered line b o old new)) told does.1) e
 
   store_well : (c : Command) → GoesWell c old new → HasItsStore old new
   store_well session well = well.0
+  store_well ingest well = well.0
   store_well (Alone line) well = well.0
 
   pub run_ends_well : sure ≡ true → (c : Command) → Spells words c → GoesWell c old new → (before : List ℕ) → old.taken ≡ Some before → list_any is_refused o.items ≡ false

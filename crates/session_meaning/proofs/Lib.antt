@@ -22,3 +22,5 @@ mod Counted
 pub mod CoreSessions
 pub mod EndLaws
 pub mod Unsure
+pub mod IngestLaws
+mod IngestRounds

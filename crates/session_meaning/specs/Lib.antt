@@ -4,6 +4,7 @@ pub mod Statuses
 pub mod Rounds
 pub mod Upkeep
 pub mod Session
+pub mod Ingest
 pub mod Pushes
 pub mod Causes
 pub mod Answering

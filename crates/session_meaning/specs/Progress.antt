@@ -1,14 +1,19 @@
 -- Private mechanism of the loop over lines: how far a session came. No public clause cites it.
-use Rattle.std.specs.Prelude.{◌≡◌, ℕ, List, [], ◌∷◌, ◌++◌, Option, Ok, Err}
+use Rattle.std.specs.Prelude.{◌≡◌, ◌⊎◌, ℕ, List, [], ◌∷◌, ◌++◌, Option, Ok, Err}
+use Rattle.disk_model.specs.declared.disk.Device.{Ghosts}
 use Rattle.io_edges.specs.Lines.{lines}
 use Rattle.session_text.specs.declared.reply.Reply.{Reply}
 use Rattle.session_text.specs.declared.reply.Reply.TheVariants.{Refused}
 use Rattle.session_text.specs.Items.{Item}
+use Rattle.store_core.specs.Cores.{held_in}
+use Rattle.store_core.specs.Port.{port_of}
+use Rattle.store_core.specs.declared.store.Core.{Core}
 use Rattle.store_state.specs.Meaning.{Meaning}
 use Rattle.store_state.specs.Made.{AreMade, Call}
 use Rattle.client_run.specs.Answers.{HasReplied}
 use Rattle.session_meaning.specs.Asked.{AreAsked, after_lines}
 use Rattle.session_meaning.specs.Answering.{AreItemsAnswered, IsItemAnswered}
+use Rattle.session_meaning.specs.Ingest.{Duty, IsDue, due}
 
 -- The lines of `text` before `rest` asked this, where these texts were refused. `told` is what the clock had to give at first,
 -- and `to_tell` what it has to give now.
@@ -45,3 +50,23 @@ pub record HasAnsweredOne {P : Type 0} (meaning : Meaning P) (before : P) (item 
   pub answered : IsItemAnswered item reply calls
   pub made : AreMade meaning before calls after
   pub is : IsAnsweredOver meaning before item reply after
+
+-- ---- an ingest
+
+-- What was due was asked over a core and answered in order, and that is left to do. What the core's memory holds says what is due, and
+-- at the end it may have been looked at or not.
+abbrev pub IngestsOver : {D : Type 0} → Ghosts D → List Duty → Option (List ℕ) → Core D → List Item → List Reply → Core D → List Duty
+    → Option (List ℕ) → Type 0
+IngestsOver g todo told before [] replies after left to_tell =
+    (replies ≡ []) × (after ≡ before) × ((left ≡ todo) ⊎ (left ≡ due (held_in before) todo)) × (to_tell ≡ told)
+IngestsOver g todo told before (item ∷ items) [] after left to_tell = ⊥
+IngestsOver {D} g todo told before (item ∷ items) (reply ∷ replies) after left to_tell =
+    (between : Core D) × (later : List Duty) × (told_later : Option (List ℕ)) × IsDue (due (held_in before) todo) told item reply later told_later
+    × IsAnsweredOver (port_of g) before item reply between × IngestsOver g later told_later between items replies after left to_tell
+
+-- This was asked over a core from `start` on by the duties `todo`, and answered so, by these calls and no others. Whether many rows are
+-- held is no call.
+pub record HasIngestedOver {D : Type 0} (g : Ghosts D) (start : Core D) (todo : List Duty) (told : Option (List ℕ)) (items : List Item)
+    (replies : List Reply) (core : Core D) (left : List Duty) (to_tell : Option (List ℕ)) : Type 0 where
+  pub answered : HasAnsweredOver (port_of g) start items replies core
+  pub each : IngestsOver g todo told start items replies core left to_tell

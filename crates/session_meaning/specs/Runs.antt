@@ -8,7 +8,7 @@ use Rattle.io_edges.specs.Lines.{lines, taken_limit}
 use Rattle.io_edges.specs.Reader.{TakesBytes}
 use Rattle.disk_model.specs.Images.{Image}
 use Rattle.disk_model.specs.declared.disk.Device.{Ghosts}
-use Rattle.command_words.specs.Commands.{Alone, Command, Session as session, Spells}
+use Rattle.command_words.specs.Commands.{Alone, Command, Ingest as ingest, Session as session, Spells}
 use Rattle.command_words.specs.Table.{words_app}
 use Rattle.session_text.specs.declared.reply.Reply.{Reply}
 use Rattle.session_text.specs.Items.{Item}
@@ -21,6 +21,7 @@ use Rattle.session_meaning.specs.declared.ending.Ending.{Ending}
 use Rattle.session_meaning.specs.declared.ending.Ending.TheVariants.{Answered, BadWords, NotOpened, NotStore, ReadFault, Refused, Spent, Starved, WriteFault}
 use Rattle.session_meaning.specs.Asked.{AreAsked, AsksNext, IsNextMoment, after_lines, after_moment}
 use Rattle.session_meaning.specs.At.{At, history_of}
+use Rattle.session_meaning.specs.Ingest.{Duty, Ingests, duties, from_lines}
 use Rattle.session_meaning.specs.Session.{Ends, EndsAlone, Session}
 
 -- What the outside tells at a moment: the bytes that the source has left and those that the sink has taken, the moments that
@@ -117,6 +118,27 @@ pub record HasRun (text before : List ℕ) (o : Outcome) (old new : Edges) : Typ
   pub clock : new.moments ≡ after_lines answered (after_moment old.moments)
   pub ends : Ends o.ending text later new.left before o.replies new.taken
 
+-- How much of its duties an ingest left: none, where the input was read to its end and all replies were written; where the source
+-- failed, or a run takes no more bytes, those from the first line on that wasn't pushed. It may be stopped at any other.
+abbrev pub IsLeft : Ending → List (List ℕ) → List Duty → Type 0
+IsLeft Answered later left = left ≡ []
+IsLeft Refused later left = left ≡ []
+IsLeft ReadFault later left = left ≡ from_lines later
+IsLeft Spent later left = left ≡ from_lines later
+IsLeft _ later left = ⊤
+
+-- An ingest that read `text`: what was due was asked, and the replies, and nothing else, stand written as the ending says. No pattern
+-- was made.
+pub record HasIngested (sure : Bool) (text before : List ℕ) (o : Outcome) (old new : Edges) : Type 0 where
+  pub pushed : List (List ℕ)
+  pub later : List (List ℕ)
+  pub lines_are : lines text ≡ pushed ++ later
+  pub left : List Duty
+  pub asked : Ingests sure (duties (lines text)) (after_moment old.moments) o.first o.items o.replies o.last left new.moments
+  pub is_left : IsLeft o.ending later left
+  pub no_refused : o.refused ≡ []
+  pub ends : Ends o.ending text later new.left before o.replies new.taken
+
 -- One line was asked alone, read at the clock's next moment, and its reply stands written as the ending says. The maker
 -- refused just the pattern that it is refused for, if it is for a pattern's size.
 pub record HasAnswered (line before : List ℕ) (o : Outcome) (old new : Edges) : Type 0 where
@@ -141,16 +163,18 @@ NeedsNoSource ReadFault = ⊥
 NeedsNoSource Spent = ⊥
 NeedsNoSource _ = ⊤
 
--- In a store that was opened the command was done, as far as the source and the sink tell their bytes.
-abbrev pub DoesInStore : Command → Outcome → Edges → Edges → Type 0
-DoesInStore session o old new = IfSome old.left (λ text. IfSome old.taken (λ before. HasRun text before o old new))
-DoesInStore (Alone line) o old new =
+-- In a store that was opened the command was done, as far as the source and the sink tell their bytes. `sure` says that what the
+-- blocks of the store hold is told.
+abbrev pub DoesInStore : Bool → Command → Outcome → Edges → Edges → Type 0
+DoesInStore sure session o old new = IfSome old.left (λ text. IfSome old.taken (λ before. HasRun text before o old new))
+DoesInStore sure ingest o old new = IfSome old.left (λ text. IfSome old.taken (λ before. HasIngested sure text before o old new))
+DoesInStore sure (Alone line) o old new =
     NeedsNoSource o.ending × IfSome old.taken (λ before. HasAnswered line before o old new)
 
 -- The store was opened and the command done; or it wasn't, and nothing was asked.
-abbrev pub Does : Command → Outcome → Edges → Edges → Type 0
-Does c o old new =
-    (IsTrue o.opened × HasOpened o old new × IsPastOpening o.ending × DoesInStore c o old new)
+abbrev pub Does : Bool → Command → Outcome → Edges → Edges → Type 0
+Does sure c o old new =
+    (IsTrue o.opened × HasOpened o old new × IsPastOpening o.ending × DoesInStore sure c o old new)
     ⊎ ((o.opened ≡ false) × HasNotOpened o old new)
 
 -- ---- how a run may end
@@ -177,7 +201,7 @@ FitsWords (fault ∷ faults) ending = (ending ≡ BadWords) ⊎ (ending ≡ Star
 -- in order from a store to a store, and the ending has its cause. `told` says that what the blocks of the store hold is told.
 pub record IsRunOf (told : Bool) (words : List (List ℕ)) (o : Outcome) (old new : Edges) : Type 0 where
   pub words_fit : FitsWords (fault_of words_app words) o.ending
-  pub does : (c : Command) → Spells words c → Does c o old new
+  pub does : (c : Command) → Spells words c → Does told c o old new
   pub session : Session told o.first o.items o.replies o.last
   pub cause : HasCause o.ending old new
 
@@ -188,11 +212,17 @@ abbrev pub HasItsStore : Edges → Edges → Type 0
 HasItsStore old new =
     (image : Image) × (old.held ≡ Some image) × IsSoundImage image × (Rose old.disk_faults new.disk_faults → ⊥)
 
--- No call failed that the command makes, the disk holds a store, and the source has fewer bytes than a run takes.
-abbrev pub GoesWell : Command → Edges → Edges → Type 0
-GoesWell session old new =
+-- No call of the disk, the sink and the source failed, the disk holds a store, and the source has fewer bytes than a run takes.
+abbrev pub ReadsWell : Edges → Edges → Type 0
+ReadsWell old new =
     HasItsStore old new × (Rose old.sink_faults new.sink_faults → ⊥) × (Rose old.source_faults new.source_faults → ⊥)
     × (text : List ℕ) × (old.left ≡ Some text) × (length text < taken_limit)
+
+-- No call failed that the command makes, the disk holds a store, and where the command reads the source, that has fewer bytes than
+-- a run takes.
+abbrev pub GoesWell : Command → Edges → Edges → Type 0
+GoesWell session old new = ReadsWell old new
+GoesWell ingest old new = ReadsWell old new
 GoesWell (Alone line) old new = HasItsStore old new × (Rose old.sink_faults new.sink_faults → ⊥)
 
 -- All was answered, and nothing was refused or some of it.

@@ -1,6 +1,6 @@
 //! What follows from the definitions of a session and of a run.
 
-ghost use Rattle.std.specs.Prelude.{Bool, IsTrue, true, ◌≡◌, ◌⊎◌, ◌<◌, ◌++◌, List, [], ◌∷◌, Some, None, Ok, false, length, take, ℕ};
+ghost use Rattle.std.specs.Prelude.{Bool, IsTrue, true, ◌≡◌, ◌⊎◌, ◌<◌, ◌++◌, List, [], ◌∷◌, Option, Some, None, Ok, false, length, take, ℕ};
 ghost use Rattle.std.specs.List.{Contains, list_any};
 ghost use Rattle.command_words.specs.Commands.{Command, Spells};
 ghost use Rattle.disk_model.specs.Images.{Image};
@@ -32,10 +32,11 @@ ghost use Rattle.session_meaning.specs.Answering.{AreItemsAnswered, CallsLead, I
 ghost use Rattle.session_meaning.specs.Causes.{HasCompactCause, HasFlushCause, HasPushCause, HasWriteCause};
 ghost use Rattle.session_meaning.specs.Rounds.{HasJoined, HasListed, IsCompacted, IsDoneOrStarved, IsFlushed, IsRound};
 ghost use Rattle.session_meaning.specs.declared.ending.Ending.TheVariants.{Answered, Starved};
-ghost use Rattle.session_meaning.specs.Progress.{AreAnsweredOver};
+ghost use Rattle.session_meaning.specs.Progress.{AreAnsweredOver, IngestsOver};
 ghost use Rattle.session_meaning.specs.Pushes.{HasRoomFor, HasRoomForPush, accepted_batches, known_pushes};
 ghost use Rattle.session_meaning.specs.Runs.{ComesToItsEnd, Edges, GoesWell, IsRunOf, Outcome};
 ghost use Rattle.session_meaning.specs.At.{At, IsStill, history_of};
+ghost use Rattle.session_meaning.specs.Ingest.{AreJoined, Duty, Ingests, most_rounds};
 ghost use Rattle.session_meaning.specs.Session.{IsAnswered, IsAnsweredOrRefused, Session, is_refused};
 ghost use Rattle.session_meaning.specs.Stops.{StandsForLast, StandsWithin, unsure_spans};
 ghost use Rattle.session_meaning.specs.Upkeep.{HasEmptied, HasFailedSince, IsClosed};
@@ -68,6 +69,20 @@ pub fn a_core_answers_as_the_history_says<D: Device>(old: &Core<D>, new: &Core<D
         → StandsSince D.Device.own start least old.now m → IsTrue (D.tells old.now.disk)
         → (later : Machine) × StandsSince D.Device.own start least new.now later
         × Session true (at_core D.Device.own old.now m) items replies (at_core D.Device.own new.now later) }
+{}
+
+/// What is asked of a core by the duties of an ingest is an ingest: from a machine on that its memory shows, or for which it stands, as
+/// of a session.
+pub fn a_core_ingests_as_the_history_says<D: Device>(old: &Core<D>, new: &Core<D>)
+    ensures shown { (todo left : List Duty) (told to_tell : Option (List ℕ)) (items : List Item) (replies : List Reply)
+        → IngestsOver D.Device.own todo told old.now items replies new.now left to_tell → (m : Machine)
+        → CoreShows D.Device.own old.now m → (later : Machine) × CoreShows D.Device.own new.now later
+        × Ingests false todo told (at_core D.Device.own old.now m) items replies (at_core D.Device.own new.now later) left to_tell }
+    ensures since { (todo left : List Duty) (told to_tell : Option (List ℕ)) (items : List Item) (replies : List Reply)
+        → IngestsOver D.Device.own todo told old.now items replies new.now left to_tell → (m : Machine)
+        → (start : D) (least : ℕ) → StandsSince D.Device.own start least old.now m → IsTrue (D.tells old.now.disk)
+        → (later : Machine) × StandsSince D.Device.own start least new.now later
+        × Ingests true todo told (at_core D.Device.own old.now m) items replies (at_core D.Device.own new.now later) left to_tell }
 {}
 
 /// A session keeps that the rows of the store are those of its history, and leaves no job open while the store writes.
@@ -143,6 +158,13 @@ pub fn comes_to_an_end()
         → HasRoomFor o.items o.first.machine → (o.ending ≡ Answered) ⊎ (o.ending ≡ Starved) }
 {}
 
+/// What an ingest asks is asked and answered as in a session, so all that is said of sessions is said of it.
+pub fn an_ingest_is_a_session()
+    ensures { (sure : Bool) (todo left : List Duty) (told to_tell : Option (List ℕ)) (items : List Item)
+        → (replies : List Reply) (first last : At)
+        → Ingests sure todo told first items replies last left to_tell → Session sure first items replies last }
+{}
+
 /// What a flush makes of the store.
 pub fn flushes_have_their_causes()
     // The calls of a round make of the store what a flush does.
@@ -196,6 +218,13 @@ pub fn compactions_have_their_causes()
     // It leaves no job open in a store that writes, and the history as it was.
     ensures kept { (told : Bool) (before after : At) (round : Round) → IsClosed before.machine
         → IsCompacted told before round after → IsClosed after.machine × (history_of after ≡ history_of before) }
+{}
+
+/// Compactions one after another that each join blocks come to an end: there are fewer than an ingest makes at most, so it makes one that
+/// joins none.
+pub fn compactions_come_to_an_end()
+    ensures { (told : Bool) (items : List Item) (replies : List Reply) (first last : At) → AreJoined items replies
+        → Session told first items replies last → length items < most_rounds }
 {}
 
 /// What the emptying of loose files makes of the store.

@@ -9,6 +9,8 @@ mod durable_tests;
 #[cfg(test)]
 mod flush_tests;
 #[cfg(test)]
+mod ingest_tests;
+#[cfg(test)]
 mod run_tests;
 #[cfg(test)]
 mod search_tests;

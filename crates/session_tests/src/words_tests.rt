@@ -17,6 +17,7 @@ fn told(alloc: Global, words: &[&str]) -> Option<String> {
     let strings = as_strings(alloc, words)?;
     match read_words(alloc, strings.as_slice()) {
         Ok(Asked::Session) => String::from_str(alloc, "session").ok(),
+        Ok(Asked::Ingest) => String::from_str(alloc, "ingest").ok(),
         Ok(Asked::Alone { line }) => format!(in alloc; "line:{line}").ok(),
         Err(WordsError::Refused) => String::from_str(alloc, "refused").ok(),
         Err(WordsError::Memory) => None,
@@ -25,12 +26,16 @@ fn told(alloc: Global, words: &[&str]) -> Option<String> {
 
 #[test]
 fn table(rt: HostRuntime) {
-    let rows: [(&[&str], &str); 37] = [
+    let rows: [(&[&str], &str); 41] = [
         (&[], "refused"),
         (&["session"], "session"),
         (&["session", "--"], "session"),
         (&["session", "x"], "refused"),
         (&["--", "session"], "refused"),
+        (&["ingest"], "ingest"),
+        (&["ingest", "--"], "ingest"),
+        (&["ingest", "x"], "refused"),
+        (&["ingest", "session"], "refused"),
         (&["trace"], "refused"),
         (&["trace", "00"], "line:trace 00"),
         (&["trace", "session"], "line:trace session"),

@@ -1,5 +1,5 @@
 -- What a line asks, or why it asks nothing.
-use Rattle.std.specs.Prelude.{◌≡◌, ◌⊎◌, ⊤, ℕ, ◌+◌, ◌≤◌, List, [], length, codes, nat_le, if◌then◌else◌, Option, Some, None, Result, Ok, Err}
+use Rattle.std.specs.Prelude.{◌≡◌, ◌⊎◌, ⊤, ℕ, ◌+◌, ◌≤◌, List, [], ◌++◌, length, codes, nat_le, if◌then◌else◌, Option, Some, None, Result, Ok, Err}
 use Rattle.std.specs.Str.{bytes_eq, is_utf8}
 use Rattle.span_types.specs.declared.ids.TraceId.{TraceId}
 use Rattle.span_types.specs.declared.limits.TheConstants.{MOST_SPANS}
@@ -107,6 +107,16 @@ AsksAt moment line refused result = Answers (line_of moment line) refused result
 -- The same at some moment.
 abbrev pub Asks : List ℕ → List (List ℕ) → Result Request Refusal → Type 0
 Asks line refused result = (moment : ℕ) × AsksAt moment line refused result
+
+-- What a line of a source is whose lines are pushed, read at a moment: the request `push`, one space and that line. The limit counts
+-- the source's line alone.
+abbrev pub push_of : ℕ → List ℕ → Line
+push_of moment line =
+    if nat_le (length line) line_limit then request_of moment (codes "push " ++ line) else plain (Err (TooLong (length line)))
+
+-- What such a line asks, or why it asks nothing.
+abbrev pub AsksPush : ℕ → List ℕ → Result Request Refusal → Type 0
+AsksPush moment line result = Answers (push_of moment line) [] result
 
 -- A push has at most as many spans as a line may have.
 abbrev pub HasFewSpans : Request → Type 0

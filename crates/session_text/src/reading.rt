@@ -5,7 +5,7 @@ ghost use Rattle.traceql_types.specs.Makers.{RefusesOnly};
 ghost use Rattle.session_text.specs.declared.refusal.Refusal.TheVariants.{Memory};
 ghost use Rattle.session_text.specs.Lines.{first_part, other_parts};
 ghost use Rattle.session_text.specs.Options.{search_parts};
-ghost use Rattle.session_text.specs.Requests.{Answers, AsksAt, HasFewSpans, alone, line_of, other_line, push_with, search_with, trace_with, with_id};
+ghost use Rattle.session_text.specs.Requests.{Answers, AsksAt, AsksPush, HasFewSpans, alone, line_of, other_line, push_with, search_with, trace_with, with_id};
 ghost use Rattle.session_text.specs.Parsed.{left_parsed};
 
 use crate::options::{search_parts, split_text};
@@ -18,6 +18,9 @@ use traceql_types::PatternMaker;
 
 /// How many bytes a line may have.
 const LINE_LIMIT: usize = MOST_LINE_BYTES as usize;
+
+/// How many bytes stand before what is pushed: the word `push` and a space.
+const PUSH_WORD: u64 = 5;
 
 /// What a line asks that was read at this moment, in nanoseconds, or why it is refused.
 ///
@@ -58,6 +61,21 @@ pub fn read_request<P: PatternMaker>(
         Ok(text) => asked_by(alloc, text, moment, maker),
         Err(_) => Err(Refusal::BadRequest { at: 0 }),
     }
+}
+
+/// What a line of a source asks whose lines are pushed, read at this moment, in nanoseconds: what the request `push`, one
+/// space and the line asks, or why that is refused. A line of more than 16,777,216 bytes, these alone counted, is too long.
+/// `Memory` comes wherever memory is wanted and not given.
+pub fn read_push(alloc: Global, line: &[u8], moment: u64) -> Result<Request, Refusal>
+    ensures asked { AsksPush moment line.now result }
+    ensures few { IfOk result (λ request. HasFewSpans request) }
+{
+    if line.len() > LINE_LIMIT {
+        return Err(Refusal::TooLong {
+            length: line.len() as u64,
+        });
+    }
+    push_with(alloc, moment, PUSH_WORD + line.len() as u64, Some(line))
 }
 
 /// The first part, and what follows the space behind it.

@@ -1,5 +1,5 @@
 -- What a core stands for: a machine of the store's model, which its memory shows in part, and a history that its disk holds.
-use Rattle.std.specs.Prelude.{◌≡◌, ℕ, ◌+◌, ◌≤◌, List, [], ◌∷◌, ◌++◌, map, Option, None, IsTrue}
+use Rattle.std.specs.Prelude.{◌≡◌, ℕ, ◌+◌, ◌≤◌, List, [], ◌∷◌, ◌++◌, map, length, Option, None, IsTrue}
 use Rattle.std.specs.Option.{option_map}
 use Rattle.span_types.specs.declared.spans.Span.{Span}
 use Rattle.span_types.specs.declared.spans.Row.{Row}
@@ -47,6 +47,10 @@ rows_by_block blocks = map (λ block. block.rows) blocks
 -- The file of each block is a block of its rows, which the information at the same place describes.
 abbrev pub AreDescribed : Image → List InfoParts → List Block → Type 0
 AreDescribed held infos blocks = AreBlocksOf (λ file. bytes_of held file) infos (rows_by_block blocks)
+
+-- how many rows the core's memory holds outside of blocks, repeats among them
+abbrev pub held_in : {D : Type 0} → Core D → ℕ
+held_in core = length core.state.live.flushing + length core.state.live.head + length core.state.live.live
 
 -- What the core's memory shows of the machine.
 pub record HasState (core : CoreState) (m : Machine) : Type 0 where

@@ -5,7 +5,7 @@ ghost use Rattle.store_model.specs.Event.Event.{Push, Held, Look as TakeLook, Do
 ghost use Rattle.store_model.specs.Event.Reply.{Count, Fine};
 ghost use Rattle.store_model.specs.Step.{Machine, IsLookPin};
 ghost use Rattle.store_state.specs.Replies.{push_reply, look_reply};
-ghost use Rattle.store_core.specs.Cores.{CoreStandsFor, CoreShows};
+ghost use Rattle.store_core.specs.Cores.{CoreStandsFor, CoreShows, held_in};
 ghost use Rattle.store_core.specs.Events.{Did};
 ghost use Rattle.store_core.specs.Port.{LookShows};
 
@@ -52,6 +52,13 @@ impl<D: Device> Core<D> {
     /// How many rows are held outside of blocks, repeats among them.
     pub fn held_rows(&mut self) -> u64
         ensures { Did D.Device.own self.old Held (Count result) self.new }
+    {
+        self.state.live.held()
+    }
+
+    /// How many rows are held outside of blocks, repeats among them. Nothing is changed, so it is no event of the store.
+    pub fn held_now(&self) -> u64
+        ensures { result ≡ held_in self.now }
     {
         self.state.live.held()
     }

@@ -3,3 +3,4 @@ pub mod AloneLemmas
 pub mod RunLemmas
 pub mod StoreLemmas
 pub mod ArgumentLemmas
+pub mod IngestLemmas

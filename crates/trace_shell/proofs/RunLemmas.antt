@@ -2,7 +2,7 @@
 use Rattle.std.proofs.Common.{Bool, ◌≡◌, ◌≢◌, ◌⊎◌, ◌∙◌, inl, inr, ℕ, List, [], ◌∷◌, Option, Some, None, true, false, IsTrue, arith, if◌then◌else◌, refl, subst, sym}
 use Rattle.std.specs.Prelude.{IfSome}
 use Rattle.clap.specs.Words.{Kinds, fault_of}
-use Rattle.command_words.specs.Commands.{Alone, Command, Session as session, Spells}
+use Rattle.command_words.specs.Commands.{Alone, Command, Ingest as ingest, Session as session, Spells}
 use Rattle.command_words.specs.Table.{words_app}
 use Rattle.command_words.proofs.Spelled.{spelled_clean, spelled_one}
 use Rattle.disk_model.specs.Images.{Image}
@@ -23,11 +23,12 @@ use Rattle.store_images.proofs.Keeping.{keeps_same}
 use Rattle.session_meaning.specs.declared.ending.Ending.{Ending}
 use Rattle.session_meaning.specs.declared.ending.Ending.TheVariants.{Answered, BadWords, NotOpened, NotStore, ReadFault, Refused, Spent, Starved, WriteFault}
 use Rattle.session_meaning.specs.Asked.{after_moment}
-use Rattle.session_meaning.specs.Runs.{Does, DoesInStore, Edges, FitsWords, HasAnswered, HasCause, HasRun, IsNoStore, IsPastOpening, IsRunOf, Outcome, told_bytes}
+use Rattle.session_meaning.specs.Ingest.{Ingests, duties}
+use Rattle.session_meaning.specs.Runs.{Does, DoesInStore, Edges, FitsWords, HasAnswered, HasCause, HasIngested, HasRun, IsNoStore, IsPastOpening, IsRunOf, Outcome, told_bytes}
 use Rattle.session_meaning.specs.At.{At}
 use Rattle.session_meaning.specs.Statuses.{status_of}
 use Rattle.session_meaning.specs.Stops.{Recovers}
-use Rattle.trace_shell.specs.Turn.{CameOver, HasDone, IsRefusedStore}
+use Rattle.trace_shell.specs.Turn.{CameTo, HasDone, IsRefusedStore}
 
 -- ---- what is told or not
 
@@ -67,13 +68,13 @@ fits_asked : (words : List (List ℕ)) (c : Command) (e : Ending) → Spells wor
 fits_asked words c e s not = subst (λ (k : Kinds). FitsWords k e) (sym (spelled_clean words c s)) not
 
 -- What is done by the command that the words ask is done by any that they ask.
-by_one : (words : List (List ℕ)) (c : Command) (o : Outcome) (old new : Edges) → Spells words c → Does c o old new → (d : Command) → Spells words d → Does d o old new
-by_one words c o old new s does d t = subst (λ (k : Command). Does k o old new) (spelled_one words c d s t) does
+by_one : (told : Bool) (words : List (List ℕ)) (c : Command) (o : Outcome) (old new : Edges) → Spells words c → Does told c o old new → (d : Command) → Spells words d → Does told d o old new
+by_one told words c o old new s does d t = subst (λ (k : Command). Does told k o old new) (spelled_one words c d s t) does
 
 pub is_run : (told : Bool) (words : List (List ℕ)) (c : Command) (o : Outcome) (old new : Edges) → Spells words c → HasDone told c o old new → IsRunOf told words o old new
 is_run told words c o old new s done = record {
   words_fit = fits_asked words c o.ending s done.asked;
-  does = by_one words c o old new s done.does;
+  does = by_one told words c o old new s done.does;
   session = done.session;
   cause = done.cause;
 }
@@ -81,15 +82,18 @@ is_run told words c o old new s done = record {
 pub session_is_not_alone : (line : List ℕ) → session ≡ Alone line → ⊥
 session_is_not_alone line e = cc
 
+pub ingest_is_not_alone : (line : List ℕ) → ingest ≡ Alone line → ⊥
+ingest_is_not_alone line e = cc
+
 -- Words that ask for a session ask for no line alone.
 pub no_line_of_session : (words : List (List ℕ)) (line : List ℕ) → Spells words session → Spells words (Alone line) → ⊥
 no_line_of_session words line s t = session_is_not_alone line (spelled_one words session (Alone line) s t)
 
 -- ---- in a store that was opened
 
-pub in_store : (c : Command) (o : Outcome) (old new : Edges)
-    → CameOver c old.left old.taken (after_moment old.moments) new.left new.taken new.moments o.ending o.items o.replies o.refused → DoesInStore c o old new
-in_store session o old new came =
+pub in_store : (sure : Bool) (c : Command) (o : Outcome) (old new : Edges)
+    → CameTo sure c o.first o.last old.left old.taken (after_moment old.moments) new.left new.taken new.moments o.ending o.items o.replies o.refused → DoesInStore sure c o old new
+in_store sure session o old new came =
     if_some old.left (λ text. IfSome old.taken (λ before. HasRun text before o old new)) (λ text left.
     if_some old.taken (λ before. HasRun text before o old new) (λ before taken.
     let w = came text before left taken in record {
@@ -100,7 +104,20 @@ in_store session o old new came =
       clock = w.clock;
       ends = w.ends;
     }))
-in_store (Alone line) o old new (item, reply, items, replies, own, asked, clock, ends) = (
+in_store sure ingest o old new (pushed, later, todo, ingests, is_left, none, ends) =
+    if_some old.left (λ text. IfSome old.taken (λ before. HasIngested sure text before o old new)) (λ text left.
+    if_some old.taken (λ before. HasIngested sure text before o old new) (λ before taken.
+    let w = ends text before left taken in record {
+      pushed = pushed;
+      later = later;
+      lines_are = w.0;
+      left = todo;
+      asked = subst (λ (ls : List (List ℕ)). Ingests sure (duties ls) (after_moment old.moments) o.first o.items o.replies o.last todo new.moments) (sym w.0) ingests;
+      is_left = is_left;
+      no_refused = none;
+      ends = w.1;
+    }))
+in_store sure (Alone line) o old new (item, reply, items, replies, own, asked, clock, ends) = (
   own,
   if_some old.taken (λ before. HasAnswered line before o old new) (λ before taken. record {
     item = item;

@@ -1,8 +1,8 @@
 -- What a run came to in a store that was opened, and what it left of it.
-use Rattle.std.proofs.Common.{Bool, ◌≡◌, inl, inr, ⊎_elim, ℕ, ◌≤◌, List, [], Option, None, true, IsTrue, refl, sym, ◌∙◌, ap, subst}
+use Rattle.std.proofs.Common.{Bool, ◌≡◌, inl, inr, ⊎_elim, ℕ, ◌≤◌, List, [], Option, None, true, ◌++◌, IsTrue, refl, sym, ◌∙◌, ap, subst}
 use Rattle.std.specs.Prelude.{IfSome}
 use Rattle.span_types.specs.declared.spans.Span.{Span}
-use Rattle.command_words.specs.Commands.{Command}
+use Rattle.command_words.specs.Commands.{Alone, Command, Ingest as ingest, Session as session}
 use Rattle.disk_model.specs.Images.{Image}
 use Rattle.disk_model.specs.declared.disk.Device.{Ghosts}
 use Rattle.session_text.specs.declared.reply.Reply.{Reply}
@@ -22,13 +22,16 @@ use Rattle.client_run.proofs.CallLemmas.{tells_kept}
 use Rattle.client_run.proofs.CoreLemmas.{unsure_stepped}
 use Rattle.session_meaning.specs.declared.ending.Ending.{Ending}
 use Rattle.session_meaning.specs.Asked.{IsNextMoment, after_moment}
-use Rattle.session_meaning.specs.Progress.{HasAnsweredOver}
+use Rattle.session_meaning.specs.Answering.{at_core}
+use Rattle.session_meaning.specs.Ingest.{Duty, Ingests, duties}
+use Rattle.session_meaning.specs.Progress.{AreAnsweredOver, HasAnsweredOver, IngestsOver}
+use Rattle.session_meaning.proofs.IngestLaws.{ingest_is_session}
 use Rattle.session_meaning.specs.Pushes.{unsure_batch}
 use Rattle.session_meaning.specs.Runs.{Edges, HasCause, IsPastOpening, Outcome, told_bytes}
 use Rattle.session_meaning.specs.Session.{Session}
 use Rattle.session_meaning.specs.Stops.{Recovers}
 use Rattle.session_meaning.proofs.Unsure.{items_unsure}
-use Rattle.trace_shell.specs.Turn.{CameOver, HasDone}
+use Rattle.trace_shell.specs.Turn.{CameOver, CameTo, HasDone}
 use Rattle.trace_shell.proofs.RunLemmas.{if_told, in_store, past_is_no_fault}
 
 -- nothing is open in a core whose memory shows a machine
@@ -40,6 +43,38 @@ holds_nothing g core m shown = record {
   sound = shown.sound;
   open_holds = λ hold inside. absurd (not_in_nil hold inside);
 }
+
+-- What was done over a core was asked and answered over its port.
+pub answered_over : {D : Type 0} (g : Ghosts D) (c : Command) (core later : Core D) (old_left old_taken told left taken to_tell : Option (List ℕ)) (e : Ending) (items : List Item)
+    (replies : List Reply) (blamed : List (List ℕ)) → CameOver c g core later old_left old_taken told left taken to_tell e items replies blamed
+    → HasAnsweredOver (port_of g) core items replies later
+answered_over g session core later old_left old_taken told left taken to_tell e items replies blamed came = came.0
+answered_over g ingest core later old_left old_taken told left taken to_tell e items replies blamed came = came.3.answered
+answered_over g (Alone line) core later old_left old_taken told left taken to_tell e items replies blamed came = came.0
+
+-- What a command came to over a core, by machines that go with it, is a session between the stores of these machines, and what the
+-- command does.
+module _ {D : Type 0} (g : Ghosts D) (is_with : Core D → Machine → Type 0) (sure : Bool)
+    (sessions : (items : List Item) (replies : List Reply) (first last : Core D) (m : Machine) → is_with first m → AreAnsweredOver (port_of g) first items replies last
+    → (m' : Machine) × is_with last m' × Session sure (at_core g first m) items replies (at_core g last m'))
+    (ingests : (todo : List Duty) (moments : Option (List ℕ)) (items : List Item) (replies : List Reply) (first last : Core D) (m : Machine) (left : List Duty) (to_tell : Option (List ℕ))
+    → is_with first m → IngestsOver g todo moments first items replies last left to_tell
+    → (m' : Machine) × is_with last m' × Ingests sure todo moments (at_core g first m) items replies (at_core g last m') left to_tell) where
+  pub came_to : (c : Command) (core later : Core D) (m : Machine) (old_left old_taken told left taken to_tell : Option (List ℕ)) (e : Ending) (items : List Item) (replies : List Reply)
+      (blamed : List (List ℕ)) → is_with core m → CameOver c g core later old_left old_taken told left taken to_tell e items replies blamed
+      → (m' : Machine) × is_with later m' × Session sure (at_core g core m) items replies (at_core g later m')
+      × CameTo sure c (at_core g core m) (at_core g later m') old_left old_taken told left taken to_tell e items replies blamed
+  came_to session core later m old_left old_taken told left taken to_tell e items replies blamed stands came =
+      let run = sessions items replies core later m stands came.0.each in (run.0, run.1, run.2, came.1)
+  came_to ingest core later m old_left old_taken told left taken to_tell e items replies blamed stands (pushed, after, todo, over, is_left, none, ends) =
+      let run = ingests (duties (pushed ++ after)) told items replies core later m todo to_tell stands over.each in (
+        run.0,
+        run.1,
+        ingest_is_session sure (duties (pushed ++ after)) todo told to_tell items replies (at_core g core m) (at_core g later run.0) run.2,
+        (pushed, after, todo, run.2, is_left, none, ends),
+      )
+  came_to (Alone line) core later m old_left old_taken told left taken to_tell e items replies blamed stands came =
+      let run = sessions items replies core later m stands came.0.each in (run.0, run.1, run.2, came.1)
 
 -- a run in a store that was opened
 abbrev pub in_a_store : {D : Type 0} → Ghosts D → ℕ → Core D → Core D → Machine → Machine → Ending → List Item → List Reply → List (List ℕ) → Outcome
@@ -62,7 +97,7 @@ module _ {D : Type 0} (g : Ghosts D) (disk : D) (moment : ℕ) (core later : Cor
   pub opened_done : (sure : Bool) (c : Command) (old new : Edges) → old.held ≡ told_bytes g disk → old.disk_faults ≡ g.faults disk → new.disk_faults ≡ g.faults later.disk
       → IsNextMoment old.moments moment → (IsTrue (g.tells disk) → (file at : ℕ) → StoreBreaks (g.held disk) file at → ⊥) → g.faults disk ≤ g.faults core.disk
       → Session sure outcome.first items replies outcome.last
-      → CameOver c old.left old.taken (after_moment old.moments) new.left new.taken new.moments e items replies blamed
+      → CameTo sure c outcome.first outcome.last old.left old.taken (after_moment old.moments) new.left new.taken new.moments e items replies blamed
       → IsPastOpening e → HasCause e old new → HasDone sure c outcome old new
   opened_done sure c old new held old_faults new_faults next unbroken counted session came past cause = record {
     does = inl (
@@ -78,7 +113,7 @@ module _ {D : Type 0} (g : Ghosts D) (disk : D) (moment : ℕ) (core later : Cor
         last_faults = sym new_faults;
       },
       past,
-      in_store c outcome old new came,
+      in_store sure c outcome old new came,
     );
     session = session;
     cause = cause;

@@ -1,3 +1,4 @@
 pub mod Turn
 pub mod Real
 pub mod Arguments
+pub mod Ingesting

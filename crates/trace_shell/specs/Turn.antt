@@ -6,17 +6,22 @@ use Rattle.std.specs.Io.KnownBytes.{Appends}
 use Rattle.io_edges.specs.Devices.{AppendsPrefix}
 use Rattle.io_edges.specs.Lines.{lines}
 use Rattle.io_edges.specs.Reader.{Reader, IsToRead, TakesBytes}
-use Rattle.command_words.specs.Commands.{Alone, Command, Session as session}
+use Rattle.command_words.specs.Commands.{Alone, Command, Ingest as ingest, Session as session}
 use Rattle.store_core.specs.declared.error.OpenError.{OpenError}
 use Rattle.store_core.specs.declared.error.OpenError.TheVariants as open_errors
 use Rattle.session_text.specs.declared.reply.Reply.{Reply}
+use Rattle.disk_model.specs.declared.disk.Device.{Ghosts}
+use Rattle.store_core.specs.Port.{port_of}
+use Rattle.store_core.specs.declared.store.Core.{Core}
 use Rattle.session_text.specs.Items.{Item}
 use Rattle.session_text.specs.Replies.{not_store_text, reply_text}
 use Rattle.session_meaning.specs.declared.ending.Ending.{Ending}
 use Rattle.session_meaning.specs.declared.ending.Ending.TheVariants.{Answered, BadWords, NotOpened, NotStore, Refused, Starved, WriteFault}
+use Rattle.session_meaning.specs.At.{At}
 use Rattle.session_meaning.specs.Asked.{AreAsked, AsksNext, after_lines, after_moment}
-use Rattle.session_meaning.specs.Progress.{Progress}
-use Rattle.session_meaning.specs.Runs.{Does, Edges, HasCause, NeedsNoSource, Outcome}
+use Rattle.session_meaning.specs.Ingest.{Duty, Ingests, duties}
+use Rattle.session_meaning.specs.Progress.{HasAnsweredOver, HasIngestedOver, Progress}
+use Rattle.session_meaning.specs.Runs.{Does, Edges, HasCause, IsLeft, NeedsNoSource, Outcome}
 use Rattle.session_meaning.specs.Session.{Ends, EndsAlone, Session, is_for_memory, is_refusal, reply_texts}
 use Rattle.trace_shell.specs.declared.session.Tally.{Tally}
 
@@ -66,12 +71,38 @@ Turned told text before left taken to_tell reader tally items replies blamed Non
 Turned told text before left taken to_tell reader tally items replies blamed (Some ending) =
     Came told text before left taken to_tell ending items replies blamed
 
--- What a command came to over a store that was opened.
-abbrev pub CameOver : Command → (old_left old_taken told left taken to_tell : Option (List ℕ)) → Ending → List Item → List Reply → List (List ℕ) → Type 0
-CameOver session old_left old_taken told left taken to_tell ending items replies blamed =
+-- What a command came to over a core that was opened.
+abbrev pub CameOver : {D : Type 0} → Command → Ghosts D → Core D → Core D → (old_left old_taken told left taken to_tell : Option (List ℕ)) → Ending
+    → List Item → List Reply → List (List ℕ) → Type 0
+CameOver session g start core old_left old_taken told left taken to_tell ending items replies blamed =
+    HasAnsweredOver (port_of g) start items replies core
+    × ((text before : List ℕ) → old_left ≡ Some text → old_taken ≡ Some before
+    → Came told text before left taken to_tell ending items replies blamed)
+CameOver ingest g start core old_left old_taken told left taken to_tell ending items replies blamed =
+    (pushed later : List (List ℕ)) × (todo : List Duty)
+    × HasIngestedOver g start (duties (pushed ++ later)) told items replies core todo to_tell
+    × IsLeft ending later todo × (blamed ≡ [])
+    × ((text before : List ℕ) → old_left ≡ Some text → old_taken ≡ Some before
+    → (lines text ≡ pushed ++ later) × Ends ending text later left before replies taken)
+CameOver (Alone line) g start core old_left old_taken told left taken to_tell ending items replies blamed =
+    HasAnsweredOver (port_of g) start items replies core
+    × ((item : Item) × (reply : Reply) × (items ≡ item ∷ []) × (replies ≡ reply ∷ []) × NeedsNoSource ending
+    × AsksNext told line blamed item × (to_tell ≡ after_moment told)
+    × ((before : List ℕ) → old_taken ≡ Some before → EndsAlone ending before reply taken))
+
+-- What a command came to between the stores that it found and left. `sure` says that what the blocks hold is told.
+abbrev pub CameTo : Bool → Command → At → At → (old_left old_taken told left taken to_tell : Option (List ℕ)) → Ending → List Item → List Reply
+    → List (List ℕ) → Type 0
+CameTo sure session first last old_left old_taken told left taken to_tell ending items replies blamed =
     (text before : List ℕ) → old_left ≡ Some text → old_taken ≡ Some before
     → Came told text before left taken to_tell ending items replies blamed
-CameOver (Alone line) old_left old_taken told left taken to_tell ending items replies blamed =
+CameTo sure ingest first last old_left old_taken told left taken to_tell ending items replies blamed =
+    (pushed later : List (List ℕ)) × (todo : List Duty)
+    × Ingests sure (duties (pushed ++ later)) told first items replies last todo to_tell
+    × IsLeft ending later todo × (blamed ≡ [])
+    × ((text before : List ℕ) → old_left ≡ Some text → old_taken ≡ Some before
+    → (lines text ≡ pushed ++ later) × Ends ending text later left before replies taken)
+CameTo sure (Alone line) first last old_left old_taken told left taken to_tell ending items replies blamed =
     (item : Item) × (reply : Reply) × (items ≡ item ∷ []) × (replies ≡ reply ∷ []) × NeedsNoSource ending
     × AsksNext told line blamed item × (to_tell ≡ after_moment told)
     × ((before : List ℕ) → old_taken ≡ Some before → EndsAlone ending before reply taken)
@@ -87,7 +118,7 @@ IsRefusedStore (open_errors.NotStore file at) ending old new =
 
 -- What words ask was done. It is a run, where the words ask this. `told` says that what the blocks of the store hold is told.
 pub record HasDone (told : Bool) (c : Command) (o : Outcome) (old new : Edges) : Type 0 where
-  pub does : Does c o old new
+  pub does : Does told c o old new
   pub session : Session told o.first o.items o.replies o.last
   pub cause : HasCause o.ending old new
   pub asked : o.ending ≢ BadWords

@@ -8,17 +8,18 @@ ghost use Rattle.io_edges.specs.Lines.{taken_limit};
 ghost use Rattle.io_edges.specs.Reader.{TakesBytes};
 ghost use Rattle.span_types.specs.Faults.{Rose};
 ghost use Rattle.store_core.specs.Opening.{LeavesAlone, StoreBreaks};
+ghost use Rattle.store_core.specs.Port.{port_of};
 ghost use Rattle.store_images.specs.Stored.{IsSoundImage};
 ghost use Rattle.store_model.specs.Holds.{Hold};
 ghost use Rattle.session_text.specs.declared.reply.Reply.{Reply};
 ghost use Rattle.session_text.specs.Items.{Item};
 ghost use Rattle.session_meaning.specs.declared.ending.Ending.TheVariants.{NotOpened, ReadFault, Spent, WriteFault};
-ghost use Rattle.session_meaning.specs.Progress.{HasAnsweredOver};
 ghost use Rattle.session_meaning.specs.Runs.{IsPastOpening, IsRunOf, Outcome, edges};
 ghost use Rattle.session_meaning.specs.Stops.{Recovers};
 ghost use Rattle.traceql_types.specs.Makers.{RefusesOnly};
 ghost use Rattle.trace_shell.specs.Turn.{CameOver, HasDone, IsRefusedStore};
 
+use crate::ingesting::ingest;
 use crate::session::{one_line, session};
 use command_words::{Asked, WordsError, read_words};
 use disk_model::Device;
@@ -28,7 +29,6 @@ use session_text::{Refusal, Reply, write_reply};
 use span_types::{Failed, Memory};
 use std::alloc::Global;
 use store_core::{Core, OpenError};
-use store_state::Port;
 use traceql_types::PatternMaker;
 
 /// Does what the words say, and tells how it ended. The disk is handed back.
@@ -105,22 +105,21 @@ fn on_store<S: Source, K: Sink, D: Device, C: Clock, P: PatternMaker, G: Gate>(
     }
 }
 
-// Does what is asked over the port of a store that was opened.
-fn do_asked<S: Source, K: Sink, Q: Port, C: Clock, P: PatternMaker, G: Gate>(
+// Does what is asked over a core that was opened.
+fn do_asked<S: Source, K: Sink, D: Device, C: Clock, P: PatternMaker, G: Gate>(
     alloc: Global,
     asked: Asked,
     source: &mut S,
     sink: &mut K,
-    port: &mut Q,
+    core: &mut Core<D>,
     clock: &mut C,
     patterns: &mut P,
     gate: &G,
 ) -> Ending
-    requires { (held : List Hold) × Q.meaning.holds port.old held }
+    requires { (held : List Hold) × (port_of D.Device.own).holds core.old held }
     ensures came { (items : List Item) × (replies : List Reply) × (blamed : List (List ℕ))
         × RefusesOnly P.makes patterns.old patterns.new blamed
-        × HasAnsweredOver Q.meaning port.old items replies port.new
-        × CameOver (command_of asked) (S.left source.old) (K.taken sink.old) (C.moments clock.old)
+        × CameOver (command_of asked) D.Device.own core.old core.new (S.left source.old) (K.taken sink.old) (C.moments clock.old)
         (S.left source.new) (K.taken sink.new) (C.moments clock.new) result items replies blamed }
     ensures write_fault { result ≡ WriteFault → Rose (K.faults sink.old) (K.faults sink.new) }
     ensures read_fault { result ≡ ReadFault → Rose (S.faults source.old) (S.faults source.new) }
@@ -129,11 +128,12 @@ fn do_asked<S: Source, K: Sink, Q: Port, C: Clock, P: PatternMaker, G: Gate>(
     ensures alone { (line : List ℕ) → command_of asked ≡ Alone line → source.new ≡ source.old }
 {
     match asked {
-        Asked::Session => session(alloc, source, sink, port, clock, patterns, gate),
+        Asked::Session => session(alloc, source, sink, core, clock, patterns, gate),
+        Asked::Ingest => ingest(alloc, source, sink, core, clock, gate),
         Asked::Alone { line } => one_line(
             alloc,
             sink,
-            port,
+            core,
             clock,
             patterns,
             gate,

@@ -2,6 +2,7 @@
 #![tactic(auto)]
 
 mod dispatch;
+mod ingesting;
 mod program;
 mod real;
 mod session;

@@ -1,7 +1,7 @@
 //! A session: the lines of a source are answered in order over a store's port, each reply written before the next line is
 //! read.
 
-ghost use Rattle.std.specs.Prelude.{◌≡◌, ◌⊎◌, ◌<◌, ◌≤◌, ℕ, List, [], ◌∷◌, ◌++◌, Option, Some, None, IfSome, IfNone, length};
+ghost use Rattle.std.specs.Prelude.{false, ◌≡◌, ◌⊎◌, ◌<◌, ◌≤◌, ℕ, List, [], ◌∷◌, ◌++◌, Option, Some, None, IfSome, IfNone, length};
 ghost use Rattle.span_types.specs.Faults.{Rose};
 ghost use Rattle.io_edges.specs.Lines.{taken_limit};
 ghost use Rattle.io_edges.specs.Reader.{TakesBytes, to_come};
@@ -29,7 +29,7 @@ use store_state::{Port, Refusal as Cause};
 use traceql_types::PatternMaker;
 
 /// Which client a session is: there is no other one.
-const CLIENT: u32 = 0;
+pub(crate) const CLIENT: u32 = 0;
 
 /// Which refusals are among the replies so far.
 #[derive(Clone, Copy, Debug)]
@@ -41,6 +41,16 @@ pub(crate) struct Tally {
 }
 
 impl Tally {
+    // None is among no replies.
+    pub(crate) fn new() -> Tally
+        ensures { result ≡ record { refused = false; starved = false } }
+    {
+        Tally {
+            refused: false,
+            starved: false,
+        }
+    }
+
     // Adds a reply.
     fn add(&mut self, reply: &Reply)
         ensures { self.new ≡ tally_with self.old reply.now }
@@ -50,7 +60,7 @@ impl Tally {
     }
 
     // How a session ends whose input was read to its end.
-    fn ending(&self) -> Ending
+    pub(crate) fn ending(&self) -> Ending
         ensures { result ≡ ending_of self.now }
     {
         if self.refused {
@@ -110,10 +120,7 @@ pub(crate) fn session<S: Source, K: Sink, Q: Port, C: Clock, P: PatternMaker, G:
     ensures endings { IsPastOpening result }
 {
     let mut reader = LineReader::new(alloc);
-    let mut tally = Tally {
-        refused: false,
-        starved: false,
-    };
+    let mut tally = Tally::new();
     'lines: loop {
         if let Some(ending) = next_line(
             alloc,
@@ -151,10 +158,7 @@ pub(crate) fn one_line<K: Sink, Q: Port, C: Clock, P: PatternMaker, G: Gate>(
     ensures write_fault { result ≡ WriteFault → Rose (K.faults sink.old) (K.faults sink.new) }
     ensures endings { (result ≡ WriteFault) ⊎ ((result ≡ Answered) ⊎ ((result ≡ Refused) ⊎ (result ≡ Starved))) }
 {
-    let mut tally = Tally {
-        refused: false,
-        starved: false,
-    };
+    let mut tally = Tally::new();
     let moment = clock.now();
     let reply = answer(alloc, port, patterns, gate, line, moment);
     match write(alloc, &mut tally, sink, &reply) {
@@ -245,7 +249,7 @@ fn answer_line<K: Sink, Q: Port, C: Clock, P: PatternMaker, G: Gate>(
 }
 
 // Refuses a line of so many bytes, which are too many, and writes the reply.
-fn refuse_line<K: Sink, C: Clock>(
+pub(crate) fn refuse_line<K: Sink, C: Clock>(
     alloc: Global,
     tally: &mut Tally,
     sink: &mut K,
@@ -285,7 +289,12 @@ fn answer<Q: Port, P: PatternMaker, G: Gate>(
 }
 
 // Writes a reply. Gives how the session ends, where it can't be written.
-fn write<K: Sink>(alloc: Global, tally: &mut Tally, sink: &mut K, reply: &Reply) -> Option<Ending>
+pub(crate) fn write<K: Sink>(
+    alloc: Global,
+    tally: &mut Tally,
+    sink: &mut K,
+    reply: &Reply,
+) -> Option<Ending>
     ensures given { HasGiven (K.taken sink.old) (K.taken sink.new) tally.old tally.new reply.now result }
     ensures sink_counted { K.faults sink.old ≤ K.faults sink.new }
     ensures write_fault { IfSome result (λ ending. ending ≡ WriteFault → Rose (K.faults sink.old) (K.faults sink.new)) }

@@ -41,10 +41,10 @@ pub fn exit_code<D: Drop>(ended: Ended<D>) -> ExitCode
     ExitCode::from(status)
 }
 
-/// Does what the words of the command line say on the store of the disk: `session` answers each line of the source, `trace ID`
-/// the one line `trace ID`, and `search QUERY` with its options the one line that these make. The store is opened at the
-/// clock's first moment, in nanoseconds, and a new one is made on a disk that has none; the clock is then asked once for each
-/// line. The disk is handed back as the store left it. No right to wait is needed.
+/// Does what the words of the command line say on the store of the disk: `session` answers each line of the source, `ingest`
+/// pushes each and keeps the store up, `trace ID` answers the one line `trace ID`, and `search QUERY` with its options the one
+/// line that these make. The store is opened at the clock's first moment, in nanoseconds, and a new one is made on a disk that has
+/// none; the clock is then asked once for each line that has bytes. The disk is handed back as the store left it. No right to wait is needed.
 pub fn run_alone<
     R: Threads + Sync,
     S: Source,

@@ -8,7 +8,8 @@ pub returns : goal.returns
 unfolding words_app
 returns c =
     let first = c.in_ok-subcommand.ensures.shape c.session_command.ensures.local ∙ ap₂ with_subcommand c.bare_command.ensures c.session_command.ensures.shape in
+    let second = c.in_ok-subcommand-2.ensures.shape c.ingest_command.ensures.local ∙ ap₂ with_subcommand first c.ingest_command.ensures.shape in
     let given = c.in_ok-trace_command.ensures in
-    let second = c.in_ok-subcommand-2.ensures.shape given.local ∙ ap₂ with_subcommand first given.shape in
+    let third = c.in_ok-subcommand-3.ensures.shape given.local ∙ ap₂ with_subcommand second given.shape in
     let asked = c.in_ok-search_command.ensures in
-    IfOk-weaker c.subcommand-3.result _ _ (λ m added. added.shape asked.local ∙ ap₂ with_subcommand second asked.shape) c.subcommand-3.ensures
+    IfOk-weaker c.subcommand-4.result _ _ (λ m added. added.shape asked.local ∙ ap₂ with_subcommand third asked.shape) c.subcommand-4.ensures

@@ -2,8 +2,8 @@ use Rattle.std.proofs.Common.{◌≡◌, ◌∙◌, ℕ, List, Some, None, ap, i
 use Rattle.std.proofs.lemmas.Result.{IfOk-weaker}
 use Rattle.std.specs.Borrow.{Bor}
 use Rattle.clap.specs.declared.parser.matches.ArgMatches.{ArgMatches}
-use Rattle.command_words.specs.Commands.{session}
-use Rattle.command_words.proofs.Found.{told, tells_one, tells_search, tells_session, tells_trace}
+use Rattle.command_words.specs.Commands.{ingest, session}
+use Rattle.command_words.proofs.Found.{told, tells_ingest, tells_one, tells_search, tells_session, tells_trace}
 use Rattle.command_words.proofs.Spelled.{never_refused, search_asked, strings_are_text, trace_asked}
 use Rattle.command_words.proofs.Whole.{IsBareTrace}
 use Rattle.command_words.proofs.read.read_words.Goals as goal
@@ -19,6 +19,13 @@ returns-in-session-clause-asked c =
     let met : Bor (List ℕ) × Bor ArgMatches = (c.in-Some.name, c.in-Some.given) in
     let tells = told words c.in_ok-matches.matches (Some met) c.in_ok-matches.ensures.no_fault c.in_ok-matches.ensures.found c.in-Some.ensures.name c.in-Some.ensures.rows in
     session (tells_session words met tells c.in-session.is)
+
+pub returns-in-ingest-clause-asked : goal.returns-in-ingest-clause-asked
+returns-in-ingest-clause-asked c =
+    let words = map string_bytes c.args.words.now in
+    let met : Bor (List ℕ) × Bor ArgMatches = (c.in-Some.name, c.in-Some.given) in
+    let tells = told words c.in_ok-matches.matches (Some met) c.in_ok-matches.ensures.no_fault c.in_ok-matches.ensures.found c.in-Some.ensures.name c.in-Some.ensures.rows in
+    ingest (tells_ingest words met tells c.in-ingest.is)
 
 pub id_of-requires : goal.id_of-requires
 id_of-requires c =
@@ -64,4 +71,4 @@ unreachable-requires-in_default-name c =
     let words = map string_bytes c.args.words.now in
     let met : Bor (List ℕ) × Bor ArgMatches = (c.in-Some.name, c.in-Some.given) in
     let tells = told words c.in_ok-matches.matches (Some met) c.in_ok-matches.ensures.no_fault c.in_ok-matches.ensures.found c.in-Some.ensures.name c.in-Some.ensures.rows in
-    tells_one words met tells c.in_default-name.not-session c.in_default-name.not-trace c.in_default-name.not-search
+    tells_one words met tells c.in_default-name.not-session c.in_default-name.not-ingest c.in_default-name.not-trace c.in_default-name.not-search

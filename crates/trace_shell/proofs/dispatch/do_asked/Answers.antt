@@ -1,9 +1,11 @@
 use Rattle.std.proofs.Common.{◌≡◌, [], ◌∷◌, List, ap, refl, string_bytes, subst, sym, ◌∙◌, ℕ}
 use Rattle.command_words.specs.Commands.{command_of}
 use Rattle.session_meaning.specs.Asked.{AsksNext}
+use Rattle.store_core.specs.Port.{port_of}
+use Rattle.traceql_types.proofs.Calls.{refuses-none}
 use Rattle.trace_shell.specs.Turn.{CameOver}
 use Rattle.trace_shell.proofs.AloneLemmas.{alone_ends}
-use Rattle.trace_shell.proofs.RunLemmas.{session_is_not_alone}
+use Rattle.trace_shell.proofs.RunLemmas.{ingest_is_not_alone, session_is_not_alone}
 use Rattle.session_meaning.proofs.SessionLaws.{over_one}
 use Rattle.trace_shell.proofs.dispatch.do_asked.Goals as goal
 
@@ -14,13 +16,27 @@ returns-in-Session-clause-came g c =
       ran.1,
       ran.2,
       ran.3,
-      ran.4,
-      subst (λ a. CameOver (command_of a) (g.S.Source.left c.args.source.now) (g.K.Sink.taken c.args.sink.now) (g.C.Clock.moments c.args.clock.now)
-          (g.S.Source.left c.session.new.source) (g.K.Sink.taken c.session.new.sink) (g.C.Clock.moments c.session.new.clock) c.session.result ran.0 ran.1 ran.2) (sym c.in-Session.is) ran.5,
+      subst (λ a. CameOver (command_of a) g.D.Device c.args.core.now c.session.new.port (g.S.Source.left c.args.source.now) (g.K.Sink.taken c.args.sink.now) (g.C.Clock.moments c.args.clock.now)
+          (g.S.Source.left c.session.new.source) (g.K.Sink.taken c.session.new.sink) (g.C.Clock.moments c.session.new.clock) c.session.result ran.0 ran.1 ran.2) (sym c.in-Session.is) (ran.4, ran.5),
     )
 
 pub returns-in-Session-clause-alone : goal.returns-in-Session-clause-alone
 returns-in-Session-clause-alone g c = λ line is. absurd (session_is_not_alone line (ap command_of (sym c.in-Session.is) ∙ is))
+
+pub returns-in-Ingest-clause-came : goal.returns-in-Ingest-clause-came
+returns-in-Ingest-clause-came g c =
+    let ran = c.ingest.ensures.ran in (
+      ran.3,
+      ran.4,
+      [],
+      refuses-none g.P.PatternMaker.makes _ c.args.patterns.now c.args.patterns.now,
+      subst (λ a. CameOver (command_of a) g.D.Device c.args.core.now c.ingest.new.core (g.S.Source.left c.args.source.now) (g.K.Sink.taken c.args.sink.now) (g.C.Clock.moments c.args.clock.now)
+          (g.S.Source.left c.ingest.new.source) (g.K.Sink.taken c.ingest.new.sink) (g.C.Clock.moments c.ingest.new.clock) c.ingest.result ran.3 ran.4 [])
+          (sym c.in-Ingest.is) (ran.0, ran.1, ran.2, ran.5, ran.6, refl, ran.7),
+    )
+
+pub returns-in-Ingest-clause-alone : goal.returns-in-Ingest-clause-alone
+returns-in-Ingest-clause-alone g c = λ line is. absurd (ingest_is_not_alone line (ap command_of (sym c.in-Ingest.is) ∙ is))
 
 pub returns-in-Alone-clause-came : goal.returns-in-Alone-clause-came
 returns-in-Alone-clause-came g c =
@@ -32,17 +48,19 @@ returns-in-Alone-clause-came g c =
       told.1 ∷ [],
       told.2,
       told.3,
-      over_one g.Q.LookPort.meaning c.args.port.now c.one_line.new.port told.0 told.1 told.4,
-      subst (λ a. CameOver (command_of a) (g.S.Source.left c.args.source.now) (g.K.Sink.taken c.args.sink.now) old
+      subst (λ a. CameOver (command_of a) g.D.Device c.args.core.now c.one_line.new.port (g.S.Source.left c.args.source.now) (g.K.Sink.taken c.args.sink.now) old
           (g.S.Source.left c.args.source.now) (g.K.Sink.taken c.one_line.new.sink) (g.C.Clock.moments c.one_line.new.clock) c.one_line.result (told.0 ∷ []) (told.1 ∷ []) told.2) (sym c.in-Alone.is) (
-            told.0,
-            told.1,
-            refl,
-            refl,
-            (alone_ends c.one_line.result c.one_line.ensures.endings).2,
-            subst (λ (l : List ℕ). AsksNext old l told.2 told.0) same told.5,
-            c.one_line.ensures.clock,
-            told.6,
+            over_one (port_of g.D.Device) c.args.core.now c.one_line.new.port told.0 told.1 told.4,
+            (
+              told.0,
+              told.1,
+              refl,
+              refl,
+              (alone_ends c.one_line.result c.one_line.ensures.endings).2,
+              subst (λ (l : List ℕ). AsksNext old l told.2 told.0) same told.5,
+              c.one_line.ensures.clock,
+              told.6,
+            ),
           ),
     )
 

@@ -1,16 +1,19 @@
 use Rattle.std.proofs.Common.{IsTrue, false, true, List, Option, [], ap, refl, subst, sym, ℕ}
 use Rattle.command_words.specs.Commands.{command_of}
+use Rattle.session_meaning.specs.Asked.{after_moment}
 use Rattle.session_meaning.specs.Runs.{Edges, edges}
 use Rattle.session_meaning.specs.Stops.{Recovers}
 use Rattle.store_core.proofs.Past.{stands_since_now}
+use Rattle.store_core.specs.Cores.{CoreShows}
 use Rattle.store_core.specs.Opening.{StoreBreaks}
+use Rattle.store_core.specs.Past.{StandsSince}
 use Rattle.store_images.specs.Stored.{IsSoundImage}
 use Rattle.store_model.specs.History.{count_of}
-use Rattle.session_meaning.proofs.CoreSessions.{shown_means, since_means}
+use Rattle.session_meaning.proofs.CoreSessions.{shown_ingests, shown_means, since_ingests, since_means}
 use Rattle.traceql_types.proofs.Calls.{refuses-none}
 use Rattle.trace_shell.specs.Turn.{CameOver}
 use Rattle.trace_shell.proofs.RunLemmas.{cause_of, if_told, no_fault, unopened, unopened_done, unopened_recovers}
-use Rattle.trace_shell.proofs.StoreLemmas.{holds_nothing, in_a_store, opened_done, opened_recovers}
+use Rattle.trace_shell.proofs.StoreLemmas.{answered_over, came_to, holds_nothing, in_a_store, opened_done, opened_recovers}
 use Rattle.trace_shell.proofs.dispatch.on_store.Goals as goal
 
 pub do_asked-ending-requires-after_bounds : goal.do_asked-ending-requires-after_bounds
@@ -26,16 +29,18 @@ returns-in-Ok-clause-ran g c =
     let moment = c.now-moment.result in
     let begins = c.in-Ok.ensures.opened.begins in
     let came = c.do_asked-ending.ensures.came in
-    let run = shown_means d came.0 came.1 core later begins.0 begins.1.shows came.4.each in
     let old : Edges = edges g.S.Source.left g.S.Source.faults g.K.Sink.taken g.K.Sink.faults g.C.Clock.moments d c.args.source.now c.args.sink.now c.args.clock.now disk in
-    let new : Edges = edges g.S.Source.left g.S.Source.faults g.K.Sink.taken g.K.Sink.faults g.C.Clock.moments d c.do_asked-ending.new.source c.do_asked-ending.new.sink c.do_asked-ending.new.clock c.close.result in (
+    let new : Edges = edges g.S.Source.left g.S.Source.faults g.K.Sink.taken g.K.Sink.faults g.C.Clock.moments d c.do_asked-ending.new.source c.do_asked-ending.new.sink c.do_asked-ending.new.clock c.close.result in
+    let come = subst (λ (o : Option (List ℕ)). CameOver (command_of c.args.asked) d core later old.left old.taken o new.left new.taken new.moments c.do_asked-ending.result came.0 came.1 came.2)
+    c.now-moment.ensures.later came.4 in
+    let over = answered_over d (command_of c.args.asked) core later old.left old.taken (after_moment old.moments) new.left new.taken new.moments c.do_asked-ending.result came.0 came.1 came.2 come in
+    let run = came_to d (CoreShows d) false (shown_means d) (shown_ingests d) (command_of c.args.asked) core later begins.0 old.left old.taken (after_moment old.moments) new.left new.taken new.moments c.do_asked-ending.result came.0 came.1 came.2 begins.1.shows come in (
       in_a_store d moment core later begins.0 run.0 c.do_asked-ending.result came.0 came.1 came.2,
       refl,
       came.3,
-      opened_done d disk moment core later begins.0 run.0 c.do_asked-ending.result came.0 came.1 came.2 begins.1 came.4 false (command_of c.args.asked) old new
+      opened_done d disk moment core later begins.0 run.0 c.do_asked-ending.result came.0 came.1 came.2 begins.1 over false (command_of c.args.asked) old new
           refl refl (ap d.faults c.close.ensures) c.now-moment.ensures.moment c.in-Ok.ensures.unbroken c.in-Ok.ensures.later run.2
-          (subst (λ (o : Option (List ℕ)). CameOver (command_of c.args.asked) old.left old.taken o new.left new.taken new.moments c.do_asked-ending.result came.0 came.1 came.2)
-          c.now-moment.ensures.later came.5)
+          run.3
           c.do_asked-ending.ensures.endings
           (cause_of c.do_asked-ending.result old new c.do_asked-ending.ensures.endings c.do_asked-ending.ensures.write_fault c.do_asked-ending.ensures.read_fault c.do_asked-ending.ensures.spent),
     )
@@ -50,20 +55,22 @@ returns-in-Ok-clause-recovers g c = λ told sound.
     let begins = c.in-Ok.ensures.opened.founded (λ t. sound) in
     let came = c.do_asked-ending.ensures.came in
     let since = stands_since_now d g.met.D.Device.only_now core begins.0 begins.1.stands in
-    let run = since_means d core.disk (count_of begins.0.history) came.0 came.1 core later begins.0 (since, subst IsTrue (sym c.in-Ok.ensures.telling) told) came.4.each in
     let old : Edges = edges g.S.Source.left g.S.Source.faults g.K.Sink.taken g.K.Sink.faults g.C.Clock.moments d c.args.source.now c.args.sink.now c.args.clock.now disk in
-    let new : Edges = edges g.S.Source.left g.S.Source.faults g.K.Sink.taken g.K.Sink.faults g.C.Clock.moments d c.do_asked-ending.new.source c.do_asked-ending.new.sink c.do_asked-ending.new.clock c.close.result in (
+    let new : Edges = edges g.S.Source.left g.S.Source.faults g.K.Sink.taken g.K.Sink.faults g.C.Clock.moments d c.do_asked-ending.new.source c.do_asked-ending.new.sink c.do_asked-ending.new.clock c.close.result in
+    let come = subst (λ (o : Option (List ℕ)). CameOver (command_of c.args.asked) d core later old.left old.taken o new.left new.taken new.moments c.do_asked-ending.result came.0 came.1 came.2)
+    c.now-moment.ensures.later came.4 in
+    let over = answered_over d (command_of c.args.asked) core later old.left old.taken (after_moment old.moments) new.left new.taken new.moments c.do_asked-ending.result came.0 came.1 came.2 come in
+    let run = came_to d (λ port m. StandsSince d core.disk (count_of begins.0.history) port m × IsTrue (d.tells port.disk)) true (since_means d core.disk (count_of begins.0.history)) (since_ingests d core.disk (count_of begins.0.history)) (command_of c.args.asked) core later begins.0 old.left old.taken (after_moment old.moments) new.left new.taken new.moments c.do_asked-ending.result came.0 came.1 came.2 (since, subst IsTrue (sym c.in-Ok.ensures.telling) told) come in (
       in_a_store d moment core later begins.0 run.0 c.do_asked-ending.result came.0 came.1 came.2,
       refl,
       came.3,
-      opened_done d disk moment core later begins.0 run.0 c.do_asked-ending.result came.0 came.1 came.2 begins.1.over came.4 true (command_of c.args.asked) old new
+      opened_done d disk moment core later begins.0 run.0 c.do_asked-ending.result came.0 came.1 came.2 begins.1.over over true (command_of c.args.asked) old new
           refl refl (ap d.faults c.close.ensures) c.now-moment.ensures.moment c.in-Ok.ensures.unbroken c.in-Ok.ensures.later run.2
-          (subst (λ (o : Option (List ℕ)). CameOver (command_of c.args.asked) old.left old.taken o new.left new.taken new.moments c.do_asked-ending.result came.0 came.1 came.2)
-          c.now-moment.ensures.later came.5)
+          run.3
           c.do_asked-ending.ensures.endings
           (cause_of c.do_asked-ending.result old new c.do_asked-ending.ensures.endings c.do_asked-ending.ensures.write_fault c.do_asked-ending.ensures.read_fault c.do_asked-ending.ensures.spent),
       subst (λ x. Recovers d disk x (in_a_store d moment core later begins.0 run.0 c.do_asked-ending.result came.0 came.1 came.2)) (sym c.close.ensures)
-          (opened_recovers d disk moment core later begins.0 run.0 c.do_asked-ending.result came.0 came.1 came.2 begins.1.over came.4 told begins.1
+          (opened_recovers d disk moment core later begins.0 run.0 c.do_asked-ending.result came.0 came.1 came.2 begins.1.over over told begins.1
           c.in-Ok.ensures.kept c.in-Ok.ensures.telling run.1.0),
     )
 
