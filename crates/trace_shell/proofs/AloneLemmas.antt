@@ -64,6 +64,17 @@ line_ends None ends = tt
 line_ends (Some e) (inl is) = subst IsPastOpening (sym is) tt
 line_ends (Some e) (inr is) = subst IsPastOpening (sym is) tt
 
+-- It has no part of the source in it.
+pub no_read_fault : (A : Type 0) (o : Option Ending) → IfSome o (λ e. (e ≡ WriteFault) ⊎ (e ≡ Starved)) → IfSome o (λ e. e ≡ ReadFault → A)
+no_read_fault A None ends = tt
+no_read_fault A (Some e) (inl is) = λ same. let bad : ⊥ = cc in absurd bad
+no_read_fault A (Some e) (inr is) = λ same. let bad : ⊥ = cc in absurd bad
+
+pub not_spent : (A : Type 0) (o : Option Ending) → IfSome o (λ e. (e ≡ WriteFault) ⊎ (e ≡ Starved)) → IfSome o (λ e. e ≡ Spent → A)
+not_spent A None ends = tt
+not_spent A (Some e) (inl is) = λ same. let bad : ⊥ = cc in absurd bad
+not_spent A (Some e) (inr is) = λ same. let bad : ⊥ = cc in absurd bad
+
 pub tally_ends : (tally : Tally) → IsPastOpening (ending_of tally)
 tally_ends tally = go tally.refused tally.starved
   where

@@ -1,5 +1,5 @@
 -- How turns of an ingest follow one another.
-use Rattle.std.proofs.Common.{◌≡◌, ◌⊎◌, inl, inr, ⊤, ◌∙◌, ℕ, ◌-◌, ◌<◌, ◌≤◌, Bool, true, false, List, [], ◌∷◌, ◌++◌, Option, Some, None, Ok, Err, nat_le, length, refl, sym, ap, subst, arith, append_assoc, append-nil, if◌then◌else◌}
+use Rattle.std.proofs.Common.{◌≡◌, ◌⊎◌, inl, inr, ◌∙◌, ℕ, ◌-◌, ◌<◌, ◌≤◌, Bool, true, false, List, [], ◌∷◌, ◌++◌, Option, Some, None, Ok, Err, nat_le, length, refl, sym, ap, subst, arith, append_assoc, append-nil, if◌then◌else◌}
 use Rattle.std.specs.Prelude.{◌==◌, IfSome}
 use Rattle.disk_model.specs.declared.disk.Device.{Ghosts}
 use Rattle.io_edges.specs.Lines.{line_limit}
@@ -16,7 +16,7 @@ use Rattle.store_core.specs.declared.store.Core.{Core}
 use Rattle.client_run.specs.Answers.{HasReplied}
 use Rattle.session_meaning.specs.declared.ending.Ending.{Ending}
 use Rattle.session_meaning.specs.Asked.{IsNextMoment, after_moment}
-use Rattle.session_meaning.specs.Ingest.{Duty, IsDue, ask, compact_all, due, from_lines, is_joined, keep_small, many_rows}
+use Rattle.session_meaning.specs.Ingest.{Duty, IsDue, ask, compact_all, due, from_lines, is_joined, keep_small, many_rows, most_rounds}
 use Rattle.session_meaning.specs.Progress.{HasAnsweredOne, HasAnsweredOver, IngestsOver}
 use Rattle.session_meaning.proofs.IngestLaws.{ingests_then}
 use Rattle.session_meaning.proofs.SessionLaws.{one_refused, one_replied, over_begins, over_one, over_then}
@@ -146,6 +146,112 @@ module _ {D : Type 0} (g : Ghosts D) where
       → Leaves g first last todo mid told to_tell items replies o → Leaves g first last todo later told to_tell items replies (Some e)
   leaves_stopped first last todo mid later told to_tell items replies o e is one =
       record { left = one.left; each = one.each; all = λ none. absurd (some_is_no_none e none) }
+
+  -- ---- compactions
+
+  -- A compaction joined blocks, so there may be one more.
+  pub leaves_again : (before after : Core D) (todo later : List Duty) (told : Option (List ℕ)) (items : List Item) (replies : List Reply) (reply : Reply) (times next : ℕ) → is_joined reply ≡ true → times - 1 ≡ next
+      → Leaves g before after todo (if is_joined reply then compact_all (times - 1) ∷ later else later) told told items replies None
+      → Leaves g before after todo (compact_all next ∷ later) told told items replies None
+  leaves_again before after todo later told items replies reply times next joined next_is leaves =
+      subst (λ (n : ℕ). Leaves g before after todo (compact_all n ∷ later) told told items replies None) next_is
+      (subst (λ (b : Bool). Leaves g before after todo (if b then compact_all (times - 1) ∷ later else later) told told items replies None) joined leaves)
+
+  -- It joined none.
+  pub leaves_over : (before after : Core D) (todo later : List Duty) (told : Option (List ℕ)) (items : List Item) (replies : List Reply) (reply : Reply) (times : ℕ) → is_joined reply ≡ false
+      → Leaves g before after todo (if is_joined reply then compact_all (times - 1) ∷ later else later) told told items replies None
+      → Leaves g before after todo later told told items replies None
+  leaves_over before after todo later told items replies reply times joined leaves =
+      subst (λ (b : Bool). Leaves g before after todo (if b then compact_all (times - 1) ∷ later else later) told told items replies None) joined leaves
+
+  -- There are no more.
+  pub leaves_spent : (core : Core D) (asked : Request) (later : List Duty) (told : Option (List ℕ)) (times : ℕ) → times ≡ 0
+      → Leaves g core core (compact_all times ∷ ask asked ∷ later) (ask asked ∷ later) told told [] [] None
+  leaves_spent core asked later told times none =
+      subst (λ (n : ℕ). Leaves g core core (compact_all n ∷ ask asked ∷ later) (ask asked ∷ later) told told [] [] None) (sym none)
+      (leaves_looked core (compact_all 0 ∷ ask asked ∷ later) (ask asked ∷ later) told refl)
+
+  -- Compactions were made, each of which joined blocks, and so many may be made yet.
+  abbrev pub Compacting : (start core : Core D) (old new : Option (List ℕ)) (tally_old tally_new : Tally) (times : ℕ) → Type 0
+  Compacting start core old new tally_old tally_new times =
+      (items : List Item) × (replies : List Reply) × HasAsked g start core old new tally_old tally_new items replies None
+      × ((asked : Request) (later : List Duty) (told : Option (List ℕ))
+      → Leaves g start core (compact_all most_rounds ∷ ask asked ∷ later) (compact_all times ∷ ask asked ∷ later) told told items replies None)
+
+  -- They were all made, unless the run ends with a reply.
+  abbrev pub Compacted : (start core : Core D) (old new : Option (List ℕ)) (tally_old tally_new : Tally) (stopped : Option Ending) → Type 0
+  Compacted start core old new tally_old tally_new stopped =
+      (items : List Item) × (replies : List Reply) × HasAsked g start core old new tally_old tally_new items replies stopped
+      × ((asked : Request) (later : List Duty) (told : Option (List ℕ))
+      → Leaves g start core (compact_all most_rounds ∷ ask asked ∷ later) (ask asked ∷ later) told told items replies stopped)
+
+  -- One compaction.
+  abbrev pub CompactedOnce : (before after : Core D) (old new : Option (List ℕ)) (tally_old tally_new : Tally) (reply : Reply) (stopped : Option Ending) → Type 0
+  CompactedOnce before after old new tally_old tally_new reply stopped =
+      HasAsked g before after old new tally_old tally_new (Ok Compact ∷ []) (reply ∷ []) stopped
+      × ((times : ℕ) (later : List Duty) (told : Option (List ℕ)) → 0 < times
+      → Leaves g before after (compact_all times ∷ later) (if is_joined reply then compact_all (times - 1) ∷ later else later) told told (Ok Compact ∷ []) (reply ∷ []) stopped)
+
+  pub compacting_begins : (core : Core D) (taken : Option (List ℕ)) (tally : Tally) → Compacting core core taken taken tally tally most_rounds
+  compacting_begins core taken tally = ([], [], asked_none core taken tally, λ asked later told. leaves_same core (compact_all most_rounds ∷ ask asked ∷ later) told None)
+
+  pub compacting_again : (start middle core : Core D) (old between new : Option (List ℕ)) (tally_old tally tally_new : Tally) (times next : ℕ) (reply : Reply) (o : Option Ending) → o ≡ None
+      → 0 < times → times - 1 ≡ next → is_joined reply ≡ true → Compacting start middle old between tally_old tally times → CompactedOnce middle core between new tally tally_new reply o
+      → Compacting start core old new tally_old tally_new next
+  compacting_again start middle core old between new tally_old tally tally_new times next reply o on some next_is joined (items, replies, asked, leaves) (once, does) = (
+    items ++ Ok Compact ∷ [],
+    replies ++ reply ∷ [],
+    asked_then start middle core old between new tally_old tally tally_new items (Ok Compact ∷ []) replies (reply ∷ []) None None refl asked
+        (asked_so middle core between new tally tally_new (Ok Compact ∷ []) (reply ∷ []) o None on once),
+    λ request later told.
+        let rest : List Duty = ask request ∷ later in
+        leaves_then start middle core (compact_all most_rounds ∷ rest) (compact_all times ∷ rest) (compact_all next ∷ rest) told told told items (Ok Compact ∷ []) replies (reply ∷ []) None None refl
+        (leaves request later told)
+        (leaves_again middle core (compact_all times ∷ rest) rest told (Ok Compact ∷ []) (reply ∷ []) reply times next joined next_is
+        (leaves_so middle core (compact_all times ∷ rest) (if is_joined reply then compact_all (times - 1) ∷ rest else rest) told told (Ok Compact ∷ []) (reply ∷ []) o None on (does times rest told some))),
+  )
+
+  pub compacting_over : (start middle core : Core D) (old between new : Option (List ℕ)) (tally_old tally tally_new : Tally) (times : ℕ) (reply : Reply) (o : Option Ending) → o ≡ None
+      → 0 < times → is_joined reply ≡ false → Compacting start middle old between tally_old tally times → CompactedOnce middle core between new tally tally_new reply o
+      → Compacted start core old new tally_old tally_new None
+  compacting_over start middle core old between new tally_old tally tally_new times reply o on some joined (items, replies, asked, leaves) (once, does) = (
+    items ++ Ok Compact ∷ [],
+    replies ++ reply ∷ [],
+    asked_then start middle core old between new tally_old tally tally_new items (Ok Compact ∷ []) replies (reply ∷ []) None None refl asked
+        (asked_so middle core between new tally tally_new (Ok Compact ∷ []) (reply ∷ []) o None on once),
+    λ request later told.
+        let rest : List Duty = ask request ∷ later in
+        leaves_then start middle core (compact_all most_rounds ∷ rest) (compact_all times ∷ rest) rest told told told items (Ok Compact ∷ []) replies (reply ∷ []) None None refl
+        (leaves request later told)
+        (leaves_over middle core (compact_all times ∷ rest) rest told (Ok Compact ∷ []) (reply ∷ []) reply times joined
+        (leaves_so middle core (compact_all times ∷ rest) (if is_joined reply then compact_all (times - 1) ∷ rest else rest) told told (Ok Compact ∷ []) (reply ∷ []) o None on (does times rest told some))),
+  )
+
+  pub compacting_stopped : (start middle core : Core D) (old between new : Option (List ℕ)) (tally_old tally tally_new : Tally) (times : ℕ) (reply : Reply) (o : Option Ending) (e : Ending) → o ≡ Some e
+      → 0 < times → Compacting start middle old between tally_old tally times → CompactedOnce middle core between new tally tally_new reply o
+      → Compacted start core old new tally_old tally_new (Some e)
+  compacting_stopped start middle core old between new tally_old tally tally_new times reply o e is some (items, replies, asked, leaves) (once, does) = (
+    items ++ Ok Compact ∷ [],
+    replies ++ reply ∷ [],
+    asked_then start middle core old between new tally_old tally tally_new items (Ok Compact ∷ []) replies (reply ∷ []) None (Some e) refl asked
+        (asked_so middle core between new tally tally_new (Ok Compact ∷ []) (reply ∷ []) o (Some e) is once),
+    λ request later told.
+        let rest : List Duty = ask request ∷ later in
+        leaves_then start middle core (compact_all most_rounds ∷ rest) (compact_all times ∷ rest) rest told told told items (Ok Compact ∷ []) replies (reply ∷ []) None (Some e) refl
+        (leaves request later told)
+        (leaves_stopped middle core (compact_all times ∷ rest) (if is_joined reply then compact_all (times - 1) ∷ rest else rest) rest told told (Ok Compact ∷ []) (reply ∷ []) o e is (does times rest told some)),
+  )
+
+  pub compacting_done : (start core : Core D) (old new : Option (List ℕ)) (tally_old tally_new : Tally) (times : ℕ) → times ≡ 0 → Compacting start core old new tally_old tally_new times
+      → Compacted start core old new tally_old tally_new None
+  compacting_done start core old new tally_old tally_new times none (items, replies, asked, leaves) = (
+    items ++ [],
+    replies ++ [],
+    asked_then start core core old new new tally_old tally_new tally_new items [] replies [] None None refl asked (asked_none core new tally_new),
+    λ request later told.
+        leaves_then start core core (compact_all most_rounds ∷ ask request ∷ later) (compact_all times ∷ ask request ∷ later) (ask request ∷ later) told told told items [] replies [] None None refl
+        (leaves request later told) (leaves_spent core request later told times none),
+  )
 
   -- ---- keeping the store small
 

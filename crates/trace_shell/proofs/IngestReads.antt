@@ -129,7 +129,7 @@ pub reads_all : (text : List ℕ) (pushed : List (List ℕ)) (left_old left : Op
 reads_all text pushed left_old left reader_old reader at (none, to_read) fewer took =
     let read = took_more text left_old left 0 reader_old.taken reader.taken at.took took in
     let size : length text ≡ reader.taken = taken_all text left reader.taken read (nothing_left reader left to_read) in
-    (lines at.rest, at.lines_are, ap lines none, subst (λ (n : ℕ). n < taken_limit) (sym size) fewer)
+    (lines at.rest, at.lines_are, (ap lines none, subst (λ (n : ℕ). n < taken_limit) (sym size) fewer))
 
 -- The source failed.
 pub reads_failed : (text : List ℕ) (pushed : List (List ℕ)) (left_old left : Option (List ℕ)) (reader_old reader : Reader) (at : IsReadingAt text pushed left_old reader_old)
@@ -148,8 +148,10 @@ pub reads_spent : (text : List ℕ) (pushed : List (List ℕ)) (left_old left : 
 reads_spent text pushed left_old left reader_old reader at all took to_read waiting = (
   lines at.rest,
   at.lines_are,
-  all_ended text at.front reader left at.rest at.text_is to_read waiting,
-  subst (λ (n : ℕ). n ≤ length text) all (taken_within text left reader.taken (took_more text left_old left 0 reader_old.taken reader.taken at.took took)),
+  (
+    all_ended text at.front reader left at.rest at.text_is to_read waiting,
+    subst (λ (n : ℕ). n ≤ length text) all (taken_within text left reader.taken (took_more text left_old left 0 reader_old.taken reader.taken at.took took)),
+  ),
 )
 
 -- ---- turns after one another
@@ -190,21 +192,20 @@ module _ {D : Type 0} (g : Ghosts D) where
       → HaveTurned start middle old between tally_old tally told told_between source left_old reader_old after.Line
       → Turns g middle core between new tally tally_new told_between to_tell left_old left reader_old reader turn
       → HaveTurned start core old new tally_old tally_new told to_tell source left reader last
-  turned_then start middle core old between new tally_old tally tally_new told told_between to_tell source left_old left reader_old reader turn last ends_so (xs, rs, none, one, on, was) (ys, ss, stopped, two, ends, is) =
-      (
-        xs ++ ys,
-        rs ++ ss,
-        stopped,
-        asked_then g start middle core old between new tally_old tally tally_new xs ys rs ss none stopped on one two,
-        subst (λ (t : After). IsStopped (ending_in t) stopped) ends_so ends,
-        λ text source_is.
-            let first = was text source_is in
-            let second = is text first.0 first.2 in (
-              first.0 ++ second.0,
-              λ later.
-                  let all : List (List ℕ) = second.0 ++ later in
-                  subst (λ (ls : List (List ℕ)). Leaves g start core (from_lines ls) (from_lines later) told to_tell (xs ++ ys) (rs ++ ss) stopped) (sym (append_assoc first.0 second.0 later))
-                  (leaves_then g start middle core (from_lines (first.0 ++ all)) (from_lines all) (from_lines later) told told_between to_tell xs ys rs ss none stopped on (first.1 all) (second.1 later)),
-              subst (λ (t : After). ReadOn t text (first.0 ++ second.0) left reader) ends_so second.2,
-            ),
-      )
+  turned_then start middle core old between new tally_old tally tally_new told told_between to_tell source left_old left reader_old reader turn last ends_so (xs, rs, none, one, on, was) (ys, ss, stopped, two, ends, is) = (
+    xs ++ ys,
+    rs ++ ss,
+    stopped,
+    asked_then g start middle core old between new tally_old tally tally_new xs ys rs ss none stopped on one two,
+    subst (λ (t : After). IsStopped (ending_in t) stopped) ends_so ends,
+    λ text source_is.
+        let first = was text source_is in
+        let second = is text first.0 first.2 in (
+          first.0 ++ second.0,
+          λ later.
+              let all : List (List ℕ) = second.0 ++ later in
+              subst (λ (ls : List (List ℕ)). Leaves g start core (from_lines ls) (from_lines later) told to_tell (xs ++ ys) (rs ++ ss) stopped) (sym (append_assoc first.0 second.0 later))
+              (leaves_then g start middle core (from_lines (first.0 ++ all)) (from_lines all) (from_lines later) told told_between to_tell xs ys rs ss none stopped on (first.1 all) (second.1 later)),
+          subst (λ (t : After). ReadOn t text (first.0 ++ second.0) left reader) ends_so second.2,
+        ),
+  )

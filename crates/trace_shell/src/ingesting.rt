@@ -72,7 +72,7 @@ pub(crate) fn ingest<S: Source, K: Sink, D: Device, C: Clock, G: Gate>(
         return ending;
     }
     match push_all(alloc, source, &mut tally, sink, core, clock, gate) {
-        Some(ending) => ending,
+        Some(early) => early,
         None => finish(alloc, &mut tally, sink, core, gate),
     }
 }
@@ -148,9 +148,9 @@ fn push_next<S: Source, K: Sink, D: Device, C: Clock, G: Gate>(
     };
     match line {
         Line::Whole(bytes) => {
-            after(push_line(alloc, tally, sink, core, clock, gate, bytes.as_slice()))
+            go_on(push_line(alloc, tally, sink, core, clock, gate, bytes.as_slice()))
         }
-        Line::TooLong { length } => after(refuse_long(
+        Line::TooLong { length } => go_on(refuse_long(
             alloc, tally, sink, core, clock, gate, length,
         )),
         Line::End => After::End,
@@ -159,7 +159,7 @@ fn push_next<S: Source, K: Sink, D: Device, C: Clock, G: Gate>(
 }
 
 // What comes after a line that was done with: the next one, unless the run ends.
-fn after(ended: Option<Ending>) -> After
+fn go_on(ended: Option<Ending>) -> After
     ensures is { result ≡ turn_of ended }
     ensures ending { ending_in result ≡ ended }
 {

@@ -6,8 +6,8 @@ use Rattle.store_core.specs.Port.{port_of}
 use Rattle.trace_shell.proofs.IngestLemmas.{asked_so, asked_then, leaves_stopped, leaves_then}
 use Rattle.trace_shell.proofs.ingesting.compact_and_reclaim.Goals as goal
 
-pub ask-requires : goal.ask-requires
-ask-requires g c =
+pub ask-requires-after_bounds : goal.ask-requires-after_bounds
+ask-requires-after_bounds g c = λ κs outlives.
     let made = c.compact_all.ensures.made in holds_kept (port_of g.D.Device) c.args.core.now c.compact_all.new.core made.2.answered.calls made.2.answered.made c.requires
 
 pub returns-in-Some-clause-made : goal.returns-in-Some-clause-made
@@ -19,8 +19,8 @@ returns-in-Some-clause-made g c =
       λ told. leaves_stopped g.D.Device _ _ (to_compact_all most_rounds ∷ to_ask Reclaim ∷ []) (to_ask Reclaim ∷ []) [] told told made.0 made.1 c.compact_all.result c.in-Some.ending c.in-Some.is (made.3 Reclaim [] told),
     )
 
-pub returns-clause-made : goal.returns-clause-made
-returns-clause-made g c =
+pub returns-in-None-clause-made : goal.returns-in-None-clause-made
+returns-in-None-clause-made g c =
     let one = c.compact_all.ensures.made in
     let two = c.ask.ensures.made in (
       one.0 ++ two.0,
