@@ -3,7 +3,10 @@ use Rattle.std.specs.Prelude.{◌≡◌, IfSome}
 use Rattle.client_run.proofs.CallLemmas.{holds_kept}
 use Rattle.io_edges.specs.Lines.{taken_limit}
 use Rattle.io_edges.specs.Reader.{TakesBytes}
-use Rattle.session_meaning.specs.declared.ending.Ending.TheVariants.{Spent}
+use Rattle.session_meaning.specs.declared.ending.Ending.TheVariants.{ReadFault, Spent, WriteFault}
+use Rattle.session_meaning.specs.Runs.{IsPastOpening}
+use Rattle.trace_shell.proofs.AloneLemmas.{rose_from}
+use Rattle.span_types.specs.Faults.{Rose}
 use Rattle.store_core.specs.Port.{port_of}
 use Rattle.trace_shell.specs.Ingesting.{ending_in}
 use Rattle.trace_shell.specs.declared.ingesting.After.TheVariants as turn
@@ -44,3 +47,16 @@ returns-in-Ending-clause-spent g c = λ is.
     let all = subst (λ t. IfSome (ending_in t) (λ e. e ≡ Spent → c.push_next.new.reader.taken ≡ taken_limit)) c.in-Ending.is c.push_next.ensures.spent in
     subst (λ n. TakesBytes (g.S.Source.left c.args.source.now) (g.S.Source.left c.push_next.new.source) 0 n) (all is)
     (took_on _ _ _ 0 c.lines.reader.taken c.push_next.new.reader.taken c.lines.invariant.took c.push_next.ensures.took)
+
+pub returns-in-Ending-clause-endings : goal.returns-in-Ending-clause-endings
+returns-in-Ending-clause-endings g c = subst (λ t. IfSome (ending_in t) IsPastOpening) c.in-Ending.is c.push_next.ensures.endings
+
+pub returns-in-Ending-clause-write_fault : goal.returns-in-Ending-clause-write_fault
+returns-in-Ending-clause-write_fault g c = λ is.
+    let rose = subst (λ t. IfSome (ending_in t) (λ e. e ≡ WriteFault → Rose (g.K.Sink.faults c.lines.sink) (g.K.Sink.faults c.push_next.new.sink))) c.in-Ending.is c.push_next.ensures.write_fault in
+    rose_from (g.K.Sink.faults c.args.sink.now) (g.K.Sink.faults c.lines.sink) (g.K.Sink.faults c.push_next.new.sink) c.lines.invariant.sink_counted (rose is)
+
+pub returns-in-Ending-clause-read_fault : goal.returns-in-Ending-clause-read_fault
+returns-in-Ending-clause-read_fault g c = λ is.
+    let rose = subst (λ t. IfSome (ending_in t) (λ e. e ≡ ReadFault → Rose (g.S.Source.faults c.lines.source) (g.S.Source.faults c.push_next.new.source))) c.in-Ending.is c.push_next.ensures.read_fault in
+    rose_from (g.S.Source.faults c.args.source.now) (g.S.Source.faults c.lines.source) (g.S.Source.faults c.push_next.new.source) c.lines.invariant.source_counted (rose is)
