@@ -76,7 +76,8 @@ pub record CoreSteps {P : Type 0} (core : CoreMeaning P) (old : P) (event : Even
       ends event reply hold ≡ false → (file : ℕ) → is_among file (files_of hold) ≡ true
       → Rewritten event reply file (core.shows old file) (core.shows new file)
   pub page : IsTrue (core.tells old) → IsPageRead event reply (core.shows old)
-  pub look : IsTrue (core.tells new) → (m : Machine) → core.stands_for new m → IsLookTaken reply (core.shows new) m.history
+  pub look : IsTrue (core.tells new) → (m : Machine) → core.stands_for new m →
+      IsLookTaken reply (core.shows new) m.history
   pub empty : IsTrue (core.tells old) → (file : ℕ) → is_among file (own_files reply) ≡ true → core.shows new file ≡ []
   pub later : core.faults old ≤ core.faults new
   pub cause : reply ≡ Refused Fault → Rose (core.faults old) (core.faults new)

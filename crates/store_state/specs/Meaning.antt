@@ -75,7 +75,8 @@ pub record Called {P : Type 0} (meaning : Meaning P) (old : P) (event : Event) (
       → Rewritten event reply file (meaning.shows old file) (meaning.shows new file)
   -- a page is that of its file, and a look shows each history that is known behind it
   pub page : IsTrue (meaning.tells old) → IsPageRead event reply (meaning.shows old)
-  pub look : IsTrue (meaning.tells new) → (v : View) → meaning.knows new v → IsLookTaken reply (meaning.shows new) v.history
+  pub look : IsTrue (meaning.tells new) → (v : View) → meaning.knows new v →
+      IsLookTaken reply (meaning.shows new) v.history
   -- the file of a job that begins
   pub empty : IsTrue (meaning.tells old) → (file : ℕ) → is_among file (own_files reply) ≡ true → meaning.shows new file ≡ []
   -- faults are counted, and one is answered only where the count rose
