@@ -139,8 +139,9 @@ abbrev pub FoundBlock : EventReply → Type 0
 FoundBlock (Stepped (step.Ended round)) = FoundBlocks round
 FoundBlock _ = Unit {0}
 
--- A list of events was run on a port: the port's calls are just those that the events make, in their order. At the end the flush
--- and the compaction for which steps were made are so far. Where bytes are told and a history was known, no block is found to be none.
+-- A list of events was run on a port: the port's calls are just those that the events make, in their order. At the end
+-- the flush and the compaction for which steps were made are so far. Where bytes are told and a history was known, no step
+-- ended a round because a block is none.
 pub record HasRun {P : Type 0} (meaning : Meaning P) (old : P) (events : List Event) (replies : List EventReply) (new : P) : Type 0 where
   pub calls : List Call
   pub made : AreMade meaning old calls new

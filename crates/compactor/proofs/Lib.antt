@@ -1,6 +1,6 @@
 pub mod BlockLaws
 mod Prefixes
-mod ReadLaws
+pub mod ReadLaws
 mod BuildLaws
-mod WriteLaws
+pub mod WriteLaws
 mod RoundLaws
