@@ -1,6 +1,8 @@
-//! A store as lists of rows and files, for tests that play events: what each event means, worked out from scratch each time.
+//! A store as lists of rows and files, for tests that play events: what each event means, worked out from scratch
+//! each time.
 //!
-//! Its blocks have few rows: all of them have four pages and are written in one piece, and any four of them may be joined.
+//! Its blocks have few rows: all of them have four pages and are written in one piece, and any four of them may be
+//! joined.
 
 use span_types::Memory;
 use std::alloc::Global;

@@ -1,5 +1,5 @@
-//! Lists of events on a store over a disk in memory: one whose every reply was worked out by hand, and long random ones against
-//! what the events mean.
+//! Lists of events on a store over a disk in memory: one whose every reply was worked out by hand, and long random ones
+//! against what the events mean.
 
 ghost use Rattle.std.specs.Prelude.{◌≤◌};
 
@@ -40,7 +40,8 @@ fn batch_of(alloc: Global, line: &str) -> Result<Batch, Memory> {
     }
 }
 
-// What the events are answered in the store that a disk holds, none where it isn't opened or memory is wanted, and the disk.
+// What the events are answered in the store that a disk holds, none where it isn't opened or memory is wanted, and the
+// disk.
 fn ran<D: Device>(alloc: Global, disk: D, events: &Events) -> (Option<Replies>, D) {
     match Core::open_store(alloc, disk, 7) {
         Ok(core) => {
@@ -193,7 +194,8 @@ impl Play {
     }
 }
 
-// The number of the first reply that is another one than it was to be, and the disk. No reply is missing, and none is too much.
+// The number of the first reply that is another one than it was to be, and the disk. No reply is missing, and none is
+// too much.
 fn wrong_reply(
     alloc: Global,
     disk: MemDisk,
