@@ -4,3 +4,4 @@ mod ReadLaws
 mod BuildLaws
 mod WriteLaws
 mod RoundLaws
+mod TraceByTrace
