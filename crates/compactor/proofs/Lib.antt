@@ -4,3 +4,4 @@ pub mod ReadLaws
 mod BuildLaws
 pub mod WriteLaws
 mod RoundLaws
+mod TraceByTrace
