@@ -1,9 +1,10 @@
 -- The compaction of a run of events.
 use Rattle.std.proofs.Common.{◌≡◌, ℕ, List, [], ◌∷◌, ◌++◌, length, Option, take, refl, sym, subst, arith}
+use Rattle.std.specs.Prelude.{IsTrue}
 use Rattle.compactor.specs.Rounds.{Leads, Stage}
 use Rattle.compactor.specs.Rounds.{Stage as stage}
 use Rattle.compactor.specs.Rounds.{Leads as lead}
-use Rattle.compactor.specs.Tasks.{Answers, Fits, OneEvent, Steps, Task, stage_of}
+use Rattle.compactor.specs.Tasks.{Answers, FindsBlocks, Fits, Known, OneEvent, Steps, Task, stage_of}
 use Rattle.compactor.specs.Tasks.Task.{Fresh, Reading, Writing, Failing, Ended}
 use Rattle.store_model.specs.Event.{Event as event, Reply as reply}
 use Rattle.store_model.specs.Holds.{Hold, holds_after}
@@ -23,9 +24,10 @@ use Rattle.client_run.specs.declared.event.Event.TheVariants.{CompactStep}
 use Rattle.client_run.specs.declared.event.EventReply.{EventReply}
 use Rattle.client_run.specs.declared.event.EventReply.TheVariants.{Stepped}
 use Rattle.client_run.specs.declared.tasks.Tasks.{Tasks}
-use Rattle.client_run.specs.EventRuns.{compaction_end, from_there, step_reply}
+use Rattle.client_run.specs.EventRuns.{FoundBlock, compaction_end, from_there, step_reply}
 use Rattle.client_run.specs.OwnFiles.{HaveOwnFiles}
 use Rattle.client_run.specs.Taken.{HasAnswered, IsCompacting, IsReady, looks_of}
+use Rattle.client_run.proofs.CallLemmas.{known_after}
 use Rattle.client_run.proofs.JobLemmas.{EndsNoFlush, Untouched, flush_stays}
 use Rattle.client_run.proofs.StepLemmas.{IsOther, LeavesLooks, other_first, refused_apart, same_looks, written_apart}
 
@@ -149,8 +151,9 @@ one_event meaning old new (Ended r) after going steps = absurd going
 answered_by : {P : Type 0} (meaning : Meaning P) (old new : P) (items : List (Option Look)) (tasks : Tasks) (after last : Task) (told : EventReply)
     → HaveOwnFiles meaning old → IsReady meaning old (looks_of items) tasks → OneEvent meaning tasks.compaction old after new → told ≡ step_reply (compaction_end (stage_of after))
     → stage_of last ≡ from_there stage.Fresh (stage_of after) (compaction_end (stage_of after)) → Fits meaning last new → IsCompacting last
+    → (Known meaning old → FindsBlocks meaning tasks.compaction old → FindsBlocks meaning last new × (IsTrue (meaning.tells new) → FoundBlock told))
     → HasAnswered meaning old (looks_of items) tasks CompactStep told new (looks_of items) (record { flush = tasks.flush; compaction = last })
-answered_by meaning old new items tasks after last told own ready one is left fits going =
+answered_by meaning old new items tasks after last told own ready one is left fits going found =
     let some = leads_somewhere (stage_of after) in
     let of = is_of (stage_of tasks.compaction) one.made some.0 some.1 (one.leads some.0 some.1 some.2) in
     record {
@@ -164,17 +167,23 @@ answered_by meaning old new items tasks after last told own ready one is left fi
         fits,
       );
       going = (ready.going.0, going);
+      found = λ known find. (let finds = found known find.1 in ((find.0, finds.0), finds.1));
     }
 
 -- A step that ended the round leaves a compaction that has made none.
 pub has_ended_compaction : {P : Type 0} (meaning : Meaning P) (old new : P) (items : List (Option Look)) (tasks : Tasks) (after next : Task) (r : Round)
-    → HaveOwnFiles meaning old → Steps meaning tasks.compaction old after new → after ≡ Ended r → next ≡ Fresh → IsReady meaning old (looks_of items) tasks
+    → HaveOwnFiles meaning old → Steps meaning tasks.compaction old after new → (FindsBlocks meaning tasks.compaction old → FindsBlocks meaning after new)
+    → after ≡ Ended r → next ≡ Fresh → IsReady meaning old (looks_of items) tasks
     → HasAnswered meaning old (looks_of items) tasks CompactStep (Stepped (step.Ended r)) new (looks_of items) (record { flush = tasks.flush; compaction = next })
-has_ended_compaction meaning old new items tasks after next r own steps ended begins ready =
+has_ended_compaction meaning old new items tasks after next r own steps finds ended begins ready =
     let one = one_event meaning old new tasks.compaction (Ended r) ready.going.1 (subst (λ (t : Task). Steps meaning tasks.compaction old t new) ended steps) in
     let holds : (held : List Hold) × meaning.holds new held = (holds_after one.made.event one.made.reply ready.holds.0, one.called.holds ready.holds.0 ready.holds.1) in
     subst (λ (t : Task). HasAnswered meaning old (looks_of items) tasks CompactStep (Stepped (step.Ended r)) new (looks_of items) (record { flush = tasks.flush; compaction = t })) (sym begins)
-    (answered_by meaning old new items tasks (Ended r) Fresh (Stepped (step.Ended r)) own ready one refl refl holds tt)
+    (answered_by meaning old new items tasks (Ended r) Fresh (Stepped (step.Ended r)) own ready one refl refl holds tt
+    (λ known find. (
+      known_after meaning old new one.made.event one.made.reply one.called known,
+      subst (λ (t : Task). FindsBlocks meaning t new) ended (finds find),
+    )))
 
 more : (t : Task) → Answers step.More t → (Stepped step.More ≡ step_reply (compaction_end (stage_of t))) × (stage_of t ≡ from_there stage.Fresh (stage_of t) (compaction_end (stage_of t))) × IsCompacting t
 more Fresh h = (refl, refl, tt)
@@ -185,8 +194,10 @@ more (Ended r) h = absurd h
 
 -- A step behind which the round goes on.
 pub compaction_goes_on : {P : Type 0} (meaning : Meaning P) (old new : P) (items : List (Option Look)) (tasks : Tasks) (after : Task)
-    → HaveOwnFiles meaning old → Steps meaning tasks.compaction old after new → Fits meaning after new → Answers step.More after → IsReady meaning old (looks_of items) tasks
+    → HaveOwnFiles meaning old → Steps meaning tasks.compaction old after new → Fits meaning after new → (FindsBlocks meaning tasks.compaction old → FindsBlocks meaning after new)
+    → Answers step.More after → IsReady meaning old (looks_of items) tasks
     → HasAnswered meaning old (looks_of items) tasks CompactStep (Stepped step.More) new (looks_of items) (record { flush = tasks.flush; compaction = after })
-compaction_goes_on meaning old new items tasks after own steps fits answers ready =
+compaction_goes_on meaning old new items tasks after own steps fits finds answers ready =
     let goes = more after answers in
     answered_by meaning old new items tasks after after (Stepped step.More) own ready (one_event meaning old new tasks.compaction after ready.going.1 steps) goes.0 goes.1 fits goes.2
+    (λ known find. (finds find, λ tells. tt))

@@ -22,23 +22,24 @@ use Rattle.client_run.specs.declared.event.EventReply.TheVariants.{Idle, Pushed,
 use Rattle.client_run.specs.declared.event.EventReply.TheVariants as told
 use Rattle.store_state.specs.Made.{call}
 use Rattle.client_run.specs.Calls.{Looks, after_call, look_at, taken, unless_ended}
-use Rattle.client_run.specs.EventRuns.{IsEndAnswered, IsEventAnswered, IsPageAnswered, IsPageOf, page_reply, pin_of}
+use Rattle.client_run.specs.EventRuns.{FoundBlock, IsEndAnswered, IsEventAnswered, IsPageAnswered, IsPageOf, page_reply, pin_of}
 use Rattle.client_run.specs.Taken.{AreOpen, HasAnswered, IsReady, MayHaveAnswered, NamesNo, stages_of}
-use Rattle.client_run.proofs.JobLemmas.{LeavesJobs, still_fit}
+use Rattle.client_run.proofs.JobLemmas.{LeavesJobs, still_finds, still_fit}
 use Rattle.client_run.proofs.LookLemmas.{none_ended, open_at}
 
--- An event that is one call and leaves looks, flush and compaction as they are.
+-- An event that is one call and leaves looks, flush and compaction as they are, and isn't answered that a round has ended.
 one_call : {P : Type 0} (meaning : Meaning P) (old new : P) (e : event) (r : reply) (looks later : Looks) (tasks : Tasks) (asked : Event) (answer : EventReply)
-    → IsReady meaning old looks tasks → Called meaning old e r new → LeavesJobs e r
+    → IsReady meaning old looks tasks → FoundBlock answer → Called meaning old e r new → LeavesJobs e r
     → IsEventAnswered looks (stages_of tasks) asked answer (call e r ∷ []) (stages_of tasks) → later ≡ after_call (call e r) looks
     → HasAnswered meaning old looks tasks asked answer new later tasks
-one_call meaning old new e r looks later tasks asked answer ready called leaves answered left = record {
+one_call meaning old new e r looks later tasks asked answer ready finds called leaves answered left = record {
   calls = call e r ∷ [];
   made = (new, called, refl);
   answered = answered;
   left = left;
   fit = still_fit meaning old new e r tasks called leaves ready.holds ready.fit;
   going = ready.going;
+  found = λ known find. (still_finds meaning old new e r tasks called leaves ready.fit find, λ tells. finds);
 }
 
 -- a call that ends no look and gives none
@@ -66,7 +67,7 @@ pub has_pushed : {P : Type 0} (meaning : Meaning P) (old new : P) (batch copy : 
     → Called meaning old (event.Push copy.spans moment) (push_reply answer) new → (looks : Looks) (tasks : Tasks) → IsReady meaning old looks tasks
     → HasAnswered meaning old looks tasks (Push batch moment) (Pushed answer) new looks tasks
 has_pushed meaning old new batch copy moment answer same called looks tasks ready =
-    one_call meaning old new (event.Push batch.spans moment) (push_reply answer) looks looks tasks (Push batch moment) (Pushed answer) ready
+    one_call meaning old new (event.Push batch.spans moment) (push_reply answer) looks looks tasks (Push batch moment) (Pushed answer) ready tt
     (subst (λ (b : BatchParts). Called meaning old (event.Push b.spans moment) (push_reply answer) new) same called)
     (record { flush = λ number file rows. refl; compaction = λ number file level pin files. refl; files = λ file before after h. h }) ((answer, refl, refl), refl)
     (sym (same_looks (event.Push batch.spans moment) (push_reply answer) looks (λ hold. refl) (none_taken answer)))
@@ -74,28 +75,28 @@ has_pushed meaning old new batch copy moment answer same called looks tasks read
 pub has_cut : {P : Type 0} (meaning : Meaning P) (old new : P) (moment : ℕ) (answer : Result ℕ Memory) → Called meaning old (event.Cut moment) (count_reply answer) new
     → (looks : Looks) (tasks : Tasks) → IsReady meaning old looks tasks → HasAnswered meaning old looks tasks (Cut moment) (told.Cut answer) new looks tasks
 has_cut meaning old new moment answer called looks tasks ready =
-    one_call meaning old new (event.Cut moment) (count_reply answer) looks looks tasks (Cut moment) (told.Cut answer) ready called
+    one_call meaning old new (event.Cut moment) (count_reply answer) looks looks tasks (Cut moment) (told.Cut answer) ready tt called
     (record { flush = λ number file rows. refl; compaction = λ number file level pin files. refl; files = λ file before after h. h }) ((answer, refl, refl), refl)
     (sym (same_looks (event.Cut moment) (count_reply answer) looks (λ hold. refl) (none_counted answer)))
 
 pub has_cut_all : {P : Type 0} (meaning : Meaning P) (old new : P) (answer : Result ℕ Memory) → Called meaning old event.CutAll (count_reply answer) new
     → (looks : Looks) (tasks : Tasks) → IsReady meaning old looks tasks → HasAnswered meaning old looks tasks CutAll (told.CutAll answer) new looks tasks
 has_cut_all meaning old new answer called looks tasks ready =
-    one_call meaning old new event.CutAll (count_reply answer) looks looks tasks CutAll (told.CutAll answer) ready called
+    one_call meaning old new event.CutAll (count_reply answer) looks looks tasks CutAll (told.CutAll answer) ready tt called
     (record { flush = λ number file rows. refl; compaction = λ number file level pin files. refl; files = λ file before after h. h }) ((answer, refl, refl), refl)
     (sym (same_looks event.CutAll (count_reply answer) looks (λ hold. refl) (none_counted answer)))
 
 pub has_reclaimed : {P : Type 0} (meaning : Meaning P) (old new : P) (answer : Result ℕ ReclaimError) → Called meaning old event.Reclaim (reclaim_reply answer) new
     → (looks : Looks) (tasks : Tasks) → IsReady meaning old looks tasks → HasAnswered meaning old looks tasks Reclaim (Reclaimed answer) new looks tasks
 has_reclaimed meaning old new answer called looks tasks ready =
-    one_call meaning old new event.Reclaim (reclaim_reply answer) looks looks tasks Reclaim (Reclaimed answer) ready called
+    one_call meaning old new event.Reclaim (reclaim_reply answer) looks looks tasks Reclaim (Reclaimed answer) ready tt called
     (record { flush = λ number file rows. refl; compaction = λ number file level pin files. refl; files = λ file before after h. h }) ((answer, refl, refl), refl)
     (sym (same_looks event.Reclaim (reclaim_reply answer) looks (λ hold. refl) (none_reclaimed answer)))
 
 pub has_not_looked : {P : Type 0} (meaning : Meaning P) (old new : P) (e : Memory) (looks : Looks) (tasks : Tasks) → IsReady meaning old looks tasks
     → Called meaning old event.Look (reply.Refused refusal.Memory) new → HasAnswered meaning old looks tasks Look (Looked (Err e)) new looks tasks
 has_not_looked meaning old new e looks tasks ready called =
-    one_call meaning old new event.Look (reply.Refused refusal.Memory) looks looks tasks Look (Looked (Err e)) ready called
+    one_call meaning old new event.Look (reply.Refused refusal.Memory) looks looks tasks Look (Looked (Err e)) ready tt called
     (record { flush = λ number file rows. refl; compaction = λ number file level pin files. refl; files = λ file before after h. h }) ((Err e, refl, refl), refl)
     (sym (same_looks event.Look (reply.Refused refusal.Memory) looks (λ hold. refl) refl))
 
@@ -106,7 +107,7 @@ pub has_looked : {P : Type 0} (meaning : Meaning P) (old new : P) (look : Given)
 has_looked meaning old new look rows looks later tasks ready called same left =
     subst (λ (rs : List Row). HasAnswered meaning old looks tasks Look (Looked (Ok (record { as_of = look.as_of; rows = rs }))) new later tasks) (sym same)
     (one_call meaning old new event.Look (reply.Looked look.pin.number (info_files look.pin.blocks) look.as_of look.rows) looks later tasks Look
-    (Looked (Ok (record { as_of = look.as_of; rows = look.rows }))) ready called
+    (Looked (Ok (record { as_of = look.as_of; rows = look.rows }))) ready tt called
     (record { flush = λ number file rows. refl; compaction = λ number file level pin files. refl; files = λ file before after h. h })
     ((Ok (record { as_of = look.as_of; rows = look.rows }), refl, (look.pin.number, info_files look.pin.blocks, refl)), refl)
     (left ∙ ap (λ (ls : Looks). ls ++ Some (look_of look) ∷ [])
@@ -133,6 +134,7 @@ idle meaning port looks later tasks asked ready answered left = record {
   left = left;
   fit = ready.fit;
   going = ready.going;
+  found = λ known find. (find, λ tells. tt);
 }
 
 pub is_idle : {P : Type 0} (meaning : Meaning P) (port : P) (number : ℕ) (looks later : Looks) (tasks : Tasks) → IsReady meaning port looks tasks
@@ -145,7 +147,7 @@ pub has_ended : {P : Type 0} (meaning : Meaning P) (old new : P) (number : ℕ) 
     → later ≡ map (unless_ended (call (event.Done look.pin.number) reply.Fine)) looks
     → HasAnswered meaning old looks tasks (Done number) Ended new later tasks
 has_ended meaning old new number look looks later tasks ready some called left =
-    one_call meaning old new (event.Done look.pin.number) reply.Fine looks later tasks (Done number) Ended ready called
+    one_call meaning old new (event.Done look.pin.number) reply.Fine looks later tasks (Done number) Ended ready tt called
     (record { flush = λ number file rows. refl; compaction = λ number file level pin files. refl; files = λ file before after h. h })
     (subst (λ (l : Option Hold). IsEndAnswered l Ended (call (event.Done look.pin.number) reply.Fine ∷ [])) (sym some) (refl, refl), refl)
     (left ∙ sym (append-nil (map (unless_ended (call (event.Done look.pin.number) reply.Fine)) looks)))
@@ -172,7 +174,7 @@ pub has_paged : {P : Type 0} (meaning : Meaning P) (old new : P) (number block p
     → Called meaning old (event.ReadPage look.pin.number block page) (page_reply answer) new
     → (tasks : Tasks) → IsReady meaning old looks tasks → HasAnswered meaning old looks tasks (Page number block page) (Paged answer) new looks tasks
 has_paged meaning old new number block page look looks answer some named called tasks ready =
-    one_call meaning old new (event.ReadPage look.pin.number block page) (page_reply answer) looks looks tasks (Page number block page) (Paged answer) ready called
+    one_call meaning old new (event.ReadPage look.pin.number block page) (page_reply answer) looks looks tasks (Page number block page) (Paged answer) ready tt called
     (record { flush = λ number file rows. refl; compaction = λ number file level pin files. refl; files = λ file before after h. h }) (
       subst (λ (l : Option Hold). IsPageAnswered l block page (Paged answer) (call (event.ReadPage look.pin.number block page) (page_reply answer) ∷ [])) (sym some)
           (subst (λ (b : Bool). IsPageOf b look.pin.number block page (Paged answer) (call (event.ReadPage look.pin.number block page) (page_reply answer) ∷ [])) (sym named)

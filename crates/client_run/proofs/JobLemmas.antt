@@ -1,8 +1,9 @@
 -- What a flush and a compaction stand on stays behind calls that aren't their own.
-use Rattle.std.proofs.Common.{◌≡◌, ℕ, List, [], ◌∷◌, length, Bool, true, false, sym, ◌∙◌, ap, subst}
+use Rattle.std.proofs.Common.{◌≡◌, ℕ, List, [], ◌∷◌, Bool, true, false, sym, ◌∙◌, ap, subst}
 use Rattle.std.specs.Prelude.{IsTrue, ◌||◌}
-use Rattle.compactor.proofs.BlockLaws.{StaySame, begins_stays, first_stays, rest_stays, rows_stay}
-use Rattle.compactor.specs.Tasks.{ShowsRead, ShowsWriting, Task as CompactTask}
+use Rattle.compactor.proofs.BlockLaws.{StaySame, first_stays, rest_stays, rows_stay}
+use Rattle.compactor.proofs.ReadLaws.{blocks_told, told_stays}
+use Rattle.compactor.specs.Tasks.{ShowsWriting, Task as CompactTask}
 use Rattle.compactor.specs.Tasks as compaction
 use Rattle.compactor.specs.Tasks.{Task as compacting}
 use Rattle.flusher.specs.Tasks.{Task as FlushTask}
@@ -19,8 +20,9 @@ use Rattle.store_state.specs.Given.{compact_of, flush_of, info_files}
 use Rattle.store_state.specs.Meaning.{Meaning, Called, IsOpen, Rewritten}
 use Rattle.store_state.specs.declared.jobs.CompactJob.{CompactJob}
 use Rattle.store_state.specs.declared.jobs.FlushJob.{FlushJob}
-use Rattle.client_run.specs.Taken.{Fit}
+use Rattle.client_run.specs.Taken.{FindBlocks, Fit}
 use Rattle.client_run.specs.declared.tasks.Tasks.{Tasks}
+use Rattle.client_run.proofs.CallLemmas.{known_after}
 
 -- the call writes nothing to the file
 abbrev pub Untouched : event → reply → ℕ → Type 0
@@ -31,6 +33,10 @@ EndsNoFlush e r = (number file : ℕ) (rows : List Row) → ends e r (OpenFlush 
 
 abbrev pub EndsNoCompaction : event → reply → Type 0
 EndsNoCompaction e r = (number file level pin : ℕ) (files : List ℕ) → ends e r (OpenCompact number file level pin files) ≡ false
+
+-- the call writes nothing to a file of an open compaction
+abbrev pub LeavesBlocks : {P : Type 0} → Meaning P → P → event → reply → Type 0
+LeavesBlocks meaning port e r = (job : CompactJob) → IsOpen meaning port (compact_of job) → (file : ℕ) → is_among file (files_of (compact_of job)) ≡ true → Untouched e r file
 
 -- a file of what is open is as it was behind a call that doesn't write to it
 same_file : {P : Type 0} (meaning : Meaning P) (old new : P) (e : event) (r : reply) (hold : Hold) (file : ℕ) → Called meaning old e r new → ends e r hold ≡ false
@@ -74,32 +80,17 @@ flush_stays meaning old new e r (flushing.Ended round) called none same holds fi
 
 -- ---- a compaction
 
-back : (old new : ℕ → List ℕ) (files : List ℕ) → StaySame old new files → StaySame new old files
-back old new files stay file among = sym (stay file among)
-
-read_stays : (old new : ℕ → List ℕ) (job : CompactJob) (parts : List (List Row)) (pages : ℕ) (bytes : List ℕ) → StaySame old new (job.out.file ∷ info_files job.pin.blocks)
-    → ShowsRead old job parts pages bytes → ShowsRead new job parts pages bytes
-read_stays old new job parts pages bytes stay told =
-    let rest = rest_stays old new job.out.file (info_files job.pin.blocks) stay in
-    record {
-      so_far = λ all are. told.so_far all (rows_stay new old job.pin.blocks all (back old new (info_files job.pin.blocks) rest) are);
-      begins = begins_stays old new (length parts) job.pin.blocks pages bytes rest told.begins;
-      apart = told.apart;
-      empty = first_stays old new job.out.file (info_files job.pin.blocks) stay ∙ told.empty;
-    }
-
 written_stays : (old new : ℕ → List ℕ) (job : CompactJob) (parts : List (List Row)) (bytes : List ℕ) → StaySame old new (job.out.file ∷ info_files job.pin.blocks)
     → ShowsWriting old job parts bytes → ShowsWriting new job parts bytes
 written_stays old new job parts bytes stay told = record {
   their_rows = λ all are.
-      told.their_rows all (rows_stay new old job.pin.blocks all (back old new (info_files job.pin.blocks) (rest_stays old new job.out.file (info_files job.pin.blocks) stay)) are);
+      told.their_rows all (rows_stay new old job.pin.blocks all (λ file among. sym (rest_stays old new job.out.file (info_files job.pin.blocks) stay file among)) are);
   apart = told.apart;
   so_far = first_stays old new job.out.file (info_files job.pin.blocks) stay ∙ told.so_far;
 }
 
 pub compaction_stays : {P : Type 0} (meaning : Meaning P) (old new : P) (e : event) (r : reply) (task : CompactTask) → Called meaning old e r new → EndsNoCompaction e r
-    → ((job : CompactJob) → IsOpen meaning old (compact_of job) → (file : ℕ) → is_among file (files_of (compact_of job)) ≡ true → Untouched e r file)
-    → ((held : List Hold) × meaning.holds old held) → compaction.Fits meaning task old → compaction.Fits meaning task new
+    → LeavesBlocks meaning old e r → ((held : List Hold) × meaning.holds old held) → compaction.Fits meaning task old → compaction.Fits meaning task new
 compaction_stays meaning old new e r compacting.Fresh called none same holds fits = (holds_after e r holds.0, called.holds holds.0 holds.1)
 compaction_stays meaning old new e r (compacting.Reading job parts pages bytes) called none same holds fits =
     let ends_not = none job.out.number job.out.file job.level job.pin.number (info_files job.pin.blocks) in
@@ -111,7 +102,7 @@ compaction_stays meaning old new e r (compacting.Reading job parts pages bytes) 
       counted = fits.counted;
       page = fits.page;
       told = λ tells.
-          read_stays (meaning.shows old) (meaning.shows new) job parts pages bytes
+          told_stays (meaning.shows old) (meaning.shows new) job parts pages bytes
           (λ file among. same_file meaning old new e r (compact_of job) file called ends_not (same job fits.is_open file among) fits.is_open among tells)
           (fits.told (subst IsTrue called.telling tells));
     }
@@ -135,6 +126,19 @@ compaction_stays meaning old new e r (compacting.Failing job why) called none sa
     stays_open meaning old new e r (compact_of job) called fits (none job.out.number job.out.file job.level job.pin.number (info_files job.pin.blocks))
 compaction_stays meaning old new e r (compacting.Ended round) called none same holds fits = fits
 
+-- A call that isn't the compaction's own changes none of the blocks that it reads.
+pub finds_after : {P : Type 0} (meaning : Meaning P) (old new : P) (e : event) (r : reply) (task : CompactTask) → Called meaning old e r new → EndsNoCompaction e r
+    → LeavesBlocks meaning old e r → compaction.Fits meaning task old → compaction.FindsBlocks meaning task old → compaction.FindsBlocks meaning task new
+finds_after meaning old new e r compacting.Fresh called none same fits known = known_after meaning old new e r called known
+finds_after meaning old new e r (compacting.Reading job parts pages bytes) called none same fits are = λ tells.
+    let ends_not = none job.out.number job.out.file job.level job.pin.number (info_files job.pin.blocks) in
+    blocks_told (meaning.shows old) (meaning.shows new) job
+    (λ file among. same_file meaning old new e r (compact_of job) file called ends_not (same job fits.is_open file among) fits.is_open among tells)
+    (are (subst IsTrue called.telling tells))
+finds_after meaning old new e r (compacting.Writing job bytes info) called none same fits found = found
+finds_after meaning old new e r (compacting.Failing job why) called none same fits found = λ tells. found (subst IsTrue called.telling tells)
+finds_after meaning old new e r (compacting.Ended round) called none same fits found = λ tells. found (subst IsTrue called.telling tells)
+
 -- ---- both
 
 -- the call ends no job, and writes to no file
@@ -149,3 +153,8 @@ still_fit meaning old new e r tasks called leaves holds fit = (
   flush_stays meaning old new e r tasks.flush called leaves.flush (λ job is_open. leaves.files job.out.file) holds fit.0,
   compaction_stays meaning old new e r tasks.compaction called leaves.compaction (λ job is_open file among. leaves.files file) holds fit.1,
 )
+
+pub still_finds : {P : Type 0} (meaning : Meaning P) (old new : P) (e : event) (r : reply) (tasks : Tasks) → Called meaning old e r new → LeavesJobs e r
+    → Fit meaning tasks old → FindBlocks meaning tasks old → FindBlocks meaning tasks new
+still_finds meaning old new e r tasks called leaves fit find =
+    (find.0, finds_after meaning old new e r tasks.compaction called leaves.compaction (λ job is_open file among. leaves.files file) fit.1 find.1)

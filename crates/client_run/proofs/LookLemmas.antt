@@ -2,6 +2,7 @@
 use Rattle.std.proofs.Common.{◌≡◌, ℕ, ◌+◌, ◌<◌, ◌≤◌, ◌==◌, zero, suc, Bool, true, false, List, [], ◌∷◌, ◌++◌, Bor, Option, Some, None, option_map, map, length, get_or, refl, sym, ◌∙◌, ap, subst, arith, append-nil, append_assoc, if◌then◌else◌}
 use Rattle.std.specs.Prelude.{set, ◌||◌, IfNone, IfSome}
 use Rattle.std.proofs.lemmas.List.{map-append, map-set, set_at, set-get_or, get_or_at, get_or-map, get_or_past, get_or_read, length_push, length-append, length-map}
+use Rattle.std.proofs.lemmas.Option.{same_Some}
 use Rattle.std.specs.List.{list_any}
 use Rattle.std.specs.Option.{option_copied}
 use Rattle.block_info.specs.InfoParts.{InfoParts}
@@ -23,15 +24,12 @@ use Rattle.client_run.specs.Walked.{Walked}
 
 -- ---- what is open stays open
 
-some_same : (a b : Hold) → Some a ≡ Some b → a ≡ b
-some_same a b e = cc
-
 -- a look that is open is one of the port's
 pub open_at : {P : Type 0} (meaning : Meaning P) (port : P) (number : ℕ) (looks : Looks) (look : Hold) → look_at number looks ≡ Some look
     → AreOpen meaning port looks → IsOpen meaning port look
 open_at meaning port number [] look e h = let bad : ⊥ = cc in absurd bad
 open_at meaning port zero (None ∷ looks) look e h = let bad : ⊥ = cc in absurd bad
-open_at meaning port zero (Some x ∷ looks) look e h = subst (IsOpen meaning port) (some_same x look e) h.0
+open_at meaning port zero (Some x ∷ looks) look e h = subst (IsOpen meaning port) (same_Some x look e) h.0
 open_at meaning port (suc n) (None ∷ looks) look e h = open_at meaning port n looks look e h
 open_at meaning port (suc n) (Some x ∷ looks) look e h = open_at meaning port n looks look e h.1
 

@@ -1,5 +1,6 @@
 -- A core's jobs have files of their own.
 use Rattle.std.proofs.Common.{◌≡◌, ℕ, ◌≤◌, ◌==◌, Bool, true, false, List, [], ◌∷◌, ◌++◌, Option, Some, None, refl, sym, ◌∙◌, ap, subst, arith, if◌then◌else◌}
+use Rattle.std.proofs.lemmas.Option.{same_Some}
 use Rattle.disk_model.specs.declared.disk.Device.{Ghosts}
 use Rattle.store_model.specs.Holds.{IsOpenCompact}
 use Rattle.store_model.specs.Sound.{StateIsSound, times}
@@ -12,14 +13,11 @@ use Rattle.store_core.specs.declared.jobs.OpenFlush.{OpenFlush}
 use Rattle.store_core.specs.declared.store.Core.{Core}
 use Rattle.client_run.specs.OwnFiles.{HaveOwnFiles}
 
-some_same : (a b : Flush) → Some a ≡ Some b → a ≡ b
-some_same a b e = cc
-
 -- what a core shows of an open flush is the same in each machine that it shows
 same_flush : (o : Option OpenFlush) (a b : Option Flush) (x : Flush) → ShowsFlush o a → ShowsFlush o b → a ≡ Some x → (y : Flush) × (b ≡ Some y) × (y.file ≡ x.file)
 same_flush None a b x first second is = let bad : ⊥ = cc in absurd bad
 same_flush (Some known) a b x first second is =
-    let same = some_same first.0 x (sym first.1 ∙ is) in
+    let same = same_Some first.0 x (sym first.1 ∙ is) in
     (second.0, second.1, sym second.3.block ∙ first.3.block ∙ ap (λ (job : Flush). job.file) same)
 
 pinned_within : (file n : ℕ) (pins : List Pinned) → times file (block_files (pinned_blocks n pins)) ≤ times file (pinned_files pins)

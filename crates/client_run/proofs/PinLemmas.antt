@@ -1,5 +1,6 @@
 -- Looks of a core don't share pins.
 use Rattle.std.proofs.Common.{◌≡◌, ℕ, zero, suc, Bool, true, false, List, [], ◌∷◌, ◌++◌, Some, None, map, refl, subst, arith, if◌then◌else◌}
+use Rattle.std.proofs.lemmas.Option.{same_Some}
 use Rattle.std.specs.Prelude.{⊤}
 use Rattle.disk_model.specs.declared.disk.Device.{Ghosts}
 use Rattle.store_model.specs.Event.{Event, Reply}
@@ -91,13 +92,10 @@ looks_kept g old new (c ∷ cs) looks made m stands h =
     looks_kept g made.0 new cs (after_call c looks) made.2 one.0 one.1
     (looks_after (g.faults old.disk) (g.faults made.0.disk) m one.0 c.event stands.agrees stands.sound c.reply looks one.2 h)
 
-some_same : (a b : Hold) → Some a ≡ Some b → a ≡ b
-some_same a b e = cc
-
 apart_at : (looks : Looks) (later : ℕ) (one other : Hold) → ApartFrom one looks → look_at later looks ≡ Some other → AreApart other one
 apart_at [] later one other h e = let bad : ⊥ = cc in absurd bad
 apart_at (None ∷ looks) zero one other h e = let bad : ⊥ = cc in absurd bad
-apart_at (Some x ∷ looks) zero one other h e = subst (λ (y : Hold). AreApart y one) (some_same x other e) h.0
+apart_at (Some x ∷ looks) zero one other h e = subst (λ (y : Hold). AreApart y one) (same_Some x other e) h.0
 apart_at (None ∷ looks) (suc n) one other h e = apart_at looks n one other h e
 apart_at (Some x ∷ looks) (suc n) one other h e = apart_at looks n one other h.1 e
 
@@ -106,7 +104,7 @@ pins_apart m [] h first later one other less e f = let bad : ⊥ = cc in absurd 
 pins_apart m (x ∷ looks) h first zero one other less e f = absurd (omega (arith, less))
 pins_apart m (None ∷ looks) h zero (suc later) one other less e f = let bad : ⊥ = cc in absurd bad
 pins_apart m (Some x ∷ looks) h zero (suc later) one other less e f =
-    subst (λ (y : Hold). AreApart other y) (some_same x one e) (apart_at looks later x other h.1 f)
+    subst (λ (y : Hold). AreApart other y) (same_Some x one e) (apart_at looks later x other h.1 f)
 pins_apart m (None ∷ looks) h (suc first) (suc later) one other less e f = pins_apart m looks h first later one other (omega (arith, less)) e f
 pins_apart m (Some x ∷ looks) h (suc first) (suc later) one other less e f = pins_apart m looks h.2 first later one other (omega (arith, less)) e f
 

@@ -1,5 +1,7 @@
 -- How a run of events goes on.
 use Rattle.std.proofs.Common.{◌≡◌, inl, inr, ℕ, ◌+◌, ◌<◌, List, [], ◌∷◌, ◌++◌, take, get_or, length, refl, sym, ◌∙◌, ap, subst}
+use Rattle.std.specs.Prelude.{IsTrue}
+use Rattle.std.specs.List.{AllByRecursion}
 use Rattle.std.proofs.lemmas.List.{take_more}
 use Rattle.store_model.specs.Holds.{Hold}
 use Rattle.store_state.specs.Meaning.{Meaning}
@@ -7,9 +9,9 @@ use Rattle.client_run.specs.declared.event.Event.{Event}
 use Rattle.client_run.specs.declared.event.EventReply.{EventReply}
 use Rattle.client_run.specs.declared.tasks.Tasks.{Tasks}
 use Rattle.client_run.specs.Calls.{Looks, after_calls}
-use Rattle.client_run.specs.EventRuns.{HasRun, HasRunFirst, IsEventAnswered, no_step}
+use Rattle.client_run.specs.EventRuns.{FoundBlock, HasRun, HasRunFirst, IsEventAnswered, no_step}
 use Rattle.client_run.specs.Taken.{AreOpen, HasAnswered, HasCome, IsReady, MayHaveAnswered, no_steps, stages_of}
-use Rattle.client_run.proofs.CallLemmas.{after-append, answered-push, holds_kept, made-append}
+use Rattle.client_run.proofs.CallLemmas.{after-append, answered-push, holds_kept, known_kept, made-append, tells_kept}
 use Rattle.client_run.proofs.LookLemmas.{open_after}
 
 pub run_begins : {P : Type 0} (meaning : Meaning P) (port : P) → ((held : List Hold) × meaning.holds port held) → HasCome meaning port [] [] port [] no_steps
@@ -19,6 +21,7 @@ run_begins meaning port holds = record {
   answered = (refl, refl, refl);
   left = refl;
   ready = record { holds = holds; open_looks = tt; fit = (holds, holds); going = (tt, tt) };
+  found = λ known. ((tt, known), λ tells. tt);
 }
 
 -- What is open behind an event.
@@ -31,6 +34,11 @@ ready_then meaning old new looks later tasks after e r ready one = record {
   going = one.going;
 }
 
+-- one reply more that finds no block to be none
+found_more : (replies : List EventReply) (r : EventReply) → AllByRecursion FoundBlock replies → FoundBlock r → AllByRecursion FoundBlock (replies ++ r ∷ [])
+found_more [] r all one = (one, tt)
+found_more (x ∷ xs) r all one = (all.0, found_more xs r all.1 one)
+
 pub run_goes_on : {P : Type 0} (meaning : Meaning P) (old mid new : P) (events : List Event) (replies : List EventReply) (looks later : Looks) (tasks after : Tasks) (e : Event) (r : EventReply)
     → HasCome meaning old events replies mid looks tasks → HasAnswered meaning mid looks tasks e r new later after
     → HasCome meaning old (events ++ e ∷ []) (replies ++ r ∷ []) new later after
@@ -41,12 +49,17 @@ run_goes_on meaning old mid new events replies looks later tasks after e r come 
       (subst (λ (l : Looks). IsEventAnswered l (stages_of tasks) e r one.calls (stages_of after)) come.left one.answered);
   left = one.left ∙ (ap (after_calls one.calls) come.left ∙ sym (after-append come.calls one.calls []));
   ready = ready_then meaning mid new looks later tasks after e r come.ready one;
+  found = λ known.
+      let before = come.found known in
+      let behind = one.found (known_kept meaning old mid come.calls come.made known) before.0 in
+      let still = tells_kept meaning mid new one.calls one.made ∙ tells_kept meaning old mid come.calls come.made in
+      (behind.0, λ tells. found_more replies r (before.1 tells) (behind.1 (subst IsTrue (sym still) tells)));
 }
 
 pub has_run : {P : Type 0} (meaning : Meaning P) (old new : P) (events : List Event) (replies : List EventReply) (looks : Looks) (tasks : Tasks)
     → HasCome meaning old events replies new looks tasks → HasRun meaning old events replies new
 has_run meaning old new events replies looks tasks come =
-    record { calls = come.calls; made = come.made; stages = stages_of tasks; answered = come.answered }
+    record { calls = come.calls; made = come.made; stages = stages_of tasks; answered = come.answered; found = λ tells known. (come.found known).1 tells }
 
 -- A run that stops at an event.
 pub stopped_at : {P : Type 0} (meaning : Meaning P) (old mid new : P) (events : List Event) (n : ℕ) (replies : List EventReply) (looks : Looks) (tasks : Tasks) (e : Event)

@@ -1,7 +1,9 @@
 -- What a list of events is answered, and which calls of a port it makes.
-use Rattle.std.specs.Prelude.{◌≡◌, ℕ, Bool, true, false, List, [], ◌∷◌, ◌++◌, take, Option, Some, None, Result, Ok, Err}
-use Rattle.compactor.specs.Rounds.{Leads as CompactLeads, Stage as CompactStage}
+use Rattle.std.specs.Prelude.{◌≡◌, ℕ, Bool, true, false, List, [], ◌∷◌, ◌++◌, take, Option, Some, None, Result, Ok, Err, IsTrue}
+use Rattle.std.specs.List.{AllByRecursion}
+use Rattle.compactor.specs.Rounds.{FoundBlocks, Leads as CompactLeads, Stage as CompactStage}
 use Rattle.compactor.specs.Rounds.{Stage as compaction}
+use Rattle.compactor.specs.Tasks.{Known}
 use Rattle.flusher.specs.Rounds.{Leads as FlushLeads, Stage as FlushStage}
 use Rattle.flusher.specs.Rounds.{Stage as flush}
 use Rattle.span_types.specs.declared.errors.Failed.{Failed}
@@ -132,13 +134,20 @@ AreEventsAnswered looks before (e ∷ events) (r ∷ replies) calls after =
 abbrev pub no_step : Stages
 no_step = record { flush = flush.Fresh; compaction = compaction.Fresh }
 
--- A list of events was run on a port: the port's calls are just those that the events make, in their order. At the end the flush
--- and the compaction for which steps were made are so far.
+-- a step didn't end a round because a block is none
+abbrev pub FoundBlock : EventReply → Type 0
+FoundBlock (Stepped (step.Ended round)) = FoundBlocks round
+FoundBlock _ = Unit {0}
+
+-- A list of events was run on a port: the port's calls are just those that the events make, in their order. At the end
+-- the flush and the compaction for which steps were made are so far. Where bytes are told and a history was known, no step
+-- ended a round because a block is none.
 pub record HasRun {P : Type 0} (meaning : Meaning P) (old : P) (events : List Event) (replies : List EventReply) (new : P) : Type 0 where
   pub calls : List Call
   pub made : AreMade meaning old calls new
   pub stages : Stages
   pub answered : AreEventsAnswered [] no_step events replies calls stages
+  pub found : IsTrue (meaning.tells old) → Known meaning old → AllByRecursion FoundBlock replies
 
 -- Of a list of events the first few were run, and no others.
 abbrev pub HasRunFirst : {P : Type 0} → Meaning P → P → List Event → P → Type 0

@@ -1,9 +1,13 @@
 -- Private mechanism of a run of events: the looks that it holds, the flush and the compaction for which it makes steps, and what one
 -- event makes of them. No public clause cites it.
-use Rattle.std.specs.Prelude.{◌≡◌, ◌⊎◌, ⊤, ℕ, false, List, [], ◌∷◌, map, Option, Some, None, option_map}
-use Rattle.compactor.specs.Tasks.{Task as CompactTask}
+use Rattle.std.specs.Prelude.{◌≡◌, ◌⊎◌, ⊤, ℕ, false, List, [], ◌∷◌, map, Option, Some, None, option_map, IsTrue}
+use Rattle.std.specs.List.{AllByRecursion}
+use Rattle.compactor.specs.Rounds.{FoundBlocks}
+use Rattle.compactor.specs.Tasks.{Known, Task as CompactTask}
 use Rattle.compactor.specs.Tasks as compaction
 use Rattle.compactor.specs.Tasks.{Task as compacting}
+use Rattle.flusher.specs.Rounds.{Stage as FlushStage}
+use Rattle.flusher.specs.Rounds.{Stage as flush_stage}
 use Rattle.flusher.specs.Tasks.{Task as FlushTask}
 use Rattle.flusher.specs.Tasks as flush
 use Rattle.flusher.specs.Tasks.{Task as flushing}
@@ -12,12 +16,13 @@ use Rattle.store_model.specs.State.{is_among}
 use Rattle.store_state.specs.Meaning.{Meaning, IsOpen}
 use Rattle.store_state.specs.Given.{look_of}
 use Rattle.store_state.specs.declared.jobs.Look.{Look}
+use Rattle.store_state.specs.declared.rounds.Round.TheVariants.{Refused}
 use Rattle.client_run.specs.declared.event.Event.{Event}
 use Rattle.client_run.specs.declared.event.EventReply.{EventReply}
 use Rattle.client_run.specs.declared.tasks.Tasks.{Tasks}
 use Rattle.store_state.specs.Made.{Call, AreMade}
 use Rattle.client_run.specs.Calls.{Looks, after_calls}
-use Rattle.client_run.specs.EventRuns.{AreEventsAnswered, IsEventAnswered, Stages, no_step}
+use Rattle.client_run.specs.EventRuns.{AreEventsAnswered, FoundBlock, IsEventAnswered, Stages, no_step}
 
 abbrev pub looks_of : List (Option Look) → Looks
 looks_of looks = map (option_map look_of) looks
@@ -65,6 +70,17 @@ IsCompacting (compacting.Ended round) = ⊥
 abbrev pub AreGoing : Tasks → Type 0
 AreGoing tasks = IsFlushing tasks.flush × IsCompacting tasks.compaction
 
+-- The flush isn't given up because a block is none, and hasn't ended because of that.
+abbrev pub FlushFinds : FlushStage → Type 0
+FlushFinds (flush_stage.Failing number why) = FoundBlocks (Refused why)
+FlushFinds (flush_stage.Ended round) = FoundBlocks round
+FlushFinds _ = Unit {0}
+
+-- Neither finds a block to be none; the compaction where bytes are told.
+abbrev pub FindBlocks : {P : Type 0} → Meaning P → Tasks → P → Type 0
+FindBlocks meaning tasks port =
+    FlushFinds (flush.stage_of tasks.flush) × compaction.FindsBlocks meaning tasks.compaction port
+
 -- ---- events
 
 -- The port says what is open in it, has these looks open, and has what the flush and the compaction stand on, whose rounds have not
@@ -75,7 +91,8 @@ pub record IsReady {P : Type 0} (meaning : Meaning P) (port : P) (looks : Looks)
   pub fit : Fit meaning tasks port
   pub going : AreGoing tasks
 
--- One event was answered so, and left these looks, this flush and this compaction.
+-- One event was answered so, and left these looks, this flush and this compaction. Where a history was known and neither of
+-- the two finds a block to be none, neither does behind it, and nor does its reply where bytes are told.
 pub record HasAnswered {P : Type 0} (meaning : Meaning P) (old : P) (looks : Looks) (tasks : Tasks) (event : Event) (reply : EventReply) (new : P) (later : Looks) (after : Tasks) : Type 0 where
   pub calls : List Call
   pub made : AreMade meaning old calls new
@@ -83,6 +100,8 @@ pub record HasAnswered {P : Type 0} (meaning : Meaning P) (old : P) (looks : Loo
   pub left : later ≡ after_calls calls looks
   pub fit : Fit meaning after new
   pub going : AreGoing after
+  pub found : Known meaning old → FindBlocks meaning tasks old
+      → FindBlocks meaning after new × (IsTrue (meaning.tells new) → FoundBlock reply)
 
 -- One event of which the reply wasn't told: it happened all the same, or it didn't.
 abbrev pub MayHaveAnswered : {P : Type 0} → Meaning P → P → Looks → Tasks → Event → P → Type 0
@@ -96,3 +115,5 @@ pub record HasCome {P : Type 0} (meaning : Meaning P) (old : P) (events : List E
   pub answered : AreEventsAnswered [] no_step events replies calls (stages_of tasks)
   pub left : looks ≡ after_calls calls []
   pub ready : IsReady meaning new looks tasks
+  pub found : Known meaning old
+      → FindBlocks meaning tasks new × (IsTrue (meaning.tells old) → AllByRecursion FoundBlock replies)

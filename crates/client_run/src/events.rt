@@ -25,6 +25,8 @@ use store_state::{FlushPort, Look, LookPort, Port, Step};
 /// nothing is done. The steps of flushes are made for one task after another, and so are those of compactions. Out of
 /// memory the events so far have happened. The looks that aren't given back keep their pins, and a flush or a
 /// compaction that isn't at its end stays open.
+///
+/// Where the port tells its bytes, and knows a history as the run begins, no step finds a block to be malformed.
 pub fn run_events<P: OwnFiles>(
     alloc: Global,
     port: &mut P,

@@ -1,6 +1,6 @@
 //! The looks of a run of events.
 
-ghost use Rattle.std.specs.Prelude.{◌≡◌, ◌==◌, ◌++◌, ◌∷◌, [], Some, None, map, option_map, if◌then◌else◌, IfSome, IfNone, true};
+ghost use Rattle.std.specs.Prelude.{◌≡◌, ◌==◌, Some, None, map, option_map, if◌then◌else◌, IfSome, IfNone, true};
 ghost use Rattle.std.specs.List.{list_any};
 ghost use Rattle.store_model.specs.Event.Event.{Done};
 ghost use Rattle.store_model.specs.Event.Reply.{Fine};

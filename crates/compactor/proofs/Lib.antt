@@ -1,6 +1,7 @@
 pub mod BlockLaws
 mod Prefixes
-mod ReadLaws
+pub mod ReadLaws
 mod BuildLaws
-mod WriteLaws
+pub mod WriteLaws
 mod RoundLaws
+mod TraceByTrace

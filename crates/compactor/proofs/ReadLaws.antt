@@ -118,7 +118,7 @@ begins_block header bytes rows has = front_begins bytes has.front _ has.bytes_ar
 told_first : (shows : ℕ → List ℕ) (job : CompactJob) → shows job.out.file ≡ [] → ShowsRead shows job [] 0 []
 told_first shows job empty = record { so_far = λ all hold. refl; begins = begins_none shows job.pin.blocks; apart = tt; empty = empty }
 
-told_stays : (old new : ℕ → List ℕ) (job : CompactJob) (parts : List (List Row)) (pages : ℕ) (bytes : List ℕ) → StaySame old new (job.out.file ∷ info_files job.pin.blocks) → ShowsRead old job parts pages bytes
+pub told_stays : (old new : ℕ → List ℕ) (job : CompactJob) (parts : List (List Row)) (pages : ℕ) (bytes : List ℕ) → StaySame old new (job.out.file ∷ info_files job.pin.blocks) → ShowsRead old job parts pages bytes
     → ShowsRead new job parts pages bytes
 told_stays old new job parts pages bytes stay told =
     let rest = rest_stays old new job.out.file (info_files job.pin.blocks) stay in
@@ -178,7 +178,7 @@ told_whole sizes shows job parts pages bytes info infos at left enough few e tol
     differ : (n : ℕ) (ys : List Row) → (let a : Result (List Row) ℕ = Err n in let b : Result (List Row) ℕ = Ok ys in a ≡ b) → ⊥
     differ n ys e = cc
 
-blocks_told : (old new : ℕ → List ℕ) (job : CompactJob) → StaySame old new (job.out.file ∷ info_files job.pin.blocks) → AreBlocks old job.pin.blocks → AreBlocks new job.pin.blocks
+pub blocks_told : (old new : ℕ → List ℕ) (job : CompactJob) → StaySame old new (job.out.file ∷ info_files job.pin.blocks) → AreBlocks old job.pin.blocks → AreBlocks new job.pin.blocks
 blocks_told old new job stay are = (are.0, blocks_stay old new job.pin.blocks are.0 (rest_stays old new job.out.file (info_files job.pin.blocks) stay) are.1)
 
 -- ---- what a task stands on

@@ -1,5 +1,5 @@
--- What an ingest asks. It is a session whose lines are each `push`, one space and a line of the source, and that is asked besides to
--- cut, flush, compact and empty loose files, as the store has come to need it.
+-- What an ingest asks. It is a session whose lines are each `push`, one space and a line of the source, and that is asked
+-- besides to cut, flush, compact and empty loose files, as the store has come to need it.
 use Rattle.std.specs.Prelude.{◌≡◌, ◌⊎◌, ⊤, ℕ, ◌-◌, ◌==◌, Bool, true, false, nat_le, if◌then◌else◌, List, [], ◌∷◌, Option, Ok}
 use Rattle.session_text.specs.declared.reply.Reply.{Reply}
 use Rattle.session_text.specs.declared.reply.Reply.TheVariants.{Compacted}
@@ -24,8 +24,8 @@ pub data Duty : Type 0 where
   -- to compact as long as blocks are joined, so many times at most
   compact_all : ℕ → Duty
 
--- No store joins blocks so often: each compaction that does takes a number for its new file, and joins two blocks or more into one.
--- So this bound is never met, and a compaction that joins none is always made.
+-- No store joins blocks so often, since each compaction that does takes a number for its new file: the law
+-- `compactions_come_to_an_end` says so. So this bound is never met, and a compaction that joins none is always made.
 abbrev pub most_rounds : ℕ
 most_rounds = 4294967295
 
@@ -33,8 +33,8 @@ most_rounds = 4294967295
 abbrev pub at_the_end : List Duty
 at_the_end = ask CutAll ∷ ask Flush ∷ compact_all most_rounds ∷ ask Reclaim ∷ []
 
--- What is to do from a line on: each line is pushed, but for those without bytes, and the store is kept small after each push; and
--- then what is to do at the end.
+-- What is to do from a line on: each line is pushed, but for those without bytes, and the store is kept small after each
+-- push, refused or not, also where the line was refused in reading; and then what is to do at the end.
 abbrev pub from_lines : List (List ℕ) → List Duty
 from_lines [] = at_the_end
 from_lines ([] ∷ lines) = from_lines lines

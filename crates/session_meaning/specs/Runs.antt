@@ -118,8 +118,9 @@ pub record HasRun (text before : List ℕ) (o : Outcome) (old new : Edges) : Typ
   pub clock : new.moments ≡ after_lines answered (after_moment old.moments)
   pub ends : Ends o.ending text later new.left before o.replies new.taken
 
--- How much of its duties an ingest left: none, where the input was read to its end and all replies were written; where the source
--- failed, or a run takes no more bytes, those from the first line on that wasn't pushed. It may be stopped at any other.
+-- How much of its duties an ingest left: none, where the input was read to its end and all replies were written; where the
+-- source failed, or a run takes no more bytes, those from the first line on that wasn't pushed: nothing is done for the end
+-- then. Where the sink failed or memory was wanted it may have stopped at any of them.
 abbrev pub IsLeft : Ending → List (List ℕ) → List Duty → Type 0
 IsLeft Answered later left = left ≡ []
 IsLeft Refused later left = left ≡ []
@@ -127,8 +128,8 @@ IsLeft ReadFault later left = left ≡ from_lines later
 IsLeft Spent later left = left ≡ from_lines later
 IsLeft _ later left = ⊤
 
--- An ingest that read `text`: what was due was asked, and the replies, and nothing else, stand written as the ending says. No pattern
--- was made.
+-- An ingest that read `text`: what was due was asked, and the replies, and nothing else, stand written as the ending says.
+-- No pattern was made.
 pub record HasIngested (sure : Bool) (text before : List ℕ) (o : Outcome) (old new : Edges) : Type 0 where
   pub pushed : List (List ℕ)
   pub later : List (List ℕ)

@@ -7,6 +7,10 @@ mod compact_tests;
 #[cfg(test)]
 mod durable_tests;
 #[cfg(test)]
+mod event_model;
+#[cfg(test)]
+mod events_tests;
+#[cfg(test)]
 mod flush_tests;
 #[cfg(test)]
 mod ingest_tests;

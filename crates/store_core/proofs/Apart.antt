@@ -20,7 +20,7 @@ use Rattle.store_images.specs.Settled.{Tail, IsSettled}
 use Rattle.store_images.proofs.Lists.{at_front}
 use Rattle.store_images.proofs.Logs.{log_same}
 use Rattle.store_images.proofs.Keeping.{segment_named, block_named, rules_in, given_out, slots_same, store_same, stands_kept, one_list}
-use Rattle.store_core.specs.Files.{SameBelow}
+use Rattle.store_core.specs.Files.{SameBelow, IsEmptied}
 
 -- a list names a file, so that the next one is above the slots
 pub list_low : (body : ListBody) → MeetsRules body → 2 ≤ body.next_file
@@ -145,6 +145,10 @@ module _ (held : Image) (may_leave : Image → Type 0) (body : ListBody) (ready 
           agrees = s.agrees;
           counts = s.counts;
         }
+
+-- a file that was cut at its start, where the cut lasts
+pub emptied : (held : Image) (may_leave : Image → Type 0) (file : ℕ) → bytes_of held file ≡ [] → OnlyBytes file (bytes_of held file) may_leave → IsEmptied held may_leave file
+emptied held may_leave file is only = (is, subst (λ (bytes : List ℕ). OnlyBytes file bytes may_leave) is only)
 
 -- ---- answers
 

@@ -25,13 +25,12 @@ use Rattle.store_model.specs.Event.Refusal.{ReadOnly, Busy, FilesSpent, Fault, M
 use Rattle.store_model.specs.Holds.{Hold, OpenIn, files_of}
 use Rattle.store_model.specs.Step.{Machine, Step, early, broken, with_state, if_read_only, if_flushing, if_idle, if_test}
 use Rattle.store_model.specs.Step.Step.{Sure, Succeeds, Lacks, Breaks}
-use Rattle.store_model.proofs.Numbers.{same_number}
 use Rattle.store_state.specs.Calls.{MadeCalls, RoseAtMost}
 use Rattle.store_state.specs.Given.{info_files}
 use Rattle.store_state.specs.declared.listing.FlushFiles.{FlushFiles}
 use Rattle.store_images.specs.Stored.{KeepsStored}
 use Rattle.store_images.proofs.Keeping.{keeps_same}
-use Rattle.store_core.specs.Files.{SameBelow}
+use Rattle.store_core.specs.Files.{SameBelow, IsEmptied}
 use Rattle.store_core.specs.Jobs.{ShowsFlush, CommitFits, HasFreshSegment, SameCompaction, open_jobs}
 use Rattle.store_core.specs.declared.jobs.Jobs.{Jobs}
 use Rattle.store_core.specs.declared.jobs.OpenFlush.{OpenFlush}
@@ -49,7 +48,7 @@ use Rattle.store_core.proofs.JobRooms.{RoomOfFlush, RoomOfCompaction, SpareFlush
 use Rattle.store_core.proofs.NoJobs.{no_segment}
 use Rattle.store_core.proofs.OpenJobs.{held_low}
 use Rattle.store_core.proofs.PushEvents.{OnlyNow, refused_is}
-use Rattle.store_core.proofs.Quiet.{quiet, none_begun}
+use Rattle.store_core.proofs.Quiet.{quiet, none_begun, one_begun}
 use Rattle.store_core.proofs.States.{has_stopped}
 
 -- ---- what is tested first
@@ -113,13 +112,13 @@ refused_calls _ no_fault n = refl
 pub did_not_begin : {D : Type 0} (g : Ghosts D) (only_now : OnlyNow g) (old : Core D) (why : Refusal) → ((m : Machine) → HasState old.state m → early m BeginFlush ≡ Some (Refused why)) → why ≢ Fault
     → Did g old BeginFlush (Refused why) (record old { state = old.state })
 did_not_begin g only_now old why is no_fault =
-    quiet g only_now old old.state BeginFlush (Refused why) (λ file bytes. refl) (λ e. no_fault (refused_is why Fault e)) (refused_calls why no_fault) refl refl
+    quiet g only_now old old.state BeginFlush (Refused why) (λ file bytes. refl) (λ e. no_fault (refused_is why Fault e)) (refused_calls why no_fault) refl refl (λ shows. tt) (λ told m s. tt)
     (λ told m s. (m, s, refl, Sure (is m s.has) refl))
 
 pub did_idle : {D : Type 0} (g : Ghosts D) (only_now : OnlyNow g) (old : Core D) → ((m : Machine) → HasState old.state m → early m BeginFlush ≡ Some Nothing)
     → Did g old BeginFlush Nothing (record old { state = old.state })
 did_idle g only_now old is =
-    quiet g only_now old old.state BeginFlush Nothing (λ file bytes. refl) (λ e. let bad : Nothing ≡ Refused Fault = e in cc) (λ n. refl) refl refl
+    quiet g only_now old old.state BeginFlush Nothing (λ file bytes. refl) (λ e. let bad : Nothing ≡ Refused Fault = e in cc) (λ n. refl) refl refl (λ shows. tt) (λ told m s. tt)
     (λ told m s. (m, s, refl, Sure (is m s.has) refl))
 
 -- ---- memory was taken
@@ -170,7 +169,7 @@ pub did_lack : {D : Type 0} (g : Ghosts D) (only_now : OnlyNow g) (old : Core D)
     → old.state.jobs.flush ≡ None → KeepsRooms old.state.list old.state.infos infos old.state.jobs jobs
     → ((m : Machine) → HasState old.state m → SameRows old.state.live live) → Did g old BeginFlush (Refused Memory) (record old { state = record old.state { live = live; infos = infos; jobs = jobs } })
 did_lack {D} g only_now old live infos jobs free none kept rows =
-    quiet g only_now old (record old.state { live = live; infos = infos; jobs = jobs }) BeginFlush (Refused Memory) (λ file bytes. refl) (λ e. let bad = refused_is Memory Fault e in cc) (λ n. refl) refl refl
+    quiet g only_now old (record old.state { live = live; infos = infos; jobs = jobs }) BeginFlush (Refused Memory) (λ file bytes. refl) (λ e. let bad = refused_is Memory Fault e in cc) (λ n. refl) refl refl (λ shows. tt) (λ told m s. tt)
     (λ told m s.
     let step : Step (g.faults old.disk) (g.faults old.disk) m BeginFlush (Refused Memory) m = Lacks (free m s.has) refl refl refl in (
       m,
@@ -305,7 +304,7 @@ module _ {D : Type 0} (g : Ghosts D) (old : Core D) (disk : D) (files : FlushFil
           refl,
         )
 
-    pub did_begin : (IsTrue (g.tells old.disk) → bytes_of (g.held disk) files.block ≡ [])
+    pub did_begin : (IsTrue (g.tells old.disk) → IsEmptied (g.held disk) (g.may_leave disk) files.block)
         → (IsTrue (g.tells old.disk) → ((first : ℕ) → SegmentHolds first [] 1 (bytes_of (g.held disk) files.segment)) × OnlyBytes files.segment (bytes_of (g.held disk) files.segment) (g.may_leave disk))
         → Did g old BeginFlush (Flushing jobs.begun files.block rows) (record old { disk = disk; state = record old.state { live = live; infos = infos; jobs = jobs } })
     did_begin empty made =
@@ -324,21 +323,14 @@ module _ {D : Type 0} (g : Ghosts D) (old : Core D) (disk : D) (files : FlushFil
           step,
         ))
         (λ told m s hold is_open stays f among. stay told m s hold is_open f among)
-        (λ told f among. own told f among)
+        (λ told f among. one_begun files.block f (IsEmptied (g.held disk) (g.may_leave disk)) (empty told) among) (λ told. tt) (λ shows h. tt)
         later (λ is. let bad : Flushing jobs.begun files.block rows ≡ Refused Fault = is in absurd cc) calls (omega (arith, reads), omega (arith, reads))
       where
         its_segment : IsTrue (g.tells old.disk) → HasFreshSegment (g.held disk) (g.may_leave disk) jobs
         its_segment told = subst (λ (k : Option OpenFlush). IfSome k (λ mine. ((first : ℕ) → SegmentHolds first [] 1 (bytes_of (g.held disk) mine.files.segment))
             × OnlyBytes mine.files.segment (bytes_of (g.held disk) mine.files.segment) (g.may_leave disk))) (sym begun.flush) (made told)
 
-        own : IsTrue (g.tells old.disk) → (f : ℕ) → is_among f (files.block ∷ []) ≡ true → bytes_of (g.held disk) f ≡ []
-        own told f among = by_test (files.block == f) refl
-          where
-            by_test : (t : _) → (files.block == f) ≡ t → bytes_of (g.held disk) f ≡ []
-            by_test true e = subst (λ (n : ℕ). bytes_of (g.held disk) n ≡ []) (same_number files.block f e) (empty told)
-            by_test false e = absurd (let bad : is_among f (files.block ∷ []) ≡ false = rw e refl in let worse : true ≡ false = sym among ∙ bad in cc)
-
-    pub did_begin_as : (number : ℕ) → number ≡ jobs.begun → (IsTrue (g.tells old.disk) → bytes_of (g.held disk) files.block ≡ [])
+    pub did_begin_as : (number : ℕ) → number ≡ jobs.begun → (IsTrue (g.tells old.disk) → IsEmptied (g.held disk) (g.may_leave disk) files.block)
         → (IsTrue (g.tells old.disk) → ((first : ℕ) → SegmentHolds first [] 1 (bytes_of (g.held disk) files.segment)) × OnlyBytes files.segment (bytes_of (g.held disk) files.segment) (g.may_leave disk))
         → Did g old BeginFlush (Flushing number files.block rows) (record old { disk = disk; state = record old.state { live = live; infos = infos; jobs = jobs } })
     did_begin_as number is empty made =
@@ -369,7 +361,7 @@ module _ {D : Type 0} (g : Ghosts D) (old : Core D) (disk : D) (files : FlushFil
         Breaks (free m s.has) refl refl rose refl,
       ))
       (λ told m s hold is_open stays f among. stay told m s hold is_open f among)
-      (λ told f among. none_begun (Refused Fault) f _ refl among)
+      (λ told f among. none_begun (Refused Fault) f _ refl among) (λ told. tt) (λ shows h. tt)
       later (λ is. rose) calls (omega (arith, reads), omega (arith, reads)))
     where
       has : (m : Machine) → HasState old.state m → HasState (record old.state { live = live; infos = infos; jobs = jobs; read_only = Some (g.faults disk) }) (broken (g.faults disk) m)

@@ -167,6 +167,8 @@ module _ {D : Type 0} (g : Ghosts D) (only_now : OnlyNow g) (old : Core D) (mid 
     tidy = λ told m s tidy. tidy_in (IsTrue (g.tells old.disk)) (λ t. t) (true_or_not (g.tells old.disk)) m s told tidy;
     files = λ told m s hold is_open goes_on f among. is.files_are Fine f _ _ (held_same told m s hold is_open f among);
     empty = λ told f among. none_begun Fine f _ refl among;
+    page = λ told. is.no_page Fine (λ f. bytes_of (g.held old.disk) f);
+    look = λ told m s. tt;
     telling = telling;
     later = risen;
     cause = λ fault. absurd (let bad : Fine ≡ Refused Fault = fault in cc);
@@ -194,6 +196,8 @@ module _ {D : Type 0} (g : Ghosts D) (only_now : OnlyNow g) (old : Core D) (mid 
     tidy = λ told m s tidy. tidy_in (IsTrue (g.tells old.disk)) (λ t. t) (true_or_not (g.tells old.disk)) m s told tidy;
     files = λ told m s hold is_open goes_on f among. is.files_are (Refused Fault) f _ _ (held_same told m s hold is_open f among);
     empty = λ told f among. none_begun (Refused Fault) f _ refl among;
+    page = λ told. is.no_page (Refused Fault) (λ f. bytes_of (g.held old.disk) f);
+    look = λ told m s. tt;
     telling = telling;
     later = risen;
     cause = λ fault. rose;

@@ -2,7 +2,7 @@
 use Rattle.std.proofs.Common.{◌≡◌, ℕ, ◌≤◌, List, Some, None, Option, IsTrue, true, refl, ◌∙◌, ap, subst, sym, arith}
 use Rattle.span_types.specs.Faults.{Rose}
 use Rattle.span_types.specs.declared.spans.Span.{Span}
-use Rattle.disk_model.specs.Images.{SameBytes}
+use Rattle.disk_model.specs.Images.{SameBytes, bytes_of}
 use Rattle.disk_model.specs.Counts.{RoseBy}
 use Rattle.disk_model.specs.Crash.{Within, Elapses, Run}
 use Rattle.disk_model.specs.declared.disk.Device.{Ghosts}
@@ -16,6 +16,7 @@ use Rattle.store_model.specs.Step.{Machine, early, broken, if_read_only, writes}
 use Rattle.store_model.specs.Step.Step.{Sure, Breaks}
 use Rattle.store_state.specs.Calls.{MadeCalls, RoseAtMost}
 use Rattle.store_state.specs.Meaning.{Rewritten, reads_of}
+use Rattle.store_state.specs.Written.{IsPageRead}
 use Rattle.store_images.specs.Stored.{KeepsStored}
 use Rattle.store_images.proofs.Keeping.{keeps_same}
 use Rattle.store_core.specs.declared.store.Core.{Core}
@@ -26,12 +27,13 @@ use Rattle.store_core.proofs.PushEvents.{OnlyNow, refused_is}
 use Rattle.store_core.proofs.Quiet.{quiet, none_begun}
 use Rattle.store_core.proofs.States.{has_stopped}
 
--- It writes, answers no batch, changes no file of what is open, and makes seven calls at most and none once the store is read-only.
+-- It writes, answers no batch and no page, changes no file of what is open, and makes seven calls at most and none once the store is read-only.
 pub record IsCommit (event : Event) : Type 0 where
   pub early_is : (m : Machine) → early m event ≡ if_read_only m.read_only None
   pub writes_is : (u : State) → writes u event ≡ true
   pub unsure_is : (reply : Reply) (unsure : Option (List Span)) → unsure_after event reply unsure ≡ unsure
   pub files_are : (reply : Reply) (file : ℕ) (old new : List ℕ) → new ≡ old → Rewritten event reply file old new
+  pub no_page : (reply : Reply) (shows : ℕ → List ℕ) → IsPageRead event reply shows
   pub calls_none : (faults n : ℕ) → MadeCalls event (Refused (ReadOnly faults)) n n
   pub calls_done : (old new : ℕ) → RoseAtMost 7 old new → MadeCalls event Fine old new
   pub calls_failed : (old new : ℕ) → RoseAtMost 7 old new → MadeCalls event (Refused Fault) old new
@@ -43,6 +45,7 @@ flush_commits number size = record {
   writes_is = λ u. refl;
   unsure_is = λ reply unsure. refl;
   files_are = λ reply file old new is. is;
+  no_page = λ reply shows. tt;
   calls_none = λ faults n. refl;
   calls_done = λ old new rose. rose;
   calls_failed = λ old new rose. rose;
@@ -55,6 +58,7 @@ compact_commits number size = record {
   writes_is = λ u. refl;
   unsure_is = λ reply unsure. refl;
   files_are = λ reply file old new is. is;
+  no_page = λ reply shows. tt;
   calls_none = λ faults n. refl;
   calls_done = λ old new rose. rose;
   calls_failed = λ old new rose. rose;
@@ -65,7 +69,7 @@ compact_commits number size = record {
 pub no_commit : {D : Type 0} (g : Ghosts D) (only_now : OnlyNow g) (old : Core D) (event : Event) (is : IsCommit event) (faults : ℕ) → old.state.read_only ≡ Some faults
     → Did g old event (Refused (ReadOnly faults)) (record old { state = old.state })
 no_commit g only_now old event is faults stopped =
-    quiet g only_now old old.state event (Refused (ReadOnly faults)) (λ f b. is.files_are (Refused (ReadOnly faults)) f b b refl) (λ e. let bad = refused_is (ReadOnly faults) Fault e in cc) (is.calls_none faults) refl refl
+    quiet g only_now old old.state event (Refused (ReadOnly faults)) (λ f b. is.files_are (Refused (ReadOnly faults)) f b b refl) (λ e. let bad = refused_is (ReadOnly faults) Fault e in cc) (is.calls_none faults) refl refl (is.no_page (Refused (ReadOnly faults))) (λ told m s. tt)
     (λ told m stands. (m, stands, refl, Sure (is.early_is m ∙ ap (λ (r : Option ℕ). if_read_only r None) (stands.has.read_only ∙ stopped)) refl))
 
 -- the block wasn't synced
@@ -103,5 +107,5 @@ module _ {D : Type 0} (g : Ghosts D) (only_now : OnlyNow g) (old : Core D) (disk
         Breaks (can m s.has) (is.writes_is m.state) refl rose refl,
       ))
       (λ told m s hold is_open stays f among. is.files_are (Refused Fault) f _ _ (same told f))
-      (λ told f among. none_begun (Refused Fault) f _ refl among)
+      (λ told f among. none_begun (Refused Fault) f _ refl among) (λ told. is.no_page (Refused Fault) (λ f. bytes_of (g.held old.disk) f)) (λ shows h. tt)
       later (λ fault. rose) (is.calls_failed _ _ (calls.later, (let most = calls.at_most in omega (arith, most)))) (is.reads_none _ _ (omega (arith, reads), omega (arith, reads))))

@@ -26,7 +26,7 @@ use Rattle.store_state.specs.Calls.{MadeCalls, RoseAtMost}
 use Rattle.store_state.specs.Given.{info_files}
 use Rattle.store_images.specs.Stored.{KeepsStored}
 use Rattle.store_images.proofs.Keeping.{keeps_same}
-use Rattle.store_core.specs.Files.{SameBelow}
+use Rattle.store_core.specs.Files.{SameBelow, IsEmptied}
 use Rattle.store_core.specs.Pins.{is_taken, is_there, files_at, files_in, pin_at}
 use Rattle.store_core.specs.Jobs.{ShowsCompaction, CommitFits, HasFreshSegment, SameFlush, open_jobs}
 use Rattle.store_core.specs.Beginning.{KeepsRooms}
@@ -47,7 +47,7 @@ use Rattle.store_core.proofs.Logged.{logged_kept}
 use Rattle.store_core.proofs.OpenJobs.{fresh_moved, segment_of_known, held_low}
 use Rattle.store_core.proofs.PinNumbers.{among-more, files-more}
 use Rattle.store_core.proofs.PushEvents.{OnlyNow, refused_is}
-use Rattle.store_core.proofs.Quiet.{quiet, none_begun}
+use Rattle.store_core.proofs.Quiet.{quiet, none_begun, one_begun}
 use Rattle.store_core.proofs.States.{has_stopped}
 
 -- ---- what is tested first
@@ -93,13 +93,13 @@ refused_calls _ no_fault n = refl
 pub did_not_compact : {D : Type 0} (g : Ghosts D) (only_now : OnlyNow g) (old : Core D) (why : Refusal) → ((m : Machine) → HasState old.state m → early m BeginCompact ≡ Some (Refused why)) → why ≢ Fault
     → Did g old BeginCompact (Refused why) (record old { state = old.state })
 did_not_compact g only_now old why is no_fault =
-    quiet g only_now old old.state BeginCompact (Refused why) (λ file bytes. refl) (λ e. no_fault (refused_is why Fault e)) (refused_calls why no_fault) refl refl
+    quiet g only_now old old.state BeginCompact (Refused why) (λ file bytes. refl) (λ e. no_fault (refused_is why Fault e)) (refused_calls why no_fault) refl refl (λ shows. tt) (λ told m s. tt)
     (λ told m s. (m, s, refl, Sure (is m s.has) refl))
 
 pub did_choose_none : {D : Type 0} (g : Ghosts D) (only_now : OnlyNow g) (old : Core D) → ((m : Machine) → HasState old.state m → early m BeginCompact ≡ Some Nothing)
     → Did g old BeginCompact Nothing (record old { state = old.state })
 did_choose_none g only_now old is =
-    quiet g only_now old old.state BeginCompact Nothing (λ file bytes. refl) (λ e. let bad : Nothing ≡ Refused Fault = e in cc) (λ n. refl) refl refl
+    quiet g only_now old old.state BeginCompact Nothing (λ file bytes. refl) (λ e. let bad : Nothing ≡ Refused Fault = e in cc) (λ n. refl) refl refl (λ shows. tt) (λ told m s. tt)
     (λ told m s. (m, s, refl, Sure (is m s.has) refl))
 
 -- ---- memory was taken
@@ -141,7 +141,7 @@ pub did_lack_compact : {D : Type 0} (g : Ghosts D) (only_now : OnlyNow g) (old :
     → ((m : Machine) → HasState old.state m → early m BeginCompact ≡ None) → KeepsRooms old.state.list old.state.infos infos old.state.jobs jobs → SamePins old.state.pins.items pins.items
     → Did g old BeginCompact (Refused Memory) (record old { state = record old.state { infos = infos; jobs = jobs; pins = pins } })
 did_lack_compact {D} g only_now old infos jobs pins free kept same =
-    quiet g only_now old (record old.state { infos = infos; jobs = jobs; pins = pins }) BeginCompact (Refused Memory) (λ file bytes. refl) (λ e. let bad = refused_is Memory Fault e in cc) (λ n. refl) refl refl
+    quiet g only_now old (record old.state { infos = infos; jobs = jobs; pins = pins }) BeginCompact (Refused Memory) (λ file bytes. refl) (λ e. let bad = refused_is Memory Fault e in cc) (λ n. refl) refl refl (λ shows. tt) (λ told m s. tt)
     (λ told m s.
     let step : Step (g.faults old.disk) (g.faults old.disk) m BeginCompact (Refused Memory) m = Lacks (free m s.has) refl refl refl in (
       m,
@@ -309,14 +309,7 @@ module _ {D : Type 0} (g : Ghosts D) (old : Core D) (disk : D) (writes : old.sta
           refl,
         )
 
-    own : (IsTrue (g.tells old.disk) → bytes_of (g.held disk) file ≡ []) → IsTrue (g.tells old.disk) → (f : ℕ) → is_among f (file ∷ []) ≡ true → bytes_of (g.held disk) f ≡ []
-    own empty told f among = by_test (file == f) refl
-      where
-        by_test : (t : _) → (file == f) ≡ t → bytes_of (g.held disk) f ≡ []
-        by_test true e = subst (λ (n : ℕ). bytes_of (g.held disk) n ≡ []) (same_number file f e) (empty told)
-        by_test false e = absurd (let bad : is_among f (file ∷ []) ≡ false = rw e refl in let worse : true ≡ false = sym among ∙ bad in cc)
-
-    pub did_compact : (IsTrue (g.tells old.disk) → bytes_of (g.held disk) file ≡ [])
+    pub did_compact : (IsTrue (g.tells old.disk) → IsEmptied (g.held disk) (g.may_leave disk) file)
         → Did g old BeginCompact (Compacting jobs.begun file level pin files) (record old { disk = disk; state = record old.state { infos = infos; jobs = jobs; pins = pins } })
     did_compact empty =
         did_kept g old disk (record old.state { infos = infos; jobs = jobs; pins = pins }) BeginCompact (Compacting jobs.begun file level pin files) telling run_keeps refl refl
@@ -334,7 +327,7 @@ module _ {D : Type 0} (g : Ghosts D) (old : Core D) (disk : D) (writes : old.sta
           step,
         ))
         (λ told m s hold is_open stays f among. stay told m s hold is_open f among)
-        (λ told f among. own empty told f among)
+        (λ told f among. one_begun file f (IsEmptied (g.held disk) (g.may_leave disk)) (empty told) among) (λ told. tt) (λ shows h. tt)
         later (λ is. let bad : Compacting jobs.begun file level pin files ≡ Refused Fault = is in absurd cc) calls (omega (arith, reads), omega (arith, reads))
 
   pub did_compact_fail : (infos : Vec InfoParts Global) (jobs : Jobs) (pins : Vec (Option (List ℕ)) Global) (faults : ℕ) → faults ≡ g.faults disk → Rose (g.faults old.disk) (g.faults disk)
@@ -361,7 +354,7 @@ module _ {D : Type 0} (g : Ghosts D) (old : Core D) (disk : D) (writes : old.sta
         Breaks (free m s.has) refl refl rose refl,
       ))
       (λ told m s hold is_open stays f among. stay told m s hold is_open f among)
-      (λ told f among. none_begun (Refused Fault) f _ refl among)
+      (λ told f among. none_begun (Refused Fault) f _ refl among) (λ told. tt) (λ shows h. tt)
       later (λ is. rose) calls (omega (arith, reads), omega (arith, reads)))
     where
       has : (m : Machine) → HasState old.state m → HasState (record old.state { infos = infos; jobs = jobs; pins = pins; read_only = Some (g.faults disk) }) (broken (g.faults disk) m)

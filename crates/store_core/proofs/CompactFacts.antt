@@ -1,6 +1,5 @@
 -- Where a compaction's commit may be made: what the core stands for, once the block was synced, and the rows of the new block.
 use Rattle.std.proofs.Common.{◌≡◌, ◌⊎◌, inl, inr, ℕ, ◌<◌, ◌≤◌, Bool, true, false, List, [], ◌∷◌, ◌++◌, length, Some, None, Option, if◌then◌else◌, refl, sym, ◌∙◌, ap, subst, arith}
-use Rattle.std.specs.Prelude.{drop}
 use Rattle.std.specs.List.{Contains, flat_map}
 use Rattle.span_types.specs.declared.spans.Row.{Row}
 use Rattle.span_types.specs.First.{IsFirstOf}
@@ -26,6 +25,7 @@ use Rattle.store_core.specs.InUse.{AreInUse}
 use Rattle.store_core.specs.NextList.{IsJoinedList}
 use Rattle.store_core.specs.declared.state.CoreState.{CoreState}
 use Rattle.store_core.proofs.Apart.{below_same, settled_below}
+use Rattle.store_core.proofs.Described.{described_holds}
 use Rattle.store_core.proofs.CompactStates.{joined_block, joined_state}
 use Rattle.store_core.proofs.InUse.{once_contained}
 use Rattle.store_core.proofs.NextLists.{NamesState, uses_are}
@@ -33,19 +33,6 @@ use Rattle.store_core.proofs.OpenCompactions.{IsCompactionHere, model_of, spare_
 use Rattle.store_core.proofs.Spare.{spare_low}
 
 -- ---- the rows of the blocks that are joined
-
-front_same : (a b : ℕ) (xs ys : List ℕ) → a ∷ xs ≡ b ∷ ys → a ≡ b
-front_same a b xs ys is = cc
-
-described_holds : (bytes : ℕ → List ℕ) (infos : List InfoParts) (blocks : List Block) → info_files infos ≡ block_files blocks → AreBlocksOf bytes infos (rows_by_block blocks)
-    → HoldRows bytes (block_files blocks) (rows_by_block blocks)
-described_holds bytes [] [] same was = tt
-described_holds bytes [] (b ∷ bs) same was = absurd was
-described_holds bytes (i ∷ is) [] same was = absurd was
-described_holds bytes (i ∷ is) (b ∷ bs) same was = (
-  subst (λ (n : ℕ). BlockHolds (bytes n) b.rows) (front_same i.file b.file (info_files is) (block_files bs) same) (record { header = was.0.header; parts = was.0.parts }),
-  described_holds bytes is bs (ap (drop 1) same) was.1,
-)
 
 holds_inside : (bytes : ℕ → List ℕ) (files : List ℕ) (blocks : List Block) → HoldRows bytes (block_files blocks) (rows_by_block blocks)
     → HoldRows bytes (block_files (in_files files blocks)) (rows_by_block (in_files files blocks))

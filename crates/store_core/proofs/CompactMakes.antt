@@ -25,7 +25,7 @@ use Rattle.store_state.specs.Replies.{begin_refusal}
 use Rattle.store_state.specs.declared.errors.BeginError.{BeginError}
 use Rattle.store_state.specs.declared.errors.BeginError.TheVariants.{ReadOnly as IsReadOnly, Busy as IsBusy, FilesSpent as AreSpent, Fault as Failed, Memory as Lacking}
 use Rattle.store_state.specs.declared.jobs.Pin.{Pin}
-use Rattle.store_core.specs.Files.{SameBelow}
+use Rattle.store_core.specs.Files.{SameBelow, IsEmptied}
 use Rattle.store_core.specs.Pins.{is_taken, files_at}
 use Rattle.store_core.specs.Jobs.{CommitFits, SameJobs, SameFlush}
 use Rattle.store_core.specs.Beginning.{MayCompact, HasRoomStill, HasRoomToBegin, IsMade, IsNotMade, at_places}
@@ -117,7 +117,7 @@ module _ {D : Type 0} (g : Ghosts D) (old : Core D) (disk : D) (chosen : List �
 
   pub did_made : (jobs : Jobs) (number : ℕ) → number ≡ jobs.begun → jobs.begun ≡ min (mid.jobs.begun + 1) (2 ^ 64 - 1) → jobs.next_file ≡ mid.jobs.next_file + 1
       → jobs.compaction ≡ Some (record { number = jobs.begun; file = mid.jobs.next_file; level = level; pin = pin.number; room = Some room }) → (jobs.loose ≡ mid.jobs.loose) × (jobs.flush ≡ mid.jobs.flush)
-      → Picks old.state.list.blocks chosen → ChoiceIsFew → (IsTrue (g.tells old.disk) → bytes_of (g.held disk) mid.jobs.next_file ≡ [])
+      → Picks old.state.list.blocks chosen → ChoiceIsFew → (IsTrue (g.tells old.disk) → IsEmptied (g.held disk) (g.may_leave disk) mid.jobs.next_file)
       → Did g old BeginCompact (Compacting number mid.jobs.next_file level pin.number (info_files pin.blocks)) (record old { disk = disk; state = record mid { jobs = jobs } })
   did_made jobs number is now next compaction still picks few empty =
       subst (λ (s : CoreState). Did g old BeginCompact (Compacting number mid.jobs.next_file level pin.number (info_files pin.blocks)) (record old { disk = disk; state = record s { jobs = jobs } })) (sym made.still.is)
@@ -127,7 +127,7 @@ module _ {D : Type 0} (g : Ghosts D) (old : Core D) (disk : D) (chosen : List �
       (begun_after old.state.jobs mid.jobs jobs level pin.number old.state.list mid.infos room made.still.keeps.same made.has_room now next compaction still)
       (pins_made old.state mid chosen level pin room made)
       (choice_made old.state chosen level pin.blocks made.blocks made.its_level picks may few)
-      (λ told. subst (λ (f : ℕ). bytes_of (g.held disk) f ≡ []) same_file (empty told)))))
+      (λ told. subst (λ (f : ℕ). IsEmptied (g.held disk) (g.may_leave disk) f) same_file (empty told)))))
 
   pub did_made_fail : (pins : Vec (Option (List ℕ)) Global) (faults : ℕ) → faults ≡ g.faults disk → Rose (g.faults old.disk) (g.faults disk)
       → ((other : ℕ) → is_taken other pins.items ≡ (is_taken other mid.pins.items && not (pin.number == other)))

@@ -15,6 +15,7 @@ use Rattle.store_model.specs.Step.{Machine, Step, IsCut, Happens, early, takes_m
 use Rattle.store_model.specs.Step.Step.{Succeeds, Lacks}
 use Rattle.store_state.specs.Calls.{MadeCalls}
 use Rattle.store_state.specs.Meaning.{Rewritten}
+use Rattle.store_state.specs.Written.{IsPageRead}
 use Rattle.store_state.specs.Replies.{count_reply}
 use Rattle.store_core.specs.declared.state.CoreState.{CoreState}
 use Rattle.store_core.specs.declared.store.Core.{Core}
@@ -65,6 +66,7 @@ pub record IsACut (event : Event) (goes : List LiveRow → LiveRow → Bool) : T
   pub takes : takes_memory event ≡ true
   pub happens : (m m' : Machine) (r : Reply) → IsCut (goes m.state.live) m r m' → Happens m event r m'
   pub still : (reply : Reply) (file : ℕ) (bytes : List ℕ) → Rewritten event reply file bytes bytes
+  pub page : (reply : Reply) (shows : ℕ → List ℕ) → IsPageRead event reply shows
   pub calls : (result : Result ℕ Memory) (n : ℕ) → MadeCalls event (count_reply result) n n
 
 cut_calls : (moment : ℕ) (result : Result ℕ Memory) (n : ℕ) → MadeCalls (Cut moment) (count_reply result) n n
@@ -76,17 +78,17 @@ cut_all_calls (Ok k) n = refl
 cut_all_calls (Err e) n = refl
 
 pub is_cut : (moment : ℕ) → IsACut (Cut moment) (is_idle moment)
-is_cut moment = record { free = λ m. refl; takes = refl; happens = λ m m' r cut. cut; still = λ reply file bytes. refl; calls = cut_calls moment }
+is_cut moment = record { free = λ m. refl; takes = refl; happens = λ m m' r cut. cut; still = λ reply file bytes. refl; page = λ reply shows. tt; calls = cut_calls moment }
 
 pub is_cut_all : IsACut CutAll (λ live entry. true)
-is_cut_all = record { free = λ m. refl; takes = refl; happens = λ m m' r cut. cut; still = λ reply file bytes. refl; calls = cut_all_calls }
+is_cut_all = record { free = λ m. refl; takes = refl; happens = λ m m' r cut. cut; still = λ reply file bytes. refl; page = λ reply shows. tt; calls = cut_all_calls }
 
 pub did_cut : {D : Type 0} (g : Ghosts D) (only_now : OnlyNow g) (old : Core D) (live : LiveParts) (event : Event) (goes : List LiveRow → LiveRow → Bool) (result : Result ℕ Memory)
     → IsACut event goes → IfOk result (λ count. Moves goes old.state.live.live old.state.live live count)
     → OnErr result ((live.live ≡ old.state.live.live) × (live.head ≡ old.state.live.head)) → live.flushing ≡ old.state.live.flushing
     → Did g old event (count_reply result) (record old { state = record old.state { live = live } })
 did_cut {D} g only_now old live event goes (Ok n) is moved same flushing =
-    quiet g only_now old (record old.state { live = live }) event (Count n) (is.still (Count n)) (λ e. let bad : Count n ≡ Refused Fault = e in cc) (is.calls (Ok n)) refl refl
+    quiet g only_now old (record old.state { live = live }) event (Count n) (is.still (Count n)) (λ e. let bad : Count n ≡ Refused Fault = e in cc) (is.calls (Ok n)) refl refl (is.page (Count n)) (λ told m s. tt)
     (λ told m stands.
     let cut = subst (λ (l : List LiveRow). Moves goes l old.state.live live n) (sym stands.has.live) moved in
     let u = after_cut (goes m.state.live) cut.0 m.state in
@@ -98,7 +100,7 @@ did_cut {D} g only_now old live event goes (Ok n) is moved same flushing =
       step,
     ))
 did_cut {D} g only_now old live event goes (Err e) is moved same flushing =
-    quiet g only_now old (record old.state { live = live }) event (Refused IsMemory) (is.still (Refused IsMemory)) (λ e. let bad = refused_is IsMemory Fault e in cc) (is.calls (Err e)) refl refl
+    quiet g only_now old (record old.state { live = live }) event (Refused IsMemory) (is.still (Refused IsMemory)) (λ e. let bad = refused_is IsMemory Fault e in cc) (is.calls (Err e)) refl refl (is.page (Refused IsMemory)) (λ told m s. tt)
     (λ told m stands. (
       m,
       stands_lacking told (g.held old.disk) (g.may_leave old.disk) old.state live m (record { live = same.0; head = same.1; flushing = flushing }) stands,

@@ -4,11 +4,12 @@ use Rattle.std.specs.Prelude.{drop}
 use Rattle.std.specs.List.{Contains}
 use Rattle.disk_model.specs.Images.{Image, bytes_of}
 use Rattle.block_info.specs.InfoParts.{InfoParts}
-use Rattle.block_format.specs.Blocks.{BlockHasInfo}
+use Rattle.block_format.specs.Blocks.{BlockHasInfo, BlockHolds}
 use Rattle.store_model.specs.State.{Block, block_files}
 use Rattle.store_state.specs.Given.{info_files}
+use Rattle.store_state.specs.Written.{AreBlocksOf, HoldRows}
 use Rattle.store_images.proofs.Lists.{at_front, behind}
-use Rattle.store_core.specs.Cores.{AreDescribed}
+use Rattle.store_core.specs.Cores.{AreDescribed, rows_by_block}
 
 abbrev front : List ℕ → ℕ
 front [] = 0
@@ -30,3 +31,14 @@ described_same a b (i ∷ is) (x ∷ xs) files same was =
 pub none_described : (held : Image) (infos : List InfoParts) → info_files infos ≡ [] → AreDescribed held infos []
 none_described held [] none = tt
 none_described held (i ∷ is) none = absurd (let bad : i.file ∷ info_files is ≡ [] = none in cc)
+
+-- their files hold their rows
+pub described_holds : (bytes : ℕ → List ℕ) (infos : List InfoParts) (blocks : List Block) → info_files infos ≡ block_files blocks → AreBlocksOf bytes infos (rows_by_block blocks)
+    → HoldRows bytes (block_files blocks) (rows_by_block blocks)
+described_holds bytes [] [] same was = tt
+described_holds bytes [] (b ∷ bs) same was = absurd was
+described_holds bytes (i ∷ is) [] same was = absurd was
+described_holds bytes (i ∷ is) (b ∷ bs) same was = (
+  subst (λ (n : ℕ). BlockHolds (bytes n) b.rows) (ap front same) (record { header = was.0.header; parts = was.0.parts }),
+  described_holds bytes is bs (ap (drop 1) same) was.1,
+)

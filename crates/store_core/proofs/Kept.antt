@@ -18,10 +18,12 @@ use Rattle.store_model.proofs.KeepsSound.{step_keeps as keeps_sound}
 use Rattle.store_model.proofs.KeepsFloor.{step_keeps as keeps_floor}
 use Rattle.store_state.specs.Meaning.{Rewritten, reads_of}
 use Rattle.store_state.specs.Calls.{MadeCalls, RoseAtMost}
+use Rattle.store_state.specs.Shown.{IsLookTaken}
+use Rattle.store_state.specs.Written.{IsPageRead}
 use Rattle.store_images.specs.Stored.{MayStandFor, IsTidy, KeepsStored}
 use Rattle.store_images.specs.Settled.{IsSettled}
 use Rattle.store_images.proofs.Keeping.{block_named, given_out}
-use Rattle.store_core.specs.Files.{SameBelow}
+use Rattle.store_core.specs.Files.{SameBelow, IsEmptied}
 use Rattle.store_core.specs.Jobs.{HasFreshSegment}
 use Rattle.store_core.specs.Waiting.{rows_outside, AreLogged}
 use Rattle.store_core.specs.declared.state.CoreState.{CoreState}
@@ -67,11 +69,12 @@ pub did_kept : {D : Type 0} (g : Ghosts D) (old : Core D) (disk : D) (state : Co
     → ((m : Machine) → CoreShows g old m → (m' : Machine) × CoreShows g (record old { disk = disk; state = state }) m' × Step (g.faults old.disk) (g.faults disk) m event reply m')
     → (IsTrue (g.tells old.disk) → (m : Machine) → CoreShows g old m → (hold : Hold) → OpenIn m hold → ends event reply hold ≡ false → (file : ℕ) → is_among file (files_of hold) ≡ true
     → Rewritten event reply file (bytes_of (g.held old.disk) file) (bytes_of (g.held disk) file))
-    → (IsTrue (g.tells old.disk) → (file : ℕ) → is_among file (own_files reply) ≡ true → bytes_of (g.held disk) file ≡ [])
+    → (IsTrue (g.tells old.disk) → (file : ℕ) → is_among file (own_files reply) ≡ true → IsEmptied (g.held disk) (g.may_leave disk) file)
+    → (IsTrue (g.tells old.disk) → IsPageRead event reply (λ file. bytes_of (g.held old.disk) file)) → ((shows : ℕ → List ℕ) (h : History) → IsLookTaken reply shows h)
     → g.faults old.disk ≤ g.faults disk → (reply ≡ Refused Fault → Rose (g.faults old.disk) (g.faults disk)) → MadeCalls event reply (g.calls old.disk) (g.calls disk)
     → RoseAtMost (reads_of event) (g.reads old.disk) (g.reads disk)
     → Did g old event reply (record old { disk = disk; state = state })
-did_kept {D} g old disk state event reply telling run unsure same stands shows files empty later cause calls reads = record {
+did_kept {D} g old disk state event reply telling run unsure same stands shows files empty page look later cause calls reads = record {
   stepped = λ m s.
       let after = stands m s in record {
         machine = after.0;
@@ -86,6 +89,8 @@ did_kept {D} g old disk state event reply telling run unsure same stands shows f
   tidy = λ told m s tidy. widened g.moment g.left_since old.disk disk (Reached KeepsStored (g.may_leave old.disk)) IsTidy (run told m s).since (λ image from. from.2.tidy (tidy from.0 from.1));
   files = files;
   empty = empty;
+  page = page;
+  look = λ told m stands. look (λ file. bytes_of (g.held disk) file) m.history;
   telling = telling;
   later = later;
   cause = cause;

@@ -49,6 +49,7 @@ mod PortEvents
 pub mod LogSteps
 mod LooseFiles
 mod Spare
+mod Rising
 mod PinnedFiles
 mod ReclaimImages
 mod ReclaimStates

@@ -1,5 +1,5 @@
 -- Looks as events of a core.
-use Rattle.std.proofs.Common.{◌≡◌, ℕ, ◌+◌, ◌≤◌, ◌==◌, false, not, List, [], ◌++◌, Option, length, if◌then◌else◌, refl, sym, ◌∙◌, ap}
+use Rattle.std.proofs.Common.{◌≡◌, ℕ, ◌+◌, ◌-◌, ◌^◌, ◌≤◌, ◌==◌, min, IsTrue, false, not, List, [], ◌++◌, Option, length, if◌then◌else◌, refl, sym, ◌∙◌, ap, arith}
 use Rattle.std.specs.Prelude.{◌||◌, ◌&&◌}
 use Rattle.std.specs.Prelude.{Vec}
 use Rattle.std.specs.declared.alloc.Global.{Global}
@@ -21,6 +21,7 @@ use Rattle.store_core.specs.Cores.{HasState, CoreShows}
 use Rattle.store_core.specs.Events.{Did}
 use Rattle.store_core.proofs.Quiet.{quiet}
 use Rattle.store_core.proofs.PushEvents.{OnlyNow, refused_is}
+use Rattle.store_core.proofs.Showing.{look_taken}
 use Rattle.store_core.proofs.Looking.{stands_stepped, step_looked, shown_more, look_open, step_done, shown_less}
 
 held_is : (core : CoreState) (m : Machine) → HasState core m → length core.live.flushing + length core.live.head + length core.live.live ≡ held_of m.state
@@ -33,18 +34,22 @@ pub did_held : {D : Type 0} (g : Ghosts D) (only_now : OnlyNow g) (old : Core D)
     → held ≡ length old.state.live.flushing + length old.state.live.head + length old.state.live.live
     → Did g old Held (Count held) (record old { state = old.state })
 did_held g only_now old held is =
-    quiet g only_now old old.state Held (Count held) (λ file bytes. refl) (λ e. let bad : Count held ≡ Refused Fault = e in cc) (λ n. refl) refl refl
+    quiet g only_now old old.state Held (Count held) (λ file bytes. refl) (λ e. let bad : Count held ≡ Refused Fault = e in cc) (λ n. refl) refl refl (λ shows. tt) (λ told m s. tt)
     (λ told m stands. (m, stands, refl, Succeeds refl (ap Count (is ∙ held_is old.state m stands.has), refl)))
 
 pub did_looked : {D : Type 0} (g : Ghosts D) (only_now : OnlyNow g) (old : Core D) (pins : Vec (Option (List ℕ)) Global) (number as_of : ℕ) (files : List ℕ) (rows : List Row)
-    → ((m : Machine) → HasState old.state m → as_of ≡ count_of m.history) → files ≡ info_files old.state.infos.items
+    → ((m : Machine) → HasState old.state m → as_of ≡ count_of m.history) → as_of ≡ min (old.state.segment.first + old.state.segment.count) (2 ^ 64 - 1) → files ≡ info_files old.state.infos.items
     → rows ≡ old.state.live.flushing ++ old.state.live.head ++ live_rows old.state.live.live
     → is_taken number old.state.pins.items ≡ false → ((other : ℕ) → is_taken other old.state.pins.items ≡ false → number ≤ other)
     → ((other : ℕ) → is_taken other pins.items ≡ (is_taken other old.state.pins.items || (number == other)))
     → ((other : ℕ) → files_at other pins.items ≡ (if number == other then files else files_at other old.state.pins.items))
     → Did g old Look (Looked number files as_of rows) (record old { state = record old.state { pins = pins } })
-did_looked {D} g only_now old pins number as_of files rows length_is listed is free least taken named =
-    quiet g only_now old (record old.state { pins = pins }) Look (Looked number files as_of rows) (λ file bytes. refl) (λ e. let bad : Looked number files as_of rows ≡ Refused Fault = e in cc) (λ n. refl) refl refl
+did_looked {D} g only_now old pins number as_of files rows length_is sum listed is free least taken named =
+    quiet g only_now old (record old.state { pins = pins }) Look (Looked number files as_of rows) (λ file bytes. refl) (λ e. let bad : Looked number files as_of rows ≡ Refused Fault = e in cc) (λ n. refl) refl refl (λ shows. tt)
+    (λ told m s.
+    let few = s.has.few in
+    let whole : as_of ≡ old.state.segment.first + old.state.segment.count = omega (arith, sum, few) in
+    look_taken (IsTrue (g.tells old.disk)) (g.held old.disk) (g.may_leave old.disk) (record old.state { pins = pins }) m number as_of files rows told s listed whole is)
     (λ told m stands.
     let step = step_looked old.state m (g.faults old.disk) (g.faults old.disk) number as_of files rows stands.has (length_is m stands.has) (listed ∙ stands.has.infos) is free least in (
       with_state (after_look number m.state) m,
@@ -59,7 +64,7 @@ pub did_look_lacking : {D : Type 0} (g : Ghosts D) (only_now : OnlyNow g) (old :
     → ((other : ℕ) → files_at other pins.items ≡ files_at other old.state.pins.items)
     → Did g old Look (Refused Memory) (record old { state = record old.state { pins = pins } })
 did_look_lacking {D} g only_now old pins same same_files =
-    quiet g only_now old (record old.state { pins = pins }) Look (Refused Memory) (λ file bytes. refl) (λ e. let bad = refused_is Memory Fault e in cc) (λ n. refl) refl refl
+    quiet g only_now old (record old.state { pins = pins }) Look (Refused Memory) (λ file bytes. refl) (λ e. let bad = refused_is Memory Fault e in cc) (λ n. refl) refl refl (λ shows. tt) (λ told m s. tt)
     (λ told m stands.
     let step : Step (g.faults old.disk) (g.faults old.disk) m Look (Refused Memory) (with_state m.state m) = Lacks refl refl refl refl in (
       with_state m.state m,
@@ -75,7 +80,7 @@ pub did_done : {D : Type 0} (g : Ghosts D) (only_now : OnlyNow g) (old : Core D)
     → ((other : ℕ) → files_at other pins.items ≡ (if number == other then [] else files_at other old.state.pins.items))
     → Did g old (Done number) Fine (record old { state = record old.state { pins = pins } })
 did_done {D} g only_now old pins number is_open taken named =
-    quiet g only_now old (record old.state { pins = pins }) (Done number) Fine (λ file bytes. refl) (λ e. let bad : Fine ≡ Refused Fault = e in cc) (λ n. refl) refl refl
+    quiet g only_now old (record old.state { pins = pins }) (Done number) Fine (λ file bytes. refl) (λ e. let bad : Fine ≡ Refused Fault = e in cc) (λ n. refl) refl refl (λ shows. tt) (λ told m s. tt)
     (λ told m stands.
     let step = step_done m (g.faults old.disk) (g.faults old.disk) number (look_open old.state is_open.0 m number is_open.1.has stands.has is_open.2) in (
       with_state (after_done number m.state) m,

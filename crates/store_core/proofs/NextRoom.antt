@@ -33,7 +33,7 @@ pub record IsMade (list : ListBody) (jobs : Jobs) (block : BlockRef) (last : Seg
   pub few : length body.segments + length body.loose ≡ length list.segments + 1 + vec_len jobs.loose + one_if jobs.compaction
   pub size : length (text_of body) ≤ room
 
-pub made : (list : ListBody) (jobs : Jobs) (block : BlockRef) (last : SegmentRef) (floor room generation : ℕ) (next : Listing) (other : Option ℕ) (body : ListBody)
+made : (list : ListBody) (jobs : Jobs) (block : BlockRef) (last : SegmentRef) (floor room generation : ℕ) (next : Listing) (other : Option ℕ) (body : ListBody)
     → body ≡ listed_body generation next None other → compaction_part other ≡ files_of_compaction jobs.compaction
     → generation ≡ successor list.generation → next.next_file ≡ jobs.next_file → next.floor ≡ floor
     → next.blocks.items ≡ list.blocks ++ block ∷ [] → map segment_of next.segments.items ≡ staying floor (map segment_of (list.segments ++ last ∷ []))
@@ -78,13 +78,33 @@ made list jobs block last floor room generation next other body is its_file its_
     text : length (text_of body) ≡ 29 + 12 * length body.segments + 9 * length body.blocks + 4 * length body.loose
     text = length-text body
 
+-- the same from copies of the lists that it is made of
+pub made_of : (list : ListBody) (jobs : Jobs) (block : BlockRef) (last : SegmentRef) (floor room generation : ℕ) (next : Listing) (other : Option ℕ) (body : ListBody) {bs : List BlockRef} {ss : List SegmentRef} {ls : List ℕ}
+    → bs ≡ list.blocks → ss ≡ list.segments → ls ≡ jobs.loose.items
+    → body ≡ listed_body generation next None other → compaction_part other ≡ files_of_compaction jobs.compaction
+    → generation ≡ successor list.generation → next.next_file ≡ jobs.next_file → next.floor ≡ floor
+    → next.blocks.items ≡ bs ++ block ∷ [] → map segment_of next.segments.items ≡ staying floor (map segment_of (ss ++ last ∷ []))
+    → next.loose.items ≡ ls ++ released floor (map segment_of (ss ++ last ∷ []))
+    → length next.segments.items + length next.loose.items ≡ length ss + 1 + length ls
+    → 29 + 12 * (length list.segments + (1 + one_if jobs.compaction)) + 9 * (length list.blocks + (1 + one_if jobs.compaction)) + 4 * (vec_len jobs.loose + 2 * (1 + one_if jobs.compaction)) ≤ room
+    → IsMade list jobs block last floor room body
+made_of list jobs block last floor room generation next other body {bs} {ss} {ls} its_blocks its_segments its_loose is its_file its_generation its_next_file its_floor blocks segments loose each fits =
+    let segment_len = ap (λ (l : List SegmentRef). length l) its_segments in
+    let loose_len = ap (λ (l : List ℕ). length l) its_loose in
+    made list jobs block last floor room generation next other body is its_file its_generation its_next_file its_floor
+    (blocks ∙ ap (λ (l : List BlockRef). l ++ block ∷ []) its_blocks)
+    (segments ∙ ap (λ (l : List SegmentRef). staying floor (map segment_of (l ++ last ∷ []))) its_segments)
+    (loose ∙ ap (λ (l : List ℕ). l ++ released floor (map segment_of (ss ++ last ∷ []))) its_loose
+    ∙ ap (λ (l : List SegmentRef). jobs.loose.items ++ released floor (map segment_of (l ++ last ∷ []))) its_segments)
+    (omega (arith, each, segment_len, loose_len)) fits
+
 -- what a compaction's commit makes
 pub record IsJoined (list : ListBody) (jobs : Jobs) (joined : List ℕ) (block : BlockRef) (room : ℕ) (body : ListBody) : Type 0 where
   pub after : IsListJoined list jobs.next_file jobs.loose.items joined block (files_of_flush jobs.flush) body
   pub few : length body.blocks + length body.loose ≡ length list.blocks + 1 + vec_len jobs.loose + 2 * one_if jobs.flush
   pub size : length (text_of body) ≤ room
 
-pub joined_made : (list : ListBody) (jobs : Jobs) (joined : List ℕ) (block : BlockRef) (room generation : ℕ) (next : Listing) (other : Option FlushFiles) (body : ListBody)
+joined_made : (list : ListBody) (jobs : Jobs) (joined : List ℕ) (block : BlockRef) (room generation : ℕ) (next : Listing) (other : Option FlushFiles) (body : ListBody)
     → body ≡ listed_body generation next other None → flush_part other ≡ files_of_flush jobs.flush
     → generation ≡ successor list.generation → next.next_file ≡ jobs.next_file → next.floor ≡ list.floor → next.segments.items ≡ list.segments
     → next.blocks.items ≡ outside joined list.blocks ++ block ∷ [] → next.loose.items ≡ jobs.loose.items ++ inside joined list.blocks
@@ -124,3 +144,20 @@ joined_made list jobs joined block room generation next other body is its_files 
 
     text : length (text_of body) ≡ 29 + 12 * length body.segments + 9 * length body.blocks + 4 * length body.loose
     text = length-text body
+
+-- the same from copies of the lists that it is made of
+pub joined_of : (list : ListBody) (jobs : Jobs) (joined : List ℕ) (block : BlockRef) (room generation : ℕ) (next : Listing) (other : Option FlushFiles) (body : ListBody) {bs : List BlockRef} {ls : List ℕ}
+    → bs ≡ list.blocks → ls ≡ jobs.loose.items
+    → body ≡ listed_body generation next other None → flush_part other ≡ files_of_flush jobs.flush
+    → generation ≡ successor list.generation → next.next_file ≡ jobs.next_file → next.floor ≡ list.floor → next.segments.items ≡ list.segments
+    → next.blocks.items ≡ outside joined bs ++ block ∷ [] → next.loose.items ≡ ls ++ inside joined bs
+    → length next.blocks.items + length next.loose.items ≡ length bs + 1 + length ls
+    → 29 + 12 * (length list.segments + (1 + one_if jobs.flush)) + 9 * (length list.blocks + (1 + one_if jobs.flush)) + 4 * (vec_len jobs.loose + 2 * (1 + one_if jobs.flush)) ≤ room
+    → IsJoined list jobs joined block room body
+joined_of list jobs joined block room generation next other body {bs} {ls} its_blocks its_loose is its_files its_generation its_next_file its_floor segments blocks loose each fits =
+    let block_len = ap (λ (l : List BlockRef). length l) its_blocks in
+    let loose_len = ap (λ (l : List ℕ). length l) its_loose in
+    joined_made list jobs joined block room generation next other body is its_files its_generation its_next_file its_floor segments
+    (blocks ∙ ap (λ (l : List BlockRef). outside joined l ++ block ∷ []) its_blocks)
+    (loose ∙ ap (λ (l : List ℕ). l ++ inside joined bs) its_loose ∙ ap (λ (l : List BlockRef). jobs.loose.items ++ inside joined l) its_blocks)
+    (omega (arith, each, block_len, loose_len)) fits

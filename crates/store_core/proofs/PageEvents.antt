@@ -1,11 +1,12 @@
 -- A page that is read, as an event of a core.
 use Rattle.std.proofs.Common.{◌≡◌, inl, inr, ℕ, ◌+◌, ◌-◌, ◌^◌, ◌<◌, ◌≤◌, min, List, [], ◌∷◌, ◌++◌, length, take, drop, Result, Ok, Err, IsErr, IsTrue, refl, sym, ◌∙◌, ap, subst, arith, length-drop}
-use Rattle.std.specs.Prelude.{replicate}
+use Rattle.std.specs.Prelude.{replicate, OnOk}
 use Rattle.std.proofs.Math.Seq.{take-append-add, take-length}
 use Rattle.std.proofs.lemmas.Bool.{cases_lt}
 use Rattle.std.proofs.lemmas.List.{append-nil, take-append-le, drop-replicate, take-replicate, length-replicate}
 use Rattle.span_types.specs.Faults.{Rose}
 use Rattle.span_types.specs.declared.errors.Failed.{Failed}
+use Rattle.disk_model.specs.Images.{bytes_of}
 use Rattle.disk_model.specs.Crash.{Untouched, Run}
 use Rattle.disk_model.specs.declared.disk.Device.{Ghosts}
 use Rattle.disk_model.proofs.Runs.{run_untouched}
@@ -17,6 +18,7 @@ use Rattle.store_model.specs.Step.{Machine, Step}
 use Rattle.store_model.specs.Step.Step.{Succeeds, Unread}
 use Rattle.store_state.specs.Calls.{RoseAtMost}
 use Rattle.store_state.specs.Replies.{page_reply}
+use Rattle.store_state.specs.Written.{page_of}
 use Rattle.store_images.specs.Stored.{KeepsStored}
 use Rattle.store_images.proofs.Keeping.{keeps_same}
 use Rattle.store_core.specs.declared.store.Core.{Core}
@@ -96,13 +98,13 @@ module _ {D : Type 0} (g : Ghosts D) (old : Core D) (disk : D) (pin block page :
       (λ mine known b only image left. only image (untouched.crash image left)) (s.fresh t free))
       (λ t free. logged_kept (g.held old.disk) (g.held disk) old.state.list (g.faults old.disk) (g.faults disk) m m (ReadPage pin block page) reply s.has.rules (λ f below. untouched.same_bytes (tells t) f) step refl (s.logged t free))
 
-  did_page : (bytes : List ℕ) → Did g old (ReadPage pin block page) (Page bytes) (record old { disk = disk })
-  did_page bytes =
+  did_page : (bytes : List ℕ) → (IsTrue (g.tells old.disk) → bytes ≡ page_of (bytes_of (g.held old.disk) block) page) → Did g old (ReadPage pin block page) (Page bytes) (record old { disk = disk })
+  did_page bytes its =
       did_kept g old disk old.state (ReadPage pin block page) (Page bytes) untouched.telling run_keeps refl refl
       (λ m s. (m, after (IsTrue (g.tells old.disk)) (IsTrue (g.tells disk)) (λ t. subst IsTrue untouched.telling t) (λ t. t) m (Page bytes) s (Succeeds refl (bytes, refl, refl)), refl, Succeeds refl (bytes, refl, refl)))
       (λ m s. (m, after ⊥ ⊥ (λ bad. bad) (λ bad. absurd bad) m (Page bytes) s (Succeeds refl (bytes, refl, refl)), Succeeds refl (bytes, refl, refl)))
       (λ told m s hold is_open stays f among. untouched.same_bytes told f)
-      (λ told f among. none_begun (Page bytes) f _ refl among)
+      (λ told f among. none_begun (Page bytes) f _ refl among) its (λ shows h. tt)
       later (λ is. let bad : Page bytes ≡ Refused Fault = is in absurd cc) calls reads
 
   no_page : Rose (g.faults old.disk) (g.faults disk) → Did g old (ReadPage pin block page) (Refused Fault) (record old { disk = disk })
@@ -111,10 +113,11 @@ module _ {D : Type 0} (g : Ghosts D) (old : Core D) (disk : D) (pin block page :
       (λ m s. (m, after (IsTrue (g.tells old.disk)) (IsTrue (g.tells disk)) (λ t. subst IsTrue untouched.telling t) (λ t. t) m (Refused Fault) s (Unread refl refl rose refl), refl, Unread refl refl rose refl))
       (λ m s. (m, after ⊥ ⊥ (λ bad. bad) (λ bad. absurd bad) m (Refused Fault) s (Unread refl refl rose refl), Unread refl refl rose refl))
       (λ told m s hold is_open stays f among. untouched.same_bytes told f)
-      (λ told f among. none_begun (Refused Fault) f _ refl among)
+      (λ told f among. none_begun (Refused Fault) f _ refl among) (λ told. tt) (λ shows h. tt)
       later (λ is. rose) calls reads
 
-  pub page_done : {U : Type 0} (result : Result U Failed) (bytes : List ℕ) → (IsErr result → Rose (g.faults old.disk) (g.faults disk))
+  pub page_done : {U : Type 0} (result : Result U Failed) (bytes : List ℕ) → (IsTrue (g.tells old.disk) → OnOk result (bytes ≡ page_of (bytes_of (g.held old.disk) block) page))
+      → (IsErr result → Rose (g.faults old.disk) (g.faults disk))
       → Did g old (ReadPage pin block page) (page_reply bytes result) (record old { disk = disk })
-  page_done (Ok u) bytes rose = did_page bytes
-  page_done (Err e) bytes rose = no_page (rose refl)
+  page_done (Ok u) bytes its rose = did_page bytes its
+  page_done (Err e) bytes its rose = no_page (rose refl)

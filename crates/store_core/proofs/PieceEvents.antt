@@ -30,7 +30,7 @@ use Rattle.store_core.proofs.States.{has_stopped}
 pub no_piece : {D : Type 0} (g : Ghosts D) (only_now : OnlyNow g) (old : Core D) (number file : ℕ) (bytes : List ℕ) (faults : ℕ) → old.state.read_only ≡ Some faults
     → Did g old (WritePiece number file bytes) (Refused (ReadOnly faults)) (record old { state = old.state })
 no_piece g only_now old number file bytes faults is =
-    quiet g only_now old old.state (WritePiece number file bytes) (Refused (ReadOnly faults)) (λ f b. refl) (λ e. let bad = refused_is (ReadOnly faults) Fault e in cc) (λ n. refl) refl refl
+    quiet g only_now old old.state (WritePiece number file bytes) (Refused (ReadOnly faults)) (λ f b. refl) (λ e. let bad = refused_is (ReadOnly faults) Fault e in cc) (λ n. refl) refl refl (λ shows. tt) (λ told m s. tt)
     (λ told m stands. (m, stands, refl, Sure (ap (λ (r : Option ℕ). if_read_only r None) (stands.has.read_only ∙ is)) refl))
 
 module _ {D : Type 0} (g : Ghosts D) (only_now : OnlyNow g) (old : Core D) (disk : D) (number file at : ℕ) (bytes : List ℕ) (writes : old.state.read_only ≡ None)
@@ -84,7 +84,7 @@ module _ {D : Type 0} (g : Ghosts D) (only_now : OnlyNow g) (old : Core D) (disk
         Succeeds (free m s.has) (refl, refl),
       ))
       (λ told m s hold is_open stays f among. appended told f)
-      (λ told f among. none_begun Fine f _ refl among)
+      (λ told f among. none_begun Fine f _ refl among) (λ told. tt) (λ shows h. tt)
       later (λ is. let bad : Fine ≡ Refused Fault = is in absurd cc) calls (omega (arith, reads), omega (arith, reads))
     where
       appended : IsTrue (g.tells old.disk) → (f : ℕ) → bytes_of (g.held disk) f ≡ (if file == f then bytes_of (g.held old.disk) f ++ bytes else bytes_of (g.held old.disk) f)
@@ -117,5 +117,5 @@ module _ {D : Type 0} (g : Ghosts D) (only_now : OnlyNow g) (old : Core D) (disk
         Breaks (free m s.has) refl refl rose refl,
       ))
       (λ told m s hold is_open stays f among differs. besides told f (λ is. let bad = eq-eqb file f (sym is) in absurd cc))
-      (λ told f among. none_begun (Refused Fault) f _ refl among)
+      (λ told f among. none_begun (Refused Fault) f _ refl among) (λ told. tt) (λ shows h. tt)
       later (λ is. rose) (calls.later, calls.at_most) (omega (arith, reads), omega (arith, reads)))

@@ -53,14 +53,14 @@ pub did_refused : {D : Type 0} (g : Ghosts D) (only_now : OnlyNow g) (old : Core
     → ((m : Machine) → HasState old.state m → early m (Push spans moment) ≡ Some (Refused why)) → why ≢ Fault
     → Did g old (Push spans moment) (Refused why) (record old { state = old.state })
 did_refused g only_now old spans moment why is no_fault =
-    quiet g only_now old old.state (Push spans moment) (Refused why) (λ file bytes. refl) (λ e. no_fault (refused_is why Fault e)) (refused_calls spans moment why no_fault) refl refl
+    quiet g only_now old old.state (Push spans moment) (Refused why) (λ file bytes. refl) (λ e. no_fault (refused_is why Fault e)) (refused_calls spans moment why no_fault) refl refl (λ shows. tt) (λ told m s. tt)
     (λ told m stands. (m, stands, refl, Sure (is m stands.has) refl))
 
 pub did_lacking : {D : Type 0} (g : Ghosts D) (only_now : OnlyNow g) (old : Core D) (live : LiveParts) (spans : List Span) (moment : ℕ)
     → SameParts old.state.live live → ((m : Machine) → HasState old.state m → early m (Push spans moment) ≡ None)
     → Did g old (Push spans moment) (Refused Memory) (record old { state = record old.state { live = live } })
 did_lacking {D} g only_now old live spans moment same free =
-    quiet g only_now old (record old.state { live = live }) (Push spans moment) (Refused Memory) (λ file bytes. refl) (λ e. let bad = refused_is Memory Fault e in cc) (λ n. refl) refl refl
+    quiet g only_now old (record old.state { live = live }) (Push spans moment) (Refused Memory) (λ file bytes. refl) (λ e. let bad = refused_is Memory Fault e in cc) (λ n. refl) refl refl (λ shows. tt) (λ told m s. tt)
     (λ told m stands. (m, stands_lacking told (g.held old.disk) (g.may_leave old.disk) old.state live m same stands, refl, Lacks (free m stands.has) refl refl refl))
 
 -- ---- a record was added, or it may have been
@@ -163,6 +163,8 @@ module _ {D : Type 0} (g : Ghosts D) (old : Core D) (disk : D) (spans : List Spa
     tidy = tidy_in;
     files = λ told m stands hold is_open stays' f among. held_stays old.state m (g.held old.disk) (g.held disk) stands.has stands.sound (appends told).besides hold is_open f among;
     empty = λ told f among. none_begun (Count number) f _ refl among;
+    page = λ told. tt;
+    look = λ told m stands. tt;
     telling = telling;
     later = later;
     cause = λ fault. absurd (let bad : Count number ≡ Refused Fault = fault in cc);
@@ -194,6 +196,8 @@ module _ {D : Type 0} (g : Ghosts D) (old : Core D) (disk : D) (spans : List Spa
     tidy = tidy_in;
     files = λ told m stands hold is_open stays f among. held_stays old.state m (g.held old.disk) (g.held disk) stands.has stands.sound (appends told).besides hold is_open f among;
     empty = λ told f among. none_begun (Refused Fault) f _ refl among;
+    page = λ told. tt;
+    look = λ told m stands. tt;
     telling = telling;
     later = later;
     cause = λ fault. rose;

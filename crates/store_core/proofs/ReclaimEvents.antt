@@ -54,13 +54,13 @@ writes_then core m has writes = ap (λ (r : Option ℕ). if_read_only r None) (h
 pub no_reclaim : {D : Type 0} (g : Ghosts D) (only_now : OnlyNow g) (old : Core D) (faults : ℕ) → old.state.read_only ≡ Some faults
     → Did g old Reclaim (Refused (ReadOnly faults)) (record old { state = old.state })
 no_reclaim g only_now old faults is =
-    quiet g only_now old old.state Reclaim (Refused (ReadOnly faults)) (λ f b. refl) (λ e. let bad = refused_is (ReadOnly faults) Fault e in cc) (λ n. refl) refl refl
+    quiet g only_now old old.state Reclaim (Refused (ReadOnly faults)) (λ f b. refl) (λ e. let bad = refused_is (ReadOnly faults) Fault e in cc) (λ n. refl) refl refl (λ shows. tt) (λ told m s. tt)
     (λ told m stands. (m, stands, refl, Sure (ap (λ (r : Option ℕ). if_read_only r None) (stands.has.read_only ∙ is)) refl))
 
 pub lacks_memory : {D : Type 0} (g : Ghosts D) (only_now : OnlyNow g) (old : Core D) → old.state.read_only ≡ None
     → Did g old Reclaim (Refused Memory) (record old { state = old.state })
 lacks_memory g only_now old writes =
-    quiet g only_now old old.state Reclaim (Refused Memory) (λ f b. refl) (λ e. let bad = refused_is Memory Fault e in cc) (λ n. refl) refl refl
+    quiet g only_now old old.state Reclaim (Refused Memory) (λ f b. refl) (λ e. let bad = refused_is Memory Fault e in cc) (λ n. refl) refl refl (λ shows. tt) (λ told m s. tt)
     (λ told m stands. (m, stands, refl, Lacks (writes_then old.state m stands.has writes) refl refl refl))
 
 none_in : (xs : List ℕ) → length xs ≡ 0 → xs ≡ []
@@ -71,7 +71,7 @@ none_freed : {D : Type 0} (g : Ghosts D) (only_now : OnlyNow g) (old : Core D) �
     → ((m : Machine) → HasState old.state m → StateIsSound m.state → free_files m.state ≡ [])
     → Did g old Reclaim (Count 0) (record old { state = old.state })
 none_freed g only_now old writes none =
-    quiet g only_now old old.state Reclaim (Count 0) (λ f b. refl) (λ e. let bad : Count 0 ≡ Refused Fault = e in cc) (λ n. (omega arith, omega arith)) refl refl
+    quiet g only_now old old.state Reclaim (Count 0) (λ f b. refl) (λ e. let bad : Count 0 ≡ Refused Fault = e in cc) (λ n. (omega arith, omega arith)) refl refl (λ shows. tt) (λ told m s. tt)
     (λ told m stands.
     let empty : free_files m.state ≡ [] = none m stands.has stands.sound in (
       m,
@@ -236,7 +236,7 @@ module _ {D : Type 0} (g : Ghosts D) (old : Core D) (disk : D) (writes : old.sta
         breaks m s.has s.sound,
       ))
       (λ told m s hold is_open stays f among. held_same told m s hold is_open f among)
-      (λ told f among. none_begun (Refused Fault) f _ refl among)
+      (λ told f among. none_begun (Refused Fault) f _ refl among) (λ told. tt) (λ shows h. tt)
       later (λ is. rose) calls.0 unread
     where
       breaks : (m : Machine) → HasState old.state m → StateIsSound m.state → Step (g.faults old.disk) (g.faults disk) m Reclaim (Refused Fault) (broken (g.faults disk) m)
@@ -310,7 +310,7 @@ module _ {D : Type 0} (g : Ghosts D) (old : Core D) (disk : D) (writes : old.sta
           its_step m s.has s.sound,
         ))
         (λ told m s hold is_open stays f among. held_same told m s hold is_open f among)
-        (λ told f among. none_begun (Count count) f _ refl among)
+        (λ told f among. none_begun (Count count) f _ refl among) (λ told. tt) (λ shows h. tt)
         later (λ is. let bad : Count count ≡ Refused Fault = is in absurd cc)
         (its_calls count (g.calls old.disk) (g.calls disk) (λ is. some (sym counted ∙ is)) (subst (λ (n : ℕ). RoseAtMost (2 * n + 6) (g.calls old.disk) (g.calls disk)) (sym counted) calls)) unread
 

@@ -1,20 +1,23 @@
 -- A look of a core shows the history.
 use Rattle.std.proofs.Common.{◌≡◌, ℕ, ◌+◌, List, [], ◌∷◌, ◌++◌, length, take, drop, refl, sym, ◌∙◌, ap, subst, arith, ◌-◌}
 use Rattle.std.specs.List.{flat_map}
+use Rattle.span_types.specs.declared.ids.Key.{Key}
 use Rattle.span_types.specs.declared.spans.Row.{Row}
 use Rattle.span_types.specs.First.{first_at}
 use Rattle.disk_model.specs.Images.{Image, bytes_of}
 use Rattle.block_info.specs.InfoParts.{InfoParts}
 use Rattle.store_model.specs.History.{History, history_rows, count_of, up_to}
 use Rattle.store_model.specs.State.{Block, block_files, block_rows, live_rows}
+use Rattle.store_model.specs.Event.Reply.{Looked}
 use Rattle.store_model.specs.Step.{Machine}
 use Rattle.store_model.proofs.KeepsFirsts.{look_is}
 use Rattle.store_state.specs.Given.{info_files}
-use Rattle.store_state.specs.Written.{AreBlocksOf}
-use Rattle.store_state.specs.Shown.{ShowsHistory}
+use Rattle.store_state.specs.Written.{AreBlocksOf, HoldRows}
+use Rattle.store_state.specs.Shown.{ShowsHistory, IsLookTaken}
 use Rattle.store_state.specs.declared.jobs.Look.{Look}
 use Rattle.store_core.specs.declared.state.CoreState.{CoreState}
 use Rattle.store_core.specs.Cores.{StandsFor, rows_by_block}
+use Rattle.store_core.proofs.Described.{described_holds}
 use Rattle.store_core.proofs.Looking.{waiting_in}
 
 -- ---- the blocks that a core lists are those of its machine
@@ -40,6 +43,15 @@ whole h n is =
     let exact : n - h.start ≡ length h.entries = omega (arith, is) in
     ap (λ bs. record { base = h.base; start = h.start; entries = bs }) (ap (λ k. take k h.entries) exact ∙ take_all h.entries)
 
+-- The rows of a look, and those of the blocks, have the first occurrences of the history.
+look_firsts : (told : Type 0) (held : Image) (may_leave : Image → Type 0) (core : CoreState) (m : Machine) (as_of : ℕ) (rows : List Row) → StandsFor told held may_leave core m
+    → as_of ≡ core.segment.first + core.segment.count → rows ≡ core.live.flushing ++ core.live.head ++ live_rows core.live.live
+    → (k : Key) → first_at k (rows ++ flat_map (λ (part : List Row). part) (rows_by_block m.state.blocks)) ≡ first_at k (history_rows (up_to as_of m.history))
+look_firsts told held may_leave core m as_of rows s length_is are = λ k.
+    ap (λ (r : List Row). first_at k (rows ++ r)) (flattened m.state.blocks)
+    ∙ look_is m rows s.agrees (waiting_in core m rows s.has are) k
+    ∙ ap (λ (h : History). first_at k (history_rows h)) (sym (whole m.history as_of (length_is ∙ sym s.has.count)))
+
 pub look_shows : (told : Type 0) (held : Image) (may_leave : Image → Type 0) (core : CoreState) (m : Machine) (look : Look) → StandsFor told held may_leave core m
     → look.pin.blocks ≡ core.infos.items → look.as_of ≡ core.segment.first + core.segment.count → look.rows ≡ core.live.flushing ++ core.live.head ++ live_rows core.live.live
     → ShowsHistory told (λ file. bytes_of held file) look m.history
@@ -47,7 +59,16 @@ look_shows told held may_leave core m look s blocks length_is rows = record {
   parts = rows_by_block m.state.blocks;
   one_each = each_one core.infos.items m.state.blocks s.has.infos ∙ sym (ap length blocks);
   their_rows = λ t. subst (λ (i : List InfoParts). AreBlocksOf (λ file. bytes_of held file) i (rows_by_block m.state.blocks)) (sym blocks) (s.built t);
-  firsts = λ k. ap (λ (r : List Row). first_at k (look.rows ++ r)) (flattened m.state.blocks)
-      ∙ look_is m look.rows s.agrees (waiting_in core m look.rows s.has rows) k
-      ∙ ap (λ (h : History). first_at k (history_rows h)) (sym (whole m.history look.as_of (length_is ∙ sym s.has.count)));
+  firsts = look_firsts told held may_leave core m look.as_of look.rows s length_is rows;
 }
+
+-- and so do its rows, and those that the files of its blocks hold
+pub look_taken : (told : Type 0) (held : Image) (may_leave : Image → Type 0) (core : CoreState) (m : Machine) (number as_of : ℕ) (files : List ℕ) (rows : List Row) → told → StandsFor told held may_leave core m
+    → files ≡ info_files core.infos.items → as_of ≡ core.segment.first + core.segment.count → rows ≡ core.live.flushing ++ core.live.head ++ live_rows core.live.live
+    → IsLookTaken (Looked number files as_of rows) (λ file. bytes_of held file) m.history
+look_taken told held may_leave core m number as_of files rows t s listed length_is are = (
+  rows_by_block m.state.blocks,
+  subst (λ (fs : List ℕ). HoldRows (λ file. bytes_of held file) fs (rows_by_block m.state.blocks)) (sym (listed ∙ s.has.infos))
+      (described_holds (λ file. bytes_of held file) core.infos.items m.state.blocks s.has.infos (s.built t)),
+  look_firsts told held may_leave core m as_of rows s length_is are,
+)

@@ -15,8 +15,11 @@ use Rattle.store_model.specs.Holds.{Hold, OpenIn, ends, files_of, own_files}
 use Rattle.store_model.specs.Step.{Machine, Step}
 use Rattle.store_state.specs.Meaning.{Rewritten, reads_of}
 use Rattle.store_state.specs.Calls.{MadeCalls, RoseAtMost}
+use Rattle.store_state.specs.Shown.{IsLookTaken}
+use Rattle.store_state.specs.Written.{IsPageRead}
 use Rattle.store_images.specs.Stored.{MayStandFor, IsTidy}
 use Rattle.store_core.specs.Cores.{CoreStandsFor, CoreShows, unsure_of}
+use Rattle.store_core.specs.Files.{IsEmptied}
 use Rattle.store_core.specs.declared.store.Core.{Core}
 
 -- Whenever a crash comes in the event, what it leaves stands for what it might have stood for before, or for what it may stand
@@ -53,8 +56,13 @@ pub record Did {D : Type 0} (g : Ghosts D) (old : Core D) (event : Event) (reply
   pub files : IsTrue (g.tells old.disk) → (m : Machine) → CoreShows g old m → (hold : Hold) → OpenIn m hold
       → ends event reply hold ≡ false → (file : ℕ) → is_among file (files_of hold) ≡ true
       → Rewritten event reply file (bytes_of (g.held old.disk) file) (bytes_of (g.held new.disk) file)
-  -- the file of a job that begins
-  pub empty : IsTrue (g.tells old.disk) → (file : ℕ) → is_among file (own_files reply) ≡ true → bytes_of (g.held new.disk) file ≡ []
+  -- the file of a job that begins is empty, and so it is in each image that a crash may leave then
+  pub empty : IsTrue (g.tells old.disk) → (file : ℕ) → is_among file (own_files reply) ≡ true
+      → IsEmptied (g.held new.disk) (g.may_leave new.disk) file
+  -- a page is that of its file, and a look shows the history of each machine that the core stands for behind it
+  pub page : IsTrue (g.tells old.disk) → IsPageRead event reply (λ file. bytes_of (g.held old.disk) file)
+  pub look : IsTrue (g.tells new.disk) → (m : Machine) → CoreStandsFor g new m
+      → IsLookTaken reply (λ file. bytes_of (g.held new.disk) file) m.history
   pub telling : g.tells new.disk ≡ g.tells old.disk
   pub later : g.faults old.disk ≤ g.faults new.disk
   pub cause : reply ≡ Refused Fault → Rose (g.faults old.disk) (g.faults new.disk)

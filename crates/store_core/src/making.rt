@@ -5,7 +5,7 @@ ghost use Rattle.disk_model.specs.Images.{bytes_of};
 ghost use Rattle.disk_model.specs.Counts.{MakesCalls};
 ghost use Rattle.disk_model.specs.Crash.{OnlyBytes, Run, HasCause};
 ghost use Rattle.head_log.specs.Stands.{SegmentHolds};
-ghost use Rattle.store_core.specs.Files.{SameBelow};
+ghost use Rattle.store_core.specs.Files.{SameBelow, IsEmptied};
 
 use disk_model::{Device, cut_through};
 use head_log::create;
@@ -20,7 +20,7 @@ pub(crate) fn make_files<D: Device>(disk: &mut D, files: FlushFiles) -> Result<(
         Run (SameBelow limit) D.moment D.left_since D.may_leave disk.old disk.new }
     ensures others { IsTrue (D.tells disk.old) → (file : ℕ) → file ≢ files.block → file ≢ files.segment →
         bytes_of (D.held disk.new) file ≡ bytes_of (D.held disk.old) file }
-    ensures empty { IsTrue (D.tells disk.old) → OnOk result (bytes_of (D.held disk.new) files.block ≡ []) }
+    ensures empty { IsTrue (D.tells disk.old) → OnOk result (IsEmptied (D.held disk.new) (D.may_leave disk.new) files.block) }
     // The segment's first record may have any number.
     ensures segment { IsTrue (D.tells disk.old) → OnOk result (((first : ℕ) → SegmentHolds first [] 1 (bytes_of (D.held disk.new) files.segment))
         × OnlyBytes files.segment (bytes_of (D.held disk.new) files.segment) (D.may_leave disk.new)) }

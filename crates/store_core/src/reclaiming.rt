@@ -1,9 +1,11 @@
 //! Loose files are emptied, and the list is committed without them.
 
-ghost use Rattle.std.specs.Prelude.{◌≡◌, ◌++◌, IfOk, OnOk};
+ghost use Rattle.std.specs.Prelude.{◌≡◌, ◌++◌, IfOk, OnOk, filter, not};
+ghost use Rattle.std.specs.List.Sorted.{IsNonDecreasing};
 ghost use Rattle.block_list.specs.Body.{MeetsRules};
 ghost use Rattle.block_list.specs.Commit.{IsListText};
 ghost use Rattle.store_model.specs.Event.Event.{Reclaim};
+ghost use Rattle.store_model.specs.State.{is_among};
 ghost use Rattle.store_state.specs.Loose.{compaction_part, flush_part};
 ghost use Rattle.store_state.specs.Replies.{reclaim_reply};
 ghost use Rattle.store_core.specs.Events.{Did};
@@ -19,7 +21,7 @@ use block_list::{BlockRef, ListBody, PreparedList, SegmentRef, prepare_any};
 use disk_model::Device;
 use span_types::{Memory, Seq};
 use std::alloc::Global;
-use store_state::{FlushFiles, ReclaimError, part_loose};
+use store_state::{FlushFiles, ReclaimError};
 
 impl<D: Device> Core<D> {
     /// Empties the loose files that no pin names, and answers how many. With none it makes no device call.
@@ -62,11 +64,12 @@ impl CoreState {
         ensures { IfOk result (λ parts.
             IsParted self.now.pins.items self.now.jobs.loose.items parts.0.items parts.1.items) }
     {
-        let pinned = pinned_files(alloc, self.pins.as_slice())?;
+        let mut pinned = pinned_files(alloc, self.pins.as_slice())?;
+        pinned.sort_unstable();
         let loose = self.jobs.loose.as_slice();
-        let mut kept = Vec::with_capacity(alloc, loose.len())?;
-        let mut free = Vec::with_capacity(alloc, loose.len())?;
-        part_loose(loose, pinned.as_slice(), &mut kept, &mut free);
+        let rising = pinned.as_slice();
+        let kept = files_inside(alloc, loose, rising)?;
+        let free = files_outside(alloc, loose, rising)?;
         Ok((kept, free))
     }
 
@@ -89,6 +92,35 @@ impl CoreState {
         let text = prepare_any(alloc, &list)?;
         Ok((list, text))
     }
+}
+
+// Those of the files that are among the rising ones.
+fn files_inside(alloc: Global, files: &[u32], rising: &[u32]) -> Result<Vec<u32>, Memory>
+    requires { IsNonDecreasing rising.now }
+    ensures { IfOk result (λ kept. kept.items ≡ filter (λ file. is_among file rising.now) files.now) }
+{
+    let mut kept = Vec::new(alloc);
+    kept.extend_from_slice(files)?;
+    kept.retain(|file| is_in(*file, rising));
+    Ok(kept)
+}
+
+// Those of the files that aren't among the rising ones.
+fn files_outside(alloc: Global, files: &[u32], rising: &[u32]) -> Result<Vec<u32>, Memory>
+    requires { IsNonDecreasing rising.now }
+    ensures { IfOk result (λ kept. kept.items ≡ filter (λ file. not (is_among file rising.now)) files.now) }
+{
+    let mut kept = Vec::new(alloc);
+    kept.extend_from_slice(files)?;
+    kept.retain(|file| !is_in(*file, rising));
+    Ok(kept)
+}
+
+// Whether the file is one of these, which rise.
+fn is_in(file: u32, rising: &[u32]) -> bool
+    ensures { IsNonDecreasing rising.now → result ≡ is_among file rising.now }
+{
+    rising.binary_search(&file).is_ok()
 }
 
 // The blocks and segments of a list, copied.

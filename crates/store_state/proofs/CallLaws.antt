@@ -10,6 +10,7 @@ use Rattle.store_model.proofs.KeepsSound as sound
 use Rattle.store_model.proofs.KeepsHolds as holds
 use Rattle.store_model.proofs.TellsHistory.{step_opens}
 use Rattle.store_state.specs.Meaning.{View, Learns, Called}
+use Rattle.store_state.specs.Shown.{IsLookTaken}
 use Rattle.store_model.specs.Laws.{Agrees}
 use Rattle.store_model.specs.Sound.{StateIsSound}
 use Rattle.store_state.specs.Cores.{CoreMeaning, CoreKnows, CoreHolds, CoreSteps, meaning_of}
@@ -81,6 +82,8 @@ step_is_called core old new event reply steps = record {
   telling = steps.telling;
   bytes = λ told hold is_open stays file named.
       steps.bytes told is_open.1.machine is_open.1.shown hold (is_open.1.open_holds hold is_open.2) stays file named;
+  page = steps.page;
+  look = λ told v known. subst (λ h. IsLookTaken reply (core.shows new) h) known.history (steps.look told known.machine known.stands);
   empty = steps.empty;
   later = steps.later;
   cause = steps.cause;

@@ -13,6 +13,8 @@ use Rattle.store_model.specs.Holds.{Hold, OpenIn, ends, files_of, own_files}
 use Rattle.block_info.specs.InfoParts.{InfoParts}
 use Rattle.store_state.specs.Calls.{MadeCalls}
 use Rattle.store_state.specs.Meaning.{View, Meaning, Rewritten, reads_of}
+use Rattle.store_state.specs.Shown.{IsLookTaken}
+use Rattle.store_state.specs.Written.{IsPageRead}
 
 -- Which machines a core stands for, which ones its memory shows, whatever its disk holds, and what it shows besides.
 pub record CoreMeaning (P : Type 0) : Type 1 where
@@ -73,6 +75,9 @@ pub record CoreSteps {P : Type 0} (core : CoreMeaning P) (old : P) (event : Even
   pub bytes : IsTrue (core.tells old) → (m : Machine) → core.in_memory old m → (hold : Hold) → OpenIn m hold →
       ends event reply hold ≡ false → (file : ℕ) → is_among file (files_of hold) ≡ true
       → Rewritten event reply file (core.shows old file) (core.shows new file)
+  pub page : IsTrue (core.tells old) → IsPageRead event reply (core.shows old)
+  pub look : IsTrue (core.tells new) → (m : Machine) → core.stands_for new m →
+      IsLookTaken reply (core.shows new) m.history
   pub empty : IsTrue (core.tells old) → (file : ℕ) → is_among file (own_files reply) ≡ true → core.shows new file ≡ []
   pub later : core.faults old ≤ core.faults new
   pub cause : reply ≡ Refused Fault → Rose (core.faults old) (core.faults new)

@@ -11,6 +11,8 @@ use Rattle.store_model.specs.Event.Reply.{Count, Fine, Looked, Refused}
 use Rattle.store_model.specs.Event.Refusal.{Fault}
 use Rattle.block_info.specs.InfoParts.{InfoParts}
 use Rattle.store_state.specs.Calls.{MadeCalls}
+use Rattle.store_state.specs.Shown.{IsLookTaken}
+use Rattle.store_state.specs.Written.{IsPageRead}
 use Rattle.store_model.specs.Holds.{Hold, ends, holds_after, files_of, own_files}
 
 -- what a port knows: a history, and its own open looks and jobs
@@ -71,6 +73,10 @@ pub record Called {P : Type 0} (meaning : Meaning P) (old : P) (event : Event) (
   pub bytes : IsTrue (meaning.tells old) → (hold : Hold) → IsOpen meaning old hold → ends event reply hold ≡ false →
       (file : ℕ) → is_among file (files_of hold) ≡ true
       → Rewritten event reply file (meaning.shows old file) (meaning.shows new file)
+  -- a page is that of its file, and a look shows each history that is known behind it
+  pub page : IsTrue (meaning.tells old) → IsPageRead event reply (meaning.shows old)
+  pub look : IsTrue (meaning.tells new) → (v : View) → meaning.knows new v →
+      IsLookTaken reply (meaning.shows new) v.history
   -- the file of a job that begins
   pub empty : IsTrue (meaning.tells old) → (file : ℕ) → is_among file (own_files reply) ≡ true → meaning.shows new file ≡ []
   -- faults are counted, and one is answered only where the count rose

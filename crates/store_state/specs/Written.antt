@@ -5,11 +5,19 @@ use Rattle.span_types.specs.First.{IsFirstOf}
 use Rattle.span_types.specs.declared.spans.Row.{Row}
 use Rattle.block_info.specs.InfoParts.{InfoParts}
 use Rattle.block_format.specs.Blocks.{BlockHasInfo, BlockHolds}
+use Rattle.store_model.specs.Event.{Event, Reply}
+use Rattle.store_model.specs.Event.Event.{ReadPage}
+use Rattle.store_model.specs.Event.Reply.{Page}
 use Rattle.store_state.specs.declared.jobs.JobFile.{JobFile}
 
 -- a page of a file; behind the file's end it has zeros
 abbrev pub page_of : List ℕ → ℕ → List ℕ
 page_of bytes page = take 4096 (drop (page * 4096) bytes ++ replicate 4096 0)
+
+-- A page that is read is the one that the block's file has there.
+abbrev pub IsPageRead : Event → Reply → (ℕ → List ℕ) → Type 0
+IsPageRead (ReadPage pin block page) (Page bytes) shows = bytes ≡ page_of (shows block) page
+IsPageRead _ _ shows = Unit {0}
 
 -- The information names the job's file and level, and counts the first occurrences of the rows.
 pub record IsInfoOf (file level : ℕ) (info : InfoParts) (rows : List Row) : Type 0 where

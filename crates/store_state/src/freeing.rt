@@ -26,10 +26,9 @@ pub fn reclaim(now: &Listing, next: &mut Listing, pinned: &[u32], free: &mut Vec
     part_loose(now.loose.as_slice(), pinned, &mut next.loose, free);
 }
 
-/// The same from lists alone: `kept` becomes those of these loose files that are among the pinned ones, and `free` the others,
-/// each in the list's order. It goes over the pinned ones for each loose file, so that its time is up to the product of the two
-/// lengths.
-pub fn part_loose(loose: &[u32], pinned: &[u32], kept: &mut Vec<u32>, free: &mut Vec<u32>)
+// The same from lists alone: `kept` becomes those of these loose files that are among the pinned ones, and `free` the others,
+// each in the list's order.
+fn part_loose(loose: &[u32], pinned: &[u32], kept: &mut Vec<u32>, free: &mut Vec<u32>)
     requires kept { length loose.now ≤ vec_capacity kept.now }
     requires free { length loose.now ≤ vec_capacity free.now }
     ensures kept { kept.new.items ≡ filter (λ file. is_among file pinned.now) loose.now }

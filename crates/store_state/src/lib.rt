@@ -18,7 +18,7 @@ mod rounds;
 
 pub use choice::choose;
 pub use errors::{BeginError, PushError, ReclaimError, WriteError};
-pub use freeing::{part_loose, reclaim};
+pub use freeing::reclaim;
 pub use jobs::{CompactJob, FlushJob, JobFile, Look, Pin};
 pub use laws::{
     a_choice_is_few, a_list_parts_blocks_as_the_machine, a_step_tells_what_is_learnt,

@@ -1,9 +1,10 @@
-use Rattle.std.proofs.Common.{IsTrue, sym, ◌∙◌, subst}
+use Rattle.std.proofs.Common.{[], IsTrue, sym, ◌∙◌, subst}
 use Rattle.disk_model.specs.Images.{OnFile}
 use Rattle.disk_model.specs.Bytes.{HalfCut}
+use Rattle.disk_model.proofs.Passing.{other_stays_run}
 use Rattle.disk_model.proofs.Runs.{run_more, run_on}
-use Rattle.store_core.specs.Files.{SameBelow}
-use Rattle.store_core.proofs.Apart.{below_change, below_in_file, below_then, ok_anyway, ok_each}
+use Rattle.store_core.specs.Files.{SameBelow, IsEmptied}
+use Rattle.store_core.proofs.Apart.{below_change, below_in_file, below_then, emptied, ok_anyway, ok_each}
 use Rattle.store_core.proofs.making.make_files.Goals as goal
 
 pub returns-in_err-cut_through-clause-any_moment : goal.returns-in_err-cut_through-clause-any_moment
@@ -31,7 +32,12 @@ returns-clause-others g c = λ told file first second.
 
 pub returns-clause-empty : goal.returns-clause-empty
 returns-clause-empty g c = λ told.
-    ok_anyway c.create.result _ (c.create.ensures.besides (subst IsTrue (sym c.cut_through.ensures.telling) told) c.args.files.block c.requires ∙ c.in_ok-cut_through.ensures.shortened told)
+    let d = g.D.Device in
+    let cut = emptied (d.held c.cut_through.new.disk) (d.may_leave c.cut_through.new.disk) c.args.files.block (c.in_ok-cut_through.ensures.shortened told) (c.in_ok-cut_through.ensures.lasting told) in
+    ok_anyway c.create.result (IsEmptied (d.held c.create.new.disk) (d.may_leave c.create.new.disk) c.args.files.block) (
+      c.create.ensures.besides (subst IsTrue (sym c.cut_through.ensures.telling) told) c.args.files.block c.requires ∙ cut.0,
+      other_stays_run c.args.files.segment c.args.files.block _ [] (d.may_leave c.cut_through.new.disk) (d.may_leave c.create.new.disk) c.requires cut.1 c.create.ensures.any_moment.now,
+    )
 
 pub returns-clause-segment : goal.returns-clause-segment
 returns-clause-segment g c = λ told.

@@ -1,10 +1,8 @@
-use Rattle.std.proofs.Common.{◌≡◌, ℕ, List, [], ◌∷◌, ◌++◌, length, refl, ◌∙◌, ap, arith}
+use Rattle.std.proofs.Common.{◌≡◌, ℕ, List, length, refl, ◌∙◌, ap, arith}
 use Rattle.block_list.specs.declared.body.BlockRef.{BlockRef}
 use Rattle.block_list.specs.declared.body.SegmentRef.{SegmentRef}
-use Rattle.block_list.specs.declared.body.ListBody.{ListBody}
-use Rattle.store_state.specs.Parted.{inside, outside}
 use Rattle.store_core.specs.declared.jobs.Jobs.{Jobs}
-use Rattle.store_core.proofs.NextRoom.{joined_made, two_files}
+use Rattle.store_core.proofs.NextRoom.{joined_of, two_files}
 use Rattle.store_core.proofs.room.CommitRoom.list_joined.Goals as goal
 
 pub copy_segments-requires : goal.copy_segments-requires
@@ -43,80 +41,32 @@ list_body-body-requires c =
 
 pub refill-requires-clause-rules : goal.refill-requires-clause-rules
 refill-requires-clause-rules c =
-    let room = c.args.self in
-    let list : ListBody = c.args.list.now in
-    let jobs : Jobs = c.args.jobs.now in
-    let joined = c.args.joined.now in
-    let block = c.args.block in
     let listed = c.list_compact.ensures in
-    let blocks : c.as_slice-2.result.now ≡ list.blocks = c.as_slice-2.ensures in
-    let loose : c.as_slice-3.result.now ≡ jobs.loose.items = c.as_slice-3.ensures.value in
-    let block_len : length c.as_slice-2.result.now ≡ length list.blocks = ap (λ (l : List BlockRef). length l) blocks in
-    let loose_len : length c.as_slice-3.result.now ≡ length jobs.loose.items = ap (λ (l : List ℕ). length l) loose in
-    let each = listed.each_file in
-    let it = joined_made list jobs joined block room.text.room _ c.list_compact.new.next c.flush_files.result c.list_body-body.result c.list_body-body.ensures.body c.flush_files.ensures refl listed.next_file listed.floor
-    (ap (λ (v : _). v.items) listed.segments ∙ c.copy_segments.ensures ∙ c.as_slice.ensures)
-    (listed.blocks ∙ ap (λ (l : List BlockRef). outside joined l ++ block ∷ []) blocks)
-    (listed.loose ∙ ap (λ (l : List ℕ). l ++ inside joined c.as_slice-2.result.now) loose ∙ ap (λ (l : List BlockRef). jobs.loose.items ++ inside joined l) blocks)
-    (omega (arith, each, block_len, loose_len)) c.requires.fits.text in
+    let it = joined_of c.args.list.now c.args.jobs.now c.args.joined.now c.args.block c.args.self.text.room _ c.list_compact.new.next c.flush_files.result c.list_body-body.result
+    c.as_slice-2.ensures c.as_slice-3.ensures.value c.list_body-body.ensures.body c.flush_files.ensures refl
+    listed.next_file listed.floor (ap (λ (v : _). v.items) listed.segments ∙ c.copy_segments.ensures ∙ c.as_slice.ensures) listed.blocks listed.loose listed.each_file c.requires.fits.text in
     c.requires.rules c.list_body-body.result it.after
 
 pub refill-requires-clause-room : goal.refill-requires-clause-room
 refill-requires-clause-room c =
-    let room = c.args.self in
-    let list : ListBody = c.args.list.now in
-    let jobs : Jobs = c.args.jobs.now in
-    let joined = c.args.joined.now in
-    let block = c.args.block in
     let listed = c.list_compact.ensures in
-    let blocks : c.as_slice-2.result.now ≡ list.blocks = c.as_slice-2.ensures in
-    let loose : c.as_slice-3.result.now ≡ jobs.loose.items = c.as_slice-3.ensures.value in
-    let block_len : length c.as_slice-2.result.now ≡ length list.blocks = ap (λ (l : List BlockRef). length l) blocks in
-    let loose_len : length c.as_slice-3.result.now ≡ length jobs.loose.items = ap (λ (l : List ℕ). length l) loose in
-    let each = listed.each_file in
-    let it = joined_made list jobs joined block room.text.room _ c.list_compact.new.next c.flush_files.result c.list_body-body.result c.list_body-body.ensures.body c.flush_files.ensures refl listed.next_file listed.floor
-    (ap (λ (v : _). v.items) listed.segments ∙ c.copy_segments.ensures ∙ c.as_slice.ensures)
-    (listed.blocks ∙ ap (λ (l : List BlockRef). outside joined l ++ block ∷ []) blocks)
-    (listed.loose ∙ ap (λ (l : List ℕ). l ++ inside joined c.as_slice-2.result.now) loose ∙ ap (λ (l : List BlockRef). jobs.loose.items ++ inside joined l) blocks)
-    (omega (arith, each, block_len, loose_len)) c.requires.fits.text in
+    let it = joined_of c.args.list.now c.args.jobs.now c.args.joined.now c.args.block c.args.self.text.room _ c.list_compact.new.next c.flush_files.result c.list_body-body.result
+    c.as_slice-2.ensures c.as_slice-3.ensures.value c.list_body-body.ensures.body c.flush_files.ensures refl
+    listed.next_file listed.floor (ap (λ (v : _). v.items) listed.segments ∙ c.copy_segments.ensures ∙ c.as_slice.ensures) listed.blocks listed.loose listed.each_file c.requires.fits.text in
     it.size
 
 pub returns-clause-list : goal.returns-clause-list
 returns-clause-list c =
-    let room = c.args.self in
-    let list : ListBody = c.args.list.now in
-    let jobs : Jobs = c.args.jobs.now in
-    let joined = c.args.joined.now in
-    let block = c.args.block in
     let listed = c.list_compact.ensures in
-    let blocks : c.as_slice-2.result.now ≡ list.blocks = c.as_slice-2.ensures in
-    let loose : c.as_slice-3.result.now ≡ jobs.loose.items = c.as_slice-3.ensures.value in
-    let block_len : length c.as_slice-2.result.now ≡ length list.blocks = ap (λ (l : List BlockRef). length l) blocks in
-    let loose_len : length c.as_slice-3.result.now ≡ length jobs.loose.items = ap (λ (l : List ℕ). length l) loose in
-    let each = listed.each_file in
-    let it = joined_made list jobs joined block room.text.room _ c.list_compact.new.next c.flush_files.result c.list_body-body.result c.list_body-body.ensures.body c.flush_files.ensures refl listed.next_file listed.floor
-    (ap (λ (v : _). v.items) listed.segments ∙ c.copy_segments.ensures ∙ c.as_slice.ensures)
-    (listed.blocks ∙ ap (λ (l : List BlockRef). outside joined l ++ block ∷ []) blocks)
-    (listed.loose ∙ ap (λ (l : List ℕ). l ++ inside joined c.as_slice-2.result.now) loose ∙ ap (λ (l : List BlockRef). jobs.loose.items ++ inside joined l) blocks)
-    (omega (arith, each, block_len, loose_len)) c.requires.fits.text in
+    let it = joined_of c.args.list.now c.args.jobs.now c.args.joined.now c.args.block c.args.self.text.room _ c.list_compact.new.next c.flush_files.result c.list_body-body.result
+    c.as_slice-2.ensures c.as_slice-3.ensures.value c.list_body-body.ensures.body c.flush_files.ensures refl
+    listed.next_file listed.floor (ap (λ (v : _). v.items) listed.segments ∙ c.copy_segments.ensures ∙ c.as_slice.ensures) listed.blocks listed.loose listed.each_file c.requires.fits.text in
     it.after
 
 pub returns-clause-few : goal.returns-clause-few
 returns-clause-few c =
-    let room = c.args.self in
-    let list : ListBody = c.args.list.now in
-    let jobs : Jobs = c.args.jobs.now in
-    let joined = c.args.joined.now in
-    let block = c.args.block in
     let listed = c.list_compact.ensures in
-    let blocks : c.as_slice-2.result.now ≡ list.blocks = c.as_slice-2.ensures in
-    let loose : c.as_slice-3.result.now ≡ jobs.loose.items = c.as_slice-3.ensures.value in
-    let block_len : length c.as_slice-2.result.now ≡ length list.blocks = ap (λ (l : List BlockRef). length l) blocks in
-    let loose_len : length c.as_slice-3.result.now ≡ length jobs.loose.items = ap (λ (l : List ℕ). length l) loose in
-    let each = listed.each_file in
-    let it = joined_made list jobs joined block room.text.room _ c.list_compact.new.next c.flush_files.result c.list_body-body.result c.list_body-body.ensures.body c.flush_files.ensures refl listed.next_file listed.floor
-    (ap (λ (v : _). v.items) listed.segments ∙ c.copy_segments.ensures ∙ c.as_slice.ensures)
-    (listed.blocks ∙ ap (λ (l : List BlockRef). outside joined l ++ block ∷ []) blocks)
-    (listed.loose ∙ ap (λ (l : List ℕ). l ++ inside joined c.as_slice-2.result.now) loose ∙ ap (λ (l : List BlockRef). jobs.loose.items ++ inside joined l) blocks)
-    (omega (arith, each, block_len, loose_len)) c.requires.fits.text in
+    let it = joined_of c.args.list.now c.args.jobs.now c.args.joined.now c.args.block c.args.self.text.room _ c.list_compact.new.next c.flush_files.result c.list_body-body.result
+    c.as_slice-2.ensures c.as_slice-3.ensures.value c.list_body-body.ensures.body c.flush_files.ensures refl
+    listed.next_file listed.floor (ap (λ (v : _). v.items) listed.segments ∙ c.copy_segments.ensures ∙ c.as_slice.ensures) listed.blocks listed.loose listed.each_file c.requires.fits.text in
     it.few

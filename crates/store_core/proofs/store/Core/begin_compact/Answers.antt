@@ -10,7 +10,7 @@ use Rattle.store_model.specs.Step.{early}
 use Rattle.store_state.specs.Listed.{picked}
 use Rattle.store_core.specs.Files.{SameBelow}
 use Rattle.store_core.specs.Beginning.{MayCompact, IsMade}
-use Rattle.store_core.proofs.Apart.{below_change}
+use Rattle.store_core.proofs.Apart.{below_change, emptied}
 use Rattle.store_core.proofs.CompactBegins.{did_choose_none}
 use Rattle.store_core.proofs.CompactMakes.{did_refused, did_not_make, did_made, did_made_fail, joins_made, blocks_made, blocks_still, of_some}
 use Rattle.store_core.proofs.store.Core.begin_compact.Goals as goal
@@ -46,7 +46,8 @@ returns-in-Ok-cut_through-clause-begun g c =
     c.begin_compact-number.new.self c.begin_compact-number.result begun.number.0 begun.number.1 begun.next_file begun.compaction begun.same
     (λ listed are. subst (λ (l : List ℕ). picked l listed ≡ choice listed) (sym c.as_slice.ensures.value)
     (of_some (λ (v : Vec ℕ Global). picked v.items listed ≡ choice listed) found.field-0 found.chosen found.field-0-is (found.ensures.chosen listed are)))
-    c.a_choice_is_few.ensures c.in-Ok-cut_through.ensures.shortened
+    c.a_choice_is_few.ensures
+    (λ told. emptied (d.held c.cut_through.new.disk) (d.may_leave c.cut_through.new.disk) c.make_compact.new.self.jobs.next_file (c.in-Ok-cut_through.ensures.shortened told) (c.in-Ok-cut_through.ensures.lasting told))
 
 pub returns-in-Ok-cut_through-clause-joins : goal.returns-in-Ok-cut_through-clause-joins
 returns-in-Ok-cut_through-clause-joins g c = λ m s.

@@ -30,7 +30,7 @@ pub returns-clause-looked : goal.returns-clause-looked
 returns-clause-looked g c =
     let number = c.in_ok-number.ensures in
     let same : c.in_ok-files.files ≡ info_files c.in_ok-blocks.blocks = c.in_ok-files.ensures ∙ sym (ap info_files c.in_ok-blocks.ensures) in
-    did_looked g.D.Device g.met.D.Device.only_now c.args.self.now c.take_number.new.pins _ _ _ _ c.length-as_of.ensures.count (ap info_files c.in_ok-blocks.ensures) c.in_ok-rows.ensures
+    did_looked g.D.Device g.met.D.Device.only_now c.args.self.now c.take_number.new.pins _ _ _ _ c.length-as_of.ensures.count c.length-as_of.ensures.sum (ap info_files c.in_ok-blocks.ensures) c.in_ok-rows.ensures
     number.free number.least number.taken (subst (λ (f : List ℕ). (other : ℕ) → files_at other c.take_number.new.pins.items ≡ (if c.in_ok-number.number == other then f else files_at other c.args.self.now.state.pins.items)) same number.files)
 
 pub returns-clause-shows : goal.returns-clause-shows
