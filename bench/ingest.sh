@@ -40,10 +40,10 @@ databases() { # the same lines into each database
     fi
     rm -rf "$work"/base* "$work/server"
 }
-pages() { # WORD ..: how many pages of files a run reads
+pages() { # WORD ..: how many pages of 4,096 bytes a run reads of files, in as many bytes
     command -v strace > /dev/null || return 0
     strace -f -e trace=pread64 -o "$work/calls" "$program" "$work/folder" "$@" < /dev/null > "$work/reply"
-    echo "pages $(grep -c pread64 "$work/calls")"
+    awk '/pread64/ && $NF > 0 { bytes += $NF } END { printf "pages %d\n", (bytes + 4095) / 4096 }' "$work/calls"
 }
 ask() { # NAME WORD ..: what a run over the folder takes, and the pages that it reads
     for _ in $(seq "$rounds"); do spent "$1" "$work/reply" "$program" "$work/folder" "${@:2}" < /dev/null; done
