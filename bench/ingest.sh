@@ -2,12 +2,12 @@
 # Taking in a million spans: `vurnda FOLDER ingest` over LINES_OF_SPANS lines (2,000) of SPANS spans (500), as the OpenTelemetry
 # Collector's file exporter writes them, beside SQLite, which is given the same lines and takes the spans out of them by `json_each`
 # (ingest/sqlite.py), and PostgreSQL, which does so by `json_array_elements` (ingest/postgres.sh); each where it is installed, one
-# transaction a line, synced, into a table with an index on the trace's id and one on the name. All stand on one disk and take turns.
+# transaction a line, synced, into a table with an index on the trace's and the span's id and one on the name. All stand on one disk and take turns.
 # Then an ingest of TIMES (4) times as many spans, and over these an opening, a look-up of a trace and a search, with the pages that
 # they read, where `strace` is installed. `ingest.sh PROGRAM` takes a built program, else the one that `./vurnda` builds. Of ROUNDS runs (3)
 # the least wall time, the least processor time of all processes, user and system, and the most memory of one process are told.
 # Vurnda's have its opening, flushes and compactions in them, PostgreSQL's its server's beginning and end. The folder is in TMPDIR,
-# which should lie on the disk that is meant and not in memory.
+# which should lie on the disk that is meant and not in memory. LINES_FILE may name a file that has the lines already.
 set -eo pipefail
 here=$(cd "$(dirname "$0")" && pwd)
 work=${TMPDIR:-/tmp}/vurnda-bench/ingest
@@ -66,7 +66,11 @@ least() { # of the lines of each name the least seconds and processor time, the 
             }
         }'
 }
-python3 "$here/lines.py" "$spans" "$((lines * times))" | sed 's/^push //' > "$work/lines"
+if [ -n "$LINES_FILE" ]; then
+    ln -s "$LINES_FILE" "$work/lines"
+else
+    python3 "$here/lines.py" "$spans" "$((lines * times))" | sed 's/^push //' > "$work/lines"
+fi
 echo "taking in $((spans * lines)) spans:"
 for _ in $(seq "$rounds"); do
     ingest vurnda "$lines"
