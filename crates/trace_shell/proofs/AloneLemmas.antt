@@ -1,7 +1,8 @@
 -- How a run ends that answers one line alone.
-use Rattle.std.proofs.Common.{◌≡◌, ◌≢◌, ◌⊎◌, inl, inr, ℕ, List, [], ◌∷◌, ◌++◌, Bool, true, false, Option, Some, None, take, refl, sym, ap, ◌∙◌, subst, append-nil, if◌then◌else◌}
+use Rattle.std.proofs.Common.{◌≡◌, ◌≢◌, ◌⊎◌, ◌≤◌, inl, inr, ℕ, List, [], ◌∷◌, ◌++◌, Bool, true, false, Option, Some, None, take, refl, sym, ap, ◌∙◌, subst, append-nil, arith, if◌then◌else◌}
 use Rattle.std.specs.Prelude.{IfSome}
 use Rattle.std.specs.Io.KnownBytes.{Appends}
+use Rattle.span_types.specs.Faults.{Rose}
 use Rattle.session_meaning.specs.declared.ending.Ending.{Ending}
 use Rattle.session_meaning.specs.declared.ending.Ending.TheVariants.{Answered, BadWords, NotOpened, NotStore, ReadFault, Refused, Spent, Starved, WriteFault}
 use Rattle.session_meaning.specs.Runs.{IsPastOpening, NeedsNoSource}
@@ -63,6 +64,21 @@ pub line_ends : (o : Option Ending) → IfSome o (λ e. (e ≡ WriteFault) ⊎ (
 line_ends None ends = tt
 line_ends (Some e) (inl is) = subst IsPastOpening (sym is) tt
 line_ends (Some e) (inr is) = subst IsPastOpening (sym is) tt
+
+-- A count of faults that rose since a later moment rose since an earlier one.
+pub rose_from : (a b c : ℕ) → a ≤ b → Rose b c → Rose a c
+rose_from a b c earlier rose = omega (arith, earlier, rose)
+
+-- The source has no part in it.
+pub no_read_fault : (A : Type 0) (o : Option Ending) → IfSome o (λ e. (e ≡ WriteFault) ⊎ (e ≡ Starved)) → IfSome o (λ e. e ≡ ReadFault → A)
+no_read_fault A None ends = tt
+no_read_fault A (Some e) (inl is) = λ same. let bad : ⊥ = cc in absurd bad
+no_read_fault A (Some e) (inr is) = λ same. let bad : ⊥ = cc in absurd bad
+
+pub not_spent : (A : Type 0) (o : Option Ending) → IfSome o (λ e. (e ≡ WriteFault) ⊎ (e ≡ Starved)) → IfSome o (λ e. e ≡ Spent → A)
+not_spent A None ends = tt
+not_spent A (Some e) (inl is) = λ same. let bad : ⊥ = cc in absurd bad
+not_spent A (Some e) (inr is) = λ same. let bad : ⊥ = cc in absurd bad
 
 pub tally_ends : (tally : Tally) → IsPastOpening (ending_of tally)
 tally_ends tally = go tally.refused tally.starved

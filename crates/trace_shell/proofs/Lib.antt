@@ -4,3 +4,5 @@ pub mod RunLemmas
 pub mod StoreLemmas
 pub mod ArgumentLemmas
 pub mod IngestLemmas
+pub mod IngestReads
+pub mod IngestEnds

@@ -23,7 +23,6 @@ use Rattle.store_images.proofs.Keeping.{keeps_same}
 use Rattle.session_meaning.specs.declared.ending.Ending.{Ending}
 use Rattle.session_meaning.specs.declared.ending.Ending.TheVariants.{Answered, BadWords, NotOpened, NotStore, ReadFault, Refused, Spent, Starved, WriteFault}
 use Rattle.session_meaning.specs.Asked.{after_moment}
-use Rattle.session_meaning.specs.Ingest.{Ingests, duties}
 use Rattle.session_meaning.specs.Runs.{Does, DoesInStore, Edges, FitsWords, HasAnswered, HasCause, HasIngested, HasRun, IsNoStore, IsPastOpening, IsRunOf, Outcome, told_bytes}
 use Rattle.session_meaning.specs.At.{At}
 use Rattle.session_meaning.specs.Statuses.{status_of}
@@ -104,18 +103,18 @@ in_store sure session o old new came =
       clock = w.clock;
       ends = w.ends;
     }))
-in_store sure ingest o old new (pushed, later, todo, ingests, is_left, none, ends) =
+in_store sure ingest o old new (none, came) =
     if_some old.left (λ text. IfSome old.taken (λ before. HasIngested sure text before o old new)) (λ text left.
     if_some old.taken (λ before. HasIngested sure text before o old new) (λ before taken.
-    let w = ends text before left taken in record {
-      pushed = pushed;
-      later = later;
-      lines_are = w.0;
-      left = todo;
-      asked = subst (λ (ls : List (List ℕ)). Ingests sure (duties ls) (after_moment old.moments) o.first o.items o.replies o.last todo new.moments) (sym w.0) ingests;
-      is_left = is_left;
+    let w = came text before left taken in record {
+      pushed = w.pushed;
+      later = w.later;
+      lines_are = w.lines_are;
+      left = w.todo;
+      asked = w.asked;
+      is_left = w.is_left;
       no_refused = none;
-      ends = w.1;
+      ends = w.ends;
     }))
 in_store sure (Alone line) o old new (item, reply, items, replies, own, asked, clock, ends) = (
   own,

@@ -1,9 +1,10 @@
 -- What a run came to in a store that was opened, and what it left of it.
-use Rattle.std.proofs.Common.{Bool, ◌≡◌, inl, inr, ⊎_elim, ℕ, ◌≤◌, List, [], Option, None, true, ◌++◌, IsTrue, refl, sym, ◌∙◌, ap, subst}
+use Rattle.std.proofs.Common.{Bool, ◌≡◌, inl, inr, ⊎_elim, ℕ, ◌≤◌, List, [], Option, Some, None, true, ◌++◌, IsTrue, refl, sym, ◌∙◌, ap, subst}
 use Rattle.std.specs.Prelude.{IfSome}
 use Rattle.span_types.specs.declared.spans.Span.{Span}
 use Rattle.command_words.specs.Commands.{Alone, Command, Ingest as ingest, Session as session}
 use Rattle.disk_model.specs.Images.{Image}
+use Rattle.io_edges.specs.Lines.{lines}
 use Rattle.disk_model.specs.declared.disk.Device.{Ghosts}
 use Rattle.session_text.specs.declared.reply.Reply.{Reply}
 use Rattle.session_text.specs.Items.{Item}
@@ -31,7 +32,7 @@ use Rattle.session_meaning.specs.Runs.{Edges, HasCause, IsPastOpening, Outcome, 
 use Rattle.session_meaning.specs.Session.{Session}
 use Rattle.session_meaning.specs.Stops.{Recovers}
 use Rattle.session_meaning.proofs.Unsure.{items_unsure}
-use Rattle.trace_shell.specs.Turn.{CameOver, CameTo, HasDone}
+use Rattle.trace_shell.specs.Turn.{CameByLines, CameOver, CameTo, HasDone}
 use Rattle.trace_shell.proofs.RunLemmas.{if_told, in_store, past_is_no_fault}
 
 -- nothing is open in a core whose memory shows a machine
@@ -49,8 +50,14 @@ pub answered_over : {D : Type 0} (g : Ghosts D) (c : Command) (core later : Core
     (replies : List Reply) (blamed : List (List ℕ)) → CameOver c g core later old_left old_taken told left taken to_tell e items replies blamed
     → HasAnsweredOver (port_of g) core items replies later
 answered_over g session core later old_left old_taken told left taken to_tell e items replies blamed came = came.0
-answered_over g ingest core later old_left old_taken told left taken to_tell e items replies blamed came = came.3.answered
+answered_over g ingest core later old_left old_taken told left taken to_tell e items replies blamed came = came.0
 answered_over g (Alone line) core later old_left old_taken told left taken to_tell e items replies blamed came = came.0
+
+none_is_some : (xs : List ℕ) → None ≡ Some xs → ⊥
+none_is_some xs e = cc
+
+same : (a b : List ℕ) → Some a ≡ Some b → a ≡ b
+same a b e = cc
 
 -- What a command came to over a core, by machines that go with it, is a session between the stores of these machines, and what the
 -- command does.
@@ -66,12 +73,29 @@ module _ {D : Type 0} (g : Ghosts D) (is_with : Core D → Machine → Type 0) (
       × CameTo sure c (at_core g core m) (at_core g later m') old_left old_taken told left taken to_tell e items replies blamed
   came_to session core later m old_left old_taken told left taken to_tell e items replies blamed stands came =
       let run = sessions items replies core later m stands came.0.each in (run.0, run.1, run.2, came.1)
-  came_to ingest core later m old_left old_taken told left taken to_tell e items replies blamed stands (pushed, after, todo, over, is_left, none, ends) =
-      let run = ingests (duties (pushed ++ after)) told items replies core later m todo to_tell stands over.each in (
+  came_to ingest core later m None old_taken told left taken to_tell e items replies blamed stands came =
+      let run = sessions items replies core later m stands came.0.each in (run.0, run.1, run.2, came.1, λ text before source. absurd (none_is_some text source))
+  came_to ingest core later m (Some text) None told left taken to_tell e items replies blamed stands came =
+      let run = sessions items replies core later m stands came.0.each in (run.0, run.1, run.2, came.1, λ all before source sink. absurd (none_is_some before sink))
+  came_to ingest core later m (Some text) (Some before) told left taken to_tell e items replies blamed stands came =
+      let w = came.2 text before refl refl in
+      let run = ingests (duties (lines text)) told items replies core later m w.todo to_tell stands w.asked in
+      let by_lines : CameByLines (λ todo rest. Ingests sure todo told (at_core g core m) items replies (at_core g later run.0) rest to_tell) text before left taken e replies = record {
+        pushed = w.pushed;
+        later = w.later;
+        lines_are = w.lines_are;
+        todo = w.todo;
+        asked = run.2;
+        is_left = w.is_left;
+        ends = w.ends;
+      } in (
         run.0,
         run.1,
-        ingest_is_session sure (duties (pushed ++ after)) todo told to_tell items replies (at_core g core m) (at_core g later run.0) run.2,
-        (pushed, after, todo, run.2, is_left, none, ends),
+        ingest_is_session sure (duties (lines text)) w.todo told to_tell items replies (at_core g core m) (at_core g later run.0) run.2,
+        came.1,
+        λ all taken_before source sink.
+            subst (λ (t : List ℕ). CameByLines (λ todo rest. Ingests sure todo told (at_core g core m) items replies (at_core g later run.0) rest to_tell) t taken_before left taken e replies) (same text all source)
+            (subst (λ (b : List ℕ). CameByLines (λ todo rest. Ingests sure todo told (at_core g core m) items replies (at_core g later run.0) rest to_tell) text b left taken e replies) (same before taken_before sink) by_lines),
       )
   came_to (Alone line) core later m old_left old_taken told left taken to_tell e items replies blamed stands came =
       let run = sessions items replies core later m stands came.0.each in (run.0, run.1, run.2, came.1)

@@ -36,7 +36,7 @@ took_more text (Some xs) (Some ys) a b c first second = (
 )
 
 -- No more bytes were taken than are in the text.
-taken_within : (text : List ℕ) (left : Option (List ℕ)) (taken : ℕ) → TakesBytes (Some text) left 0 taken → taken ≤ length text
+pub taken_within : (text : List ℕ) (left : Option (List ℕ)) (taken : ℕ) → TakesBytes (Some text) left 0 taken → taken ≤ length text
 taken_within text None taken took = absurd took.1
 taken_within text (Some xs) taken took =
     let sizes : length text ≡ length took.0 + length xs = ap length took.1 ∙ length-append took.0 xs in
@@ -49,7 +49,7 @@ taken_all text left taken took none =
     let sizes : length text ≡ length all.0 + 0 = ap length all.1 ∙ length-append all.0 [] in
     omega (arith, sizes, all.2)
 
-appended : (before : List ℕ) (replies : List Reply) (reply : Reply) (old new : Option (List ℕ)) → old ≡ Some (before ++ reply_texts replies) →
+pub appended : (before : List ℕ) (replies : List Reply) (reply : Reply) (old new : Option (List ℕ)) → old ≡ Some (before ++ reply_texts replies) →
     Appends old new (reply_text reply) → new ≡ Some (before ++ reply_texts (replies ++ reply ∷ []))
 appended before replies reply None new is h = cc
 appended before replies reply (Some xs) None is h = absurd h
@@ -60,7 +60,7 @@ appended before replies reply (Some xs) (Some ys) is h =
     same : (a b : List ℕ) → Some a ≡ Some b → a ≡ b
     same a b e = cc
 
-cut_off : (before : List ℕ) (replies : List Reply) (reply : Reply) (old new : Option (List ℕ)) (count : ℕ) → old ≡ Some (before ++ reply_texts replies) →
+pub cut_off : (before : List ℕ) (replies : List Reply) (reply : Reply) (old new : Option (List ℕ)) (count : ℕ) → old ≡ Some (before ++ reply_texts replies) →
     Appends old new (take count (reply_text reply)) → IsCutOff before (replies ++ reply ∷ []) new count
 cut_off before replies reply None new count is h = absurd (none_is_some is)
   where
@@ -89,7 +89,7 @@ list_any-push p (x ∷ xs) r = or_step (p x) (list_any p xs) (p r) (list_any p (
     or_step true b c d h = refl
     or_step false b c d h = h
 
-seen_of : (p : Reply → Bool) (now : Bool) (replies : List Reply) (reply : Reply) (next : Bool) → now ≡ list_any p replies → next ≡ (now || p reply) →
+pub seen_of : (p : Reply → Bool) (now : Bool) (replies : List Reply) (reply : Reply) (next : Bool) → now ≡ list_any p replies → next ≡ (now || p reply) →
     next ≡ list_any p (replies ++ reply ∷ [])
 seen_of p now replies reply next h step = step ∙ ap (λ b. b || p reply) h ∙ sym (list_any-push p replies reply)
 
@@ -277,7 +277,7 @@ stops told text before left taken to_tell reader tally ending new items replies 
   ends = ends;
 }
 
-ends_all_read : (text : List ℕ) (later : List (List ℕ)) (left : Option (List ℕ)) (before : List ℕ) (replies : List Reply) (taken : Option (List ℕ)) →
+pub ends_all_read : (text : List ℕ) (later : List (List ℕ)) (left : Option (List ℕ)) (before : List ℕ) (replies : List Reply) (taken : Option (List ℕ)) →
     IsAllRead text later before replies taken → Ends (end_of replies) text later left before replies taken
 ends_all_read text later left before replies taken all =
     elim (list_any is_refusal replies) as (λ t. list_any is_refusal replies ≡ t → Ends (if t then Refused else if list_any is_for_memory replies then Starved else Answered) text later left before replies taken) [
@@ -287,6 +287,17 @@ ends_all_read text later left before replies taken all =
         | false ↦ λ f. (all, rw (e, f) refl)
       ] refl
     ] refl
+
+pub same_ending : (tally : Tally) (replies : List Reply) → tally.refused ≡ list_any is_refusal replies → tally.starved ≡ list_any is_for_memory replies →
+    ending_of tally ≡ end_of replies
+same_ending tally replies r s = rw (r, s) refl
+
+pub nothing_left : (reader : Reader) (left : Option (List ℕ)) → IsToRead reader left [] → left ≡ Some []
+nothing_left reader left h = h.told ∙ ap Some (last_empty h.held h.rest h.text_is)
+  where
+    last_empty : (a b : List ℕ) → [] ≡ a ++ b → b ≡ []
+    last_empty [] b e = sym e
+    last_empty (x ∷ xs) b e = cc
 
 -- All was read.
 pub ended_at : (told : Option (List ℕ)) (text before : List ℕ) (left_old left taken to_tell : Option (List ℕ)) (reader_old reader : Reader) (tally : Tally)
@@ -301,20 +312,9 @@ ended_at told text before left_old left taken to_tell reader_old reader tally it
     stops told text before left_old taken to_tell reader_old tally (ending_of tally) left items replies blamed at
     (subst (λ e. Ends e text (lines at.rest) left before replies taken) (sym (same_ending tally replies at.refused at.starved))
     (ends_all_read text (lines at.rest) left before replies taken all))
-  where
-    same_ending : (tally : Tally) (replies : List Reply) → tally.refused ≡ list_any is_refusal replies → tally.starved ≡ list_any is_for_memory replies →
-        ending_of tally ≡ end_of replies
-    same_ending tally replies r s = rw (r, s) refl
-
-    nothing_left : (reader : Reader) (left : Option (List ℕ)) → IsToRead reader left [] → left ≡ Some []
-    nothing_left reader left h = h.told ∙ ap Some (last_empty h.held h.rest h.text_is)
-      where
-        last_empty : (a b : List ℕ) → [] ≡ a ++ b → b ≡ []
-        last_empty [] b e = sym e
-        last_empty (x ∷ xs) b e = cc
 
 -- The lines that weren't answered are those of what the source has left, after bytes that no line feed ends.
-all_ended : (text front : List ℕ) (reader : Reader) (left : Option (List ℕ)) (rest : List ℕ) → text ≡ front ++ rest → IsToRead reader left rest →
+pub all_ended : (text front : List ℕ) (reader : Reader) (left : Option (List ℕ)) (rest : List ℕ) → text ≡ front ++ rest → IsToRead reader left rest →
     HoldsNoFeed reader → IsAllEnded text (lines rest) left
 all_ended text front reader left rest is to_read waiting = record {
   front = front;

@@ -20,7 +20,7 @@ use Rattle.session_meaning.specs.declared.ending.Ending.TheVariants.{Answered, B
 use Rattle.session_meaning.specs.At.{At}
 use Rattle.session_meaning.specs.Asked.{AreAsked, AsksNext, after_lines, after_moment}
 use Rattle.session_meaning.specs.Ingest.{Duty, Ingests, duties}
-use Rattle.session_meaning.specs.Progress.{HasAnsweredOver, HasIngestedOver, Progress}
+use Rattle.session_meaning.specs.Progress.{HasAnsweredOver, IngestsOver, Progress}
 use Rattle.session_meaning.specs.Runs.{Does, Edges, HasCause, IsLeft, NeedsNoSource, Outcome}
 use Rattle.session_meaning.specs.Session.{Ends, EndsAlone, Session, is_for_memory, is_refusal, reply_texts}
 use Rattle.trace_shell.specs.declared.session.Tally.{Tally}
@@ -71,6 +71,18 @@ Turned told text before left taken to_tell reader tally items replies blamed Non
 Turned told text before left taken to_tell reader tally items replies blamed (Some ending) =
     Came told text before left taken to_tell ending items replies blamed
 
+-- What an ingest came to that read `text` and ended so. `asks` says that what was asked was due by the first duties, and that the
+-- second ones are left.
+pub record CameByLines (asks : List Duty → List Duty → Type 0) (text before : List ℕ) (left taken : Option (List ℕ)) (ending : Ending)
+    (replies : List Reply) : Type 0 where
+  pub pushed : List (List ℕ)
+  pub later : List (List ℕ)
+  pub lines_are : lines text ≡ pushed ++ later
+  pub todo : List Duty
+  pub asked : asks (duties (lines text)) todo
+  pub is_left : IsLeft ending later todo
+  pub ends : Ends ending text later left before replies taken
+
 -- What a command came to over a core that was opened.
 abbrev pub CameOver : {D : Type 0} → Command → Ghosts D → Core D → Core D → (old_left old_taken told left taken to_tell : Option (List ℕ)) → Ending
     → List Item → List Reply → List (List ℕ) → Type 0
@@ -79,11 +91,9 @@ CameOver session g start core old_left old_taken told left taken to_tell ending 
     × ((text before : List ℕ) → old_left ≡ Some text → old_taken ≡ Some before
     → Came told text before left taken to_tell ending items replies blamed)
 CameOver ingest g start core old_left old_taken told left taken to_tell ending items replies blamed =
-    (pushed later : List (List ℕ)) × (todo : List Duty)
-    × HasIngestedOver g start (duties (pushed ++ later)) told items replies core todo to_tell
-    × IsLeft ending later todo × (blamed ≡ [])
+    HasAnsweredOver (port_of g) start items replies core × (blamed ≡ [])
     × ((text before : List ℕ) → old_left ≡ Some text → old_taken ≡ Some before
-    → (lines text ≡ pushed ++ later) × Ends ending text later left before replies taken)
+    → CameByLines (λ todo rest. IngestsOver g todo told start items replies core rest to_tell) text before left taken ending replies)
 CameOver (Alone line) g start core old_left old_taken told left taken to_tell ending items replies blamed =
     HasAnsweredOver (port_of g) start items replies core
     × ((item : Item) × (reply : Reply) × (items ≡ item ∷ []) × (replies ≡ reply ∷ []) × NeedsNoSource ending
@@ -97,11 +107,9 @@ CameTo sure session first last old_left old_taken told left taken to_tell ending
     (text before : List ℕ) → old_left ≡ Some text → old_taken ≡ Some before
     → Came told text before left taken to_tell ending items replies blamed
 CameTo sure ingest first last old_left old_taken told left taken to_tell ending items replies blamed =
-    (pushed later : List (List ℕ)) × (todo : List Duty)
-    × Ingests sure (duties (pushed ++ later)) told first items replies last todo to_tell
-    × IsLeft ending later todo × (blamed ≡ [])
+    (blamed ≡ [])
     × ((text before : List ℕ) → old_left ≡ Some text → old_taken ≡ Some before
-    → (lines text ≡ pushed ++ later) × Ends ending text later left before replies taken)
+    → CameByLines (λ todo rest. Ingests sure todo told first items replies last rest to_tell) text before left taken ending replies)
 CameTo sure (Alone line) first last old_left old_taken told left taken to_tell ending items replies blamed =
     (item : Item) × (reply : Reply) × (items ≡ item ∷ []) × (replies ≡ reply ∷ []) × NeedsNoSource ending
     × AsksNext told line blamed item × (to_tell ≡ after_moment told)

@@ -1,29 +1,30 @@
 //! An ingest: the lines of a source are pushed in order over a store's core, as requests in OTLP/JSON. The store is kept small in
 //! between, and flushed, compacted and rid of its loose files at the end. Each reply is written before anything else is asked.
 
-ghost use Rattle.std.specs.Prelude.{◌≡◌, ◌⊎◌, ◌≤◌, ◌<◌, ◌++◌, ℕ, List, [], ◌∷◌, Option, Some, IfSome, length};
+ghost use Rattle.std.specs.Prelude.{◌≡◌, ◌⊎◌, ◌≤◌, ◌<◌, ◌-◌, ◌++◌, ℕ, List, [], ◌∷◌, Bool, true, false, Option, Some, None, Ok, IfSome, IfOk, IfErr, if◌then◌else◌};
 ghost use Rattle.span_types.specs.Faults.{Rose};
-ghost use Rattle.io_edges.specs.Lines.{lines, taken_limit};
+ghost use Rattle.io_edges.specs.Lines.{line_limit, taken_limit};
 ghost use Rattle.io_edges.specs.Reader.{TakesBytes, to_come};
 ghost use Rattle.store_core.specs.Port.{port_of};
 ghost use Rattle.store_model.specs.Holds.{Hold};
 ghost use Rattle.session_text.specs.declared.reply.Reply.{Reply};
+ghost use Rattle.session_text.specs.declared.request.Request.{Request};
+ghost use Rattle.session_text.specs.declared.request.Request.TheVariants.{Compact as AsksCompact, CutAll as AsksCutAll, Flush as AsksFlush, Reclaim as AsksReclaim};
 ghost use Rattle.session_text.specs.Items.{Item};
-ghost use Rattle.session_meaning.specs.declared.ending.Ending.TheVariants.{ReadFault, Spent, Starved, WriteFault};
-ghost use Rattle.session_meaning.specs.Asked.{after_moment};
-ghost use Rattle.session_meaning.specs.Ingest.{Duty, ask as to_ask, at_the_end, compact_all, duties, is_joined, keep_small, most_rounds, push};
-ghost use Rattle.session_meaning.specs.Progress.{HasIngestedOver};
-ghost use Rattle.session_meaning.specs.Runs.{IsLeft, IsPastOpening};
-ghost use Rattle.session_meaning.specs.Session.{Ends};
-ghost use Rattle.session_text.specs.declared.request.Request.TheVariants.{CutAll as AsksCutAll, Flush as AsksFlush};
-ghost use Rattle.trace_shell.specs.Ingesting.{HasMade, HasPushed, ended_by};
+ghost use Rattle.session_text.specs.Requests.{AsksPush};
+ghost use Rattle.session_meaning.specs.declared.ending.Ending.TheVariants.{Answered, ReadFault, Refused, Spent, Starved, WriteFault};
+ghost use Rattle.session_meaning.specs.Ingest.{Duty, ask as to_ask, at_the_end, compact_all as to_compact_all, from_lines, is_joined, keep_small as to_keep_small, most_rounds};
+ghost use Rattle.session_meaning.specs.Progress.{HasAnsweredOne, HasAnsweredOver, IngestsOver};
+ghost use Rattle.session_meaning.specs.Runs.{IsPastOpening};
+ghost use Rattle.trace_shell.specs.Turn.{CameByLines};
+ghost use Rattle.trace_shell.specs.Ingesting.{HasAsked, HasReadTo, HaveGiven, IsLong, IsReadingAt, IsStopped, Leaves, ReadOn, ended_by, ending_in, stopped_in, turn_of};
 
-use crate::session::{CLIENT, Tally, refuse_line, write};
+use crate::session::{CLIENT, Tally, write};
 use client_run::answer_request;
 use disk_model::Device;
 use io_edges::{Clock, Gate, Line, LineError, LineReader, Sink, Source};
 use session_meaning::Ending;
-use session_text::{Reply, Request, read_push};
+use session_text::{Refusal, Reply, Request, read_push};
 use std::alloc::Global;
 use store_core::Core;
 
@@ -56,36 +57,57 @@ pub(crate) fn ingest<S: Source, K: Sink, D: Device, C: Clock, G: Gate>(
     gate: &G,
 ) -> Ending
     requires { (held : List Hold) × (port_of D.Device.own).holds core.old held }
-    ensures ran { (pushed later : List (List ℕ)) × (left : List Duty) × (items : List Item) × (replies : List Reply)
-        × HasIngestedOver D.Device.own core.old (duties (pushed ++ later)) (C.moments clock.old) items replies core.new left
-        (C.moments clock.new)
-        × IsLeft result later left
+    ensures ran { (items : List Item) × (replies : List Reply)
+        × HasAnsweredOver (port_of D.Device.own) core.old items replies core.new
         × ((text before : List ℕ) → S.left source.old ≡ Some text → K.taken sink.old ≡ Some before
-        → (lines text ≡ pushed ++ later) × Ends result text later (S.left source.new) before replies (K.taken sink.new)) }
+        → CameByLines (λ todo rest. IngestsOver D.Device.own todo (C.moments clock.old) core.old items replies core.new rest
+        (C.moments clock.new)) text before (S.left source.new) (K.taken sink.new) result replies) }
     ensures write_fault { result ≡ WriteFault → Rose (K.faults sink.old) (K.faults sink.new) }
     ensures read_fault { result ≡ ReadFault → Rose (S.faults source.old) (S.faults source.new) }
     ensures spent { result ≡ Spent → TakesBytes (S.left source.old) (S.left source.new) 0 taken_limit }
     ensures endings { IsPastOpening result }
 {
-    let mut reader = LineReader::new(alloc);
     let mut tally = Tally::new();
     if let Some(ending) = keep_small(alloc, &mut tally, sink, core, gate) {
         return ending;
     }
+    match push_all(alloc, source, &mut tally, sink, core, clock, gate) {
+        Some(early) => early,
+        None => finish(alloc, &mut tally, sink, core, gate),
+    }
+}
+
+// Pushes all lines of the source, and keeps the store small after each. Gives how the run ends, where it ends before they are all
+// pushed.
+fn push_all<S: Source, K: Sink, D: Device, C: Clock, G: Gate>(
+    alloc: Global,
+    source: &mut S,
+    tally: &mut Tally,
+    sink: &mut K,
+    core: &mut Core<D>,
+    clock: &mut C,
+    gate: &G,
+) -> Option<Ending>
+    requires { (held : List Hold) × (port_of D.Device.own).holds core.old held }
+    ensures pushed { (items : List Item) × (replies : List Reply) × (stopped : Option Ending)
+        × HasAsked D.Device.own core.old core.new (K.taken sink.old) (K.taken sink.new) tally.old tally.new items replies stopped
+        × IsStopped result stopped
+        × ((text : List ℕ) → S.left source.old ≡ Some text → (pushed : List (List ℕ))
+        × ((later : List (List ℕ)) → Leaves D.Device.own core.old core.new (from_lines (pushed ++ later)) (from_lines later)
+        (C.moments clock.old) (C.moments clock.new) items replies stopped)
+        × HasReadTo result text pushed (S.left source.new)) }
+    ensures sink_counted { K.faults sink.old ≤ K.faults sink.new }
+    ensures write_fault { IfSome result (λ ending. ending ≡ WriteFault → Rose (K.faults sink.old) (K.faults sink.new)) }
+    ensures read_fault { IfSome result (λ ending. ending ≡ ReadFault → Rose (S.faults source.old) (S.faults source.new)) }
+    ensures spent { IfSome result (λ ending. ending ≡ Spent → TakesBytes (S.left source.old) (S.left source.new) 0 taken_limit) }
+    ensures endings { IfSome result IsPastOpening }
+{
+    let mut reader = LineReader::new(alloc);
     'lines: loop {
-        match push_next(
-            alloc,
-            &mut reader,
-            source,
-            &mut tally,
-            sink,
-            core,
-            clock,
-            gate,
-        ) {
+        match push_next(alloc, &mut reader, source, tally, sink, core, clock, gate) {
             After::Line => {}
-            After::End => return finish(alloc, &mut tally, sink, core, gate),
-            After::Ending(ending) => return ending,
+            After::End => return None,
+            After::Ending(ending) => return Some(ending),
         }
     }
 }
@@ -102,27 +124,46 @@ fn push_next<S: Source, K: Sink, D: Device, C: Clock, G: Gate>(
     gate: &G,
 ) -> After
     requires { (held : List Hold) × (port_of D.Device.own).holds core.old held }
-    ensures pushed { HasPushed D.Device.own core.old core.new (S.left source.old) (S.left source.new) reader.old reader.new
-        (K.taken sink.old) (K.taken sink.new) tally.old tally.new (C.moments clock.old) (C.moments clock.new) result }
+    ensures pushed { (items : List Item) × (replies : List Reply) × (stopped : Option Ending)
+        × HasAsked D.Device.own core.old core.new (K.taken sink.old) (K.taken sink.new) tally.old tally.new items replies stopped
+        × IsStopped (ending_in result) stopped
+        × ((text : List ℕ) (pushed : List (List ℕ)) → IsReadingAt text pushed (S.left source.old) reader.old
+        → (asked : List (List ℕ))
+        × ((later : List (List ℕ)) → Leaves D.Device.own core.old core.new (from_lines (asked ++ later)) (from_lines later)
+        (C.moments clock.old) (C.moments clock.new) items replies stopped)
+        × ReadOn result text (pushed ++ asked) (S.left source.new) reader.new) }
+    ensures nearer { result ≡ After.Line → to_come reader.new < to_come reader.old }
     ensures source_counted { S.faults source.old ≤ S.faults source.new }
     ensures sink_counted { K.faults sink.old ≤ K.faults sink.new }
+    ensures write_fault { IfSome (ending_in result) (λ ending. ending ≡ WriteFault → Rose (K.faults sink.old) (K.faults sink.new)) }
+    ensures read_fault { IfSome (ending_in result) (λ ending. ending ≡ ReadFault → Rose (S.faults source.old) (S.faults source.new)) }
     ensures took { TakesBytes (S.left source.old) (S.left source.new) reader.old.taken reader.new.taken }
+    ensures spent { IfSome (ending_in result) (λ ending. ending ≡ Spent → reader.new.taken ≡ taken_limit) }
+    ensures endings { IfSome (ending_in result) IsPastOpening }
 {
     let line = match reader.next(source) {
         Ok(line) => line,
         Err(LineError::Fault) => return After::Ending(Ending::ReadFault),
         Err(LineError::Memory) => return After::Ending(Ending::Starved),
     };
-    let ending = match line {
-        Line::Whole(bytes) => push_line(alloc, tally, sink, core, clock, gate, bytes.as_slice()),
-        Line::TooLong { length } => match refuse_line(alloc, tally, sink, clock, length) {
-            Some(ending) => Some(ending),
-            None => keep_small(alloc, tally, sink, core, gate),
-        },
-        Line::End => return After::End,
-        Line::Spent { .. } => Some(Ending::Spent),
-    };
-    match ending {
+    match line {
+        Line::Whole(bytes) => {
+            go_on(push_line(alloc, tally, sink, core, clock, gate, bytes.as_slice()))
+        }
+        Line::TooLong { length } => go_on(refuse_long(
+            alloc, tally, sink, core, clock, gate, length,
+        )),
+        Line::End => After::End,
+        Line::Spent { .. } => After::Ending(Ending::Spent),
+    }
+}
+
+// What comes after a line that was done with: the next one, unless the run ends.
+fn go_on(ended: Option<Ending>) -> After
+    ensures is { result ≡ turn_of ended }
+    ensures ending { ending_in result ≡ ended }
+{
+    match ended {
         Some(ending) => After::Ending(ending),
         None => After::Line,
     }
@@ -139,12 +180,10 @@ fn push_line<K: Sink, D: Device, C: Clock, G: Gate>(
     line: &[u8],
 ) -> Option<Ending>
     requires { (held : List Hold) × (port_of D.Device.own).holds core.old held }
-    ensures empty { line.now ≡ [] → (result ≡ None) × (core.new ≡ core.old) × (tally.new ≡ tally.old)
-        × (sink.new ≡ sink.old) × (clock.new ≡ clock.old) }
-    ensures made { 0 < length line.now → (items : List Item) × (replies : List Reply) × ((later : List Duty)
-        → HasMade D.Device.own core.old core.new (K.taken sink.old) (K.taken sink.new) tally.old tally.new
-        (push line.now ∷ keep_small ∷ later) later (C.moments clock.old) (C.moments clock.new) items replies result) }
-    ensures clock { 0 < length line.now → C.moments clock.new ≡ after_moment (C.moments clock.old) }
+    ensures pushed { (items : List Item) × (replies : List Reply)
+        × HasAsked D.Device.own core.old core.new (K.taken sink.old) (K.taken sink.new) tally.old tally.new items replies result
+        × ((later : List (List ℕ)) → Leaves D.Device.own core.old core.new (from_lines (line.now ∷ later)) (from_lines later)
+        (C.moments clock.old) (C.moments clock.new) items replies result) }
     ensures sink_counted { K.faults sink.old ≤ K.faults sink.new }
     ensures write_fault { IfSome result (λ ending. ending ≡ WriteFault → Rose (K.faults sink.old) (K.faults sink.new)) }
     ensures endings { IfSome result (λ ending. (ending ≡ WriteFault) ⊎ (ending ≡ Starved)) }
@@ -153,11 +192,74 @@ fn push_line<K: Sink, D: Device, C: Clock, G: Gate>(
         return None;
     }
     let moment = clock.now();
-    let reply = match read_push(alloc, line, moment) {
+    let reply = push(alloc, core, gate, line, moment);
+    end_line(alloc, tally, sink, core, gate, &reply)
+}
+
+// Pushes what a line holds that was read at this moment, in nanoseconds.
+fn push<D: Device, G: Gate>(
+    alloc: Global,
+    core: &mut Core<D>,
+    gate: &G,
+    line: &[u8],
+    moment: u64,
+) -> Reply
+    requires { (held : List Hold) × (port_of D.Device.own).holds core.old held }
+    ensures { (item : Item) × AsksPush moment line.now item × HasAnsweredOne (port_of D.Device.own) core.old item result core.new }
+{
+    match read_push(alloc, line, moment) {
         Ok(request) => answer_request(alloc, core, request, CLIENT, gate),
         Err(why) => Reply::Refused(why),
-    };
-    match write(alloc, tally, sink, &reply) {
+    }
+}
+
+// Refuses a line of so many bytes, which are too many, writes the reply and keeps the store small.
+fn refuse_long<K: Sink, D: Device, C: Clock, G: Gate>(
+    alloc: Global,
+    tally: &mut Tally,
+    sink: &mut K,
+    core: &mut Core<D>,
+    clock: &mut C,
+    gate: &G,
+    length: u64,
+) -> Option<Ending>
+    requires holds { (held : List Hold) × (port_of D.Device.own).holds core.old held }
+    requires long { line_limit < length }
+    ensures pushed { (items : List Item) × (replies : List Reply)
+        × HasAsked D.Device.own core.old core.new (K.taken sink.old) (K.taken sink.new) tally.old tally.new items replies result
+        × ((line : List ℕ) (later : List (List ℕ)) → IsLong length line
+        → Leaves D.Device.own core.old core.new (from_lines (line ∷ later)) (from_lines later)
+        (C.moments clock.old) (C.moments clock.new) items replies result) }
+    ensures sink_counted { K.faults sink.old ≤ K.faults sink.new }
+    ensures write_fault { IfSome result (λ ending. ending ≡ WriteFault → Rose (K.faults sink.old) (K.faults sink.new)) }
+    ensures endings { IfSome result (λ ending. (ending ≡ WriteFault) ⊎ (ending ≡ Starved)) }
+{
+    // A line that is refused unread takes a moment of the clock like any other.
+    let _moment = clock.now();
+    let reply = Reply::Refused(Refusal::TooLong { length });
+    end_line(alloc, tally, sink, core, gate, &reply)
+}
+
+// Writes the reply to a line, and keeps the store small.
+fn end_line<K: Sink, D: Device, G: Gate>(
+    alloc: Global,
+    tally: &mut Tally,
+    sink: &mut K,
+    core: &mut Core<D>,
+    gate: &G,
+    reply: &Reply,
+) -> Option<Ending>
+    requires { (held : List Hold) × (port_of D.Device.own).holds core.old held }
+    ensures ended { (items : List Item) × (replies : List Reply)
+        × HasAnsweredOver (port_of D.Device.own) core.old items replies core.new
+        × HaveGiven (K.taken sink.old) (K.taken sink.new) tally.old tally.new (reply.now ∷ replies) result
+        × ((later : List (List ℕ)) (told : Option (List ℕ)) → Leaves D.Device.own core.old core.new
+        (to_keep_small ∷ from_lines later) (from_lines later) told told items replies result) }
+    ensures sink_counted { K.faults sink.old ≤ K.faults sink.new }
+    ensures write_fault { IfSome result (λ ending. ending ≡ WriteFault → Rose (K.faults sink.old) (K.faults sink.new)) }
+    ensures endings { IfSome result (λ ending. (ending ≡ WriteFault) ⊎ (ending ≡ Starved)) }
+{
+    match write(alloc, tally, sink, reply) {
         Some(ending) => Some(ending),
         None => keep_small(alloc, tally, sink, core, gate),
     }
@@ -172,9 +274,10 @@ fn keep_small<K: Sink, D: Device, G: Gate>(
     gate: &G,
 ) -> Option<Ending>
     requires { (held : List Hold) × (port_of D.Device.own).holds core.old held }
-    ensures made { (items : List Item) × (replies : List Reply) × ((later : List Duty) (told : Option (List ℕ))
-        → HasMade D.Device.own core.old core.new (K.taken sink.old) (K.taken sink.new) tally.old tally.new
-        (keep_small ∷ later) later told told items replies result) }
+    ensures kept { (items : List Item) × (replies : List Reply)
+        × HasAsked D.Device.own core.old core.new (K.taken sink.old) (K.taken sink.new) tally.old tally.new items replies result
+        × ((later : List (List ℕ)) (told : Option (List ℕ)) → Leaves D.Device.own core.old core.new
+        (to_keep_small ∷ from_lines later) (from_lines later) told told items replies result) }
     ensures sink_counted { K.faults sink.old ≤ K.faults sink.new }
     ensures write_fault { IfSome result (λ ending. ending ≡ WriteFault → Rose (K.faults sink.old) (K.faults sink.new)) }
     ensures endings { IfSome result (λ ending. (ending ≡ WriteFault) ⊎ (ending ≡ Starved)) }
@@ -194,8 +297,9 @@ fn cut_and_flush<K: Sink, D: Device, G: Gate>(
     gate: &G,
 ) -> Option<Ending>
     requires { (held : List Hold) × (port_of D.Device.own).holds core.old held }
-    ensures made { (items : List Item) × (replies : List Reply) × ((later : List Duty) (told : Option (List ℕ))
-        → HasMade D.Device.own core.old core.new (K.taken sink.old) (K.taken sink.new) tally.old tally.new
+    ensures made { (items : List Item) × (replies : List Reply)
+        × HasAsked D.Device.own core.old core.new (K.taken sink.old) (K.taken sink.new) tally.old tally.new items replies result
+        × ((later : List Duty) (told : Option (List ℕ)) → Leaves D.Device.own core.old core.new
         (to_ask AsksCutAll ∷ to_ask AsksFlush ∷ later) later told told items replies result) }
     ensures sink_counted { K.faults sink.old ≤ K.faults sink.new }
     ensures write_fault { IfSome result (λ ending. ending ≡ WriteFault → Rose (K.faults sink.old) (K.faults sink.new)) }
@@ -216,22 +320,61 @@ fn finish<K: Sink, D: Device, G: Gate>(
     gate: &G,
 ) -> Ending
     requires { (held : List Hold) × (port_of D.Device.own).holds core.old held }
-    ensures made { (items : List Item) × (replies : List Reply) × (stopped : Option Ending) × ((told : Option (List ℕ))
-        → HasMade D.Device.own core.old core.new (K.taken sink.old) (K.taken sink.new) tally.old tally.new
-        at_the_end [] told told items replies stopped)
-        × (result ≡ ended_by stopped tally.new) }
+    ensures finished { (items : List Item) × (replies : List Reply) × (stopped : Option Ending)
+        × HasAsked D.Device.own core.old core.new (K.taken sink.old) (K.taken sink.new) tally.old tally.new items replies stopped
+        × (result ≡ ended_by stopped tally.new)
+        × ((told : Option (List ℕ)) → Leaves D.Device.own core.old core.new at_the_end [] told told items replies stopped) }
     ensures write_fault { result ≡ WriteFault → Rose (K.faults sink.old) (K.faults sink.new) }
-    ensures endings { IsPastOpening result }
+    ensures endings { (result ≡ WriteFault) ⊎ ((result ≡ Answered) ⊎ ((result ≡ Refused) ⊎ (result ≡ Starved))) }
 {
-    if let Some(ending) = cut_and_flush(alloc, tally, sink, core, gate) {
-        return ending;
-    }
-    if let Some(ending) = compact_all(alloc, tally, sink, core, gate) {
-        return ending;
-    }
-    match ask(alloc, tally, sink, core, gate, Request::Reclaim) {
+    match keep_up(alloc, tally, sink, core, gate) {
         Some(ending) => ending,
         None => tally.ending(),
+    }
+}
+
+// Cuts and flushes all rows, joins blocks, and empties loose files.
+fn keep_up<K: Sink, D: Device, G: Gate>(
+    alloc: Global,
+    tally: &mut Tally,
+    sink: &mut K,
+    core: &mut Core<D>,
+    gate: &G,
+) -> Option<Ending>
+    requires { (held : List Hold) × (port_of D.Device.own).holds core.old held }
+    ensures made { (items : List Item) × (replies : List Reply)
+        × HasAsked D.Device.own core.old core.new (K.taken sink.old) (K.taken sink.new) tally.old tally.new items replies result
+        × ((told : Option (List ℕ)) → Leaves D.Device.own core.old core.new at_the_end [] told told items replies result) }
+    ensures sink_counted { K.faults sink.old ≤ K.faults sink.new }
+    ensures write_fault { IfSome result (λ ending. ending ≡ WriteFault → Rose (K.faults sink.old) (K.faults sink.new)) }
+    ensures endings { IfSome result (λ ending. (ending ≡ WriteFault) ⊎ (ending ≡ Starved)) }
+{
+    match cut_and_flush(alloc, tally, sink, core, gate) {
+        Some(ending) => Some(ending),
+        None => compact_and_reclaim(alloc, tally, sink, core, gate),
+    }
+}
+
+// Joins blocks, and empties loose files.
+fn compact_and_reclaim<K: Sink, D: Device, G: Gate>(
+    alloc: Global,
+    tally: &mut Tally,
+    sink: &mut K,
+    core: &mut Core<D>,
+    gate: &G,
+) -> Option<Ending>
+    requires { (held : List Hold) × (port_of D.Device.own).holds core.old held }
+    ensures made { (items : List Item) × (replies : List Reply)
+        × HasAsked D.Device.own core.old core.new (K.taken sink.old) (K.taken sink.new) tally.old tally.new items replies result
+        × ((told : Option (List ℕ)) → Leaves D.Device.own core.old core.new
+        (to_compact_all most_rounds ∷ to_ask AsksReclaim ∷ []) [] told told items replies result) }
+    ensures sink_counted { K.faults sink.old ≤ K.faults sink.new }
+    ensures write_fault { IfSome result (λ ending. ending ≡ WriteFault → Rose (K.faults sink.old) (K.faults sink.new)) }
+    ensures endings { IfSome result (λ ending. (ending ≡ WriteFault) ⊎ (ending ≡ Starved)) }
+{
+    match compact_all(alloc, tally, sink, core, gate) {
+        Some(ending) => Some(ending),
+        None => ask(alloc, tally, sink, core, gate, Request::Reclaim),
     }
 }
 
@@ -244,23 +387,49 @@ fn compact_all<K: Sink, D: Device, G: Gate>(
     gate: &G,
 ) -> Option<Ending>
     requires { (held : List Hold) × (port_of D.Device.own).holds core.old held }
-    ensures made { (items : List Item) × (replies : List Reply) × ((later : List Duty) (told : Option (List ℕ))
-        → HasMade D.Device.own core.old core.new (K.taken sink.old) (K.taken sink.new) tally.old tally.new
-        (compact_all most_rounds ∷ later) later told told items replies result) }
+    ensures made { (items : List Item) × (replies : List Reply)
+        × HasAsked D.Device.own core.old core.new (K.taken sink.old) (K.taken sink.new) tally.old tally.new items replies result
+        × ((asked : Request) (later : List Duty) (told : Option (List ℕ)) → Leaves D.Device.own core.old core.new
+        (to_compact_all most_rounds ∷ to_ask asked ∷ later) (to_ask asked ∷ later) told told items replies result) }
     ensures sink_counted { K.faults sink.old ≤ K.faults sink.new }
     ensures write_fault { IfSome result (λ ending. ending ≡ WriteFault → Rose (K.faults sink.old) (K.faults sink.new)) }
     ensures endings { IfSome result (λ ending. (ending ≡ WriteFault) ⊎ (ending ≡ Starved)) }
 {
-    for _ in 0..MOST_ROUNDS {
-        let reply = answer_request(alloc, core, Request::Compact, CLIENT, gate);
-        if let Some(ending) = write(alloc, tally, sink, &reply) {
-            return Some(ending);
-        }
-        if !is_joined(&reply) {
-            return None;
+    'rounds: for _ in 0..MOST_ROUNDS {
+        match compact_once(alloc, tally, sink, core, gate) {
+            Ok(true) => {}
+            Ok(false) => return None,
+            Err(ending) => return Some(ending),
         }
     }
     None
+}
+
+// Compacts once and writes the reply. Gives whether blocks were joined, or how the run ends.
+fn compact_once<K: Sink, D: Device, G: Gate>(
+    alloc: Global,
+    tally: &mut Tally,
+    sink: &mut K,
+    core: &mut Core<D>,
+    gate: &G,
+) -> Result<bool, Ending>
+    requires { (held : List Hold) × (port_of D.Device.own).holds core.old held }
+    ensures made { (reply : Reply)
+        × HasAsked D.Device.own core.old core.new (K.taken sink.old) (K.taken sink.new) tally.old tally.new
+        (Ok AsksCompact ∷ []) (reply ∷ []) (stopped_in result)
+        × IfOk result (λ joined. joined ≡ is_joined reply)
+        × ((times : ℕ) (later : List Duty) (told : Option (List ℕ)) → 0 < times → Leaves D.Device.own core.old core.new
+        (to_compact_all times ∷ later) (if is_joined reply then to_compact_all (times - 1) ∷ later else later) told told
+        (Ok AsksCompact ∷ []) (reply ∷ []) (stopped_in result)) }
+    ensures sink_counted { K.faults sink.old ≤ K.faults sink.new }
+    ensures write_fault { IfErr result (λ ending. ending ≡ WriteFault → Rose (K.faults sink.old) (K.faults sink.new)) }
+    ensures endings { IfErr result (λ ending. (ending ≡ WriteFault) ⊎ (ending ≡ Starved)) }
+{
+    let reply = answer_request(alloc, core, Request::Compact, CLIENT, gate);
+    match write(alloc, tally, sink, &reply) {
+        Some(ending) => Err(ending),
+        None => Ok(is_joined(&reply)),
+    }
 }
 
 // Whether blocks were joined.
@@ -280,8 +449,9 @@ fn ask<K: Sink, D: Device, G: Gate>(
     request: Request,
 ) -> Option<Ending>
     requires { (held : List Hold) × (port_of D.Device.own).holds core.old held }
-    ensures made { (items : List Item) × (replies : List Reply) × ((later : List Duty) (told : Option (List ℕ))
-        → HasMade D.Device.own core.old core.new (K.taken sink.old) (K.taken sink.new) tally.old tally.new
+    ensures made { (items : List Item) × (replies : List Reply)
+        × HasAsked D.Device.own core.old core.new (K.taken sink.old) (K.taken sink.new) tally.old tally.new items replies result
+        × ((later : List Duty) (told : Option (List ℕ)) → Leaves D.Device.own core.old core.new
         (to_ask request ∷ later) later told told items replies result) }
     ensures sink_counted { K.faults sink.old ≤ K.faults sink.new }
     ensures write_fault { IfSome result (λ ending. ending ≡ WriteFault → Rose (K.faults sink.old) (K.faults sink.new)) }

@@ -249,7 +249,7 @@ fn answer_line<K: Sink, Q: Port, C: Clock, P: PatternMaker, G: Gate>(
 }
 
 // Refuses a line of so many bytes, which are too many, and writes the reply.
-pub(crate) fn refuse_line<K: Sink, C: Clock>(
+fn refuse_line<K: Sink, C: Clock>(
     alloc: Global,
     tally: &mut Tally,
     sink: &mut K,

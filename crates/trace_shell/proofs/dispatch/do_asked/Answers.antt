@@ -26,13 +26,13 @@ returns-in-Session-clause-alone g c = λ line is. absurd (session_is_not_alone l
 pub returns-in-Ingest-clause-came : goal.returns-in-Ingest-clause-came
 returns-in-Ingest-clause-came g c =
     let ran = c.ingest.ensures.ran in (
-      ran.3,
-      ran.4,
+      ran.0,
+      ran.1,
       [],
       refuses-none g.P.PatternMaker.makes _ c.args.patterns.now c.args.patterns.now,
       subst (λ a. CameOver (command_of a) g.D.Device c.args.core.now c.ingest.new.core (g.S.Source.left c.args.source.now) (g.K.Sink.taken c.args.sink.now) (g.C.Clock.moments c.args.clock.now)
-          (g.S.Source.left c.ingest.new.source) (g.K.Sink.taken c.ingest.new.sink) (g.C.Clock.moments c.ingest.new.clock) c.ingest.result ran.3 ran.4 [])
-          (sym c.in-Ingest.is) (ran.0, ran.1, ran.2, ran.5, ran.6, refl, ran.7),
+          (g.S.Source.left c.ingest.new.source) (g.K.Sink.taken c.ingest.new.sink) (g.C.Clock.moments c.ingest.new.clock) c.ingest.result ran.0 ran.1 [])
+          (sym c.in-Ingest.is) (ran.2, refl, ran.3),
     )
 
 pub returns-in-Ingest-clause-alone : goal.returns-in-Ingest-clause-alone
