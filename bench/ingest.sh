@@ -1,42 +1,88 @@
 #!/usr/bin/env bash
-# An ingest of a million spans: `vurnda FOLDER ingest` over LINES lines (2,000) of SPANS spans (500), as the OpenTelemetry Collector's
-# file exporter writes them, beside SQLite, which is given the same lines and takes the spans out of them by `json_each`
+# Taking in a million spans: `vurnda FOLDER ingest` over LINES_OF_SPANS lines (2,000) of SPANS spans (500), as the OpenTelemetry
+# Collector's file exporter writes them, beside SQLite, which is given the same lines and takes the spans out of them by `json_each`
 # (ingest/sqlite.py), and PostgreSQL, which does so by `json_array_elements` (ingest/postgres.sh); each where it is installed, one
-# transaction a line, synced, into a table with an index on the trace's id and one on the name. All stand on one disk and take turns.
-# `ingest.sh PROGRAM` takes a built program, else the one that `./vurnda` builds. Each number is the least of ROUNDS runs (3): wall
-# time, and processor time of all processes, user and system. That of vurnda has its flushes, compactions and opening in it, that of
-# PostgreSQL its server's beginning and end. The folder is in TMPDIR, which should lie on the disk that is meant and not in memory.
+# transaction a line, synced, into a table with an index on the trace's and the span's id and one on the name. All stand on one disk and take turns.
+# Then an ingest of TIMES (4) times as many spans, and over these an opening, a look-up of a trace and a search, with the pages that
+# they read, where `strace` is installed. `ingest.sh PROGRAM` takes a built program, else the one that `./vurnda` builds. Of ROUNDS runs (3)
+# the least wall time, the least processor time of all processes, user and system, and the most memory of one process are told.
+# Vurnda's have its opening, flushes and compactions in them, PostgreSQL's its server's beginning and end. The folder is in TMPDIR,
+# which should lie on the disk that is meant and not in memory. LINES_FILE may name a file that has the lines already.
 set -eo pipefail
 here=$(cd "$(dirname "$0")" && pwd)
 work=${TMPDIR:-/tmp}/vurnda-bench/ingest
 program=${1:-$here/../crates/vurnda/out/vurnda}
 spans=${SPANS:-500}
 lines=${LINES_OF_SPANS:-2000}
+rounds=${ROUNDS:-3}
+times=${TIMES:-4}
+question='{ resource.service.name = "svc-1" && .http.response.status_code = 500 && duration > 999ms }'
 rm -rf "$work"
 mkdir -p "$work"
-took() { # NAME OUTPUT WORD ..: the name, the seconds and the processor time of a command that writes there
-    { TIMEFORMAT='%R %U %S'; time "${@:3}" < "$work/lines" > "$2"; } 2>&1 | awk -v name="$1" '{ print name, $1, $2 + $3 }'
+spent() { # NAME OUTPUT WORD ..: the name, and what a command takes that writes there
+    echo "$1 $(python3 "$here/ingest/spent.py" "${@:2}")"
 }
-python3 "$here/lines.py" "$spans" "$lines" | sed 's/^push //' > "$work/lines"
-for round in $(seq "${ROUNDS:-3}"); do
-    took vurnda "$work/replies" "$program" "$work/folder" ingest
-    if [ "$(grep -c "^ok push [0-9]* accepted=$spans rejected=0 skipped=0$" "$work/replies")" != "$lines" ] || grep -q '^refused' "$work/replies"; then
+ingest() { # NAME LINES: an ingest of the first so many lines into a new folder
+    rm -rf "$work/folder"
+    spent "$1" "$work/replies" "$program" "$work/folder" ingest < <(head -n "$2" "$work/lines")
+    if [ "$(grep -c "^ok push [0-9]* accepted=$spans rejected=0 skipped=0$" "$work/replies")" != "$2" ] || grep -q '^refused' "$work/replies"; then
         echo "ingest.sh: not all was taken, see $work/replies" >&2
         exit 1
     fi
-    python3 -c 'import sqlite3' 2> /dev/null && took SQLite "$work/count" python3 "$here/ingest/sqlite.py" "$work/base"
-    command -v initdb > /dev/null && command -v psql > /dev/null && took PostgreSQL "$work/count" bash "$here/ingest/postgres.sh" "$work/server"
-    rm -rf "$work/folder" "$work"/base* "$work/server"
-done | awk -v spans="$((spans * lines))" '
-    NF != 3 { print; next }
-    !($1 in least) || $2 < least[$1] { least[$1] = $2 }
-    !($1 in spent) || $3 < spent[$1] { spent[$1] = $3 }
-    END {
-        printf "taking in %d spans:\n", spans
-        for (who in least) {
-            printf "  %-10s %8.2f s, %9.0f spans a second, processor time %.2f s", who, least[who], spans / least[who], spent[who]
-            if (who != "vurnda") printf "; vurnda takes %.2f of the time and %.2f of the processor time", least["vurnda"] / least[who], spent["vurnda"] / spent[who]
-            print ""
-        }
-    }'
+}
+databases() { # the same lines into each database
+    head -n "$lines" "$work/lines" > "$work/first"
+    if python3 -c 'import sqlite3' 2> /dev/null; then
+        spent SQLite "$work/count" python3 "$here/ingest/sqlite.py" "$work/base" < "$work/first"
+    fi
+    if command -v initdb > /dev/null && command -v psql > /dev/null; then
+        spent PostgreSQL "$work/count" bash "$here/ingest/postgres.sh" "$work/server" < "$work/first"
+    fi
+    rm -rf "$work"/base* "$work/server"
+}
+pages() { # WORD ..: how many pages of 4,096 bytes a run reads of files, in as many bytes
+    command -v strace > /dev/null || return 0
+    strace -f -e trace=pread64 -o "$work/calls" "$program" "$work/folder" "$@" < /dev/null > "$work/reply"
+    awk '/pread64/ && $NF > 0 { bytes += $NF } END { printf "pages %d\n", (bytes + 4095) / 4096 }' "$work/calls"
+}
+ask() { # NAME WORD ..: what a run over the folder takes, and the pages that it reads
+    for _ in $(seq "$rounds"); do spent "$1" "$work/reply" "$program" "$work/folder" "${@:2}" < /dev/null; done
+    pages "${@:2}"
+}
+least() { # of the lines of each name the least seconds and processor time, the most memory, and the pages
+    awk '
+        $1 == "pages" { pages[last] = $2; next }
+        !($1 in wall) { names[++count] = $1 }
+        !($1 in wall) || $2 < wall[$1] { wall[$1] = $2 }
+        !($1 in cpu) || $3 < cpu[$1] { cpu[$1] = $3 }
+        $4 > most[$1] { most[$1] = $4 }
+        { last = $1 }
+        END {
+            for (i = 1; i <= count; i++) {
+                it = names[i]
+                printf "  %-11s %9.2f s, processor time %8.2f s, %6d MB", it, wall[it], cpu[it], most[it]
+                if (it in pages) printf ", %d pages read", pages[it]
+                print ""
+            }
+        }'
+}
+if [ -n "$LINES_FILE" ]; then
+    ln -s "$LINES_FILE" "$work/lines"
+else
+    python3 "$here/lines.py" "$spans" "$((lines * times))" | sed 's/^push //' > "$work/lines"
+fi
+echo "taking in $((spans * lines)) spans:"
+for _ in $(seq "$rounds"); do
+    ingest vurnda "$lines"
+    databases
+done | least
+echo "taking in $((spans * lines * times)) spans:"
+for _ in $(seq "$rounds"); do ingest vurnda "$((lines * times))"; done | least
+echo "over $((spans * lines * times)) spans in $(du -m "$work/folder" | cut -f1) MB:"
+trace=$(sed -n '1 { s/.*"traceId":"\([0-9a-f]*\)".*/\1/p; q }' "$work/lines")
+{
+    ask opening session
+    ask look-up trace "$trace"
+    ask search search "$question"
+} | least
 rm -rf "$work"

@@ -1,8 +1,8 @@
 #!/usr/bin/env bash
 # `postgres.sh FOLDER` makes a PostgreSQL server in a new folder and puts the spans of the lines of standard input into it, each line a
 # request in OTLP/JSON: the server takes them out of the line, in one transaction a line, with its defaults for syncing. The table has an
-# index on the trace's id and one on the name, and a span that came before isn't taken again. It prints how many spans there are. The
-# superuser can't run a server: then it runs as the user `postgres`.
+# index on the trace's and the span's id, by which a span that came before isn't taken again, and one on the name. It prints how many
+# spans there are. The superuser can't run a server: then it runs as the user `postgres`.
 set -eo pipefail
 as=()
 mkdir -p "$1"
@@ -20,7 +20,6 @@ until "${ask[@]}" -c 'select 1' > /dev/null 2>&1; do sleep 0.05; done
 "${ask[@]}" << 'SQL'
 create table span (trace text, id text, parent text, name text, kind int, start bigint, finish bigint, status int, attributes jsonb,
     resource jsonb, scope jsonb, unique (trace, id));
-create index span_of_trace on span (trace);
 create index span_of_name on span (name);
 create function take(line json) returns void language sql as $$
     insert into span

@@ -1,7 +1,8 @@
 #!/usr/bin/env python3
 """`sqlite.py FILE` puts the spans of the lines of standard input, each a request in OTLP/JSON, into a new SQLite database: the database
 takes them out of the line by `json_each`, in one transaction a line, with a log written ahead and `synchronous = full`. The table has an
-index on the trace's id and one on the name, and a span that came before isn't taken again. It prints how many spans there are."""
+index on the trace's and the span's id, by which a span that came before isn't taken again, and one on the name. It prints how many
+spans there are."""
 import sqlite3
 import sys
 
@@ -25,7 +26,6 @@ def main():
     base.execute("pragma journal_mode = wal")
     base.execute("pragma synchronous = full")
     base.execute(TABLE)
-    base.execute("create index span_of_trace on span (trace)")
     base.execute("create index span_of_name on span (name)")
     for line in sys.stdin:
         base.execute("begin")
