@@ -1,8 +1,8 @@
 -- How a run of events goes on.
-use Rattle.std.proofs.Common.{◌≡◌, inl, inr, ℕ, ◌+◌, ◌<◌, List, [], ◌∷◌, ◌++◌, take, get_or, length, refl, sym, ◌∙◌, ap, subst}
+use Rattle.std.proofs.Common.{◌≡◌, inl, inr, ℕ, ◌+◌, ◌<◌, ◌≤◌, List, [], ◌∷◌, ◌++◌, take, get_or, length, refl, sym, ◌∙◌, ap, subst}
 use Rattle.std.specs.Prelude.{IsTrue}
 use Rattle.std.specs.List.{AllByRecursion}
-use Rattle.std.proofs.lemmas.List.{take_more}
+use Rattle.std.proofs.lemmas.List.{take_all, take_more}
 use Rattle.store_model.specs.Holds.{Hold}
 use Rattle.store_state.specs.Meaning.{Meaning}
 use Rattle.client_run.specs.declared.event.Event.{Event}
@@ -91,3 +91,10 @@ pub run_stops : {P : Type 0} (meaning : Meaning P) (old mid new : P) (all given 
     → HasRunFirst meaning old given new
 run_stops meaning old mid new all given n e replies looks tasks come may less is same =
     subst (λ (es : List Event). HasRunFirst meaning old es new) same (stopped_at meaning old mid new all n replies looks tasks e come (one_more all n e less is) may)
+
+-- A run that comes to its end.
+pub run_ends : {P : Type 0} (meaning : Meaning P) (old new : P) (all given : List Event) (n : ℕ) (replies told : List EventReply) (looks : Looks) (tasks : Tasks)
+    → HasCome meaning old (take n all) replies new looks tasks → length all ≤ n → all ≡ given → told ≡ replies → HasRun meaning old given told new
+run_ends meaning old new all given n replies told looks tasks come high same is =
+    subst (λ (es : List Event). HasRun meaning old es told new) (take_all n all high ∙ same)
+    (subst (λ (rs : List EventReply). HasRun meaning old (take n all) rs new) (sym is) (has_run meaning old new (take n all) replies looks tasks come))

@@ -3,8 +3,12 @@ use Rattle.std.proofs.lemmas.Result.{err_from_is_err_and}
 use Rattle.store_model.specs.Event.{Event as event, Reply as reply}
 use Rattle.store_state.specs.Meaning.{Called}
 use Rattle.client_run.specs.Taken.{looks_of}
-use Rattle.client_run.proofs.EventLemmas.{has_paged, is_pinned, paged_untold}
+use Rattle.client_run.proofs.EventLemmas.{has_paged, is_pinned, no_page, paged_untold}
 use Rattle.client_run.proofs.events.read_page.Goals as goal
+
+pub returns-in_default-clause-answered : goal.returns-in_default-clause-answered
+returns-in_default-clause-answered g c = λ flush ready.
+    no_page g.P.LookPort.meaning c.args.port.now c.args.number c.args.block c.args.page (looks_of c.args.looks.now) c.in_default.ensures.none flush ready
 
 pub read_page-requires : goal.read_page-requires
 read_page-requires g c = record {
