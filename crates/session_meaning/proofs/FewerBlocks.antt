@@ -64,8 +64,8 @@ outside_fewer files xs (b ∷ bs) (inr (rest, is, part)) within =
   where
     inside : (t : Bool) → t ≡ true → length (outside_files files bs) + length rest ≤ length bs → length xs ≡ length (b ∷ rest)
         → length (if not t then b ∷ outside_files files bs else outside_files files bs) + length xs ≤ length (b ∷ bs)
-    inside true yes fewer size = omega (arith, fewer, size)
-    inside false no fewer size = let bad : ⊥ = cc in absurd bad
+    inside true at fewer size = omega (arith, fewer, size)
+    inside false at fewer size = let bad : ⊥ = cc in absurd bad
 
 -- One block stands in the place of two or more.
 pub joined_fewer : (told : Bool) (m m' : Machine) (blocks count : ℕ) → HasJoined told m blocks count m' → length m'.state.blocks + 1 ≤ length m.state.blocks

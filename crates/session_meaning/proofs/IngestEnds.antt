@@ -40,7 +40,7 @@ module _ (sure : Bool) where
       → Ingests sure [] told first items replies last [] to_tell → (items ≡ []) × (replies ≡ [])
   nothing_more told to_tell [] replies first last h = (refl, h.0)
   nothing_more told to_tell (item ∷ items) [] first last h = absurd h
-  nothing_more told to_tell (item ∷ items) (reply ∷ replies) first last (between, later, told_later, is_due, more) = absurd is_due
+  nothing_more told to_tell (item ∷ items) (reply ∷ replies) first last (between, later, told_later, is_due, answered, rest) = absurd is_due
 
   reclaims : (told to_tell : Option (List ℕ)) (items : List Item) (replies : List Reply) (first last : At)
       → Ingests sure (ask Reclaim ∷ []) told first items replies last [] to_tell → OnlyReclaims items replies
@@ -162,13 +162,13 @@ module _ (sure : Bool) where
       go true empty = absurd (no_duty (ask CutAll) (ask Flush ∷ todo) empty)
       go false empty = ends told to_tell [] replies first last (none, same, inr empty, clock)
   kept_small todo ends told to_tell (item ∷ items) [] first last h = absurd h
-  kept_small todo ends told to_tell (item ∷ items) (reply ∷ replies) first last (between, later, told_later, is_due, more) =
+  kept_small todo ends told to_tell (item ∷ items) (reply ∷ replies) first last (between, later, told_later, is_due, answered, rest) =
       go (nat_le many_rows (held_of first.machine.state)) is_due
     where
       go : (b : Bool) → IsDue (if b then ask CutAll ∷ ask Flush ∷ todo else due_at first todo) told item reply later told_later → HasFinished (item ∷ items) (reply ∷ replies)
       go true due = after_ask CutAll (ask Flush ∷ todo) (after_ask Flush todo ends) told to_tell (item ∷ items) (reply ∷ replies) first last
-          (between, later, told_later, due, more)
-      go false due = ends told to_tell (item ∷ items) (reply ∷ replies) first last (between, later, told_later, due, more)
+          (between, later, told_later, due, answered, rest)
+      go false due = ends told to_tell (item ∷ items) (reply ∷ replies) first last (between, later, told_later, due, answered, rest)
 
   -- All rows are cut and flushed first.
   at_end : Finishes at_the_end
