@@ -23,4 +23,6 @@ pub mod CoreSessions
 pub mod EndLaws
 pub mod Unsure
 pub mod IngestLaws
+mod FewerBlocks
 mod IngestRounds
+mod IngestEnds

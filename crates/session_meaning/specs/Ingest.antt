@@ -1,6 +1,6 @@
 -- What an ingest asks. It is a session whose lines are each `push`, one space and a line of the source, and that is asked
 -- besides to cut, flush, compact and empty loose files, as the store has come to need it.
-use Rattle.std.specs.Prelude.{◌≡◌, ◌⊎◌, ⊤, ℕ, ◌-◌, ◌==◌, Bool, true, false, nat_le, if◌then◌else◌, List, [], ◌∷◌, Option, Ok}
+use Rattle.std.specs.Prelude.{◌≡◌, ◌⊎◌, ⊤, ℕ, ◌-◌, ◌==◌, Bool, true, false, nat_le, if◌then◌else◌, List, [], ◌∷◌, ◌++◌, Option, Ok}
 use Rattle.session_text.specs.declared.reply.Reply.{Reply}
 use Rattle.session_text.specs.declared.reply.Reply.TheVariants.{Compacted}
 use Rattle.session_text.specs.declared.request.Request.{Request}
@@ -24,8 +24,8 @@ pub data Duty : Type 0 where
   -- to compact as long as blocks are joined, so many times at most
   compact_all : ℕ → Duty
 
--- No store joins blocks so often, since each compaction that does takes a number for its new file: the law
--- `compactions_come_to_an_end` says so. So this bound is never met, and a compaction that joins none is always made.
+-- No store joins blocks so often, since each compaction that does takes a number for its new file: the laws
+-- `compactions_come_to_an_end` and `an_ingest_finishes` say that this bound is never met.
 abbrev pub most_rounds : ℕ
 most_rounds = 4294967295
 
@@ -68,6 +68,22 @@ abbrev pub AreJoined : List Item → List Reply → Type 0
 AreJoined [] replies = ⊤
 AreJoined (item ∷ items) [] = ⊥
 AreJoined (item ∷ items) (reply ∷ replies) = (item ≡ Ok Compact) × (is_joined reply ≡ true) × AreJoined items replies
+
+-- What an ingest that did all asked last: to cut all rows and to flush them; to compact, until a compaction joined no blocks; and to
+-- empty loose files.
+pub record HasFinished (items : List Item) (replies : List Reply) : Type 0 where
+  pub earlier : List Item
+  pub told_earlier : List Reply
+  pub compactions : List Item
+  pub joined : List Reply
+  pub cut : Reply
+  pub flushed : Reply
+  pub last : Reply
+  pub emptied : Reply
+  pub asked : items ≡ earlier ++ Ok CutAll ∷ Ok Flush ∷ (compactions ++ Ok Compact ∷ Ok Reclaim ∷ [])
+  pub told : replies ≡ told_earlier ++ cut ∷ flushed ∷ (joined ++ last ∷ emptied ∷ [])
+  pub are_joined : AreJoined compactions joined
+  pub not_joined : is_joined last ≡ false
 
 -- By what is due this is asked next; after this reply the rest is to do, and the clock has the rest of its moments to
 -- tell. A line is read at the clock's next moment.

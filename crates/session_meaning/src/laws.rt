@@ -1,6 +1,6 @@
 //! What follows from the definitions of a session and of a run.
 
-ghost use Rattle.std.specs.Prelude.{Bool, IsTrue, true, ◌≡◌, ◌⊎◌, ◌<◌, ◌++◌, List, [], ◌∷◌, Option, Some, None, Ok, false, length, take, ℕ};
+ghost use Rattle.std.specs.Prelude.{Bool, IsTrue, true, ◌≡◌, ◌⊎◌, ◌<◌, ◌≤◌, ◌+◌, ◌++◌, List, [], ◌∷◌, Option, Some, None, Ok, false, length, take, ℕ};
 ghost use Rattle.std.specs.List.{Contains, list_any};
 ghost use Rattle.command_words.specs.Commands.{Command, Spells};
 ghost use Rattle.disk_model.specs.Images.{Image};
@@ -36,7 +36,7 @@ ghost use Rattle.session_meaning.specs.Progress.{AreAnsweredOver, IngestsOver};
 ghost use Rattle.session_meaning.specs.Pushes.{HasRoomFor, HasRoomForPush, accepted_batches, known_pushes};
 ghost use Rattle.session_meaning.specs.Runs.{ComesToItsEnd, Edges, GoesWell, IsRunOf, Outcome};
 ghost use Rattle.session_meaning.specs.At.{At, IsStill, history_of};
-ghost use Rattle.session_meaning.specs.Ingest.{AreJoined, Duty, Ingests, most_rounds};
+ghost use Rattle.session_meaning.specs.Ingest.{AreJoined, Duty, HasFinished, Ingests, duties, most_rounds};
 ghost use Rattle.session_meaning.specs.Session.{IsAnswered, IsAnsweredOrRefused, Session, is_refused};
 ghost use Rattle.session_meaning.specs.Stops.{StandsForLast, StandsWithin, unsure_spans};
 ghost use Rattle.session_meaning.specs.Upkeep.{HasEmptied, HasFailedSince, IsClosed};
@@ -165,6 +165,14 @@ pub fn an_ingest_is_a_session()
         → Ingests sure todo told first items replies last left to_tell → Session sure first items replies last }
 {}
 
+/// An ingest that did all has cut and flushed at its end, has compacted until a compaction joined no blocks, and then emptied loose
+/// files.
+pub fn an_ingest_finishes()
+    ensures { (sure : Bool) (source : List (List ℕ)) (told to_tell : Option (List ℕ)) (items : List Item)
+        → (replies : List Reply) (first last : At)
+        → Ingests sure (duties source) told first items replies last [] to_tell → HasFinished items replies }
+{}
+
 /// What a flush makes of the store.
 pub fn flushes_have_their_causes()
     // The calls of a round make of the store what a flush does.
@@ -220,11 +228,15 @@ pub fn compactions_have_their_causes()
         → IsCompacted told before round after → IsClosed after.machine × (history_of after ≡ history_of before) }
 {}
 
-/// Compactions one after another that each join blocks come to an end: there are fewer than an ingest makes at most, so it makes one that
-/// joins none.
+/// Compactions one after another that each join blocks come to an end.
 pub fn compactions_come_to_an_end()
-    ensures { (told : Bool) (items : List Item) (replies : List Reply) (first last : At) → AreJoined items replies
+    // There are fewer than an ingest makes at most, so it makes one that joins none.
+    ensures bounded { (told : Bool) (items : List Item) (replies : List Reply) (first last : At) → AreJoined items replies
         → Session told first items replies last → length items < most_rounds }
+    // Each leaves fewer blocks.
+    ensures fewer { (told : Bool) (items : List Item) (replies : List Reply) (first last : At) → AreJoined items replies
+        → Session told first items replies last
+        → length items + length last.machine.state.blocks ≤ length first.machine.state.blocks }
 {}
 
 /// What the emptying of loose files makes of the store.
