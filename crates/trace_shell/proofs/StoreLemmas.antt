@@ -74,9 +74,9 @@ module _ {D : Type 0} (g : Ghosts D) (is_with : Core D → Machine → Type 0) (
   came_to session core later m old_left old_taken told left taken to_tell e items replies blamed stands came =
       let run = sessions items replies core later m stands came.0.each in (run.0, run.1, run.2, came.1)
   came_to ingest core later m None old_taken told left taken to_tell e items replies blamed stands came =
-      let run = sessions items replies core later m stands came.0.each in (run.0, run.1, run.2, came.1, λ text before source. absurd (none_is_some text source))
+      let run = sessions items replies core later m stands came.0.each in (run.0, run.1, run.2, (came.1, λ text before source. absurd (none_is_some text source)))
   came_to ingest core later m (Some text) None told left taken to_tell e items replies blamed stands came =
-      let run = sessions items replies core later m stands came.0.each in (run.0, run.1, run.2, came.1, λ all before source sink. absurd (none_is_some before sink))
+      let run = sessions items replies core later m stands came.0.each in (run.0, run.1, run.2, (came.1, λ all before source sink. absurd (none_is_some before sink)))
   came_to ingest core later m (Some text) (Some before) told left taken to_tell e items replies blamed stands came =
       let w = came.2 text before refl refl in
       let run = ingests (duties (lines text)) told items replies core later m w.todo to_tell stands w.asked in
@@ -92,10 +92,12 @@ module _ {D : Type 0} (g : Ghosts D) (is_with : Core D → Machine → Type 0) (
         run.0,
         run.1,
         ingest_is_session sure (duties (lines text)) w.todo told to_tell items replies (at_core g core m) (at_core g later run.0) run.2,
-        came.1,
-        λ all taken_before source sink.
-            subst (λ (t : List ℕ). CameByLines (λ todo rest. Ingests sure todo told (at_core g core m) items replies (at_core g later run.0) rest to_tell) t taken_before left taken e replies) (same text all source)
-            (subst (λ (b : List ℕ). CameByLines (λ todo rest. Ingests sure todo told (at_core g core m) items replies (at_core g later run.0) rest to_tell) text b left taken e replies) (same before taken_before sink) by_lines),
+        (
+          came.1,
+          λ all taken_before source sink.
+              subst (λ (t : List ℕ). CameByLines (λ todo rest. Ingests sure todo told (at_core g core m) items replies (at_core g later run.0) rest to_tell) t taken_before left taken e replies) (same text all source)
+              (subst (λ (b : List ℕ). CameByLines (λ todo rest. Ingests sure todo told (at_core g core m) items replies (at_core g later run.0) rest to_tell) text b left taken e replies) (same before taken_before sink) by_lines),
+        ),
       )
   came_to (Alone line) core later m old_left old_taken told left taken to_tell e items replies blamed stands came =
       let run = sessions items replies core later m stands came.0.each in (run.0, run.1, run.2, came.1)

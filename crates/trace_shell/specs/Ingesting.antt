@@ -28,14 +28,14 @@ HaveGiven old new tally_old tally_new (reply ∷ replies) stopped =
     × HaveGiven between new tally tally_new replies stopped)
 
 -- This was asked of a core and answered so, and the replies were written, as far as that went.
-pub record HasAsked {D : Type 0} (g : Ghosts D) (before after : Core D) (old new : Option (List ℕ)) (tally_old tally_new : Tally)
-    (items : List Item) (replies : List Reply) (stopped : Option Ending) : Type 0 where
+pub record HasAsked {D : Type 0} (g : Ghosts D) (before after : Core D) (old new : Option (List ℕ))
+    (tally_old tally_new : Tally) (items : List Item) (replies : List Reply) (stopped : Option Ending) : Type 0 where
   pub answered : HasAnsweredOver (port_of g) before items replies after
   pub given : HaveGiven old new tally_old tally_new replies stopped
 
 -- It was due by `todo`, and `later` is left to do, unless the run ends with a reply.
-pub record Leaves {D : Type 0} (g : Ghosts D) (before after : Core D) (todo later : List Duty) (told to_tell : Option (List ℕ))
-    (items : List Item) (replies : List Reply) (stopped : Option Ending) : Type 0 where
+pub record Leaves {D : Type 0} (g : Ghosts D) (before after : Core D) (todo later : List Duty)
+    (told to_tell : Option (List ℕ)) (items : List Item) (replies : List Reply) (stopped : Option Ending) : Type 0 where
   pub left : List Duty
   pub each : IngestsOver g todo told before items replies after left to_tell
   pub all : stopped ≡ None → left ≡ later
@@ -66,7 +66,8 @@ abbrev pub turn_of : Option Ending → After
 turn_of None = after.Line
 turn_of (Some ending) = after.Ending ending
 
--- A run ends so before all lines are pushed, or it doesn't end: whether that is for a reply that couldn't be written whole.
+-- A run ends so before all lines are pushed, or it doesn't end: whether that is for a reply that couldn't be written
+-- whole.
 abbrev pub IsStopped : Option Ending → Option Ending → Type 0
 IsStopped None stopped = stopped ≡ None
 IsStopped (Some WriteFault) stopped = stopped ≡ Some WriteFault
@@ -76,13 +77,14 @@ IsStopped (Some Spent) stopped = stopped ≡ None
 IsStopped (Some _) stopped = ⊥
 
 -- The lines `pushed` of `text` were read, and the rest is to be read.
-pub record IsReadingAt (text : List ℕ) (pushed : List (List ℕ)) (left : Option (List ℕ)) (reader : Reader) : Type 0 where
-  pub front : List ℕ
-  pub rest : List ℕ
-  pub text_is : text ≡ front ++ rest
-  pub lines_are : lines text ≡ pushed ++ lines rest
-  pub to_read : IsToRead reader left rest
-  pub took : TakesBytes (Some text) left 0 reader.taken
+pub record IsReadingAt (text : List ℕ) (pushed : List (List ℕ)) (left : Option (List ℕ)) (reader : Reader) : Type 0
+  where
+    pub front : List ℕ
+    pub rest : List ℕ
+    pub text_is : text ≡ front ++ rest
+    pub lines_are : lines text ≡ pushed ++ lines rest
+    pub to_read : IsToRead reader left rest
+    pub took : TakesBytes (Some text) left 0 reader.taken
 
 -- Of the text these lines are left: none, where it was read to its end.
 abbrev pub IsReadTo : Option Ending → List ℕ → List (List ℕ) → Option (List ℕ) → Type 0

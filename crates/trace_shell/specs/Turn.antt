@@ -71,10 +71,10 @@ Turned told text before left taken to_tell reader tally items replies blamed Non
 Turned told text before left taken to_tell reader tally items replies blamed (Some ending) =
     Came told text before left taken to_tell ending items replies blamed
 
--- What an ingest came to that read `text` and ended so. `asks` says that what was asked was due by the first duties, and that the
--- second ones are left.
-pub record CameByLines (asks : List Duty → List Duty → Type 0) (text before : List ℕ) (left taken : Option (List ℕ)) (ending : Ending)
-    (replies : List Reply) : Type 0 where
+-- What an ingest came to that read `text` and ended so. `asks` says that what was asked was due by the first duties,
+-- and that the second ones are left.
+pub record CameByLines (asks : List Duty → List Duty → Type 0) (text before : List ℕ) (left taken : Option (List ℕ))
+    (ending : Ending) (replies : List Reply) : Type 0 where
   pub pushed : List (List ℕ)
   pub later : List (List ℕ)
   pub lines_are : lines text ≡ pushed ++ later
@@ -93,7 +93,8 @@ CameOver session g start core old_left old_taken told left taken to_tell ending 
 CameOver ingest g start core old_left old_taken told left taken to_tell ending items replies blamed =
     HasAnsweredOver (port_of g) start items replies core × (blamed ≡ [])
     × ((text before : List ℕ) → old_left ≡ Some text → old_taken ≡ Some before
-    → CameByLines (λ todo rest. IngestsOver g todo told start items replies core rest to_tell) text before left taken ending replies)
+    → CameByLines (λ todo rest. IngestsOver g todo told start items replies core rest to_tell) text before left taken
+    ending replies)
 CameOver (Alone line) g start core old_left old_taken told left taken to_tell ending items replies blamed =
     HasAnsweredOver (port_of g) start items replies core
     × ((item : Item) × (reply : Reply) × (items ≡ item ∷ []) × (replies ≡ reply ∷ []) × NeedsNoSource ending
@@ -109,7 +110,8 @@ CameTo sure session first last old_left old_taken told left taken to_tell ending
 CameTo sure ingest first last old_left old_taken told left taken to_tell ending items replies blamed =
     (blamed ≡ [])
     × ((text before : List ℕ) → old_left ≡ Some text → old_taken ≡ Some before
-    → CameByLines (λ todo rest. Ingests sure todo told first items replies last rest to_tell) text before left taken ending replies)
+    → CameByLines (λ todo rest. Ingests sure todo told first items replies last rest to_tell) text before left taken
+    ending replies)
 CameTo sure (Alone line) first last old_left old_taken told left taken to_tell ending items replies blamed =
     (item : Item) × (reply : Reply) × (items ≡ item ∷ []) × (replies ≡ reply ∷ []) × NeedsNoSource ending
     × AsksNext told line blamed item × (to_tell ≡ after_moment told)

@@ -60,7 +60,8 @@ pub(crate) fn ingest<S: Source, K: Sink, D: Device, C: Clock, G: Gate>(
     ensures ran { (items : List Item) × (replies : List Reply)
         × HasAnsweredOver (port_of D.Device.own) core.old items replies core.new
         × ((text before : List ℕ) → S.left source.old ≡ Some text → K.taken sink.old ≡ Some before
-        → CameByLines (λ todo rest. IngestsOver D.Device.own todo (C.moments clock.old) core.old items replies core.new rest
+        → CameByLines (λ todo rest. IngestsOver D.Device.own todo (C.moments clock.old) core.old items replies
+        core.new rest
         (C.moments clock.new)) text before (S.left source.new) (K.taken sink.new) result replies) }
     ensures write_fault { result ≡ WriteFault → Rose (K.faults sink.old) (K.faults sink.new) }
     ensures read_fault { result ≡ ReadFault → Rose (S.faults source.old) (S.faults source.new) }
@@ -90,16 +91,20 @@ fn push_all<S: Source, K: Sink, D: Device, C: Clock, G: Gate>(
 ) -> Option<Ending>
     requires { (held : List Hold) × (port_of D.Device.own).holds core.old held }
     ensures pushed { (items : List Item) × (replies : List Reply) × (stopped : Option Ending)
-        × HasAsked D.Device.own core.old core.new (K.taken sink.old) (K.taken sink.new) tally.old tally.new items replies stopped
+        × HasAsked D.Device.own core.old core.new (K.taken sink.old) (K.taken sink.new) tally.old tally.new items
+        replies stopped
         × IsStopped result stopped
         × ((text : List ℕ) → S.left source.old ≡ Some text → (pushed : List (List ℕ))
-        × ((later : List (List ℕ)) → Leaves D.Device.own core.old core.new (from_lines (pushed ++ later)) (from_lines later)
+        × ((later : List (List ℕ)) → Leaves D.Device.own core.old core.new (from_lines (pushed ++ later))
+        (from_lines later)
         (C.moments clock.old) (C.moments clock.new) items replies stopped)
         × HasReadTo result text pushed (S.left source.new)) }
     ensures sink_counted { K.faults sink.old ≤ K.faults sink.new }
     ensures write_fault { IfSome result (λ ending. ending ≡ WriteFault → Rose (K.faults sink.old) (K.faults sink.new)) }
-    ensures read_fault { IfSome result (λ ending. ending ≡ ReadFault → Rose (S.faults source.old) (S.faults source.new)) }
-    ensures spent { IfSome result (λ ending. ending ≡ Spent → TakesBytes (S.left source.old) (S.left source.new) 0 taken_limit) }
+    ensures read_fault { IfSome result (λ ending. ending ≡ ReadFault → Rose (S.faults source.old)
+        (S.faults source.new)) }
+    ensures spent { IfSome result (λ ending. ending ≡ Spent → TakesBytes (S.left source.old) (S.left source.new) 0
+        taken_limit) }
     ensures endings { IfSome result IsPastOpening }
 {
     let mut reader = LineReader::new(alloc);
@@ -125,18 +130,22 @@ fn push_next<S: Source, K: Sink, D: Device, C: Clock, G: Gate>(
 ) -> After
     requires { (held : List Hold) × (port_of D.Device.own).holds core.old held }
     ensures pushed { (items : List Item) × (replies : List Reply) × (stopped : Option Ending)
-        × HasAsked D.Device.own core.old core.new (K.taken sink.old) (K.taken sink.new) tally.old tally.new items replies stopped
+        × HasAsked D.Device.own core.old core.new (K.taken sink.old) (K.taken sink.new) tally.old tally.new items
+        replies stopped
         × IsStopped (ending_in result) stopped
         × ((text : List ℕ) (pushed : List (List ℕ)) → IsReadingAt text pushed (S.left source.old) reader.old
         → (asked : List (List ℕ))
-        × ((later : List (List ℕ)) → Leaves D.Device.own core.old core.new (from_lines (asked ++ later)) (from_lines later)
+        × ((later : List (List ℕ)) → Leaves D.Device.own core.old core.new (from_lines (asked ++ later))
+        (from_lines later)
         (C.moments clock.old) (C.moments clock.new) items replies stopped)
         × ReadOn result text (pushed ++ asked) (S.left source.new) reader.new) }
     ensures nearer { result ≡ After.Line → to_come reader.new < to_come reader.old }
     ensures source_counted { S.faults source.old ≤ S.faults source.new }
     ensures sink_counted { K.faults sink.old ≤ K.faults sink.new }
-    ensures write_fault { IfSome (ending_in result) (λ ending. ending ≡ WriteFault → Rose (K.faults sink.old) (K.faults sink.new)) }
-    ensures read_fault { IfSome (ending_in result) (λ ending. ending ≡ ReadFault → Rose (S.faults source.old) (S.faults source.new)) }
+    ensures write_fault { IfSome (ending_in result) (λ ending. ending ≡ WriteFault → Rose (K.faults sink.old)
+        (K.faults sink.new)) }
+    ensures read_fault { IfSome (ending_in result) (λ ending. ending ≡ ReadFault → Rose (S.faults source.old)
+        (S.faults source.new)) }
     ensures took { TakesBytes (S.left source.old) (S.left source.new) reader.old.taken reader.new.taken }
     ensures spent { IfSome (ending_in result) (λ ending. ending ≡ Spent → reader.new.taken ≡ taken_limit) }
     ensures endings { IfSome (ending_in result) IsPastOpening }
@@ -181,8 +190,10 @@ fn push_line<K: Sink, D: Device, C: Clock, G: Gate>(
 ) -> Option<Ending>
     requires { (held : List Hold) × (port_of D.Device.own).holds core.old held }
     ensures pushed { (items : List Item) × (replies : List Reply)
-        × HasAsked D.Device.own core.old core.new (K.taken sink.old) (K.taken sink.new) tally.old tally.new items replies result
-        × ((later : List (List ℕ)) → Leaves D.Device.own core.old core.new (from_lines (line.now ∷ later)) (from_lines later)
+        × HasAsked D.Device.own core.old core.new (K.taken sink.old) (K.taken sink.new) tally.old tally.new items
+        replies result
+        × ((later : List (List ℕ)) → Leaves D.Device.own core.old core.new (from_lines (line.now ∷ later))
+        (from_lines later)
         (C.moments clock.old) (C.moments clock.new) items replies result) }
     ensures sink_counted { K.faults sink.old ≤ K.faults sink.new }
     ensures write_fault { IfSome result (λ ending. ending ≡ WriteFault → Rose (K.faults sink.old) (K.faults sink.new)) }
@@ -205,7 +216,8 @@ fn push<D: Device, G: Gate>(
     moment: u64,
 ) -> Reply
     requires { (held : List Hold) × (port_of D.Device.own).holds core.old held }
-    ensures { (item : Item) × AsksPush moment line.now item × HasAnsweredOne (port_of D.Device.own) core.old item result core.new }
+    ensures { (item : Item) × AsksPush moment line.now item × HasAnsweredOne (port_of D.Device.own) core.old item
+        result core.new }
 {
     match read_push(alloc, line, moment) {
         Ok(request) => answer_request(alloc, core, request, CLIENT, gate),
@@ -226,7 +238,8 @@ fn refuse_long<K: Sink, D: Device, C: Clock, G: Gate>(
     requires holds { (held : List Hold) × (port_of D.Device.own).holds core.old held }
     requires long { line_limit < length }
     ensures pushed { (items : List Item) × (replies : List Reply)
-        × HasAsked D.Device.own core.old core.new (K.taken sink.old) (K.taken sink.new) tally.old tally.new items replies result
+        × HasAsked D.Device.own core.old core.new (K.taken sink.old) (K.taken sink.new) tally.old tally.new items
+        replies result
         × ((line : List ℕ) (later : List (List ℕ)) → IsLong length line
         → Leaves D.Device.own core.old core.new (from_lines (line ∷ later)) (from_lines later)
         (C.moments clock.old) (C.moments clock.new) items replies result) }
@@ -275,7 +288,8 @@ fn keep_small<K: Sink, D: Device, G: Gate>(
 ) -> Option<Ending>
     requires { (held : List Hold) × (port_of D.Device.own).holds core.old held }
     ensures kept { (items : List Item) × (replies : List Reply)
-        × HasAsked D.Device.own core.old core.new (K.taken sink.old) (K.taken sink.new) tally.old tally.new items replies result
+        × HasAsked D.Device.own core.old core.new (K.taken sink.old) (K.taken sink.new) tally.old tally.new items
+        replies result
         × ((later : List (List ℕ)) (told : Option (List ℕ)) → Leaves D.Device.own core.old core.new
         (to_keep_small ∷ from_lines later) (from_lines later) told told items replies result) }
     ensures sink_counted { K.faults sink.old ≤ K.faults sink.new }
@@ -298,7 +312,8 @@ fn cut_and_flush<K: Sink, D: Device, G: Gate>(
 ) -> Option<Ending>
     requires { (held : List Hold) × (port_of D.Device.own).holds core.old held }
     ensures made { (items : List Item) × (replies : List Reply)
-        × HasAsked D.Device.own core.old core.new (K.taken sink.old) (K.taken sink.new) tally.old tally.new items replies result
+        × HasAsked D.Device.own core.old core.new (K.taken sink.old) (K.taken sink.new) tally.old tally.new items
+        replies result
         × ((later : List Duty) (told : Option (List ℕ)) → Leaves D.Device.own core.old core.new
         (to_ask AsksCutAll ∷ to_ask AsksFlush ∷ later) later told told items replies result) }
     ensures sink_counted { K.faults sink.old ≤ K.faults sink.new }
@@ -321,9 +336,11 @@ fn finish<K: Sink, D: Device, G: Gate>(
 ) -> Ending
     requires { (held : List Hold) × (port_of D.Device.own).holds core.old held }
     ensures finished { (items : List Item) × (replies : List Reply) × (stopped : Option Ending)
-        × HasAsked D.Device.own core.old core.new (K.taken sink.old) (K.taken sink.new) tally.old tally.new items replies stopped
+        × HasAsked D.Device.own core.old core.new (K.taken sink.old) (K.taken sink.new) tally.old tally.new items
+        replies stopped
         × (result ≡ ended_by stopped tally.new)
-        × ((told : Option (List ℕ)) → Leaves D.Device.own core.old core.new at_the_end [] told told items replies stopped) }
+        × ((told : Option (List ℕ)) → Leaves D.Device.own core.old core.new at_the_end [] told told items replies
+        stopped) }
     ensures write_fault { result ≡ WriteFault → Rose (K.faults sink.old) (K.faults sink.new) }
     ensures endings { (result ≡ WriteFault) ⊎ ((result ≡ Answered) ⊎ ((result ≡ Refused) ⊎ (result ≡ Starved))) }
 {
@@ -343,8 +360,10 @@ fn keep_up<K: Sink, D: Device, G: Gate>(
 ) -> Option<Ending>
     requires { (held : List Hold) × (port_of D.Device.own).holds core.old held }
     ensures made { (items : List Item) × (replies : List Reply)
-        × HasAsked D.Device.own core.old core.new (K.taken sink.old) (K.taken sink.new) tally.old tally.new items replies result
-        × ((told : Option (List ℕ)) → Leaves D.Device.own core.old core.new at_the_end [] told told items replies result) }
+        × HasAsked D.Device.own core.old core.new (K.taken sink.old) (K.taken sink.new) tally.old tally.new items
+        replies result
+        × ((told : Option (List ℕ)) → Leaves D.Device.own core.old core.new at_the_end [] told told items replies
+        result) }
     ensures sink_counted { K.faults sink.old ≤ K.faults sink.new }
     ensures write_fault { IfSome result (λ ending. ending ≡ WriteFault → Rose (K.faults sink.old) (K.faults sink.new)) }
     ensures endings { IfSome result (λ ending. (ending ≡ WriteFault) ⊎ (ending ≡ Starved)) }
@@ -365,7 +384,8 @@ fn compact_and_reclaim<K: Sink, D: Device, G: Gate>(
 ) -> Option<Ending>
     requires { (held : List Hold) × (port_of D.Device.own).holds core.old held }
     ensures made { (items : List Item) × (replies : List Reply)
-        × HasAsked D.Device.own core.old core.new (K.taken sink.old) (K.taken sink.new) tally.old tally.new items replies result
+        × HasAsked D.Device.own core.old core.new (K.taken sink.old) (K.taken sink.new) tally.old tally.new items
+        replies result
         × ((told : Option (List ℕ)) → Leaves D.Device.own core.old core.new
         (to_compact_all most_rounds ∷ to_ask AsksReclaim ∷ []) [] told told items replies result) }
     ensures sink_counted { K.faults sink.old ≤ K.faults sink.new }
@@ -388,7 +408,8 @@ fn compact_all<K: Sink, D: Device, G: Gate>(
 ) -> Option<Ending>
     requires { (held : List Hold) × (port_of D.Device.own).holds core.old held }
     ensures made { (items : List Item) × (replies : List Reply)
-        × HasAsked D.Device.own core.old core.new (K.taken sink.old) (K.taken sink.new) tally.old tally.new items replies result
+        × HasAsked D.Device.own core.old core.new (K.taken sink.old) (K.taken sink.new) tally.old tally.new items
+        replies result
         × ((asked : Request) (later : List Duty) (told : Option (List ℕ)) → Leaves D.Device.own core.old core.new
         (to_compact_all most_rounds ∷ to_ask asked ∷ later) (to_ask asked ∷ later) told told items replies result) }
     ensures sink_counted { K.faults sink.old ≤ K.faults sink.new }
@@ -450,7 +471,8 @@ fn ask<K: Sink, D: Device, G: Gate>(
 ) -> Option<Ending>
     requires { (held : List Hold) × (port_of D.Device.own).holds core.old held }
     ensures made { (items : List Item) × (replies : List Reply)
-        × HasAsked D.Device.own core.old core.new (K.taken sink.old) (K.taken sink.new) tally.old tally.new items replies result
+        × HasAsked D.Device.own core.old core.new (K.taken sink.old) (K.taken sink.new) tally.old tally.new items
+        replies result
         × ((later : List Duty) (told : Option (List ℕ)) → Leaves D.Device.own core.old core.new
         (to_ask request ∷ later) later told told items replies result) }
     ensures sink_counted { K.faults sink.old ≤ K.faults sink.new }
