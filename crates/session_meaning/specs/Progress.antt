@@ -63,10 +63,3 @@ IngestsOver g todo told before (item ∷ items) [] after left to_tell = ⊥
 IngestsOver {D} g todo told before (item ∷ items) (reply ∷ replies) after left to_tell =
     (between : Core D) × (later : List Duty) × (told_later : Option (List ℕ)) × IsDue (due (held_in before) todo) told item reply later told_later
     × IsAnsweredOver (port_of g) before item reply between × IngestsOver g later told_later between items replies after left to_tell
-
--- This was asked over a core from `start` on by the duties `todo`, and answered so, by these calls and no others. Whether many rows are
--- held is no call.
-pub record HasIngestedOver {D : Type 0} (g : Ghosts D) (start : Core D) (todo : List Duty) (told : Option (List ℕ)) (items : List Item)
-    (replies : List Reply) (core : Core D) (left : List Duty) (to_tell : Option (List ℕ)) : Type 0 where
-  pub answered : HasAnsweredOver (port_of g) start items replies core
-  pub each : IngestsOver g todo told start items replies core left to_tell
