@@ -4,6 +4,8 @@
 #[cfg(test)]
 mod blocks;
 #[cfg(test)]
+mod compacting;
+#[cfg(test)]
 mod events;
 #[cfg(test)]
 mod flushing;
