@@ -125,7 +125,7 @@ module _ {D : Type 0} (g : Ghosts D) (disk : D) (moment : ℕ) (core later : Cor
       → Session sure outcome.first items replies outcome.last
       → CameTo sure c outcome.first outcome.last old.left old.taken (after_moment old.moments) new.left new.taken new.moments e items replies blamed
       → IsPastOpening e → HasCause e old new → HasDone sure c outcome old new
-  opened_done sure c old new held old_faults new_faults next unbroken counted session came past cause = record {
+  opened_done sure c old new held old_faults new_faults next unbroken counted all came past cause = record {
     does = inl (
       refl,
       record {
@@ -141,7 +141,7 @@ module _ {D : Type 0} (g : Ghosts D) (disk : D) (moment : ℕ) (core later : Cor
       past,
       in_store sure c outcome old new came,
     );
-    session = session;
+    session = all;
     cause = cause;
     asked = past_is_no_fault e past;
   }

@@ -13,8 +13,8 @@ returns-in-Some-clause-made g c =
       λ times later told some. leaves_compacted g.D.Device c.args.core.now asked.new.port asked.result times later told (Some c.in-Some.ending) some asked.ensures,
     )
 
-pub returns-in-None-clause-made : goal.returns-in-None-clause-made
-returns-in-None-clause-made g c =
+pub returns-clause-made : goal.returns-clause-made
+returns-clause-made g c =
     let asked = c.answer_request-reply in (
       asked.result,
       asked_so g.D.Device _ _ _ _ _ _ _ _ c.write.result None c.in-None.is

@@ -1,9 +1,10 @@
-use Rattle.std.proofs.Common.{[], ◌++◌, subst, refl, arith}
+use Rattle.std.proofs.Common.{[], ◌++◌, ap, subst, arith}
 use Rattle.io_edges.specs.Reader.{TakesBytes}
 use Rattle.client_run.proofs.CallLemmas.{holds_kept}
 use Rattle.session_meaning.proofs.SessionLaws.{over_begins, over_then}
 use Rattle.traceql_types.proofs.Calls.{refuses-none, refuses-on}
 use Rattle.trace_shell.specs.Turn.{Turned}
+use Rattle.trace_shell.specs.declared.session.Tally.{Tally}
 use Rattle.trace_shell.proofs.TurnLemmas.{begins_at, took_none, took_on}
 use Rattle.trace_shell.proofs.session.session.Goals as goal
 
@@ -15,7 +16,8 @@ lines-init g c = record {
     [],
     refuses-none g.P.PatternMaker.makes _ c.args.patterns.now c.args.patterns.now,
     over_begins g.Q.LookPort.meaning c.args.port.now,
-    λ text before told gave. begins_at (g.C.Clock.moments c.args.clock.now) text before _ _ _ _ told gave (c.new-reader.ensures.to_read text) c.new-reader.ensures.taken refl refl,
+    λ text before told gave. begins_at (g.C.Clock.moments c.args.clock.now) text before _ _ _ _ told gave (c.new-reader.ensures.to_read text) c.new-reader.ensures.taken
+        (ap (λ (t : Tally). t.refused) c.new-tally.ensures) (ap (λ (t : Tally). t.starved) c.new-tally.ensures),
   );
   holds = c.requires;
   source_counted = omega arith;
