@@ -672,20 +672,5 @@ class BrokenFolders(Folders):
         self.assertEqual((found.listed_by, found.slots[0].counts, len(found.blocks)), (0, False, 2))
 
 
-class ByTheProgram(unittest.TestCase):
-    """A folder that the program itself made, by make_store.sh."""
-
-    FOLDER = os.path.join(HERE, "data", "store")
-
-    @unittest.skipUnless(os.path.isdir(FOLDER), "tools/tests/data/store is missing: tools/tests/make_store.sh PROGRAM makes it")
-    def test_it(self) -> None:
-        found = store_report.survey(self.FOLDER, True)
-        self.assertEqual((found.malformed, found.floor, found.pushes, found.others), ([], 3, 7, []))
-        self.assertEqual([(it.level, it.rows, it.traces, it.stripes, it.form) for it in found.blocks], [(1, 5, 1, 1, 2), (0, 3, 1, 1, 2)])
-        self.assertEqual([(it.first, it.records, it.spans, it.commit_byte, it.bytes_after) for it in found.segments], [(3, 4, 7, 0, 0)])
-        self.assertTrue(found.loose)
-        self.assertEqual(len(found.cleaning), len(found.loose))
-
-
 if __name__ == "__main__":
     unittest.main()
