@@ -1,14 +1,14 @@
 """Reads the bytes of a trace store's block by docs/BLOCK-FORMAT.md.
 
-Nothing here is proved, and nothing here is the program's code. `read_header` and `count_traces` read a header and an index
-alone; `check_block` reads all and raises `Malformed` at the first offset of the file that isn't as it has to be.
+Nothing here is proved, and nothing here is the program's code. `read_header` and `count_traces` read a header and an
+index alone; `check_block` reads all and raises `Malformed` at the first offset of the file that isn't as it has to be.
 """
 from __future__ import annotations
 
 from dataclasses import dataclass, field
 from typing import Callable, List, Optional, Sequence, Tuple, TypeVar
 
-from store_format import Attributes, Cursor, KeepRow, Malformed, Row, Scope, Span, SpanParts, shown
+from store_format import Cursor, KeepRow, Malformed, Row, Span, SpanParts, shown
 
 PAGE = 4096
 MOST_HEADER_PAGES = 33
@@ -253,7 +253,8 @@ class StripeReader(SpanParts):
 
 
 def row_of(cells: Sequence) -> Row:
-    trace, id_, parent, push, position, name, kind, start, end, status, message, resource, scope, attrs, events, links = cells
+    trace, id_, parent, push, position, name, kind, start, end, status, message, *others = cells
+    resource, scope, attrs, events, links = others
     span = Span(trace, id_, parent, name, kind, start, end, status, message, attrs, resource, scope, events, links)
     return Row(push, position, span)
 
@@ -282,9 +283,10 @@ def read_agreeing(reader: StripeReader, entry: StripeEntry) -> List[Row]:
 
 
 def read_stripe(part: bytes, extended: bool, entry: StripeEntry, last: Optional[Row]) -> List[Row]:
-    """The rows of a stripe, by its entry and after the last row of the stripe before. Offsets count from its first byte."""
+    """The rows of a stripe, by its entry and after the last row of the stripe before. Offsets count from its start."""
     if entry.earliest > entry.latest or (entry.rows == 1 and entry.earliest != entry.latest):
-        raise Malformed(0, f"a stripe whose entry can be right, not {entry.rows} rows from {entry.earliest} to {entry.latest}")
+        told = f"{entry.rows} rows from {entry.earliest} to {entry.latest}"
+        raise Malformed(0, f"a stripe whose entry can be right, not {told}")
     reader = StripeReader(part, extended)
     if pages_for(reader.end) != entry.pages:
         raise Malformed(0, f"a length of {entry.pages} pages, as the stripe's entry says, not {reader.size} bytes")
@@ -375,7 +377,9 @@ def check_tail(data: bytes, header: Header, entries: Sequence[IndexEntry]) -> No
     part = "the index" if at < PAGE * index_pages else "the Bloom filters"
     if at == len(wanted):
         raise Malformed(base + at, "the end of the file")
-    raise Malformed(base + at, f"the byte {wanted[at]:02x} of {part}")
+    if base + at >= len(data):
+        raise Malformed(base + at, f"more bytes: {part}")
+    raise Malformed(base + at, f"the byte {wanted[at]:02x} of {part}, not {data[base + at]:02x}")
 
 
 # ---- the whole
@@ -417,7 +421,8 @@ def check_block(data: bytes, listed_rows: Optional[int] = None, keep: Optional[K
                 keep(row)
     check_tail(data, header, outline.entries)
     if header.form != (2 if outline.rich else 1):
-        raise Malformed(0, "form 2, since a row has an event or a link" if outline.rich else "form 1, since no row has an event or a link")
+        told = "form 2, since a row has" if outline.rich else "form 1, since no row has"
+        raise Malformed(0, f"{told} an event or a link")
     if listed_rows is not None and listed_rows != outline.rows:
         raise Malformed(0, f"{listed_rows} rows, as the list says, not {outline.rows}")
     return outline

@@ -1,8 +1,8 @@
 """Reads the bytes of a trace store's list and log by docs/LIST-FORMAT.md and docs/LOG-FORMAT.md.
 
-Nothing here is proved, and nothing here is the program's code: it is a second reading of the same pages. Bytes that aren't
-as they have to be raise `Malformed` with the first such offset of the file. No count that a file holds takes memory for
-what isn't there: items are read one after another, and each has a byte at least.
+Nothing here is proved, and nothing here is the program's code: it is a second reading of the same pages. Bytes that
+aren't as they have to be raise `Malformed` with the first such offset of the file. No count that a file holds takes
+memory for what isn't there: items are read one after another, and each has a byte at least.
 """
 from __future__ import annotations
 
@@ -40,8 +40,8 @@ def shown(text: str, most: int = 60) -> str:
 class Cursor:
     """Reads fields one after another, up to `stop`, the end of the part that they stand in.
 
-    `within` says that the file has all bytes of the part. Then a field that would pass the part's end is malformed at its
-    first byte; else bytes are missing, which is told at the end.
+    `within` says that the file has all bytes of the part. Then a field that would pass the part's end is malformed at
+    its first byte; else bytes are missing, which is told at the end.
     """
 
     def __init__(self, data: bytes, at: int = 0, stop: Optional[int] = None, within: bool = False):
@@ -200,7 +200,8 @@ class SpanParts:
         count = self.cursor.var("count of links")
         found: List[Tuple[bytes, bytes, Attributes]] = []
         while len(found) < count:
-            found.append((self.cursor.id(16, "link's trace id"), self.cursor.id(8, "link's span id"), self.attributes()))
+            trace, span = self.cursor.id(16, "link's trace id"), self.cursor.id(8, "link's span id")
+            found.append((trace, span, self.attributes()))
         return tuple(found)
 
 
@@ -388,8 +389,9 @@ class RecordReader(SpanParts):
             raise Malformed(start, "another scope than that of the run before")
         start = self.cursor.at
         count = self.cursor.var("count of spans")
-        if not 0 < count <= MOST_SPANS - self.spans:
-            raise Malformed(start, f"1 to {MOST_SPANS - self.spans} spans, since a record has {MOST_SPANS} at most, not {count}")
+        most = MOST_SPANS - self.spans
+        if not 0 < count <= most:
+            raise Malformed(start, f"1 to {most} spans, since a record has {MOST_SPANS} at most, not {count}")
         for _ in range(count):
             self.span(resource, scope)
         return scope

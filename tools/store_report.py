@@ -2,14 +2,14 @@
 
 Nothing here is proved. Files are opened for reading alone, and no lock is taken.
 
-The program tells one place of a folder that is no store, `refused not-store file=F at=P`: the first slot that is malformed,
-else the first such block in the order of the list, else the first such segment. `Survey.refused` is that place, and it is
-meant to be the very same one, since both follow docs/*-FORMAT.md. They may differ where
+The program tells one place of a folder that is no store, `refused not-store file=F at=P`: the first slot that is
+malformed, else the first such block in the order of the list, else the first such segment. `Survey.refused` is that
+place, and it is meant to be the very same one, since both follow docs/*-FORMAT.md. They may differ where
 - a running program changes files between two reads of this tool, which reads them one after another;
-- the program ends with another status before it comes there: a file that the system can't read (4), or no memory (6);
-- the survey isn't asked to check: blocks are then known by their headers alone.
-Malformed places of further files the program doesn't tell. If one slot alone is malformed, the other one's list is surveyed,
-though to the program no list counts.
+- the program ends with another status before it comes there: a file that the system can't read (4), or no memory (6).
+Where the survey isn't asked to check, blocks are known by their headers alone, and only a slot's place is told as the
+program's. Malformed places of further files the program doesn't tell. If one slot alone is malformed, the other one's
+list is surveyed, though to the program no list counts.
 """
 from __future__ import annotations
 
@@ -29,7 +29,6 @@ from store_format import (
     SegmentFacts,
     SegmentRef,
     StoreList,
-    is_vacant,
     newer,
     read_segment,
     read_slot,
@@ -88,8 +87,10 @@ class Folder:
             return b""
         try:
             with open(os.path.join(self.path, f"{file}.dat"), "rb") as opened:
+                left = os.fstat(opened.fileno()).st_size - at
+                if left <= 0:
+                    return b""
                 opened.seek(at)
-                left = max(0, os.fstat(opened.fileno()).st_size - at)
                 return opened.read(left if most is None else min(most, left))
         except FileNotFoundError:
             return b""  # A running program removes files that are empty.
@@ -261,14 +262,14 @@ class Surveyor:
     def segments(self, refs: List[SegmentRef]) -> None:
         pushes: Optional[int] = None
         for ref, later in zip(refs, [*refs[1:], None]):
-            facts = self.segment(ref)
+            facts = self.segment(ref, later is None)
             pushes = None if facts.gate is None else ref.first + facts.records
             if later and pushes not in (None, later.first):
                 told = f"{later.first - ref.first} records, up to the next segment's {later.first}, not {facts.records}"
                 self.found.fault(ref.file, facts.gate, told)
         self.found.pushes = pushes
 
-    def segment(self, ref: SegmentRef) -> SegmentFacts:
+    def segment(self, ref: SegmentRef, is_last: bool) -> SegmentFacts:
         data = self.folder.read(ref.file)
         facts = SegmentFacts(ref.first)
         try:
@@ -279,17 +280,17 @@ class Surveyor:
         after = 0 if gate is None else len(data) - gate - 1
         whole = unopened_record(data, facts)
         byte = None if gate is None else data[gate]
-        self.found.segments.append(SegmentReport(ref.file, ref.first, facts.records, facts.spans, len(data), gate, byte, after, whole))
-        if after:
-            self.unopened(ref, facts, after, whole)
-        return facts
-
-    def unopened(self, ref: SegmentRef, facts: SegmentFacts, after: int, whole: Optional[int]) -> None:
-        record = "no whole record" if whole is None else f"a whole record, push {facts.first + facts.records} with {whole} spans"
-        self.found.cleaning.append(
-            f"file {ref.file} goes on for {after} bytes after its closed commit byte, with {record}: a push that wasn't"
-            " acknowledged. They don't count, and the next record overwrites them"
+        self.found.segments.append(
+            SegmentReport(ref.file, ref.first, facts.records, facts.spans, len(data), gate, byte, after, whole)
         )
+        if after:
+            record = "no whole record" if whole is None else f"a whole record of {whole} spans"
+            later = "later records are written over them" if is_last else "they go when the file is emptied"
+            self.found.cleaning.append(
+                f"file {ref.file} has {after} bytes after its closed commit byte, {record}: of a push that wasn't"
+                f" acknowledged. They don't count, and {later}"
+            )
+        return facts
 
     def unnamed(self, body: Optional[StoreList]) -> None:
         """Files from 2 on that the list doesn't name."""
@@ -312,8 +313,8 @@ class Surveyor:
         for it in found.unnamed:
             if it.bytes and it.file >= found.next_file and (body or not found.malformed):
                 found.cleaning.append(
-                    f"file {it.file} has {it.bytes} bytes, though its number wasn't given out (next file {found.next_file}):"
-                    " an unfinished job's. It is emptied when its number is given out"
+                    f"file {it.file} has {it.bytes} bytes, though its number wasn't given out (next file"
+                    f" {found.next_file}): an unfinished job's. It is emptied when its number is given out"
                 )
 
 
@@ -366,9 +367,10 @@ def slot_lines(found: Survey) -> List[str]:
 
 def list_line(found: Survey) -> str:
     if found.listed_by is None:
-        return "No list counts." if found.malformed else "No list counts: there is no store yet, and an opening would make one."
+        why = "" if found.malformed else ": there is no store yet, and an opening would make one"
+        return f"No list counts{why}."
     told = "" if found.slots[found.listed_by].counts else f"By slot {found.listed_by} alone, whose list doesn't count: "
-    pushes = "" if found.pushes is None else f", pushes up to {found.pushes}"
+    pushes = "" if found.pushes is None else f", {found.pushes} pushes"
     return f"{told}next file {found.next_file}, floor {found.floor}{pushes}"
 
 
@@ -380,15 +382,16 @@ def segment_lines(found: Survey) -> List[str]:
 
 def block_lines(found: Survey) -> List[str]:
     heads = ("file", "level", "rows", "traces", "stripes", "form", "pages", "bytes", "earliest start", "latest start")
-    rows = [
-        (it.file, it.level, it.rows, it.traces, it.stripes, it.form, it.pages, it.bytes, moment(it.earliest), moment(it.latest))
-        for it in found.blocks
-    ]
+    rows: List[Tuple[object, ...]] = []
+    for it in found.blocks:
+        told = (it.file, it.level, it.rows, it.traces, it.stripes, it.form, it.pages, it.bytes)
+        rows.append((*told, moment(it.earliest), moment(it.latest)))
     return ["blocks", *table(heads, rows)]
 
 
 def file_lines(found: Survey) -> List[str]:
-    lines = ["loose files, of which nothing is needed", *table(("file", "bytes"), [(it.file, it.bytes) for it in found.loose])]
+    loose = [(it.file, it.bytes) for it in found.loose]
+    lines = ["loose files, of which nothing is needed", *table(("file", "bytes"), loose)]
     rows = [(it.file, it.bytes, it.note) for it in found.unnamed]
     lines += ["", "files that the list doesn't name", *table(("file", "bytes", ""), rows)]
     if found.others:
@@ -404,7 +407,8 @@ def verdict_lines(found: Survey) -> List[str]:
         if found.refused:
             lines.append(f"  An opening says: refused not-store file={found.refused.file} at={found.refused.at}")
         return lines
-    lines.append(f"well formed: {'all that the list names' if found.checked else 'what was read; --check reads the blocks whole'}")
+    what = "all that the list names" if found.checked else "what was read; --check reads the blocks whole"
+    lines.append(f"well formed: {what}")
     return lines
 
 

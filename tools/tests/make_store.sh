@@ -1,6 +1,6 @@
 #!/usr/bin/env bash
-# make_store.sh PROGRAM: makes the folder tools/tests/data/store anew, by a session of the built program over the pushes of
-# examples/. It ends with 1 where a reply isn't the expected one. test_stored_folder.py says what the folder then holds.
+# make_store.sh PROGRAM: makes the folder tools/tests/data/store anew, by a session of the built program over the pushes
+# of examples/. It ends with 1 where a reply isn't the expected one. test_stored_folder.py says what the folder holds.
 set -euo pipefail
 (($# == 1)) || { echo "usage: make_store.sh PROGRAM" >&2; exit 2; }
 program=$(realpath "$1")

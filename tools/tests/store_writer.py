@@ -1,7 +1,7 @@
 """A little writer of store files by docs/LIST-FORMAT.md, docs/LOG-FORMAT.md and docs/BLOCK-FORMAT.md.
 
-It shares nothing with the tool that it tests but these pages. Spans are dictionaries; an attribute is a key and a str, a bool
-or an int.
+It shares nothing with the tool that it tests but these pages. Spans are dictionaries; an attribute is a key and a str,
+a bool or an int.
 """
 from __future__ import annotations
 
@@ -114,8 +114,8 @@ def is_rich(spans: Iterable[Made]) -> bool:
 
 
 def slot(
-    generation: int, next_file: int, floor: int, segments: Sequence[Tuple[int, int]], blocks: Sequence[Tuple[int, int, int]] = (),
-    loose: Sequence[int] = (), gate: int = 1,
+    generation: int, next_file: int, floor: int, segments: Sequence[Tuple[int, int]],
+    blocks: Sequence[Tuple[int, int, int]] = (), loose: Sequence[int] = (), gate: int = 1,
 ) -> bytes:
     made = bytes([gate]) + b"TSL1" + bytes([generation]) + fixed(next_file, 4) + fixed(floor, 8)
     made += fixed(len(segments), 4) + fixed(len(blocks), 4) + fixed(len(loose), 4)
@@ -129,8 +129,9 @@ def slot(
 
 def log_span(it: Made, rich: bool) -> bytes:
     texts = Plain()
-    made = it["trace"] + it["id"] + parent(it["parent"]) + text(it["name"]) + bytes([it["kind"]]) + fixed(it["start"], 8)
-    made += fixed(it["end"], 8) + bytes([it["status"]]) + text(it["message"]) + attrs(texts, it["attrs"])
+    made = it["trace"] + it["id"] + parent(it["parent"]) + text(it["name"]) + bytes([it["kind"]])
+    made += fixed(it["start"], 8) + fixed(it["end"], 8) + bytes([it["status"]]) + text(it["message"])
+    made += attrs(texts, it["attrs"])
     return made + events(texts, it["events"]) + links(texts, it["links"]) if rich else made
 
 
@@ -180,7 +181,8 @@ def content(rows: Sequence[MadeRow], rich: bool) -> bytes:
     resources, scopes = distinct(it["resource"] for it in spans), distinct(it["scope"] for it in spans)
     made = var(len(resources)) + b"".join(attrs(texts, it) for it in resources)
     made += var(len(scopes)) + b"".join(scope(texts, it) for it in scopes) + var(len(rows))
-    made += b"".join(it["trace"] for it in spans) + b"".join(it["id"] for it in spans) + b"".join(parent(it["parent"]) for it in spans)
+    made += b"".join(it["trace"] for it in spans) + b"".join(it["id"] for it in spans)
+    made += b"".join(parent(it["parent"]) for it in spans)
     made += b"".join(var(row[0]) for row in rows) + b"".join(var(row[1]) for row in rows)
     made += b"".join(texts.text(it["name"]) for it in spans) + bytes(it["kind"] for it in spans)
     made += b"".join(fixed(it["start"], 8) for it in spans) + b"".join(fixed(it["end"], 8) for it in spans)
@@ -189,7 +191,8 @@ def content(rows: Sequence[MadeRow], rich: bool) -> bytes:
     made += b"".join(var([repr(that) for that in scopes].index(repr(it["scope"]))) for it in spans)
     made += b"".join(attrs(texts, it["attrs"]) for it in spans)
     if rich:
-        made += b"".join(events(texts, it["events"]) for it in spans) + b"".join(links(texts, it["links"]) for it in spans)
+        made += b"".join(events(texts, it["events"]) for it in spans)
+        made += b"".join(links(texts, it["links"]) for it in spans)
     return var(len(texts.texts)) + b"".join(text(it) for it in texts.texts) + made
 
 
@@ -214,7 +217,8 @@ def tail(rows: Sequence[MadeRow]) -> Tuple[List[bytes], List[bytes]]:
         first += count
     index = []
     for at in range(0, len(entries), 170):
-        index.append(padded(b"".join(id_ + fixed(first, 4) + fixed(count, 4) for id_, first, count in entries[at : at + 170])))
+        here = entries[at : at + 170]
+        index.append(padded(b"".join(id_ + fixed(first, 4) + fixed(count, 4) for id_, first, count in here)))
     filters = [bytearray(PAGE) for _ in range((len(entries) + 2047) // 2048)]
     for id_, _, _ in entries:
         page, of_one = filters[fnv(id_) % len(filters)], fnv(id_ + b"\1")

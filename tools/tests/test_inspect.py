@@ -39,8 +39,9 @@ def made_attrs(attrs: store_format.Attributes) -> List[Tuple[str, Any]]:
 def made_span(it: Span) -> writer.Made:
     """A span that was read, as the writer has it."""
     return {
-        "trace": it.trace, "id": it.id, "parent": it.parent, "name": it.name, "kind": it.kind, "start": it.start, "end": it.end,
-        "status": it.status, "message": it.message, "attrs": made_attrs(it.attrs), "resource": made_attrs(it.resource),
+        "trace": it.trace, "id": it.id, "parent": it.parent, "name": it.name, "kind": it.kind, "start": it.start,
+        "end": it.end, "status": it.status, "message": it.message, "attrs": made_attrs(it.attrs),
+        "resource": made_attrs(it.resource),
         "scope": (it.scope[0], it.scope[1], made_attrs(it.scope[2])),
         "events": [(time, name, made_attrs(attrs)) for time, name, attrs in it.events],
         "links": [(of, id_, made_attrs(attrs)) for of, id_, attrs in it.links],
@@ -93,8 +94,8 @@ def rich_spans() -> List[writer.Made]:
     return [
         span(3, 1, name="GET /", kind=2, start=100, end=2**64 - 1, status=1, resource=RESOURCE, scope=SCOPE,
              attrs=[("a", -(2**63)), ("b", 2**63 - 1), ("c", ""), ("d", "é")]),
-        span(3, 2, parent=span_id(1), name="é" * 100, kind=5, start=0, end=7, status=2, message="out of money", resource=RESOURCE,
-             scope=SCOPE, events=[(9, "exception", [("stack", "x" * 200)]), (10, "", [])]),
+        span(3, 2, parent=span_id(1), name="é" * 100, kind=5, start=0, end=7, status=2, message="out of money",
+             resource=RESOURCE, scope=SCOPE, events=[(9, "exception", [("stack", "x" * 200)]), (10, "", [])]),
         span(4, 2, kind=1, resource=[("1", 1), ("t", True)], links=[(trace(9), span_id(8), [("n", 5)])]),
         span(4, 3, kind=3, resource=[("1", True), ("t", 1)]),
         span(4, 4, kind=4, resource=[("1", True), ("t", 1)], scope=("x", "", [])),
@@ -103,7 +104,8 @@ def rich_spans() -> List[writer.Made]:
 
 def plain_spans(count: int) -> List[writer.Made]:
     """So many spans of as many traces, without events or links, in block order."""
-    return [span(at + 1, at + 1, name=f"name {at % 7}", start=1000 + at, end=2000 + at, kind=at % 6) for at in range(count)]
+    numbers = range(1, count + 1)
+    return [span(at, at, name=f"name {at % 7}", start=999 + at, end=1999 + at, kind=at % 6) for at in numbers]
 
 
 def rows_of(spans: List[writer.Made], push: int = 0) -> List[writer.MadeRow]:
@@ -119,7 +121,8 @@ class ListPage(unittest.TestCase):
     def test_new_store(self) -> None:
         self.assertEqual(len(self.NEW), 42)
         body = store_format.read_slot(0, self.NEW)
-        self.assertEqual((body.generation, body.next_file, body.floor, body.blocks, body.loose, body.length), (0, 3, 0, [], [], 42))
+        self.assertEqual((body.generation, body.next_file, body.floor, body.length), (0, 3, 0, 42))
+        self.assertEqual((body.blocks, body.loose), ([], []))
         self.assertEqual([(it.file, it.first) for it in body.segments], [(2, 0)])
         self.assertEqual(writer.slot(0, 3, 0, [(2, 0)]), self.NEW)
 
@@ -137,8 +140,10 @@ class ListPage(unittest.TestCase):
     def test_rules(self) -> None:
         whole = writer.slot(4, 9, 5, [(2, 4), (3, 5)], [(4, 0, 3), (5, 63, 1048576)], [6, 7])
         cases = [
-            (1, b"TSL2", 1), (5, b"\5", 5), (18, bytes(4), 18), (30, b"\1", 30), (30, b"\x09", 30), (34, b"\6", 34), (46, b"\3", 46),
-            (46, b"\4", 46), (46, writer.fixed(2**32, 8), 46), (10, b"\3", 34), (10, b"\6", 46), (42, b"\2", 42), (54, b"\3", 54),
+            (1, b"TSL2", 1), (5, b"\5", 5), (18, bytes(4), 18), (30, b"\1", 30), (30, b"\x09", 30),
+            (34, b"\6", 34), (46, b"\3", 46),
+            (46, b"\4", 46), (46, writer.fixed(2**32, 8), 46), (10, b"\3", 34), (10, b"\6", 46),
+            (42, b"\2", 42), (54, b"\3", 54),
             (58, b"\x40", 58), (59, bytes(4), 59), (68, writer.fixed(1048577, 4), 68), (72, b"\5", 72), (76, b"\6", 76),
             (6, b"\6", 72), (6, b"\2", 30),
         ]
@@ -159,7 +164,8 @@ class LogPage(unittest.TestCase):
     EMPTY_BATCH = hexed("01 01 0900000000000000 0000000000000000 00 00")
     LONG_COUNT = hexed("01 01 0a00000000000000 0000000000000000 8000 00")
     ONE_SPAN = hexed(
-        "01 01 4f00000000000000 0700000000000001 01 0101720102 01 000000 01 09090909090909090909090909090909 0101010101010101 00"
+        "01 01 4f00000000000000 0700000000000001 01 0101720102 01 000000 01"
+        "09090909090909090909090909090909 0101010101010101 00"
         "0178 02 0500000000000000 0600000000000000 01 00 00 01 0500000000000000 0165 00 00 00"
     )
 
@@ -167,10 +173,11 @@ class LogPage(unittest.TestCase):
         facts, batches = read_segment(self.EMPTY_BATCH)
         self.assertEqual((len(self.EMPTY_BATCH), facts.gate, batches), (20, 19, [[]]))
         self.assertEqual(breaks_at(lambda: read_segment(self.LONG_COUNT)), 18)
-        made = span(id=1, trace=b"\x09" * 16, name="x", kind=2, start=5, end=6, status=1, resource=[("r", 1)], events=[(5, "e", [])])
-        made["id"] = b"\1" * 8
+        made = span(name="x", kind=2, start=5, end=6, status=1, resource=[("r", 1)], events=[(5, "e", [])])
+        made.update(trace=b"\x09" * 16, id=b"\1" * 8)
         facts, batches = read_segment(self.ONE_SPAN, 7)
-        self.assertEqual((len(self.ONE_SPAN), facts.gate, facts.records, facts.spans, batches), (90, 89, 1, 1, [[made]]))
+        self.assertEqual((len(self.ONE_SPAN), facts.gate, facts.records, facts.spans), (90, 89, 1, 1))
+        self.assertEqual(batches, [[made]])
         self.assertEqual(writer.segment(7, [[made]]), self.ONE_SPAN)
         self.assertEqual(writer.segment(0, [[]]), self.EMPTY_BATCH)
 
@@ -180,8 +187,10 @@ class LogPage(unittest.TestCase):
 
     def test_rules(self) -> None:
         cases = [
-            (0, b"\2", 0), (10, b"\6", 10), (16, b"\2", 10), (14, b"\1", 10), (2, b"\x4e", 88), (2, b"\x50", 89), (18, b"\x81\0", 18),
-            (19, b"\2\1\xff", 20), (24, b"\0", 24), (28, b"\0", 28), (29, bytes(16), 29), (45, bytes(8), 45), (53, b"\2", 53),
+            (0, b"\2", 0), (10, b"\6", 10), (16, b"\2", 10), (14, b"\1", 10), (2, b"\x4e", 88),
+            (2, b"\x50", 89), (18, b"\x81\0", 18),
+            (19, b"\2\1\xff", 20), (24, b"\0", 24), (28, b"\0", 28), (29, bytes(16), 29), (45, bytes(8), 45),
+            (53, b"\2", 53),
             (53, b"\1" + bytes(8), 54), (54, b"\1\xff", 54), (56, b"\6", 56), (73, b"\3", 73), (76, b"\0", 78),
         ]
         for at, new, told in cases:
@@ -193,7 +202,8 @@ class LogPage(unittest.TestCase):
         bare = changed(writer.body(0, [span()]), 7, b"\1") + b"\0\0"
         self.assertEqual(breaks_at(lambda: read_segment(b"\1" + writer.record(bare) + b"\0")), 10)
         self.assertEqual(breaks_at(lambda: read_segment(b"\1" + writer.record(bare + b"x") + b"\0")), 10)
-        self.assertEqual(breaks_at(lambda: read_segment(b"\1" + writer.record(bare[:-1]) + b"\0")), 10 + len(bare) - 1 - 0)
+        cut = b"\1" + writer.record(bare[:-1]) + b"\0"  # the count of links is missing: its place is the body's end
+        self.assertEqual(breaks_at(lambda: read_segment(cut)), len(cut) - 1)
         rest = b"\1" + writer.record(writer.body(0, [span()]) + b"x") + b"\0"
         self.assertEqual(breaks_at(lambda: read_segment(rest)), len(rest) - 2)
 
@@ -219,16 +229,19 @@ class LogPage(unittest.TestCase):
 
 class BlockPage(unittest.TestCase):
     HEADER = hexed(
-        "54534231 01000000 01000000 01000000 01000000 0100000000000000 0100000000000000 0100000000000000 0100000000000000"
+        "54534231 01000000 01000000 01000000 01000000"
+        "0100000000000000 0100000000000000 0100000000000000 0100000000000000"
     ) + bytes(4044)
     STRIPE = hexed(
-        "4100000000000000 02 00 05 6669727374 01 00 01 000000 01 000000000000000000000000000000a1 00000000000000b1 00 00 00 01 00"
+        "4100000000000000 02 00 05 6669727374 01 00 01 000000 01"
+        "000000000000000000000000000000a1 00000000000000b1 00 00 00 01 00"
         "0100000000000000 0200000000000000 00 00 00 00 00"
     ) + bytes(4023)
     LARGER = hexed(
         "ca00000000000000 0c 0173016b016c0131017400 016102c3a9016d016e01650178 02 01000001 00 02 020301040201 050500 02"
         + ("00" * 15 + "a1") * 2
-        + "00000000000000b1 00000000000000b2 000100000000000000b1 ac0200 0007 0607 0200 01000000000000000100000000000000"
+        + "00000000000000b1 00000000000000b2 000100000000000000b1 ac0200 0007 0607 0200"
+        "01000000000000000100000000000000"
         "02000000000000000500000000000000 0102 0508 0001 0001 01090101 02010006000106 00 0109000000000000000a00 00 01"
         + "00" * 15 + "a2" + "00" * 7 + "b3 010b010a"
     ) + bytes(3886)
@@ -244,8 +257,10 @@ class BlockPage(unittest.TestCase):
         self.assertEqual((header.index_page(), header.all_pages(), header.rows()), (2, 4, 1))
         self.assertEqual(writer.header(1, [(1, 1, 1, 1)], 1, 1), self.HEADER)
         cases = [
-            (0, b"TSB3", 0), (4, b"\2", 4), (8, b"\2", 28), (8, b"\0", 8), (4, b"\0", 4), (8, writer.fixed(128, 4), 4), (28, b"\0", 28),
-            (28, b"\0\1", None), (28, b"\1\1", 28), (20, writer.fixed(2**51, 8), 20), (20, writer.fixed(2**51 - 1, 8), None),
+            (0, b"TSB3", 0), (4, b"\2", 4), (8, b"\2", 28), (8, b"\0", 8), (4, b"\0", 4),
+            (8, writer.fixed(128, 4), 4), (28, b"\0", 28),
+            (28, b"\0\1", None), (28, b"\1\1", 28), (20, writer.fixed(2**51, 8), 20),
+            (20, writer.fixed(2**51 - 1, 8), None),
             (52, b"\1", 52), (4095, b"\1", 4095), (4, b"\x21\0\0\0\1\x10", 8), (4, b"\x21\0\0\0\x80\x10", 4),
             (4, b"\x22\0\0\0\x80\x10", 8),
         ]
@@ -267,18 +282,22 @@ class BlockPage(unittest.TestCase):
         self.assertEqual(writer.stripe(rows, False), self.STRIPE)
 
     def test_larger(self) -> None:
-        one = span(0xA1, kind=2, name="a", resource=[("s", "k")], scope=("l", "1", [("t", True)]), attrs=[("n", -1)], status=1)
-        two = span(0xA1, 0xB2, parent=span_id(0xB1), name="é", end=5, status=2, message="m", attrs=[("k", "a"), ("s", 3)],
-                   events=[(9, "e", [])], links=[(trace(0xA2), span_id(0xB3), [("x", 5)])])
+        one = span(0xA1, kind=2, name="a", resource=[("s", "k")], scope=("l", "1", [("t", True)]), attrs=[("n", -1)],
+                   status=1)
+        two = span(0xA1, 0xB2, parent=span_id(0xB1), name="é", end=5, status=2, message="m",
+                   attrs=[("k", "a"), ("s", 3)], events=[(9, "e", [])],
+                   links=[(trace(0xA2), span_id(0xB3), [("x", 5)])])
         self.assertEqual(len(self.LARGER), PAGE)
         self.assertEqual(self.alone(self.LARGER), [(300, 0, one), (0, 7, two)])
         self.assertEqual(writer.stripe([(300, 0, one), (0, 7, two)], True), self.LARGER)
 
     def test_what_other_bytes_make_of_it(self) -> None:
         cases = [
-            ([(0, "c9")], 209), ([(0, "cb")], 210), ([(8, "0d")], 39), ([(9, "8000")], 9), ([(12, "73")], 11), ([(49, "8102")], 0),
+            ([(0, "c9")], 209), ([(0, "cb")], 210), ([(8, "0d")], 39), ([(9, "8000")], 9), ([(12, "73")], 11),
+            ([(49, "8102")], 0),
             ([(100, "00" * 8)], 100), ([(111, "8080808010")], 111), ([(113, "08")], 113), ([(154, "00")], 38),
-            ([(154, "00"), (207, "0a")], 31), ([(154, "00"), (208, "03")], 38), ([(207, "0a")], 31), ([(117, "02")], 0), ([(210, "01")], 210),
+            ([(154, "00"), (207, "0a")], 31), ([(154, "00"), (208, "03")], 38), ([(207, "0a")], 31),
+            ([(117, "02")], 0), ([(210, "01")], 210),
         ]
         for changes, told in cases:
             data = self.LARGER
@@ -286,7 +305,7 @@ class BlockPage(unittest.TestCase):
                 data = changed(data, at, hexed(new))
             with self.subTest(changes=changes):
                 self.assertEqual(breaks_at(lambda: self.alone(data)), told)
-        for size in range(PAGE):
+        for size in [*range(230), *range(230, PAGE, 61), PAGE - 1]:
             self.assertEqual(breaks_at(lambda: self.alone(self.LARGER[:size])), size)
         self.assertEqual(breaks_at(lambda: self.alone(self.LARGER + b"\0")), PAGE)
 
@@ -341,7 +360,8 @@ class BrokenBlocks(unittest.TestCase):
         return breaks_at(lambda: block_format.check_block(data, listed))
 
     def test_cut_short(self) -> None:
-        for size in [*range(0, 200), *range(200, 4 * PAGE, 61), *range(PAGE, PAGE + 60), 2 * PAGE, 3 * PAGE, 4 * PAGE - 1]:
+        ends = (PAGE - 1, 2 * PAGE, 3 * PAGE, 4 * PAGE - 1)
+        for size in [*range(200), *range(200, 4 * PAGE, 61), *range(PAGE, PAGE + 60), *ends]:
             self.assertEqual(self.breaks(self.data[:size]), size)
         self.assertEqual(self.breaks(self.data + b"\0"), 4 * PAGE)
         self.assertEqual(self.breaks(self.data + bytes(PAGE)), 4 * PAGE)
@@ -364,14 +384,15 @@ class BrokenBlocks(unittest.TestCase):
         self.assertEqual(self.breaks(writer.block(rows_of(plain_spans(3)), form=2)), 0)
 
     def test_entry_before_a_later_field(self) -> None:
-        """A stripe that disagrees with its entry is malformed at its first byte, as long as what disagrees can be read."""
+        """A stripe that disagrees with its entry is malformed at its first byte, if what disagrees can be read."""
         one = writer.block([(0, 0, span(name="first"))])
         later = changed(one, PAGE + 68, b"\3")  # the status
         self.assertEqual((self.breaks(one), self.breaks(later)), (None, PAGE + 68))
         self.assertEqual(self.breaks(changed(later, 36, writer.fixed(3, 8) * 2)), PAGE)
         self.assertEqual(self.breaks(changed(later, 28, b"\2")), PAGE)
         early = changed(one, PAGE + 51, b"\6")  # the kind, which stands before the starts
-        self.assertEqual((self.breaks(early), self.breaks(changed(early, 36, writer.fixed(3, 8) * 2))), (PAGE + 51, PAGE + 51))
+        self.assertEqual(self.breaks(early), PAGE + 51)
+        self.assertEqual(self.breaks(changed(early, 36, writer.fixed(3, 8) * 2)), PAGE + 51)
         self.assertEqual(self.breaks(changed(early, 28, b"\2")), PAGE)
         self.assertEqual(self.breaks(changed(early, 36, b"\7")), PAGE)
 
@@ -383,7 +404,7 @@ class BrokenBlocks(unittest.TestCase):
         at = whole.index(trace(257), last)
         self.assertEqual(self.breaks(whole), None)
         self.assertEqual(self.breaks(changed(whole, at, trace(1))), last)
-        # In the trace before it the row is in order, and its trace gets one row more: entry 255, the 86th of the second page.
+        # In the trace before it the row is in order, and that trace has a row more: entry 255, the 86th of its page.
         self.assertEqual(self.breaks(changed(whole, at, trace(256))), index + PAGE + 85 * 24 + 20)
 
 
@@ -415,7 +436,7 @@ class AnyBytes(unittest.TestCase):
     def test_segments(self) -> None:
         data = writer.segment(0, [rich_spans(), [], rich_spans()[:2]])
         kept = 0
-        for mutant in self.mutants(data, 1500, lambda chance: chance.randrange(len(data) - 8)):
+        for mutant in self.mutants(data, 600, lambda chance: chance.randrange(len(data) - 8)):
             facts = SegmentFacts(0)
             at = breaks_at(lambda: store_format.read_segment(mutant, facts))
             if at is None:
@@ -424,32 +445,35 @@ class AnyBytes(unittest.TestCase):
                 kept += 1
             else:
                 self.assertLessEqual(at, len(mutant))
-        self.assertGreater(kept, 50)
+        self.assertGreater(kept, 20)
 
     def test_blocks(self) -> None:
         data = writer.block(rows_of(rich_spans()))
         content = 8 + int.from_bytes(data[PAGE : PAGE + 8], "little")
         kept = 0
-        for mutant in self.mutants(data, 1500, lambda chance: chance.choice((chance.randrange(60), PAGE + chance.randrange(content)))):
+        places = [*range(60), *range(PAGE, PAGE + content)]
+        for mutant in self.mutants(data, 600, lambda chance: chance.choice(places)):
             at = breaks_at(lambda: block_format.check_block(mutant))
             if at is None:
                 self.assertEqual(writer.block(read_block(mutant)), mutant)
                 kept += 1
             else:
                 self.assertLessEqual(at, len(mutant))
-        self.assertGreater(kept, 50)
+        self.assertGreater(kept, 20)
 
     def test_lists(self) -> None:
         data = writer.slot(4, 9, 5, [(2, 4), (3, 5)], [(4, 0, 3), (5, 63, 1048576)], [6, 7])
-        for mutant in self.mutants(data, 1500, lambda chance: chance.randrange(1, len(data))):
+        for mutant in self.mutants(data, 600, lambda chance: chance.randrange(1, len(data))):
             at = breaks_at(lambda: store_format.read_slot(0, mutant))
             if at is not None:
                 self.assertLessEqual(at, len(mutant))
                 continue
             it = store_format.read_slot(0, mutant)
             if it:
-                refs = [(that.file, that.first) for that in it.segments], [(that.file, that.level, that.rows) for that in it.blocks]
-                self.assertEqual(writer.slot(it.generation, it.next_file, it.floor, *refs, it.loose), mutant[: it.length])
+                segments = [(ref.file, ref.first) for ref in it.segments]
+                blocks = [(ref.file, ref.level, ref.rows) for ref in it.blocks]
+                again = writer.slot(it.generation, it.next_file, it.floor, segments, blocks, it.loose)
+                self.assertEqual(again, mutant[: it.length])
 
 
 class LyingCounts(unittest.TestCase):
@@ -493,13 +517,13 @@ class LyingCounts(unittest.TestCase):
 # ---- folders
 
 
-def stored() -> Dict[int, bytes]:
-    """The files of a store: two segments, blocks of two levels, and two loose files."""
-    joined, flushed = rows_of(rich_spans(), 0), rows_of(plain_spans(300), 1)
+def stored(count: int = 300) -> Dict[int, bytes]:
+    """The files of a store: two segments, blocks of two levels, of which one has so many rows, and two loose files."""
+    joined, flushed = rows_of(rich_spans(), 0), rows_of(plain_spans(count), 1)
     return {
-        0: writer.slot(6, 11, 2, [(2, 1), (8, 2)], [(5, 1, 5), (7, 0, 300)], [3, 4]),
+        0: writer.slot(6, 11, 2, [(2, 1), (8, 2)], [(5, 1, 5), (7, 0, count)], [3, 4]),
         1: writer.slot(5, 9, 1, [(2, 1)], [(3, 0, 2), (4, 0, 3)]),
-        2: writer.segment(1, [plain_spans(300)]),
+        2: writer.segment(1, [plain_spans(count)]),
         3: writer.block(joined[:2]),
         4: writer.block(joined[2:]),
         5: writer.block(joined),
@@ -519,7 +543,8 @@ class Folders(unittest.TestCase):
         writer.write(self.folder, files)
 
     def run_tool(self, *words: str) -> Tuple[int, str]:
-        ran = subprocess.run([sys.executable, TOOL, *words], stdout=subprocess.PIPE, stderr=subprocess.STDOUT, timeout=20)
+        command = [sys.executable, TOOL, *words]
+        ran = subprocess.run(command, stdout=subprocess.PIPE, stderr=subprocess.STDOUT, timeout=60)
         return ran.returncode, ran.stdout.decode()
 
     def check(self) -> store_report.Survey:
@@ -539,25 +564,31 @@ class GoodFolders(Folders):
         found = self.check()
         self.assertEqual([(it.state, it.generation, it.bytes, it.counts) for it in found.slots],
                          [("open", 6, 80, True), ("open", 5, 60, False)])
-        self.assertEqual((found.next_file, found.floor, found.pushes, found.malformed, found.refused), (11, 2, 5, [], None))
+        self.assertEqual((found.next_file, found.floor, found.pushes), (11, 2, 5))
+        self.assertEqual((found.malformed, found.refused), ([], None))
         self.assertEqual([(it.file, it.first, it.records, it.spans, it.commit_byte) for it in found.segments],
                          [(2, 1, 1, 300, 0), (8, 2, 3, 7, 0)])
-        self.assertEqual([(it.file, it.level, it.rows, it.form, it.pages, it.stripes, it.traces) for it in found.blocks],
-                         [(5, 1, 5, 2, 4, 1, 2), (7, 0, 300, 1, found.blocks[1].bytes // PAGE, 2, 300)])
+        self.assertEqual([(it.file, it.level, it.rows, it.form, it.stripes, it.traces) for it in found.blocks],
+                         [(5, 1, 5, 2, 1, 2), (7, 0, 300, 1, 2, 300)])
+        self.assertTrue(all(it.bytes == PAGE * it.pages for it in found.blocks))
         self.assertEqual([(it.earliest, it.latest) for it in found.blocks], [(0, 100), (1000, 1299)])
         self.assertEqual([it.file for it in found.loose], [3, 4])
         self.assertEqual(len(found.cleaning), 2)
 
+    def times(self) -> Dict[str, int]:
+        """The files of the folder, and when each was written last."""
+        return {it: os.stat(os.path.join(self.folder, it)).st_mtime_ns for it in os.listdir(self.folder)}
+
     def test_command(self) -> None:
         self.write(stored())
-        before = {it: os.stat(os.path.join(self.folder, it)).st_mtime_ns for it in os.listdir(self.folder)}
+        before = self.times()
         for words in ([], ["--check"]):
             status, text = self.run_tool(self.folder, *words)
             self.assertEqual((status, text.split("\n")[0]), (0, store_report.NOTICE[0]))
             self.assertIn("nothing that this tool says is proved", text.lower())
             status, text = self.run_tool("--json", *words, self.folder)
             self.assertEqual((status, json.loads(text)["blocks"][1]["rows"]), (0, 300))
-        self.assertEqual({it: os.stat(os.path.join(self.folder, it)).st_mtime_ns for it in os.listdir(self.folder)}, before)
+        self.assertEqual(self.times(), before)
 
     def test_usage(self) -> None:
         for words in ([], ["--checks", self.folder], [self.folder, self.folder], [self.folder + "/none"], [TOOL]):
@@ -568,7 +599,8 @@ class GoodFolders(Folders):
 
     def test_no_store(self) -> None:
         found = self.check()
-        self.assertEqual((found.listed_by, found.malformed, found.cleaning, found.slots[0].state), (None, [], [], "vacant"))
+        self.assertEqual((found.listed_by, found.slots[0].state), (None, "vacant"))
+        self.assertEqual((found.malformed, found.cleaning), ([], []))
         self.assertEqual(self.run_tool(self.folder, "--check")[0], 0)
 
     def test_other_files(self) -> None:
@@ -594,8 +626,8 @@ class GoodFolders(Folders):
 
     def test_hostile_names(self) -> None:
         spans = [span(1, 1, name=HOSTILE, message=HOSTILE, attrs=[(HOSTILE, HOSTILE)], resource=[(HOSTILE, 1)])]
-        files = {0: writer.slot(0, 4, 0, [(2, 0)], [(3, 0, 1)]), 2: writer.segment(0, [spans]), 3: writer.block(rows_of(spans))}
-        self.assertIsNone(self.refused(files))
+        slot = writer.slot(0, 4, 0, [(2, 0)], [(3, 0, 1)])
+        self.assertIsNone(self.refused({0: slot, 2: writer.segment(0, [spans]), 3: writer.block(rows_of(spans))}))
         again = [span(1, 1, attrs=[(HOSTILE, 1), (HOSTILE, 2)])]
         self.assertEqual(self.refused({2: writer.segment(0, [again])})[0], 2)
         status, text = self.run_tool(self.folder, "--check")
@@ -663,6 +695,31 @@ class BrokenFolders(Folders):
         files = stored()
         files[0] = changed(files[0], 59, b"\6")
         self.assertEqual(self.refused(files), (5, 0))
+
+    def test_any_bytes(self) -> None:
+        """Whatever the files hold, there is an answer."""
+        files, chance = stored(3), random.Random(3)
+        for _ in range(40):
+            number = chance.choice(list(files))
+            mutant = bytearray(files[number])
+            for _ in range(chance.randrange(1, 9)):
+                at = chance.randrange(min(len(mutant), chance.choice((100, 5000))))
+                mutant[at] = chance.choice((0, 1, 255, chance.randrange(256)))
+            if chance.random() < 0.3:
+                del mutant[chance.randrange(len(mutant)) :]
+            writer.write(self.folder, {**files, number: bytes(mutant)})
+            for check in (False, True):
+                found = store_report.survey(self.folder, check)
+                self.assertTrue(store_report.text_of(found).startswith(store_report.NOTICE[0]))
+                for it in found.malformed:
+                    size = len(mutant) if it.file == number else len(files.get(it.file, b""))
+                    self.assertTrue(0 <= it.at <= size, it)
+
+    def test_far_offsets(self) -> None:
+        files = stored()
+        files[5] = changed(files[5], 20, writer.fixed(2**51 - 1, 8))
+        self.assertEqual(self.refused(files), (5, PAGE))
+        self.assertEqual(store_report.survey(self.folder, False).blocks[0].pages, 2**51 + 2)
 
     def test_one_slot(self) -> None:
         """A slot that is malformed refuses the store; the other one's list is surveyed all the same."""

@@ -54,7 +54,7 @@ class Source:
         return found[0]
 
     def rows(self, function: str, form: str) -> List[Tuple[str, ...]]:
-        """The rows of a function's table that have this form, in which N is a number, X a text of bytes and W a word."""
+        """The rows of a function's table that have this form: in it N is a number, X a text of bytes and W a word."""
         pattern = form.replace("(", r"\(").replace(")", r"\)").replace("N", f"({NUMBER}|SOUND)")
         pattern = pattern.replace("X", '"([^"]*)"').replace("W", "([A-Z][a-z]+)").replace(" ", r"\s*")
         found = [it.groups() for it in re.finditer(pattern, self.body(function))]
@@ -95,7 +95,8 @@ class Stripes(unittest.TestCase):
     OTHER = Source("blocks_tests", "src", "malformed.rt")
 
     def test_one_bit(self) -> None:
-        for name, table, form, bit in (("STRIPE", "LOWEST", 2, 1), ("STRIPE", "HIGHEST", 2, 128), ("PLAIN", "PLAIN_LOWEST", 1, 1)):
+        tables = (("STRIPE", "LOWEST", 2, 1), ("STRIPE", "HIGHEST", 2, 128), ("PLAIN", "PLAIN_LOWEST", 1, 1))
+        for name, table, form, bit in tables:
             data, wanted = self.SOURCE.page(name), self.SOURCE.offsets(table)
             self.assertEqual([stripe(flipped(data, at, bit), form) for at in range(len(wanted))], wanted)
 
@@ -133,7 +134,8 @@ class Blocks(unittest.TestCase):
             data = put(self.HEADERS.page("ONE"), number(at), bytes.fromhex(new))
             self.assertEqual(breaks_at(lambda: block_format.read_header(data)), told(offset), at)
         three = block_format.read_header(self.HEADERS.page("THREE"))
-        self.assertEqual([(it.page, it.pages, it.rows) for it in three.stripes], [(1, 5, 256), (6, 258, 256), (264, 1, 1)])
+        stripes = [(it.page, it.pages, it.rows) for it in three.stripes]
+        self.assertEqual(stripes, [(1, 5, 256), (6, 258, 256), (264, 1, 1)])
 
     def test_each_byte(self) -> None:
         data = self.block()
@@ -179,7 +181,8 @@ class Logs(unittest.TestCase):
         return bytes([1, 1, len(body), 0, 0, 0, 0, 0, 0, 0]) + body + b"\0"
 
     def test_one_place(self) -> None:
-        for function, name in (("broken_in_one_place", "TWO_RESOURCES"), ("extended_bodies_that_are_malformed", "EXTENDED")):
+        tables = (("broken_in_one_place", "TWO_RESOURCES"), ("extended_bodies_that_are_malformed", "EXTENDED"))
+        for function, name in tables:
             data = self.segment(self.SOURCE.array(name))
             for at, count, byte, way, offset in self.SOURCE.rows(function, "(N, N, N, W(N))"):
                 new = put(data, number(at), bytes([number(byte)]) * number(count))
