@@ -1,8 +1,7 @@
 //! Compactions and the emptying of loose files in whole runs: what they print, and what is told after them.
 
-use crate::durable_tests::{PUSHED_0, writes};
-use crate::run_tests::{LOOK_A1, PUSH_X, PUSH_Y, TRACE_X};
 use disk_model::MemDisk;
+use run_support::{LOOK_A1, PUSH_X, PUSH_Y, PUSHED_0, TRACE_X, writes};
 use span_types::Memory;
 
 // Of a span in two blocks the row that came in first stays, in the run and in later ones.
