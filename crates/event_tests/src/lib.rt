@@ -6,4 +6,6 @@ mod event_model;
 #[cfg(test)]
 mod events_tests;
 #[cfg(test)]
+mod full_tests;
+#[cfg(test)]
 mod ingest_tests;

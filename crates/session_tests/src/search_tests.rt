@@ -3,6 +3,7 @@
 use crate::run_tests::check;
 use disk_model::MemDisk;
 use io_edges::{FixedClock, MemSink, MemSource, OpenGate};
+use run_support::FINE;
 use span_types::{Bytes, Calls, Memory, Moments};
 use trace_shell::{Ended, run};
 use traceql_types::ScriptedMaker;
