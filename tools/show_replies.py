@@ -9,6 +9,7 @@ import unicodedata
 from collections import Counter
 from dataclasses import dataclass, field
 from datetime import datetime, timedelta, timezone
+from functools import lru_cache
 from typing import Iterable, Iterator, Union
 
 KINDS = ("", "internal", "server", "client", "producer", "consumer")
@@ -46,6 +47,7 @@ def word(text: str) -> str:
     return one_line(clean(text))
 
 
+@lru_cache(maxsize=4096)
 def char_width(char: str) -> int:
     """How many columns of a terminal a character takes."""
     if unicodedata.category(char) in ("Mn", "Me", "Cf") or "\u1160" <= char <= "\u11ff":

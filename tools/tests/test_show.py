@@ -1,16 +1,19 @@
 """Tests of tools/show: `python3 -m unittest discover -s tools/tests` in the top folder."""
 from __future__ import annotations
 
+import io
 import json
 import os
+import pty
 import re
+import resource
 import shutil
 import subprocess
 import sys
 import tempfile
-import time
 import unittest
 from pathlib import Path
+from urllib.parse import unquote
 
 sys.dont_write_bytecode = True
 TOOLS = Path(__file__).resolve().parents[1]
@@ -52,8 +55,8 @@ def many_spans(number: int) -> bytes:
     for at in range(1, number + 1):
         attributes = [attribute("http.route", f"/orders/{at}"), attribute("server.address", "10.0.0.7"),
                       {"key": "http.response.status_code", "value": {"intValue": "200"}}]
-        spans.append(span(at, at - 1 if at % 10 != 1 else 1 if at > 1 else 0, f"GET /orders/{at}", at * 1000, 10**7 - at * 100,
-                          attributes=attributes, kind=at % 6))
+        parent = at - 1 if at % 10 != 1 else min(at - 1, 1)
+        spans.append(span(at, parent, f"GET /orders/{at}", at * 1000, 10**7 - at * 100, attributes=attributes))
     return reply(*spans)
 
 
@@ -63,25 +66,42 @@ def run(*words: str, given: bytes = b"", **environment: str) -> subprocess.Compl
                           env={**clean, **environment}, timeout=60)
 
 
-def drawn(given: bytes, *words: str) -> str:
-    done = run(*words, given=given)
-    if done.returncode or done.stderr:
-        raise AssertionError(done.stderr.decode())
-    return done.stdout.decode()
+def parts_of(given: bytes) -> list[replies.Part]:
+    return list(replies.Reader().parts(given.splitlines(True)))
+
+
+def drawn(given: bytes, width: int = 80, full: bool = False) -> str:
+    out = io.BytesIO()
+    show_text.draw_text(parts_of(given), show_text.Look(width, full=full), out, on_terminal=False)
+    return out.getvalue().decode(errors="replace")
+
+
+def processor_time() -> float:
+    """How many seconds the processes that ended took: of this time other work on the machine takes nothing."""
+    used = resource.getrusage(resource.RUSAGE_CHILDREN)
+    return used.ru_utime + used.ru_stime
+
+
+def page_of(given: bytes) -> str:
+    return show_page.page(parts_of(given))
+
+
+def example(name: str) -> bytes:
+    return (EXAMPLES / f"{name}.replies").read_bytes()
 
 
 def rows_of(given: bytes) -> list[replies.Row]:
-    (part,) = replies.Reader().parts([given])
+    (part,) = parts_of(given)
     return part.rows
 
 
 class Texts(unittest.TestCase):
     def test_durations(self):
         told = {
-            0: "0 ns", 999: "999 ns", 1000: "1 µs", 12_345: "12.35 µs", 999_949: "999.9 µs", 999_950: "1 ms", 380_000_000: "380 ms",
-            999_950_000: "1 s", 1_234_000_000: "1.234 s", 59_994_000_000: "59.99 s", 59_996_000_000: "1m 00s",
-            61_000_000_000: "1m 01s", 3_599_600_000_000: "1h 00m", 5_400_000_000_000: "1h 30m", 90_000_000_000_000: "1d 01h",
-            -5_000_000: "-5 ms",
+            0: "0 ns", 999: "999 ns", 1000: "1 µs", 12_345: "12.35 µs", 999_949: "999.9 µs", 999_950: "1 ms",
+            380_000_000: "380 ms", 999_950_000: "1 s", 1_234_000_000: "1.234 s", 59_994_000_000: "59.99 s",
+            59_996_000_000: "1m 00s", 61_000_000_000: "1m 01s", 3_599_600_000_000: "1h 00m",
+            5_400_000_000_000: "1h 30m", 90_000_000_000_000: "1d 01h", -5_000_000: "-5 ms",
         }
         self.assertEqual({nanos: replies.duration(nanos) for nanos in told}, told)
 
@@ -140,7 +160,7 @@ class Trees(unittest.TestCase):
         self.assertRegex(text, r"-2 ms +‹")
 
     def test_deep_traces(self):
-        text = drawn(reply(*(span(at, at - 1) for at in range(1, 5001))), "--width", "80")
+        text = drawn(reply(*(span(at, at - 1) for at in range(1, 5001))), width=80)
         self.assertIn("4999…", text)
         self.assertLessEqual(max(map(len, text.splitlines())), 80)
 
@@ -149,39 +169,40 @@ class Drawing(unittest.TestCase):
     def test_examples_are_drawn_as_stored(self):
         for name in ("collector", "first", "search"):
             with self.subTest(name):
-                text = drawn(b"", "--width", "100", str(EXAMPLES / f"{name}.replies"))
+                text = drawn(example(name), width=100)
                 self.assertEqual(text, (DATA / f"{name}.drawn").read_text(encoding="utf-8"))
 
     def test_all_widths_are_kept(self):
         for width in (40, 60, 80, 132, 300):
             for name in ("collector", "first", "search"):
-                text = drawn(b"", "--width", str(width), str(EXAMPLES / f"{name}.replies"))
-                told = [line for line in text.splitlines() if not line.startswith(("ok ", "refused "))]
-                # ids and summaries are never cut
-                self.assertLessEqual(max(map(replies.width_of, told)), max(width, 79))
+                told = [line for line in example(name).splitlines(True) if line.startswith((b"ok trace", b"ok search"))]
+                lines = drawn(b"".join(told), width).splitlines()
+                self.assertLessEqual(max(map(replies.width_of, lines)), width)
 
     def test_no_escape_reaches_the_output(self):
         text = drawn((DATA / "hostile.replies").read_bytes())
         unsafe = [char for char in text if not replies.is_safe(char)]
         self.assertEqual(unsafe, [])
-        for told in (r"\x1b]0;owned\x07", "<script>alert(1)</script>", "東京", "שלום", "👩\u200d🚀", r"\u202e", r"\ud800"):
+        names = (r"\x1b]0;owned\x07", "<script>alert(1)</script>", "東京", "שלום", "👩\u200d🚀")
+        for told in (*names, r"\u202e", r"\ud800"):
             self.assertIn(told, text)
 
     def test_events_and_links(self):
         events = [{"attributes": [], "name": f"event {at}", "timeUnixNano": str(START + at)} for at in range(8)]
         links = [{"attributes": [attribute("why", "again")], "spanId": f"{7:016x}", "traceId": f"{8:032x}"}]
         given = reply(span(1, events=events, links=links))
-        text = drawn(given, "--width", "120")
+        text = drawn(given, width=120)
         self.assertIn("• event 4 (at 4 ns)", text)
         self.assertNotIn("event 5", text)
         self.assertIn("and 3 more events", text)
         self.assertIn(f'→ links to span {7:016x} of trace {8:032x} why="again"', text)
-        self.assertIn("• event 7 (at 7 ns)", drawn(given, "--full"))
+        self.assertIn("• event 7 (at 7 ns)", drawn(given, full=True))
 
     def test_spansets(self):
         hit = {"attributes": [{"key": ".a", "value": None}, {"key": ".b", "value": {"ratioValue": "-1/2"}}],
                "durationNanos": "5", "name": "x", "spanId": f"{1:016x}", "startTimeUnixNano": str(START)}
-        group = {"by": [None, {"boolValue": True}, {"kindValue": "server"}, {"stringValue": "5"}], "matched": 17, "spans": [hit]}
+        by = [None, {"boolValue": True}, {"kindValue": "server"}, {"stringValue": "5"}]
+        group = {"by": by, "matched": 17, "spans": [hit]}
         found = {"durationNanos": "5", "rootName": None, "rootService": None, "spanSets": [group],
                  "startTimeUnixNano": str(START), "traceId": TRACE_ID}
         text = drawn(f"ok search as_of=1 traces=1 {json.dumps({'traces': [found]})}\n".encode())
@@ -191,9 +212,9 @@ class Drawing(unittest.TestCase):
 
     def test_ten_thousand_spans_are_quick(self):
         given = many_spans(10_000)
-        began = time.monotonic()
-        text = drawn(given)
-        self.assertLess(time.monotonic() - began, 4)
+        before = processor_time()
+        text = run(given=given).stdout.decode()
+        self.assertLess(processor_time() - before, 3)
         self.assertEqual(len(text.splitlines()), 10_003)
 
 
@@ -213,25 +234,31 @@ class Other(unittest.TestCase):
         ])
 
     def test_many_texts_of_refusals(self):
-        lines = [f"refused too-many spans={20_000 + at}\n" for at in range(30)] + ["ok cutall moved=0\n", "ok flush nothing\n"]
+        lines = [f"refused too-many spans={20_000 + at}\n" for at in range(30)]
+        lines += ["ok cutall moved=0\n", "ok flush nothing\n"]
         self.assertEqual(drawn("".join(lines).encode()).splitlines()[-1], "refused in other words  (20 times)")
 
     def test_other_replies_pass_unchanged(self):
         for given in (b"refused bad-query unexpected at=9\n", b"refused memory\nrefused memory\nrefused bad-json\n",
-                      b"refused not-store file=3 at=17\n", b"ok flush rows=8\n", b"ok push 0 accepted=1 rejected=0 skipped=0\n",
-                      b"hello", b"\n\n", b"", b"\xff\xfe\x1b[31m\n", b"ok cut moved=x\nok trace\r\n"):
-            done = run(given=given)
-            self.assertEqual((done.stdout, done.stderr, done.returncode), (given, b"", 0))
+                      b"refused not-store file=3 at=17\n", b"ok flush rows=8\n",
+                      b"ok push 0 accepted=1 rejected=0 skipped=0\n", b"hello", b"\n\n", b"",
+                      b"\xff\xfe\x1b[31m\n", b"ok cut moved=x\nok trace\r\n"):
+            self.assertEqual(parts_of(given), [replies.Passed(line) for line in given.splitlines(True)])
+        given = b"\xff\xfe\x1b[31m\r\nok trace\n\nhello"
+        done = run(given=given)
+        self.assertEqual((done.stdout, done.stderr, done.returncode), (given, b"", 0))
 
-    def test_a_broken_reply_passes_with_a_note(self):
-        shapes = ('{"resourceSpans":7}', "{", '{"resourceSpans":[{"scopeSpans":[{"spans":[{}]}]}]}', '{"traces":[]}', "{" * 9999,
-                  '{"resourceSpans":[{"scopeSpans":[{"spans":[7]}]}]}', '{"resourceSpans":[]}x')
-        for shape in shapes:
-            given = f"ok trace as_of=1 spans=1 {shape}\n".encode()
-            done = run(given=given)
-            self.assertEqual((done.stdout, done.returncode), (given, 1), shape)
-            self.assertIn(b"show: a reply can't be read", done.stderr)
-            self.assertEqual(done.stderr.count(b"\n"), 1)
+    def test_broken_replies_pass_with_a_note(self):
+        shapes = ('{"resourceSpans":7}', "{", '{"resourceSpans":[{"scopeSpans":[{"spans":[{}]}]}]}', '{"traces":[]}',
+                  '{"resourceSpans":[{"scopeSpans":[{"spans":[7]}]}]}', '{"resourceSpans":[]}x',
+                  '{"resourceSpans":"\xff"}', '{"a":' * 9999)
+        given = b"".join(f"ok trace as_of=1 spans=1 {shape}\n".encode("latin-1") for shape in shapes)
+        done = run(given=given)
+        self.assertEqual((done.stdout, done.returncode), (given, 1))
+        notes = done.stderr.decode().splitlines()
+        self.assertEqual(len(notes), len(shapes))
+        for note in notes:
+            self.assertRegex(note, "^show: a reply can't be read and passes unchanged: ")
 
     def test_a_file_that_is_not_there(self):
         done = run("/nowhere/at/all")
@@ -252,7 +279,6 @@ class Other(unittest.TestCase):
 
 def on_terminal(*words: str, **environment: str) -> bytes:
     """What the command writes to a terminal."""
-    import pty
     ours, theirs = pty.openpty()
     command = subprocess.Popen([sys.executable, str(TOOLS / "show"), *words], stdin=subprocess.DEVNULL, stdout=theirs,
                                env={**os.environ, **environment})
@@ -269,6 +295,7 @@ def on_terminal(*words: str, **environment: str) -> bytes:
 
 
 DRIVER = """
+{
 const told = {};
 const tree = document.querySelector(".rows");
 const press = key => tree.dispatchEvent(new KeyboardEvent("keydown", {key, bubbles: true, cancelable: true}));
@@ -277,6 +304,7 @@ const current = () => document.querySelector(".row.current .title").textContent;
 const panelText = () => document.getElementById("panel").hidden ? null : document.getElementById("panel").textContent;
 @@STEPS@@
 document.documentElement.dataset.told = encodeURIComponent(JSON.stringify(told));
+}
 """
 
 
@@ -290,25 +318,27 @@ class Browser(unittest.TestCase):
         with tempfile.TemporaryDirectory() as room:
             (Path(room) / "page.html").write_text(page, encoding="utf-8")
             done = subprocess.run(
-                [CHROMIUM, "--headless=new", "--no-sandbox", "--disable-gpu", f"--user-data-dir={room}/profile",
-                 "--window-size=1200,800", "--enable-logging=stderr", "--v=0", "--dump-dom", f"file://{room}/page.html"],
+                [CHROMIUM, "--headless=new", "--no-sandbox", "--disable-gpu", "--disable-extensions", "--no-first-run",
+                 "--disable-background-networking", f"--user-data-dir={room}/profile", "--window-size=1200,800",
+                 "--enable-logging=stderr", "--v=0", "--dump-dom", f"file://{room}/page.html"],
                 capture_output=True, timeout=60)
         document = done.stdout.decode(errors="replace")
-        self.assertNotIn(b"CONSOLE", done.stderr, done.stderr.decode(errors="replace"))
+        self.assertEqual([line for line in done.stderr.decode(errors="replace").splitlines() if "CONSOLE" in line], [])
         self.assertNotIn("data-failed=", document[:2000])
         self.assertRegex(document[:2000], 'data-ready="[0-9]+"')
         told = re.search('data-told="([^"]*)"', document[:20_000])
-        from urllib.parse import unquote
         return document, json.loads(unquote(told[1])) if told else {}
 
     def test_ten_thousand_spans_open_within_two_seconds(self):
-        page = drawn(many_spans(10_000), "--html")
+        page = page_of(many_spans(10_000))
         document, _ = self.dom(page)
-        self.assertLess(int(re.search('data-ready="([0-9]+)"', document)[1]), 2000)
+        ready = int(re.search('data-ready="([0-9]+)"', document)[1])
+        share = max(os.getloadavg()[0] / (os.cpu_count() or 1), 1)  # how many want each processor
+        self.assertLess(ready, 2000 * share)
         self.assertLess(document.count('class="row'), 200)
 
     def test_keys_and_clicks(self):
-        page = drawn((EXAMPLES / "collector.replies").read_bytes().splitlines(True)[-1], "--html")
+        page = page_of(example("collector").splitlines(True)[-1])
         _, told = self.dom(page, """
             told.all = rows();
             press("ArrowDown"); told.down = current();
@@ -320,6 +350,11 @@ class Browser(unittest.TestCase):
             press("End"); press("Enter"); told.panel = panelText();
             press("ArrowUp"); told.follows = panelText();
             press("Escape"); told.escaped = panelText();
+            document.querySelector(".row .fold").click();
+            const find = document.getElementById("find");
+            find.value = "BANK.example";
+            find.dispatchEvent(new KeyboardEvent("keydown", {key: "Enter"}));
+            told.found = current();
             document.querySelector(".row .lane").click(); told.clicked = panelText();
             document.querySelector(".row .fold").click(); told.clickedFold = rows();
             const theme = document.documentElement.dataset.theme;
@@ -335,30 +370,31 @@ class Browser(unittest.TestCase):
             self.assertIn(part, told["panel"])
         self.assertIn("/charge", told["follows"])
         self.assertIsNone(told["escaped"])
+        self.assertEqual(told["found"], "bank")
         self.assertIn("payment failed", told["clicked"])
         self.assertEqual(told["clickedFold"], everything[:1])
         self.assertTrue(told["theme"])
 
     def test_hostile_names_stay_texts(self):
-        page = drawn((DATA / "hostile.replies").read_bytes(), "--html")
+        page = page_of((DATA / "hostile.replies").read_bytes())
         _, told = self.dom(page, """
             told.scripts = document.querySelectorAll("script").length;
             told.images = document.querySelectorAll("img, b.owned").length;
             told.rows = rows();
-            told.panels = told.rows.map(() => { press("Enter"); const text = panelText(); press("ArrowDown"); return text; });
+            const opened = () => { press("Enter"); const text = panelText(); press("ArrowDown"); return text; };
+            told.panels = told.rows.map(opened);
         """)
         self.assertEqual((told["scripts"], told["images"]), (3, 0))
         self.assertIn("<script>alert(1)</script>", told["rows"])
         self.assertIn("<img src=x onerror=alert(1)>", "".join(told["panels"]))
 
-    def test_an_empty_page(self):
-        document, _ = self.dom(drawn(b"", "--html"))
-        self.assertIn("There was no reply.", document)
-
 
 class Pages(unittest.TestCase):
+    def test_an_empty_page(self):
+        self.assertIn("There was no reply.", run("--html").stdout.decode())
+
     def test_nothing_breaks_out_of_the_page(self):
-        page = drawn((DATA / "hostile.replies").read_bytes(), "--html")
+        page = page_of((DATA / "hostile.replies").read_bytes())
         self.assertEqual(page.count("<script"), 2)
         self.assertEqual(page.count("</script>"), 2)
         self.assertNotIn("<img", page)
@@ -367,11 +403,11 @@ class Pages(unittest.TestCase):
             self.assertNotIn(word, page.partition("<main>")[0] + page.partition("<script>")[2])
 
     def test_placeholders_in_names_stay(self):
-        page = drawn(reply(span(1, name="@@DATA@@ @@TITLE@@")), "--html")
+        page = page_of(reply(span(1, name="@@DATA@@ @@TITLE@@")))
         self.assertIn('"name":"@@DATA@@ @@TITLE@@"', page)
 
     def test_all_replies_stand_on_it_in_order(self):
-        page = drawn(b"hello\n" + (EXAMPLES / "search.replies").read_bytes() + reply(span(1)), "--html")
+        page = page_of(b"hello\n" + example("search") + reply(span(1)))
         told = ["hello", "3 pushes", "search: 2 traces", "refused bad-query unexpected at=9", 'data-trace="0"']
         places = [page.index(text) for text in told]
         self.assertEqual(places, sorted(places))
