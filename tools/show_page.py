@@ -10,7 +10,8 @@ from pathlib import Path
 from typing import Iterable, Iterator
 
 from show_replies import (
-    Event, Link, Part, Passed, Row, Search, Trace, Value, clean, duration, moment, offset,
+    Event, Found, Hit, Link, Part, Passed, Row, Search, Trace, Value,
+    clean, duration, moment, offset,
 )
 
 TEMPLATE = Path(__file__).resolve().parent / "show.html"
@@ -76,20 +77,33 @@ def element(tag: str, text: str, kind: str = "") -> str:
     return f"<{tag}{named}>{html.escape(text)}</{tag}>"
 
 
+def isolated(text: str) -> str:
+    """A text in its own direction of writing."""
+    return element("bdi", text)
+
+
+def hit_page(hit: Hit) -> str:
+    fields = (f'<span class="field">{isolated(it.key)}={isolated(it.quoted())}</span> ' for it in hit.fields)
+    return (f"<tr>{element('td', hit.span_id, 'id')}<td>{isolated(hit.name)}</td>"
+            f"{element('td', duration(hit.length), 'number')}<td>{''.join(fields)}</td></tr>")
+
+
+def found_page(found: Found) -> Iterator[str]:
+    trace_id = html.escape(found.trace_id)
+    yield f'<article><h3>{isolated(found.root)}</h3><p><a class="id" href="#trace-{trace_id}">{trace_id}</a>'
+    yield f"{html.escape(duration(found.length))}, from {moment(found.start)}</p>"
+    for group in found.sets:
+        by = f"by {', '.join(isolated(value.quoted()) for value in group.by)}: " if group.by else ""
+        yield f"<h4>{by}{group.told()}</h4><table>"
+        yield from map(hit_page, group.hits)
+        yield "</table>"
+    yield "</article>"
+
+
 def search_page(search: Search) -> Iterator[str]:
     yield element("h2", search.told())
     for found in search.traces:
-        yield f'<article><h3><bdi>{html.escape(found.root)}</bdi></h3>'
-        yield f'<p><a class="id" href="#trace-{html.escape(found.trace_id)}">{html.escape(found.trace_id)}</a>'
-        yield f" {html.escape(duration(found.length))}, from {html.escape(moment(found.start))}</p>"
-        for group in found.sets:
-            yield element("h4", group.told()) + "<table>"
-            for hit in group.hits:
-                fields = "".join(element("bdi", str(value), "field") + " " for value in hit.fields)
-                yield (f"<tr>{element('td', hit.span_id, 'id')}<td><bdi>{html.escape(hit.name)}</bdi></td>"
-                       f"{element('td', duration(hit.length), 'number')}<td>{fields}</td></tr>")
-            yield "</table>"
-        yield "</article>"
+        yield from found_page(found)
 
 
 def other_page(lines: list[str]) -> str:

@@ -241,9 +241,9 @@ class SpanSet:
     hits: list[Hit]
 
     def told(self) -> str:
+        """How many spans it has, and how many of these the search tells."""
         shown = "" if self.matched == len(self.hits) else f", {len(self.hits):,} shown"
-        by = f"by {', '.join(value.quoted() for value in self.by)}: " if self.by else ""
-        return f"{by}{count(self.matched, 'span')}{shown}"
+        return count(self.matched, "span") + shown
 
 
 @dataclass(frozen=True)

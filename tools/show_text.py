@@ -140,7 +140,8 @@ def found_lines(found: Found, look: Look) -> Iterator[str]:
     longest = max((width_of(hit.name) for group in found.sets for hit in group.hits), default=0)
     name = min(longest, max(look.width // 3, 12))
     for group in found.sets:
-        yield fit(f"  {group.told()}", look.width)
+        by = f"by {', '.join(value.quoted() for value in group.by)}: " if group.by else ""
+        yield fit(f"  {by}{group.told()}", look.width)
         for hit in group.hits:
             fields = "  ".join(map(str, hit.fields))
             line = f"    {hit.span_id}  {pad(hit.name, name)}  {duration(hit.length):>9}  {fields}".rstrip()
