@@ -416,7 +416,8 @@ def read_drawn(line: bytes) -> Trace | Search | None:
     return Search(pushes, [read_found(trace) for trace in said["traces"]])
 
 
-BROKEN = (KeyError, TypeError, ValueError, AttributeError, RecursionError)  # what reading a broken reply may raise
+# What reading a broken reply may raise.
+BROKEN = (KeyError, TypeError, ValueError, AttributeError, OverflowError, RecursionError)
 
 
 class Run:
