@@ -17,7 +17,6 @@ from show_replies import (
 TEMPLATE = Path(__file__).resolve().parent / "show.html"
 
 
-
 def value_data(values: list[Value]) -> list[list[str]]:
     return [[value.key, value.text, "text" if value.is_text else "other"] for value in values]
 
@@ -125,7 +124,7 @@ def page_sections(parts: Iterable[Part], traces: list[dict]) -> Iterator[str]:
             yield f'<section class="trace" data-trace="{len(traces)}"></section>'
             traces.append(trace_data(part))
         elif isinstance(part, Search):
-            yield "<section class=\"search\">" + "\n".join(search_page(part)) + "</section>"
+            yield '<section class="search">' + "\n".join(search_page(part)) + "</section>"
         else:
             yield other_page([part.no_spans()] if isinstance(part, Trace) else part.told())
     if others:
@@ -138,9 +137,10 @@ def page(parts: Iterable[Part]) -> str:
     script = template.partition("<script>")[2].partition("</script>")[0]
     traces: list[dict] = []
     sections = "\n".join(page_sections(parts, traces)) or "<section><p>There was no reply.</p></section>"
-    first = traces[0]["spans"][0] if len(traces) == 1 else None
+    root = traces[0]["spans"][0] if len(traces) == 1 else {}
+    named = ": ".join(root[what] for what in ("service", "name") if what in root)
     filled = {
-        "TITLE": html.escape(f"{first['service']}: {first.get('name', '')}" if first else "Replies"),
+        "TITLE": html.escape(named or "Replies"),
         "SCRIPT_HASH": base64.b64encode(hashlib.sha256(script.encode()).digest()).decode(),
         "SECTIONS": sections,
         "DATA": json.dumps(traces, separators=(",", ":")).replace("<", "\\u003c"),

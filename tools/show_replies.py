@@ -12,14 +12,15 @@ from datetime import datetime, timedelta, timezone
 from functools import lru_cache
 from typing import Iterable, Iterator, Union
 
+# Numbers that the replies use, and how much is told.
+
 KINDS = ("", "internal", "server", "client", "producer", "consumer")
 FAILED = 2  # the status code of a span that failed
 REFUSALS = 10  # how many texts of refusals a summary tells
+MARKS_SHOWN = 8  # of the marks that stand on one character, how many are drawn
+GUIDES = 64  # how many columns of a deep span's guides are kept
 
 # Texts. All that a reply says goes through `clean` as it is read, so nothing below needs to escape for a terminal.
-
-MARKS_SHOWN = 8  # of the marks that stand on one character, how many are drawn
-
 
 def is_safe(char: str) -> bool:
     """Whether a character may reach a terminal or a page as it is: none that controls, reorders or can't be written."""
@@ -132,7 +133,7 @@ class Value:
     is_text: bool = False
 
     def quoted(self) -> str:
-        return '"' + one_line(self.text) + '"' if self.is_text else self.text
+        return '"' + one_line(self.text).replace('"', '\\"') + '"' if self.is_text else self.text
 
     def __str__(self) -> str:
         return f"{self.key}={self.quoted()}"
@@ -438,9 +439,9 @@ class Run:
         return True
 
     def takes_answer(self, text: str) -> bool:
-        for word, pattern in COUNTED:
+        for what, pattern in COUNTED:
             if match := pattern.fullmatch(text):
-                self.summary.counts[word] += 1
+                self.summary.counts[what] += 1
                 self.summary.counts.update({name: int(number) for name, number in match.groupdict().items()})
                 self.counted += 1
                 return True
@@ -480,8 +481,6 @@ class Reader:
 
 
 # The tree of a trace.
-
-GUIDES = 64  # how many columns of a deep span's guides are kept
 
 
 def ring_top(place: int, parents: list[int | None]) -> int:

@@ -29,7 +29,7 @@ class Look:
 
 @dataclass(frozen=True)
 class Columns:
-    """The widths of a waterfall's columns; one space stands between two of them, and two before the bars."""
+    """The widths of a waterfall's columns. Between the length and the bars stands the mark of a failure."""
 
     service: int
     name: int

@@ -422,6 +422,12 @@ class Pages(unittest.TestCase):
         page = page_of(reply(span(1, name="@@DATA@@ @@TITLE@@")))
         self.assertIn('"name":"@@DATA@@ @@TITLE@@"', page)
 
+    def test_its_title(self):
+        self.assertIn("<title>shop: a &amp; b</title>", page_of(reply(span(1, name="a & b"))))
+        self.assertIn("<title>a</title>", page_of(reply(span(1, name="a"), service="")))
+        self.assertIn("<title>Replies</title>", page_of(reply(span(1, name=""), service="")))
+        self.assertIn("<title>Replies</title>", page_of(example("first")))
+
     def test_all_replies_stand_on_it_in_order(self):
         page = page_of(b"hello\n" + example("search") + reply(span(1)))
         told = ["hello", "3 pushes", "search: 2 traces", "refused bad-query unexpected at=9", 'data-trace="0"']
