@@ -22,6 +22,7 @@ GUIDES = 64  # how many columns of a deep span's guides are kept
 
 # Texts. All that a reply says goes through `clean` as it is read, so nothing below needs to escape for a terminal.
 
+
 def is_safe(char: str) -> bool:
     """Whether a character may reach a terminal or a page as it is: none that controls, reorders or can't be written."""
     return char in "\n\t\u200c\u200d" or unicodedata.category(char) not in ("Cc", "Cf", "Cs", "Zl", "Zp")
@@ -118,6 +119,9 @@ def moment(nanos: int) -> str:
 
 
 def offset(at: int, start: int) -> str:
+    """When something was, counted from the start of the trace. An event's time may be absent, which is 0."""
+    if at == start:
+        return "at the start"
     return f"at {duration(at - start)}" if at else "at no time"
 
 

@@ -191,9 +191,11 @@ class Drawing(unittest.TestCase):
 
     def test_events_and_links(self):
         events = [{"attributes": [], "name": f"event {at}", "timeUnixNano": str(START + at)} for at in range(8)]
+        events[0]["timeUnixNano"] = "0"
         links = [{"attributes": [attribute("why", "again")], "spanId": f"{7:016x}", "traceId": f"{8:032x}"}]
         given = reply(span(1, events=events, links=links))
         text = drawn(given, width=120)
+        self.assertIn("• event 0 (at no time)", text)
         self.assertIn("• event 4 (at 4 ns)", text)
         self.assertNotIn("event 5", text)
         self.assertIn("and 3 more events", text)
