@@ -10,6 +10,7 @@ from show_replies import (
     clean, count, duration, fit, moment, offset, one_line, pad, width_of,
 )
 
+KIND, LENGTH = 8, 12  # how many columns a kind and a duration take at most
 DETAILS = 5  # how many events, and how many links, of a span are drawn
 RED, BOLD, DIM = "31", "1", "2"
 SERVICE_COLOURS = ("36", "33", "34", "32", "35", "96", "93", "94", "92", "95")
@@ -34,25 +35,21 @@ class Columns:
     service: int
     name: int
     kind: int
+    length: int
     bars: int
-    indent: int
-    length: int = 9
-
-
-def columns_before(service: int, kind: int) -> int:
-    """How many columns stand before the bars, but for those of the name."""
-    return (service + 1 if service else 0) + (kind + 1 if kind else 0) + Columns.length + 4
+    indent: int  # how much of the name's column guides may take
 
 
 def columns_of(trace: Trace, width: int) -> Columns:
     spans = [row.span for row in trace.rows]
     service = min(max(width_of(span.service) for span in spans), width // 6)
-    kind = max(len(span.kind) for span in spans)
-    room = width - columns_before(service, kind) - 1
+    kind = min(max(len(span.kind) for span in spans), KIND)
+    length = min(max(len(duration(span.end - span.start)) for span in spans), LENGTH)
+    room = width - (service + 1 if service else 0) - (kind + 1 if kind else 0) - length - 4
     indent = max(2, min(room // 6 * 2, GUIDES))
     names = (min(2 * row.depth, indent) + width_of(row.span.name) for row in trace.rows)
     name = min(max(names), room * 11 // 20)
-    return Columns(service, name, kind, max(room - name, 4), indent)
+    return Columns(service, name, kind, length, room - name, indent)
 
 
 def tree_name(row: Row, indent: int) -> str:
@@ -74,11 +71,11 @@ def bar_of(span: Span, start: int, length: int, columns: int) -> str:
 
 
 def scale(length: int, columns: int) -> str:
-    """The head of the bars: no time, half and whole."""
+    """The head of the bars: no time, half and whole, in so many columns."""
     half, whole = duration(length // 2), duration(length)
     room = columns - len(whole)
     if room < columns // 2 + len(half) + 1:
-        return "0" + whole.rjust(columns - 1) if room > 1 else whole
+        return "0" + whole.rjust(columns - 1) if room > 1 else fit(whole, columns).rjust(columns)
     return ("0".ljust(columns // 2) + half).ljust(room) + whole
 
 
@@ -110,8 +107,8 @@ def row_lines(row: Row, trace: Trace, place: Columns, colour: str, look: Look) -
     kind = look.paint(pad(span.kind, place.kind), DIM) + " " if place.kind else ""
     mark = look.paint("✗", RED) if span.failed else " "
     bar = look.paint(bar_of(span, trace.start, trace.length, place.bars), colour)
-    took = duration(span.end - span.start)
-    yield f"{service}{name} {kind}{took:>{place.length}} {mark} {bar}".rstrip()
+    took = fit(duration(span.end - span.start), place.length).rjust(place.length)
+    yield f"{service}{name} {kind}{took} {mark} {bar}".rstrip()
     before = " " * (place.service + 1 if place.service else 0) + row.below[-place.indent:]
     for text, code in details(span, trace.start, look.full):
         yield before + look.paint(text if look.full else fit(text, look.width - len(before)), code)
@@ -126,8 +123,7 @@ def trace_lines(trace: Trace, look: Look) -> Iterator[str]:
     colours = dict(zip(services, cycle(SERVICE_COLOURS)))
     yield look.paint(fit(f"trace {trace.trace_id}: {trace.told()}", look.width), BOLD)
     yield look.paint(fit(f"from {moment(trace.start)}", look.width), DIM)
-    before = " " * (columns_before(place.service, place.kind) + place.name)
-    yield look.paint(before + scale(trace.length, place.bars), DIM)
+    yield look.paint(scale(trace.length, place.bars).rjust(look.width), DIM)
     for row in trace.rows:
         yield from row_lines(row, trace, place, colours[row.span.service], look)
 
