@@ -1,16 +1,15 @@
 //! Cuts and flushes in whole runs: what they print, and what is told after them, in the run and in later ones.
 
-use crate::durable_tests::{PUSHED_0, calls_to_open, disk_of, session_on, writes};
-use crate::run_tests::{LOOK_A1, PUSH_X, PUSH_Y, TRACE_X, all_words, calls, source_of};
 use disk_model::{Device, MemDisk, cut_through, write_through};
-use io_edges::{FixedClock, MemSink, OpenGate};
-use span_types::{Memory, Moments};
+use run_support::{
+    FINE, LOOK_A1, PUSH_X, PUSH_Y, PUSHED_0, TRACE_X, calls_to_open, disk_of, play, session_on,
+    writes,
+};
+use span_types::Memory;
 use std::alloc::Global;
 use std::sync::Wait;
 use std::test::Fail;
 use std::thread::Threads;
-use trace_shell::{Ended, run};
-use traceql_types::RegexMaker;
 
 /// A child in one block and its parent in another.
 const TWO_BLOCKS: (&str, &str) = (
@@ -119,26 +118,18 @@ fn a_cut_moves_what_is_idle(rt: HostRuntime) -> Result<(), Memory> {
     let alloc = rt.alloc();
     let input = format!(in alloc; "{PUSH_X}\ncut\ncut\n")?;
     let wanted = format!(in alloc; "{PUSHED_0}ok cut moved=0\nok cut moved=1\n")?;
-    let words = all_words(alloc, &["session"])?;
-    let mut source = source_of(alloc, input.as_str())?;
-    let mut sink = MemSink::new(alloc, calls(alloc, &[])?);
-    let moments = Vec::from_slice(alloc, &[0, 0, 9_999_999_999, 10_000_000_000])?;
-    let ended = run(
+    let moments = [0, 0, 9_999_999_999, 10_000_000_000];
+    let disk = MemDisk::empty(alloc);
+    let played = play(
         &rt,
         alloc,
-        words.as_slice(),
-        &mut source,
-        &mut sink,
-        MemDisk::empty(alloc),
-        &mut FixedClock::new(Moments::of(moments)),
-        &mut RegexMaker::new(alloc),
-        &OpenGate,
-    );
-    let Ended {
-        status,
-        disk: _disk,
-    } = ended;
-    assert!(rt; sink.taken() == wanted.as_bytes() && status == 0);
+        disk,
+        &["session"],
+        input.as_str(),
+        FINE,
+        &moments,
+    )?;
+    assert!(rt; played.is(wanted.as_str(), 0));
     Ok(())
 }
 
@@ -242,7 +233,7 @@ fn a_stopped_flush_loses_nothing(rt: HostRuntime) -> Result<(), Memory> {
     for made in 0..40u64 {
         let mut disk = MemDisk::empty(alloc);
         disk.stop_after(pushed.saturating_add(made));
-        let (_, status) = session_on(&rt, alloc, &mut disk, input.as_str())?;
+        let status = session_on(&rt, alloc, &mut disk, input.as_str())?.status;
         assert!(rt; is_kept(&rt, alloc, &disk, wanted.as_str())?, "{made}");
         if status == 0 {
             return Ok(());

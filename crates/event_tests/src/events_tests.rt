@@ -30,7 +30,7 @@ fn line_of(alloc: Global, rows: &[Row]) -> Result<String, Memory> {
     Ok(line)
 }
 
-fn batch_of(alloc: Global, line: &str) -> Result<Batch, Memory> {
+pub(crate) fn batch_of(alloc: Global, line: &str) -> Result<Batch, Memory> {
     match read_line(alloc, line.as_bytes()) {
         Ok(reading) => {
             let Reading { batch, .. } = reading;
@@ -42,7 +42,7 @@ fn batch_of(alloc: Global, line: &str) -> Result<Batch, Memory> {
 
 // What the events are answered in the store that a disk holds, none where it isn't opened or memory is wanted, and the
 // disk.
-fn ran<D: Device>(alloc: Global, disk: D, events: &Events) -> (Option<Replies>, D) {
+pub(crate) fn ran<D: Device>(alloc: Global, disk: D, events: &Events) -> (Option<Replies>, D) {
     match Core::open_store(alloc, disk, 7) {
         Ok(core) => {
             let mut core = core;
@@ -372,8 +372,9 @@ fn a_look_keeps_the_blocks_that_are_joined(rt: HostRuntime) -> Result<(), Memory
     let mut known = Vec::new(alloc);
     add_block(alloc, &mut known, 3, &FIRST_STRIPE)?;
     add_block(alloc, &mut known, 5, &SECOND_STRIPE)?;
-    let (wrong, _disk) = wrong_reply(alloc, MemDisk::empty(alloc), play, &mut known)?;
+    let (wrong, disk) = wrong_reply(alloc, MemDisk::empty(alloc), play, &mut known)?;
     assert_eq!(rt; wrong, None);
+    assert_eq!(rt; disk.starved(), 0);
     assert_eq!(rt; known.len(), 8);
     Ok(())
 }
@@ -697,6 +698,7 @@ fn events_are_answered_as_they_are_meant(rt: HostRuntime) -> Result<(), Memory> 
         let mut known = headers(alloc, model.headers.as_slice())?;
         let (wrong, disk) = wrong_reply(alloc, MemDisk::empty(alloc), play, &mut known)?;
         assert_eq!(rt; wrong, None, "{seed}");
+        assert_eq!(rt; disk.starved(), 0, "{seed}");
         assert!(rt; is_left(alloc, disk, &model, &mut known)?, "{seed}");
     }
     Ok(())

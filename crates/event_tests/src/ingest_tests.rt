@@ -1,15 +1,14 @@
 //! Ingests: what whole runs print, and what later ones find.
 
-use crate::durable_tests::{PUSHED_0, calls_to_open};
-use crate::run_tests::{LOOK_A1, PUSH_X, PUSH_Y, TRACE_X, all_words, calls, check, source_of};
 use disk_model::MemDisk;
-use io_edges::{FixedClock, MemSink, OpenGate};
-use span_types::{Memory, Moments};
+use run_support::{
+    FINE, Failing, LOOK_A1, PUSH_X, PUSH_Y, PUSHED_0, Played, TRACE_X, calls, calls_to_open, play,
+};
+use span_types::Memory;
 use std::alloc::Global;
+use std::process::Abort;
 use std::sync::Wait;
 use std::thread::Threads;
-use trace_shell::{Ended, run};
-use traceql_types::RegexMaker;
 
 const PUSHED_1: &str = "ok push 1 accepted=1 rejected=0 skipped=0\n";
 
@@ -19,6 +18,36 @@ const NOTHING_MORE: &str =
 // What a line pushes, without the word before it.
 fn pushed(line: &str) -> &str {
     line.strip_prefix("push ").unwrap_or(line)
+}
+
+// Ingests an input on an empty disk, and asserts what is written and the status.
+fn check<R: Threads + Wait + Sync + Abort>(
+    rt: &R,
+    alloc: Global,
+    input: &str,
+    failing: Failing<'_>,
+    wanted: &str,
+    status: u8,
+) -> Result<(), Memory> {
+    let disk = MemDisk::empty(alloc);
+    let played = play(rt, alloc, disk, &["ingest"], input, failing, &[])?;
+    assert!(rt; played.is(wanted, status), "at {input}");
+    Ok(())
+}
+
+// Runs the words over an input on a disk, asserts what is written and the status, and gives the disk back.
+fn goes_on<R: Threads + Wait + Sync + Abort>(
+    rt: &R,
+    alloc: Global,
+    disk: MemDisk,
+    words: &[&str],
+    input: &str,
+    wanted: (&str, u8),
+) -> Result<MemDisk, Memory> {
+    let played = play(rt, alloc, disk, words, input, FINE, &[])?;
+    assert!(rt; played.is(wanted.0, wanted.1));
+    let Played { disk, .. } = played;
+    Ok(disk)
 }
 
 #[test]
@@ -41,7 +70,7 @@ fn lines_are_pushed_and_the_store_is_kept_up(rt: HostRuntime) -> Result<(), Memo
         (odd.as_str(), refused.as_str(), 7),
     ];
     for (input, wanted, status) in rows {
-        check(&rt, alloc, &["ingest"], input, (&[], &[]), wanted, status)?;
+        check(&rt, alloc, input, FINE, wanted, status)?;
     }
     Ok(())
 }
@@ -64,11 +93,19 @@ fn a_failing_device_ends_an_ingest(rt: HostRuntime) -> Result<(), Memory> {
         (5, third.as_str()),
     ];
     for (call, wanted) in rows {
-        check(&rt, alloc, &["ingest"], input, (&[], &[call]), wanted, 1)?;
+        let failing = Failing {
+            source: &[],
+            sink: &[call],
+        };
+        check(&rt, alloc, input, failing, wanted, 1)?;
     }
     // Where the source fails nothing is done for its end.
     for (call, wanted) in [(1, ""), (2, PUSHED_0)] {
-        check(&rt, alloc, &["ingest"], input, (&[call], &[]), wanted, 3)?;
+        let failing = Failing {
+            source: &[call],
+            sink: &[],
+        };
+        check(&rt, alloc, input, failing, wanted, 3)?;
     }
     Ok(())
 }
@@ -90,46 +127,9 @@ fn the_limit_counts_the_line_alone(rt: HostRuntime) -> Result<(), Memory> {
     for (bytes, reply, status) in [(16_777_216, pushed, 0), (16_777_217, refused, 7)] {
         let line = line_of(alloc, bytes)?;
         let wanted = format!(in alloc; "{reply}{NOTHING_MORE}")?;
-        check(
-            &rt,
-            alloc,
-            &["ingest"],
-            line.as_str(),
-            (&[], &[]),
-            wanted.as_str(),
-            status,
-        )?;
+        check(&rt, alloc, line.as_str(), FINE, wanted.as_str(), status)?;
     }
     Ok(())
-}
-
-// What a run of these words over the input writes on the disk: whether it is as wanted, text and status, and what is left of the disk.
-fn run_on<R: Threads + Wait + Sync>(
-    rt: &R,
-    alloc: Global,
-    disk: MemDisk,
-    words: &[&str],
-    input: &str,
-    wanted: (&str, u8),
-) -> Result<(bool, MemDisk), Memory> {
-    let words = all_words(alloc, words)?;
-    let mut source = source_of(alloc, input)?;
-    let mut sink = MemSink::new(alloc, calls(alloc, &[])?);
-    let Ended { status, disk } = run(
-        rt,
-        alloc,
-        words.as_slice(),
-        &mut source,
-        &mut sink,
-        disk,
-        &mut FixedClock::new(Moments::of(Vec::new(alloc))),
-        &mut RegexMaker::new(alloc),
-        &OpenGate,
-    );
-    Ok((
-        sink.taken() == wanted.0.as_bytes() && status == wanted.1,
-        disk,
-    ))
 }
 
 // A span, which stands many times in a line: rows of it count, repeats as well, and a block of them has one row.
@@ -177,7 +177,7 @@ fn many_rows_are_flushed_before_the_next_line(rt: HostRuntime) -> Result<(), Mem
     let ninth = "ok push 8 accepted=0 rejected=0 skipped=0\n";
     let wanted = format!(in alloc; "{replies}{ONE_BLOCK}{ninth}{ITS_LOG}")?;
     let disk = MemDisk::empty(alloc);
-    let (fine, _disk) = run_on(
+    let _disk = goes_on(
         &rt,
         alloc,
         disk,
@@ -185,7 +185,6 @@ fn many_rows_are_flushed_before_the_next_line(rt: HostRuntime) -> Result<(), Mem
         input.as_str(),
         (wanted.as_str(), 0),
     )?;
-    assert!(rt; fine);
     Ok(())
 }
 
@@ -205,7 +204,7 @@ fn a_refused_flush_stops_no_line(rt: HostRuntime) -> Result<(), Memory> {
     // A push makes four calls of the disk, and a cut none.
     let pushed = calls_to_open(&rt, alloc)?.saturating_add(32);
     disk.fail_at(calls(alloc, &[pushed.saturating_add(1)])?);
-    let (fine, _disk) = run_on(
+    let _disk = goes_on(
         &rt,
         alloc,
         disk,
@@ -213,7 +212,6 @@ fn a_refused_flush_stops_no_line(rt: HostRuntime) -> Result<(), Memory> {
         input.as_str(),
         (wanted.as_str(), 7),
     )?;
-    assert!(rt; fine);
     Ok(())
 }
 
@@ -224,11 +222,9 @@ fn rows_of_earlier_runs_are_flushed_before_the_first_line(rt: HostRuntime) -> Re
     let replies = eight_replies(alloc)?;
     let disk = MemDisk::empty(alloc);
     let wanted = (replies.as_str(), 0);
-    let (fine, disk) = run_on(&rt, alloc, disk, &["session"], lines.as_str(), wanted)?;
-    assert!(rt; fine);
+    let disk = goes_on(&rt, alloc, disk, &["session"], lines.as_str(), wanted)?;
     let kept = format!(in alloc; "{ONE_BLOCK}{ITS_LOG}")?;
-    let (fine, _disk) = run_on(&rt, alloc, disk, &["ingest"], "", (kept.as_str(), 0))?;
-    assert!(rt; fine);
+    let _disk = goes_on(&rt, alloc, disk, &["ingest"], "", (kept.as_str(), 0))?;
     Ok(())
 }
 
@@ -238,7 +234,7 @@ fn blocks_of_several_ingests_are_joined(rt: HostRuntime) -> Result<(), Memory> {
     let first = format!(in alloc;
         "{PUSHED_0}ok cutall moved=1\nok flush rows=1\nok compact nothing\nok reclaim files=1\n"
     )?;
-    let (fine, disk) = run_on(
+    let disk = goes_on(
         &rt,
         alloc,
         MemDisk::empty(alloc),
@@ -246,11 +242,10 @@ fn blocks_of_several_ingests_are_joined(rt: HostRuntime) -> Result<(), Memory> {
         pushed(PUSH_X),
         (first.as_str(), 0),
     )?;
-    assert!(rt; fine);
     let kept =
         "ok cutall moved=1\nok flush rows=1\nok compact blocks=2 rows=1\nok compact nothing\nok reclaim files=3\n";
     let second = format!(in alloc; "{PUSHED_1}{kept}")?;
-    let (fine, disk) = run_on(
+    let disk = goes_on(
         &rt,
         alloc,
         disk,
@@ -258,10 +253,8 @@ fn blocks_of_several_ingests_are_joined(rt: HostRuntime) -> Result<(), Memory> {
         pushed(PUSH_Y),
         (second.as_str(), 0),
     )?;
-    assert!(rt; fine);
     let found = format!(in alloc; "ok trace as_of=2 spans=1 {TRACE_X}\n")?;
     let id = LOOK_A1.strip_prefix("trace ").unwrap_or(LOOK_A1);
-    let (fine, _disk) = run_on(&rt, alloc, disk, &["trace", id], "", (found.as_str(), 0))?;
-    assert!(rt; fine);
+    let _disk = goes_on(&rt, alloc, disk, &["trace", id], "", (found.as_str(), 0))?;
     Ok(())
 }

@@ -1,8 +1,7 @@
 //! Compactions and the emptying of loose files in whole runs: what they print, and what is told after them.
 
-use crate::durable_tests::{PUSHED_0, writes};
-use crate::run_tests::{LOOK_A1, PUSH_X, PUSH_Y, TRACE_X};
 use disk_model::MemDisk;
+use run_support::{LOOK_A1, PUSH_X, PUSH_Y, PUSHED_0, TRACE_X, writes};
 use span_types::Memory;
 
 // Of a span in two blocks the row that came in first stays, in the run and in later ones.
@@ -84,5 +83,46 @@ fn loose_files_are_emptied_once(rt: HostRuntime) -> Result<(), Memory> {
     )?;
     let mut disk = MemDisk::empty(alloc);
     assert!(rt; writes(&rt, alloc, &mut disk, input.as_str(), (wanted.as_str(), 0))?);
+    Ok(())
+}
+
+/// A span with an event and a link, each with an attribute, and another span of the trace that has none.
+const LINKED: [&str; 2] = [
+    r#"push {"resourceSpans":[{"scopeSpans":[{"spans":[{"traceId":"000000000000000000000000000000a1","spanId":"00000000000000b1","name":"x","startTimeUnixNano":"1","endTimeUnixNano":"2","events":[{"timeUnixNano":"5","name":"e","attributes":[{"key":"k","value":{"intValue":"7"}}]},{"name":"f","timeUnixNano":true}],"links":[{"traceId":"00","spanId":"00"},{"traceId":"000000000000000000000000000000c1","spanId":"00000000000000d1","attributes":[{"key":"l","value":{"boolValue":true}}]}]}]}]}]}"#,
+    r#"push {"resourceSpans":[{"scopeSpans":[{"spans":[{"traceId":"000000000000000000000000000000a1","spanId":"00000000000000b2","parentSpanId":"00000000000000b1","name":"y","startTimeUnixNano":"2","endTimeUnixNano":"3"}]}]}]}"#,
+];
+
+/// The trace of both.
+const LINKED_TRACE: &str =
+    r#"{"resourceSpans":[{"resource":{"attributes":[]},"scopeSpans":[{"scope":{"attributes":[],"name":"","version":""},"spans":[{"attributes":[],"endTimeUnixNano":"2","events":[{"attributes":[{"key":"k","value":{"intValue":"7"}}],"name":"e","timeUnixNano":"5"}],"kind":0,"links":[{"attributes":[{"key":"l","value":{"boolValue":true}}],"spanId":"00000000000000d1","traceId":"000000000000000000000000000000c1"}],"name":"x","parentSpanId":"","spanId":"00000000000000b1","startTimeUnixNano":"1","status":{"code":0,"message":""},"traceId":"000000000000000000000000000000a1"},{"attributes":[],"endTimeUnixNano":"3","kind":0,"name":"y","parentSpanId":"00000000000000b1","spanId":"00000000000000b2","startTimeUnixNano":"2","status":{"code":0,"message":""},"traceId":"000000000000000000000000000000a1"}]}]}]}"#;
+
+// Events and links are told alike from memory, from the log, from a block of a flush and from one of a compaction, in the run and
+// in later ones.
+#[test]
+fn events_and_links_are_kept(rt: HostRuntime) -> Result<(), Memory> {
+    let alloc = rt.alloc();
+    let [x, y] = LINKED;
+    let told = format!(in alloc; "ok trace as_of=2 spans=2 {LINKED_TRACE}\n")?;
+    let pushed = format!(in alloc; "{x}\ncutall\nflush\n{y}\n{LOOK_A1}\n")?;
+    let pushes = format!(in alloc;
+        "ok push 0 accepted=1 rejected=0 skipped=2\nok cutall moved=1\nok flush rows=1\n\
+         ok push 1 accepted=1 rejected=0 skipped=0\n{told}"
+    )?;
+    let joined = format!(in alloc; "{LOOK_A1}\ncutall\nflush\ncompact\nreclaim\n{LOOK_A1}\n")?;
+    let joins = format!(in alloc;
+        "{told}ok cutall moved=1\nok flush rows=1\nok compact blocks=2 rows=2\nok reclaim files=3\n{told}"
+    )?;
+    let rows = [
+        (pushed.as_str(), pushes.as_str()),
+        (joined.as_str(), joins.as_str()),
+        (LOOK_A1, told.as_str()),
+    ];
+    let mut disk = MemDisk::empty(alloc);
+    for (input, wanted) in rows {
+        assert!(rt;
+            writes(&rt, alloc, &mut disk, input, (wanted, 0))?,
+            "{input}"
+        );
+    }
     Ok(())
 }
