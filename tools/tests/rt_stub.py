@@ -1,13 +1,14 @@
 #!/usr/bin/env python3
 """Stands in for the kit's rt in tests of ./vurnda and tools/prove: it proves nothing, and takes a moment for each crate.
 
-STUB_SECONDS is that moment, STUB_FAILS a crate that isn't proved, STUB_STATUS the exit status of the program that it makes, and
+STUB_SECONDS is that moment, STUB_FAILS a crate that isn't proved, STUB_STUMBLES one at which
+the kit itself fails, STUB_STATUS the exit status of the program that it makes, and
 STUB_EVENTS a file that gets a line for each begin and end of a check.
 """
 import os
+import shutil
 import subprocess
 import sys
-import time
 import types
 
 
@@ -42,6 +43,9 @@ class Crate:
         if self.name == os.environ.get("STUB_FAILS"):
             print("fn wrong: not proved", file=self.out)
             return 1
+        if self.name == os.environ.get("STUB_STUMBLES"):
+            raise OSError("the disk is full")
+        shutil.rmtree(f"{self.folder}/out/rlib", ignore_errors=True)
         os.makedirs(f"{self.folder}/out/rlib")
         with open(f"{self.folder}/out/rlib/stamp", "w", encoding="ascii"):
             pass
@@ -76,7 +80,6 @@ def main(verb, *words):
         print(f"run=ended status={os.environ.get('STUB_STATUS', '0')} proved=no", file=sys.stderr)
         return int(os.environ.get("STUB_STATUS", "0"))
     else:
-        time.sleep(0)
         return 2
     return 0
 

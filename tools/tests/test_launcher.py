@@ -1,10 +1,10 @@
 """Tests ./vurnda and tools/prove over a kit that proves nothing (rt_stub.py)."""
 import os
 import pty
+import re
 import shutil
 import signal
 import subprocess
-import sys
 import tempfile
 import time
 import unittest
@@ -61,6 +61,9 @@ class Launcher(unittest.TestCase):
         self.assertIn("4 of 4 crates proved", ran.stderr)
 
     def test_crates_run_side_by_side(self):
+        with open("/proc/meminfo", encoding="ascii") as file:
+            if int(re.search(r"MemAvailable:\s+(\d+)", file.read())[1]) < 6_000_000:
+                self.skipTest("too little memory is free for two checks")
         self.prove("--jobs", "2", STUB_SECONDS="0.3")
         self.assertEqual(self.events()[:2], ["begin low --jobs 2", "end low"])
         self.assertEqual(sorted(self.events()[2:4]), ["begin left --jobs 1", "begin right --jobs 1"])
@@ -78,7 +81,7 @@ class Launcher(unittest.TestCase):
 
     def test_a_changed_source_is_built_again(self):
         self.run_it("store", "session")
-        shutil.rmtree(f"{self.top}/crates/long/out/rlib")
+        os.remove(f"{self.top}/crates/long/out/rlib/stamp")
         later = time.time() + 2
         os.utime(f"{self.top}/crates/long/src/lib.rt", (later, later))
         self.run_it("store", "session")
@@ -96,10 +99,9 @@ class Launcher(unittest.TestCase):
         self.assertEqual(self.begun().count("low"), 1)
 
     def test_an_error_of_the_kit_itself_stops_all(self):
-        os.makedirs(f"{self.top}/crates/left/out/rlib")  # over which the stub stumbles
-        ran = self.run_it("store", "session")
+        ran = self.run_it("store", "session", STUB_STUMBLES="left")
         self.assertEqual(ran.returncode, 126)
-        self.assertIn("FileExistsError", ran.stderr)
+        self.assertIn("OSError: the disk is full", ran.stderr)
 
     def interrupted(self, number, is_group):
         how = {"env": self.environment(STUB_SECONDS="20"), "stdin": subprocess.DEVNULL, "stdout": subprocess.PIPE, "stderr": subprocess.PIPE}
