@@ -168,10 +168,10 @@ class Launcher(unittest.TestCase):
         for name in ("0.dat", "lock", "other"):
             with open(f"{self.room}/store/{name}", "w", encoding="ascii"):
                 pass
-        ran = self.run_it("--unproved", f"{self.room}/store", "trace", "x", STUB_STATUS="5")
+        ran = self.run_it("--unproved", f"{self.room}/store", "trace", "x", STUB_STATUS="5", given="cut\n")
         self.assertIn(f"--data store/0.dat={self.room}/store/0.dat", ran.stdout)
         self.assertNotIn("other", ran.stdout)
-        self.assertIn("-- store trace x\n", ran.stdout)
+        self.assertTrue(ran.stdout.endswith("-- store trace x\ncut\n"))
         self.assertEqual(ran.returncode, 5)
         self.assertIn("are no store", ran.stderr)
 
