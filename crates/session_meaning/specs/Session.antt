@@ -20,7 +20,7 @@ use Rattle.session_text.specs.declared.refusal.Refusal.TheVariants as refusal
 use Rattle.session_text.specs.Items.{Item}
 use Rattle.session_text.specs.Replies.{reply_text}
 use Rattle.span_types.specs.declared.errors.Memory.{Memory}
-use Rattle.store_model.specs.History.{History, count_of, history_rows}
+use Rattle.store_model.specs.History.{History, AreFirstIn, count_of, history_rows}
 use Rattle.store_model.specs.Event.{Event as event}
 use Rattle.store_state.specs.Replies.{count_reply, push_reply, reclaim_reply}
 use Rattle.store_state.specs.declared.errors.PushError.{PushError}
@@ -28,8 +28,8 @@ use Rattle.store_state.specs.declared.errors.ReclaimError.{ReclaimError}
 use Rattle.store_state.specs.declared.rounds.Refusal.TheVariants as round
 use Rattle.store_state.specs.declared.rounds.Round.{Round}
 use Rattle.client_run.specs.Answers.{compact_reply, cut_reply, flush_reply, pushed_reply, reclaimed_reply}
-use Rattle.session_meaning.specs.At.{At, IsStep, IsStill, history_of}
-use Rattle.session_meaning.specs.Causes.{HasQueryCause}
+use Rattle.session_meaning.specs.At.{At, IsStep, IsStill, IsUnchanged, history_of}
+use Rattle.session_meaning.specs.Causes.{HasQueryCause, is_disk_fault}
 use Rattle.session_meaning.specs.Rounds.{IsCompacted, IsFlushed}
 use Rattle.session_meaning.specs.declared.ending.Ending.{Ending}
 use Rattle.session_meaning.specs.declared.ending.Ending.TheVariants.{Answered, ReadFault, Spent, Starved, WriteFault}
@@ -44,7 +44,7 @@ IsTraceIn id history rows = IsFirstOf (rows_of_trace id (history_rows history)) 
 -- What a search finds at a history: its answer over the first occurrences of all spans in it.
 pub record IsFound (s : Search) (history : History) (results : List TraceResult) : Type 0 where
   pub rows : List Row
-  pub firsts : IsFirstOf (history_rows history) rows
+  pub firsts : AreFirstIn history rows
   pub answer : IsAnswer s.checked.patterns (query_tree s.checked.query) s.range s.limit s.spans_per_set rows results
 
 -- What a query tells is sure where what the blocks hold is told, which is what `told` says, or where the store lists no block.
@@ -87,7 +87,8 @@ IsAnswered told (Err why) before reply after = (reply ≡ Refused why) × (after
 -- A query is refused for its cause, and changes nothing. When a line that pushes or keeps the store up is, its steps say.
 abbrev pub IsQueryRefused : Bool → At → Reply → At → Type 0
 IsQueryRefused told before reply after =
-    (why : Refusal) × (reply ≡ Refused why) × HasQueryCause told why before after × IsStill before after
+    (why : Refusal) × (reply ≡ Refused why) × HasQueryCause told why before after
+    × IsUnchanged (is_disk_fault why) before after
 
 abbrev pub IsRefused : Bool → Item → At → Reply → At → Type 0
 IsRefused told (Ok (request.Trace id)) before reply after = IsQueryRefused told before reply after

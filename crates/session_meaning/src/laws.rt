@@ -1,8 +1,9 @@
 //! What follows from the definitions of a session and of a run.
 
-ghost use Rattle.std.specs.Prelude.{Bool, IsTrue, true, ◌≡◌, ◌⊎◌, ◌<◌, ◌≤◌, ◌+◌, ◌++◌, List, [], ◌∷◌, Option, Some, None, Ok, false, length, take, ℕ};
+ghost use Rattle.std.specs.Prelude.{Bool, IsTrue, true, ◌≡◌, ◌≢◌, ◌⊎◌, ◌<◌, ◌≤◌, ◌+◌, ◌++◌, List, [], ◌∷◌, Option, Some, None, Ok, false, length, take, ℕ};
 ghost use Rattle.std.specs.List.{Contains, list_any};
 ghost use Rattle.command_words.specs.Commands.{Command, Spells};
+ghost use Rattle.disk_model.specs.Counts.{RoseBy};
 ghost use Rattle.disk_model.specs.Images.{Image};
 ghost use Rattle.compactor.specs.Rounds.{IsCompactRound};
 ghost use Rattle.flusher.specs.Rounds.{IsFlushRound};
@@ -15,6 +16,7 @@ ghost use Rattle.session_text.specs.declared.reply.Reply.{Reply};
 ghost use Rattle.session_text.specs.declared.reply.Reply.TheVariants.{Pushed, Reclaimed, Refused};
 ghost use Rattle.session_text.specs.declared.request.Request.TheVariants.{Push, Reclaim};
 ghost use Rattle.session_text.specs.Items.{Item};
+ghost use Rattle.session_text.specs.Requests.{AsksAt};
 ghost use Rattle.store_model.specs.Choice.{choice};
 ghost use Rattle.store_model.specs.Event.Event.{BeginCompact};
 ghost use Rattle.store_model.specs.History.{History, count_of, grown};
@@ -29,16 +31,16 @@ ghost use Rattle.store_state.specs.declared.rounds.Refusal.{Refusal as Cause};
 ghost use Rattle.store_state.specs.declared.rounds.Round.{Round};
 ghost use Rattle.store_state.specs.declared.rounds.Round.TheVariants.{Did, Nothing, Refused as IsRefused};
 ghost use Rattle.session_meaning.specs.Answering.{AreItemsAnswered, CallsLead, IsAnsweredByCalls, at_core};
-ghost use Rattle.session_meaning.specs.Causes.{HasCompactCause, HasFlushCause, HasPushCause, HasWriteCause};
+ghost use Rattle.session_meaning.specs.Causes.{HasCompactCause, HasFlushCause, HasPushCause, HasWriteCause, blames_disk, disk_faults};
 ghost use Rattle.session_meaning.specs.Rounds.{HasJoined, HasListed, IsCompacted, IsDoneOrStarved, IsFlushed, IsRound};
-ghost use Rattle.session_meaning.specs.declared.ending.Ending.TheVariants.{Answered, Starved};
+ghost use Rattle.session_meaning.specs.declared.ending.Ending.TheVariants.{Answered, NotOpened, Starved};
 ghost use Rattle.session_meaning.specs.Progress.{AreAnsweredOver, IngestsOver};
-ghost use Rattle.session_meaning.specs.Pushes.{HasRoomFor, HasRoomForPush, accepted_batches, known_pushes};
-ghost use Rattle.session_meaning.specs.Runs.{ComesToItsEnd, Edges, GoesWell, IsRunOf, Outcome};
+ghost use Rattle.session_meaning.specs.Pushes.{HasRoomFor, HasRoomForPush, accepted_entries, known_pushes};
+ghost use Rattle.session_meaning.specs.Runs.{ComesToItsEnd, Edges, GoesWell, IsRunOf, Outcome, TellsAll};
 ghost use Rattle.session_meaning.specs.At.{At, IsStill, history_of};
 ghost use Rattle.session_meaning.specs.Ingest.{AreJoined, Duty, HasFinished, Ingests, duties, most_rounds};
 ghost use Rattle.session_meaning.specs.Session.{IsAnswered, IsAnsweredOrRefused, Session, is_refused};
-ghost use Rattle.session_meaning.specs.Stops.{StandsForLast, StandsWithin, unsure_spans};
+ghost use Rattle.session_meaning.specs.Stops.{StandsForLast, StandsWithin, unsure_of_run};
 ghost use Rattle.session_meaning.specs.Upkeep.{HasEmptied, HasFailedSince, IsClosed};
 
 use disk_model::Device;
@@ -96,12 +98,27 @@ pub fn sessions_keep_the_store()
         → Session told first items replies last → first.machine.read_only ≡ None → HasFailedSince first.faults last }
 {}
 
+/// As many replies are `disk-fault` as calls of the disk failed.
+pub fn each_disk_fault_is_counted()
+    // Of a session: no failed call goes untold, and no fault is told for which no call failed.
+    ensures of_sessions { (told : Bool) (items : List Item) (replies : List Reply) (first last : At)
+        → Session told first items replies last → list_any blames_disk items ≡ false
+        → RoseBy (disk_faults replies) first.faults last.faults }
+    // No line is refused for a fault in reading.
+    ensures of_lines { (moment : ℕ) (line : List ℕ) (refused : List (List ℕ)) (item : Item)
+        → AsksAt moment line refused item → blames_disk item ≡ false }
+    // Of a run that wasn't stopped by the first call that failed as it opened the store.
+    ensures of_runs { (told : Bool) (words : List (List ℕ)) (c : Command) (o : Outcome) (old new : Edges) → Spells words c
+        → IsRunOf told words o old new → TellsAll c old → o.ending ≢ NotOpened
+        → RoseBy (disk_faults o.replies) old.disk_faults new.disk_faults }
+{}
+
 /// What the replies of a session tell of its pushes.
 pub fn replies_tell_the_history()
-    // The last history is the first one, and behind it the batches of the pushes that were accepted, in order.
+    // The last history is the first one, and behind it the entries that were accepted, in order.
     ensures appended { (told : Bool) (items : List Item) (replies : List Reply) (first last : At)
         → Session told first items replies last
-        → history_of last ≡ grown (history_of first) (accepted_batches items replies) }
+        → history_of last ≡ grown (history_of first) (accepted_entries items replies) }
     // What an accepted push is told, its number, is below the count of pushes that any later query knows of.
     ensures known_later { (told : Bool) (items : List Item) (earlier later : List Reply) (first last : At)
         → (number kept rejected skipped : ℕ)
@@ -122,20 +139,20 @@ pub fn pushes_have_their_causes()
         → HasRoomForPush (length reading.batch.spans) before.machine × (number ≡ count_of (history_of before)) }
 {}
 
-/// What is stored, by the pushes that were accepted. A run that is stopped is one over a disk of which from some call
+/// What is stored, by the entries that were accepted. A run that is stopped is one over a disk of which from some call
 /// on every call fails: what it hands back then has each push that was accepted before the stop.
 pub fn accepted_pushes_are_stored()
-    // An image of the disk that is handed back: what was stored at first and behind it all accepted batches, in order.
+    // An image of the disk that is handed back: what was stored at first and behind it all accepted entries, in order.
     ensures returned { (told : Bool) (o : Outcome) (image : Image)
         → Session told o.first o.items o.replies o.last
         → StandsForLast o image
-        → MayStandFor (grown (history_of o.first) (accepted_batches o.items o.replies)) (unsure_spans o) image }
-    // One since the store was opened: the same with the first few of these batches.
+        → MayStandFor (grown (history_of o.first) (accepted_entries o.items o.replies)) (unsure_of_run o) image }
+    // One since the store was opened: the same with the first few of these entries.
     ensures at_any_moment { (told : Bool) (o : Outcome) (image : Image)
         → Session told o.first o.items o.replies o.last
         → StandsWithin o image
-        → ((n : ℕ) × ImageStandsFor image (grown (history_of o.first) (take n (accepted_batches o.items o.replies))))
-        ⊎ MayStandFor (grown (history_of o.first) (accepted_batches o.items o.replies)) (unsure_spans o) image }
+        → ((n : ℕ) × ImageStandsFor image (grown (history_of o.first) (take n (accepted_entries o.items o.replies))))
+        ⊎ MayStandFor (grown (history_of o.first) (accepted_entries o.items o.replies)) (unsure_of_run o) image }
 {}
 
 /// Of the histories that an image stands for one is a base alone, in which each span stands once.

@@ -1,6 +1,7 @@
 -- An event of a core is a call of its port.
 use Rattle.std.proofs.Common.{[]}
 use Rattle.disk_model.specs.declared.disk.Device.{Ghosts}
+use Rattle.disk_model.proofs.CallRuns.{raised_rose}
 use Rattle.store_model.specs.Event.{Event, Reply}
 use Rattle.store_model.specs.Step.{Machine, IsLookPin}
 use Rattle.store_state.specs.Meaning.{Called, IsOpen}
@@ -24,13 +25,14 @@ steps : {D : Type 0} (g : Ghosts D) (old : Core D) (event : Event) (reply : Repl
 steps g old event reply new did = record {
   did = λ m stands. let stepped = did.stepped m stands in (stepped.machine, stepped.stands, stepped.step);
   shown = did.shown;
-  telling = did.telling;
+  telling = did.counts.telling;
   bytes = did.files;
   page = did.page;
   look = did.look;
   empty = λ told file among. (did.empty told file among).0;
-  later = did.later;
-  cause = did.cause;
+  later = did.counts.later;
+  quiet = did.counts.quiet;
+  cause = λ is. raised_rose _ _ (did.counts.fault is);
   calls = did.calls;
   reads_rise = did.reads.0;
   reads_bound = did.reads.1;
@@ -49,6 +51,7 @@ did_is_called g old event reply new did =
       look = called.look;
       empty = called.empty;
       later = called.later;
+      quiet = called.quiet;
       cause = called.cause;
       calls = called.calls;
       reads_rise = called.reads_rise;
@@ -65,8 +68,8 @@ pub open_hold : {D : Type 0} (g : Ghosts D) (core : Core D) (hold : Hold) → Is
 open_hold g core hold (held, known, there) = (known.machine, known.shown, known.open_holds hold there)
 
 pub open_job : {D : Type 0} (g : Ghosts D) (core : Core D) (out : JobFile) → IsJobOf out (IsOpen (port_of g) core) → (m : Machine) × CoreShows g core m × IsJobOf out (OpenIn m)
-open_job g core out (OfFlush rows is) = let its = open_hold g core (OpenFlush out.number out.file rows) is in (its.0, its.1, OfFlush rows its.2)
-open_job g core out (OfCompact level pin files is) = let its = open_hold g core (OpenCompact out.number out.file level pin files) is in (its.0, its.1, OfCompact level pin files its.2)
+open_job g core out (OfFlush job number file is) = let its = open_hold g core (OpenFlush job) is in (its.0, its.1, OfFlush job number file its.2)
+open_job g core out (OfCompact job number file is) = let its = open_hold g core (OpenCompact job) is in (its.0, its.1, OfCompact job number file its.2)
 
 -- nothing is open in a core whose memory shows a machine
 pub holds_nothing : {D : Type 0} (g : Ghosts D) (core : Core D) (m : Machine) → CoreShows g core m → CoreHolds (shown_by g) core []

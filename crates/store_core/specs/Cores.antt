@@ -1,7 +1,6 @@
 -- What a core stands for: a machine of the store's model, which its memory shows in part, and a history that its disk holds.
 use Rattle.std.specs.Prelude.{◌≡◌, ℕ, ◌+◌, ◌≤◌, List, [], ◌∷◌, ◌++◌, map, length, Option, None, IsTrue}
 use Rattle.std.specs.Option.{option_map}
-use Rattle.span_types.specs.declared.spans.Span.{Span}
 use Rattle.span_types.specs.declared.spans.Row.{Row}
 use Rattle.disk_model.specs.Images.{Image, bytes_of}
 use Rattle.disk_model.specs.declared.disk.Device.{Ghosts}
@@ -10,7 +9,8 @@ use Rattle.block_info.specs.InfoParts.{InfoParts}
 use Rattle.block_list.specs.Body.{MeetsRules}
 use Rattle.block_list.specs.declared.body.BlockRef.{BlockRef}
 use Rattle.block_list.specs.declared.body.SegmentRef.{SegmentRef}
-use Rattle.store_model.specs.History.{count_of}
+use Rattle.store_entries.specs.declared.entry.Entry.{Entry}
+use Rattle.store_model.specs.History.{count_of, push_of}
 use Rattle.store_model.specs.State.{Block, Segment as ModelSegment, pin_numbers, block_files, flush_rows, pinned_blocks, is_among}
 use Rattle.store_model.specs.Step.{Machine}
 use Rattle.store_model.specs.Laws.{Agrees}
@@ -24,15 +24,16 @@ use Rattle.store_core.specs.Pins.{is_taken, files_at}
 use Rattle.store_core.specs.Jobs.{ShowsFlush, ShowsCompaction, JobsFit, HasCommitRoom, HasFreshSegment}
 use Rattle.store_core.specs.Waiting.{rows_outside, AreLogged}
 use Rattle.store_core.specs.InUse.{AreInUse}
+use Rattle.store_core.specs.Stood.{StoodFor}
 use Rattle.store_core.specs.declared.state.CoreState.{CoreState}
 use Rattle.store_core.specs.declared.store.Core.{Core}
 
 abbrev pub tail_of : Segment → Tail
 tail_of segment = record { file = segment.file; first = segment.first; count = segment.count; gate = segment.gate }
 
--- the batch whose push answered a fault
-abbrev pub unsure_of : CoreState → Option (List Span)
-unsure_of core = option_map (λ ready. ready.spans) core.unsure
+-- the entry whose call answered a fault
+abbrev pub unsure_of : CoreState → Option Entry
+unsure_of core = option_map (λ ready. push_of ready.spans) core.unsure
 
 abbrev pub segment_of : SegmentRef → ModelSegment
 segment_of ref = record { file = ref.file; first = ref.first }
@@ -80,7 +81,7 @@ pub record HasState (core : CoreState) (m : Machine) : Type 0 where
   pub read_only : m.read_only ≡ core.read_only
 
 -- A core with this memory, over a disk that holds this and may leave that, stands for the machine: what it keeps has the
--- history's first occurrences, and so has every image that a crash may leave now, or it has besides the batch whose push
+-- history's first occurrences, and so has every image that a crash may leave now, or it has besides the entry whose call
 -- failed. While the store writes, the disk is settled, an open flush has its segment, and what waits outside of blocks stands in the
 -- log. `told` says that the disk tells its bytes.
 pub record StandsFor (told : Type 0) (held : Image) (may_leave : Image → Type 0) (core : CoreState) (m : Machine) : Type 0 where
@@ -96,9 +97,18 @@ pub record StandsFor (told : Type 0) (held : Image) (may_leave : Image → Type 
   pub fresh : told → core.read_only ≡ None → HasFreshSegment held may_leave core.jobs
   pub logged : told → core.read_only ≡ None → AreLogged held core.list (rows_outside m.state)
 
--- the core stands for the machine
-abbrev pub CoreStandsFor : {D : Type 0} (g : Ghosts D) → Core D → Machine → Type 0
-CoreStandsFor {D} g core m = StandsFor (IsTrue (g.tells core.disk)) (g.held core.disk) (g.may_leave core.disk) core.state m
+-- Whenever a crash came since the core's opening ended, the image that it left stands for the history as it was at some length from
+-- its start on, or for what an image may stand for now.
+pub record StoodSince {D : Type 0} (g : Ghosts D) (core : Core D) (m : Machine) : Type 0 where
+  pub opened : core.since.moment ≤ g.moment core.disk
+  pub images : (image : Image) → g.left_since core.disk core.since.moment image
+      → StoodFor m.history.start m.history (unsure_of core.state) image
+
+-- The core stands for the machine: by what it keeps and what its disk may leave now, and by what a crash may have left since its
+-- opening ended.
+pub record CoreStandsFor {D : Type 0} (g : Ghosts D) (core : Core D) (m : Machine) : Type 0 where
+  pub stands : StandsFor (IsTrue (g.tells core.disk)) (g.held core.disk) (g.may_leave core.disk) core.state m
+  pub past : IsTrue (g.tells core.disk) → StoodSince g core m
 
 -- the core's memory shows the machine, whatever its disk holds
 abbrev pub CoreShows : {D : Type 0} (g : Ghosts D) → Core D → Machine → Type 0

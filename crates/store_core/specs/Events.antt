@@ -1,18 +1,20 @@
 -- What one event makes of a core and of its disk.
-use Rattle.std.specs.Prelude.{◌≡◌, ◌⊎◌, ◌≤◌, ℕ, List, [], Option, Some, None, IsTrue, true, false}
-use Rattle.span_types.specs.Faults.{Rose}
-use Rattle.span_types.specs.declared.spans.Span.{Span}
+use Rattle.std.specs.Prelude.{◌≡◌, ◌≢◌, ◌⊎◌, ◌+◌, ◌^◌, ◌≤◌, ℕ, List, [], length, Option, Some, None, IsTrue, true, false}
+use Rattle.disk_model.specs.Calls.{Counts}
 use Rattle.disk_model.specs.Images.{Image, bytes_of}
 use Rattle.disk_model.specs.Crash.{LeavesOnly}
 use Rattle.disk_model.specs.declared.disk.Device.{Ghosts}
+use Rattle.head_log.specs.Bodies.{body_bytes}
+use Rattle.store_entries.specs.declared.entry.Entry.{Entry}
 use Rattle.store_model.specs.History.{History}
 use Rattle.store_model.specs.State.{is_among}
 use Rattle.store_model.specs.Event.{Event, Reply}
-use Rattle.store_model.specs.Event.Event.{Push}
+use Rattle.store_model.specs.Event.Event.{Push, WritePiece}
 use Rattle.store_model.specs.Event.Reply.{Refused}
 use Rattle.store_model.specs.Event.Refusal.{Fault}
 use Rattle.store_model.specs.Holds.{Hold, OpenIn, ends, files_of, own_files}
 use Rattle.store_model.specs.Step.{Machine, Step}
+use Rattle.store_model.specs.Told.{asked_entry}
 use Rattle.store_state.specs.Meaning.{Rewritten, reads_of}
 use Rattle.store_state.specs.Calls.{MadeCalls, RoseAtMost}
 use Rattle.store_state.specs.Shown.{IsLookTaken}
@@ -20,17 +22,19 @@ use Rattle.store_state.specs.Written.{IsPageRead}
 use Rattle.store_images.specs.Stored.{MayStandFor, IsTidy}
 use Rattle.store_core.specs.Cores.{CoreStandsFor, CoreShows, unsure_of}
 use Rattle.store_core.specs.Files.{IsEmptied}
+use Rattle.store_core.specs.declared.state.CoreState.{CoreState}
 use Rattle.store_core.specs.declared.store.Core.{Core}
 
 -- Whenever a crash comes in the event, what it leaves stands for what it might have stood for before, or for what it may stand
 -- for after it.
-abbrev pub Between : History → Option (List Span) → History → Option (List Span) → Image → Type 0
+abbrev pub Between : History → Option Entry → History → Option Entry → Image → Type 0
 Between before unsure after later_unsure image = MayStandFor before unsure image ⊎ MayStandFor after later_unsure image
 
--- The batch that isn't sure after an event: that of a push that answered a fault, where each batch was sure before it.
-abbrev pub unsure_after : Event → Reply → Option (List Span) → Option (List Span)
-unsure_after (Push spans moment) (Refused Fault) None = Some spans
-unsure_after _ _ unsure = unsure
+-- The entry that isn't sure after an event: the one that an event which answered a fault was to add, where each entry was sure
+-- before it.
+abbrev pub unsure_after : Event → Reply → Option Entry → Option Entry
+unsure_after event (Refused Fault) None = asked_entry event
+unsure_after event reply unsure = unsure
 
 -- A step of the machine for which the core stood: the core stands for what it leaves, and so do all images in between.
 pub record Stepped {D : Type 0} (g : Ghosts D) (old : Core D) (event : Event) (reply : Reply) (new : Core D) (m : Machine) : Type 0 where
@@ -40,8 +44,16 @@ pub record Stepped {D : Type 0} (g : Ghosts D) (old : Core D) (event : Event) (r
   pub images : IsTrue (g.tells old.disk) → LeavesOnly g.moment g.left_since old.disk new.disk
       (Between m.history (unsure_of old.state) machine.history (unsure_of new.state))
   pub unsure : unsure_of new.state ≡ unsure_after event reply (unsure_of old.state)
-  -- once a batch isn't sure nothing is pushed
+  -- once an entry isn't sure none is added
   pub ended : (unsure_of old.state ≡ None) ⊎ (machine.history ≡ m.history)
+
+-- Where the furthest of the bytes ends that an event writes. A push writes a record behind the gate. A piece goes where its job
+-- says, of which `write_piece` speaks; and lists are short.
+abbrev pub end_of : CoreState → Event → ℕ
+end_of core (Push spans moment) =
+    core.segment.gate + 10 + length (body_bytes (core.segment.first + core.segment.count) spans)
+end_of core (WritePiece job file bytes) = 2 ^ 63
+end_of core event = 0
 
 -- One event of a core, with its reply.
 pub record Did {D : Type 0} (g : Ghosts D) (old : Core D) (event : Event) (reply : Reply) (new : Core D) : Type 0 where
@@ -63,9 +75,10 @@ pub record Did {D : Type 0} (g : Ghosts D) (old : Core D) (event : Event) (reply
   pub page : IsTrue (g.tells old.disk) → IsPageRead event reply (λ file. bytes_of (g.held old.disk) file)
   pub look : IsTrue (g.tells new.disk) → (m : Machine) → CoreStandsFor g new m
       → IsLookTaken reply (λ file. bytes_of (g.held new.disk) file) m.history
-  pub telling : g.tells new.disk ≡ g.tells old.disk
-  pub later : g.faults old.disk ≤ g.faults new.disk
-  pub cause : reply ≡ Refused Fault → Rose (g.faults old.disk) (g.faults new.disk)
+  -- its opening ended when it did
+  pub since : new.since ≡ old.since
+  -- a fault is answered just where a call of the disk failed, and then it was the last one
+  pub counts : Counts g (end_of old.state event) (reply ≢ Refused Fault) (reply ≡ Refused Fault) old.disk new.disk
   pub calls : MadeCalls event reply (g.calls old.disk) (g.calls new.disk)
   -- a page read alone counts as a read
   pub reads : RoseAtMost (reads_of event) (g.reads old.disk) (g.reads new.disk)
