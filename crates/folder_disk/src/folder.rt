@@ -271,7 +271,7 @@ impl<R: System + Drop> Folder<R> {
         if self.opened >= MOST_OPEN {
             self.close_unchanged();
         }
-        self.opened += 1;
+        self.opened = self.opened.saturating_add(1);
         let handle = Handle {
             file,
             is_changed: false,
