@@ -5,7 +5,9 @@
 mod disk;
 mod files;
 mod folder;
+mod system;
 mod system_clock;
 
 pub use disk::{FolderDisk, is_disk};
+pub use system::{Found, System, SystemFile};
 pub use system_clock::SystemClock;

@@ -1,0 +1,115 @@
+//! A disk in a folder over a system that fails: what it reads afterwards is what the device has.
+
+use crate::machine::Machine;
+use disk_model::Device;
+use folder_disk::FolderDisk;
+use span_types::Failed;
+use std::alloc::AllocError;
+use std::test::Fail;
+
+/// A disk as a program has it that is started now.
+fn disk_on<'a>(rt: HostRuntime, machine: &'a Machine) -> Result<FolderDisk<&'a Machine>, AllocError> {
+    let path = String::from_str(rt.alloc(), "store")?;
+    Ok(FolderDisk::new(machine, rt.alloc(), path))
+}
+
+/// Whether a file has just these bytes, fewer than 8.
+fn has<D: Device>(disk: &mut D, file: u32, bytes: &[u8]) -> Result<bool, Failed> {
+    let mut buf = [9u8; 8];
+    let count = disk.read(file, 0, &mut buf)?;
+    Ok(disk.len(file)? == bytes.len() as u64 && buf.get(..count) == Some(bytes))
+}
+
+/// Writes bytes and makes them last.
+fn put<D: Device>(disk: &mut D, file: u32, bytes: &[u8]) -> Result<(), Failed> {
+    disk.write(file, 0, bytes)?;
+    disk.sync(file)
+}
+
+#[test]
+fn a_program_reads_what_the_device_has_after_a_sync_that_failed_before_it(
+    rt: HostRuntime,
+) -> Result<(), Fail> {
+    let machine = Machine::new();
+    let mut first = disk_on(rt, &machine)?;
+    put(&mut first, 0, &[1, 2, 3])?;
+    machine.failing_syncs.set(1);
+    assert!(rt; put(&mut first, 0, &[7, 7, 7, 7]).is_err());
+    drop(first);
+    let mut second = disk_on(rt, &machine)?;
+    second.sync(0)?;
+    assert!(rt; has(&mut second, 0, &[1, 2, 3])?);
+    // What it makes last on top is all there is, for a third one too.
+    second.write(0, 1, &[5])?;
+    second.sync(0)?;
+    drop(second);
+    assert!(rt; has(&mut disk_on(rt, &machine)?, 0, &[1, 5, 3])?);
+    Ok(())
+}
+
+#[test]
+fn a_disk_reads_what_the_device_has_after_its_own_failed_sync(rt: HostRuntime) -> Result<(), Fail> {
+    let machine = Machine::new();
+    let mut disk = disk_on(rt, &machine)?;
+    put(&mut disk, 0, &[1, 2, 3])?;
+    machine.failing_syncs.set(1);
+    assert!(rt; put(&mut disk, 0, &[7, 7, 7, 7]).is_err());
+    disk.sync(0)?;
+    assert!(rt; has(&mut disk, 0, &[1, 2, 3])?);
+    Ok(())
+}
+
+#[test]
+fn a_failed_write_is_settled(rt: HostRuntime) -> Result<(), Fail> {
+    let machine = Machine::new();
+    let mut disk = disk_on(rt, &machine)?;
+    put(&mut disk, 0, &[1, 2, 3])?;
+    machine.failing_writes.set(1);
+    assert!(rt; disk.write(0, 1, &[8]).is_err());
+    // The call that settles the file fails in its turn, and the next one tells what the device has.
+    machine.failing_syncs.set(1);
+    assert!(rt; disk.len(0).is_err());
+    assert!(rt; has(&mut disk, 0, &[1, 2, 3])?);
+    assert_eq!(rt; disk.faults(), 2);
+    Ok(())
+}
+
+#[test]
+fn a_file_is_settled_once(rt: HostRuntime) -> Result<(), Fail> {
+    let machine = Machine::new();
+    let mut first = disk_on(rt, &machine)?;
+    for file in 0..6 {
+        put(&mut first, file, &[file as u8])?;
+    }
+    drop(first);
+    assert_eq!(rt; machine.drops.get(), 0);
+    machine.most_open.set(4);
+    let mut second = disk_on(rt, &machine)?;
+    for file in 0..60u32 {
+        assert!(rt; has(&mut second, file % 6, &[(file % 6) as u8])?);
+    }
+    assert_eq!(rt; machine.drops.get(), 6);
+    Ok(())
+}
+
+#[test]
+fn files_without_changes_are_closed_where_no_descriptor_is_left(rt: HostRuntime) -> Result<(), Fail> {
+    let machine = Machine::new();
+    // The lock and three files.
+    machine.most_open.set(4);
+    let mut disk = disk_on(rt, &machine)?;
+    for file in 0..8 {
+        put(&mut disk, file, &[file as u8, 5])?;
+    }
+    for file in 0..8 {
+        assert!(rt; has(&mut disk, file, &[file as u8, 5])?);
+    }
+    // Files with changes stay open, so a fourth one can't be opened.
+    for file in 0..3 {
+        disk.write(file, 0, &[9])?;
+    }
+    assert!(rt; disk.len(3).is_err());
+    disk.sync(1)?;
+    assert_eq!(rt; disk.len(3)?, 2);
+    Ok(())
+}
