@@ -34,18 +34,20 @@ fn is_refused<D: Device>(disk: &mut D, file: u32) -> bool {
 }
 
 /// Files of a folder by name and length, and whether a disk takes them for a store's, or for none at all.
-const FOLDERS: [(&[(&str, usize)], bool); 10] = [
+const FOLDERS: [(&[(&str, usize)], bool); 12] = [
     (&[], true),
     (&[("notes.txt", 7), ("lock", 0), ("x.dat", 9)], true),
     // What is left where a program was killed as it made a new store.
     (&[("2.dat", 0)], true),
     (&[("2.dat", 2)], true),
     (&[("0.dat", 0), ("2.dat", 2)], true),
+    (&[("0.dat", 0), ("1.dat", 0)], true),
     (&[("0.dat", 42), ("2.dat", 2)], true),
     (&[("1.dat", 42), ("7.dat", 5)], true),
     // What no program leaves.
     (&[("2.dat", 3)], false),
     (&[("2.dat", 2), ("3.dat", 0)], false),
+    (&[("0.dat", 0), ("2.dat", 2), ("9.dat", 1)], false),
     (&[("lock", 0), ("17.dat", 5)], false),
 ];
 
@@ -64,15 +66,22 @@ fn files_of_a_store_without_a_slot_are_refused(rt: HostRuntime) -> Result<(), Fa
             assert!(rt; is_refused(&mut disk, 0) && is_refused(&mut disk, 17));
         }
         // Nothing was cut or made but the lock, and that in no folder that is refused.
-        let mut count = 0;
+        let mut count = 0usize;
         for entry in fs::read_dir(&rt, folder.as_str())? {
             let entry = entry?;
             let len = entry.metadata()?.len();
-            assert!(rt; entry.file_name() == "lock" || files.contains(&(entry.file_name(), len as usize)));
-            count += 1;
+            assert!(rt;
+                entry.file_name() == "lock" || files.contains(&(entry.file_name(), len as usize))
+            );
+            count = count.saturating_add(1);
         }
         let had_lock = files.contains(&("lock", 0));
-        assert_eq!(rt; count, files.len() + usize::from(is_taken && !had_lock));
+        assert_eq!(rt;
+            count,
+            files
+                .len()
+                .saturating_add(usize::from(is_taken && !had_lock))
+        );
         drop(disk);
         fs::remove_dir_all(&rt, folder.as_str())?;
     }
@@ -84,8 +93,16 @@ fn a_link_or_a_folder_is_no_file(rt: HostRuntime) -> Result<(), Fail> {
     let folder = emptied(rt, "kinds")?;
     let target = format!(in rt.alloc(); "{folder}/target")?;
     fs::write(&rt, target.as_str(), &[1u8, 2, 3])?;
-    symlink(&rt, "target", format!(in rt.alloc(); "{folder}/0.dat")?.as_str())?;
-    symlink(&rt, "nothing", format!(in rt.alloc(); "{folder}/3.dat")?.as_str())?;
+    symlink(
+        &rt,
+        "target",
+        format!(in rt.alloc(); "{folder}/0.dat")?.as_str(),
+    )?;
+    symlink(
+        &rt,
+        "nothing",
+        format!(in rt.alloc(); "{folder}/3.dat")?.as_str(),
+    )?;
     let inner = format!(in rt.alloc(); "{folder}/4.dat")?;
     fs::create_dir(&rt, inner.as_str())?;
     let mut disk = disk_in(rt, folder.as_str())?;
@@ -104,7 +121,11 @@ fn a_link_or_a_folder_is_no_file(rt: HostRuntime) -> Result<(), Fail> {
 #[test]
 fn a_link_is_no_lock(rt: HostRuntime) -> Result<(), Fail> {
     let folder = emptied(rt, "lock")?;
-    symlink(&rt, "other", format!(in rt.alloc(); "{folder}/lock")?.as_str())?;
+    symlink(
+        &rt,
+        "other",
+        format!(in rt.alloc(); "{folder}/lock")?.as_str(),
+    )?;
     assert!(rt; is_refused(&mut disk_in(rt, folder.as_str())?, 0));
     assert!(rt; !fs::exists(&rt, format!(in rt.alloc(); "{folder}/other")?.as_str())?);
     Ok(fs::remove_dir_all(&rt, folder.as_str())?)
@@ -119,7 +140,11 @@ fn what_is_made_is_its_owners_alone(rt: HostRuntime) -> Result<(), Fail> {
     assert_eq!(rt; fs::metadata(&rt, folder.as_str())?.mode() & 0o777, 0o700);
     for name in ["lock", "0.dat"] {
         let path = format!(in rt.alloc(); "{folder}/{name}")?;
-        assert_eq!(rt; fs::metadata(&rt, path.as_str())?.mode() & 0o777, 0o600, "{name}");
+        assert_eq!(rt;
+            fs::metadata(&rt, path.as_str())?.mode() & 0o777,
+            0o600,
+            "{name}"
+        );
     }
     drop(disk);
     Ok(fs::remove_dir_all(&rt, folder.as_str())?)
@@ -136,7 +161,9 @@ fn a_lock_that_was_taken_away_is_noticed(rt: HostRuntime) -> Result<(), Fail> {
     let mut second = disk_in(rt, folder.as_str())?;
     assert!(rt; second.len(0).is_ok());
     // The first one makes nothing last any more, opens nothing and makes nothing.
-    assert!(rt; first.sync(0).is_err() && first.len(1).is_err() && first.write(1, 0, &[7]).is_err());
+    assert!(rt;
+        first.sync(0).is_err() && first.len(1).is_err() && first.write(1, 0, &[7]).is_err()
+    );
     assert!(rt; second.len(1) == Ok(0));
     drop(first);
     drop(second);

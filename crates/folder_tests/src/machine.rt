@@ -9,13 +9,14 @@ use std::io::ErrorKind;
 
 /// Linux's numbers for a device that fails, and for a program that has no descriptor left.
 const EIO: i32 = 5;
+
 const EMFILE: i32 = 24;
 
 /// So many files may be there, the one that is locked first.
 const FILES: usize = 12;
 
 /// So many bytes a file may have.
-const ROOM: usize = 4;
+const ROOM: usize = 256;
 
 #[derive(Clone, Copy)]
 struct Bytes {
@@ -54,8 +55,8 @@ pub struct Machine {
     /// So many of the next syncs and writes fail.
     pub failing_syncs: Cell<usize>,
     pub failing_writes: Cell<usize>,
-    /// So often copies were dropped.
-    pub drops: Cell<usize>,
+    /// So many writes were made to files but the one that is locked.
+    pub writes: Cell<usize>,
 }
 
 /// An open file of a machine.
@@ -72,7 +73,17 @@ impl Machine {
             most_open: Cell::new(FILES),
             failing_syncs: Cell::new(0),
             failing_writes: Cell::new(0),
-            drops: Cell::new(0),
+            writes: Cell::new(0),
+        }
+    }
+
+    /// The machine is started anew: of each file there is what its device has.
+    pub fn restart(&self) {
+        for place in 0..FILES {
+            let mut kept = self.get(place);
+            kept.cached = kept.device;
+            kept.is_dirty = false;
+            self.set(place, kept);
         }
     }
 
@@ -196,23 +207,34 @@ impl<'a> SystemFile for Opened<'a> {
 
     fn read_at(&self, buf: &mut [u8], at: u64) -> io::Result<usize> {
         let cached = self.machine.get(self.place).cached;
-        let mut count = 0;
-        for (place, byte) in buf.iter_mut().zip(cached.all.iter().take(cached.len).skip(at as usize)) {
-            *place = *byte;
-            count += 1;
-        }
+        let have = match cached.all.get(at as usize..cached.len) {
+            Some(have) => have,
+            None => &[],
+        };
+        let count = have.len().min(buf.len());
+        buf[..count].copy_from_slice(&have[..count]);
         Ok(count)
     }
 
     fn write_all_at(&self, bytes: &[u8], at: u64) -> io::Result<()> {
         let mut kept = self.machine.get(self.place);
-        for (place, byte) in kept.cached.all.iter_mut().skip(at as usize).zip(bytes.iter()) {
+        for (place, byte) in kept
+            .cached
+            .all
+            .iter_mut()
+            .skip(at as usize)
+            .zip(bytes.iter())
+        {
             *place = *byte;
         }
         let end = (at as usize).saturating_add(bytes.len());
         kept.cached.len = kept.cached.len.max(end.min(ROOM));
         kept.is_dirty = true;
         self.machine.set(self.place, kept);
+        if self.place > 0 {
+            let before = self.machine.writes.get();
+            self.machine.writes.set(before.saturating_add(1));
+        }
         if fails(&self.machine.failing_writes) {
             return Err(io::Error::from_raw_os_error(EIO));
         }
@@ -239,16 +261,6 @@ impl<'a> SystemFile for Opened<'a> {
         if failed {
             return Err(io::Error::from_raw_os_error(EIO));
         }
-        Ok(())
-    }
-
-    fn drop_copies(&self) -> io::Result<()> {
-        let mut kept = self.machine.get(self.place);
-        if !kept.is_dirty {
-            kept.cached = kept.device;
-        }
-        self.machine.set(self.place, kept);
-        self.machine.drops.set(self.machine.drops.get().saturating_add(1));
         Ok(())
     }
 }
