@@ -19,7 +19,7 @@ use Rattle.block_list.specs.declared.body.SegmentRef.{SegmentRef}
 use Rattle.block_list.specs.declared.body.ListBody.{ListBody}
 use Rattle.block_info.specs.InfoParts.{InfoParts}
 use Rattle.block_format.specs.Blocks.{BlockHolds, BlockHasInfo}
-use Rattle.store_model.specs.History.{History, entry_rows, count_of}
+use Rattle.store_model.specs.History.{History, record_rows, count_of}
 use Rattle.store_model.specs.Laws.{AgreesOn}
 use Rattle.store_model.specs.State.{Block, block_rows}
 use Rattle.store_model.proofs.RowSetLaws.{first_is_in}
@@ -119,7 +119,7 @@ module _ (held : Image) (may_leave : Image → Type 0) (body new : ListBody) (bl
       counts = counted;
       agrees = s.agrees;
       rest = c.rest;
-      within = λ x inside. Contains-append_right (block_rows blocks) (entry_rows (first_number body) all) x (c.logged all s.holds.logged x inside);
+      within = λ x inside. Contains-append_right (block_rows blocks) (record_rows (first_number body) all) x (c.logged all s.holds.logged x inside);
       above = c.above;
     }
 
@@ -194,7 +194,7 @@ module _ (held : Image) (may_leave : Image → Type 0) (body new : ListBody) (bl
         let is : l.before ≡ batches = one_log later new.segments (first_number new) l.before batches l.store.logged holds in
         let low = (rules_in later new ready.stands).from_floor in
         let high = c.above x inside in
-        subst (λ (b : List (List Span)). Contains (entry_rows (first_number new) b) x) is
+        subst (λ (b : List (List Span)). Contains (record_rows (first_number new) b) x) is
         (l.later x (c.logged all s.holds.logged x (Contains-append_right block.rows waiting x inside)) (omega (arith, low, high)))
 
   -- ---- tidiness

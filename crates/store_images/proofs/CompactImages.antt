@@ -15,7 +15,7 @@ use Rattle.block_list.specs.Loading.{IsReady}
 use Rattle.block_list.specs.declared.body.SegmentRef.{SegmentRef}
 use Rattle.block_list.specs.declared.body.ListBody.{ListBody}
 use Rattle.block_format.specs.Blocks.{BlockHolds}
-use Rattle.store_model.specs.History.{History, entry_rows, count_of}
+use Rattle.store_model.specs.History.{History, record_rows, count_of}
 use Rattle.store_model.specs.RowSets.{Within as AreAmong}
 use Rattle.store_model.specs.State.{Block, is_among}
 use Rattle.store_model.specs.Choice.{outside_files}
@@ -201,10 +201,10 @@ module _ (held : Image) (may_leave : Image → Type 0) (body new : ListBody) (fi
     }
 
     -- what stood in the log stands in it still
-    pub logged_compacted : (rows : List Row) → ((batches : List (List Span)) → LogHolds held body.segments (first_number body) batches → AreAmong rows (entry_rows (first_number body) batches))
-        → (batches : List (List Span)) → LogHolds later new.segments (first_number new) batches → AreAmong rows (entry_rows (first_number new) batches)
+    pub logged_compacted : (rows : List Row) → ((batches : List (List Span)) → LogHolds held body.segments (first_number body) batches → AreAmong rows (record_rows (first_number body) batches))
+        → (batches : List (List Span)) → LogHolds later new.segments (first_number new) batches → AreAmong rows (record_rows (first_number new) batches)
     logged_compacted rows was batches holds x inside =
         let log : LogHolds later body.segments (first_number body) batches =
         subst (λ (n : ℕ). LogHolds later body.segments n batches) first_same (subst (λ (l : List SegmentRef). LogHolds later l (first_number new) batches) c.segments holds) in
-        subst (λ (n : ℕ). Contains (entry_rows n batches) x) (sym first_same)
+        subst (λ (n : ℕ). Contains (record_rows n batches) x) (sym first_same)
         (was batches (log_same later held body.segments (first_number body) batches (λ y d. sym (kept_segment y d)) log) x inside)

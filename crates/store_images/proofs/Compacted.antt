@@ -10,7 +10,7 @@ use Rattle.disk_model.specs.Images.{Image}
 use Rattle.block_list.specs.Body.{MeetsRules}
 use Rattle.block_list.specs.declared.body.SegmentRef.{SegmentRef}
 use Rattle.block_list.specs.declared.body.ListBody.{ListBody}
-use Rattle.store_model.specs.History.{History, entry_rows}
+use Rattle.store_model.specs.History.{History, record_rows}
 use Rattle.store_model.specs.Laws.{AgreesOn}
 use Rattle.store_model.specs.RowSets.{Within}
 use Rattle.store_model.specs.State.{State, Block, Compaction, block_rows, block_files}
@@ -82,12 +82,12 @@ pub still_floored : (files : List ℕ) (blocks : List Block) (block : Block) (fi
     → AgreesOn (stored_rows blocks first batches) h → SameFirsts (stored_rows blocks first batches) (stored_rows blocks (first + gone) (drop gone batches))
     → SameFirsts (stored_rows (with_joined files blocks block) first batches) (stored_rows (with_joined files blocks block) (first + gone) (drop gone batches))
 still_floored files blocks block first gone batches h firsts agrees same =
-    λ k. (rejoined files blocks block (entry_rows first batches) h firsts agrees).firsts k ∙ sym ((rejoined files blocks block (entry_rows (first + gone) (drop gone batches)) h firsts above).firsts k)
+    λ k. (rejoined files blocks block (record_rows first batches) h firsts agrees).firsts k ∙ sym ((rejoined files blocks block (record_rows (first + gone) (drop gone batches)) h firsts above).firsts k)
   where
     fewer : Within (stored_rows blocks (first + gone) (drop gone batches)) (stored_rows blocks first batches)
-    fewer x inside = elim (Contains-append_cases (block_rows blocks) (entry_rows (first + gone) (drop gone batches)) x inside) [
-      | inl built ↦ Contains-append_left (block_rows blocks) (entry_rows first batches) x built
-      | inr logged ↦ Contains-append_right (block_rows blocks) (entry_rows first batches) x (later_in first gone batches x logged)
+    fewer x inside = elim (Contains-append_cases (block_rows blocks) (record_rows (first + gone) (drop gone batches)) x inside) [
+      | inl built ↦ Contains-append_left (block_rows blocks) (record_rows first batches) x built
+      | inr logged ↦ Contains-append_right (block_rows blocks) (record_rows first batches) x (later_in first gone batches x logged)
     ]
 
     above : AgreesOn (stored_rows blocks (first + gone) (drop gone batches)) h
@@ -136,7 +136,7 @@ module _ (image : Image) (body new : ListBody) (files : List ℕ) (blocks : List
 
   pub agrees_compacted : AgreesOn (stored_rows listed_blocks (first_number new) batches) h
   agrees_compacted =
-      subst (λ (n : ℕ). AgreesOn (stored_rows listed_blocks n batches) h) (sym first_stays) (rejoined files blocks block (entry_rows (first_number body) batches) h c.firsts c.agrees)
+      subst (λ (n : ℕ). AgreesOn (stored_rows listed_blocks n batches) h) (sym first_stays) (rejoined files blocks block (record_rows (first_number body) batches) h c.firsts c.agrees)
 
   pub compacted : ImageStandsFor image h
   compacted = record {

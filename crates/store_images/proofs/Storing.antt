@@ -17,7 +17,7 @@ use Rattle.block_list.proofs.ReadyLemmas.{ready_besides}
 use Rattle.block_list.specs.declared.body.BlockRef.{BlockRef}
 use Rattle.block_list.specs.declared.body.SegmentRef.{SegmentRef}
 use Rattle.block_list.specs.declared.body.ListBody.{ListBody}
-use Rattle.store_model.specs.History.{History, count_of, pushed, batch_rows}
+use Rattle.store_model.specs.History.{History, count_of, pushed, batch_rows, push_of}
 use Rattle.store_model.specs.Laws.{AgreesOn}
 use Rattle.store_model.specs.State.{Block}
 use Rattle.store_images.specs.Log.{LogHolds}
@@ -213,7 +213,7 @@ module _ (held : Image) (may_leave : Image → Type 0) (body : ListBody) (blocks
       (tail.gate, subst (λ (b : List ℕ). SegmentHolds tail.first s.mine tail.gate b) (sym (only_tail image left)) s.written.current)
 
   -- while a record is added
-  pub settled_either : (spans : List Span) (image : Image) → ButFor tail.file (SegmentKeepsEither tail.first s.mine spans) may_leave image → MayStandFor h (Some spans) image
+  pub settled_either : (spans : List Span) (image : Image) → ButFor tail.file (SegmentKeepsEither tail.first s.mine spans) may_leave image → MayStandFor h (Some (push_of spans)) image
   settled_either spans image b = elim b.here [
     | inl keeps ↦ inl (settled_as_before b.origin image b.possible b.besides keeps)
     | inr more ↦ inr (settled_more b.origin image b.possible b.besides spans more)

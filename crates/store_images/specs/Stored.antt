@@ -1,5 +1,5 @@
 -- What an image of the disk stores, when it is sound, and which history it stands for.
-use Rattle.std.specs.Prelude.{◌≡◌, ◌⊎◌, ℕ, ◌+◌, ◌-◌, ◌<◌, ◌≤◌, List, [], ◌++◌, length, map, drop, slice_index, Option, Some, None}
+use Rattle.std.specs.Prelude.{◌≡◌, ◌⊎◌, ℕ, ◌+◌, ◌-◌, ◌<◌, ◌≤◌, List, [], ◌∷◌, ◌++◌, length, map, drop, slice_index, Option, Some, None}
 use Rattle.std.specs.List.{Contains}
 use Rattle.span_types.specs.declared.ids.Key.{Key}
 use Rattle.span_types.specs.declared.spans.Span.{Span}
@@ -11,7 +11,8 @@ use Rattle.block_list.specs.Slots.{ImageHoldsList}
 use Rattle.block_list.specs.declared.body.BlockRef.{BlockRef}
 use Rattle.block_list.specs.declared.body.ListBody.{ListBody}
 use Rattle.block_format.specs.Blocks.{BlockHolds}
-use Rattle.store_model.specs.History.{History, entry_rows, count_of, pushed}
+use Rattle.store_entries.specs.declared.entry.Entry.{Entry}
+use Rattle.store_model.specs.History.{History, record_rows, count_of, grown}
 use Rattle.store_model.specs.Laws.{AgreesOn}
 use Rattle.store_model.specs.State.{Block, block_rows}
 use Rattle.store_images.specs.Log.{LogHolds}
@@ -42,7 +43,7 @@ first_number body = slice_index (firsts_of body) 0
 
 -- the rows of the blocks, and behind them those of batches whose numbers count up from this one
 abbrev pub stored_rows : List Block → ℕ → List (List Span) → List Row
-stored_rows blocks first batches = block_rows blocks ++ entry_rows first batches
+stored_rows blocks first batches = block_rows blocks ++ record_rows first batches
 
 -- The image's list names these blocks, and segments that stand for these batches. The records below the floor bring no first
 -- occurrence: the blocks and the records from the floor on have the same ones.
@@ -72,10 +73,10 @@ pub record ImageStandsFor (image : Image) (h : History) : Type 0 where
 abbrev pub IsSoundImage : Image → Type 0
 IsSoundImage image = (h : History) × ImageStandsFor image h
 
--- it stands for the history, or for it and then the batch whose push failed
-abbrev pub MayStandFor : History → Option (List Span) → Image → Type 0
+-- it stands for the history, or for it and then the entry whose call failed
+abbrev pub MayStandFor : History → Option Entry → Image → Type 0
 MayStandFor h None image = ImageStandsFor image h
-MayStandFor h (Some spans) image = ImageStandsFor image h ⊎ ImageStandsFor image (pushed h spans)
+MayStandFor h (Some entry) image = ImageStandsFor image h ⊎ ImageStandsFor image (grown h (entry ∷ []))
 
 -- ---- files
 
