@@ -168,7 +168,7 @@ module _ (list : ListBody) (blocks : List Block) (batches : List (List Span)) wh
   same_base : (k : Key) → first_at k (kept_rows list blocks batches) ≡ first_at k (history_rows (base_of list blocks batches))
   same_base k =
       let is = firsts_exist (kept_rows list blocks batches) in
-      sym (first_at-firsts (kept_rows list blocks batches) is.0 is.1 k) ∙ ap (first_at k) (sym (append-nil is.0))
+      sym (first_at-firsts (kept_rows list blocks batches) is.0 is.1 k)
 
   -- where the blocks have no rows
   pub agrees_base : first_number list ≤ list.floor → list.floor ≤ first_number list + length batches → block_rows blocks ≡ []

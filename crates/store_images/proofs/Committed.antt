@@ -11,6 +11,7 @@ use Rattle.block_list.specs.Body.{MeetsRules}
 use Rattle.block_list.specs.declared.body.BlockRef.{BlockRef}
 use Rattle.block_list.specs.declared.body.SegmentRef.{SegmentRef}
 use Rattle.block_list.specs.declared.body.ListBody.{ListBody}
+use Rattle.store_images.proofs.Kept.{stands_with}
 use Rattle.store_model.specs.History.{History, count_of, record_rows}
 use Rattle.store_model.specs.Laws.{AgreesOn}
 use Rattle.store_model.specs.State.{Block}
@@ -18,7 +19,6 @@ use Rattle.store_images.specs.Committed.{CommitsFlush}
 use Rattle.store_images.specs.Log.{LogHolds}
 use Rattle.store_images.specs.Log.LogHolds.{ended, goes_on}
 use Rattle.store_images.specs.Stored.{ImageStandsFor, BlockStands, StoreHolds, first_number, stored_rows, ref_of}
-use Rattle.store_images.specs.Stored.ImageStores.{filled}
 use Rattle.store_images.proofs.Lists.{not_in_nil, in_cons}
 use Rattle.store_images.proofs.Logs.{log_with}
 use Rattle.store_images.proofs.Keeping.{rules_in}
@@ -134,8 +134,4 @@ module _ (image : Image) (body new : ListBody) (blocks : List Block) (block : Bl
   pub committed : ImageStandsFor image h
   committed =
       let l = left_logged in
-      record {
-        rows = stored_rows (blocks ++ block ∷ []) (first_number new) l.before;
-        stores = filled new (blocks ++ block ∷ []) l.before l.store refl l.counts;
-        agrees = l.agrees;
-      }
+      stands_with image new (blocks ++ block ∷ []) l.before h l.store l.agrees l.counts

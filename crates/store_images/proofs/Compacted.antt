@@ -10,6 +10,7 @@ use Rattle.disk_model.specs.Images.{Image}
 use Rattle.block_list.specs.Body.{MeetsRules}
 use Rattle.block_list.specs.declared.body.SegmentRef.{SegmentRef}
 use Rattle.block_list.specs.declared.body.ListBody.{ListBody}
+use Rattle.store_images.proofs.Kept.{stands_with}
 use Rattle.store_model.specs.History.{History, record_rows}
 use Rattle.store_model.specs.Laws.{AgreesOn}
 use Rattle.store_model.specs.RowSets.{Within}
@@ -24,7 +25,6 @@ use Rattle.store_model.proofs.KeepsFirsts.{step_keeps}
 use Rattle.store_images.specs.Committed.{CommitsCompaction, with_joined}
 use Rattle.store_images.specs.Log.{LogHolds}
 use Rattle.store_images.specs.Stored.{ImageStandsFor, BlockStands, StoreHolds, SameFirsts, first_number, stored_rows}
-use Rattle.store_images.specs.Stored.ImageStores.{filled}
 use Rattle.store_images.proofs.Between.{later_in}
 use Rattle.store_images.proofs.Keeping.{rules_in}
 
@@ -139,8 +139,4 @@ module _ (image : Image) (body new : ListBody) (files : List ℕ) (blocks : List
       subst (λ (n : ℕ). AgreesOn (stored_rows listed_blocks n batches) h) (sym first_stays) (rejoined files blocks block (record_rows (first_number body) batches) h c.firsts c.agrees)
 
   pub compacted : ImageStandsFor image h
-  compacted = record {
-    rows = stored_rows listed_blocks (first_number new) batches;
-    stores = filled new listed_blocks batches store_compacted refl (let counts = c.counts in omega (arith, counts, first_stays));
-    agrees = agrees_compacted;
-  }
+  compacted = stands_with image new listed_blocks batches h store_compacted agrees_compacted (let counts = c.counts in omega (arith, counts, first_stays))
