@@ -24,7 +24,7 @@ pub record HasStepped {D : Type 0} (g : Ghosts D) (is_with : Core D → Machine 
   pub stands : is_with new machine
   pub steps : AreSteps (g.faults old.disk) m calls (g.faults new.disk) machine
 
--- The batch that isn't sure after calls: that of the first push that answered a fault, where there was none before.
+-- The entry that isn't sure after calls: that of the first push that answered a fault, if there was none before.
 abbrev pub unsure_after_calls : List Call → Option Entry → Option Entry
 unsure_after_calls [] unsure = unsure
 unsure_after_calls (c ∷ calls) unsure = unsure_after_calls calls (unsure_after c.event c.reply unsure)

@@ -151,7 +151,7 @@ module _ {D : Type 0} (g : Ghosts D) (disk : D) (moment : ℕ) (core later : Cor
     stands_first : CoreStandsFor g core first
     stands_first = founded.stands
 
-    -- the batch that isn't sure is the one that the replies tell
+    -- the entry that isn't sure is the one that the replies tell
     unsure_is : unsure_of later.state ≡ unsure_entry items replies
     unsure_is =
         let none : unsure_of core.state ≡ None = stands_first.sure (sym stands_first.has.read_only ∙ opens.empty.writes) in
