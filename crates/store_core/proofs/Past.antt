@@ -1,16 +1,14 @@
 -- What was left since the opening, from event to event.
-use Rattle.std.proofs.Common.{◌≡◌, ◌⊎◌, inl, inr, ℕ, ◌+◌, ◌-◌, ◌≤◌, List, [], ◌∷◌, ◌++◌, length, take, None, Some, Option, IsTrue, refl, sym, ◌∙◌, ap, subst, arith}
+use Rattle.std.proofs.Common.{◌≡◌, ◌⊎◌, inl, inr, ℕ, ◌+◌, ◌-◌, ◌≤◌, List, [], ◌∷◌, length, None, Some, Option, IsTrue, refl, sym, ◌∙◌, ap, subst, arith}
 use Rattle.std.proofs.lemmas.List.{take_all}
-use Rattle.span_types.specs.declared.spans.Span.{Span}
 use Rattle.disk_model.specs.Images.{Image}
 use Rattle.disk_model.specs.declared.disk.Device.{Ghosts}
 use Rattle.disk_model.proofs.Moments.{joined, started, widened}
 use Rattle.store_model.proofs.HistoryLaws.{count_grown}
 use Rattle.store_entries.specs.declared.entry.Entry.{Entry}
-use Rattle.store_model.specs.History.{History, count_of, pushed, up_to, with_entry}
+use Rattle.store_model.specs.History.{History, count_of, up_to, with_entry}
 use Rattle.store_model.specs.Event.{Event, Reply}
-use Rattle.store_model.specs.Event.Event.{Push}
-use Rattle.store_model.specs.Event.Reply.{Count, Refused}
+use Rattle.store_model.specs.Event.Reply.{Refused}
 use Rattle.store_model.specs.Event.Refusal.{Fault}
 use Rattle.store_model.specs.Step.{Machine}
 use Rattle.store_model.specs.Told.{history_after, added_entry}

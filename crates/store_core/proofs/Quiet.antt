@@ -1,6 +1,5 @@
 -- Events that make no device call.
 use Rattle.std.proofs.Common.{◌≡◌, ◌≢◌, inl, inr, ℕ, ◌==◌, List, [], ◌∷◌, None, Option, IsTrue, Bool, true, false, refl, sym, ◌∙◌, subst, arith}
-use Rattle.span_types.specs.declared.spans.Span.{Span}
 use Rattle.disk_model.specs.Images.{Image, bytes_of}
 use Rattle.disk_model.specs.declared.disk.Device.{Ghosts}
 use Rattle.disk_model.proofs.Moments.{started}
@@ -8,7 +7,6 @@ use Rattle.store_model.specs.Told.{asked_entry}
 use Rattle.store_entries.specs.declared.entry.Entry.{Entry}
 use Rattle.store_model.specs.State.{is_among}
 use Rattle.store_model.specs.Event.{Event, Reply}
-use Rattle.store_model.specs.Event.Event.{Push}
 use Rattle.store_model.specs.Event.Reply.{Refused}
 use Rattle.store_model.specs.Event.Refusal.{Fault}
 use Rattle.store_model.specs.Step.{Machine, Step}

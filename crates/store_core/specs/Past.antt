@@ -1,5 +1,5 @@
 -- What a crash may have left since a core was opened.
-use Rattle.std.specs.Prelude.{◌⊎◌, ◌≤◌, ℕ, List, Option, IsTrue}
+use Rattle.std.specs.Prelude.{◌⊎◌, ◌≤◌, ℕ, Option, IsTrue}
 use Rattle.disk_model.specs.Images.{Image}
 use Rattle.disk_model.specs.Crash.{LeavesOnly}
 use Rattle.disk_model.specs.declared.disk.Device.{Ghosts}
