@@ -1,4 +1,5 @@
 pub mod BytesLemmas
+mod Counting
 mod FilesLemmas
 pub mod Moments
 pub mod Passing

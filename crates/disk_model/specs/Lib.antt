@@ -1,5 +1,6 @@
 pub mod Bytes
 pub mod BytesLaws
+pub mod Calls
 pub mod Counts
 pub mod Crash
 pub mod Files

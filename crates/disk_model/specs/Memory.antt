@@ -30,6 +30,10 @@ calls_of disk = disk.calls
 abbrev pub reads_of : MemDisk → ℕ
 reads_of disk = disk.reads
 
+-- how many writes were asked for whose end is 2^63 or more
+abbrev pub far_writes_of : MemDisk → ℕ
+far_writes_of disk = disk.far_writes
+
 -- a disk that holds the files of an image, all of it synced, and none of whose calls is to fail
 abbrev pub fresh : Image → MemDisk
 fresh image = record {
@@ -39,6 +43,7 @@ fresh image = record {
   starved = 0;
   reads = 0;
   calls = 0;
+  far_writes = 0;
 }
 
 -- the disk after a call that passed
@@ -52,6 +57,10 @@ failed disk = record (passed disk) { faults = raised disk.faults }
 -- the disk after a call that failed because memory ran out
 abbrev pub starving : MemDisk → MemDisk
 starving disk = record (failed disk) { starved = raised disk.starved }
+
+-- the disk after a write that ends at 2^63 or more
+abbrev pub refused : MemDisk → MemDisk
+refused disk = record (failed disk) { far_writes = raised disk.far_writes }
 
 -- with one call of `read` more
 abbrev pub read_once : MemDisk → MemDisk
@@ -68,6 +77,12 @@ listing calls disk = record disk { script = record disk.script { listed = calls;
 -- with that many calls left before all fail
 abbrev pub stopping : ℕ → MemDisk → MemDisk
 stopping calls disk = record disk { script = record disk.script { left = Some calls } }
+
+-- What a call comes to that changes no file: it fails just where it is listed or stopped. `counted` is what it counts
+-- beside that.
+pub data Answer {T E : Type 0} (old : MemDisk) (counted : MemDisk → MemDisk) (result : Result T E) (new : MemDisk) : Type 0 where
+  passes : next_fate old ≡ Passes → IsOk result → new ≡ counted (passed old) → Answer old counted result new
+  fails : next_fate old ≢ Passes → IsErr result → new ≡ counted (failed old) → Answer old counted result new
 
 -- What a write, a cut or a sync comes to. `done` is what it makes of the disk, and `lost` what it leaves pending where
 -- it is listed.

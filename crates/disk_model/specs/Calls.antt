@@ -1,0 +1,21 @@
+-- What a run of calls makes of a disk's counts, and what it leaves alone.
+use Rattle.std.specs.Prelude.{◌≡◌, ℕ, ◌^◌, ◌<◌, ◌≤◌, Result, IsOk, IsErr}
+use Rattle.disk_model.specs.Counts.{MakesCalls}
+use Rattle.disk_model.specs.Script.{raised}
+use Rattle.disk_model.specs.declared.disk.Device.{Ghosts}
+
+-- A run that fails with its first failed call: no call failed where it is fine, and just one where it failed. None of
+-- its writes ends after `end`. Whether the disk tells its bytes stays.
+pub record Counts {D : Type 0} (g : Ghosts D) (end : ℕ) (fine failed : Type 0) (old new : D) : Type 0 where
+  pub telling : g.tells new ≡ g.tells old
+  pub later : g.faults old ≤ g.faults new
+  pub quiet : fine → g.faults new ≡ g.faults old
+  pub fault : failed → g.faults new ≡ raised (g.faults old)
+  pub near : end < 2 ^ 63 → g.far_writes new ≡ g.far_writes old
+
+-- A run of at most so many calls, and of just so many where it succeeds, none of them a read. It fails with its first
+-- failed call, and none of its writes ends after `end`.
+pub record Calls {D T E : Type 0} (g : Ghosts D) (count end : ℕ) (old new : D) (result : Result T E) : Type 0 where
+  pub counts : Counts g end (IsOk result) (IsErr result) old new
+  pub calls : MakesCalls count (g.calls old) (g.calls new) result
+  pub no_read : g.reads new ≡ g.reads old
