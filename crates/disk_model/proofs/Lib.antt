@@ -1,4 +1,5 @@
 pub mod BytesLemmas
+pub mod CallRuns
 mod Counting
 mod FilesLemmas
 pub mod Moments

@@ -1,7 +1,6 @@
 -- What a run of calls makes of a disk's counts, and what it leaves alone.
 use Rattle.std.specs.Prelude.{◌≡◌, ℕ, ◌^◌, ◌<◌, ◌≤◌, Result, IsOk, IsErr}
-use Rattle.disk_model.specs.Counts.{MakesCalls}
-use Rattle.disk_model.specs.Script.{raised}
+use Rattle.disk_model.specs.Counts.{Raised, MakesCalls}
 use Rattle.disk_model.specs.declared.disk.Device.{Ghosts}
 
 -- A run that fails with its first failed call: no call failed where it is fine, and just one where it failed. None of
@@ -10,7 +9,7 @@ pub record Counts {D : Type 0} (g : Ghosts D) (end : ℕ) (fine failed : Type 0)
   pub telling : g.tells new ≡ g.tells old
   pub later : g.faults old ≤ g.faults new
   pub quiet : fine → g.faults new ≡ g.faults old
-  pub fault : failed → g.faults new ≡ raised (g.faults old)
+  pub fault : failed → Raised (g.faults old) (g.faults new)
   pub near : end < 2 ^ 63 → g.far_writes new ≡ g.far_writes old
 
 -- A run of at most so many calls, and of just so many where it succeeds, none of them a read. It fails with its first

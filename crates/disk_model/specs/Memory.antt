@@ -1,5 +1,5 @@
 -- The calls of a disk in memory.
-use Rattle.std.specs.Prelude.{◌≡◌, ◌≢◌, ℕ, Some, None, List, [], Result, IsOk, IsErr}
+use Rattle.std.specs.Prelude.{◌≡◌, ◌≢◌, ℕ, ◌^◌, ◌<◌, Some, None, List, [], Result, IsOk, IsErr}
 use Rattle.disk_model.specs.Images.{Image}
 use Rattle.disk_model.specs.History.{Past, added}
 use Rattle.disk_model.specs.Script.{raised, fate_of, counted}
@@ -33,6 +33,13 @@ reads_of disk = disk.reads
 -- how many writes were asked for whose end is 2^63 or more
 abbrev pub far_writes_of : MemDisk → ℕ
 far_writes_of disk = disk.far_writes
+
+-- its counts have 64 bits
+pub record CountsFit (disk : MemDisk) : Type 0 where
+  pub faults : disk.faults < 2 ^ 64
+  pub reads : disk.reads < 2 ^ 64
+  pub calls : disk.calls < 2 ^ 64
+  pub far_writes : disk.far_writes < 2 ^ 64
 
 -- a disk that holds the files of an image, all of it synced, and none of whose calls is to fail
 abbrev pub fresh : Image → MemDisk
@@ -81,8 +88,8 @@ stopping calls disk = record disk { script = record disk.script { left = Some ca
 -- What a call comes to that changes no file: it fails just where it is listed or stopped. `counted` is what it counts
 -- beside that.
 pub data Answer {T E : Type 0} (old : MemDisk) (counted : MemDisk → MemDisk) (result : Result T E) (new : MemDisk) : Type 0 where
-  passes : next_fate old ≡ Passes → IsOk result → new ≡ counted (passed old) → Answer old counted result new
-  fails : next_fate old ≢ Passes → IsErr result → new ≡ counted (failed old) → Answer old counted result new
+  given : next_fate old ≡ Passes → IsOk result → new ≡ counted (passed old) → Answer old counted result new
+  failing : next_fate old ≢ Passes → IsErr result → new ≡ counted (failed old) → Answer old counted result new
 
 -- What a write, a cut or a sync comes to. `done` is what it makes of the disk, and `lost` what it leaves pending where
 -- it is listed.

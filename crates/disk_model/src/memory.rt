@@ -29,7 +29,7 @@ pub struct MemDisk {
 }
 
 impl MemDisk {
-    ghost use Rattle.disk_model.specs.Memory.{fresh, listing, stopping, starved_of, reads_of, far_writes_of, past_of, next_fate, passed, refused, read_once, noted, Answer, Outcome};
+    ghost use Rattle.disk_model.specs.Memory.{fresh, listing, stopping, starved_of, reads_of, calls_of, far_writes_of, past_of, next_fate, passed, refused, read_once, noted, CountsFit, Answer, Outcome};
     ghost use Rattle.disk_model.specs.Images.{bytes_of};
     ghost use Rattle.disk_model.specs.Files.{settled};
     ghost use Rattle.disk_model.specs.History.{MayLeave, state_of, files_now, held_now};
@@ -97,6 +97,13 @@ impl MemDisk {
         ensures { result ≡ reads_of self.now }
     {
         self.reads
+    }
+
+    /// How many calls of the device were made.
+    pub fn calls(&self) -> u64
+        ensures { result ≡ calls_of self.now }
+    {
+        self.calls
     }
 
     /// How many writes were asked for whose end is 2^63 or more.
@@ -172,6 +179,13 @@ impl MemDisk {
                 Err(_) => self.starve(),
             },
         }
+    }
+
+    /// Its counts have 64 bits. This does nothing: its contract is what it is for.
+    fn counts_fit(&self)
+        ensures { CountsFit self.now }
+    {
+        let _ = Device::faults(self) | self.reads() | self.calls() | self.far_writes();
     }
 
     /// Counts a call, and answers what becomes of it.
@@ -253,22 +267,27 @@ impl Device for MemDisk {
     ghost held_may_stay = { λ disk told. held_stays disk.history };
 
     fn len(&mut self, file: u32) -> Result<u64, Failed> {
+        self.counts_fit();
         MemDisk::len(self, file)
     }
 
     fn read(&mut self, file: u32, at: u64, buf: &mut [u8]) -> Result<usize, Failed> {
+        self.counts_fit();
         MemDisk::read(self, file, at, buf)
     }
 
     fn write(&mut self, file: u32, at: u64, bytes: &[u8]) -> Result<(), Failed> {
+        self.counts_fit();
         MemDisk::write(self, file, at, bytes)
     }
 
     fn cut(&mut self, file: u32, len: u64) -> Result<(), Failed> {
+        self.counts_fit();
         MemDisk::cut(self, file, len)
     }
 
     fn sync(&mut self, file: u32) -> Result<(), Failed> {
+        self.counts_fit();
         MemDisk::sync(self, file)
     }
 
