@@ -1,10 +1,9 @@
 -- How the counts of runs of calls join, and those of one call.
-use Rattle.std.proofs.Common.{◌≡◌, ℕ, ◌+◌, ◌^◌, ◌<◌, ◌≤◌, Result, Ok, Err, IsOk, IsErr, refl, sym, ◌∙◌, ap, subst, arith}
+use Rattle.std.proofs.Common.{◌≡◌, ℕ, ◌+◌, ◌^◌, ◌<◌, ◌≤◌, Result, Ok, Err, IsOk, IsErr, refl, ◌∙◌, subst, arith}
 use Rattle.span_types.specs.Faults.{Rose}
-use Rattle.disk_model.specs.Counts.{Kind, Plain, Reading, Writing, IsNear, Raised, RoseBy, MakesCalls, CountsRead, IsOneCall}
+use Rattle.disk_model.specs.Counts.{Kind, Plain, Writing, IsNear, Raised, RoseBy, MakesCalls, IsOneCall}
 use Rattle.disk_model.specs.Calls.{Counts, Calls}
 use Rattle.disk_model.specs.Crash.{HasCause}
-use Rattle.disk_model.specs.Script.{raised}
 use Rattle.disk_model.proofs.Counting.{not_both}
 use Rattle.disk_model.specs.declared.disk.Device.{Ghosts}
 

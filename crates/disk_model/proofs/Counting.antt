@@ -1,5 +1,5 @@
 -- A disk in memory counts its calls as a device does.
-use Rattle.std.proofs.Common.{◌≡◌, ℕ, ◌^◌, ◌<◌, ◌≤◌, Bool, true, Result, Ok, Err, IsOk, IsErr, refl, sym, ◌∙◌, ap, subst, arith}
+use Rattle.std.proofs.Common.{◌≡◌, ℕ, ◌^◌, ◌<◌, ◌≤◌, true, Result, Ok, Err, IsOk, IsErr, refl, sym, ◌∙◌, ap, subst, arith}
 use Rattle.disk_model.specs.Counts.{Kind, Plain, Reading, Writing, IsFar, Raised, CountsRead, IsOneCall}
 use Rattle.disk_model.specs.History.{Past}
 use Rattle.disk_model.specs.Memory.{CountsFit, Answer, Outcome, past_of, faults_of, calls_of, reads_of, far_writes_of, passed, failed, refused, read_once, noted}

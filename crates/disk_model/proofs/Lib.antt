@@ -8,3 +8,4 @@ mod PicksLemmas
 pub mod Runs
 mod Steps
 mod Torn
+pub mod Untold

@@ -1,5 +1,5 @@
 -- What the trait says of a call, from what the call made of the disk.
-use Rattle.std.proofs.Common.{◌≡◌, inl, inr, ℕ, ◌+◌, ◌-◌, ◌<◌, ◌≤◌, ◌^◌, min, max, Bool, cond, eqb, List, [], ◌∷◌, ◌++◌, length, take, Result, Ok, Err, IsOk, IsErr, OnOk, refl, sym, ◌∙◌, ap, subst, arith}
+use Rattle.std.proofs.Common.{◌≡◌, inl, inr, ℕ, ◌<◌, ◌≤◌, max, Bool, cond, eqb, List, [], ◌∷◌, ◌++◌, length, take, Result, Ok, Err, IsOk, IsErr, OnOk, refl, sym, ◌∙◌, ap, subst, arith}
 use Rattle.std.proofs.lemmas.Bool.{cases_eq, cases_lt, eq-eqb, ne_eqb}
 use Rattle.std.proofs.lemmas.List.{take_all, take-append-le, length_push}
 use Rattle.disk_model.specs.Images.{Image, bytes_of, Besides, SameBytes, OnFile}

@@ -10,3 +10,4 @@ pub mod Images
 pub mod Memory
 pub mod Picks
 pub mod Script
+pub mod Untold

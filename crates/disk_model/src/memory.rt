@@ -301,7 +301,7 @@ impl Device for MemDisk {
 }
 
 /// Whether a write of that many bytes ends below 2^63.
-fn ends_below(at: u64, len: usize) -> bool
+pub fn ends_below(at: u64, len: usize) -> bool
     ensures { IsTrue result ↔ (at + len < 2 ^ 63) }
 {
     match at.checked_add(len as u64) {

@@ -1,9 +1,9 @@
 -- What the trait says of a write, from what it made of the disk.
-use Rattle.std.proofs.Common.{◌+◌, ◌^◌, ◌<◌, ◌≤◌, inl, inr, length, refl, sym, ap, subst, arith}
+use Rattle.std.proofs.Common.{◌+◌, ◌^◌, inl, inr, length, refl, sym, ap, subst, arith}
 use Rattle.std.proofs.lemmas.Bool.{cases_lt}
 use Rattle.disk_model.specs.Counts.{Writing}
 use Rattle.disk_model.specs.Images.{Besides, OnFile, SameBytes}
-use Rattle.disk_model.specs.Bytes.{overwritten, Torn}
+use Rattle.disk_model.specs.Bytes.{Torn}
 use Rattle.disk_model.specs.Crash.{Elapses, Follows, Within}
 use Rattle.disk_model.specs.History.{Past, MayLeave, LeftSince, held_now}
 use Rattle.disk_model.specs.Memory.{noted, past_of}
