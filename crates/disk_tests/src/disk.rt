@@ -238,12 +238,7 @@ fn each_other_pick_is_a_mixture_of_its_own(rt: HostRuntime) -> Result<(), Fail> 
 
 /// What a disk counted: its calls, its reads, its faults, and its writes that ended too far.
 fn counts(disk: &MemDisk) -> [u64; 4] {
-    [
-        disk.calls(),
-        disk.reads(),
-        disk.faults(),
-        disk.far_writes(),
-    ]
+    [disk.calls(), disk.reads(), disk.faults(), disk.far_writes()]
 }
 
 #[test]
@@ -260,7 +255,8 @@ fn each_call_is_counted(rt: HostRuntime) -> Result<(), Fail> {
     assert_eq!(rt; run(&mut disk, &far), 2);
     assert_eq!(rt; counts(&disk), [7, 2, 3, 2]);
     disk.stop_after(0);
-    assert_eq!(rt; run(&mut disk, &[Step::Write(0, FAR, &[1]), Step::Write(0, 0, &[1])]), 2);
+    let stopped = [Step::Write(0, FAR, &[1]), Step::Write(0, 0, &[1])];
+    assert_eq!(rt; run(&mut disk, &stopped), 2);
     assert_eq!(rt; counts(&disk), [9, 2, 5, 3]);
     Ok(())
 }
@@ -269,7 +265,11 @@ fn each_call_is_counted(rt: HostRuntime) -> Result<(), Fail> {
 fn given(disk: &mut OddDisk, count: usize) -> Result<[u8; 4], Failed> {
     let mut bytes = [9u8; 4];
     let read = disk.read(0, 0, bytes.get_mut(..count).ok_or(Failed)?)?;
-    if read == count { Ok(bytes) } else { Err(Failed) }
+    if read == count {
+        Ok(bytes)
+    } else {
+        Err(Failed)
+    }
 }
 
 #[test]
