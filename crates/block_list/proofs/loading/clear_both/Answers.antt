@@ -1,4 +1,4 @@
-use Rattle.std.proofs.Common.{◌≡◌, ◌≢◌, IsTrue, sym, ◌∙◌, subst, arith}
+use Rattle.std.proofs.Common.{◌≡◌, ◌≢◌, ℕ, List, IsTrue, sym, ◌∙◌, subst, arith}
 use Rattle.disk_model.specs.Images.{bytes_of}
 use Rattle.disk_model.specs.Crash.{OnlyBytes}
 use Rattle.disk_model.proofs.Runs.{run_on}
@@ -10,7 +10,8 @@ pub clear_vacant-requires-2-clause-only : goal.clear_vacant-requires-2-clause-on
 clear_vacant-requires-2-clause-only g c = λ told_later.
     let told : IsTrue (g.D.Device.tells c.args.disk.now) = subst IsTrue c.clear_vacant.ensures.counted.telling told_later in
     let differs : 1 ≢ 0 = omega arith in
-    c.clear_vacant.ensures.other_images 1 c.args.second.now differs (c.requires.only_1 told)
+    let same = c.clear_vacant.ensures.besides told 1 differs in
+    subst (λ (l : List ℕ). OnlyBytes 1 l (g.D.Device.may_leave c.clear_vacant.new.disk)) (sym same) (c.clear_vacant.ensures.other_images 1 _ differs (c.requires.only_1 told))
 
 pub returns-clause-kept : goal.returns-clause-kept
 returns-clause-kept g c = λ told.
