@@ -30,6 +30,6 @@ loop-preserved g c =
           front_more all c.loop.bytes.items c.read_more.new.bytes.items c.in_ok-read_more.field-0 (h.0 told) is (omega (arith, count)),
       untouched_then D.tells D.held D.may_leave D.moment D.left_since c.args.disk.now c.loop.disk c.read_more.new.disk h.1 e.untouched,
       counts_then D 0 (Unit {0}) ⊥ (Unit {0}) ⊥ c.args.disk.now c.loop.disk c.read_more.new.disk h.2 tt
-      (fault_fine D 0 unread.Fault c.loop.disk c.read_more.new.disk _ e.counted (λ is. absurd (cc))),
+          (fault_fine D 0 unread.Fault c.loop.disk c.read_more.new.disk _ e.counted (λ is. absurd (cc))),
       omega (arith, h.3, c.read_more.auto.block),
     )
