@@ -143,11 +143,7 @@ fn sync_slots<D: Device>(disk: &mut D) -> Result<(), Failed>
 const HEAD: usize = 30;
 
 /// The bytes of a slot that count. Of a file that is longer than its list no more is read, however long it is.
-fn read_counting<D: Device>(
-    alloc: Global,
-    disk: &mut D,
-    file: u32,
-) -> Result<Vec<u8>, ListError>
+fn read_counting<D: Device>(alloc: Global, disk: &mut D, file: u32) -> Result<Vec<u8>, ListError>
     ensures bytes { IsTrue (D.tells disk.old) → IfOk result (λ bytes. bytes.items ≡ counting (bytes_of (D.held disk.old) file)) }
     ensures untouched { Untouched D.tells D.held D.may_leave D.moment D.left_since disk.old disk.new }
     ensures counted { CountsFault D.Device.own 0 Fault disk.old disk.new result }
