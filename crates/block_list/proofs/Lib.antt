@@ -2,6 +2,7 @@ pub mod Again
 pub mod AgainSlots
 pub mod BodyLemmas
 pub mod CommitLemmas
+pub mod Fronts
 pub mod LoadLemmas
 pub mod Meaning
 pub mod ReadingLemmas

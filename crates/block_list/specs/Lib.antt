@@ -1,5 +1,6 @@
 pub mod Body
 pub mod Commit
+pub mod Fronts
 pub mod Loading
 pub mod ListText
 pub mod Reading

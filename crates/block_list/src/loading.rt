@@ -1,17 +1,18 @@
 //! The list that counts is read from the two slots.
 
-ghost use Rattle.std.specs.Prelude.{◌≡◌, ◌≢◌, ◌⊎◌, ◌<◌, ◌≤◌, ℕ, List, Option, Some, None, Ok, Err, IsTrue, IfOk, IfErr, OnOk};
-ghost use Rattle.span_types.specs.Faults.{Rose};
+ghost use Rattle.std.specs.Prelude.{◌≡◌, ◌≢◌, ◌⊎◌, ◌<◌, ◌≤◌, ℕ, List, length, take, Option, Some, None, Ok, Err, IsTrue, IsOk, IsErr, IfOk, IfErr, OnOk};
 ghost use Rattle.disk_model.specs.Images.{Image, bytes_of, Besides, SameBytes};
-ghost use Rattle.disk_model.specs.Crash.{OnlyBytes, Run, Untouched, HasCause};
+ghost use Rattle.disk_model.specs.Calls.{Calls, Counts, CountsFault};
+ghost use Rattle.disk_model.specs.Crash.{OnlyBytes, Run, Untouched};
 ghost use Rattle.block_list.specs.Body.{MeetsRules};
+ghost use Rattle.block_list.specs.Fronts.{counting};
 ghost use Rattle.block_list.specs.Slots.{SlotsHold, ImageHoldsList, IsNext};
 ghost use Rattle.block_list.specs.Reading.{slots_at, newer_of, generation_of};
 ghost use Rattle.block_list.specs.Loading.{GivesList, error_of, StaysOrClears, KeepsList, IsFree, IsReady, cleared};
 ghost use Rattle.block_list.specs.declared.body.ListBody.{ListBody};
 ghost use Rattle.block_list.specs.declared.error.ListError.TheVariants.{Fault, NotList, Memory};
 
-use crate::reading::{Break, is_vacant, read_slot};
+use crate::reading::{Break, is_to_clear, list_size, read_slot};
 use crate::{ListBody, ListError};
 use disk_model::{Device, cut_through};
 use span_types::Failed;
@@ -55,10 +56,8 @@ pub fn load<D: Device>(alloc: Global, disk: &mut D) -> Result<Option<ListBody>, 
     ensures left_alone { IfErr result (λ error. error ≢ Fault
         → Untouched D.tells D.held D.may_leave D.moment D.left_since disk.old disk.new) }
 
-    ensures time { D.moment disk.old ≤ D.moment disk.new }
-    ensures telling { D.tells disk.new ≡ D.tells disk.old }
-    ensures later { D.faults disk.old ≤ D.faults disk.new }
-    ensures fault { result ≡ Err Fault → Rose (D.faults disk.old) (D.faults disk.new) }
+    // A fault is answered just where a call failed, and it was the last one. Nothing is written.
+    ensures counted { CountsFault D.Device.own 0 Fault disk.old disk.new result }
 {
     let (first, second) = read_both(alloc, disk)?;
     let list = read_slots(alloc, &first, &second)?;
@@ -134,22 +133,47 @@ fn sync_slots<D: Device>(disk: &mut D) -> Result<(), Failed>
     ensures slot_0 { IsTrue (D.tells disk.old) → OnOk result (OnlyBytes 0 (bytes_of (D.held disk.new) 0) (D.may_leave disk.new)) }
     ensures slot_1 { IsTrue (D.tells disk.old) → OnOk result (OnlyBytes 1 (bytes_of (D.held disk.new) 1) (D.may_leave disk.new)) }
     ensures untouched { Untouched D.tells D.held D.may_leave D.moment D.left_since disk.old disk.new }
-    ensures cause { HasCause (D.faults disk.old) (D.faults disk.new) result }
+    ensures counted { Calls D.Device.own 2 0 disk.old disk.new result }
 {
     disk.sync(0)?;
     disk.sync(1)
 }
 
-/// All bytes of a file.
-fn read_file<D: Device>(alloc: Global, disk: &mut D, file: u32) -> Result<Vec<u8>, ListError>
-    ensures bytes { IsTrue (D.tells disk.old) → IfOk result (λ bytes. bytes.items ≡ bytes_of (D.held disk.old) file) }
+/// How many bytes the gate and the fixed fields of a list take.
+const HEAD: usize = 30;
+
+/// The bytes of a slot that count. Of a file that is longer than its list no more is read, however long it is.
+fn read_counting<D: Device>(alloc: Global, disk: &mut D, file: u32) -> Result<Vec<u8>, ListError>
+    ensures bytes { IsTrue (D.tells disk.old) → IfOk result (λ bytes. bytes.items ≡ counting (bytes_of (D.held disk.old) file)) }
     ensures untouched { Untouched D.tells D.held D.may_leave D.moment D.left_since disk.old disk.new }
-    ensures later { D.faults disk.old ≤ D.faults disk.new }
-    ensures fault { result ≡ Err Fault → Rose (D.faults disk.old) (D.faults disk.new) }
+    ensures counted { CountsFault D.Device.own 0 Fault disk.old disk.new result }
     ensures errors { IfErr result (λ error. (error ≡ Fault) ⊎ (error ≡ Memory)) }
 {
-    let len = disk.len(file)?;
-    let Ok(mut bytes) = vec![in alloc; 0; len as usize] else {
+    let head = read_first(alloc, disk, file, HEAD)?;
+    if head.len() < HEAD {
+        return Ok(head);
+    }
+    let size = match list_size(alloc, &head) {
+        Ok(size) => size.min(disk.len(file)?),
+        Err(_) => return Err(ListError::Memory),
+    };
+    read_first(alloc, disk, file, size as usize)
+}
+
+/// The first bytes of a file, as many as are asked for or as there are.
+fn read_first<D: Device>(
+    alloc: Global,
+    disk: &mut D,
+    file: u32,
+    count: usize,
+) -> Result<Vec<u8>, ListError>
+    ensures bytes { IsTrue (D.tells disk.old) → IfOk result (λ bytes. bytes.items ≡ take count (bytes_of (D.held disk.old) file)) }
+    ensures few { IfOk result (λ bytes. length bytes.items ≤ count) }
+    ensures untouched { Untouched D.tells D.held D.may_leave D.moment D.left_since disk.old disk.new }
+    ensures counted { CountsFault D.Device.own 0 Fault disk.old disk.new result }
+    ensures errors { IfErr result (λ error. (error ≡ Fault) ⊎ (error ≡ Memory)) }
+{
+    let Ok(mut bytes) = vec![in alloc; 0; count] else {
         return Err(ListError::Memory);
     };
     let count = disk.read(file, 0, &mut bytes)?;
@@ -157,61 +181,56 @@ fn read_file<D: Device>(alloc: Global, disk: &mut D, file: u32) -> Result<Vec<u8
     Ok(bytes)
 }
 
-/// Cuts a vacant slot of 30 bytes or more to its first byte, and syncs it.
+/// Cuts a vacant slot of 30 bytes or more to its first byte, and syncs it. These are its bytes that count.
 fn clear_vacant<D: Device>(disk: &mut D, slot: u32, bytes: &[u8]) -> Result<(), Failed>
     requires slot { slot < 2 }
-    requires only { IsTrue (D.tells disk.old) → OnlyBytes slot bytes.now (D.may_leave disk.old) }
-    requires held { IsTrue (D.tells disk.old) → bytes_of (D.held disk.old) slot ≡ bytes.now }
+    requires only { IsTrue (D.tells disk.old) → OnlyBytes slot (bytes_of (D.held disk.old) slot) (D.may_leave disk.old) }
+    requires bytes { IsTrue (D.tells disk.old) → bytes.now ≡ counting (bytes_of (D.held disk.old) slot) }
     ensures kept { IsTrue (D.tells disk.old) → Run KeepsList D.moment D.left_since D.may_leave disk.old disk.new }
     ensures only { IsTrue (D.tells disk.old) → OnOk result (OnlyBytes slot (bytes_of (D.held disk.new) slot) (D.may_leave disk.new)) }
-    ensures cleared { IsTrue (D.tells disk.old) → OnOk result (bytes_of (D.held disk.new) slot ≡ cleared bytes.now) }
+    ensures cleared { IsTrue (D.tells disk.old) → OnOk result (bytes_of (D.held disk.new) slot ≡ cleared (bytes_of (D.held disk.old) slot)) }
     ensures free { IsTrue (D.tells disk.old) → OnOk result (IsFree (bytes_of (D.held disk.new) slot)) }
     ensures besides { IsTrue (D.tells disk.old) → Besides slot (D.held disk.old) (D.held disk.new) }
     ensures other_images { (other : ℕ) (bytes : List ℕ) → other ≢ slot → OnlyBytes other bytes (D.may_leave disk.old) → OnlyBytes other bytes (D.may_leave disk.new) }
-    ensures time { D.moment disk.old ≤ D.moment disk.new }
-    ensures telling { D.tells disk.new ≡ D.tells disk.old }
-    ensures cause { HasCause (D.faults disk.old) (D.faults disk.new) result }
+    ensures counted { Counts D.Device.own 0 (IsOk result) (IsErr result) disk.old disk.new }
 {
-    if is_vacant(bytes) && bytes.len() >= 30 {
+    if is_to_clear(bytes) {
         return cut_through(disk, slot, 1);
     }
     Ok(())
 }
 
-/// The bytes of both slots, which are synced first.
+/// The bytes of both slots that count. The slots are synced first.
 fn read_both<D: Device>(alloc: Global, disk: &mut D) -> Result<(Vec<u8>, Vec<u8>), ListError>
-    ensures first { IsTrue (D.tells disk.old) → IfOk result (λ both. both.0.items ≡ bytes_of (D.held disk.old) 0) }
-    ensures second { IsTrue (D.tells disk.old) → IfOk result (λ both. both.1.items ≡ bytes_of (D.held disk.old) 1) }
+    ensures first { IsTrue (D.tells disk.old) → IfOk result (λ both. both.0.items ≡ counting (bytes_of (D.held disk.old) 0)) }
+    ensures second { IsTrue (D.tells disk.old) → IfOk result (λ both. both.1.items ≡ counting (bytes_of (D.held disk.old) 1)) }
     ensures slot_0 { IsTrue (D.tells disk.old) → OnOk result (OnlyBytes 0 (bytes_of (D.held disk.old) 0) (D.may_leave disk.new)) }
     ensures slot_1 { IsTrue (D.tells disk.old) → OnOk result (OnlyBytes 1 (bytes_of (D.held disk.old) 1) (D.may_leave disk.new)) }
     ensures untouched { Untouched D.tells D.held D.may_leave D.moment D.left_since disk.old disk.new }
-    ensures later { D.faults disk.old ≤ D.faults disk.new }
-    ensures fault { result ≡ Err Fault → Rose (D.faults disk.old) (D.faults disk.new) }
+    ensures counted { CountsFault D.Device.own 0 Fault disk.old disk.new result }
     ensures errors { IfErr result (λ error. (error ≡ Fault) ⊎ (error ≡ Memory)) }
 {
     sync_slots(disk)?;
-    let first = read_file(alloc, disk, 0)?;
-    let second = read_file(alloc, disk, 1)?;
+    let first = read_counting(alloc, disk, 0)?;
+    let second = read_counting(alloc, disk, 1)?;
     Ok((first, second))
 }
 
-/// Clears each slot, if it is vacant and long. These are their bytes.
+/// Clears each slot, if it is vacant and long. These are their bytes that count.
 fn clear_both<D: Device>(disk: &mut D, first: &[u8], second: &[u8]) -> Result<(), Failed>
-    requires only_0 { IsTrue (D.tells disk.old) → OnlyBytes 0 first.now (D.may_leave disk.old) }
-    requires only_1 { IsTrue (D.tells disk.old) → OnlyBytes 1 second.now (D.may_leave disk.old) }
-    requires held_0 { IsTrue (D.tells disk.old) → bytes_of (D.held disk.old) 0 ≡ first.now }
-    requires held_1 { IsTrue (D.tells disk.old) → bytes_of (D.held disk.old) 1 ≡ second.now }
+    requires only_0 { IsTrue (D.tells disk.old) → OnlyBytes 0 (bytes_of (D.held disk.old) 0) (D.may_leave disk.old) }
+    requires only_1 { IsTrue (D.tells disk.old) → OnlyBytes 1 (bytes_of (D.held disk.old) 1) (D.may_leave disk.old) }
+    requires first { IsTrue (D.tells disk.old) → first.now ≡ counting (bytes_of (D.held disk.old) 0) }
+    requires second { IsTrue (D.tells disk.old) → second.now ≡ counting (bytes_of (D.held disk.old) 1) }
     ensures kept { IsTrue (D.tells disk.old) → Run KeepsList D.moment D.left_since D.may_leave disk.old disk.new }
     ensures slot_0 { IsTrue (D.tells disk.old) → OnOk result (OnlyBytes 0 (bytes_of (D.held disk.new) 0) (D.may_leave disk.new)) }
     ensures slot_1 { IsTrue (D.tells disk.old) → OnOk result (OnlyBytes 1 (bytes_of (D.held disk.new) 1) (D.may_leave disk.new)) }
-    ensures cleared_0 { IsTrue (D.tells disk.old) → OnOk result (bytes_of (D.held disk.new) 0 ≡ cleared first.now) }
-    ensures cleared_1 { IsTrue (D.tells disk.old) → OnOk result (bytes_of (D.held disk.new) 1 ≡ cleared second.now) }
+    ensures cleared_0 { IsTrue (D.tells disk.old) → OnOk result (bytes_of (D.held disk.new) 0 ≡ cleared (bytes_of (D.held disk.old) 0)) }
+    ensures cleared_1 { IsTrue (D.tells disk.old) → OnOk result (bytes_of (D.held disk.new) 1 ≡ cleared (bytes_of (D.held disk.old) 1)) }
     ensures free_0 { IsTrue (D.tells disk.old) → OnOk result (IsFree (bytes_of (D.held disk.new) 0)) }
     ensures free_1 { IsTrue (D.tells disk.old) → OnOk result (IsFree (bytes_of (D.held disk.new) 1)) }
     ensures others { IsTrue (D.tells disk.old) → (file : ℕ) → 2 ≤ file → bytes_of (D.held disk.new) file ≡ bytes_of (D.held disk.old) file }
-    ensures time { D.moment disk.old ≤ D.moment disk.new }
-    ensures telling { D.tells disk.new ≡ D.tells disk.old }
-    ensures cause { HasCause (D.faults disk.old) (D.faults disk.new) result }
+    ensures counted { Counts D.Device.own 0 (IsOk result) (IsErr result) disk.old disk.new }
 {
     clear_vacant(disk, 0, first)?;
     clear_vacant(disk, 1, second)

@@ -1,7 +1,8 @@
 //! A slot's fields are read and tested, in the order of the bytes.
 
-ghost use Rattle.std.specs.Prelude.{◌≡◌, ◌||◌, ◌%◌, ℕ, List, [], ◌++◌, Some, None, Option, map, nat_eq, not, true, false, Ok, Err, IfOk, IfSome, IfErr, OnOk, ◌∷◌, ◌==◌};
+ghost use Rattle.std.specs.Prelude.{length, ◌≡◌, ◌||◌, ◌%◌, ℕ, List, [], ◌++◌, Some, None, Option, map, nat_eq, not, true, false, Ok, Err, IfOk, IfSome, IfErr, OnOk, ◌∷◌, ◌==◌};
 ghost use Rattle.std.specs.List.{list_any};
+ghost use Rattle.block_list.specs.Fronts.{size_in, is_to_clear};
 ghost use Rattle.block_list.specs.Reading.{GivesAt, read8, read32, read64, tag_at, generation_at, count_at, head_at, file_at, first_number_at, segment_ref_at, segments_at, level_at, rows_at, block_at, blocks_at, loose_at, list_body_at, slot_at, is_vacant, GivesSlot, are_neighbours, goes_on, tag, offset_of, SameFiles, WithFile};
 
 use crate::{BlockList, BlockRef, FileList, ListBody, SegmentList, SegmentRef};
@@ -328,6 +329,26 @@ fn read_list(
         blocks: BlockList::of(blocks),
         loose: FileList::of(loose),
     })
+}
+
+/// How many bytes a slot's list takes, by these bytes, which are its first 30.
+#[tactic(auto, using(crate::proofs::Fronts::count_taken))]
+pub fn list_size(alloc: Global, head: &[u8]) -> Result<u64, Break>
+    requires { length head.now ≡ 30 }
+    ensures { IfOk result (λ size. size ≡ size_in head.now) }
+{
+    let mut reader = Reader::starting_at(alloc, head, 18);
+    let segments = number32(&mut reader)?;
+    let blocks = number32(&mut reader)?;
+    let loose = number32(&mut reader)?;
+    Ok(30 + 12 * u64::from(segments) + 9 * u64::from(blocks) + 4 * u64::from(loose))
+}
+
+/// Whether a slot is vacant, though long enough for a list.
+pub fn is_to_clear(bytes: &[u8]) -> bool
+    ensures { result ≡ is_to_clear bytes.now }
+{
+    is_vacant(bytes) && bytes.len() >= 30
 }
 
 /// Whether a slot holds no list.

@@ -6,8 +6,8 @@ use block_list::{
     BlockList, BlockRef, FileList, ListBody, ListError, SegmentList, SegmentRef, commit, load,
     next_generation, prepare,
 };
-use disk_model::{Device, MemDisk, write_through};
-use span_types::Calls;
+use disk_model::{ByteLists, Device, MemDisk, OddDisk, write_through};
+use span_types::{Bytes, Calls};
 use std::alloc::{AllocError, Global};
 use std::test::Fail;
 
@@ -125,6 +125,24 @@ fn lists_are_read(rt: HostRuntime) -> Result<(), Fail> {
     for (first, second) in [(2, 1), (0, 255)] {
         assert_eq!(rt; next_file_at(rt.alloc(), first, second), Ok(3));
     }
+    Ok(())
+}
+
+/// How long a slot is that no memory would hold.
+const LONG: u64 = 1 << 50;
+
+#[test]
+fn a_long_slot_is_read_as_far_as_its_list_goes(rt: HostRuntime) -> Result<(), Fail> {
+    let alloc = rt.alloc();
+    let mut chunks = Vec::new(alloc);
+    for _ in 0..2 {
+        chunks.push(Bytes::of(NEW_STORE.to_vec(alloc)?))?;
+    }
+    // The fixed fields, the list, and zeros for the other slot.
+    let mut disk = OddDisk::new(LONG, ByteLists::of(chunks));
+    let list = load(alloc, &mut disk)?;
+    assert!(rt; list.is_some_and(|list| has(&list, &NEW_FIELDS)));
+    assert_eq!(rt; disk.faults(), 0);
     Ok(())
 }
 
