@@ -63,6 +63,8 @@ pub record Did {D : Type 0} (g : Ghosts D) (old : Core D) (event : Event) (reply
   pub page : IsTrue (g.tells old.disk) → IsPageRead event reply (λ file. bytes_of (g.held old.disk) file)
   pub look : IsTrue (g.tells new.disk) → (m : Machine) → CoreStandsFor g new m
       → IsLookTaken reply (λ file. bytes_of (g.held new.disk) file) m.history
+  -- its opening ended when it did
+  pub since : new.since ≡ old.since
   pub telling : g.tells new.disk ≡ g.tells old.disk
   pub later : g.faults old.disk ≤ g.faults new.disk
   pub cause : reply ≡ Refused Fault → Rose (g.faults old.disk) (g.faults new.disk)

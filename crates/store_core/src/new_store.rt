@@ -12,6 +12,7 @@ ghost use Rattle.store_core.specs.declared.error.OpenError.TheVariants.{Fault, N
 
 use crate::error::OpenError;
 use crate::jobs::Jobs;
+use crate::since::Since;
 use crate::state::CoreState;
 use crate::store::Core;
 use block_list::{BlockList, FileList, ListBody, SegmentList, SegmentRef, commit, prepare};
@@ -40,15 +41,20 @@ pub fn open_new<D: Device>(alloc: Global, disk: D) -> Result<Core<D>, (OpenError
     ensures a_store { IfErr result (λ e. (file at : ℕ) → e.0 ≢ NotStore file at) }
     ensures unchanged { IfErr result (λ e. e.0 ≢ Fault → e.1 ≡ disk) }
     ensures list { IfOk result (λ core. core.state.list ≡ new_list) }
+    ensures ends { IfOk result (λ core. core.since.moment ≡ D.moment core.disk) }
     ensures ready { IfOk result (λ core. IsTrue (D.tells disk) → IsReady (D.held core.disk) (D.may_leave core.disk) (Some core.state.list)) }
 {
     let mut disk = disk;
     match make_store(alloc, &mut disk) {
-        Ok(list) => Ok(Core {
-            alloc,
-            disk,
-            state: new_state(alloc, list),
-        }),
+        Ok(list) => {
+            let since = Since::now(&disk);
+            Ok(Core {
+                alloc,
+                disk,
+                state: new_state(alloc, list),
+                since,
+            })
+        }
         Err(error) => Err((error, disk)),
     }
 }
