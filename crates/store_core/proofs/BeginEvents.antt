@@ -37,7 +37,8 @@ use Rattle.store_core.specs.declared.jobs.OpenFlush.{OpenFlush}
 use Rattle.store_core.specs.declared.room.CommitRoom.{CommitRoom}
 use Rattle.store_core.specs.declared.state.CoreState.{CoreState}
 use Rattle.store_core.specs.declared.store.Core.{Core}
-use Rattle.store_core.specs.Cores.{HasState, StandsFor, CoreStandsFor, CoreShows, AreDescribed, listed_as, tail_of}
+use Rattle.store_core.specs.Cores.{HasState, StandsFor, CoreShows, AreDescribed, listed_as, tail_of}
+use Rattle.store_core.proofs.Now.{StandsNow}
 use Rattle.store_core.specs.Events.{Did}
 use Rattle.store_core.specs.Beginning.{KeepsRooms, unless_rows}
 use Rattle.store_core.proofs.Apart.{keeps_below, settled_below}
@@ -262,7 +263,7 @@ module _ {D : Type 0} (g : Ghosts D) (old : Core D) (disk : D) (files : FlushFil
   run_below : (m : Machine) → HasState old.state m → Run (SameBelow limit) g.moment g.left_since g.may_leave old.disk disk
   run_below m has = let given = has.jobs.given in run limit (omega (arith, given, block)) (omega (arith, given, segment))
 
-  run_keeps : IsTrue (g.tells old.disk) → (m : Machine) → CoreStandsFor g old m → Run KeepsStored g.moment g.left_since g.may_leave old.disk disk
+  run_keeps : IsTrue (g.tells old.disk) → (m : Machine) → StandsNow g old m → Run KeepsStored g.moment g.left_since g.may_leave old.disk disk
   run_keeps told m s =
       run_more g.moment g.left_since g.may_leave (SameBelow limit) KeepsStored old.disk disk (run_below m s.has)
       (λ origin image possible same. keeps_below (g.held old.disk) (g.may_leave old.disk) old.state.list (s.settled told writes).lies.ready origin image possible same)
@@ -280,7 +281,7 @@ module _ {D : Type 0} (g : Ghosts D) (old : Core D) (disk : D) (files : FlushFil
       (begun : Begun old.state.jobs jobs files old.state.list room) (takes : TakesHead old.state.live live rows) where
     after : (told told' : Type 0) → (told' → told) → (told → IsTrue (g.tells old.disk)) → (m : Machine) → StandsFor told (g.held old.disk) (g.may_leave old.disk) old.state m
         → Step (g.faults old.disk) (g.faults disk) m BeginFlush (Flushing jobs.begun files.block rows) (with_state (after_begin_flush m.state) m)
-        → (told → HasFreshSegment (g.held disk) (g.may_leave disk) jobs) → (told → CoreStandsFor g old m)
+        → (told → HasFreshSegment (g.held disk) (g.may_leave disk) jobs) → (told → StandsNow g old m)
         → StandsFor told' (g.held disk) (g.may_leave disk) (record old.state { live = live; infos = infos; jobs = jobs }) (with_state (after_begin_flush m.state) m)
     after told told' later_told tells m s step fresh whole =
         stands_kept told told' (g.held old.disk) (g.held disk) (g.may_leave old.disk) (g.may_leave disk) old.state (record old.state { live = live; infos = infos; jobs = jobs }) m (with_state (after_begin_flush m.state) m)

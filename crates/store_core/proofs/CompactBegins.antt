@@ -36,7 +36,8 @@ use Rattle.store_core.specs.declared.jobs.OpenCompaction.{OpenCompaction}
 use Rattle.store_core.specs.declared.room.CommitRoom.{CommitRoom}
 use Rattle.store_core.specs.declared.state.CoreState.{CoreState}
 use Rattle.store_core.specs.declared.store.Core.{Core}
-use Rattle.store_core.specs.Cores.{HasState, StandsFor, CoreStandsFor, CoreShows, listed_as, tail_of}
+use Rattle.store_core.specs.Cores.{HasState, StandsFor, CoreShows, listed_as, tail_of}
+use Rattle.store_core.proofs.Now.{StandsNow}
 use Rattle.store_core.specs.Events.{Did}
 use Rattle.store_core.proofs.Apart.{keeps_below, settled_below}
 use Rattle.store_core.proofs.BeginEvents.{built_same, not_zero}
@@ -246,7 +247,7 @@ module _ {D : Type 0} (g : Ghosts D) (old : Core D) (disk : D) (writes : old.sta
   run_below m has = run_more g.moment g.left_since g.may_leave (SameBelow file) (SameBelow limit) old.disk disk run
       (λ origin image possible same. λ other under. same other (let given = has.jobs.given in omega (arith, given, under)))
 
-  run_keeps : IsTrue (g.tells old.disk) → (m : Machine) → CoreStandsFor g old m → Run KeepsStored g.moment g.left_since g.may_leave old.disk disk
+  run_keeps : IsTrue (g.tells old.disk) → (m : Machine) → StandsNow g old m → Run KeepsStored g.moment g.left_since g.may_leave old.disk disk
   run_keeps told m s =
       run_more g.moment g.left_since g.may_leave (SameBelow limit) KeepsStored old.disk disk (run_below m s.has)
       (λ origin image possible same. keeps_below (g.held old.disk) (g.may_leave old.disk) old.state.list (s.settled told writes).lies.ready origin image possible same)
@@ -271,7 +272,7 @@ module _ {D : Type 0} (g : Ghosts D) (old : Core D) (disk : D) (writes : old.sta
         omega (arith, one, none))
   ]
 
-  fresh_later : IsTrue (g.tells old.disk) → (m : Machine) → CoreStandsFor g old m → (jobs : Jobs) → SameFlush old.state.jobs.flush jobs.flush → HasFreshSegment (g.held disk) (g.may_leave disk) jobs
+  fresh_later : IsTrue (g.tells old.disk) → (m : Machine) → StandsNow g old m → (jobs : Jobs) → SameFlush old.state.jobs.flush jobs.flush → HasFreshSegment (g.held disk) (g.may_leave disk) jobs
   fresh_later told m s jobs same =
       fresh_same (g.held disk) (g.may_leave disk) old.state.jobs.flush jobs.flush same
       (fresh_moved old.state.jobs.flush (g.held old.disk) (g.held disk) (g.may_leave old.disk) (g.may_leave disk)
@@ -282,7 +283,7 @@ module _ {D : Type 0} (g : Ghosts D) (old : Core D) (disk : D) (writes : old.sta
   module _ (infos : Vec InfoParts Global) (jobs : Jobs) (pins : Vec (Option (List ℕ)) Global) (level pin : ℕ) (files : List ℕ) (room : CommitRoom) (known : infos.items ≡ old.state.infos.items) (spare : vec_len infos + 2 ≤ vec_capacity infos)
       (begun : Begun old.state.jobs jobs level pin old.state.list room) (its_pin : Pins pin files old.state.pins.items pins.items) (choice_is : (m : Machine) → HasState old.state m → IsChoice level files m) where
     after : (told told' : Type 0) → (told' → told) → (told → IsTrue (g.tells old.disk)) → (m : Machine) → StandsFor told (g.held old.disk) (g.may_leave old.disk) old.state m
-        → Step (g.faults old.disk) (g.faults disk) m BeginCompact (Compacting jobs.begun file level pin files) (with_state (after_begin_compact pin m.state) m) → (told → CoreStandsFor g old m)
+        → Step (g.faults old.disk) (g.faults disk) m BeginCompact (Compacting jobs.begun file level pin files) (with_state (after_begin_compact pin m.state) m) → (told → StandsNow g old m)
         → StandsFor told' (g.held disk) (g.may_leave disk) (record old.state { infos = infos; jobs = jobs; pins = pins }) (with_state (after_begin_compact pin m.state) m)
     after told told' later_told tells m s step whole =
         stands_kept told told' (g.held old.disk) (g.held disk) (g.may_leave old.disk) (g.may_leave disk) old.state (record old.state { infos = infos; jobs = jobs; pins = pins }) m (with_state (after_begin_compact pin m.state) m)

@@ -28,7 +28,8 @@ use Rattle.store_core.specs.Jobs.{HasFreshSegment}
 use Rattle.store_core.specs.Waiting.{rows_outside, AreLogged}
 use Rattle.store_core.specs.declared.state.CoreState.{CoreState}
 use Rattle.store_core.specs.declared.store.Core.{Core}
-use Rattle.store_core.specs.Cores.{HasState, StandsFor, CoreStandsFor, CoreShows, AreDescribed, tail_of, unsure_of}
+use Rattle.store_core.specs.Cores.{HasState, StandsFor, CoreShows, AreDescribed, tail_of, unsure_of}
+use Rattle.store_core.proofs.Now.{StandsNow, did_since}
 use Rattle.store_core.specs.Events.{Did, Between, unsure_after}
 use Rattle.store_core.proofs.Described.{described_same}
 
@@ -63,9 +64,9 @@ stands_kept told told' held held' may_leave may_leave' core core' m m' before fa
 
 pub did_kept : {D : Type 0} (g : Ghosts D) (old : Core D) (disk : D) (state : CoreState) (event : Event) (reply : Reply)
     → g.tells disk ≡ g.tells old.disk
-    → (IsTrue (g.tells old.disk) → (m : Machine) → CoreStandsFor g old m → Run KeepsStored g.moment g.left_since g.may_leave old.disk disk)
+    → (IsTrue (g.tells old.disk) → (m : Machine) → StandsNow g old m → Run KeepsStored g.moment g.left_since g.may_leave old.disk disk)
     → unsure_of state ≡ unsure_of old.state → unsure_after event reply (unsure_of old.state) ≡ unsure_of old.state
-    → ((m : Machine) → CoreStandsFor g old m → (m' : Machine) × CoreStandsFor g (record old { disk = disk; state = state }) m' × (m'.history ≡ m.history) × Step (g.faults old.disk) (g.faults disk) m event reply m')
+    → ((m : Machine) → StandsNow g old m → (m' : Machine) × StandsNow g (record old { disk = disk; state = state }) m' × (m'.history ≡ m.history) × Step (g.faults old.disk) (g.faults disk) m event reply m')
     → ((m : Machine) → CoreShows g old m → (m' : Machine) × CoreShows g (record old { disk = disk; state = state }) m' × Step (g.faults old.disk) (g.faults disk) m event reply m')
     → (IsTrue (g.tells old.disk) → (m : Machine) → CoreShows g old m → (hold : Hold) → OpenIn m hold → ends event reply hold ≡ false → (file : ℕ) → is_among file (files_of hold) ≡ true
     → Rewritten event reply file (bytes_of (g.held old.disk) file) (bytes_of (g.held disk) file))
@@ -74,7 +75,7 @@ pub did_kept : {D : Type 0} (g : Ghosts D) (old : Core D) (disk : D) (state : Co
     → g.faults old.disk ≤ g.faults disk → (reply ≡ Refused Fault → Rose (g.faults old.disk) (g.faults disk)) → MadeCalls event reply (g.calls old.disk) (g.calls disk)
     → RoseAtMost (reads_of event) (g.reads old.disk) (g.reads disk)
     → Did g old event reply (record old { disk = disk; state = state })
-did_kept {D} g old disk state event reply telling run unsure same stands shows files empty page look later cause calls reads = record {
+did_kept {D} g old disk state event reply telling run unsure same stands shows files empty page look later cause calls reads = did_since g old _ _ _ refl (record {
   stepped = λ m s.
       let after = stands m s in record {
         machine = after.0;
@@ -96,7 +97,7 @@ did_kept {D} g old disk state event reply telling run unsure same stands shows f
   cause = cause;
   calls = calls;
   reads = reads;
-}
+})
 
 -- the blocks of a core whose list names none of the files that changed
 pub described_below : (held later : Image) (core : CoreState) (m : Machine) → HasState core m → SameBelow core.list.next_file held later → AreDescribed held core.infos.items m.state.blocks → AreDescribed later core.infos.items m.state.blocks

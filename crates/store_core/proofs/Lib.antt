@@ -1,3 +1,4 @@
+mod Now
 mod Quiet
 mod Described
 mod JobRooms
@@ -48,6 +49,7 @@ mod CompactAnswers
 mod PortEvents
 pub mod LogSteps
 mod LooseFiles
+mod LeftFiles
 mod Spare
 mod Rising
 mod PinnedFiles

@@ -22,7 +22,8 @@ use Rattle.store_state.specs.Written.{page_of}
 use Rattle.store_images.specs.Stored.{KeepsStored}
 use Rattle.store_images.proofs.Keeping.{keeps_same}
 use Rattle.store_core.specs.declared.store.Core.{Core}
-use Rattle.store_core.specs.Cores.{StandsFor, CoreStandsFor, tail_of}
+use Rattle.store_core.specs.Cores.{StandsFor, tail_of}
+use Rattle.store_core.proofs.Now.{StandsNow}
 use Rattle.store_core.specs.Events.{Did}
 use Rattle.store_core.specs.Files.{read_over}
 use Rattle.store_core.proofs.Apart.{below_same, settled_below}
@@ -82,7 +83,7 @@ past_end bytes at near far = elim (cases_lt at (2 ^ 64)) [ inl low ↦ absurd (f
 
 module _ {D : Type 0} (g : Ghosts D) (old : Core D) (disk : D) (pin block page : ℕ) (untouched : Untouched g.tells g.held g.may_leave g.moment g.left_since old.disk disk)
     (later : g.faults old.disk ≤ g.faults disk) (calls : RoseAtMost 1 (g.calls old.disk) (g.calls disk)) (reads : RoseAtMost 1 (g.reads old.disk) (g.reads disk)) where
-  run_keeps : IsTrue (g.tells old.disk) → (m : Machine) → CoreStandsFor g old m → Run KeepsStored g.moment g.left_since g.may_leave old.disk disk
+  run_keeps : IsTrue (g.tells old.disk) → (m : Machine) → StandsNow g old m → Run KeepsStored g.moment g.left_since g.may_leave old.disk disk
   run_keeps told m s = run_untouched g.tells g.held g.may_leave g.moment g.left_since KeepsStored old.disk disk keeps_same untouched
 
   after : (told told' : Type 0) → (told' → told) → (told → IsTrue (g.tells old.disk)) → (m : Machine) (reply : Reply) → StandsFor told (g.held old.disk) (g.may_leave old.disk) old.state m

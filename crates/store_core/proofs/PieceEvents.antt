@@ -18,7 +18,8 @@ use Rattle.store_model.proofs.Numbers.{same_number}
 use Rattle.store_images.specs.Stored.{KeepsStored}
 use Rattle.store_core.specs.Jobs.{HasFreshSegment}
 use Rattle.store_core.specs.declared.store.Core.{Core}
-use Rattle.store_core.specs.Cores.{HasState, CoreStandsFor, tail_of}
+use Rattle.store_core.specs.Cores.{HasState, tail_of}
+use Rattle.store_core.proofs.Now.{StandsNow}
 use Rattle.store_core.specs.Events.{Did}
 use Rattle.store_core.proofs.Kept.{stands_kept, did_kept}
 use Rattle.store_core.proofs.OpenJobs.{IsJobFile, fresh_moved}
@@ -39,7 +40,7 @@ module _ {D : Type 0} (g : Ghosts D) (only_now : OnlyNow g) (old : Core D) (disk
     (crash : Within (Reached (OnFile file (Torn at (length bytes))) (g.may_leave old.disk)) (g.may_leave disk))
     (time : Elapses (g.moment old.disk) (g.moment disk) (g.left_since old.disk) (g.left_since disk) (g.may_leave disk))
     (later : g.faults old.disk ≤ g.faults disk) (calls : RoseBy 1 (g.calls old.disk) (g.calls disk)) (reads : g.reads disk ≡ g.reads old.disk) where
-  run_keeps : IsTrue (g.tells old.disk) → (m : Machine) → CoreStandsFor g old m → Run KeepsStored g.moment g.left_since g.may_leave old.disk disk
+  run_keeps : IsTrue (g.tells old.disk) → (m : Machine) → StandsNow g old m → Run KeepsStored g.moment g.left_since g.may_leave old.disk disk
   run_keeps told m s =
       run_more g.moment g.left_since g.may_leave (OnFile file (Torn at (length bytes))) KeepsStored old.disk disk
       (run_change g.moment g.left_since g.may_leave file (Torn at (length bytes)) (torn_same at (length bytes)) old.disk disk (only_now old.disk) crash time)
@@ -51,7 +52,7 @@ module _ {D : Type 0} (g : Ghosts D) (only_now : OnlyNow g) (old : Core D) (disk
   free : (m : Machine) → HasState old.state m → early m (WritePiece number file bytes) ≡ None
   free m has = ap (λ (r : Option ℕ). if_read_only r None) (has.read_only ∙ writes)
 
-  fresh_after : IsTrue (g.tells old.disk) → (m : Machine) → CoreStandsFor g old m → HasFreshSegment (g.held disk) (g.may_leave disk) old.state.jobs
+  fresh_after : IsTrue (g.tells old.disk) → (m : Machine) → StandsNow g old m → HasFreshSegment (g.held disk) (g.may_leave disk) old.state.jobs
   fresh_after told m s =
       let differs = its.apart m s.has s.sound in
       fresh_moved old.state.jobs.flush (g.held old.disk) (g.held disk) (g.may_leave old.disk) (g.may_leave disk)

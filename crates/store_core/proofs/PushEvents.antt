@@ -23,7 +23,8 @@ use Rattle.store_images.specs.Stored.{MayStandFor, IsTidy}
 use Rattle.store_images.specs.Settled.{Tail, IsSettled}
 use Rattle.store_images.proofs.Storing.{only_tail, settled_after}
 use Rattle.store_core.specs.declared.store.Core.{Core}
-use Rattle.store_core.specs.Cores.{HasState, CoreStandsFor, tail_of, unsure_of}
+use Rattle.store_core.specs.Cores.{HasState, tail_of, unsure_of}
+use Rattle.store_core.proofs.Now.{StandsNow, did_since}
 use Rattle.store_state.specs.Calls.{MadeCalls}
 use Rattle.store_core.specs.Events.{Did, Between, unsure_after}
 use Rattle.store_core.proofs.Logged.{logged_push}
@@ -86,28 +87,28 @@ module _ {D : Type 0} (g : Ghosts D) (old : Core D) (disk : D) (spans : List Spa
     (free : (m : Machine) → HasState old.state m → early m (Push spans moment) ≡ None) (writes : old.state.read_only ≡ None)
     (telling : g.tells disk ≡ g.tells old.disk)
     (appends : IsTrue (g.tells old.disk) → Appending g old.disk disk old.state.segment spans) where
-  settled_in : IsTrue (g.tells old.disk) → (m : Machine) → CoreStandsFor g old m → IsSettled (g.held old.disk) (g.may_leave old.disk) old.state.list m.state.blocks (tail_of old.state.segment) m.history
+  settled_in : IsTrue (g.tells old.disk) → (m : Machine) → StandsNow g old m → IsSettled (g.held old.disk) (g.may_leave old.disk) old.state.list m.state.blocks (tail_of old.state.segment) m.history
   settled_in told m stands = stands.settled told writes
 
-  run_in : (told : IsTrue (g.tells old.disk)) (m : Machine) (stands : CoreStandsFor g old m)
+  run_in : (told : IsTrue (g.tells old.disk)) (m : Machine) (stands : StandsNow g old m)
       → RunInFile g.moment g.left_since g.may_leave old.state.segment.file (SegmentKeepsEither old.state.segment.first (settled_in told m stands).mine spans) (SegmentKeepsEither old.state.segment.first (settled_in told m stands).mine spans) old.disk disk
   run_in told m stands =
       let s = settled_in told m stands in
       (appends told).any_moment s.mine (only_tail (g.held old.disk) (g.may_leave old.disk) old.state.list m.state.blocks (tail_of old.state.segment) m.history s) s.written.current s.written.counted
 
-  both_in : (told : IsTrue (g.tells old.disk)) (m : Machine) (stands : CoreStandsFor g old m)
+  both_in : (told : IsTrue (g.tells old.disk)) (m : Machine) (stands : StandsNow g old m)
       → LeavesOnly g.moment g.left_since old.disk disk (MayStandFor m.history (Some spans)) × ((image : Image) → g.may_leave disk image → MayStandFor m.history (Some spans) image)
   both_in told m stands =
       pushing g.moment g.left_since g.may_leave (g.held old.disk) old.state.list m.state.blocks (tail_of old.state.segment) m.history old.disk disk (settled_in told m stands) spans (run_in told m stands)
 
   -- where the new core may stand for the history, or for it and the batch
-  images_in : (told : IsTrue (g.tells old.disk)) (m : Machine) → CoreStandsFor g old m → (after : History) (later_unsure : Option (List Span))
+  images_in : (told : IsTrue (g.tells old.disk)) (m : Machine) → StandsNow g old m → (after : History) (later_unsure : Option (List Span))
       → ((image : Image) → MayStandFor m.history (Some spans) image → Between m.history (unsure_of old.state) after later_unsure image)
       → LeavesOnly g.moment g.left_since old.disk disk (Between m.history (unsure_of old.state) after later_unsure)
   images_in told m stands after later_unsure between =
       widened g.moment g.left_since old.disk disk (MayStandFor m.history (Some spans)) (Between m.history (unsure_of old.state) after later_unsure) (both_in told m stands).0 between
 
-  tidy_in : IsTrue (g.tells old.disk) → (m : Machine) → CoreStandsFor g old m → ((image : Image) → g.may_leave old.disk image → IsTidy image) → LeavesOnly g.moment g.left_since old.disk disk IsTidy
+  tidy_in : IsTrue (g.tells old.disk) → (m : Machine) → StandsNow g old m → ((image : Image) → g.may_leave old.disk image → IsTidy image) → LeavesOnly g.moment g.left_since old.disk disk IsTidy
   tidy_in told m stands tidy =
       tidy_push g.moment g.left_since g.may_leave (g.held old.disk) old.state.list m.state.blocks (tail_of old.state.segment) m.history old.disk disk (settled_in told m stands) _ _ (run_in told m stands) tidy
 
@@ -128,7 +129,7 @@ module _ {D : Type 0} (g : Ghosts D) (old : Core D) (disk : D) (spans : List Spa
       × OnlyBytes old.state.segment.file (bytes_of (g.held disk) old.state.segment.file) (g.may_leave disk))
       → g.faults old.disk ≤ g.faults disk → RoseBy 4 (g.calls old.disk) (g.calls disk) → g.reads disk ≡ g.reads old.disk
       → Did g old (Push spans moment) (Count number) (record old { disk = disk; state = record old.state { live = live; segment = segment } })
-  did_pushed live segment number length_is below is added head flushing file first count stays acknowledged later calls reads = record {
+  did_pushed live segment number length_is below is added head flushing file first count stays acknowledged later calls reads = did_since g old _ _ _ refl (record {
     stepped = λ m stands.
         let taken = step_pushed (g.faults old.disk) (g.faults disk) m spans moment number (length_is m stands.has) (free m stands.has) in
         let has = has_pushed old.state live segment m spans moment number stands.has added head flushing is below file first count in
@@ -170,12 +171,12 @@ module _ {D : Type 0} (g : Ghosts D) (old : Core D) (disk : D) (spans : List Spa
     cause = λ fault. absurd (let bad : Count number ≡ Refused Fault = fault in cc);
     calls = calls;
     reads = (omega (arith, reads), omega (arith, reads));
-  }
+  })
 
   broken_at : (live : LiveParts) (segment : Segment) (ready : ChunkParts) → SameParts old.state.live live → segment ≡ old.state.segment → ready.spans ≡ spans
       → Rose (g.faults old.disk) (g.faults disk) → g.faults old.disk ≤ g.faults disk → (g.calls old.disk ≤ g.calls disk) × (g.calls disk ≤ g.calls old.disk + 4) → g.reads disk ≡ g.reads old.disk
       → Did g old (Push spans moment) (Refused Fault) (record old { disk = disk; state = record old.state { live = live; segment = segment; read_only = Some (g.faults disk); unsure = Some ready } })
-  broken_at live segment ready same still its rose later calls reads = record {
+  broken_at live segment ready same still its rose later calls reads = did_since g old _ _ _ refl (record {
     stepped = λ m stands. record {
       machine = broken (g.faults disk) m;
       stands = stands_broken (IsTrue (g.tells old.disk)) (IsTrue (g.tells disk)) (g.held old.disk) (g.held disk) (g.may_leave old.disk) (g.may_leave disk) old.state live segment ready (g.faults disk) m same still stands
@@ -203,7 +204,7 @@ module _ {D : Type 0} (g : Ghosts D) (old : Core D) (disk : D) (spans : List Spa
     cause = λ fault. rose;
     calls = calls;
     reads = (omega (arith, reads), omega (arith, reads));
-  }
+  })
 
   pub did_broken : (live : LiveParts) (segment : Segment) (ready : ChunkParts) (faults : ℕ) → faults ≡ g.faults disk → SameParts old.state.live live → segment ≡ old.state.segment → ready.spans ≡ spans
       → Rose (g.faults old.disk) (g.faults disk) → g.faults old.disk ≤ g.faults disk → (g.calls old.disk ≤ g.calls disk) × (g.calls disk ≤ g.calls old.disk + 4) → g.reads disk ≡ g.reads old.disk

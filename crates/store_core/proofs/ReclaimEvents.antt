@@ -24,7 +24,8 @@ use Rattle.store_model.specs.Step.Step.{Sure, Succeeds, Lacks, Breaks}
 use Rattle.store_model.proofs.Numbers.{same_number}
 use Rattle.store_state.specs.Calls.{RoseAtMost, reclaim_calls}
 use Rattle.store_images.specs.Stored.{KeepsStored}
-use Rattle.store_core.specs.Cores.{HasState, CoreStandsFor, CoreShows, tail_of}
+use Rattle.store_core.specs.Cores.{HasState, CoreShows, tail_of}
+use Rattle.store_core.proofs.Now.{StandsNow}
 use Rattle.store_core.specs.Events.{Did}
 use Rattle.store_core.specs.Jobs.{HasFreshSegment, files_of_flush, files_of_compaction}
 use Rattle.store_core.specs.Loose.{MayEmpty, OthersStay, used_files}
@@ -170,7 +171,7 @@ module _ {D : Type 0} (g : Ghosts D) (old : Core D) (disk : D) (writes : old.sta
     → Run KeepsStored g.moment g.left_since g.may_leave old.disk disk)
     (others : IsTrue (g.tells old.disk) → IsReady (g.held old.disk) (g.may_leave old.disk) (Some old.state.list)
     → MayEmpty old.state.list old.state.jobs.next_file (named_loose old.state kept) free → MeetsRules (list_kept old.state.list old.state.jobs kept)
-    → OthersStay free (g.held old.disk) (g.held disk) (g.may_leave old.disk) (g.may_leave disk))
+    → OthersStay (Contains free) (g.held old.disk) (g.held disk) (g.may_leave old.disk) (g.may_leave disk))
     (still : IsTrue (g.tells old.disk) → (f : ℕ) → 2 ≤ f → (Contains free f → ⊥) → bytes_of (g.held disk) f ≡ bytes_of (g.held old.disk) f)
     (later : g.faults old.disk ≤ g.faults disk) (calls : RoseAtMost (2 * length free + 6) (g.calls old.disk) (g.calls disk)) (reads : g.reads disk ≡ g.reads old.disk) where
   going : (m : Machine) → HasState old.state m → early m Reclaim ≡ None
@@ -182,16 +183,16 @@ module _ {D : Type 0} (g : Ghosts D) (old : Core D) (disk : D) (writes : old.sta
   rules : (m : Machine) → HasState old.state m → StateIsSound m.state → MeetsRules (list_kept old.state.list old.state.jobs kept)
   rules m has sound = rules_emptied old.state m has sound kept free parts (going m has)
 
-  ready : IsTrue (g.tells old.disk) → (m : Machine) → CoreStandsFor g old m → IsReady (g.held old.disk) (g.may_leave old.disk) (Some old.state.list)
+  ready : IsTrue (g.tells old.disk) → (m : Machine) → StandsNow g old m → IsReady (g.held old.disk) (g.may_leave old.disk) (Some old.state.list)
   ready told m s = (s.settled told writes).lies.ready
 
-  run_keeps : IsTrue (g.tells old.disk) → (m : Machine) → CoreStandsFor g old m → Run KeepsStored g.moment g.left_since g.may_leave old.disk disk
+  run_keeps : IsTrue (g.tells old.disk) → (m : Machine) → StandsNow g old m → Run KeepsStored g.moment g.left_since g.may_leave old.disk disk
   run_keeps told m s = run told (ready told m s) (may m s.has s.sound) (rules m s.has s.sound)
 
-  stay : IsTrue (g.tells old.disk) → (m : Machine) → CoreStandsFor g old m → OthersStay free (g.held old.disk) (g.held disk) (g.may_leave old.disk) (g.may_leave disk)
+  stay : IsTrue (g.tells old.disk) → (m : Machine) → StandsNow g old m → OthersStay (Contains free) (g.held old.disk) (g.held disk) (g.may_leave old.disk) (g.may_leave disk)
   stay told m s = others told (ready told m s) (may m s.has s.sound) (rules m s.has s.sound)
 
-  same_used : IsTrue (g.tells old.disk) → (m : Machine) → CoreStandsFor g old m → SameUsed old.state.list (g.held old.disk) (g.held disk)
+  same_used : IsTrue (g.tells old.disk) → (m : Machine) → StandsNow g old m → SameUsed old.state.list (g.held old.disk) (g.held disk)
   same_used told m s = λ f used. (stay told m s).still f (used_low old.state.list s.has.rules f used) (λ c. ((may m s.has s.sound).unused f c).1 used)
 
   written : (m : Machine) → HasState old.state m → StateIsSound m.state → writes_in m.state Reclaim ≡ true
@@ -265,7 +266,7 @@ module _ {D : Type 0} (g : Ghosts D) (old : Core D) (disk : D) (writes : old.sta
     has_after : (m : Machine) → HasState old.state m → StateIsSound m.state → HasState after (done m)
     has_after m has sound = has_emptied old.state m has sound kept free parts writes loose its room (going m has)
 
-    fresh_after : IsTrue (g.tells old.disk) → (m : Machine) → CoreStandsFor g old m → HasFreshSegment (g.held disk) (g.may_leave disk) old.state.jobs
+    fresh_after : IsTrue (g.tells old.disk) → (m : Machine) → StandsNow g old m → HasFreshSegment (g.held disk) (g.may_leave disk) old.state.jobs
     fresh_after told m s =
         fresh_moved old.state.jobs.flush (g.held old.disk) (g.held disk) (g.may_leave old.disk) (g.may_leave disk)
         (λ mine known. (stay told m s).still mine.files.segment (high mine known) (not_loose mine known))

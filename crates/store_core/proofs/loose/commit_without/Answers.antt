@@ -47,7 +47,7 @@ returns-clause-others g c = λ told body next_file loose ready may text.
     let told_mid : IsTrue (d.tells mid) = subst IsTrue (sym c.empty_files.ensures.telling) told in
     let readied = c.empty_files.ensures.ready told body ready may.unused in
     let can = can_lay (d.held mid) (d.may_leave mid) (Some body) c.args.text.now readied text.generation in
-    others_committed c.args.files.now (d.held disk) (d.held mid) (d.held new) (d.may_leave disk) (d.may_leave mid) (d.may_leave new) (c.empty_files.ensures.others told)
+    others_committed (Contains c.args.files.now) (d.held disk) (d.held mid) (d.held new) (d.may_leave disk) (d.may_leave mid) (d.may_leave new) (c.empty_files.ensures.others told)
     (slot_of c.args.text.now) _ (omega arith) (c.commit.ensures.besides told_mid)
     (c.commit.ensures.any_moment told_mid can (Some body) (next_with body next_file loose) readied.stands text.generation text).now
 
