@@ -32,11 +32,11 @@ used_not_spare body rules file used apart spare = elim spare [
 
 -- ---- one more file is emptied
 
-pub freed_more : (limit file : ℕ) (step : List ℕ → List ℕ → Type 0) (between after : Image → Type 0) → ((other : ℕ) → file + 1 ≤ other → other < limit → OnlyBytes other [] between)
-    → Within (Reached (OnFile file step) between) after → OnlyBytes file [] after → (other : ℕ) → file ≤ other → other < limit → OnlyBytes other [] after
-freed_more limit file step between after early follows here other above below = elim (cases_eq other file) [
+pub freed_more : (file : ℕ) (step : List ℕ → List ℕ → Type 0) (between after : Image → Type 0) (other : ℕ) → (file + 1 ≤ other → OnlyBytes other [] between)
+    → Within (Reached (OnFile file step) between) after → OnlyBytes file [] after → file ≤ other → OnlyBytes other [] after
+freed_more file step between after other early follows here above = elim (cases_eq other file) [
   | inl is ↦ subst (λ (f : ℕ). OnlyBytes f [] after) (sym is) here
-  | inr apart ↦ λ image left. let r = follows image left in r.2.besides other apart ∙ early other (omega (arith, above, apart)) below r.0 r.1
+  | inr apart ↦ λ image left. let r = follows image left in r.2.besides other apart ∙ early (omega (arith, above, apart)) r.0 r.1
 ]
 
 -- ---- how far

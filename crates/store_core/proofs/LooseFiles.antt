@@ -99,7 +99,7 @@ cut_empty [] cut = refl
 cut_empty (x ∷ xs) cut = absurd (let most = cut.no_longer in omega (arith, most))
 
 module _ (held : Image) (may_leave : Image → Type 0) (body : ListBody) (ready : IsReady held may_leave (Some body)) where
-  ready_rules : MeetsRules body
+  pub ready_rules : MeetsRules body
   ready_rules = rules_in held body ready.stands
 
   in_slot : (origin : Image) → may_leave origin → (slot : ℕ) → slot < 2 → bytes_of origin slot ≡ bytes_of held slot
