@@ -80,8 +80,8 @@ module _ (a b : Image) (lists : (list : Option ListBody) → ImageHoldsList a li
     (files : (body : ListBody) → ImageHoldsList a (Some body) → (file : ℕ) → Contains (files_of body) file → bytes_of b file ≡ bytes_of a file) where
   stores_kept : (rows : _) (count : ℕ) → ImageStores a rows count → ImageStores b rows count
   stores_kept rows count (vacant holds none zero) = vacant (lists None holds) none zero
-  stores_kept rows count (filled body blocks batches s is counts) =
-      filled body blocks batches (store_same a b body blocks batches (lists (Some body) s.listed) (files body s.listed) s) is counts
+  stores_kept rows count (filled body blocks batches s one is counts) =
+      filled body blocks batches (store_same a b body blocks batches (lists (Some body) s.listed) (files body s.listed) s) one is counts
 
   pub stands_kept : (h : History) → ImageStandsFor a h → ImageStandsFor b h
   stands_kept = stands_by_stores a b stores_kept
