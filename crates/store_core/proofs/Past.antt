@@ -39,19 +39,15 @@ stays_some : (e : Event) (r : Reply) (entry : Entry) → unsure_after e r (Some 
 stays_some e (Refused Fault) entry = refl
 stays_some e _ entry = refl
 
-<<<<<<< HEAD
 -- nor does its start change
 pub same_start : (e : Event) (r : Reply) (h h' : History) → h' ≡ history_after e r h → h'.start ≡ h.start
-same_start e r h h' after = ap (λ (x : History). x.start) after ∙ keeps e r
+same_start e r h h' after = ap (λ (x : History). x.start) after ∙ by_entry (added_entry e r)
   where
-    keeps : (e : Event) (r : Reply) → (history_after e r h).start ≡ h.start
-    keeps (Push spans moment) (Count number) = refl
-    keeps _ _ = refl
+    by_entry : (added : Option Entry) → (with_entry added h).start ≡ h.start
+    by_entry None = refl
+    by_entry (Some entry) = refl
 
-stays_unsure : (e : Event) (r : Reply) (h h' : History) (unsure unsure' : Option (List Span)) → unsure' ≡ unsure_after e r unsure → (unsure ≡ None) ⊎ (h' ≡ h)
-=======
 stays_unsure : (e : Event) (r : Reply) (h h' : History) (unsure unsure' : Option Entry) → unsure' ≡ unsure_after e r unsure → (unsure ≡ None) ⊎ (h' ≡ h)
->>>>>>> 8054c100813f54a7f488a98666e6cb47fff10931
     → (unsure ≡ None) ⊎ ((h' ≡ h) × (unsure' ≡ unsure))
 stays_unsure e r h h' None unsure' is ended = inl refl
 stays_unsure e r h h' (Some entry) unsure' is (inl none) = inl none
