@@ -280,13 +280,8 @@ module _ {D : Type 0} (g : Ghosts D) (old : Core D) (disk : D) (files : FlushFil
   module _ (live : LiveParts) (infos : Vec InfoParts Global) (jobs : Jobs) (room : CommitRoom) (rows : List Row) (known : infos.items ≡ old.state.infos.items) (spare : vec_len infos + 2 ≤ vec_capacity infos)
       (begun : Begun old.state.jobs jobs files old.state.list room) (takes : TakesHead old.state.live live rows) where
     after : (told told' : Type 0) → (told' → told) → (told → IsTrue (g.tells old.disk)) → (m : Machine) → StandsFor told (g.held old.disk) (g.may_leave old.disk) old.state m
-<<<<<<< HEAD
-        → Step (g.faults old.disk) (g.faults disk) m BeginFlush (Flushing jobs.begun files.block rows) (with_state (after_begin_flush m.state) m)
-        → (told → HasFreshSegment (g.held disk) (g.may_leave disk) jobs) → (told → StandsNow g old m)
-=======
         → Step (g.faults old.disk) (g.faults disk) m BeginFlush (Flushing (record { number = jobs.begun; file = files.block; rows = rows })) (with_state (after_begin_flush m.state) m)
-        → (told → HasFreshSegment (g.held disk) (g.may_leave disk) jobs) → (told → CoreStandsFor g old m)
->>>>>>> 8054c100813f54a7f488a98666e6cb47fff10931
+        → (told → HasFreshSegment (g.held disk) (g.may_leave disk) jobs) → (told → StandsNow g old m)
         → StandsFor told' (g.held disk) (g.may_leave disk) (record old.state { live = live; infos = infos; jobs = jobs }) (with_state (after_begin_flush m.state) m)
     after told told' later_told tells m s step fresh whole =
         stands_kept told told' (g.held old.disk) (g.held disk) (g.may_leave old.disk) (g.may_leave disk) old.state (record old.state { live = live; infos = infos; jobs = jobs }) m (with_state (after_begin_flush m.state) m)

@@ -283,11 +283,7 @@ module _ {D : Type 0} (g : Ghosts D) (old : Core D) (disk : D) (writes : old.sta
   module _ (infos : Vec InfoParts Global) (jobs : Jobs) (pins : Vec (Option (List ℕ)) Global) (level pin : ℕ) (files : List ℕ) (room : CommitRoom) (known : infos.items ≡ old.state.infos.items) (spare : vec_len infos + 2 ≤ vec_capacity infos)
       (begun : Begun old.state.jobs jobs level pin old.state.list room) (its_pin : Pins pin files old.state.pins.items pins.items) (choice_is : (m : Machine) → HasState old.state m → IsChoice level files m) where
     after : (told told' : Type 0) → (told' → told) → (told → IsTrue (g.tells old.disk)) → (m : Machine) → StandsFor told (g.held old.disk) (g.may_leave old.disk) old.state m
-<<<<<<< HEAD
-        → Step (g.faults old.disk) (g.faults disk) m BeginCompact (Compacting jobs.begun file level pin files) (with_state (after_begin_compact pin m.state) m) → (told → StandsNow g old m)
-=======
-        → Step (g.faults old.disk) (g.faults disk) m BeginCompact (Compacting (record { number = jobs.begun; file = file; level = level; pin = pin; files = files })) (with_state (after_begin_compact pin m.state) m) → (told → CoreStandsFor g old m)
->>>>>>> 8054c100813f54a7f488a98666e6cb47fff10931
+        → Step (g.faults old.disk) (g.faults disk) m BeginCompact (Compacting (record { number = jobs.begun; file = file; level = level; pin = pin; files = files })) (with_state (after_begin_compact pin m.state) m) → (told → StandsNow g old m)
         → StandsFor told' (g.held disk) (g.may_leave disk) (record old.state { infos = infos; jobs = jobs; pins = pins }) (with_state (after_begin_compact pin m.state) m)
     after told told' later_told tells m s step whole =
         stands_kept told told' (g.held old.disk) (g.held disk) (g.may_leave old.disk) (g.may_leave disk) old.state (record old.state { infos = infos; jobs = jobs; pins = pins }) m (with_state (after_begin_compact pin m.state) m)

@@ -1,7 +1,6 @@
 -- An event by what a core stands for now, and from that by what a crash may have left since its opening ended.
 use Rattle.std.proofs.Common.{◌≡◌, ◌⊎◌, inl, inr, ℕ, ◌+◌, ◌-◌, ◌≤◌, List, Option, Some, None, IsTrue, true, false, refl, sym, ap, subst, arith}
 use Rattle.span_types.specs.Faults.{Rose}
-use Rattle.span_types.specs.declared.spans.Span.{Span}
 use Rattle.disk_model.specs.Images.{Image, bytes_of}
 use Rattle.disk_model.specs.Crash.{LeavesOnly}
 use Rattle.disk_model.specs.declared.disk.Device.{Ghosts}

@@ -97,24 +97,14 @@ module _ {D : Type 0} (g : Ghosts D) (old : Core D) (disk : D) (spans : List Spa
       let s = settled_in told m stands in
       (appends told).any_moment s.mine (only_tail (g.held old.disk) (g.may_leave old.disk) old.state.list m.state.blocks (tail_of old.state.segment) m.history s) s.written.current s.written.counted
 
-<<<<<<< HEAD
   both_in : (told : IsTrue (g.tells old.disk)) (m : Machine) (stands : StandsNow g old m)
-      → LeavesOnly g.moment g.left_since old.disk disk (MayStandFor m.history (Some spans)) × ((image : Image) → g.may_leave disk image → MayStandFor m.history (Some spans) image)
-=======
-  both_in : (told : IsTrue (g.tells old.disk)) (m : Machine) (stands : CoreStandsFor g old m)
       → LeavesOnly g.moment g.left_since old.disk disk (MayStandFor m.history (Some (push_of spans))) × ((image : Image) → g.may_leave disk image → MayStandFor m.history (Some (push_of spans)) image)
->>>>>>> 8054c100813f54a7f488a98666e6cb47fff10931
   both_in told m stands =
       pushing g.moment g.left_since g.may_leave (g.held old.disk) old.state.list m.state.blocks (tail_of old.state.segment) m.history old.disk disk (settled_in told m stands) spans (run_in told m stands)
 
   -- where the new core may stand for the history, or for it and the batch
-<<<<<<< HEAD
-  images_in : (told : IsTrue (g.tells old.disk)) (m : Machine) → StandsNow g old m → (after : History) (later_unsure : Option (List Span))
-      → ((image : Image) → MayStandFor m.history (Some spans) image → Between m.history (unsure_of old.state) after later_unsure image)
-=======
-  images_in : (told : IsTrue (g.tells old.disk)) (m : Machine) → CoreStandsFor g old m → (after : History) (later_unsure : Option Entry)
+  images_in : (told : IsTrue (g.tells old.disk)) (m : Machine) → StandsNow g old m → (after : History) (later_unsure : Option Entry)
       → ((image : Image) → MayStandFor m.history (Some (push_of spans)) image → Between m.history (unsure_of old.state) after later_unsure image)
->>>>>>> 8054c100813f54a7f488a98666e6cb47fff10931
       → LeavesOnly g.moment g.left_since old.disk disk (Between m.history (unsure_of old.state) after later_unsure)
   images_in told m stands after later_unsure between =
       widened g.moment g.left_since old.disk disk (MayStandFor m.history (Some (push_of spans))) (Between m.history (unsure_of old.state) after later_unsure) (both_in told m stands).0 between
