@@ -1,6 +1,6 @@
 -- An event by what a core stands for now, and from that by what a crash may have left since its opening ended.
-use Rattle.std.proofs.Common.{◌≡◌, ◌⊎◌, inl, inr, ℕ, ◌+◌, ◌-◌, ◌≤◌, List, Option, Some, None, IsTrue, true, false, refl, sym, ap, subst, arith}
-use Rattle.span_types.specs.Faults.{Rose}
+use Rattle.std.proofs.Common.{◌≡◌, ◌≢◌, ◌⊎◌, inl, inr, ℕ, ◌+◌, ◌-◌, ◌≤◌, List, Option, Some, None, IsTrue, true, false, refl, sym, ap, subst, arith}
+use Rattle.disk_model.specs.Calls.{Counts}
 use Rattle.disk_model.specs.Images.{Image, bytes_of}
 use Rattle.disk_model.specs.Crash.{LeavesOnly}
 use Rattle.disk_model.specs.declared.disk.Device.{Ghosts}
@@ -22,7 +22,7 @@ use Rattle.store_core.specs.declared.store.Core.{Core}
 use Rattle.store_model.proofs.TellsHistory.{step_tells}
 use Rattle.store_model.specs.Told.{history_after}
 use Rattle.store_core.specs.Cores.{CoreStandsFor, CoreShows, StandsFor, StoodSince, unsure_of}
-use Rattle.store_core.specs.Events.{Between, Did, Stepped, unsure_after}
+use Rattle.store_core.specs.Events.{Between, Did, Stepped, end_of, unsure_after}
 use Rattle.store_core.specs.declared.since.Since.{Since}
 use Rattle.store_core.specs.Stood.{StoodFor}
 use Rattle.store_core.proofs.Past.{between, stood, same_start}
@@ -57,9 +57,7 @@ pub record DidNow {D : Type 0} (g : Ghosts D) (old : Core D) (event : Event) (re
   pub page : IsTrue (g.tells old.disk) → IsPageRead event reply (λ file. bytes_of (g.held old.disk) file)
   pub look : IsTrue (g.tells new.disk) → (m : Machine) → StandsNow g new m
       → IsLookTaken reply (λ file. bytes_of (g.held new.disk) file) m.history
-  pub telling : g.tells new.disk ≡ g.tells old.disk
-  pub later : g.faults old.disk ≤ g.faults new.disk
-  pub cause : reply ≡ Refused Fault → Rose (g.faults old.disk) (g.faults new.disk)
+  pub counts : Counts g (end_of old.state event) (reply ≢ Refused Fault) (reply ≡ Refused Fault) old.disk new.disk
   pub calls : MadeCalls event reply (g.calls old.disk) (g.calls new.disk)
   pub reads : RoseAtMost (reads_of event) (g.reads old.disk) (g.reads new.disk)
 
@@ -76,7 +74,7 @@ module _ {D : Type 0} (g : Ghosts D) (old new : Core D) (e : Event) (r : Reply) 
         stands = record {
           stands = one.stands;
           past = λ told.
-              let told_old = subst IsTrue did.telling told in
+              let told_old = subst IsTrue did.counts.telling told in
               let was = s.past told_old in
               let run = one.images told_old in record {
                 opened = omega (arith, moment, was.opened, run.later);
@@ -103,9 +101,7 @@ module _ {D : Type 0} (g : Ghosts D) (old new : Core D) (e : Event) (r : Reply) 
     page = did.page;
     look = λ told m s. did.look told m s.stands;
     since = since;
-    telling = did.telling;
-    later = did.later;
-    cause = did.cause;
+    counts = did.counts;
     calls = did.calls;
     reads = did.reads;
   }

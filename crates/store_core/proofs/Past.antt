@@ -96,7 +96,7 @@ stands_since g old new e r m start least did since =
       stands = one.stands;
       reached = reached after;
       past = λ told.
-          let tells = subst IsTrue did.telling told in
+          let tells = subst IsTrue did.counts.telling told in
           joined g.moment g.left_since start old.disk new.disk now
           (widened g.moment g.left_since start old.disk (StoodFor least m.history (unsure_of old.state)) now (since.past tells)
           (stood e r m.history one.machine.history (unsure_of old.state) (unsure_of new.state) least after since.reached one.unsure one.ended))

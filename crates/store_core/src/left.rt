@@ -1,8 +1,9 @@
 //! What jobs left in files that the list doesn't name, when they failed or the program was killed, is freed.
 
-ghost use Rattle.std.specs.Prelude.{◌≡◌, ◌<◌, ◌≤◌, ◌+◌, ℕ, List, [], Some, IsTrue, IfOk, OnOk};
+ghost use Rattle.std.specs.Prelude.{◌≡◌, ◌<◌, ◌≤◌, ◌+◌, ℕ, List, [], Some, IsTrue, IfOk, OnOk, IsOk, IsErr};
+ghost use Rattle.disk_model.specs.Calls.{Counts};
 ghost use Rattle.disk_model.specs.Images.{bytes_of};
-ghost use Rattle.disk_model.specs.Crash.{OnlyBytes, Run, HasCause, Untouched};
+ghost use Rattle.disk_model.specs.Crash.{OnlyBytes, Run, Untouched};
 ghost use Rattle.block_list.specs.Body.{MeetsRules};
 ghost use Rattle.block_list.specs.Loading.{IsReady};
 ghost use Rattle.block_list.specs.declared.body.ListBody.{ListBody};
@@ -34,8 +35,7 @@ pub(crate) fn empty_left<D: Device>(disk: &mut D, first: u32) -> Result<(), Fail
     ensures freed { IsTrue (D.tells disk.old) → OnOk result (AreFreed (D.held disk.old) first (D.may_leave disk.new)) }
     ensures others { IsTrue (D.tells disk.old) → OthersStay (λ file. first ≤ file)
         (D.held disk.old) (D.held disk.new) (D.may_leave disk.old) (D.may_leave disk.new) }
-    ensures telling { D.tells disk.new ≡ D.tells disk.old }
-    ensures cause { HasCause (D.faults disk.old) (D.faults disk.new) result }
+    ensures counted { Counts D.Device.own 0 (IsOk result) (IsErr result) disk.old disk.new }
 {
     let end = end_of_left(disk, first)?;
     for file in (first..end).rev() {
@@ -50,7 +50,7 @@ fn end_of_left<D: Device>(disk: &mut D, first: u32) -> Result<u32, Failed>
     ensures empty { IsTrue (D.tells disk.old) → IfOk result (λ end. (file : ℕ) → end ≤ file → file < end + 8 →
         file < 4294967295 → OnlyBytes file [] (D.may_leave disk.new)) }
     ensures untouched { Untouched D.tells D.held D.may_leave D.moment D.left_since disk.old disk.new }
-    ensures cause { HasCause (D.faults disk.old) (D.faults disk.new) result }
+    ensures counted { Counts D.Device.own 0 (IsOk result) (IsErr result) disk.old disk.new }
 {
     let mut end = first;
     for file in first..u32::MAX {

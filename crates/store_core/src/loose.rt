@@ -2,15 +2,14 @@
 
 ghost use Rattle.std.specs.Prelude.{◌≡◌, ◌≢◌, ◌≤◌, ◌+◌, ◌*◌, ℕ, List, [], length, Some, Err, IsTrue, IfOk, IfErr, OnOk};
 ghost use Rattle.std.specs.List.{Contains};
-ghost use Rattle.span_types.specs.Faults.{Rose};
+ghost use Rattle.disk_model.specs.Calls.{Calls, CountsFault};
 ghost use Rattle.disk_model.specs.Images.{bytes_of};
-ghost use Rattle.disk_model.specs.Crash.{OnlyBytes, Run, HasCause};
+ghost use Rattle.disk_model.specs.Crash.{OnlyBytes, Run};
 ghost use Rattle.block_list.specs.Body.{MeetsRules};
 ghost use Rattle.block_list.specs.Commit.{IsListText};
 ghost use Rattle.block_list.specs.Loading.{IsReady};
 ghost use Rattle.block_list.specs.declared.body.ListBody.{ListBody};
 ghost use Rattle.store_images.specs.Stored.{KeepsStored};
-ghost use Rattle.store_state.specs.Calls.{RoseAtMost};
 ghost use Rattle.store_core.specs.Jobs.{IsSpare};
 ghost use Rattle.store_core.specs.Loose.{next_without, next_with, without_loose, AreFreed, AreUnused, MayEmpty, OthersStay};
 ghost use Rattle.store_core.specs.Opening.{KeepsDisk};
@@ -44,9 +43,7 @@ pub fn empty_loose<D: Device>(
         (OthersStay (IsSpare list) (D.held disk.old) (D.held disk.new) (D.may_leave disk.old) (D.may_leave disk.new)) }
     ensures freed { IsTrue (D.tells disk.old) →
         OnOk result (AreFreed (D.held disk.old) list.next_file (D.may_leave disk.new)) }
-    ensures telling { D.tells disk.new ≡ D.tells disk.old }
-    ensures later { D.faults disk.old ≤ D.faults disk.new }
-    ensures fault { result ≡ Err Fault → Rose (D.faults disk.old) (D.faults disk.new) }
+    ensures counted { CountsFault D.Device.own 0 Fault disk.old disk.new result }
     ensures a_store { (file at : ℕ) → result ≢ Err (NotStore file at) }
     ensures unchanged { IfErr result (λ error. error ≢ Fault → disk.new ≡ disk.old) }
 {
@@ -118,10 +115,7 @@ pub(crate) fn commit_without<D: Device>(
         OthersStay (Contains files.now) (D.held disk.old) (D.held disk.new) (D.may_leave disk.old) (D.may_leave disk.new) }
     ensures still { IsTrue (D.tells disk.old) → (file : ℕ) → 2 ≤ file → (Contains files.now file → ⊥) →
         bytes_of (D.held disk.new) file ≡ bytes_of (D.held disk.old) file }
-    ensures telling { D.tells disk.new ≡ D.tells disk.old }
-    ensures cause { HasCause (D.faults disk.old) (D.faults disk.new) result }
-    ensures calls { RoseAtMost (2 * length files.now + 6) (D.calls disk.old) (D.calls disk.new) }
-    ensures no_read { D.reads disk.new ≡ D.reads disk.old }
+    ensures counted { Calls D.Device.own (2 * length files.now + 6) 0 disk.old disk.new result }
 {
     empty_files(disk, files)?;
     commit(disk, text)
@@ -139,10 +133,7 @@ fn empty_files<D: Device>(disk: &mut D, files: &[u32]) -> Result<(), Failed>
         → OnlyBytes file [] (D.may_leave disk.new)) }
     ensures others { IsTrue (D.tells disk.old) →
         OthersStay (Contains files.now) (D.held disk.old) (D.held disk.new) (D.may_leave disk.old) (D.may_leave disk.new) }
-    ensures telling { D.tells disk.new ≡ D.tells disk.old }
-    ensures cause { HasCause (D.faults disk.old) (D.faults disk.new) result }
-    ensures calls { RoseAtMost (2 * length files.now) (D.calls disk.old) (D.calls disk.new) }
-    ensures no_read { D.reads disk.new ≡ D.reads disk.old }
+    ensures counted { Calls D.Device.own (2 * length files.now) 0 disk.old disk.new result }
 {
     for file in files {
         cut_through(disk, *file, 0)?;

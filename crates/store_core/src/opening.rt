@@ -2,8 +2,8 @@
 
 ghost use Rattle.std.specs.Prelude.{◌≡◌, ◌≢◌, ◌≤◌, ◌+◌, ◌-◌, ℕ, List, [], drop, map, Option, Some, Err, IsTrue, IfOk, IfErr, OnOk};
 ghost use Rattle.std.specs.List.{Contains};
-ghost use Rattle.span_types.specs.Faults.{Rose};
 ghost use Rattle.span_types.specs.declared.spans.Span.{Span};
+ghost use Rattle.disk_model.specs.Calls.{Counts, CountsFault};
 ghost use Rattle.disk_model.specs.Images.{bytes_of};
 ghost use Rattle.disk_model.specs.Crash.{OnlyBytes, Untouched};
 ghost use Rattle.block_list.specs.Body.{MeetsRules};
@@ -70,11 +70,9 @@ impl<D: Device> Core<D> {
         ensures not_store { IfErr result (λ e. IsTrue (D.tells disk) → (file at : ℕ) → e.0 ≡ NotStore file at → StoreBreaks (D.held disk) file at) }
         ensures unbroken { IfOk result (λ core. IsTrue (D.tells disk) → (file at : ℕ) → StoreBreaks (D.held disk) file at → ⊥) }
         ensures sound { IfErr result (λ e. IsTrue (D.tells disk) → IsSoundImage (D.held disk) → (file at : ℕ) → e.0 ≢ NotStore file at) }
-        ensures telling { IfOk result (λ core. D.tells core.disk ≡ D.tells disk) }
-        ensures telling_refused { IfErr result (λ e. D.tells e.1 ≡ D.tells disk) }
-        ensures later { IfOk result (λ core. D.faults disk ≤ D.faults core.disk) }
-        ensures later_refused { IfErr result (λ e. D.faults disk ≤ D.faults e.1) }
-        ensures fault { IfErr result (λ e. e.0 ≡ Fault → Rose (D.faults disk) (D.faults e.1)) }
+        // A fault is answered just where a call of the disk failed, and then it was the last one.
+        ensures counted { IfOk result (λ core. Counts D.Device.own 0 (Unit {0}) ⊥ disk core.disk) }
+        ensures counted_refused { IfErr result (λ e. Counts D.Device.own 0 (e.0 ≢ Fault) (e.0 ≡ Fault) disk e.1) }
     {
         let mut disk = disk;
         let found = match load(alloc, &mut disk) {
@@ -134,9 +132,7 @@ fn read_store<D: Device>(
     ensures ready { IsTrue (D.tells disk.old) → IfOk result (λ state. IsReady (D.held disk.new) (D.may_leave disk.new) (Some state.list)) }
     ensures left { IfErr result (λ error. error ≢ Fault → Untouched D.tells D.held D.may_leave D.moment D.left_since disk.old disk.new) }
     ensures not_store { IsTrue (D.tells disk.old) → (file at : ℕ) → result ≡ Err (NotStore file at) → ListBreaks (D.held disk.old) list file at }
-    ensures telling { D.tells disk.new ≡ D.tells disk.old }
-    ensures later { D.faults disk.old ≤ D.faults disk.new }
-    ensures fault { result ≡ Err Fault → Rose (D.faults disk.old) (D.faults disk.new) }
+    ensures counted { CountsFault D.Device.own 0 Fault disk.old disk.new result }
 {
     let (infos, segment, live) = match read_listed(alloc, disk, &list, moment) {
         Ok(read) => read,
@@ -181,8 +177,7 @@ fn read_listed<D: Device>(
         → OnlyBytes x.file (bytes_of (D.held disk.old) x.file) (D.may_leave disk.new)) }
     ensures not_store { IsTrue (D.tells disk.old) → (file at : ℕ) → result ≡ Err (NotStore file at) → ListBreaks (D.held disk.old) list.now file at }
     ensures untouched { Untouched D.tells D.held D.may_leave D.moment D.left_since disk.old disk.new }
-    ensures later { D.faults disk.old ≤ D.faults disk.new }
-    ensures fault { result ≡ Err Fault → Rose (D.faults disk.old) (D.faults disk.new) }
+    ensures counted { CountsFault D.Device.own 0 Fault disk.old disk.new result }
 {
     let infos = match read_blocks(alloc, disk, list.blocks.as_slice()) {
         Ok(infos) => infos,
@@ -212,8 +207,7 @@ fn read_rows<D: Device>(
     ensures not_store { IsTrue (D.tells disk.old) → (file at : ℕ) → result ≡ Err (NotStore file at)
         → LogBreaks (D.held disk.old) list.now.segments (first_number list.now) file at }
     ensures untouched { Untouched D.tells D.held D.may_leave D.moment D.left_since disk.old disk.new }
-    ensures later { D.faults disk.old ≤ D.faults disk.new }
-    ensures fault { result ≡ Err Fault → Rose (D.faults disk.old) (D.faults disk.new) }
+    ensures counted { CountsFault D.Device.own 0 Fault disk.old disk.new result }
 {
     match read_log(alloc, disk, list) {
         Ok((segment, batches)) => {
