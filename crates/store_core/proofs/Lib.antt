@@ -1,3 +1,4 @@
+mod Counted
 mod Now
 mod Quiet
 mod Described

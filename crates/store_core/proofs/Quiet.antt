@@ -20,9 +20,10 @@ use Rattle.store_state.specs.Written.{IsPageRead}
 use Rattle.store_core.specs.declared.state.CoreState.{CoreState}
 use Rattle.store_core.specs.declared.store.Core.{Core}
 use Rattle.store_core.specs.Cores.{StandsFor, unsure_of}
+use Rattle.store_core.proofs.Counted.{counted_none}
 use Rattle.store_core.proofs.Now.{StandsNow, did_since}
 use Rattle.store_state.specs.Calls.{MadeCalls}
-use Rattle.store_core.specs.Events.{Did, Between, unsure_after}
+use Rattle.store_core.specs.Events.{Did, Between, unsure_after, end_of}
 
 -- no entry gets unsure where the reply is no fault
 no_new : (event : Event) (reply : Reply) (unsure : Option Entry) → reply ≢ Refused Fault → unsure_after event reply unsure ≡ unsure
@@ -71,9 +72,7 @@ quiet {D} g only_now old state event reply still no_fault no_call begins same pa
   empty = λ told file among. none_begun reply file _ begins among;
   page = λ told. page (λ file. bytes_of (g.held old.disk) file);
   look = look;
-  telling = refl;
-  later = omega arith;
-  cause = λ is. absurd (no_fault is);
+  counts = counted_none g (end_of old.state event) reply old.disk no_fault;
   calls = no_call _;
   reads = (omega arith, omega arith);
 })
