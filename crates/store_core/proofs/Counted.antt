@@ -1,5 +1,5 @@
 -- What an event says of the disk's counts, by what its calls say.
-use Rattle.std.proofs.Common.{◌≡◌, ◌≢◌, ℕ, ◌+◌, ◌^◌, ◌<◌, ◌≤◌, Result, IsOk, IsErr, refl, arith}
+use Rattle.std.proofs.Common.{◌≡◌, ◌≢◌, ℕ, ◌+◌, ◌^◌, ◌<◌, ◌≤◌, Result, IsOk, IsErr, refl, subst, arith}
 use Rattle.span_types.specs.Faults.{Rose}
 use Rattle.span_types.specs.declared.errors.Failed.{Failed}
 use Rattle.disk_model.specs.Calls.{Counts, Calls}
@@ -76,6 +76,10 @@ module _ {D : Type 0} (g : Ghosts D) where
 
     pub calls_unread : RoseAtMost 0 (g.reads old) (g.reads new)
     calls_unread = let same = run.no_read in (omega (arith, same), omega (arith, same))
+
+-- the same end
+pub made_as : {D U : Type 0} (g : Ghosts D) (old new : D) (result : Result U Failed) (a b : ℕ) {count : ℕ} → a ≡ b → Calls g count a old new result → Calls g count b old new result
+made_as g old new result a b {count} is run = subst (λ (n : ℕ). Calls g count n old new result) is run
 
 -- so many calls, and then so many more
 pub rose_then : (one two a b c : ℕ) → RoseBy one a b → RoseBy two b c → RoseBy (one + two) a c
