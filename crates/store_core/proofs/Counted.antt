@@ -1,11 +1,11 @@
 -- What an event says of the disk's counts, by what its calls say.
-use Rattle.std.proofs.Common.{◌≡◌, ◌≢◌, ℕ, ◌+◌, ◌^◌, ◌<◌, ◌≤◌, Result, IsOk, IsErr, refl, subst, arith}
+use Rattle.std.proofs.Common.{◌≡◌, ◌≢◌, ℕ, ◌+◌, ◌^◌, ◌<◌, ◌≤◌, Result, Ok, IsOk, IsErr, refl, subst, arith}
 use Rattle.span_types.specs.Faults.{Rose}
 use Rattle.span_types.specs.declared.errors.Failed.{Failed}
 use Rattle.disk_model.specs.Calls.{Counts, Calls}
 use Rattle.disk_model.specs.Counts.{RoseBy}
 use Rattle.disk_model.specs.declared.disk.Device.{Ghosts}
-use Rattle.disk_model.proofs.CallRuns.{calls_counts, raised_rose}
+use Rattle.disk_model.proofs.CallRuns.{calls_counts, counts_as, raised_rose}
 use Rattle.store_model.specs.Event.{Reply}
 use Rattle.store_model.specs.Event.Reply.{Refused}
 use Rattle.store_model.specs.Event.Refusal.{Fault}
@@ -88,3 +88,11 @@ rose_then one two a b c first second = record {
   at_most = omega (arith, first.at_most, second.at_most);
   exact = λ few. let mid : b ≡ a + one = first.exact (omega (arith, few)) in let end = second.exact (omega (arith, few, mid)) in omega (arith, mid, end);
 }
+
+-- ---- runs that were fine so far
+
+pub fine_so_far : {D T E : Type 0} (g : Ghosts D) (end : ℕ) (old new : D) (x : T) → Counts g end (IsOk (Ok {E = E} x)) (IsErr (Ok {E = E} x)) old new → Counts g end (Unit {0}) ⊥ old new
+fine_so_far g end old new x run = counts_as g end _ _ (Unit {0}) ⊥ old new run (λ _. refl) (λ bad. absurd bad)
+
+pub fine_calls : {D T E : Type 0} (g : Ghosts D) (count end : ℕ) (old new : D) (x : T) → Calls g count end old new (Ok {E = E} x) → Counts g end (Unit {0}) ⊥ old new
+fine_calls {E = E} g count end old new x run = fine_so_far {E = E} g end old new x (calls_counts g old new (Ok x) count end run)

@@ -1,4 +1,5 @@
 use Rattle.std.proofs.Common.{◌≡◌, ◌<◌, ◌≤◌, ◌+◌, ℕ, [], Some, IsTrue}
+use Rattle.disk_model.specs.Calls.{Counts}
 use Rattle.disk_model.specs.Crash.{OnlyBytes, Run}
 use Rattle.block_list.specs.Loading.{IsReady}
 use Rattle.block_list.specs.declared.body.ListBody.{ListBody}
@@ -16,6 +17,5 @@ invariant-loop-file g l =
           → Run KeepsStored d.moment d.left_since d.may_leave was l.disk × IsReady (d.held l.disk) (d.may_leave l.disk) (Some body);
       empty : told → (file : ℕ) → l.file ≤ file → file < l.end + 8 → file < 4294967295 → OnlyBytes file [] (d.may_leave l.disk);
       others : told → OthersStay (λ file. l.first ≤ file) (d.held was) (d.held l.disk) (d.may_leave was) (d.may_leave l.disk);
-      telling : d.tells l.disk ≡ d.tells was;
-      later : d.faults was ≤ d.faults l.disk;
+      counts : Counts d 0 (Unit {0}) ⊥ was l.disk;
     }

@@ -1,4 +1,5 @@
 use Rattle.std.proofs.Common.{◌<◌, ◌≤◌, ◌+◌, ℕ, [], IsTrue}
+use Rattle.disk_model.specs.Calls.{Counts}
 use Rattle.disk_model.specs.Crash.{OnlyBytes, Untouched}
 use Rattle.store_core.proofs.left.end_of_left.Given as goal
 
@@ -11,5 +12,5 @@ invariant-loop-file g l =
       short : l.file ≤ l.end + 8;
       empty : IsTrue (d.tells l.fn.disk) → (file : ℕ) → l.end ≤ file → file < l.file → OnlyBytes file [] (d.may_leave l.disk);
       untouched : Untouched d.tells d.held d.may_leave d.moment d.left_since l.fn.disk l.disk;
-      later : d.faults l.fn.disk ≤ d.faults l.disk;
+      counts : Counts d 0 (Unit {0}) ⊥ l.fn.disk l.disk;
     }

@@ -41,7 +41,7 @@ loop-file-preserved g c =
           let told_mid : IsTrue (d.tells mid) = subst IsTrue (sym c.loop-file.invariant.telling) told in
           others_emptied (Contains files) (d.held c.args.disk.now) (d.held mid) (d.held new) (d.may_leave c.args.disk.now) (d.may_leave mid) (d.may_leave new) (c.loop-file.invariant.others told)
           (get_or files n 0) _ (Contains-get_or files n 0 inside) (c.cut_through.ensures.besides told_mid) c.cut_through.ensures.crash;
-      telling = c.cut_through.ensures.telling ∙ c.loop-file.invariant.telling;
+      telling = c.cut_through.ensures.counted.telling ∙ c.loop-file.invariant.telling;
       later = omega (arith, c.cut_through.ensures.cause.later);
       calls = (let was = c.loop-file.invariant.calls in let more = c.cut_through.ensures.calls in (omega (arith, was.0, more.later), omega (arith, was.1, more.at_most)));
       reads = c.cut_through.ensures.no_read ∙ c.loop-file.invariant.reads;

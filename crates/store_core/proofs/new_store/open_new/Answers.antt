@@ -11,7 +11,7 @@ returns-in-Ok-clause-stands g c = λ h empty.
     let d = g.D.Device in
     stands_now d g.met.D.Device.only_now _ (new_machine h) c.now.ensures
     (new_stands (IsTrue (d.tells c.make_store.new.disk)) (d.held c.make_store.new.disk) (d.may_leave c.make_store.new.disk) c.new_state.result h c.new_state.ensures
-    (λ told. c.in-Ok.ensures.made (subst IsTrue c.make_store.ensures.telling told)) empty)
+    (λ told. c.in-Ok.ensures.made (subst IsTrue c.make_store.ensures.counted.telling told)) empty)
 
 pub returns-in-Ok-clause-list : goal.returns-in-Ok-clause-list
 returns-in-Ok-clause-list g c = c.new_state.ensures.list
