@@ -1,5 +1,6 @@
 use Rattle.std.proofs.Common.{◌<◌, ◌+◌, ◌*◌, IsTrue, length, get_or, refl, sym, ◌∙◌, subst, arith}
 use Rattle.std.specs.List.{Contains}
+use Rattle.std.proofs.lemmas.Result.{err_from_is_err_and}
 use Rattle.std.proofs.lemmas.List.Elements.{Contains-get_or}
 use Rattle.disk_model.proofs.CallRuns.{calls_then}
 use Rattle.disk_model.specs.Images.{bytes_of}
@@ -48,8 +49,11 @@ returns-in_err-cut_through-clause-counted g c =
     let d = g.D.Device in
     let n = c.loop-file.file-index in
     let inside : n < length c.args.files.now = omega arith in
+    let disk = c.args.disk.now in
+    let new = c.cut_through.new.disk in
     let p = err_from_is_err_and c.from_residual.result c.from_residual.ensures.1 in
-    ?
+    rw p.1 (calls_short d 0 disk new _ (2 * n + 2) (2 * length c.args.files.now) (omega (arith, inside)) refl
+    (calls_then d (2 * n) 2 0 disk c.loop-file.disk new _ _ c.loop-file.invariant.made refl c.in_err-cut_through.ensures.counted))
 
 pub returns-in_err-cut_through-clause-kept : goal.returns-in_err-cut_through-clause-kept
 returns-in_err-cut_through-clause-kept g c = λ told body ready is.
