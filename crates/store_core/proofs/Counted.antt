@@ -1,5 +1,5 @@
 -- What an event says of the disk's counts, by what its calls say.
-use Rattle.std.proofs.Common.{◌≡◌, ◌≢◌, ℕ, ◌+◌, ◌^◌, ◌<◌, ◌≤◌, Result, Ok, Err, IsOk, IsErr, refl, subst, arith}
+use Rattle.std.proofs.Common.{◌≡◌, ◌≢◌, ℕ, ◌+◌, ◌^◌, ◌<◌, ◌≤◌, Result, Ok, Err, IsOk, IsErr, refl, ap, subst, arith}
 use Rattle.span_types.specs.Faults.{Rose}
 use Rattle.span_types.specs.declared.errors.Failed.{Failed}
 use Rattle.disk_model.specs.Calls.{Counts, Calls, CountsFault}
@@ -132,4 +132,44 @@ calls_short g end old new result count more less err run = record {
   near = run.near;
   calls = record { later = run.calls.later; at_most = omega (arith, run.calls.at_most, less); all = λ ok. absurd (not_both result ok err) };
   no_read = run.no_read;
+}
+
+-- ---- runs that answer an error of their own
+
+-- a refusal that is handed on
+pub refused_answer : {D T E : Type 0} (g : Ghosts D) (end : ℕ) (fault : E) (old new : D) (error : E) → CountsFault g end fault old new (Err {T = T} error) → Counts g end (error ≢ fault) (error ≡ fault) old new
+refused_answer {T = T} g end fault old new error run =
+    counts_as g end _ _ (error ≢ fault) (error ≡ fault) old new run (λ other is. other (let same : Err {T = T} error ≡ Err fault = is in cc)) (λ is. ap (λ (e : E). Err {T = T} e) is)
+
+-- calls of which one failed
+pub fault_answer : {D T U E : Type 0} (g : Ghosts D) (count end : ℕ) → end < 2 ^ 63 → (fault : E) (old new : D) (why : Failed) → Calls g count end old new (Err {T = U} why) → CountsFault g 0 fault old new (Err {T = T} fault)
+fault_answer g count end short fault old new why run = record {
+  time = run.time;
+  telling = run.telling;
+  later = run.later;
+  quiet = λ other. absurd (other refl);
+  fault = λ _. run.fault refl;
+  near = λ _. run.near short;
+}
+
+-- calls none of which failed
+pub well_answer : {D T U E : Type 0} (g : Ghosts D) (count end : ℕ) → end < 2 ^ 63 → (fault : E) (old new : D) (x : U) (result : Result T E) → (result ≡ Err fault → ⊥) → Calls g count end old new (Ok {E = Failed} x) → CountsFault g 0 fault old new result
+well_answer g count end short fault old new x result other run = record {
+  time = run.time;
+  telling = run.telling;
+  later = run.later;
+  quiet = λ _. run.quiet refl;
+  fault = λ is. absurd (other is);
+  near = λ _. run.near short;
+}
+
+-- no call
+pub still_answer : {D T E : Type 0} (g : Ghosts D) (fault : E) (disk : D) (result : Result T E) → (result ≡ Err fault → ⊥) → CountsFault g 0 fault disk disk result
+still_answer g fault disk result other = record {
+  time = omega arith;
+  telling = refl;
+  later = omega arith;
+  quiet = λ _. refl;
+  fault = λ is. absurd (other is);
+  near = λ _. refl;
 }
