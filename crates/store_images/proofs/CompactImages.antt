@@ -1,5 +1,5 @@
 -- What a crash within a compaction's commit leaves, and the disk once it was made.
-use Rattle.std.proofs.Common.{◌≡◌, ◌⊎◌, inl, inr, ℕ, ◌+◌, ◌<◌, ◌≤◌, not, List, [], ◌++◌, length, Some, Option, refl, sym, ◌∙◌, ap, subst, arith, length-append}
+use Rattle.std.proofs.Common.{◌≡◌, ◌⊎◌, inl, inr, ℕ, ◌+◌, ◌<◌, ◌≤◌, not, List, [], ◌++◌, length, Some, Option, sym, ◌∙◌, ap, subst, arith, length-append}
 use Rattle.std.specs.List.{Contains}
 use Rattle.std.proofs.lemmas.Bool.{cases_eq, cases_lt}
 use Rattle.std.proofs.lemmas.List.Elements.{Contains-push_cases}
@@ -22,7 +22,7 @@ use Rattle.store_model.specs.State.{Block, is_among}
 use Rattle.store_model.specs.Choice.{outside_files}
 use Rattle.store_images.specs.Log.{LogHolds}
 use Rattle.store_images.specs.Committed.{CommitsCompaction, MayCompact, with_joined}
-use Rattle.store_images.specs.Stored.{ImageStandsFor, IsTidy, first_number, stored_rows, next_file_of, named_files}
+use Rattle.store_images.specs.Stored.{ImageStandsFor, IsTidy, first_number, next_file_of, named_files}
 use Rattle.store_images.specs.Settled.{Tail, IsTail, IsSettled}
 use Rattle.store_images.proofs.Compacted.{compacted, store_compacted, agrees_compacted}
 use Rattle.store_images.proofs.Keeping.{segment_named, block_named, rules_in, given_out, blocks_same, slots_same, one_list}

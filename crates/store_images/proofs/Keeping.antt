@@ -1,6 +1,6 @@
 -- Images that store the same.
-use Rattle.std.proofs.Common.{◌≡◌, ◌≢◌, ◌⊎◌, inl, inr, ℕ, ◌+◌, ◌<◌, ◌≤◌, List, [], ◌∷◌, ◌++◌, map, length, Some, None, Option, refl, sym, ◌∙◌, ap, subst, arith}
-use Rattle.std.specs.List.{Contains, All}
+use Rattle.std.proofs.Common.{◌≡◌, inl, inr, ℕ, ◌<◌, ◌≤◌, List, [], ◌∷◌, map, Some, None, Option, refl, sym, ◌∙◌, subst, arith}
+use Rattle.std.specs.List.{Contains}
 use Rattle.std.proofs.lemmas.List.Elements.{All-contains, Contains-append_left, Contains-append_right}
 use Rattle.span_types.specs.declared.spans.Span.{Span}
 use Rattle.disk_model.specs.Images.{Image, bytes_of}
@@ -17,7 +17,7 @@ use Rattle.block_list.specs.declared.body.ListBody.{ListBody}
 use Rattle.store_model.specs.History.{History}
 use Rattle.store_model.specs.State.{Block}
 use Rattle.block_format.specs.Blocks.{BlockHolds}
-use Rattle.store_images.specs.Stored.{BlocksStand, StoreHolds, ImageStores, ImageStandsFor, IsTidy, KeepsStored, ref_of, named_files, next_file_of}
+use Rattle.store_images.specs.Stored.{BlocksStand, StoreHolds, ImageStores, ImageStandsFor, KeepsStored, ref_of}
 use Rattle.store_images.specs.Stored.ImageStores.{vacant, filled}
 use Rattle.store_images.proofs.Lists.{in_map}
 use Rattle.store_images.proofs.Logs.{log_same}

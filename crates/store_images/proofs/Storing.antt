@@ -1,5 +1,5 @@
 -- A store whose last segment has one record more.
-use Rattle.std.proofs.Common.{◌≡◌, ◌≢◌, ◌⊎◌, inl, inr, ℕ, ◌+◌, ◌-◌, ◌<◌, ◌≤◌, false, List, [], ◌∷◌, ◌++◌, map, length, drop, get_or, nat_eq, Some, refl, sym, ◌∙◌, ap, subst, arith, eq-eqb, append_assoc, length-append}
+use Rattle.std.proofs.Common.{◌≡◌, ◌≢◌, inl, inr, ℕ, ◌+◌, ◌-◌, ◌<◌, ◌≤◌, false, List, [], ◌∷◌, ◌++◌, map, length, drop, get_or, nat_eq, Some, refl, sym, ◌∙◌, ap, subst, arith, eq-eqb, append_assoc, length-append}
 use Rattle.std.specs.List.{Contains, IsDistinct}
 use Rattle.std.proofs.lemmas.List.{map-append, length-map}
 use Rattle.std.proofs.Math.Seq.{get_or-append_seam}
@@ -8,10 +8,10 @@ use Rattle.std.proofs.lemmas.List.Elements.{All-contains, All-from_recursion, Co
 use Rattle.span_types.specs.declared.spans.Span.{Span}
 use Rattle.span_types.specs.declared.spans.Row.{Row}
 use Rattle.disk_model.specs.Images.{Image, bytes_of, Besides}
-use Rattle.disk_model.specs.Crash.{OnlyBytes, Within, Follows, Reached, ButFor}
+use Rattle.disk_model.specs.Crash.{OnlyBytes, Within, ButFor}
 use Rattle.disk_model.proofs.Passing.{other_stays_run}
 use Rattle.head_log.specs.Stands.{SegmentHolds, SegmentKeeps, SegmentKeepsEither}
-use Rattle.block_list.specs.Body.{MeetsRules, files_of}
+use Rattle.block_list.specs.Body.{MeetsRules}
 use Rattle.block_list.specs.Slots.{ImageHoldsList}
 use Rattle.block_list.proofs.ReadyLemmas.{ready_besides}
 use Rattle.block_list.specs.declared.body.BlockRef.{BlockRef}
@@ -22,12 +22,12 @@ use Rattle.store_model.specs.History.{History, count_of, pushed, batch_rows, pus
 use Rattle.store_model.specs.Laws.{AgreesOn}
 use Rattle.store_model.specs.State.{Block}
 use Rattle.store_images.specs.Log.{LogHolds}
-use Rattle.store_images.specs.Stored.{BlocksStand, StoreHolds, ImageStandsFor, MayStandFor, SameFirsts, IsTidy, stored_rows, first_number, ref_of, named_files}
-use Rattle.store_images.specs.Settled.{Tail, IsTail, ListLies, IsSettled}
+use Rattle.store_images.specs.Stored.{StoreHolds, ImageStandsFor, MayStandFor, SameFirsts, IsTidy, stored_rows, first_number, ref_of, named_files}
+use Rattle.store_images.specs.Settled.{Tail, IsTail, IsSettled}
 use Rattle.store_images.proofs.Lists.{in_cons, not_in_nil, in_map, at_front}
 use Rattle.store_images.proofs.Growing.{agrees_grown, count_of-pushed, stored_more, floored_more}
 use Rattle.store_images.proofs.Logs.{log_same, log_with}
-use Rattle.store_images.proofs.Keeping.{slots_same, blocks_same, rules_in, given_out, segment_named, block_named, one_list}
+use Rattle.store_images.proofs.Keeping.{slots_same, blocks_same, rules_in, given_out, segment_named, one_list}
 
 -- ---- the tail's file is no other's
 

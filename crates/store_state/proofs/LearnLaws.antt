@@ -1,5 +1,5 @@
 -- What a step tells of the history.
-use Rattle.std.proofs.Common.{◌≡◌, ℕ, [], ◌++◌, sym, subst, ◌∙◌, ap}
+use Rattle.std.proofs.Common.{◌≡◌, ℕ, [], sym, subst, ap}
 use Rattle.std.proofs.lemmas.List.{append-nil}
 use Rattle.store_model.specs.History.{History, grown}
 use Rattle.store_model.specs.Event.{Event, Reply}

@@ -1,4 +1,4 @@
-use Rattle.std.proofs.Common.{◌≡◌, ◌+◌, ℕ, length, drop, sym, subst}
+use Rattle.std.proofs.Common.{◌≡◌, ◌+◌, ℕ, length, drop, refl, sym, subst}
 use Rattle.store_model.specs.Event.Event.{ReadPage}
 use Rattle.store_model.specs.Event.{Reply as reply, Refusal as refusal}
 use Rattle.store_model.specs.Event.Reply.{Page}

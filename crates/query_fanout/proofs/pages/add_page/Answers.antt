@@ -1,3 +1,4 @@
+use Rattle.std.proofs.Common.{refl}
 use Rattle.store_model.specs.Event.{Reply as reply, Refusal as cause}
 use Rattle.store_state.specs.Given.{look_of, look_parts}
 use Rattle.store_state.specs.Given.IsPinOf.{OfLook}
