@@ -1,6 +1,6 @@
 //! Loose files are emptied, and the list is committed without them.
 
-ghost use Rattle.std.specs.Prelude.{◌≡◌, ◌++◌, IfOk, OnOk, filter, not};
+ghost use Rattle.std.specs.Prelude.{◌≡◌, ◌<◌, ◌+◌, ◌^◌, ◌++◌, length, IfOk, OnOk, filter, not};
 ghost use Rattle.std.specs.List.Sorted.{IsNonDecreasing};
 ghost use Rattle.block_list.specs.Body.{MeetsRules};
 ghost use Rattle.block_list.specs.Commit.{IsListText};
@@ -48,8 +48,7 @@ impl<D: Device> Core<D> {
             return Err(ReclaimError::Memory);
         };
         let Ok(()) = commit_without(&mut self.disk, free.as_slice(), &text) else {
-            let faults = self.disk.faults();
-            self.state.read_only = Some(faults);
+            self.stop_writing();
             return Err(ReclaimError::Fault);
         };
         self.state.list = list;
@@ -78,6 +77,7 @@ impl CoreState {
         ensures list { IfOk result (λ next. next.0 ≡ list_kept self.now.list self.now.jobs kept.now) }
         ensures text { IfOk result (λ next. MeetsRules (list_kept self.now.list self.now.jobs kept.now) →
             IsListText next.1 (list_kept self.now.list self.now.jobs kept.now)) }
+        ensures short { IfOk result (λ next. 1 + length next.1.text < 2 ^ 63) }
     {
         let (blocks, segments) = copy_used(alloc, &self.list)?;
         let loose = files_named(alloc, kept, &self.jobs)?;
