@@ -15,10 +15,10 @@ use std::io::ErrorKind;
 /// process on Linux may have where nothing else is set, so that the program has the rest.
 const MOST_OPEN: usize = 256;
 
-/// The files of which a store always has one, once it has a third file with more than [`BEFORE_SLOTS`] bytes or a fourth.
+/// The files of which one has bytes in each store, since its list is there.
 const SLOTS: [u32; 2] = [0, 1];
 
-/// The file that a store makes before it has one of its slots, and the most bytes that it then has.
+/// The one other file that is made before the first list, and the most bytes that it has till then.
 const FIRST: u32 = 2;
 
 const BEFORE_SLOTS: u64 = 2;
@@ -184,18 +184,17 @@ impl<R: System + Drop> Folder<R> {
         Ok(())
     }
 
-    /// Fails where the folder has the files of a store but neither of its slots.
+    /// Fails where the folder has files of a store, but nothing in either of its slots.
     fn expect_slots(&self) -> io::Result<()> {
         for slot in SLOTS {
-            let path = self.path_of(slot)?;
-            if look_for(&self.system, path.as_str())?.is_some() {
-                return Ok(());
+            match look_for(&self.system, self.path_of(slot)?.as_str())? {
+                Some(found) if !found.is_regular || found.len > 0 => return Ok(()),
+                _ => {}
             }
         }
         let is_new = match self.system.last_number(self.path.as_str())? {
-            None => true,
             Some(FIRST) => self.system.look(self.path_of(FIRST)?.as_str())?.len <= BEFORE_SLOTS,
-            Some(_) => false,
+            last => last < Some(FIRST),
         };
         if is_new {
             Ok(())

@@ -34,18 +34,20 @@ fn is_refused<D: Device>(disk: &mut D, file: u32) -> bool {
 }
 
 /// Files of a folder by name and length, and whether a disk takes them for a store's, or for none at all.
-const FOLDERS: [(&[(&str, usize)], bool); 10] = [
+const FOLDERS: [(&[(&str, usize)], bool); 12] = [
     (&[], true),
     (&[("notes.txt", 7), ("lock", 0), ("x.dat", 9)], true),
     // What is left where a program was killed as it made a new store.
     (&[("2.dat", 0)], true),
     (&[("2.dat", 2)], true),
     (&[("0.dat", 0), ("2.dat", 2)], true),
+    (&[("0.dat", 0), ("1.dat", 0)], true),
     (&[("0.dat", 42), ("2.dat", 2)], true),
     (&[("1.dat", 42), ("7.dat", 5)], true),
     // What no program leaves.
     (&[("2.dat", 3)], false),
     (&[("2.dat", 2), ("3.dat", 0)], false),
+    (&[("0.dat", 0), ("2.dat", 2), ("9.dat", 1)], false),
     (&[("lock", 0), ("17.dat", 5)], false),
 ];
 
