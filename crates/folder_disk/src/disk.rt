@@ -1,7 +1,8 @@
 //! A disk in a folder, with its counts.
 
-ghost use Rattle.std.specs.Prelude.{◌≡◌, Ok, IsErr, IfOk, OnErr};
-ghost use Rattle.folder_disk.specs.Folder.{calls_of, faults_of, reads_of, far_writes_of, passed, failed};
+ghost use Rattle.std.specs.Prelude.{◌≡◌, ◌<◌, ◌≤◌, ◌+◌, ◌^◌, Ok, IsErr, length, IfOk, OnErr};
+ghost use Rattle.disk_model.specs.Counts.{Raised, Plain};
+ghost use Rattle.folder_disk.specs.Folder.{calls_of, faults_of, reads_of, far_writes_of, folder_of, CountsOne};
 
 use crate::files::ends_in_file;
 use crate::folder::Folder;
@@ -46,17 +47,37 @@ impl<R: System + Drop> FolderDisk<R> {
 impl<R: System> FolderDisk<R> {
     /// Counts a call of the device, and a fault where it failed.
     fn count<T: Drop>(&mut self, answer: io::Result<T>) -> Result<T, Failed>
-        ensures passed { IfOk answer (λ value. (result ≡ Ok value) × (self.new ≡ passed self.old)) }
-        ensures failed { OnErr answer (IsErr result × (self.new ≡ failed self.old)) }
+        ensures same { IfOk answer (λ value. result ≡ Ok value) }
+        ensures failed { OnErr answer (IsErr result) }
+        ensures counted { CountsOne Plain self.old self.new result }
+        ensures folder { folder_of self.new ≡ folder_of self.old }
     {
-        self.calls = self.calls.saturating_add(1);
+        self.calls = one_more(self.calls);
         match answer {
             Ok(value) => Ok(value),
             Err(_) => {
-                self.faults = self.faults.saturating_add(1);
+                self.faults = one_more(self.faults);
                 Err(Failed)
             }
         }
+    }
+}
+
+fn one_more(count: u64) -> u64
+    ensures { Raised count result }
+{
+    count.saturating_add(1)
+}
+
+/// The count of far writes after one that writes these bytes from the byte `at` on.
+fn far_after(count: u64, at: u64, bytes: &[u8]) -> u64
+    ensures near { at + length bytes.now < 2 ^ 63 → result ≡ count }
+    ensures far { 2 ^ 63 ≤ at + length bytes.now → Raised count result }
+{
+    if ends_in_file(at, bytes.len()) {
+        count
+    } else {
+        one_more(count)
     }
 }
 
@@ -94,16 +115,14 @@ impl<R: System + Drop> Device for FolderDisk<R> {
     }
 
     fn read(&mut self, file: u32, at: u64, buf: &mut [u8]) -> Result<usize, Failed> {
-        self.reads = self.reads.saturating_add(1);
+        self.reads = one_more(self.reads);
         let answer = self.folder.read(file, at, buf);
         self.count(answer)
     }
 
     #[tactic(auto, using(disk_model::proofs::Untold::any_torn))]
     fn write(&mut self, file: u32, at: u64, bytes: &[u8]) -> Result<(), Failed> {
-        if !ends_in_file(at, bytes.len()) {
-            self.far_writes = self.far_writes.saturating_add(1);
-        }
+        self.far_writes = far_after(self.far_writes, at, bytes);
         let answer = self.folder.write(file, at, bytes);
         self.count(answer)
     }
