@@ -70,7 +70,9 @@ fn files_of_a_store_without_a_slot_are_refused(rt: HostRuntime) -> Result<(), Fa
         for entry in fs::read_dir(&rt, folder.as_str())? {
             let entry = entry?;
             let len = entry.metadata()?.len();
-            assert!(rt; entry.file_name() == "lock" || files.contains(&(entry.file_name(), len as usize)));
+            assert!(rt;
+                entry.file_name() == "lock" || files.contains(&(entry.file_name(), len as usize))
+            );
             count += 1;
         }
         let had_lock = files.contains(&("lock", 0));
@@ -86,8 +88,16 @@ fn a_link_or_a_folder_is_no_file(rt: HostRuntime) -> Result<(), Fail> {
     let folder = emptied(rt, "kinds")?;
     let target = format!(in rt.alloc(); "{folder}/target")?;
     fs::write(&rt, target.as_str(), &[1u8, 2, 3])?;
-    symlink(&rt, "target", format!(in rt.alloc(); "{folder}/0.dat")?.as_str())?;
-    symlink(&rt, "nothing", format!(in rt.alloc(); "{folder}/3.dat")?.as_str())?;
+    symlink(
+        &rt,
+        "target",
+        format!(in rt.alloc(); "{folder}/0.dat")?.as_str(),
+    )?;
+    symlink(
+        &rt,
+        "nothing",
+        format!(in rt.alloc(); "{folder}/3.dat")?.as_str(),
+    )?;
     let inner = format!(in rt.alloc(); "{folder}/4.dat")?;
     fs::create_dir(&rt, inner.as_str())?;
     let mut disk = disk_in(rt, folder.as_str())?;
@@ -106,7 +116,11 @@ fn a_link_or_a_folder_is_no_file(rt: HostRuntime) -> Result<(), Fail> {
 #[test]
 fn a_link_is_no_lock(rt: HostRuntime) -> Result<(), Fail> {
     let folder = emptied(rt, "lock")?;
-    symlink(&rt, "other", format!(in rt.alloc(); "{folder}/lock")?.as_str())?;
+    symlink(
+        &rt,
+        "other",
+        format!(in rt.alloc(); "{folder}/lock")?.as_str(),
+    )?;
     assert!(rt; is_refused(&mut disk_in(rt, folder.as_str())?, 0));
     assert!(rt; !fs::exists(&rt, format!(in rt.alloc(); "{folder}/other")?.as_str())?);
     Ok(fs::remove_dir_all(&rt, folder.as_str())?)
@@ -121,7 +135,11 @@ fn what_is_made_is_its_owners_alone(rt: HostRuntime) -> Result<(), Fail> {
     assert_eq!(rt; fs::metadata(&rt, folder.as_str())?.mode() & 0o777, 0o700);
     for name in ["lock", "0.dat"] {
         let path = format!(in rt.alloc(); "{folder}/{name}")?;
-        assert_eq!(rt; fs::metadata(&rt, path.as_str())?.mode() & 0o777, 0o600, "{name}");
+        assert_eq!(rt;
+            fs::metadata(&rt, path.as_str())?.mode() & 0o777,
+            0o600,
+            "{name}"
+        );
     }
     drop(disk);
     Ok(fs::remove_dir_all(&rt, folder.as_str())?)
@@ -138,7 +156,9 @@ fn a_lock_that_was_taken_away_is_noticed(rt: HostRuntime) -> Result<(), Fail> {
     let mut second = disk_in(rt, folder.as_str())?;
     assert!(rt; second.len(0).is_ok());
     // The first one makes nothing last any more, opens nothing and makes nothing.
-    assert!(rt; first.sync(0).is_err() && first.len(1).is_err() && first.write(1, 0, &[7]).is_err());
+    assert!(rt;
+        first.sync(0).is_err() && first.len(1).is_err() && first.write(1, 0, &[7]).is_err()
+    );
     assert!(rt; second.len(1) == Ok(0));
     drop(first);
     drop(second);

@@ -9,6 +9,7 @@ use std::io::ErrorKind;
 
 /// Linux's numbers for a device that fails, and for a program that has no descriptor left.
 const EIO: i32 = 5;
+
 const EMFILE: i32 = 24;
 
 /// So many files may be there, the one that is locked first.
@@ -197,7 +198,10 @@ impl<'a> SystemFile for Opened<'a> {
     fn read_at(&self, buf: &mut [u8], at: u64) -> io::Result<usize> {
         let cached = self.machine.get(self.place).cached;
         let mut count = 0;
-        for (place, byte) in buf.iter_mut().zip(cached.all.iter().take(cached.len).skip(at as usize)) {
+        for (place, byte) in buf
+            .iter_mut()
+            .zip(cached.all.iter().take(cached.len).skip(at as usize))
+        {
             *place = *byte;
             count += 1;
         }
@@ -206,7 +210,13 @@ impl<'a> SystemFile for Opened<'a> {
 
     fn write_all_at(&self, bytes: &[u8], at: u64) -> io::Result<()> {
         let mut kept = self.machine.get(self.place);
-        for (place, byte) in kept.cached.all.iter_mut().skip(at as usize).zip(bytes.iter()) {
+        for (place, byte) in kept
+            .cached
+            .all
+            .iter_mut()
+            .skip(at as usize)
+            .zip(bytes.iter())
+        {
             *place = *byte;
         }
         let end = (at as usize).saturating_add(bytes.len());
@@ -248,7 +258,9 @@ impl<'a> SystemFile for Opened<'a> {
             kept.cached = kept.device;
         }
         self.machine.set(self.place, kept);
-        self.machine.drops.set(self.machine.drops.get().saturating_add(1));
+        self.machine
+            .drops
+            .set(self.machine.drops.get().saturating_add(1));
         Ok(())
     }
 }

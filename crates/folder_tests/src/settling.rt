@@ -8,7 +8,10 @@ use std::alloc::AllocError;
 use std::test::Fail;
 
 /// A disk as a program has it that is started now.
-fn disk_on<'a>(rt: HostRuntime, machine: &'a Machine) -> Result<FolderDisk<&'a Machine>, AllocError> {
+fn disk_on<'a>(
+    rt: HostRuntime,
+    machine: &'a Machine,
+) -> Result<FolderDisk<&'a Machine>, AllocError> {
     let path = String::from_str(rt.alloc(), "store")?;
     Ok(FolderDisk::new(machine, rt.alloc(), path))
 }
@@ -93,7 +96,9 @@ fn a_file_is_settled_once(rt: HostRuntime) -> Result<(), Fail> {
 }
 
 #[test]
-fn files_without_changes_are_closed_where_no_descriptor_is_left(rt: HostRuntime) -> Result<(), Fail> {
+fn files_without_changes_are_closed_where_no_descriptor_is_left(
+    rt: HostRuntime,
+) -> Result<(), Fail> {
     let machine = Machine::new();
     // The lock and three files.
     machine.most_open.set(4);

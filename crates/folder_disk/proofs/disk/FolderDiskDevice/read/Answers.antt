@@ -7,11 +7,11 @@ returns-clause-counted g c =
     let one = c.count.ensures.counted in
     let more = c.one_more-self.ensures in
     record {
-        telling = refl;
-        quiet = one.quiet;
-        fault = one.fault;
-        call = one.call;
-        read = record { later = omega (arith, more.later, one.read); is = one.read ∙ more.is };
-        near = one.near;
-        far = one.far;
+      telling = refl;
+      quiet = one.quiet;
+      fault = one.fault;
+      call = one.call;
+      read = record { later = omega (arith, more.later, one.read); is = one.read ∙ more.is };
+      near = one.near;
+      far = one.far;
     }

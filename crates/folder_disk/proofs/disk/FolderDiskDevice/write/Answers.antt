@@ -7,11 +7,11 @@ returns-clause-counted g c =
     let one = c.count.ensures.counted in
     let after = c.far_after-self.ensures in
     record {
-        telling = refl;
-        quiet = one.quiet;
-        fault = one.fault;
-        call = one.call;
-        read = one.read;
-        near = λ near. one.near tt ∙ after.near near;
-        far = λ far. record { later = omega (arith, (after.far far).later, one.near tt); is = one.near tt ∙ (after.far far).is };
+      telling = refl;
+      quiet = one.quiet;
+      fault = one.fault;
+      call = one.call;
+      read = one.read;
+      near = λ near. one.near tt ∙ after.near near;
+      far = λ far. record { later = omega (arith, (after.far far).later, one.near tt); is = one.near tt ∙ (after.far far).is };
     }
