@@ -66,17 +66,17 @@ fn files_of_a_store_without_a_slot_are_refused(rt: HostRuntime) -> Result<(), Fa
             assert!(rt; is_refused(&mut disk, 0) && is_refused(&mut disk, 17));
         }
         // Nothing was cut or made but the lock, and that in no folder that is refused.
-        let mut count = 0;
+        let mut count = 0usize;
         for entry in fs::read_dir(&rt, folder.as_str())? {
             let entry = entry?;
             let len = entry.metadata()?.len();
             assert!(rt;
                 entry.file_name() == "lock" || files.contains(&(entry.file_name(), len as usize))
             );
-            count += 1;
+            count = count.saturating_add(1);
         }
         let had_lock = files.contains(&("lock", 0));
-        assert_eq!(rt; count, files.len() + usize::from(is_taken && !had_lock));
+        assert_eq!(rt; count, files.len().saturating_add(usize::from(is_taken && !had_lock)));
         drop(disk);
         fs::remove_dir_all(&rt, folder.as_str())?;
     }

@@ -197,14 +197,12 @@ impl<'a> SystemFile for Opened<'a> {
 
     fn read_at(&self, buf: &mut [u8], at: u64) -> io::Result<usize> {
         let cached = self.machine.get(self.place).cached;
-        let mut count = 0;
-        for (place, byte) in buf
-            .iter_mut()
-            .zip(cached.all.iter().take(cached.len).skip(at as usize))
-        {
-            *place = *byte;
-            count += 1;
-        }
+        let have = match cached.all.get(at as usize..cached.len) {
+            Some(have) => have,
+            None => &[],
+        };
+        let count = have.len().min(buf.len());
+        buf[..count].copy_from_slice(&have[..count]);
         Ok(count)
     }
 

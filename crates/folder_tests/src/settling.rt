@@ -81,15 +81,16 @@ fn a_failed_write_is_settled(rt: HostRuntime) -> Result<(), Fail> {
 fn a_file_is_settled_once(rt: HostRuntime) -> Result<(), Fail> {
     let machine = Machine::new();
     let mut first = disk_on(rt, &machine)?;
-    for file in 0..6 {
-        put(&mut first, file, &[file as u8])?;
+    for file in 0..6u8 {
+        put(&mut first, u32::from(file), &[file])?;
     }
     drop(first);
     assert_eq!(rt; machine.drops.get(), 0);
     machine.most_open.set(4);
     let mut second = disk_on(rt, &machine)?;
-    for file in 0..60u32 {
-        assert!(rt; has(&mut second, file % 6, &[(file % 6) as u8])?);
+    for turn in 0..60u8 {
+        let file = turn % 6;
+        assert!(rt; has(&mut second, u32::from(file), &[file])?);
     }
     assert_eq!(rt; machine.drops.get(), 6);
     Ok(())
@@ -103,11 +104,11 @@ fn files_without_changes_are_closed_where_no_descriptor_is_left(
     // The lock and three files.
     machine.most_open.set(4);
     let mut disk = disk_on(rt, &machine)?;
-    for file in 0..8 {
-        put(&mut disk, file, &[file as u8, 5])?;
+    for file in 0..8u8 {
+        put(&mut disk, u32::from(file), &[file, 5])?;
     }
-    for file in 0..8 {
-        assert!(rt; has(&mut disk, file, &[file as u8, 5])?);
+    for file in 0..8u8 {
+        assert!(rt; has(&mut disk, u32::from(file), &[file, 5])?);
     }
     // Files with changes stay open, so a fourth one can't be opened.
     for file in 0..3 {
