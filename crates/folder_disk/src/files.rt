@@ -3,6 +3,7 @@
 ghost use Rattle.std.specs.Prelude.{◌≡◌, ◌<◌, ◌≤◌, ◌+◌, ◌-◌, ◌^◌, ◌↔◌, min, length, IsTrue, IfOk};
 
 use crate::system::{Found, System, SystemFile};
+use std::alloc::Global;
 use std::io;
 use std::io::ErrorKind;
 use std::path::Path;
@@ -10,8 +11,13 @@ use std::path::Path;
 /// A file's length is below this.
 const LENGTHS: u64 = 1 << 63;
 
-/// The number of the error that the whole system has no descriptor left, on Linux.
+/// The numbers of the errors that the whole system has no descriptor left, and that this program has none, on Linux.
 const ENFILE: i32 = 23;
+
+const EMFILE: i32 = 24;
+
+/// So many bytes of a file are written again at once.
+const PIECE: usize = 65_536;
 
 /// Whether a write of that many bytes ends where a file may.
 pub fn ends_in_file(at: u64, len: usize) -> bool
@@ -47,6 +53,24 @@ pub fn read_on(file: &impl SystemFile, at: u64, buf: &mut [u8]) -> io::Result<us
             Err(e) if e.kind() == ErrorKind::Interrupted => {}
             Err(e) => return Err(e),
         }
+    }
+    Err(io::Error::from(ErrorKind::Interrupted))
+}
+
+/// Writes a file's bytes over themselves, so that the next sync makes last what a read gives.
+pub fn write_again(alloc: Global, file: &impl SystemFile) -> io::Result<()> {
+    let mut buf = vec![in alloc; 0; PIECE]?;
+    let mut at: u64 = 0;
+    for _ in 0..u64::MAX {
+        let count = read_on(file, at, buf.as_mut_slice())?;
+        let Some(bytes) = buf.get(..count) else {
+            return Ok(());
+        };
+        if bytes.is_empty() {
+            return Ok(());
+        }
+        file.write_all_at(bytes, at)?;
+        at = at.saturating_add(count as u64);
     }
     Err(io::Error::from(ErrorKind::Interrupted))
 }
@@ -111,7 +135,7 @@ fn expect_regular(found: Found) -> io::Result<()> {
 pub fn wants_descriptor<T>(answer: &io::Result<T>) -> bool {
     match answer {
         Ok(_) => false,
-        Err(e) => matches!(e.raw_os_error(), Some(libc::EMFILE | ENFILE)),
+        Err(e) => matches!(e.raw_os_error(), Some(EMFILE | ENFILE)),
     }
 }
 

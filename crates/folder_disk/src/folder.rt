@@ -2,8 +2,10 @@
 
 ghost use Rattle.std.specs.Prelude.{◌≡◌, ◌<◌, ◌≤◌, ◌+◌, ◌^◌, length, IfOk, OnOk};
 
+use crate::doubts::Doubts;
 use crate::files::{
-    ends_in_file, expect_named, lock, look_for, open_if_there, read_on, sync_name, wants_descriptor,
+    ends_in_file, expect_named, lock, look_for, open_if_there, read_on, sync_name,
+    wants_descriptor, write_again,
 };
 use crate::system::{System, SystemFile};
 use std::alloc::{AllocError, Global};
@@ -30,11 +32,12 @@ struct Handle<F> {
     is_changed: bool,
 }
 
-/// The file that is locked for this program, and its name.
+/// The file that is locked for this program, its name, and the files that it says are in doubt.
 #[derive(Drop)]
 struct Lock<F> {
     file: F,
     path: String,
+    doubts: Doubts,
 }
 
 /// Which names a power cut may take or bring back.
@@ -56,8 +59,10 @@ pub struct Folder<R: System> {
     lock: Option<Lock<R::File>>,
     unsynced: Unsynced,
     handles: BTreeMap<u32, Handle<R::File>>,
-    /// The files of which a read gives what the device has, or what was written to them since by calls that passed.
+    /// The files of which the device has what a read gives, but for what was written to them since by calls that passed.
     settled: BTreeSet<u32>,
+    /// Whether a write, a cut or a sync of this program has failed.
+    has_failed: bool,
     /// So many files were opened since those without changes were closed.
     opened: usize,
 }
@@ -76,6 +81,7 @@ impl<R: System + Drop> Folder<R> {
             unsynced: Unsynced::Folder,
             handles: BTreeMap::new(alloc),
             settled: BTreeSet::new(alloc),
+            has_failed: false,
             opened: 0,
         }
     }
@@ -161,13 +167,33 @@ impl<R: System + Drop> Folder<R> {
         self.doubt_failed(number, answer)
     }
 
-    /// Hands on the answer of a write, a cut or a sync. Where it failed, a read may give what the device doesn't have and
-    /// never will, so the next call settles the file.
+    /// Hands on the answer of a write, a cut or a sync. If it failed, a read may give what the device doesn't have and never
+    /// will, so the next call settles the file, be it of this program or of a later one.
     fn doubt_failed(&mut self, number: u32, answer: io::Result<()>) -> io::Result<()> {
         if answer.is_err() {
+            self.has_failed = true;
             self.settled.remove(&number);
+            if let Some(lock) = &mut self.lock {
+                // If this fails too, this program alone knows.
+                let _kept = lock.doubts.add(number, &lock.file);
+            }
         }
         answer
+    }
+
+    /// Whether a read of a file may give what the device never got.
+    fn is_doubted(&self, number: u32) -> bool {
+        match &self.lock {
+            Some(lock) => self.has_failed || lock.doubts.has(number),
+            None => self.has_failed,
+        }
+    }
+
+    /// A file is in doubt no more. A later program that isn't told so settles it once more.
+    fn trust(&mut self, number: u32) {
+        if let Some(lock) = &mut self.lock {
+            let _kept = lock.doubts.remove(number, &lock.file);
+        }
     }
 
     /// Makes the folder where it isn't there, and locks it for this program. Every call but one that fails at once
@@ -180,7 +206,8 @@ impl<R: System + Drop> Folder<R> {
         self.expect_slots()?;
         let path = format!(in self.alloc; "{}/lock", self.path)?;
         let file = lock(&self.system, path.as_str())?;
-        self.lock = Some(Lock { file, path });
+        let doubts = Doubts::read(self.alloc, &file)?;
+        self.lock = Some(Lock { file, path, doubts });
         Ok(())
     }
 
@@ -227,16 +254,21 @@ impl<R: System + Drop> Folder<R> {
         Ok(self.handles.get_mut(&number))
     }
 
-    /// Makes sure that a read of an open file gives what the device has. The system may hold bytes of it that it couldn't
-    /// write, and tells so once, maybe to an earlier program: it is asked to write what is to be written, and then to forget
-    /// the rest.
+    /// Makes sure that the device has what a read of an open file gives. The system may hold bytes of it that it couldn't write, and
+    /// tells so once: then they are written again, over themselves, since a second sync alone would write nothing.
     fn settle(&mut self, number: u32) -> io::Result<()> {
-        if let Some(handle) = self.handles.get_mut(&number) {
-            handle.file.sync()?;
-            handle.is_changed = false;
-            handle.file.drop_copies()?;
-            self.settled.insert(number)?;
+        let is_doubted = self.is_doubted(number);
+        let Some(handle) = self.handles.get_mut(&number) else {
+            return Ok(());
+        };
+        if is_doubted {
+            write_again(self.alloc, &handle.file)?;
         }
+        let answer = handle.file.sync();
+        handle.is_changed = answer.is_err();
+        self.doubt_failed(number, answer)?;
+        self.settled.insert(number)?;
+        self.trust(number);
         Ok(())
     }
 
@@ -295,6 +327,7 @@ impl<R: System + Drop> Folder<R> {
         }
         self.handles.remove(&number);
         self.settled.remove(&number);
+        self.trust(number);
         Ok(())
     }
 

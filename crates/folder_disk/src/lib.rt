@@ -3,6 +3,7 @@
 #![tactic(auto)]
 
 mod disk;
+mod doubts;
 mod files;
 mod folder;
 mod system;

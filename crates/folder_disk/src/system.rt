@@ -66,9 +66,6 @@ pub trait SystemFile {
 
     /// Waits until the device has the file's bytes and its length.
     fn sync(&self) -> io::Result<()>;
-
-    /// Drops what the system has of the file in memory, where the device has it too.
-    fn drop_copies(&self) -> io::Result<()>;
 }
 
 impl System for HostRuntime {
@@ -147,13 +144,6 @@ impl SystemFile for File {
 
     fn sync(&self) -> io::Result<()> {
         self.sync_data()
-    }
-
-    fn drop_copies(&self) -> io::Result<()> {
-        match libc::posix_fadvise(self.as_raw_fd(), 0, 0, libc::POSIX_FADV_DONTNEED) {
-            0 => Ok(()),
-            error => Err(io::Error::from_raw_os_error(error)),
-        }
     }
 }
 

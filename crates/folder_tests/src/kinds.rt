@@ -76,7 +76,12 @@ fn files_of_a_store_without_a_slot_are_refused(rt: HostRuntime) -> Result<(), Fa
             count = count.saturating_add(1);
         }
         let had_lock = files.contains(&("lock", 0));
-        assert_eq!(rt; count, files.len().saturating_add(usize::from(is_taken && !had_lock)));
+        assert_eq!(rt;
+            count,
+            files
+                .len()
+                .saturating_add(usize::from(is_taken && !had_lock))
+        );
         drop(disk);
         fs::remove_dir_all(&rt, folder.as_str())?;
     }

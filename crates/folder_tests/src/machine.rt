@@ -16,7 +16,7 @@ const EMFILE: i32 = 24;
 const FILES: usize = 12;
 
 /// So many bytes a file may have.
-const ROOM: usize = 4;
+const ROOM: usize = 256;
 
 #[derive(Clone, Copy)]
 struct Bytes {
@@ -55,8 +55,8 @@ pub struct Machine {
     /// So many of the next syncs and writes fail.
     pub failing_syncs: Cell<usize>,
     pub failing_writes: Cell<usize>,
-    /// So often copies were dropped.
-    pub drops: Cell<usize>,
+    /// So many writes were made to files but the one that is locked.
+    pub writes: Cell<usize>,
 }
 
 /// An open file of a machine.
@@ -73,7 +73,17 @@ impl Machine {
             most_open: Cell::new(FILES),
             failing_syncs: Cell::new(0),
             failing_writes: Cell::new(0),
-            drops: Cell::new(0),
+            writes: Cell::new(0),
+        }
+    }
+
+    /// The machine is started anew: of each file there is what its device has.
+    pub fn restart(&self) {
+        for place in 0..FILES {
+            let mut kept = self.get(place);
+            kept.cached = kept.device;
+            kept.is_dirty = false;
+            self.set(place, kept);
         }
     }
 
@@ -221,6 +231,10 @@ impl<'a> SystemFile for Opened<'a> {
         kept.cached.len = kept.cached.len.max(end.min(ROOM));
         kept.is_dirty = true;
         self.machine.set(self.place, kept);
+        if self.place > 0 {
+            let before = self.machine.writes.get();
+            self.machine.writes.set(before.saturating_add(1));
+        }
         if fails(&self.machine.failing_writes) {
             return Err(io::Error::from_raw_os_error(EIO));
         }
@@ -247,18 +261,6 @@ impl<'a> SystemFile for Opened<'a> {
         if failed {
             return Err(io::Error::from_raw_os_error(EIO));
         }
-        Ok(())
-    }
-
-    fn drop_copies(&self) -> io::Result<()> {
-        let mut kept = self.machine.get(self.place);
-        if !kept.is_dirty {
-            kept.cached = kept.device;
-        }
-        self.machine.set(self.place, kept);
-        self.machine
-            .drops
-            .set(self.machine.drops.get().saturating_add(1));
         Ok(())
     }
 }
