@@ -35,7 +35,7 @@ const CASES: [(&str, &[Step]); 6] = [
             Step::Made(false),
             Step::Read(7, &[]),
             Step::Made(true),
-            Step::Found("lock", Some(0)),
+            Step::Found("lock", Some(256)),
             Step::Cut(7, 3),
             Step::Write(7, 5, &[]),
             Step::Sync(7),
