@@ -158,7 +158,7 @@ ingest_none sure todo moments first (item ∷ items) (r ∷ rs) last left to_tel
 -- ---- a run
 
 some_is : {T : Type 0} (o : Option T) (x : T) (P : T → Type 0) → o ≡ Some x → IfSome o P → P x
-some_is o x P is has = subst (λ (p : Option _). IfSome p P) is has
+some_is {T} o x P is has = subst (λ (p : Option T). IfSome p P) is has
 
 items_none : (sure : Bool) (c : Command) (o : Outcome) (old new : Edges) → TellsAll c old → DoesInStore sure c o old new → list_any blames_disk o.items ≡ false
 items_none sure session o old new (text, before, source, sink) did =
