@@ -1,9 +1,9 @@
 //! A list is written into the slot of its generation, and its gate is opened.
 
-ghost use Rattle.std.specs.Prelude.{◌≡◌, ◌≤◌, Option, Some, IsTrue, OnOk};
+ghost use Rattle.std.specs.Prelude.{◌≡◌, ◌+◌, Option, Some, IsTrue, OnOk, length};
 ghost use Rattle.disk_model.specs.Images.{Image, bytes_of, Besides};
-ghost use Rattle.disk_model.specs.Counts.{MakesCalls};
-ghost use Rattle.disk_model.specs.Crash.{OnlyBytes, Run, HasCause};
+ghost use Rattle.disk_model.specs.Calls.{Calls};
+ghost use Rattle.disk_model.specs.Crash.{OnlyBytes, Run};
 ghost use Rattle.block_list.specs.Slots.{ImageHoldsList, IsNext};
 ghost use Rattle.block_list.specs.Commit.{slot_of, laid, IsListText, CanLay, CanOpen, ImageHoldsEither, WritesSlot};
 ghost use Rattle.block_list.specs.Loading.{IsReady};
@@ -26,11 +26,7 @@ pub fn lay<D: Device>(disk: &mut D, list: &PreparedList) -> Result<(), Failed>
         (laid list.now.text (bytes_of (D.held disk.old) (slot_of list.now))) (D.may_leave disk.new)) }
     ensures besides { IsTrue (D.tells disk.old) → Besides (slot_of list.now) (D.held disk.old) (D.held disk.new) }
 
-    ensures time { D.moment disk.old ≤ D.moment disk.new }
-    ensures calls { MakesCalls 4 (D.calls disk.old) (D.calls disk.new) result }
-    ensures telling { D.tells disk.new ≡ D.tells disk.old }
-    ensures cause { HasCause (D.faults disk.old) (D.faults disk.new) result }
-    ensures no_read { D.reads disk.new ≡ D.reads disk.old }
+    ensures counted { Calls D.Device.own 4 (1 + length list.now.text) disk.old disk.new result }
 {
     let slot = list.slot();
     write_through(disk, slot, 0, &[0])?;
@@ -58,11 +54,7 @@ pub fn open_gate<D: Device>(disk: &mut D, list: &PreparedList) -> Result<(), Fai
         → OnOk result (OnlyBytes 1 (bytes_of (D.held disk.new) 1) (D.may_leave disk.new)) }
     ensures besides { IsTrue (D.tells disk.old) → Besides (slot_of list.now) (D.held disk.old) (D.held disk.new) }
 
-    ensures time { D.moment disk.old ≤ D.moment disk.new }
-    ensures calls { MakesCalls 2 (D.calls disk.old) (D.calls disk.new) result }
-    ensures telling { D.tells disk.new ≡ D.tells disk.old }
-    ensures cause { HasCause (D.faults disk.old) (D.faults disk.new) result }
-    ensures no_read { D.reads disk.new ≡ D.reads disk.old }
+    ensures counted { Calls D.Device.own 2 1 disk.old disk.new result }
 {
     write_through(disk, list.slot(), 0, &[1])
 }
@@ -93,11 +85,7 @@ pub fn commit<D: Device>(disk: &mut D, list: &PreparedList) -> Result<(), Failed
         → OnOk result (IsReady (D.held disk.new) (D.may_leave disk.new) (Some new)) }
     ensures besides { IsTrue (D.tells disk.old) → Besides (slot_of list.now) (D.held disk.old) (D.held disk.new) }
 
-    ensures time { D.moment disk.old ≤ D.moment disk.new }
-    ensures calls { MakesCalls 6 (D.calls disk.old) (D.calls disk.new) result }
-    ensures telling { D.tells disk.new ≡ D.tells disk.old }
-    ensures cause { HasCause (D.faults disk.old) (D.faults disk.new) result }
-    ensures no_read { D.reads disk.new ≡ D.reads disk.old }
+    ensures counted { Calls D.Device.own 6 (1 + length list.now.text) disk.old disk.new result }
 {
     lay(disk, list)?;
     open_gate(disk, list)

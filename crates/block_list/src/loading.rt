@@ -1,9 +1,9 @@
 //! The list that counts is read from the two slots.
 
-ghost use Rattle.std.specs.Prelude.{◌≡◌, ◌≢◌, ◌⊎◌, ◌<◌, ◌≤◌, ℕ, List, Option, Some, None, Ok, Err, IsTrue, IfOk, IfErr, OnOk};
-ghost use Rattle.span_types.specs.Faults.{Rose};
+ghost use Rattle.std.specs.Prelude.{◌≡◌, ◌≢◌, ◌⊎◌, ◌<◌, ◌≤◌, ℕ, List, Option, Some, None, Ok, Err, IsTrue, IsOk, IsErr, IfOk, IfErr, OnOk};
 ghost use Rattle.disk_model.specs.Images.{Image, bytes_of, Besides, SameBytes};
-ghost use Rattle.disk_model.specs.Crash.{OnlyBytes, Run, Untouched, HasCause};
+ghost use Rattle.disk_model.specs.Calls.{Calls, Counts, CountsFault};
+ghost use Rattle.disk_model.specs.Crash.{OnlyBytes, Run, Untouched};
 ghost use Rattle.block_list.specs.Body.{MeetsRules};
 ghost use Rattle.block_list.specs.Slots.{SlotsHold, ImageHoldsList, IsNext};
 ghost use Rattle.block_list.specs.Reading.{slots_at, newer_of, generation_of};
@@ -55,10 +55,8 @@ pub fn load<D: Device>(alloc: Global, disk: &mut D) -> Result<Option<ListBody>, 
     ensures left_alone { IfErr result (λ error. error ≢ Fault
         → Untouched D.tells D.held D.may_leave D.moment D.left_since disk.old disk.new) }
 
-    ensures time { D.moment disk.old ≤ D.moment disk.new }
-    ensures telling { D.tells disk.new ≡ D.tells disk.old }
-    ensures later { D.faults disk.old ≤ D.faults disk.new }
-    ensures fault { result ≡ Err Fault → Rose (D.faults disk.old) (D.faults disk.new) }
+    // A fault is answered just where a call failed, and it was the last one. Nothing is written.
+    ensures counted { CountsFault D.Device.own 0 Fault disk.old disk.new result }
 {
     let (first, second) = read_both(alloc, disk)?;
     let list = read_slots(alloc, &first, &second)?;
@@ -134,7 +132,7 @@ fn sync_slots<D: Device>(disk: &mut D) -> Result<(), Failed>
     ensures slot_0 { IsTrue (D.tells disk.old) → OnOk result (OnlyBytes 0 (bytes_of (D.held disk.new) 0) (D.may_leave disk.new)) }
     ensures slot_1 { IsTrue (D.tells disk.old) → OnOk result (OnlyBytes 1 (bytes_of (D.held disk.new) 1) (D.may_leave disk.new)) }
     ensures untouched { Untouched D.tells D.held D.may_leave D.moment D.left_since disk.old disk.new }
-    ensures cause { HasCause (D.faults disk.old) (D.faults disk.new) result }
+    ensures counted { Calls D.Device.own 2 0 disk.old disk.new result }
 {
     disk.sync(0)?;
     disk.sync(1)
@@ -144,8 +142,7 @@ fn sync_slots<D: Device>(disk: &mut D) -> Result<(), Failed>
 fn read_file<D: Device>(alloc: Global, disk: &mut D, file: u32) -> Result<Vec<u8>, ListError>
     ensures bytes { IsTrue (D.tells disk.old) → IfOk result (λ bytes. bytes.items ≡ bytes_of (D.held disk.old) file) }
     ensures untouched { Untouched D.tells D.held D.may_leave D.moment D.left_since disk.old disk.new }
-    ensures later { D.faults disk.old ≤ D.faults disk.new }
-    ensures fault { result ≡ Err Fault → Rose (D.faults disk.old) (D.faults disk.new) }
+    ensures counted { CountsFault D.Device.own 0 Fault disk.old disk.new result }
     ensures errors { IfErr result (λ error. (error ≡ Fault) ⊎ (error ≡ Memory)) }
 {
     let len = disk.len(file)?;
@@ -168,9 +165,7 @@ fn clear_vacant<D: Device>(disk: &mut D, slot: u32, bytes: &[u8]) -> Result<(), 
     ensures free { IsTrue (D.tells disk.old) → OnOk result (IsFree (bytes_of (D.held disk.new) slot)) }
     ensures besides { IsTrue (D.tells disk.old) → Besides slot (D.held disk.old) (D.held disk.new) }
     ensures other_images { (other : ℕ) (bytes : List ℕ) → other ≢ slot → OnlyBytes other bytes (D.may_leave disk.old) → OnlyBytes other bytes (D.may_leave disk.new) }
-    ensures time { D.moment disk.old ≤ D.moment disk.new }
-    ensures telling { D.tells disk.new ≡ D.tells disk.old }
-    ensures cause { HasCause (D.faults disk.old) (D.faults disk.new) result }
+    ensures counted { Counts D.Device.own 0 (IsOk result) (IsErr result) disk.old disk.new }
 {
     if is_vacant(bytes) && bytes.len() >= 30 {
         return cut_through(disk, slot, 1);
@@ -185,8 +180,7 @@ fn read_both<D: Device>(alloc: Global, disk: &mut D) -> Result<(Vec<u8>, Vec<u8>
     ensures slot_0 { IsTrue (D.tells disk.old) → OnOk result (OnlyBytes 0 (bytes_of (D.held disk.old) 0) (D.may_leave disk.new)) }
     ensures slot_1 { IsTrue (D.tells disk.old) → OnOk result (OnlyBytes 1 (bytes_of (D.held disk.old) 1) (D.may_leave disk.new)) }
     ensures untouched { Untouched D.tells D.held D.may_leave D.moment D.left_since disk.old disk.new }
-    ensures later { D.faults disk.old ≤ D.faults disk.new }
-    ensures fault { result ≡ Err Fault → Rose (D.faults disk.old) (D.faults disk.new) }
+    ensures counted { CountsFault D.Device.own 0 Fault disk.old disk.new result }
     ensures errors { IfErr result (λ error. (error ≡ Fault) ⊎ (error ≡ Memory)) }
 {
     sync_slots(disk)?;
@@ -209,9 +203,7 @@ fn clear_both<D: Device>(disk: &mut D, first: &[u8], second: &[u8]) -> Result<()
     ensures free_0 { IsTrue (D.tells disk.old) → OnOk result (IsFree (bytes_of (D.held disk.new) 0)) }
     ensures free_1 { IsTrue (D.tells disk.old) → OnOk result (IsFree (bytes_of (D.held disk.new) 1)) }
     ensures others { IsTrue (D.tells disk.old) → (file : ℕ) → 2 ≤ file → bytes_of (D.held disk.new) file ≡ bytes_of (D.held disk.old) file }
-    ensures time { D.moment disk.old ≤ D.moment disk.new }
-    ensures telling { D.tells disk.new ≡ D.tells disk.old }
-    ensures cause { HasCause (D.faults disk.old) (D.faults disk.new) result }
+    ensures counted { Counts D.Device.own 0 (IsOk result) (IsErr result) disk.old disk.new }
 {
     clear_vacant(disk, 0, first)?;
     clear_vacant(disk, 1, second)

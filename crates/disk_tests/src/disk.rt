@@ -1,7 +1,7 @@
 //! What a crash may leave after some calls, worked out by hand from the disk model.
 
-use disk_model::{Device, MemDisk, cut_through, write_through};
-use span_types::{Calls, Failed};
+use disk_model::{ByteLists, Device, MemDisk, OddDisk, cut_through, write_through};
+use span_types::{Bytes, Calls, Failed};
 use std::alloc::Global;
 use std::process::Abort;
 use std::test::Fail;
@@ -233,5 +233,68 @@ fn each_other_pick_is_a_mixture_of_its_own(rt: HostRuntime) -> Result<(), Fail> 
     // Of the picks from 4 on more than three differ from one another and from the first four.
     assert!(rt; others > 3, "{others}");
     assert_eq!(rt; disk.starved(), 0);
+    Ok(())
+}
+
+/// What a disk counted: its calls, its reads, its faults, and its writes that ended too far.
+fn counts(disk: &MemDisk) -> [u64; 4] {
+    [
+        disk.calls(),
+        disk.reads(),
+        disk.faults(),
+        disk.far_writes(),
+    ]
+}
+
+#[test]
+fn each_call_is_counted(rt: HostRuntime) -> Result<(), Fail> {
+    let mut disk = holding(rt.alloc(), &[5, 6, 7])?;
+    assert_eq!(rt; counts(&disk), [2, 0, 0, 0]);
+    assert!(rt; holds(&mut disk, 0, &[5, 6, 7])?);
+    assert_eq!(rt; counts(&disk), [4, 1, 0, 0]);
+    // A read that fails is one, and a write that ends too far is one whether it is stopped or not.
+    disk.fail_at(Calls::of(vec![in rt.alloc(); 1]?));
+    assert!(rt; disk.read(0, 0, &mut [0u8; 4]).is_err());
+    assert_eq!(rt; counts(&disk), [5, 2, 1, 0]);
+    let far = [Step::Write(0, FAR, &[1]), Step::Write(1, u64::MAX, &[1, 2])];
+    assert_eq!(rt; run(&mut disk, &far), 2);
+    assert_eq!(rt; counts(&disk), [7, 2, 3, 2]);
+    disk.stop_after(0);
+    assert_eq!(rt; run(&mut disk, &[Step::Write(0, FAR, &[1]), Step::Write(0, 0, &[1])]), 2);
+    assert_eq!(rt; counts(&disk), [9, 2, 5, 3]);
+    Ok(())
+}
+
+/// What an odd disk gives to a read of this many bytes, of at most 4.
+fn given(disk: &mut OddDisk, count: usize) -> Result<[u8; 4], Failed> {
+    let mut bytes = [9u8; 4];
+    let read = disk.read(0, 0, bytes.get_mut(..count).ok_or(Failed)?)?;
+    if read == count { Ok(bytes) } else { Err(Failed) }
+}
+
+#[test]
+fn an_odd_disk_gives_what_it_was_made_with(rt: HostRuntime) -> Result<(), Fail> {
+    let alloc = rt.alloc();
+    let mut chunks = Vec::new(alloc);
+    for bytes in [&[1u8, 2, 3][..], &[4], &[5]] {
+        chunks.push(Bytes::of(bytes.to_vec(alloc)?))?;
+    }
+    let mut disk = OddDisk::new(16_384, ByteLists::of(chunks));
+    assert_eq!(rt; (disk.len(0)?, disk.len(7)?), (16_384, 16_384));
+    let reads: [(usize, [u8; 4]); 4] = [
+        (2, [1, 2, 9, 9]),
+        (3, [4, 0, 0, 9]),
+        (0, [9, 9, 9, 9]),
+        (4, [0, 0, 0, 0]),
+    ];
+    for (count, bytes) in reads {
+        assert_eq!(rt; given(&mut disk, count)?, bytes);
+    }
+    // Every call but a write that ends too far succeeds, and changes nothing.
+    write_through(&mut disk, 0, 0, &[1, 2])?;
+    cut_through(&mut disk, 0, 0)?;
+    assert_eq!(rt; (disk.len(0)?, disk.faults()), (16_384, 0));
+    assert!(rt; disk.write(0, FAR, &[1]).is_err());
+    assert_eq!(rt; disk.faults(), 1);
     Ok(())
 }

@@ -23,7 +23,7 @@ use Rattle.span_fields.proofs.Again.{seq, last, items_again, all_items, again_va
 use Rattle.head_log.specs.declared.reading.Part.{Part}
 use Rattle.head_log.specs.Bodies.{has_items, is_extended, are_extended, first_field, span_bytes, run_bytes, scopes_bytes, spans_bytes, body_bytes}
 use Rattle.head_log.specs.Sound.{IsSoundSpan, IsSoundBatch}
-use Rattle.head_log.specs.Scanning.{span_at, last_passes, last_of, repeats, run_at, runs_at, span_count_at, scope_spans_at, run_count_at, scopes_at, spans_at, form_of, all_spans_at, body_at}
+use Rattle.head_log.specs.Scanning.{span_at, last_passes, repeats, run_at, runs_at, span_count_at, scope_spans_at, run_count_at, scopes_at, spans_at, form_of, all_spans_at, body_at}
 use Rattle.head_log.proofs.AgainSpan.{HasForm, IsOf, again_span}
 use Rattle.head_log.proofs.RunLaws.{last_of-run}
 

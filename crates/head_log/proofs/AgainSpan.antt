@@ -1,12 +1,12 @@
 -- What is encoded somewhere is read there: spans.
-use Rattle.std.proofs.Common.{◌≡◌, ℕ, ◌+◌, Bool, true, false, List, [], ◌++◌, length, refl, sym, ap, ◌∙◌, arith}
+use Rattle.std.proofs.Common.{◌≡◌, ℕ, ◌+◌, Bool, true, false, List, [], ◌++◌, refl, sym, ap, ◌∙◌, arith}
 use Rattle.span_types.specs.declared.attrs.Resource.{Resource}
 use Rattle.span_types.specs.declared.attrs.Scope.{Scope}
 use Rattle.span_types.specs.declared.spans.Span.{Span}
 use Rattle.span_types.specs.declared.spans.SpanEvent.{SpanEvent}
 use Rattle.span_types.specs.declared.spans.SpanLink.{SpanLink}
 use Rattle.byte_fields.specs.Spelling.{fixed64_bytes, text_bytes}
-use Rattle.byte_fields.specs.Reading.{Stand, ahead, fixed64_at, text_at}
+use Rattle.byte_fields.specs.Reading.{fixed64_at, text_at}
 use Rattle.span_fields.specs.Breaks.{in_part}
 use Rattle.span_fields.specs.Encodings.{list_bytes, attrs_bytes, trace_bytes, id_bytes, parent_bytes, kind_bytes, status_bytes, event_bytes, link_bytes}
 use Rattle.span_fields.specs.Sound.{IsBelow64, IsAny, IsWord, AreSound, AreSoundAttrs, IsTrace, IsSpanId, IsParent, IsSoundEvent, IsSoundLink}

@@ -1,5 +1,5 @@
 -- What is read somewhere is encoded there: spans.
-use Rattle.std.proofs.Common.{◌≡◌, ℕ, Bool, true, false, List, [], ◌++◌, Option, refl, arith}
+use Rattle.std.proofs.Common.{◌≡◌, ℕ, Bool, true, false, List, [], Option, refl, arith}
 use Rattle.span_types.specs.declared.ids.TraceId.{TraceId}
 use Rattle.span_types.specs.declared.ids.SpanId.{SpanId}
 use Rattle.span_types.specs.declared.attrs.Attr.{Attr}
@@ -9,7 +9,7 @@ use Rattle.span_types.specs.declared.spans.Span.{Span}
 use Rattle.span_types.specs.declared.spans.SpanKind.{SpanKind}
 use Rattle.span_types.specs.declared.spans.StatusCode.{StatusCode}
 use Rattle.byte_fields.specs.Spelling.{fixed64_bytes, text_bytes}
-use Rattle.byte_fields.specs.Reading.{Stand, IsWithin, fixed64_at, text_at}
+use Rattle.byte_fields.specs.Reading.{fixed64_at, text_at}
 use Rattle.span_fields.specs.Breaks.{in_part}
 use Rattle.span_fields.specs.Encodings.{list_bytes, attrs_bytes, trace_bytes, id_bytes, parent_bytes, kind_bytes, status_bytes, event_bytes, link_bytes}
 use Rattle.span_fields.specs.Sound.{IsBelow64, IsAny, IsWord, AreSound, AreSoundAttrs, IsTrace, IsSpanId, IsParent, IsSoundEvent, IsSoundLink, IsSoundResource, IsSoundScope}

@@ -4,13 +4,11 @@ use Rattle.std.specs.Bool.{Decides}
 use Rattle.std.specs.List.{flat_map, list_any, AllByRecursion}
 use Rattle.std.proofs.lemmas.Grind.{flat_map-append}
 use Rattle.std.proofs.lemmas.List.Elements.{All-cons, All-nil, recursion_from_All}
-use Rattle.span_types.specs.declared.attrs.Resource.{Resource}
-use Rattle.span_types.specs.declared.attrs.Scope.{Scope}
 use Rattle.span_types.specs.declared.spans.Span.{Span}
 use Rattle.span_types.specs.Equal.{same_resource, same_scope}
 use Rattle.span_types.specs.EqualLaws.{resource_decides, scope_decides}
 use Rattle.span_runs.specs.Runs.{as_run, of_one, runs}
-use Rattle.span_runs.proofs.RunLaws.{run_items, all_of, all_of-runs, AreLinked, AreRuns-runs, each_linked, EachLinked, origins_equal}
+use Rattle.span_runs.proofs.RunLaws.{run_items, all_of, all_of-runs, AreRuns-runs, each_linked, EachLinked, origins_equal}
 use Rattle.span_fields.specs.Sound.{AreSound, IsSoundEvent, IsSoundLink, IsSoundResource, IsSoundScope}
 use Rattle.head_log.specs.Bodies.{is_extended, are_extended}
 use Rattle.head_log.specs.Sound.{IsSoundSpan}

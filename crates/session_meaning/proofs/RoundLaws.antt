@@ -3,14 +3,15 @@ use Rattle.std.proofs.Common.{◌≡◌, ◌⊎◌, inl, inr, ℕ, ◌≤◌, Li
 use Rattle.std.specs.Prelude.{⊤, true}
 use Rattle.span_types.specs.Faults.{Rose}
 use Rattle.span_types.specs.declared.spans.Row.{Row}
+use Rattle.store_entries.specs.declared.entry.Entry.{Entry}
 use Rattle.store_model.specs.Choice.{choice}
 use Rattle.store_model.specs.Event.{Event as event, Reply as reply, Refusal as why, FlushParts, CompactParts}
 use Rattle.store_model.specs.Event.Event.{BeginCompact, BeginFlush, Push, ReadPage, WritePiece}
 use Rattle.store_model.specs.Event.Reply.{Fine}
-use Rattle.store_model.specs.History.{History}
+use Rattle.store_model.specs.History.{History, with_entry}
 use Rattle.store_model.specs.State.{Compaction, Flush, block_files, is_among}
 use Rattle.store_model.specs.Step.{Happens, Machine, Step}
-use Rattle.store_model.specs.Told.{history_after}
+use Rattle.store_model.specs.Told.{history_after, asked_entry}
 use Rattle.store_model.proofs.Chosen.{choice_part, part_within}
 use Rattle.store_model.proofs.Numbers.{among, named}
 use Rattle.store_model.proofs.TellsHistory.{step_tells}
@@ -100,9 +101,14 @@ round_keeps P keeps =
     round_carries (λ at. P at.machine) (λ before after e r none step has. keeps before.faults after.faults before.machine after.machine e r none step.1 has)
     (λ before after still has. subst P (sym still.0) has)
 
+-- an event that pushes nothing is to add no entry
+pub asks_none : (e : event) → PushesNothing e → asked_entry e ≡ None
+asks_none (Push spans moment) none = absurd none
+asks_none _ none = refl
+
 no_push : (e : event) (r : reply) (h : History) → PushesNothing e → history_after e r h ≡ h
-no_push (Push spans moment) r h none = absurd none
-no_push _ r h none = refl
+no_push e (reply.Count n) h none = ap (λ (added : Option Entry). with_entry added h) (asks_none e none)
+no_push e _ h none = refl
 
 -- Each event that pushes nothing keeps the history.
 pub same_history : (h : History) → IsKept (λ m. m.history ≡ h)

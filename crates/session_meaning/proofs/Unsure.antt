@@ -7,7 +7,6 @@ use Rattle.session_text.specs.declared.reply.Reply.TheVariants as told
 use Rattle.session_text.specs.declared.request.Request.TheVariants as request
 use Rattle.session_text.specs.Items.{Item}
 use Rattle.store_core.proofs.Quiet.{adds_none}
-use Rattle.store_model.specs.Told.{asked_entry}
 use Rattle.store_entries.specs.declared.entry.Entry.{Entry}
 use Rattle.store_model.specs.Event.{Event, Reply as reply}
 use Rattle.store_model.specs.Event.Event.{Cut, CutAll, Push, Reclaim}
@@ -23,7 +22,7 @@ use Rattle.client_run.specs.Answers.{asked_of, pushed_reply}
 use Rattle.store_state.specs.Made.{Call, call}
 use Rattle.session_meaning.specs.Answering.{AreItemsAnswered, IsItemAnswered}
 use Rattle.session_meaning.specs.Pushes.{unsure_entry, unsure_or}
-use Rattle.session_meaning.proofs.RoundLaws.{PushesNothing}
+use Rattle.session_meaning.proofs.RoundLaws.{PushesNothing, asks_none}
 use Rattle.session_meaning.proofs.Pushless.{AllPushNothing, compaction_pushes_nothing, flush_pushes_nothing, query_pushes_nothing}
 
 abbrev Unsure : Type 0
@@ -65,10 +64,6 @@ first_assoc (Some entry) item r later = refl
 first_assoc None item r later = or_first item r later
 
 -- an event that pushes nothing leaves the entry as it was
-asks_none : (e : Event) → PushesNothing e → asked_entry e ≡ None
-asks_none (Push spans moment) none = absurd none
-asks_none _ none = refl
-
 no_push_sure : (e : Event) (r : reply) (u : Unsure) → PushesNothing e → unsure_after e r u ≡ u
 no_push_sure e r u none = adds_none e (asks_none e none) r u
 

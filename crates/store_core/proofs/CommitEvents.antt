@@ -46,7 +46,7 @@ pub flush_commits : (number size : ℕ) → IsCommit (CommitFlush number size)
 flush_commits number size = record {
   early_is = λ m. refl;
   writes_is = λ u. refl;
-  unsure_is = λ reply unsure. adds_none _ refl reply unsure;
+  unsure_is = λ reply unsure. adds_none (CommitFlush number size) refl reply unsure;
   files_are = λ reply file old new is. is;
   no_page = λ reply shows. tt;
   calls_none = λ faults n. refl;
@@ -59,7 +59,7 @@ pub compact_commits : (number size : ℕ) → IsCommit (CommitCompact number siz
 compact_commits number size = record {
   early_is = λ m. refl;
   writes_is = λ u. refl;
-  unsure_is = λ reply unsure. adds_none _ refl reply unsure;
+  unsure_is = λ reply unsure. adds_none (CommitCompact number size) refl reply unsure;
   files_are = λ reply file old new is. is;
   no_page = λ reply shows. tt;
   calls_none = λ faults n. refl;

@@ -90,6 +90,17 @@ rose_then one two a b c first second = record {
   exact = λ few. let mid : b ≡ a + one = first.exact (omega (arith, few)) in let end = second.exact (omega (arith, few, mid)) in omega (arith, mid, end);
 }
 
+-- whose writes end early
+pub counts_short : {D : Type 0} (g : Ghosts D) (end more : ℕ) (fine failed : Type 0) (old new : D) → end < 2 ^ 63 → Counts g end fine failed old new → Counts g more fine failed old new
+counts_short g end more fine failed old new short run = record {
+  time = run.time;
+  telling = run.telling;
+  later = run.later;
+  quiet = run.quiet;
+  fault = run.fault;
+  near = λ _. run.near short;
+}
+
 -- ---- runs that were fine so far
 
 pub fine_so_far : {D T E : Type 0} (g : Ghosts D) (end : ℕ) (old new : D) (x : T) → Counts g end (IsOk (Ok {E = E} x)) (IsErr (Ok {E = E} x)) old new → Counts g end (Unit {0}) ⊥ old new

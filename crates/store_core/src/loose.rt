@@ -133,7 +133,7 @@ pub(crate) fn commit_without<D: Device>(
         OthersStay (Contains files.now) (D.held disk.old) (D.held disk.new) (D.may_leave disk.old) (D.may_leave disk.new) }
     ensures still { IsTrue (D.tells disk.old) → (file : ℕ) → 2 ≤ file → (Contains files.now file → ⊥) →
         bytes_of (D.held disk.new) file ≡ bytes_of (D.held disk.old) file }
-    ensures counted { Calls D.Device.own (2 * length files.now + 6) 0 disk.old disk.new result }
+    ensures counted { Calls D.Device.own (2 * length files.now + 6) (1 + length text.now.text) disk.old disk.new result }
 {
     empty_files(disk, files)?;
     commit(disk, text)

@@ -20,7 +20,7 @@ pub returns-clause-any_moment : goal.returns-clause-any_moment
 returns-clause-any_moment g c = λ told can old new holds next body.
     let d = g.D.Device in
     let mid = c.lay.new.disk in
-    let told_mid : IsTrue (d.tells mid) = subst IsTrue (sym c.lay.ensures.telling) told in
+    let told_mid : IsTrue (d.tells mid) = subst IsTrue (sym c.lay.ensures.counted.telling) told in
     let opens : CanOpen (d.held mid) (d.may_leave mid) c.args.list.now = may_open c.args.list.now (d.held c.args.disk.now) (d.held mid) (d.may_leave c.args.disk.now) (d.may_leave mid) can
     (λ list holds next. (c.lay.ensures.any_moment told can list holds next).now) (c.lay.ensures.besides told) (c.in_ok-lay.ensures.in_place told) in
     let first = c.lay.ensures.any_moment told can old holds next in
@@ -32,7 +32,7 @@ pub returns-clause-counts : goal.returns-clause-counts
 returns-clause-counts g c = λ told can new body.
     let d = g.D.Device in
     let mid = c.lay.new.disk in
-    let told_mid : IsTrue (d.tells mid) = subst IsTrue (sym c.lay.ensures.telling) told in
+    let told_mid : IsTrue (d.tells mid) = subst IsTrue (sym c.lay.ensures.counted.telling) told in
     let opens : CanOpen (d.held mid) (d.may_leave mid) c.args.list.now = may_open c.args.list.now (d.held c.args.disk.now) (d.held mid) (d.may_leave c.args.disk.now) (d.may_leave mid) can
     (λ list holds next. (c.lay.ensures.any_moment told can list holds next).now) (c.lay.ensures.besides told) (c.in_ok-lay.ensures.in_place told) in
     c.open_gate.ensures.counts told_mid opens new body
@@ -41,7 +41,7 @@ pub returns-clause-slot_0 : goal.returns-clause-slot_0
 returns-clause-slot_0 g c = λ told can.
     let d = g.D.Device in
     let mid = c.lay.new.disk in
-    let told_mid : IsTrue (d.tells mid) = subst IsTrue (sym c.lay.ensures.telling) told in
+    let told_mid : IsTrue (d.tells mid) = subst IsTrue (sym c.lay.ensures.counted.telling) told in
     let opens : CanOpen (d.held mid) (d.may_leave mid) c.args.list.now = may_open c.args.list.now (d.held c.args.disk.now) (d.held mid) (d.may_leave c.args.disk.now) (d.may_leave mid) can
     (λ list holds next. (c.lay.ensures.any_moment told can list holds next).now) (c.lay.ensures.besides told) (c.in_ok-lay.ensures.in_place told) in
     c.open_gate.ensures.slot_0 told_mid opens
@@ -50,7 +50,7 @@ pub returns-clause-slot_1 : goal.returns-clause-slot_1
 returns-clause-slot_1 g c = λ told can.
     let d = g.D.Device in
     let mid = c.lay.new.disk in
-    let told_mid : IsTrue (d.tells mid) = subst IsTrue (sym c.lay.ensures.telling) told in
+    let told_mid : IsTrue (d.tells mid) = subst IsTrue (sym c.lay.ensures.counted.telling) told in
     let opens : CanOpen (d.held mid) (d.may_leave mid) c.args.list.now = may_open c.args.list.now (d.held c.args.disk.now) (d.held mid) (d.may_leave c.args.disk.now) (d.may_leave mid) can
     (λ list holds next. (c.lay.ensures.any_moment told can list holds next).now) (c.lay.ensures.besides told) (c.in_ok-lay.ensures.in_place told) in
     c.open_gate.ensures.slot_1 told_mid opens
@@ -59,13 +59,13 @@ pub returns-clause-ready : goal.returns-clause-ready
 returns-clause-ready g c = λ told can old new ready body.
     let d = g.D.Device in
     let mid = c.lay.new.disk in
-    let told_mid : IsTrue (d.tells mid) = subst IsTrue (sym c.lay.ensures.telling) told in
+    let told_mid : IsTrue (d.tells mid) = subst IsTrue (sym c.lay.ensures.counted.telling) told in
     let opens : CanOpen (d.held mid) (d.may_leave mid) c.args.list.now = may_open c.args.list.now (d.held c.args.disk.now) (d.held mid) (d.may_leave c.args.disk.now) (d.may_leave mid) can
     (λ list holds next. (c.lay.ensures.any_moment told can list holds next).now) (c.lay.ensures.besides told) (c.in_ok-lay.ensures.in_place told) in
     let held = d.held c.args.disk.now in
     let later = d.held c.open_gate.new.disk in
     let slot = slot_of c.args.list.now in
-    let told_new : IsTrue (d.tells c.open_gate.new.disk) = subst IsTrue (sym c.open_gate.ensures.telling) told_mid in
+    let told_new : IsTrue (d.tells c.open_gate.new.disk) = subst IsTrue (sym c.open_gate.ensures.counted.telling) told_mid in
     let parity : new.generation % 2 ≡ slot = ap (λ (n : ℕ). n % 2) (sym body.generation) in
     let besides : Besides slot held later = λ other differs. c.open_gate.ensures.besides told_mid other differs ∙ c.lay.ensures.besides told other differs in
     let may_leave = d.may_leave c.open_gate.new.disk in

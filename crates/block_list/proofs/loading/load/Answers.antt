@@ -40,7 +40,7 @@ pub returns-in_err-clear_both-clause-slots : goal.returns-in_err-clear_both-clau
 returns-in_err-clear_both-clause-slots g c = λ told.
     let d = g.D.Device in
     let told_mid : IsTrue (d.tells c.read_both.new.disk) = subst IsTrue (sym c.read_both.ensures.untouched.telling) told in
-    let told_new : IsTrue (d.tells c.clear_both.new.disk) = subst IsTrue (sym c.clear_both.ensures.telling) told_mid in
+    let told_new : IsTrue (d.tells c.clear_both.new.disk) = subst IsTrue (sym c.clear_both.ensures.counted.telling) told_mid in
     slots_after d.moment d.left_since d.may_leave (d.held c.args.disk.now) (d.held c.clear_both.new.disk) c.read_both.new.disk c.clear_both.new.disk (c.in_ok-first.ensures.slot_0 told) (c.in_ok-first.ensures.slot_1 told)
     (c.clear_both.ensures.kept told_mid) (g.met.D.Device.held_may_stay c.clear_both.new.disk told_new)
 
@@ -48,7 +48,7 @@ pub returns-clause-slots : goal.returns-clause-slots
 returns-clause-slots g c = λ told.
     let d = g.D.Device in
     let told_mid : IsTrue (d.tells c.read_both.new.disk) = subst IsTrue (sym c.read_both.ensures.untouched.telling) told in
-    let told_new : IsTrue (d.tells c.clear_both.new.disk) = subst IsTrue (sym c.clear_both.ensures.telling) told_mid in
+    let told_new : IsTrue (d.tells c.clear_both.new.disk) = subst IsTrue (sym c.clear_both.ensures.counted.telling) told_mid in
     slots_after d.moment d.left_since d.may_leave (d.held c.args.disk.now) (d.held c.clear_both.new.disk) c.read_both.new.disk c.clear_both.new.disk (c.in_ok-first.ensures.slot_0 told) (c.in_ok-first.ensures.slot_1 told)
     (c.clear_both.ensures.kept told_mid) (g.met.D.Device.held_may_stay c.clear_both.new.disk told_new)
 
@@ -67,7 +67,7 @@ returns-clause-ready g c = λ told.
     let held = g.D.Device.held c.args.disk.now in
     let new = g.D.Device.held c.clear_both.new.disk in
     let told_mid : IsTrue (g.D.Device.tells c.read_both.new.disk) = subst IsTrue (sym c.read_both.ensures.untouched.telling) told in
-    let told_new : IsTrue (g.D.Device.tells c.clear_both.new.disk) = subst IsTrue (sym c.clear_both.ensures.telling) told_mid in
+    let told_new : IsTrue (g.D.Device.tells c.clear_both.new.disk) = subst IsTrue (sym c.clear_both.ensures.counted.telling) told_mid in
     let r = (c.clear_both.ensures.kept told_mid).now new (g.met.D.Device.held_may_stay c.clear_both.new.disk told_new) in
     let stands : ImageHoldsList r.0 c.in_ok-list.list =
     subst (λ (b : List ℕ). SlotsHold 0 (bytes_of r.0 0) b c.in_ok-list.list) (sym (c.in_ok-first.ensures.slot_1 told r.0 r.1))

@@ -1,6 +1,6 @@
-use Rattle.std.proofs.Common.{◌≡◌, ◌+◌, ap, arith, length, ◌∙◌}
+use Rattle.std.proofs.Common.{ap, arith, length, ◌∙◌}
 use Rattle.std.proofs.lemmas.List.{length-append}
-use Rattle.span_runs.specs.Runs.{as_run, of_one, runs}
+use Rattle.span_runs.specs.Runs.{as_run}
 use Rattle.head_log.proofs.Promised.{one_run}
 use Rattle.head_log.proofs.groups.count_runs.Goals as goal
 

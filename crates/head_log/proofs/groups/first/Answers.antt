@@ -1,4 +1,3 @@
-use Rattle.std.proofs.Common.{◌≡◌, List, map, subst}
 use Rattle.std.proofs.lemmas.List.{map-id}
 use Rattle.head_log.proofs.groups.first.Goals as goal
 

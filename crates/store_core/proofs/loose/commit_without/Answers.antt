@@ -1,7 +1,7 @@
-use Rattle.std.proofs.Common.{◌*◌, IsTrue, Some, length, refl, sym, ◌∙◌, subst, arith}
+use Rattle.std.proofs.Common.{◌+◌, ◌*◌, ◌≤◌, IsTrue, Some, length, refl, sym, ◌∙◌, subst, arith}
 use Rattle.std.specs.List.{Contains}
 use Rattle.std.proofs.lemmas.Result.{err_from_is_err_and}
-use Rattle.disk_model.proofs.CallRuns.{calls_failed, calls_then}
+use Rattle.disk_model.proofs.CallRuns.{calls_failed, calls_then, calls_wider}
 use Rattle.block_list.specs.Commit.{slot_of}
 use Rattle.block_list.proofs.ReadyLemmas.{can_lay}
 use Rattle.store_core.specs.Loose.{next_with}
@@ -22,7 +22,8 @@ pub returns-in_err-empty_files-clause-counted : goal.returns-in_err-empty_files-
 returns-in_err-empty_files-clause-counted g c =
     let d = g.D.Device in
     let p = err_from_is_err_and c.from_residual.result c.from_residual.ensures.1 in
-    rw p.1 (calls_failed d (2 * length c.args.files.now) 6 0 c.args.disk.now c.empty_files.new.disk _ _ c.in_err-empty_files.ensures.counted refl refl)
+    rw p.1 (calls_failed d (2 * length c.args.files.now) 6 (1 + length c.args.text.now.text) c.args.disk.now c.empty_files.new.disk _ _
+    (calls_wider d c.args.disk.now c.empty_files.new.disk _ (2 * length c.args.files.now) 0 (1 + length c.args.text.now.text) (omega arith) c.in_err-empty_files.ensures.counted) refl refl)
 
 pub returns-clause-kept : goal.returns-clause-kept
 returns-clause-kept g c = λ told body next_file loose ready may text.
@@ -66,4 +67,5 @@ returns-clause-still g c = λ told file least apart.
 pub returns-clause-counted : goal.returns-clause-counted
 returns-clause-counted g c =
     let d = g.D.Device in
-    calls_then d (2 * length c.args.files.now) 6 0 c.args.disk.now c.empty_files.new.disk c.commit.new.disk _ _ c.in_ok-empty_files.ensures.counted refl c.commit.ensures.counted
+    calls_then d (2 * length c.args.files.now) 6 (1 + length c.args.text.now.text) c.args.disk.now c.empty_files.new.disk c.commit.new.disk _ _
+    (calls_wider d c.args.disk.now c.empty_files.new.disk _ (2 * length c.args.files.now) 0 (1 + length c.args.text.now.text) (omega arith) c.in_ok-empty_files.ensures.counted) refl c.commit.ensures.counted
