@@ -1,7 +1,10 @@
 -- Calls of a core, one after another.
-use Rattle.std.proofs.Common.{◌≡◌, ◌∙◌, ℕ, List, [], ◌∷◌, refl, sym, ap, subst}
+use Rattle.std.proofs.Common.{◌≡◌, ◌≢◌, ◌∙◌, ℕ, List, [], ◌∷◌, refl, sym, ap, subst}
 use Rattle.disk_model.specs.declared.disk.Device.{Ghosts}
+use Rattle.disk_model.specs.Counts.{Raised}
 use Rattle.store_model.specs.Event.{Event, Reply}
+use Rattle.store_model.specs.Event.Reply.{Compacting, Count, Fine, Flushing, Looked, Nothing, Page, Refused}
+use Rattle.store_model.specs.Event.Refusal.{Busy, Fault, FilesSpent, LiveFull, Memory, ReadOnly, StoreFull}
 use Rattle.store_model.specs.Step.{Machine, Step}
 use Rattle.store_core.specs.Cores.{CoreStandsFor, CoreShows, unsure_of}
 use Rattle.store_core.specs.Events.{Did}
@@ -10,7 +13,24 @@ use Rattle.store_core.proofs.Past.{stands_since}
 use Rattle.store_core.specs.Port.{port_of}
 use Rattle.store_core.specs.declared.store.Core.{Core}
 use Rattle.store_state.specs.Made.{AreMade, Call}
-use Rattle.client_run.specs.CoreRuns.{HasStepped, unsure_after_calls}
+use Rattle.client_run.specs.CoreRuns.{HasStepped, IsCounted, is_fault, unsure_after_calls}
+
+-- Each reply tells of a fault or of none.
+pub counted_by : (r : Reply) (before now : ℕ) → (r ≢ Refused Fault → now ≡ before) → (r ≡ Refused Fault → Raised before now) → IsCounted (is_fault r) before now
+counted_by (Count n) before now quiet rose = quiet (λ e. let bad : ⊥ = cc in bad)
+counted_by Fine before now quiet rose = quiet (λ e. let bad : ⊥ = cc in bad)
+counted_by Nothing before now quiet rose = quiet (λ e. let bad : ⊥ = cc in bad)
+counted_by (Flushing job) before now quiet rose = quiet (λ e. let bad : ⊥ = cc in bad)
+counted_by (Compacting job) before now quiet rose = quiet (λ e. let bad : ⊥ = cc in bad)
+counted_by (Looked look) before now quiet rose = quiet (λ e. let bad : ⊥ = cc in bad)
+counted_by (Page bytes) before now quiet rose = quiet (λ e. let bad : ⊥ = cc in bad)
+counted_by (Refused (ReadOnly n)) before now quiet rose = quiet (λ e. let bad : ⊥ = cc in bad)
+counted_by (Refused (StoreFull n)) before now quiet rose = quiet (λ e. let bad : ⊥ = cc in bad)
+counted_by (Refused (LiveFull n)) before now quiet rose = quiet (λ e. let bad : ⊥ = cc in bad)
+counted_by (Refused (Busy n)) before now quiet rose = quiet (λ e. let bad : ⊥ = cc in bad)
+counted_by (Refused (FilesSpent n)) before now quiet rose = quiet (λ e. let bad : ⊥ = cc in bad)
+counted_by (Refused Memory) before now quiet rose = quiet (λ e. let bad : ⊥ = cc in bad)
+counted_by (Refused Fault) before now quiet rose = rose refl
 
 -- each event keeps that a core is so with a machine, by a step
 abbrev KeepsSteps : {D : Type 0} → Ghosts D → (Core D → Machine → Type 0) → Type 0
@@ -27,10 +47,11 @@ stepped {D} g is_with keeps old new [] made m stands = record {
 }
 stepped g is_with keeps old new (c ∷ cs) made m stands =
     let one = keeps old made.0 c.event c.reply made.1.did m stands in
+    let counts = made.1.did.counts in
     let rest = stepped g is_with keeps made.0 new cs made.2 one.0 one.1 in record {
       machine = rest.machine;
       stands = rest.stands;
-      steps = (g.faults made.0.disk, one.0, made.1.did.later, one.2, rest.steps);
+      steps = (g.faults made.0.disk, one.0, counted_by c.reply (g.faults old.disk) (g.faults made.0.disk) counts.quiet counts.fault, one.2, rest.steps);
     }
 
 pub stands_stepped : {D : Type 0} (g : Ghosts D) (old new : Core D) (calls : List Call) → AreMade (port_of g) old calls new → (m : Machine) → CoreStandsFor g old m

@@ -1,7 +1,11 @@
 -- Calls of a core are steps of the store's model.
-use Rattle.std.specs.Prelude.{◌≡◌, ℕ, ◌<◌, ◌≤◌, List, [], ◌∷◌, Option, Some}
+use Rattle.std.specs.Prelude.{◌≡◌, ℕ, ◌<◌, Bool, true, false, List, [], ◌∷◌, Option, Some}
+use Rattle.disk_model.specs.Counts.{Raised}
 use Rattle.disk_model.specs.declared.disk.Device.{Ghosts}
 use Rattle.store_entries.specs.declared.entry.Entry.{Entry}
+use Rattle.store_model.specs.Event.{Reply}
+use Rattle.store_model.specs.Event.Reply.{Refused}
+use Rattle.store_model.specs.Event.Refusal.{Fault}
 use Rattle.store_model.specs.Fresh.{AreApart}
 use Rattle.store_model.specs.Holds.{Hold}
 use Rattle.store_model.specs.Step.{Machine, Step}
@@ -10,12 +14,23 @@ use Rattle.store_core.specs.declared.store.Core.{Core}
 use Rattle.store_state.specs.Made.{Call}
 use Rattle.client_run.specs.Calls.{Looks, look_at}
 
+-- the reply tells that a call of the disk failed
+abbrev pub is_fault : Reply → Bool
+is_fault (Refused Fault) = true
+is_fault _ = false
+
+-- The disk's count of faults before and after a call of the store that tells of a fault or doesn't: one more where it does, else the
+-- same.
+abbrev pub IsCounted : Bool → ℕ → ℕ → Type 0
+IsCounted true before now = Raised before now
+IsCounted false before now = now ≡ before
+
 -- These calls are legal from a machine on: each is a step from what the one before it left. The numbers are the counts of
 -- faults before and after the calls; each call begins with the count that the one before it left.
 abbrev pub AreSteps : ℕ → Machine → List Call → ℕ → Machine → Type 0
 AreSteps before m [] after m' = (after ≡ before) × (m' ≡ m)
 AreSteps before m (c ∷ calls) after m' =
-    (now : ℕ) × (between : Machine) × (before ≤ now) × Step before now m c.event c.reply between
+    (now : ℕ) × (between : Machine) × IsCounted (is_fault c.reply) before now × Step before now m c.event c.reply between
     × AreSteps now between calls after m'
 
 -- A core that was so with this machine is so with what the calls leave.

@@ -6,6 +6,7 @@ use Rattle.clap.specs.Words.{Kinds}
 use Rattle.command_words.specs.Commands.{Alone, Command, Ingest as ingest, Session as session, Spells}
 use Rattle.command_words.proofs.Spelled.{spelled_clean}
 use Rattle.disk_model.specs.Images.{Image}
+use Rattle.disk_model.proofs.CallRuns.{raised_rose}
 use Rattle.io_edges.specs.Lines.{taken_limit}
 use Rattle.io_edges.specs.Reader.{TakesBytes}
 use Rattle.session_text.specs.declared.reply.Reply.{Reply}
@@ -44,7 +45,7 @@ module _ (sure : Bool) (words : List (List ℕ)) (o : Outcome) (old new : Edges)
 
   -- a store that is one is opened where no call of the disk fails
   opens : HasItsStore old new → o.ending ≡ NotOpened → ⊥
-  opens store is = store.3 (caused NotOpened is)
+  opens store is = store.3 (raised_rose old.disk_faults new.disk_faults (caused NotOpened is).0)
 
   is_store : HasItsStore old new → (file at : ℕ) → o.ending ≡ NotStore file at → ⊥
   is_store store file at is = (subst (λ (held : Option Image). IsNoStore file at held) store.1 (caused (NotStore file at) is)).1 store.2
@@ -122,7 +123,7 @@ module _ (sure : Bool) (words : List (List ℕ)) (o : Outcome) (old new : Edges)
     where
       never : o.ending ≡ Refused → ⊥
       never e = elim (run.does c s) [
-        | inl did ↦ end_plain o.replies (replies_plain o.first o.last o.items o.replies old.disk_faults new.disk_faults (subst (λ (b : Bool). Session b o.first o.items o.replies o.last) is_true run.session) did.1.first_faults did.1.last_faults (store_well c well).3 room none) (refused_in c well before told did.3 e)
+        | inl did ↦ end_plain o.replies (replies_plain o.first o.last o.items o.replies old.disk_faults new.disk_faults (subst (λ (b : Bool). Session b o.first o.items o.replies o.last) is_true run.session) (let first = did.1.first_faults in omega (arith, first)) did.1.last_faults (store_well c well).3 room none) (refused_in c well before told did.3 e)
         | inr not ↦ subst (λ (k : Ending). EndsUnopened k old new.taken) e not.1.ends
       ]
 

@@ -18,6 +18,8 @@ mod Kept
 mod PushCauses
 mod Room
 mod ReadOnly
+mod FaultLaws
+mod FaultRuns
 mod Counted
 pub mod CoreSessions
 pub mod EndLaws

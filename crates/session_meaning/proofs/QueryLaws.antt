@@ -27,9 +27,10 @@ use Rattle.store_model.proofs.Numbers.{equal_itself}
 use Rattle.store_state.specs.Given.{info_files}
 use Rattle.store_state.specs.Made.{Call, call}
 use Rattle.session_meaning.specs.Answering.{CallsLead}
-use Rattle.session_meaning.specs.At.{At, IsStep, IsStill, history_of}
+use Rattle.client_run.specs.CoreRuns.{IsCounted}
+use Rattle.session_meaning.specs.At.{At, IsStep, IsStill, IsUnchanged, history_of}
 use Rattle.session_meaning.proofs.Looks.{look_ended, look_refused, look_taken, still_after}
-use Rattle.session_meaning.proofs.Steps.{first_step, one_step, read_rose, read_still, rose_from, rose_to, still_twice, two}
+use Rattle.session_meaning.proofs.Steps.{first_step, one_step, read_rose, read_still, rose_from, rose_to, still_then, still_twice, two}
 
 -- calls in two parts
 parted : (before after : At) (front back : List Call) → CallsLead before (front ++ back) after → (mid : At) × CallsLead before front mid × CallsLead mid back after
@@ -39,7 +40,7 @@ parted before after (c ∷ front) back lead =
     (rest.0, (lead.0, lead.1, lead.2, lead.3, rest.1), rest.2)
 
 no_call : (before after : At) → CallsLead before [] after → IsStill before after
-no_call before after lead = (lead.1, let e = lead.0 in omega (arith, e))
+no_call before after lead = (lead.1, (let e = lead.0 in omega (arith, e)), lead.0)
 
 none_made : (before after : At) (calls : List Call) → calls ≡ [] → CallsLead before calls after → IsStill before after
 none_made before after calls none lead = no_call before after (subst (λ (cs : List Call). CallsLead before cs after) none lead)
@@ -48,7 +49,7 @@ pages_still : (pin file from : ℕ) (pages : List (List ℕ)) (before after : At
 pages_still pin file from [] before after lead = no_call before after lead
 pages_still pin file from (page ∷ pages) before after lead =
     let s = first_step before after (ReadPage pin file from) (Page page) (page_reads pin file (from + 1) pages) lead in
-    still_twice before s.0 after (read_still before.faults s.0.faults before.machine s.0.machine pin file from (Page page) s.1.1, s.1.0) (pages_still pin file (from + 1) pages s.0 after s.2)
+    still_twice before s.0 after (read_still before.faults s.0.faults before.machine s.0.machine pin file from (Page page) s.1.1, s.1.0, s.1.2) (pages_still pin file (from + 1) pages s.0 after s.2)
 
 -- ---- the blocks of a pin
 
@@ -63,6 +64,16 @@ read_all pin (info ∷ infos) [] calls before after bad lead = absurd bad
 read_all pin (info ∷ infos) (rows ∷ parts) calls before after (now, later, one, rest, are) lead =
     let p = parted before after now later (subst (λ (cs : List Call). CallsLead before cs after) are lead) in
     still_twice before p.0 after (read_one pin info rows now before p.0 one p.1) (read_all pin infos parts later p.0 after rest p.2)
+
+-- a call of the disk failed for it
+abbrev pub is_unread : QueryError → Bool
+is_unread error.Fault = true
+is_unread (error.NotBlock file at) = false
+is_unread error.Memory = false
+
+abbrev pub unread_in : {A : Type 0} → Result A QueryError → Bool
+unread_in (Ok x) = false
+unread_in (Err why) = is_unread why
 
 -- Why reading stops, in the store's model: the file is that of a block, or a read failed.
 abbrev Stopped : List InfoParts → QueryError → At → At → Type 0
@@ -79,29 +90,30 @@ among_here (i ∷ front) info behind = or_true (i.file == info.file) _ (among_he
     or_true false b e = e
 
 stops_last : (pin : ℕ) (infos : List InfoParts) (info : InfoParts) (pages : List (List ℕ)) (last : List Call) (why : QueryError) (before after : At)
-    → is_among info.file (info_files infos) ≡ true → Stops pin info pages last why → CallsLead before last after → IsStill before after × Stopped infos why before after
+    → is_among info.file (info_files infos) ≡ true → Stops pin info pages last why → CallsLead before last after → IsUnchanged (is_unread why) before after × Stopped infos why before after
 stops_last pin infos info pages last error.Fault before after among (less, are) lead =
     let step = one_step before after (ReadPage pin info.file (length pages)) (Refused Fault) (subst (λ (cs : List Call). CallsLead before cs after) are lead) in (
-      (read_still before.faults after.faults before.machine after.machine pin info.file (length pages) (Refused Fault) step.1, step.0),
+      (read_still before.faults after.faults before.machine after.machine pin info.file (length pages) (Refused Fault) step.1, step.0, step.2),
       read_rose before.faults after.faults before.machine after.machine pin info.file (length pages) step.1,
     )
 stops_last pin infos info pages last (error.NotBlock file at) before after among (is_file, whole, breaks, none) lead =
     (none_made before after last none lead, subst (λ (n : ℕ). is_among n (info_files infos) ≡ true) (sym is_file) among)
 stops_last pin infos info pages last error.Memory before after among none lead = (none_made before after last none lead, tt)
 
-earlier : (infos : List InfoParts) (why : QueryError) (a b c : At) → IsStill a b → IsStill b c × Stopped infos why b c → IsStill a c × Stopped infos why a c
-earlier infos error.Fault a b c first second = (still_twice a b c first second.0, rose_from a.faults b.faults c.faults first.1 second.1)
+earlier : (infos : List InfoParts) (why : QueryError) (a b c : At) → IsStill a b → IsUnchanged (is_unread why) b c × Stopped infos why b c
+    → IsUnchanged (is_unread why) a c × Stopped infos why a c
+earlier infos error.Fault a b c first second = (still_then true a b c first second.0, rose_from a.faults b.faults c.faults first.1 second.1)
 earlier infos (error.NotBlock file at) a b c first second = (still_twice a b c first second.0, second.1)
 earlier infos error.Memory a b c first second = (still_twice a b c first second.0, tt)
 
 stops_within : (pin : ℕ) (infos : List InfoParts) (info : InfoParts) (why : QueryError) (calls : List Call) (before after : At) → is_among info.file (info_files infos) ≡ true
-    → StopsWithin pin info why calls → CallsLead before calls after → IsStill before after × Stopped infos why before after
+    → StopsWithin pin info why calls → CallsLead before calls after → IsUnchanged (is_unread why) before after × Stopped infos why before after
 stops_within pin infos info why calls before after among is lead =
     let p = parted before after (page_reads pin info.file 0 is.pages) is.last (subst (λ (cs : List Call). CallsLead before cs after) is.made lead) in
     earlier infos why before p.0 after (pages_still pin info.file 0 is.pages before p.0 p.1) (stops_last pin infos info is.pages is.last why p.0 after among is.stops p.2)
 
 stops_at : (pin : ℕ) (infos : List InfoParts) (why : QueryError) (calls : List Call) (before after : At) → StopsAt pin infos why calls → CallsLead before calls after
-    → IsStill before after × Stopped infos why before after
+    → IsUnchanged (is_unread why) before after × Stopped infos why before after
 stops_at pin infos why calls before after is lead =
     let p = parted before after is.before is.last (subst (λ (cs : List Call). CallsLead before cs after) is.made lead) in
     let among = subst (λ (is_all : List InfoParts). is_among is.at.file (info_files is_all) ≡ true) (sym is.blocks) (among_here is.front is.at is.behind) in
@@ -143,24 +155,30 @@ look_firsts m rows parts nothing none same k =
     ap (λ (ps : List (List Row)). first_at k (all_rows rows ps)) nothing ∙ ap (λ (blocks : List Block). first_at k (rows ++ block_rows blocks)) (sym none) ∙ same k
 
 comes_still : {A : Type 0} (fits : List (List Row) → A → Type 0) (pin : ℕ) (infos : List InfoParts) (calls : List Call) (r : Result A QueryError) (before after : At)
-    → ComesOf fits pin infos calls r → CallsLead before calls after → IsStill before after
+    → ComesOf fits pin infos calls r → CallsLead before calls after → IsUnchanged (unread_in r) before after
 comes_still fits pin infos calls (Ok x) before after (parts, are, is) lead = read_all pin infos parts calls before after are lead
 comes_still fits pin infos calls (Err why) before after (inl stops) lead = (stops_at pin infos why calls before after stops lead).0
-comes_still fits pin infos calls (Err why) before after (inr (parts, are, memory)) lead = read_all pin infos parts calls before after are lead
+comes_still fits pin infos calls (Err why) before after (inr (parts, are, memory)) lead =
+    subst (λ (w : QueryError). IsUnchanged (is_unread w) before after) (sym memory) (read_all pin infos parts calls before after are lead)
 
 says_memory : {A : Type 0} (tells : ℕ → List Row → A → Type 0) (r : Result A QueryError) (before after : At) → r ≡ Err error.Memory → Says tells r before after
 says_memory {A} tells r before after is = subst (λ (x : Result A QueryError). Says tells x before after) (sym is) tt
 
 -- Nothing of the store changed, and the query says so.
 pub asked_says : {A : Type 0} (tells : ℕ → List Row → A → Type 0) (r : Result A QueryError) (before after : At) (calls : List Call) → Agrees before.machine → IsAsked tells r calls
-    → CallsLead before calls after → IsStill before after × Says tells r before after
-asked_says tells r before after calls agrees (inl (are, is)) lead =
+    → CallsLead before calls after → IsUnchanged (unread_in r) before after × Says tells r before after
+asked_says {A} tells r before after calls agrees (inl (are, is)) lead =
     let step = one_step before after Look (Refused Memory) (subst (λ (cs : List Call). CallsLead before cs after) are lead) in (
-      (look_refused before.faults after.faults before.machine after.machine step.1, step.0),
+      subst (λ (x : Result A QueryError). IsUnchanged (unread_in x) before after) (sym is)
+          (look_refused before.faults after.faults before.machine after.machine step.1, step.0, step.2),
       says_memory tells r before after is,
     )
 asked_says {A} tells r before after calls agrees (inr (look, reads, are, comes)) lead = (
-  (still_after m s.0.machine after.machine look.pin given.0 given.2 same.0 given.5 ended, two before.faults s.0.faults after.faults s.1.0 (two s.0.faults p.0.faults after.faults read.1 last.0)),
+  (
+    still_after m s.0.machine after.machine look.pin given.0 given.2 same.0 given.5 ended,
+    two before.faults s.0.faults after.faults s.1.0 (two s.0.faults p.0.faults after.faults read.1 last.0),
+    subst (λ (n : ℕ). IsCounted (unread_in r) before.faults n) (sym last.2) (subst (λ (n : ℕ). IsCounted (unread_in r) n p.0.faults) s.1.2 read.2),
+  ),
   said r comes,
 )
   where
@@ -182,7 +200,7 @@ asked_says {A} tells r before after calls agrees (inr (look, reads, are, comes))
     last : IsStep p.0 (Done look.pin) Fine after
     last = one_step p.0 after (Done look.pin) Fine p.2
 
-    read : IsStill s.0 p.0
+    read : IsUnchanged (unread_in r) s.0 p.0
     read = comes_still (λ parts x. tells look.as_of (all_rows look.rows parts) x) look.pin look.blocks reads r s.0 p.0 comes p.1
 
     given : IsLook m looked s.0.machine

@@ -1,5 +1,5 @@
 -- A store writes no more only where a call failed since it wrote.
-use Rattle.std.proofs.Common.{Bool, ◌≡◌, ◌⊎◌, inl, inr, ◌∙◌, ℕ, ◌≤◌, List, [], ◌∷◌, Some, None, Ok, Err, ap, arith, sym, subst}
+use Rattle.std.proofs.Common.{Bool, false, ◌≡◌, ◌⊎◌, inl, inr, ◌∙◌, ℕ, ◌≤◌, List, [], ◌∷◌, Some, None, Ok, Err, ap, arith, sym, subst}
 use Rattle.span_types.specs.Faults.{Rose}
 use Rattle.session_text.specs.declared.reply.Reply.{Reply}
 use Rattle.session_text.specs.declared.request.Request.TheVariants as request
@@ -9,7 +9,8 @@ use Rattle.store_model.specs.Event.Event.{BeginCompact, BeginFlush, Cut, CutAll,
 use Rattle.store_model.specs.Step.{Machine, Step}
 use Rattle.store_model.specs.Step.Step.{Sure, Succeeds, Lacks, Unread, Breaks, Halts}
 use Rattle.store_state.specs.Replies.{count_reply, push_reply, reclaim_reply}
-use Rattle.session_meaning.specs.At.{At, IsStep, IsStill}
+use Rattle.session_meaning.specs.At.{At, IsStep, IsUnchanged}
+use Rattle.session_meaning.specs.Causes.{is_disk_fault}
 use Rattle.session_meaning.specs.Session.{IsAnsweredOrRefused, Session}
 use Rattle.session_meaning.specs.Upkeep.{HasFailedSince}
 use Rattle.session_meaning.proofs.RoundLaws.{round_carries}
@@ -39,26 +40,26 @@ by_step start before after e r step (earlier, since) =
     go (inl same) = kept_on start before after step.0 same since
     go (inr (rose, is)) = inr (after.faults, is, rose_from start before.faults after.faults earlier rose, omega arith)
 
-by_still : (start : ℕ) (before after : At) → IsStill before after → Since start before → Since start after
-by_still start before after still (earlier, since) =
+by_still : (start : ℕ) (failed : Bool) (before after : At) → IsUnchanged failed before after → Since start before → Since start after
+by_still start failed before after still (earlier, since) =
     (two start before.faults after.faults earlier still.1, kept_on start before after still.1 (ap read_only still.0) since)
 
 item_since : (start : ℕ) (told : Bool) (item : Item) (before after : At) (r : Reply) → IsAnsweredOrRefused told item before r after → Since start before → Since start after
 item_since start told (Ok (request.Push reading moment)) before after r (inl (answer, is, step)) since = by_step start before after (Push reading.batch.spans moment) (push_reply answer) step since
 item_since start told (Ok (request.Push reading moment)) before after r (inr bad) since = absurd bad
-item_since start told (Ok (request.Trace id)) before after r (inl (rows, found, is, still)) since = by_still start before after still since
-item_since start told (Ok (request.Trace id)) before after r (inr (why, is, cause, still)) since = by_still start before after still since
-item_since start told (Ok (request.Search s)) before after r (inl (results, found, is, still)) since = by_still start before after still since
-item_since start told (Ok (request.Search s)) before after r (inr (why, is, cause, still)) since = by_still start before after still since
+item_since start told (Ok (request.Trace id)) before after r (inl (rows, found, is, still)) since = by_still start false before after still since
+item_since start told (Ok (request.Trace id)) before after r (inr (why, is, cause, still)) since = by_still start (is_disk_fault why) before after still since
+item_since start told (Ok (request.Search s)) before after r (inl (results, found, is, still)) since = by_still start false before after still since
+item_since start told (Ok (request.Search s)) before after r (inr (why, is, cause, still)) since = by_still start (is_disk_fault why) before after still since
 item_since start told (Ok (request.Cut moment)) before after r (inl (answer, is, step)) since = by_step start before after (Cut moment) (count_reply answer) step since
 item_since start told (Ok (request.Cut moment)) before after r (inr bad) since = absurd bad
 item_since start told (Ok request.CutAll) before after r (inl (answer, is, step)) since = by_step start before after CutAll (count_reply answer) step since
 item_since start told (Ok request.CutAll) before after r (inr bad) since = absurd bad
 item_since start told (Ok request.Flush) before after r (inl (round, is, flushed)) since =
-    round_carries (Since start) (λ b a e x none step has. by_step start b a e x step has) (λ b a still has. by_still start b a still has) BeginFlush OfFlush before round after flushed since
+    round_carries (Since start) (λ b a e x none step has. by_step start b a e x step has) (λ b a still has. by_still start false b a still has) BeginFlush OfFlush before round after flushed since
 item_since start told (Ok request.Flush) before after r (inr bad) since = absurd bad
 item_since start told (Ok request.Compact) before after r (inl (round, is, compacted)) since =
-    round_carries (Since start) (λ b a e x none step has. by_step start b a e x step has) (λ b a still has. by_still start b a still has) BeginCompact OfCompaction before round after compacted.0 since
+    round_carries (Since start) (λ b a e x none step has. by_step start b a e x step has) (λ b a still has. by_still start false b a still has) BeginCompact OfCompaction before round after compacted.0 since
 item_since start told (Ok request.Compact) before after r (inr bad) since = absurd bad
 item_since start told (Ok request.Reclaim) before after r (inl (answer, is, step)) since = by_step start before after Reclaim (reclaim_reply answer) step since
 item_since start told (Ok request.Reclaim) before after r (inr bad) since = absurd bad

@@ -131,9 +131,9 @@ pub data Ending (job : Job) (begun_at : At) (round : Round) (after : At) : Type 
   Misreads : IsJoining job → Rose begun_at.faults after.faults → Happens begun_at.machine (drop_of job) Fine after.machine → round ≡ Refused Fault → Ending job begun_at round after
   GivesUp : (w : Refusal) → IsGivenUpFor job w → Happens begun_at.machine (drop_of job) Fine after.machine → round ≡ Refused w → Ending job begun_at round after
 
-drop_done : (job : Job) (begun_at made after : At) → IsStill begun_at made → IsStep made (drop_of job) Fine after → Happens begun_at.machine (drop_of job) Fine after.machine
-drop_done job begun_at made after still gone =
-    subst (λ (m : Machine). Happens m (drop_of job) Fine after.machine) still.0
+drop_done : (job : Job) (begun_at made after : At) → made.machine ≡ begun_at.machine → IsStep made (drop_of job) Fine after → Happens begun_at.machine (drop_of job) Fine after.machine
+drop_done job begun_at made after same gone =
+    subst (λ (m : Machine). Happens m (drop_of job) Fine after.machine) same
     (dropped (drop_of job) (drops job) made.faults after.faults made.machine after.machine gone.1)
 
 broke_then : (job : Job) (number file : ℕ) (bytes : List ℕ) (begun_at made broke after : At) (round : Round) → Writes begun_at → IsStill begun_at made
@@ -151,7 +151,7 @@ misread_then job pin block page begun_at made broke after round joins still step
     let same = read_still made.faults broke.faults made.machine broke.machine pin block page (reply.Refused why.Fault) step.1 in
     Misreads joins
     (rose_to begun_at.faults broke.faults after.faults (rose_from begun_at.faults made.faults broke.faults still.1 rose) gone.0)
-    (drop_done job begun_at broke after (same ∙ still.0, two begun_at.faults made.faults broke.faults still.1 step.0) gone) is
+    (drop_done job begun_at broke after (same ∙ still.0) gone) is
 
 failed_then : (job : Job) (e : event) (begun_at made broke after : At) (round : Round) → Writes begun_at → IsWorkOf job e → IsStill begun_at made
     → IsStep made e (reply.Refused why.Fault) broke → IsStep broke (drop_of job) Fine after → round ≡ Refused Fault → Ending job begun_at round after
@@ -173,7 +173,7 @@ ending job begun_at round after writes (ended.unlisted size written sized still 
     let fails = write_broke (commit_of job size) (commits job size) written.faults after.faults written.machine after.machine (still_writes begun_at written still writes) step.1 in
     Breaks after.faults (rose_from begun_at.faults written.faults after.faults still.1 fails.0) (omega arith) (ap (λ (m : Machine). m.read_only) fails.1) is
 ending job begun_at round after writes (ended.failed e made broke works still step gone is) = failed_then job e begun_at made broke after round writes works still step gone is
-ending job begun_at round after writes (ended.given_up w made for still gone is) = GivesUp w for (drop_done job begun_at made after still gone) is
+ending job begun_at round after writes (ended.given_up w made for still gone is) = GivesUp w for (drop_done job begun_at made after still.0 gone) is
 
 -- ---- jobs of a kind
 
@@ -369,7 +369,7 @@ ended_not_nothing job at after G (ended.given_up w made for still gone is) = abs
 -- What is told that there is nothing to do has nothing, and nothing changes.
 pub nothing_done : (begins : event) → IsBegin begins → (before after : At) → IsRound begins before Nothing after → (work begins before.machine.state ≡ 0) × IsStill before after
 nothing_done begins is before after (round_of.nothing step told) =
-    let found = idle begins is before.faults after.faults before.machine after.machine step.1 in (found.1, (found.2, step.0))
+    let found = idle begins is before.faults after.faults before.machine after.machine step.1 in (found.1, (found.2, step.0, step.2))
 nothing_done begins is before after (round_of.no_job b step told) = absurd (not_refused (begin_cause b) told)
 nothing_done begins is before after (round_of.job job at step ends) = ended_not_nothing job at after _ ends
 

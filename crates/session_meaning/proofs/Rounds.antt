@@ -47,7 +47,7 @@ begun_writes begin is before begun_at job step =
 
 still_more : (begun_at now next : At) (number file : ℕ) (bytes : List ℕ) → IsStill begun_at now → IsStep now (WritePiece number file bytes) Fine next → IsStill begun_at next
 still_more begun_at now next number file bytes still step =
-    still_twice begun_at now next still (piece_written now.faults next.faults now.machine next.machine number file bytes step.1, step.0)
+    still_twice begun_at now next still (piece_written now.faults next.faults now.machine next.machine number file bytes step.1, step.0, step.2)
 
 -- the step of a write that was refused, where the store writes
 faulted : (e : event) → IsWrite e → (begun_at now next : At) (why : WriteError) → Writes begun_at → IsStill begun_at now → IsStep now e (reply.Refused (write_refusal why)) next
@@ -159,7 +159,7 @@ joins_does at calls round (joins.read {calls = cs} {round = r} job parts info in
     let s = first_step now after (ReadPage job.pin info.file pages) (Page page) cs lead in
     let on = joins_does (joining.Reading job parts (info ∷ infos) (pages + 1) (bytes ++ page)) cs r rest in
     on begun_at s.0 after writes among
-    (still_twice begun_at now s.0 still (read_still now.faults s.0.faults now.machine s.0.machine job.pin info.file pages (Page page) s.1.1, s.1.0)) s.2
+    (still_twice begun_at now s.0 still (read_still now.faults s.0.faults now.machine s.0.machine job.pin info.file pages (Page page) s.1.1, s.1.0, s.1.2)) s.2
 joins_does at calls round (joins.unread {calls = cs} {round = r} job parts info infos pages bytes more rest) = λ begun_at now after writes among still lead.
     let s = first_step now after (ReadPage job.pin info.file pages) (reply.Refused refusal.Fault) cs lead in
     let on = joins_does (joining.Failing job.number cause.Fault) cs r rest in

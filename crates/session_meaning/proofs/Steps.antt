@@ -1,5 +1,5 @@
 -- Calls of the store as steps, and what page reads make of it.
-use Rattle.std.proofs.Common.{◌≡◌, ℕ, ◌≤◌, List, [], ◌∷◌, Option, ap, arith, refl, sym, ◌∙◌, subst, le_trans}
+use Rattle.std.proofs.Common.{Bool, true, false, ◌≡◌, ℕ, ◌≤◌, List, [], ◌∷◌, Option, ap, arith, refl, sym, ◌∙◌, subst, le_trans}
 use Rattle.span_types.specs.Faults.{Rose}
 use Rattle.store_model.specs.Event.{Event as event, Reply as reply}
 use Rattle.store_model.specs.Event.Event.{BeginCompact, BeginFlush, CommitCompact, CommitFlush, Cut, CutAll, Done, DropCompact, DropFlush, Held, Look, Push, ReadPage, Reclaim, WritePiece}
@@ -8,23 +8,29 @@ use Rattle.store_model.specs.Event.Refusal.{Fault}
 use Rattle.store_model.specs.Step.{Happens, Machine, Step}
 use Rattle.store_model.specs.Step.Step.{Sure, Succeeds, Lacks, Unread, Breaks, Halts}
 use Rattle.store_state.specs.Made.{Call, call}
+use Rattle.client_run.specs.CoreRuns.{IsCounted, is_fault}
 use Rattle.session_meaning.specs.Answering.{CallsLead}
-use Rattle.session_meaning.specs.At.{At, IsStep, IsStill}
+use Rattle.session_meaning.specs.At.{At, IsStep, IsStill, IsUnchanged}
+
+pub counted_later : (failed : Bool) (before now : ℕ) → IsCounted failed before now → before ≤ now
+counted_later true before now rose = rose.later
+counted_later false before now same = omega (arith, same)
 
 -- ---- calls, one by one
 
 -- One call is a step.
 pub one_step : (before after : At) (e : event) (r : reply) → CallsLead before (call e r ∷ []) after → IsStep before e r after
 one_step before after e r s = (
-  subst (λ (n : ℕ). before.faults ≤ n) (sym s.4.0) s.2,
+  subst (λ (n : ℕ). before.faults ≤ n) (sym s.4.0) (counted_later (is_fault r) before.faults s.0 s.2),
   subst (λ (n : ℕ). Step before.faults n before.machine e r after.machine) (sym s.4.0)
       (subst (λ (m : Machine). Step before.faults s.0 before.machine e r m) (sym s.4.1) s.3),
+  subst (λ (n : ℕ). IsCounted (is_fault r) before.faults n) (sym s.4.0) s.2,
 )
 
 -- The first of more calls is a step, and the others lead on from what it leaves.
 pub first_step : (before after : At) (e : event) (r : reply) (calls : List Call) → CallsLead before (call e r ∷ calls) after
     → (between : At) × IsStep before e r between × CallsLead between calls after
-first_step before after e r calls s = (record { machine = s.1; faults = s.0 }, (s.2, s.3), s.4)
+first_step before after e r calls s = (record { machine = s.1; faults = s.0 }, (counted_later (is_fault r) before.faults s.0 s.2, s.3, s.2), s.4)
 
 -- ---- counts of faults
 
@@ -40,10 +46,17 @@ rose_to a b c rose later = le_trans rose later
 -- ---- what changes nothing
 
 pub still_itself : (at : At) → IsStill at at
-still_itself at = (refl, omega arith)
+still_itself at = (refl, omega arith, refl)
+
+pub still_then : (failed : Bool) (a b c : At) → IsStill a b → IsUnchanged failed b c → IsUnchanged failed a c
+still_then failed a b c first second = (
+  second.0 ∙ first.0,
+  two a.faults b.faults c.faults first.1 second.1,
+  subst (λ (n : ℕ). IsCounted failed n c.faults) first.2 second.2,
+)
 
 pub still_twice : (a b c : At) → IsStill a b → IsStill b c → IsStill a c
-still_twice a b c first second = (second.0 ∙ first.0, two a.faults b.faults c.faults first.1 second.1)
+still_twice a b c first second = still_then false a b c first second
 
 -- a page read changes nothing
 pub read_still : (f g : ℕ) (m m' : Machine) (pin block page : ℕ) (r : reply) → Step f g m (ReadPage pin block page) r m' → m' ≡ m

@@ -1,14 +1,38 @@
 -- Why a push, a round, the emptying of loose files or a query is refused.
-use Rattle.std.specs.Prelude.{Bool, true, false, ◌≡◌, ⊤, ℕ, ◌+◌, ◌<◌, ◌≤◌, Some, length}
+use Rattle.std.specs.Prelude.{Bool, true, false, ◌≡◌, ⊤, ℕ, ◌+◌, ◌<◌, ◌≤◌, List, [], ◌∷◌, Some, Ok, Err, if◌then◌else◌, length}
 use Rattle.span_types.specs.Faults.{Rose}
 use Rattle.session_text.specs.declared.refusal.Refusal.{Refusal}
 use Rattle.session_text.specs.declared.refusal.Refusal.TheVariants.{DiskFault, LiveFull, Memory, ReadOnly, Round, StoreFull}
+use Rattle.session_text.specs.declared.reply.Reply.{Reply}
+use Rattle.session_text.specs.declared.reply.Reply.TheVariants.{Refused}
+use Rattle.session_text.specs.Items.{Item}
 use Rattle.store_model.specs.Choice.{choice}
 use Rattle.store_model.specs.History.{count_of}
 use Rattle.store_model.specs.State.{block_files, held_of, is_among}
 use Rattle.store_state.specs.declared.rounds.Refusal.{Refusal as Cause}
 use Rattle.store_state.specs.declared.rounds.Refusal.TheVariants as cause
 use Rattle.session_meaning.specs.At.{At, history_of}
+
+-- The refusal is the text `disk-fault`: a call of the disk failed.
+abbrev pub is_disk_fault : Refusal → Bool
+is_disk_fault DiskFault = true
+is_disk_fault (Round cause.Fault) = true
+is_disk_fault _ = false
+
+-- whether a reply is that, as a number
+abbrev pub faults_in : Reply → ℕ
+faults_in (Refused why) = if is_disk_fault why then 1 else 0
+faults_in _ = 0
+
+-- how many of these are
+abbrev pub disk_faults : List Reply → ℕ
+disk_faults [] = 0
+disk_faults (reply ∷ replies) = faults_in reply + disk_faults replies
+
+-- whether a line is refused so in reading
+abbrev pub blames_disk : Item → Bool
+blames_disk (Ok request) = false
+blames_disk (Err why) = is_disk_fault why
 
 -- A call that writes is refused for this only where that holds: a write failed before, and the disk's count of faults after it is
 -- told; a call of the disk failed now, so that the store writes no more; or, for memory, at any time. So is the emptying of loose

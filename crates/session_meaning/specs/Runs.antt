@@ -6,6 +6,7 @@ use Rattle.span_types.specs.Faults.{Rose}
 use Rattle.io_edges.specs.Devices.{AppendsPrefix}
 use Rattle.io_edges.specs.Lines.{lines, taken_limit}
 use Rattle.io_edges.specs.Reader.{TakesBytes}
+use Rattle.disk_model.specs.Counts.{Raised}
 use Rattle.disk_model.specs.Images.{Image}
 use Rattle.disk_model.specs.declared.disk.Device.{Ghosts}
 use Rattle.command_words.specs.Commands.{Alone, Command, Ingest as ingest, Session as session, Spells}
@@ -25,7 +26,8 @@ use Rattle.session_meaning.specs.Ingest.{Duty, Ingests, duties, from_lines}
 use Rattle.session_meaning.specs.Session.{Ends, EndsAlone, Session}
 
 -- What the outside tells at a moment: the bytes that the source has left and those that the sink has taken, the moments that
--- the clock has to give, and the bytes that the disk holds, each where it tells them; and the counts of faults.
+-- the clock has to give, and the bytes that the disk holds, each where it tells them; the counts of faults; and how many writes
+-- of the disk were asked to end at 2^63 or more, which no disk does.
 pub record Edges : Type 0 where
   pub left : Option (List ℕ)
   pub taken : Option (List ℕ)
@@ -34,6 +36,7 @@ pub record Edges : Type 0 where
   pub source_faults : ℕ
   pub sink_faults : ℕ
   pub disk_faults : ℕ
+  pub far_writes : ℕ
 
 -- the bytes that a disk holds, where it tells them
 abbrev pub told_bytes : {D : Type 0} → Ghosts D → D → Option Image
@@ -50,6 +53,7 @@ edges left source_faults taken sink_faults moments g source sink clock disk = re
   source_faults = source_faults source;
   sink_faults = sink_faults sink;
   disk_faults = g.faults disk;
+  far_writes = g.far_writes disk;
 }
 
 -- What happened in a run: how it ended, whether the store was opened and the moment of that, what was asked and answered from
@@ -67,15 +71,15 @@ pub record Outcome : Type 0 where
 -- ---- the opening
 
 -- The store was opened at the clock's next moment. It then writes, its head is empty, no file is loose and no pin is open, its
--- rows are those of its history, and that has no more pushes than a store takes. Its bytes don't break. The disk's faults are
--- counted on from those of the opening to the last ones.
+-- rows are those of its history, and that has no more pushes than a store takes. Its bytes don't break. No call of the disk failed
+-- in the opening, and its faults are counted on from there to the last ones.
 pub record HasOpened (o : Outcome) (old new : Edges) : Type 0 where
   pub moment : IsNextMoment old.moments o.moment
   pub begins : BeginsEmpty o.first.machine
   pub agrees : Agrees o.first.machine
   pub few : count_of (history_of o.first) ≤ 4294967295
   pub unbroken : IfSome old.held (λ image. (file at : ℕ) → StoreBreaks image file at → ⊥)
-  pub first_faults : old.disk_faults ≤ o.first.faults
+  pub first_faults : o.first.faults ≡ old.disk_faults
   pub last_faults : o.last.faults ≡ new.disk_faults
 
 -- The disk's bytes, where it tells them, break first at this place of this file, and so are no store's.
@@ -96,7 +100,8 @@ abbrev pub GaveOpening : Ending → Option (List ℕ) → Option (List ℕ) → 
 GaveOpening Starved old new = (new ≡ after_moment old) ⊎ (new ≡ old)
 GaveOpening _ old new = new ≡ after_moment old
 
--- The store wasn't opened: nothing was taken of the source, nothing was asked, and the clock gave no moment but the opening's.
+-- The store wasn't opened: nothing was taken of the source, nothing was asked, and the clock gave no moment but the opening's. No
+-- call of the disk failed, but where the run ends for that.
 pub record HasNotOpened (o : Outcome) (old new : Edges) : Type 0 where
   pub no_items : o.items ≡ []
   pub no_replies : o.replies ≡ []
@@ -104,6 +109,7 @@ pub record HasNotOpened (o : Outcome) (old new : Edges) : Type 0 where
   pub left : new.left ≡ old.left
   pub clock : GaveOpening o.ending old.moments new.moments
   pub ends : EndsUnopened o.ending old new.taken
+  pub quiet : o.ending ≢ NotOpened → new.disk_faults ≡ old.disk_faults
 
 -- ---- what each command does
 
@@ -181,11 +187,11 @@ Does sure c o old new =
 -- ---- how a run may end
 
 -- The ending has its cause: a count of faults rose, or the disk's bytes are no store's, or so many bytes were taken as a run
--- takes.
+-- takes. Where the store isn't opened for a fault just one call of the disk failed, and it was none that had to fail.
 abbrev pub HasCause : Ending → Edges → Edges → Type 0
 HasCause WriteFault old new = Rose old.sink_faults new.sink_faults
 HasCause ReadFault old new = Rose old.source_faults new.source_faults
-HasCause NotOpened old new = Rose old.disk_faults new.disk_faults
+HasCause NotOpened old new = Raised old.disk_faults new.disk_faults × (new.far_writes ≡ old.far_writes)
 HasCause (NotStore file at) old new = IsNoStore file at old.held
 HasCause Spent old new = TakesBytes old.left new.left 0 taken_limit
 HasCause _ old new = ⊤
@@ -218,6 +224,12 @@ abbrev pub ReadsWell : Edges → Edges → Type 0
 ReadsWell old new =
     HasItsStore old new × (Rose old.sink_faults new.sink_faults → ⊥) × (Rose old.source_faults new.source_faults → ⊥)
     × (text : List ℕ) × (old.left ≡ Some text) × (length text < taken_limit)
+
+-- The sink tells its bytes, and the source too where the command reads it.
+abbrev pub TellsAll : Command → Edges → Type 0
+TellsAll session old = (text before : List ℕ) × (old.left ≡ Some text) × (old.taken ≡ Some before)
+TellsAll ingest old = (text before : List ℕ) × (old.left ≡ Some text) × (old.taken ≡ Some before)
+TellsAll (Alone line) old = (before : List ℕ) × (old.taken ≡ Some before)
 
 -- No call failed that the command makes, the disk holds a store, and where the command reads the source, that has fewer bytes than
 -- a run takes.

@@ -28,8 +28,8 @@ use Rattle.store_state.specs.declared.errors.ReclaimError.{ReclaimError}
 use Rattle.store_state.specs.declared.rounds.Refusal.TheVariants as round
 use Rattle.store_state.specs.declared.rounds.Round.{Round}
 use Rattle.client_run.specs.Answers.{compact_reply, cut_reply, flush_reply, pushed_reply, reclaimed_reply}
-use Rattle.session_meaning.specs.At.{At, IsStep, IsStill, history_of}
-use Rattle.session_meaning.specs.Causes.{HasQueryCause}
+use Rattle.session_meaning.specs.At.{At, IsStep, IsStill, IsUnchanged, history_of}
+use Rattle.session_meaning.specs.Causes.{HasQueryCause, is_disk_fault}
 use Rattle.session_meaning.specs.Rounds.{IsCompacted, IsFlushed}
 use Rattle.session_meaning.specs.declared.ending.Ending.{Ending}
 use Rattle.session_meaning.specs.declared.ending.Ending.TheVariants.{Answered, ReadFault, Spent, Starved, WriteFault}
@@ -87,7 +87,8 @@ IsAnswered told (Err why) before reply after = (reply ≡ Refused why) × (after
 -- A query is refused for its cause, and changes nothing. When a line that pushes or keeps the store up is, its steps say.
 abbrev pub IsQueryRefused : Bool → At → Reply → At → Type 0
 IsQueryRefused told before reply after =
-    (why : Refusal) × (reply ≡ Refused why) × HasQueryCause told why before after × IsStill before after
+    (why : Refusal) × (reply ≡ Refused why) × HasQueryCause told why before after
+    × IsUnchanged (is_disk_fault why) before after
 
 abbrev pub IsRefused : Bool → Item → At → Reply → At → Type 0
 IsRefused told (Ok (request.Trace id)) before reply after = IsQueryRefused told before reply after

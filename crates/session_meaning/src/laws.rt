@@ -1,8 +1,9 @@
 //! What follows from the definitions of a session and of a run.
 
-ghost use Rattle.std.specs.Prelude.{Bool, IsTrue, true, ◌≡◌, ◌⊎◌, ◌<◌, ◌≤◌, ◌+◌, ◌++◌, List, [], ◌∷◌, Option, Some, None, Ok, false, length, take, ℕ};
+ghost use Rattle.std.specs.Prelude.{Bool, IsTrue, true, ◌≡◌, ◌≢◌, ◌⊎◌, ◌<◌, ◌≤◌, ◌+◌, ◌++◌, List, [], ◌∷◌, Option, Some, None, Ok, false, length, take, ℕ};
 ghost use Rattle.std.specs.List.{Contains, list_any};
 ghost use Rattle.command_words.specs.Commands.{Command, Spells};
+ghost use Rattle.disk_model.specs.Counts.{RoseBy};
 ghost use Rattle.disk_model.specs.Images.{Image};
 ghost use Rattle.compactor.specs.Rounds.{IsCompactRound};
 ghost use Rattle.flusher.specs.Rounds.{IsFlushRound};
@@ -15,6 +16,7 @@ ghost use Rattle.session_text.specs.declared.reply.Reply.{Reply};
 ghost use Rattle.session_text.specs.declared.reply.Reply.TheVariants.{Pushed, Reclaimed, Refused};
 ghost use Rattle.session_text.specs.declared.request.Request.TheVariants.{Push, Reclaim};
 ghost use Rattle.session_text.specs.Items.{Item};
+ghost use Rattle.session_text.specs.Requests.{AsksAt};
 ghost use Rattle.store_model.specs.Choice.{choice};
 ghost use Rattle.store_model.specs.Event.Event.{BeginCompact};
 ghost use Rattle.store_model.specs.History.{History, count_of, grown};
@@ -29,12 +31,12 @@ ghost use Rattle.store_state.specs.declared.rounds.Refusal.{Refusal as Cause};
 ghost use Rattle.store_state.specs.declared.rounds.Round.{Round};
 ghost use Rattle.store_state.specs.declared.rounds.Round.TheVariants.{Did, Nothing, Refused as IsRefused};
 ghost use Rattle.session_meaning.specs.Answering.{AreItemsAnswered, CallsLead, IsAnsweredByCalls, at_core};
-ghost use Rattle.session_meaning.specs.Causes.{HasCompactCause, HasFlushCause, HasPushCause, HasWriteCause};
+ghost use Rattle.session_meaning.specs.Causes.{HasCompactCause, HasFlushCause, HasPushCause, HasWriteCause, blames_disk, disk_faults};
 ghost use Rattle.session_meaning.specs.Rounds.{HasJoined, HasListed, IsCompacted, IsDoneOrStarved, IsFlushed, IsRound};
-ghost use Rattle.session_meaning.specs.declared.ending.Ending.TheVariants.{Answered, Starved};
+ghost use Rattle.session_meaning.specs.declared.ending.Ending.TheVariants.{Answered, NotOpened, Starved};
 ghost use Rattle.session_meaning.specs.Progress.{AreAnsweredOver, IngestsOver};
 ghost use Rattle.session_meaning.specs.Pushes.{HasRoomFor, HasRoomForPush, accepted_entries, known_pushes};
-ghost use Rattle.session_meaning.specs.Runs.{ComesToItsEnd, Edges, GoesWell, IsRunOf, Outcome};
+ghost use Rattle.session_meaning.specs.Runs.{ComesToItsEnd, Edges, GoesWell, IsRunOf, Outcome, TellsAll};
 ghost use Rattle.session_meaning.specs.At.{At, IsStill, history_of};
 ghost use Rattle.session_meaning.specs.Ingest.{AreJoined, Duty, HasFinished, Ingests, duties, most_rounds};
 ghost use Rattle.session_meaning.specs.Session.{IsAnswered, IsAnsweredOrRefused, Session, is_refused};
@@ -94,6 +96,21 @@ pub fn sessions_keep_the_store()
     // A store that wrote at first writes no more only where a call failed since, and then it tells the disk's count after that.
     ensures read_only { (told : Bool) (items : List Item) (replies : List Reply) (first last : At)
         → Session told first items replies last → first.machine.read_only ≡ None → HasFailedSince first.faults last }
+{}
+
+/// As many replies are `disk-fault` as calls of the disk failed.
+pub fn each_disk_fault_is_counted()
+    // Of a session: no failed call goes untold, and no fault is told for which no call failed.
+    ensures of_sessions { (told : Bool) (items : List Item) (replies : List Reply) (first last : At)
+        → Session told first items replies last → list_any blames_disk items ≡ false
+        → RoseBy (disk_faults replies) first.faults last.faults }
+    // No line is refused for a fault in reading.
+    ensures of_lines { (moment : ℕ) (line : List ℕ) (refused : List (List ℕ)) (item : Item)
+        → AsksAt moment line refused item → blames_disk item ≡ false }
+    // Of a run that wasn't stopped by the first call that failed as it opened the store.
+    ensures of_runs { (told : Bool) (words : List (List ℕ)) (c : Command) (o : Outcome) (old new : Edges) → Spells words c
+        → IsRunOf told words o old new → TellsAll c old → o.ending ≢ NotOpened
+        → RoseBy (disk_faults o.replies) old.disk_faults new.disk_faults }
 {}
 
 /// What the replies of a session tell of its pushes.

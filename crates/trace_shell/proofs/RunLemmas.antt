@@ -5,6 +5,7 @@ use Rattle.clap.specs.Words.{Kinds, fault_of}
 use Rattle.command_words.specs.Commands.{Alone, Command, Ingest as ingest, Session as session, Spells}
 use Rattle.command_words.specs.Table.{words_app}
 use Rattle.command_words.proofs.Spelled.{spelled_clean, spelled_one}
+use Rattle.disk_model.specs.Counts.{Raised}
 use Rattle.disk_model.specs.Images.{Image}
 use Rattle.disk_model.specs.Crash.{Reached}
 use Rattle.disk_model.specs.declared.disk.Device.{Ghosts}
@@ -167,7 +168,7 @@ untouched_recovers g only_now disk e = unopened_recovers g disk disk e (λ image
 pub starved_runs : (told : Bool) (words : List (List ℕ)) (old : Edges) → IsRunOf told words (unopened Starved) old old
 starved_runs told words old = record {
   words_fit = fits (fault_of words_app words);
-  does = λ c s. inr (refl, record { no_items = refl; no_replies = refl; no_refused = refl; left = refl; clock = inr refl; ends = refl });
+  does = λ c s. inr (refl, record { no_items = refl; no_replies = refl; no_refused = refl; left = refl; clock = inr refl; ends = refl; quiet = λ not. refl });
   session = (refl, refl);
   cause = tt;
 }
@@ -193,39 +194,41 @@ refused_runs told words old faulty = record {
 
 -- It wasn't opened for a cause, and the run ended so.
 pub unopened_done : (sure : Bool) (c : Command) (error : OpenError) (e : Ending) (old new : Edges) → new.left ≡ old.left → new.moments ≡ after_moment old.moments → IsRefusedStore error e old.taken new.taken
-    → (e ≡ WriteFault → Rose old.sink_faults new.sink_faults) → (error ≡ open_errors.Fault → Rose old.disk_faults new.disk_faults)
+    → (e ≡ WriteFault → Rose old.sink_faults new.sink_faults)
+    → (error ≡ open_errors.Fault → Raised old.disk_faults new.disk_faults) → (error ≢ open_errors.Fault → new.disk_faults ≡ old.disk_faults)
+    → new.far_writes ≡ old.far_writes
     → ((file at : ℕ) → error ≡ open_errors.NotStore file at → IsNoStore file at old.held) → HasDone sure c (unopened e) old new
-unopened_done sure c open_errors.Fault e old new left moment (is, taken) write fault broken =
+unopened_done sure c open_errors.Fault e old new left moment (is, taken) write fault quiet near broken =
     subst (λ (k : Ending). HasDone sure c (unopened k) old new) (sym is) (record {
-      does = inr (refl, record { no_items = refl; no_replies = refl; no_refused = refl; left = left; clock = moment; ends = taken });
+      does = inr (refl, record { no_items = refl; no_replies = refl; no_refused = refl; left = left; clock = moment; ends = taken; quiet = λ not. absurd (not refl) });
       session = (refl, refl);
-      cause = fault refl;
+      cause = (fault refl, near);
       asked = λ e. let bad : ⊥ = cc in bad;
     })
-unopened_done sure c open_errors.Memory e old new left moment (is, taken) write fault broken =
+unopened_done sure c open_errors.Memory e old new left moment (is, taken) write fault quiet near broken =
     subst (λ (k : Ending). HasDone sure c (unopened k) old new) (sym is) (record {
-      does = inr (refl, record { no_items = refl; no_replies = refl; no_refused = refl; left = left; clock = inl moment; ends = taken });
+      does = inr (refl, record { no_items = refl; no_replies = refl; no_refused = refl; left = left; clock = inl moment; ends = taken; quiet = λ not. quiet (λ e. let bad : ⊥ = cc in bad) });
       session = (refl, refl);
       cause = tt;
       asked = λ e. let bad : ⊥ = cc in bad;
     })
-unopened_done sure c (open_errors.NotStore file at) e old new left moment (inl (is, taken)) write fault broken =
+unopened_done sure c (open_errors.NotStore file at) e old new left moment (inl (is, taken)) write fault quiet near broken =
     subst (λ (k : Ending). HasDone sure c (unopened k) old new) (sym is) (record {
-      does = inr (refl, record { no_items = refl; no_replies = refl; no_refused = refl; left = left; clock = moment; ends = taken });
+      does = inr (refl, record { no_items = refl; no_replies = refl; no_refused = refl; left = left; clock = moment; ends = taken; quiet = λ not. quiet (λ e. let bad : ⊥ = cc in bad) });
       session = (refl, refl);
       cause = broken file at refl;
       asked = λ e. let bad : ⊥ = cc in bad;
     })
-unopened_done sure c (open_errors.NotStore file at) e old new left moment (inr (inl (is, taken))) write fault broken =
+unopened_done sure c (open_errors.NotStore file at) e old new left moment (inr (inl (is, taken))) write fault quiet near broken =
     subst (λ (k : Ending). HasDone sure c (unopened k) old new) (sym is) (record {
-      does = inr (refl, record { no_items = refl; no_replies = refl; no_refused = refl; left = left; clock = inl moment; ends = taken });
+      does = inr (refl, record { no_items = refl; no_replies = refl; no_refused = refl; left = left; clock = inl moment; ends = taken; quiet = λ not. quiet (λ e. let bad : ⊥ = cc in bad) });
       session = (refl, refl);
       cause = tt;
       asked = λ e. let bad : ⊥ = cc in bad;
     })
-unopened_done sure c (open_errors.NotStore file at) e old new left moment (inr (inr (is, taken))) write fault broken =
+unopened_done sure c (open_errors.NotStore file at) e old new left moment (inr (inr (is, taken))) write fault quiet near broken =
     subst (λ (k : Ending). HasDone sure c (unopened k) old new) (sym is) (record {
-      does = inr (refl, record { no_items = refl; no_replies = refl; no_refused = refl; left = left; clock = moment; ends = (file, at, broken file at refl, taken) });
+      does = inr (refl, record { no_items = refl; no_replies = refl; no_refused = refl; left = left; clock = moment; ends = (file, at, broken file at refl, taken); quiet = λ not. quiet (λ e. let bad : ⊥ = cc in bad) });
       session = (refl, refl);
       cause = write is;
       asked = λ e. let bad : ⊥ = cc in bad;

@@ -121,7 +121,7 @@ module _ {D : Type 0} (g : Ghosts D) (disk : D) (moment : ℕ) (core later : Cor
   outcome = in_a_store g moment core later first last e items replies blamed
 
   pub opened_done : (sure : Bool) (c : Command) (old new : Edges) → old.held ≡ told_bytes g disk → old.disk_faults ≡ g.faults disk → new.disk_faults ≡ g.faults later.disk
-      → IsNextMoment old.moments moment → (IsTrue (g.tells disk) → (file at : ℕ) → StoreBreaks (g.held disk) file at → ⊥) → g.faults disk ≤ g.faults core.disk
+      → IsNextMoment old.moments moment → (IsTrue (g.tells disk) → (file at : ℕ) → StoreBreaks (g.held disk) file at → ⊥) → g.faults core.disk ≡ g.faults disk
       → Session sure outcome.first items replies outcome.last
       → CameTo sure c outcome.first outcome.last old.left old.taken (after_moment old.moments) new.left new.taken new.moments e items replies blamed
       → IsPastOpening e → HasCause e old new → HasDone sure c outcome old new
@@ -135,7 +135,7 @@ module _ {D : Type 0} (g : Ghosts D) (disk : D) (moment : ℕ) (core later : Cor
         few = subst (λ (n : ℕ). n ≤ 4294967295) (sym opens.shows.has.count) opens.shows.has.few;
         unbroken = subst (λ (o : Option Image). IfSome o (λ image. (file at : ℕ) → StoreBreaks image file at → ⊥)) (sym held)
             (if_told g disk (λ image. (file at : ℕ) → StoreBreaks image file at → ⊥) unbroken);
-        first_faults = subst (λ (n : ℕ). n ≤ g.faults core.disk) (sym old_faults) counted;
+        first_faults = counted ∙ sym old_faults;
         last_faults = sym new_faults;
       },
       past,

@@ -1,4 +1,4 @@
-use Rattle.std.proofs.Common.{IsTrue, false, true, List, Option, [], ap, refl, subst, sym, ℕ}
+use Rattle.std.proofs.Common.{arith, IsTrue, false, true, List, Option, [], ap, refl, subst, sym, ℕ}
 use Rattle.command_words.specs.Commands.{command_of}
 use Rattle.session_meaning.specs.Asked.{after_moment}
 use Rattle.session_meaning.specs.Runs.{Edges, edges}
@@ -39,7 +39,7 @@ returns-in-Ok-clause-ran g c =
       refl,
       came.3,
       opened_done d disk moment core later begins.0 run.0 c.do_asked-ending.result came.0 came.1 came.2 begins.1 over false (command_of c.args.asked) old new
-          refl refl (ap d.faults c.close.ensures) c.now-moment.ensures.moment c.in-Ok.ensures.unbroken c.in-Ok.ensures.later run.2
+          refl refl (ap d.faults c.close.ensures) c.now-moment.ensures.moment c.in-Ok.ensures.unbroken (c.in-Ok.ensures.calls.quiet tt) run.2
           run.3
           c.do_asked-ending.ensures.endings
           (cause_of c.do_asked-ending.result old new c.do_asked-ending.ensures.endings c.do_asked-ending.ensures.write_fault c.do_asked-ending.ensures.read_fault c.do_asked-ending.ensures.spent),
@@ -60,18 +60,18 @@ returns-in-Ok-clause-recovers g c = λ told sound.
     let come = subst (λ (o : Option (List ℕ)). CameOver (command_of c.args.asked) d core later old.left old.taken o new.left new.taken new.moments c.do_asked-ending.result came.0 came.1 came.2)
     c.now-moment.ensures.later came.4 in
     let over = answered_over d (command_of c.args.asked) core later old.left old.taken (after_moment old.moments) new.left new.taken new.moments c.do_asked-ending.result came.0 came.1 came.2 come in
-    let run = came_to d (λ port m. StandsSince d core.disk (count_of begins.0.history) port m × IsTrue (d.tells port.disk)) true (since_means d core.disk (count_of begins.0.history)) (since_ingests d core.disk (count_of begins.0.history)) (command_of c.args.asked) core later begins.0 old.left old.taken (after_moment old.moments) new.left new.taken new.moments c.do_asked-ending.result came.0 came.1 came.2 (since, subst IsTrue (sym c.in-Ok.ensures.telling) told) come in (
+    let run = came_to d (λ port m. StandsSince d core.disk (count_of begins.0.history) port m × IsTrue (d.tells port.disk)) true (since_means d core.disk (count_of begins.0.history)) (since_ingests d core.disk (count_of begins.0.history)) (command_of c.args.asked) core later begins.0 old.left old.taken (after_moment old.moments) new.left new.taken new.moments c.do_asked-ending.result came.0 came.1 came.2 (since, subst IsTrue (sym c.in-Ok.ensures.calls.telling) told) come in (
       in_a_store d moment core later begins.0 run.0 c.do_asked-ending.result came.0 came.1 came.2,
       refl,
       came.3,
       opened_done d disk moment core later begins.0 run.0 c.do_asked-ending.result came.0 came.1 came.2 begins.1.over over true (command_of c.args.asked) old new
-          refl refl (ap d.faults c.close.ensures) c.now-moment.ensures.moment c.in-Ok.ensures.unbroken c.in-Ok.ensures.later run.2
+          refl refl (ap d.faults c.close.ensures) c.now-moment.ensures.moment c.in-Ok.ensures.unbroken (c.in-Ok.ensures.calls.quiet tt) run.2
           run.3
           c.do_asked-ending.ensures.endings
           (cause_of c.do_asked-ending.result old new c.do_asked-ending.ensures.endings c.do_asked-ending.ensures.write_fault c.do_asked-ending.ensures.read_fault c.do_asked-ending.ensures.spent),
       subst (λ x. Recovers d disk x (in_a_store d moment core later begins.0 run.0 c.do_asked-ending.result came.0 came.1 came.2)) (sym c.close.ensures)
           (opened_recovers d disk moment core later begins.0 run.0 c.do_asked-ending.result came.0 came.1 came.2 begins.1.over over told begins.1
-          c.in-Ok.ensures.kept c.in-Ok.ensures.telling run.1.0),
+          c.in-Ok.ensures.kept c.in-Ok.ensures.calls.telling run.1.0),
     )
 
 pub returns-in-Err-clause-ran : goal.returns-in-Err-clause-ran
@@ -82,7 +82,8 @@ returns-in-Err-clause-ran g c =
       unopened c.refuse_store.result,
       refl,
       refuses-none g.P.PatternMaker.makes _ c.args.patterns.now c.args.patterns.now,
-      unopened_done false (command_of c.args.asked) c.in-Err.error c.refuse_store.result old new refl c.now-moment.ensures.later c.refuse_store.ensures.told c.refuse_store.ensures.write_fault c.in-Err.ensures.fault
+      unopened_done false (command_of c.args.asked) c.in-Err.error c.refuse_store.result old new refl c.now-moment.ensures.later c.refuse_store.ensures.told c.refuse_store.ensures.write_fault
+          c.in-Err.ensures.calls_refused.fault c.in-Err.ensures.calls_refused.quiet (c.in-Err.ensures.calls_refused.near (omega arith))
           (λ file at is. if_told d c.args.disk (λ image. StoreBreaks image file at × (IsSoundImage image → ⊥))
           (λ told. (c.in-Err.ensures.not_store told file at is, λ sound. c.in-Err.ensures.sound told sound file at is))),
     )
@@ -95,7 +96,8 @@ returns-in-Err-clause-recovers g c = λ told sound.
       unopened c.refuse_store.result,
       refl,
       refuses-none g.P.PatternMaker.makes _ c.args.patterns.now c.args.patterns.now,
-      unopened_done true (command_of c.args.asked) c.in-Err.error c.refuse_store.result old new refl c.now-moment.ensures.later c.refuse_store.ensures.told c.refuse_store.ensures.write_fault c.in-Err.ensures.fault
+      unopened_done true (command_of c.args.asked) c.in-Err.error c.refuse_store.result old new refl c.now-moment.ensures.later c.refuse_store.ensures.told c.refuse_store.ensures.write_fault
+          c.in-Err.ensures.calls_refused.fault c.in-Err.ensures.calls_refused.quiet (c.in-Err.ensures.calls_refused.near (omega arith))
           (λ file at is. if_told d c.args.disk (λ image. StoreBreaks image file at × (IsSoundImage image → ⊥))
           (λ told. (c.in-Err.ensures.not_store told file at is, λ sound. c.in-Err.ensures.sound told sound file at is))),
       unopened_recovers d c.args.disk c.in-Err.disk c.refuse_store.result (λ image left. (c.in-Err.ensures.kept_refused told).since.each image left),

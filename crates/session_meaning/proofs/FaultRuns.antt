@@ -1,0 +1,183 @@
+-- No line is refused in reading for a fault of the disk, so each run tells of all that were.
+use Rattle.std.specs.Prelude.{⊤}
+use Rattle.std.proofs.Common.{◌≡◌, ◌≢◌, ◌⊎◌, inl, inr, ◌∙◌, ℕ, ◌+◌, Bool, true, false, ◌||◌, nat_le, List, [], ◌∷◌, ◌++◌, codes, Option, Some, None, Result, Ok, Err, if◌then◌else◌, length, refl, sym, ap, subst}
+use Rattle.std.specs.Prelude.{IfSome}
+use Rattle.std.specs.Str.{bytes_eq, is_utf8}
+use Rattle.std.specs.List.{list_any}
+use Rattle.command_words.specs.Commands.{Alone, Command, Ingest as ingest, Session as session, Spells}
+use Rattle.disk_model.specs.Counts.{RoseBy}
+use Rattle.io_edges.specs.Lines.{line_limit}
+use Rattle.otlp_spans.specs.Fields.{trace_id_of}
+use Rattle.otlp_spans.specs.Reading.{Given, NoJson, TooManySpans, WrongForm, reading_of}
+use Rattle.otlp_spans.specs.Reading as otlp
+use Rattle.span_types.specs.declared.ids.TraceId.{TraceId}
+use Rattle.traceql_syntax.specs.declared.errors.ParseError.{ParseError}
+use Rattle.traceql_syntax.specs.declared.errors.ParseError.TheVariants as parse
+use Rattle.traceql_types.specs.declared.errors.TypeError.{TypeError}
+use Rattle.traceql_types.specs.declared.errors.TypeError.TheVariants as type
+use Rattle.session_text.specs.declared.refusal.Refusal.{Refusal}
+use Rattle.session_text.specs.declared.refusal.Refusal.TheVariants as told
+use Rattle.session_text.specs.declared.reply.Reply.{Reply}
+use Rattle.session_text.specs.declared.request.Request.{Request}
+use Rattle.session_text.specs.declared.request.Request.TheVariants as request
+use Rattle.session_text.specs.Items.{Item}
+use Rattle.session_text.specs.Lines.{first_part, other_parts}
+use Rattle.session_text.specs.Options.{SearchLine, search_parts}
+use Rattle.session_text.specs.Requests.{Answers, AsksAt, AsksPush, Line, alone, line_of, other_line, plain, push_of, push_with, pushed, refusal_of, request_by, request_of, search_with, searched, trace_with, with_id}
+use Rattle.session_text.specs.Searches.{of_check, of_parse}
+use Rattle.session_meaning.specs.declared.ending.Ending.{Ending}
+use Rattle.session_meaning.specs.declared.ending.Ending.TheVariants.{NotOpened}
+use Rattle.session_meaning.specs.Asked.{AreAsked, AsksNext, after_moment}
+use Rattle.session_meaning.specs.At.{At}
+use Rattle.session_meaning.specs.Causes.{blames_disk, disk_faults, is_disk_fault}
+use Rattle.session_meaning.specs.Ingest.{Duty, Ingests, IsDue, ask, compact_all, due_at, keep_small, push}
+use Rattle.session_meaning.specs.Runs.{DoesInStore, Edges, HasAnswered, HasIngested, HasRun, IsRunOf, Outcome, TellsAll}
+use Rattle.session_meaning.proofs.FaultLaws.{both_none, rose_none, session_counts}
+
+-- ---- one line
+
+-- it is a search, or a line that isn't refused for that
+abbrev IsNone : Line → Type 0
+IsNone (searched line) = ⊤
+IsNone (plain answer) = blames_disk answer ≡ false
+
+either : (b : Bool) (x y : Line) → IsNone x → IsNone y → IsNone (if b then x else y)
+either true x y this that = this
+either false x y this that = that
+
+alone_none : (word : List ℕ) (rest : Option (List ℕ)) (r : Request) → IsNone (plain (alone word rest r))
+alone_none word None r = refl
+alone_none word (Some more) r = refl
+
+id_none : (start : ℕ) (part : List ℕ) (id : Option TraceId) (more : Option (List ℕ)) → IsNone (plain (with_id start part id more))
+id_none start part None more = refl
+id_none start part (Some id) None = refl
+id_none start part (Some id) (Some more) = refl
+
+trace_none : (len : ℕ) (rest : Option (List ℕ)) → IsNone (plain (trace_with len rest))
+trace_none len None = refl
+trace_none len (Some rest) = id_none 6 (first_part rest) (trace_id_of (first_part rest)) (other_parts rest)
+
+pushed_none : (moment : ℕ) (read : Result Given otlp.Refusal) → IsNone (plain (pushed moment read))
+pushed_none moment (Ok given) = refl
+pushed_none moment (Err NoJson) = refl
+pushed_none moment (Err (WrongForm path)) = refl
+pushed_none moment (Err (TooManySpans spans)) = refl
+
+push_none : (moment len : ℕ) (rest : Option (List ℕ)) → IsNone (plain (push_with moment len rest))
+push_none moment len None = refl
+push_none moment len (Some json) = pushed_none moment (reading_of json)
+
+search_none : (read : Result SearchLine ℕ) → IsNone (search_with read)
+search_none (Ok line) = tt
+search_none (Err at) = refl
+
+other_none : (moment : ℕ) (word line : List ℕ) (rest : Option (List ℕ)) → IsNone (other_line moment word line rest)
+other_none moment word line rest =
+    either (bytes_eq word (codes "trace")) _ _ (trace_none (length line) rest)
+    (either (bytes_eq word (codes "search")) _ _ (search_none (search_parts (length line) rest))
+    (either (bytes_eq word (codes "cut")) _ _ (alone_none word rest (request.Cut moment))
+    (either (bytes_eq word (codes "cutall")) _ _ (alone_none word rest request.CutAll)
+    (either (bytes_eq word (codes "flush")) _ _ (alone_none word rest request.Flush)
+    (either (bytes_eq word (codes "compact")) _ _ (alone_none word rest request.Compact)
+    (either (bytes_eq word (codes "reclaim")) _ _ (alone_none word rest request.Reclaim) refl))))))
+
+request_none : (moment : ℕ) (word line : List ℕ) (rest : Option (List ℕ)) → IsNone (request_by moment word line rest)
+request_none moment word line rest =
+    either (bytes_eq word (codes "push")) _ _ (push_none moment (length line) rest)
+    (either (is_utf8 line) _ _ (other_none moment word line rest) refl)
+
+line_none : (moment : ℕ) (line : List ℕ) → IsNone (line_of moment line)
+unfolding line_of
+line_none moment line = either (nat_le (length line) line_limit) _ _ (request_none moment (first_part line) line (other_parts line)) refl
+
+line_push_none : (moment : ℕ) (line : List ℕ) → IsNone (push_of moment line)
+line_push_none moment line =
+    either (nat_le (length line) line_limit) _ _
+    (request_none moment (first_part (codes "push " ++ line)) (codes "push " ++ line) (other_parts (codes "push " ++ line))) refl
+
+parse_none : (e : ParseError) → is_disk_fault (of_parse e) ≡ false
+parse_none (parse.BadChar at) = refl
+parse_none (parse.Unexpected at) = refl
+parse_none (parse.Unended at) = refl
+parse_none (parse.NumberRange at) = refl
+parse_none (parse.FractionLiteral at) = refl
+parse_none (parse.TooLong size) = refl
+parse_none (parse.TooDeep at) = refl
+parse_none parse.Memory = refl
+
+check_none : (e : TypeError) → is_disk_fault (of_check e) ≡ false
+check_none (type.KindClash at) = refl
+check_none (type.NotTruth at) = refl
+check_none (type.DivisionInAggregate at) = refl
+check_none (type.NotNumber at) = refl
+check_none (type.BadPattern at) = refl
+check_none (type.PatternTooBig at) = refl
+check_none type.Memory = refl
+
+answers_none : (line : Line) (refused : List (List ℕ)) (item : Item) → IsNone line → Answers line refused item → blames_disk item ≡ false
+answers_none line refused (Ok r) none a = refl
+answers_none (searched line) refused (Err why) none (inl (no_query, clean)) = ap is_disk_fault no_query.is ∙ parse_none no_query.why
+answers_none (searched line) refused (Err why) none (inr unfit) = ap is_disk_fault unfit.is ∙ check_none unfit.why
+answers_none (plain answer) refused (Err why) none (inl is, clean) = ap blames_disk is ∙ none
+answers_none (plain answer) refused (Err why) none (inr is, clean) = ap blames_disk is
+
+pub asked_none : (moment : ℕ) (line : List ℕ) (refused : List (List ℕ)) (item : Item) → AsksAt moment line refused item → blames_disk item ≡ false
+asked_none moment line refused item a = answers_none (line_of moment line) refused item (line_none moment line) a
+
+pub push_asked_none : (moment : ℕ) (line : List ℕ) (item : Item) → AsksPush moment line item → blames_disk item ≡ false
+push_asked_none moment line item a = answers_none (push_of moment line) [] item (line_push_none moment line) a
+
+-- ---- the lines of a run
+
+add_none : (item : Item) (items : List Item) → blames_disk item ≡ false → list_any blames_disk items ≡ false → list_any blames_disk (item ∷ items) ≡ false
+add_none item items here later = ap (λ (b : Bool). b || list_any blames_disk items) here ∙ later
+
+all_none : (lines : List (List ℕ)) (moments : Option (List ℕ)) (items : List Item) (refused : List (List ℕ)) → AreAsked lines moments items refused → list_any blames_disk items ≡ false
+all_none [] moments items refused a = ap (list_any blames_disk) a.0
+all_none ([] ∷ lines) moments items refused a = all_none lines moments items refused a
+all_none ((b ∷ bs) ∷ lines) moments [] refused a = absurd a
+all_none ((b ∷ bs) ∷ lines) moments (item ∷ items) refused (now, later, are, next, rest) =
+    add_none item items (asked_none next.0 (b ∷ bs) now item next.2) (all_none lines (after_moment moments) items later rest)
+
+due_none : (todo : List Duty) (moments : Option (List ℕ)) (item : Item) (r : Reply) (later : List Duty) (to_tell : Option (List ℕ)) → IsDue todo moments item r later to_tell → blames_disk item ≡ false
+due_none [] moments item r later to_tell d = absurd d
+due_none (push line ∷ todo) moments item r later to_tell (next, left, clock) = push_asked_none next.0 line item next.2
+due_none (keep_small ∷ todo) moments item r later to_tell d = absurd d
+due_none (ask asked ∷ todo) moments item r later to_tell (is, left, clock) = ap blames_disk is
+due_none (compact_all times ∷ todo) moments item r later to_tell (is, clock, left) = ap blames_disk is
+
+ingest_none : (sure : Bool) (todo : List Duty) (moments : Option (List ℕ)) (first : At) (items : List Item) (replies : List Reply) (last : At) (left : List Duty) (to_tell : Option (List ℕ))
+    → Ingests sure todo moments first items replies last left to_tell → list_any blames_disk items ≡ false
+ingest_none sure todo moments first [] replies last left to_tell h = refl
+ingest_none sure todo moments first (item ∷ items) [] last left to_tell h = absurd h
+ingest_none sure todo moments first (item ∷ items) (r ∷ rs) last left to_tell (between, later, told_later, is_due, answered, rest) =
+    add_none item items (due_none (due_at first todo) moments item r later told_later is_due)
+    (ingest_none sure later told_later between items rs last left to_tell rest)
+
+-- ---- a run
+
+some_is : {T : Type 0} (o : Option T) (x : T) (P : T → Type 0) → o ≡ Some x → IfSome o P → P x
+some_is {T} o x P is has = subst (λ (p : Option T). IfSome p P) is has
+
+items_none : (sure : Bool) (c : Command) (o : Outcome) (old new : Edges) → TellsAll c old → DoesInStore sure c o old new → list_any blames_disk o.items ≡ false
+items_none sure session o old new (text, before, source, sink) did =
+    let ran = some_is old.taken before (λ b. HasRun text b o old new) sink (some_is old.left text (λ t. IfSome old.taken (λ b. HasRun t b o old new)) source did) in
+    all_none ran.answered (after_moment old.moments) o.items o.refused ran.asked
+items_none sure ingest o old new (text, before, source, sink) did =
+    let ran = some_is old.taken before (λ b. HasIngested sure text b o old new) sink (some_is old.left text (λ t. IfSome old.taken (λ b. HasIngested sure t b o old new)) source did) in
+    ingest_none sure _ (after_moment old.moments) o.first o.items o.replies o.last ran.left new.moments ran.asked
+items_none sure (Alone line) o old new (before, sink) did =
+    let ran = some_is old.taken before (λ b. HasAnswered line b o old new) sink did.1 in
+    ap (list_any blames_disk) ran.items_are
+    ∙ add_none ran.item [] (asked_none ran.asked.0 line o.refused ran.item ran.asked.2) refl
+
+pub run_counts : (sure : Bool) (words : List (List ℕ)) (c : Command) (o : Outcome) (old new : Edges) → Spells words c → IsRunOf sure words o old new → TellsAll c old → o.ending ≢ NotOpened
+    → RoseBy (disk_faults o.replies) old.disk_faults new.disk_faults
+run_counts sure words c o old new spells run tells not = elim (run.does c spells) [
+  | inl did ↦ subst (λ (n : ℕ). RoseBy (disk_faults o.replies) n new.disk_faults) did.1.first_faults
+      (subst (λ (n : ℕ). RoseBy (disk_faults o.replies) o.first.faults n) did.1.last_faults
+      (session_counts sure o.items o.replies o.first o.last run.session (items_none sure c o old new tells did.3)))
+  | inr other ↦ subst (λ (rs : List Reply). RoseBy (disk_faults rs) old.disk_faults new.disk_faults) (sym other.1.no_replies)
+      (rose_none old.disk_faults new.disk_faults (other.1.quiet not))
+]
