@@ -1,6 +1,6 @@
 //! Loose files are emptied, and the list is committed without them.
 
-ghost use Rattle.std.specs.Prelude.{◌≡◌, ◌++◌, IfOk, OnOk, filter, not};
+ghost use Rattle.std.specs.Prelude.{◌≡◌, ◌<◌, ◌+◌, ◌^◌, ◌++◌, length, IfOk, OnOk, filter, not};
 ghost use Rattle.std.specs.List.Sorted.{IsNonDecreasing};
 ghost use Rattle.block_list.specs.Body.{MeetsRules};
 ghost use Rattle.block_list.specs.Commit.{IsListText};
