@@ -1,4 +1,6 @@
 pub mod BytesLemmas
+pub mod CallRuns
+mod Counting
 mod FilesLemmas
 pub mod Moments
 pub mod Passing
@@ -6,3 +8,4 @@ mod PicksLemmas
 pub mod Runs
 mod Steps
 mod Torn
+pub mod Untold

@@ -1,8 +1,7 @@
 -- What the trait says of a call, from what the call made of the disk.
-use Rattle.std.proofs.Common.{◌≡◌, inl, inr, ℕ, ◌+◌, ◌-◌, ◌<◌, ◌≤◌, ◌^◌, min, max, Bool, cond, eqb, List, [], ◌∷◌, ◌++◌, length, take, Result, Ok, Err, IsOk, IsErr, OnOk, refl, sym, ◌∙◌, ap, subst, arith}
+use Rattle.std.proofs.Common.{◌≡◌, inl, inr, ℕ, ◌<◌, ◌≤◌, max, Bool, cond, eqb, List, [], ◌∷◌, ◌++◌, length, take, Result, Ok, Err, IsOk, IsErr, OnOk, refl, sym, ◌∙◌, ap, subst, arith}
 use Rattle.std.proofs.lemmas.Bool.{cases_eq, cases_lt, eq-eqb, ne_eqb}
 use Rattle.std.proofs.lemmas.List.{take_all, take-append-le, length_push}
-use Rattle.span_types.specs.Faults.{Rose}
 use Rattle.disk_model.specs.Images.{Image, bytes_of, Besides, SameBytes, OnFile}
 use Rattle.disk_model.specs.Bytes.{overwritten, Torn, HalfCut}
 use Rattle.disk_model.specs.BytesLaws.{length-overwritten}
@@ -10,17 +9,13 @@ use Rattle.disk_model.specs.Crash.{Follows, Within, OnlyBytes, Elapses}
 use Rattle.disk_model.specs.Files.{FileState, MayBeLeft, settled, wrote, lost_write, cut_to, lost_cut}
 use Rattle.disk_model.specs.History.{Past, Files, state_of, file_of, changed, after, replayed, unchanged, files_now, held_now, IsLeft, MayLeave, LeftSince, added}
 use Rattle.disk_model.specs.HistoryLaws.{sound_now, state_of-updated, bytes_of-held, replayed-append}
-use Rattle.disk_model.specs.Memory.{Outcome, noted, failed}
+use Rattle.disk_model.specs.Memory.{Outcome, noted}
 use Rattle.disk_model.specs.Memory.Outcome.{passes, listed, stopped, starves}
-use Rattle.disk_model.specs.Script.{raised}
+use Rattle.disk_model.proofs.Counting.{not_both}
 use Rattle.disk_model.proofs.Torn.{torn_from, cut_from, only_settled, reached}
 use Rattle.disk_model.specs.declared.change.Change.{Change}
 use Rattle.disk_model.specs.declared.change.Change.TheVariants.{Write, LostWrite, Cut, LostCut, Sync}
 use Rattle.disk_model.specs.declared.memory.MemDisk.{MemDisk}
-
-not_both : {T E : Type 0} (r : Result T E) → IsOk r → IsErr r → ⊥
-not_both (Ok x) ok err = absurd (cc)
-not_both (Err e) ok err = absurd (cc)
 
 -- the files after one change more
 files_added : (past : Past) (change : Change) → files_now (added past change) ≡ after (files_now past) change
@@ -169,20 +164,16 @@ module _ {T E : Type 0} (old new : MemDisk) (change : Change) (result : Result T
   pasts_kept P (stopped fate err is) same done = subst P (sym (ap (λ (d : MemDisk). d.history) is)) same
   pasts_kept P (starves fate err is) same done = subst P (sym (ap (λ (d : MemDisk). d.history) is)) same
 
-  at_least : (count : ℕ) → count ≡ raised old.faults → min (old.faults + 1) (2 ^ 64 - 1) ≤ count
-  at_least count is = omega arith
-
-  -- it fails only where the count of faults rises
-  pub rose : (loss : MemDisk → MemDisk) → ((d : MemDisk) → (loss d).faults ≡ d.faults) → Outcome old (noted change) loss result new → IsErr result → Rose old.faults new.faults
-  rose loss keeps (passes fate ok is) err = absurd (not_both result ok err)
-  rose loss keeps (listed fate failed_call is) err = at_least new.faults (ap (λ (d : MemDisk). d.faults) is ∙ keeps (failed old))
-  rose loss keeps (stopped fate failed_call is) err = at_least new.faults (ap (λ (d : MemDisk). d.faults) is)
-  rose loss keeps (starves fate failed_call is) err = at_least new.faults (ap (λ (d : MemDisk). d.faults) is)
-
 -- a fact that holds where the result is `Ok`
 on_ok : {T E : Type 0} (r : Result T E) (P : Type 0) → (IsOk r → P) → OnOk r P
 on_ok (Ok x) P f = f refl
 on_ok (Err e) P f = tt
+
+pub ok_any : {T E : Type 0} (r : Result T E) (P : Type 0) → P → OnOk r P
+ok_any r P p = on_ok r P (λ ok. p)
+
+pub err_then : {T E : Type 0} (r : Result T E) (P : Type 0) → IsErr r → OnOk r P
+err_then r P err = on_ok r P (λ ok. absurd (not_both r ok err))
 
 pub lasts_at_ok : {T E : Type 0} (old new : MemDisk) (file : ℕ) (result : Result T E) → Outcome old (noted (Sync file)) (λ d. d) result new
     → OnOk result (OnlyBytes file (bytes_of (held_now new.history) file) (MayLeave new.history))

@@ -1,5 +1,6 @@
 pub mod Bytes
 pub mod BytesLaws
+pub mod Calls
 pub mod Counts
 pub mod Crash
 pub mod Files
@@ -9,3 +10,4 @@ pub mod Images
 pub mod Memory
 pub mod Picks
 pub mod Script
+pub mod Untold

@@ -1,5 +1,5 @@
 -- The calls of a disk in memory.
-use Rattle.std.specs.Prelude.{◌≡◌, ◌≢◌, ℕ, Some, None, List, [], Result, IsOk, IsErr}
+use Rattle.std.specs.Prelude.{◌≡◌, ◌≢◌, ℕ, ◌^◌, ◌<◌, Some, None, List, [], Result, IsOk, IsErr}
 use Rattle.disk_model.specs.Images.{Image}
 use Rattle.disk_model.specs.History.{Past, added}
 use Rattle.disk_model.specs.Script.{raised, fate_of, counted}
@@ -30,6 +30,17 @@ calls_of disk = disk.calls
 abbrev pub reads_of : MemDisk → ℕ
 reads_of disk = disk.reads
 
+-- how many writes were asked for whose end is 2^63 or more
+abbrev pub far_writes_of : MemDisk → ℕ
+far_writes_of disk = disk.far_writes
+
+-- its counts have 64 bits
+pub record CountsFit (disk : MemDisk) : Type 0 where
+  pub faults : disk.faults < 2 ^ 64
+  pub reads : disk.reads < 2 ^ 64
+  pub calls : disk.calls < 2 ^ 64
+  pub far_writes : disk.far_writes < 2 ^ 64
+
 -- a disk that holds the files of an image, all of it synced, and none of whose calls is to fail
 abbrev pub fresh : Image → MemDisk
 fresh image = record {
@@ -39,6 +50,7 @@ fresh image = record {
   starved = 0;
   reads = 0;
   calls = 0;
+  far_writes = 0;
 }
 
 -- the disk after a call that passed
@@ -52,6 +64,10 @@ failed disk = record (passed disk) { faults = raised disk.faults }
 -- the disk after a call that failed because memory ran out
 abbrev pub starving : MemDisk → MemDisk
 starving disk = record (failed disk) { starved = raised disk.starved }
+
+-- the disk after a write that ends at 2^63 or more
+abbrev pub refused : MemDisk → MemDisk
+refused disk = record (failed disk) { far_writes = raised disk.far_writes }
 
 -- with one call of `read` more
 abbrev pub read_once : MemDisk → MemDisk
@@ -68,6 +84,12 @@ listing calls disk = record disk { script = record disk.script { listed = calls;
 -- with that many calls left before all fail
 abbrev pub stopping : ℕ → MemDisk → MemDisk
 stopping calls disk = record disk { script = record disk.script { left = Some calls } }
+
+-- What a call comes to that changes no file: it fails just where it is listed or stopped. `counted` is what it counts
+-- beside that.
+pub data Answer {T E : Type 0} (old : MemDisk) (counted : MemDisk → MemDisk) (result : Result T E) (new : MemDisk) : Type 0 where
+  given : next_fate old ≡ Passes → IsOk result → new ≡ counted (passed old) → Answer old counted result new
+  failing : next_fate old ≢ Passes → IsErr result → new ≡ counted (failed old) → Answer old counted result new
 
 -- What a write, a cut or a sync comes to. `done` is what it makes of the disk, and `lost` what it leaves pending where
 -- it is listed.

@@ -3,8 +3,8 @@
 ghost use Rattle.std.specs.Prelude.{◌≡◌, ◌<◌, ◌≤◌, ◌+◌, ◌-◌, ◌^◌, ◌++◌, ℕ, Bool, List, length, take, drop, min, IsTrue, IfOk, OnOk};
 ghost use Rattle.disk_model.specs.Images.{Image, bytes_of, Besides, SameBytes, OnFile};
 ghost use Rattle.disk_model.specs.Bytes.{overwritten, Torn, HalfCut};
-ghost use Rattle.disk_model.specs.Counts.{RoseBy};
-ghost use Rattle.disk_model.specs.Crash.{Follows, Within, OnlyBytes, Elapses, HasCause};
+ghost use Rattle.disk_model.specs.Counts.{Plain, Reading, Writing, IsOneCall};
+ghost use Rattle.disk_model.specs.Crash.{Follows, Within, OnlyBytes, Elapses};
 
 use span_types::Failed;
 
@@ -41,16 +41,16 @@ pub trait Device: Drop {
     /// How many calls of the device were made: of `len`, `read`, `write`, `cut` and `sync`.
     ghost calls: { Self → ℕ };
 
+    /// How many writes were asked for whose end is 2^63 or more. Such a write always fails.
+    ghost far_writes: { Self → ℕ };
+
     /// The length of a file, in bytes.
     fn len(&mut self, file: u32) -> Result<u64, Failed>
         ensures length { IsTrue (tells self.old) → IfOk result (λ len. len ≡ length (bytes_of (held self.old) file)) }
         ensures same_bytes { IsTrue (tells self.old) → SameBytes (held self.old) (held self.new) }
         ensures crash { Within (may_leave self.old) (may_leave self.new) }
         ensures time { Elapses (moment self.old) (moment self.new) (left_since self.old) (left_since self.new) (may_leave self.new) }
-        ensures telling { tells self.new ≡ tells self.old }
-        ensures cause { HasCause (faults self.old) (faults self.new) result }
-        ensures one_call { RoseBy 1 (calls self.old) (calls self.new) }
-        ensures no_read { reads self.new ≡ reads self.old };
+        ensures counted { IsOneCall tells faults calls reads far_writes Plain self.old self.new result };
 
     /// Fills the buffer from a file, from the byte `at` on, and answers how many bytes it read: those up to the
     /// buffer's end or the file's, and none past the file's end. What an `Err` leaves in the buffer is open.
@@ -61,10 +61,7 @@ pub trait Device: Drop {
         ensures same_bytes { IsTrue (tells self.old) → SameBytes (held self.old) (held self.new) }
         ensures crash { Within (may_leave self.old) (may_leave self.new) }
         ensures time { Elapses (moment self.old) (moment self.new) (left_since self.old) (left_since self.new) (may_leave self.new) }
-        ensures telling { tells self.new ≡ tells self.old }
-        ensures cause { HasCause (faults self.old) (faults self.new) result }
-        ensures one_call { RoseBy 1 (calls self.old) (calls self.new) }
-        ensures one_read { RoseBy 1 (reads self.old) (reads self.new) };
+        ensures counted { IsOneCall tells faults calls reads far_writes Reading self.old self.new result };
 
     /// Writes the bytes into a file, from the byte `at` on. Places between the old end and `at` become zeros; to write no
     /// bytes changes nothing. No file is let grow to 2^63 bytes: such a write fails, and the disk is as before. Until a sync
@@ -77,10 +74,7 @@ pub trait Device: Drop {
         ensures besides { IsTrue (tells self.old) → Besides file (held self.old) (held self.new) }
         ensures crash { Follows (OnFile file (Torn at (length bytes.now))) (may_leave self.old) (may_leave self.new) }
         ensures time { Elapses (moment self.old) (moment self.new) (left_since self.old) (left_since self.new) (may_leave self.new) }
-        ensures telling { tells self.new ≡ tells self.old }
-        ensures cause { HasCause (faults self.old) (faults self.new) result }
-        ensures one_call { RoseBy 1 (calls self.old) (calls self.new) }
-        ensures no_read { reads self.new ≡ reads self.old };
+        ensures counted { IsOneCall tells faults calls reads far_writes (Writing (at + length bytes.now)) self.old self.new result };
 
     /// Drops what a file has from the byte `len` on, which may be nothing. Until a sync of the file, a crash may leave any
     /// length between the two and any bytes past `len`, also where the call failed.
@@ -89,10 +83,7 @@ pub trait Device: Drop {
         ensures besides { IsTrue (tells self.old) → Besides file (held self.old) (held self.new) }
         ensures crash { Follows (OnFile file (HalfCut len)) (may_leave self.old) (may_leave self.new) }
         ensures time { Elapses (moment self.old) (moment self.new) (left_since self.old) (left_since self.new) (may_leave self.new) }
-        ensures telling { tells self.new ≡ tells self.old }
-        ensures cause { HasCause (faults self.old) (faults self.new) result }
-        ensures one_call { RoseBy 1 (calls self.old) (calls self.new) }
-        ensures no_read { reads self.new ≡ reads self.old };
+        ensures counted { IsOneCall tells faults calls reads far_writes Plain self.old self.new result };
 
     /// Makes what a file holds last: behind an `Ok` a crash can leave nothing else of it, and behind an `Err` whatever it
     /// could leave before.
@@ -101,14 +92,15 @@ pub trait Device: Drop {
         ensures same_bytes { IsTrue (tells self.old) → SameBytes (held self.old) (held self.new) }
         ensures crash { Within (may_leave self.old) (may_leave self.new) }
         ensures time { Elapses (moment self.old) (moment self.new) (left_since self.old) (left_since self.new) (may_leave self.new) }
-        ensures telling { tells self.new ≡ tells self.old }
-        ensures cause { HasCause (faults self.old) (faults self.new) result }
-        ensures one_call { RoseBy 1 (calls self.old) (calls self.new) }
-        ensures no_read { reads self.new ≡ reads self.old };
+        ensures counted { IsOneCall tells faults calls reads far_writes Plain self.old self.new result };
 
     /// The count of failed calls, which is at hand: the device isn't asked for it.
     fn faults(&self) -> u64
         ensures { result ≡ faults self.now };
+
+    /// A file is shorter than 2^63 bytes. This does nothing, and the device isn't asked: its contract is what it is for.
+    fn is_short(&self, file: u32)
+        ensures { IsTrue (tells self.now) → length (bytes_of (held self.now) file) < 2 ^ 63 };
 
     /// This moment is one of those since an earlier one.
     ghost counts_now: { (disk : Self) (start : ℕ) (image : Image) → start ≤ moment disk → may_leave disk image → left_since disk start image };

@@ -25,11 +25,11 @@ pub struct MemDisk {
     starved: u64,
     reads: u64,
     calls: u64,
+    far_writes: u64,
 }
 
 impl MemDisk {
-    ghost use Rattle.disk_model.specs.Memory.{fresh, listing, stopping, starved_of, faults_of, calls_of, reads_of, past_of, next_fate, passed, read_once, noted, Outcome};
-    ghost use Rattle.disk_model.specs.Counts.{RoseBy};
+    ghost use Rattle.disk_model.specs.Memory.{fresh, listing, stopping, starved_of, reads_of, calls_of, far_writes_of, past_of, next_fate, passed, refused, read_once, noted, CountsFit, Answer, Outcome};
     ghost use Rattle.disk_model.specs.Images.{bytes_of};
     ghost use Rattle.disk_model.specs.Files.{settled};
     ghost use Rattle.disk_model.specs.History.{MayLeave, state_of, files_now, held_now};
@@ -46,6 +46,7 @@ impl MemDisk {
             starved: 0,
             reads: 0,
             calls: 0,
+            far_writes: 0,
         }
     }
 
@@ -87,24 +88,119 @@ impl MemDisk {
             starved: 0,
             reads: 0,
             calls: 0,
+            far_writes: 0,
         })
+    }
+
+    /// How many calls of `read` were made.
+    pub fn reads(&self) -> u64
+        ensures { result ≡ reads_of self.now }
+    {
+        self.reads
+    }
+
+    /// How many calls of the device were made.
+    pub fn calls(&self) -> u64
+        ensures { result ≡ calls_of self.now }
+    {
+        self.calls
+    }
+
+    /// How many writes were asked for whose end is 2^63 or more.
+    pub fn far_writes(&self) -> u64
+        ensures { result ≡ far_writes_of self.now }
+    {
+        self.far_writes
+    }
+
+    /// The length of a file. It fails exactly where it is listed or stopped.
+    pub fn len(&mut self, file: u32) -> Result<u64, Failed>
+        ensures length { IfOk result (λ len. len ≡ length (bytes_of (held_now (past_of self.old)) file)) }
+        ensures answer { Answer self.old (λ disk. disk) result self.new }
+    {
+        match self.next_fate() {
+            Fate::Passes => Ok(self.history.bytes(file).len() as u64),
+            _ => self.fail(),
+        }
+    }
+
+    /// Reads a file into the buffer. It fails exactly where it is listed or stopped, and leaves the buffer then.
+    pub fn read(&mut self, file: u32, at: u64, buf: &mut [u8]) -> Result<usize, Failed>
+        ensures count { IfOk result (λ count. count ≡ min (length buf.old) (length (bytes_of (held_now (past_of self.old)) file) - at)) }
+        ensures bytes { IfOk result (λ count. buf.new ≡ take count (drop at (bytes_of (held_now (past_of self.old)) file)) ++ drop count buf.old) }
+        ensures answer { Answer self.old read_once result self.new }
+        ensures left_alone { OnErr result (buf.new ≡ buf.old) }
+    {
+        self.reads = self.reads.saturating_add(1);
+        match self.next_fate() {
+            Fate::Passes => Ok(copy_from(self.history.bytes(file), at, buf)),
+            _ => self.fail(),
+        }
+    }
+
+    /// Writes into a file. It fails exactly where it is listed or stopped, ends at 2^63 or more, or memory runs out.
+    pub fn write(&mut self, file: u32, at: u64, bytes: &[u8]) -> Result<(), Failed>
+        ensures near { at + length bytes.now < 2 ^ 63 → Outcome self.old (noted (Write file at bytes.now)) (noted (LostWrite file at (length bytes.now))) result self.new }
+        ensures far { 2 ^ 63 ≤ at + length bytes.now → IsErr result × (self.new ≡ refused self.old) }
+    {
+        if ends_below(at, bytes.len()) {
+            return self.write_near(file, at, bytes);
+        }
+        self.far_writes = self.far_writes.saturating_add(1);
+        self.next_fate();
+        self.fail()
+    }
+
+    /// Cuts a file. It fails exactly where it is listed or stopped, or memory runs out.
+    pub fn cut(&mut self, file: u32, len: u64) -> Result<(), Failed>
+        ensures outcome { Outcome self.old (noted (Cut file len)) (noted (LostCut file len)) result self.new }
+    {
+        match self.next_fate() {
+            Fate::Stopped => self.fail(),
+            Fate::Listed => match self.history.add(Change::LostCut { file, len }) {
+                Ok(()) => self.fail(),
+                Err(_) => self.starve(),
+            },
+            Fate::Passes => match self.history.add(Change::Cut { file, len }) {
+                Ok(()) => Ok(()),
+                Err(_) => self.starve(),
+            },
+        }
+    }
+
+    /// Syncs a file. It fails exactly where it is listed or stopped, or memory runs out; then it changes nothing.
+    pub fn sync(&mut self, file: u32) -> Result<(), Failed>
+        ensures outcome { Outcome self.old (noted (Sync file)) (λ disk. disk) result self.new }
+    {
+        match self.next_fate() {
+            Fate::Stopped | Fate::Listed => self.fail(),
+            Fate::Passes => match self.history.add(Change::Sync { file }) {
+                Ok(()) => Ok(()),
+                Err(_) => self.starve(),
+            },
+        }
+    }
+
+    /// Its counts have 64 bits. This does nothing: its contract is what it is for.
+    fn counts_fit(&self)
+        ensures { CountsFit self.now }
+    {
+        let _ = Device::faults(self) | self.reads() | self.calls() | self.far_writes();
     }
 
     /// Counts a call, and answers what becomes of it.
     fn next_fate(&mut self) -> Fate
         ensures fate { result ≡ next_fate self.old }
         ensures counted { self.new ≡ passed self.old }
-        ensures one_call { RoseBy 1 (calls_of self.old) (calls_of self.new) }
     {
         self.calls = self.calls.saturating_add(1);
         self.script.next()
     }
 
-    fn write_bytes(&mut self, file: u32, at: u64, bytes: &[u8]) -> Result<(), Failed>
+    /// A write whose end is below 2^63.
+    fn write_near(&mut self, file: u32, at: u64, bytes: &[u8]) -> Result<(), Failed>
         requires { at + length bytes.now < 2 ^ 63 }
         ensures outcome { Outcome self.old (noted (Write file at bytes.now)) (noted (LostWrite file at (length bytes.now))) result self.new }
-        ensures later { faults_of self.old ≤ faults_of self.new }
-        ensures one_call { RoseBy 1 (calls_of self.old) (calls_of self.new) }
     {
         match self.next_fate() {
             Fate::Stopped => self.fail(),
@@ -122,50 +218,9 @@ impl MemDisk {
         }
     }
 
-    fn cut_file(&mut self, file: u32, len: u64) -> Result<(), Failed>
-        ensures outcome { Outcome self.old (noted (Cut file len)) (noted (LostCut file len)) result self.new }
-        ensures later { faults_of self.old ≤ faults_of self.new }
-        ensures one_call { RoseBy 1 (calls_of self.old) (calls_of self.new) }
-    {
-        match self.next_fate() {
-            Fate::Stopped => self.fail(),
-            Fate::Listed => match self.history.add(Change::LostCut { file, len }) {
-                Ok(()) => self.fail(),
-                Err(_) => self.starve(),
-            },
-            Fate::Passes => match self.history.add(Change::Cut { file, len }) {
-                Ok(()) => Ok(()),
-                Err(_) => self.starve(),
-            },
-        }
-    }
-
-    fn sync_file(&mut self, file: u32) -> Result<(), Failed>
-        ensures outcome { Outcome self.old (noted (Sync file)) (λ disk. disk) result self.new }
-        ensures later { faults_of self.old ≤ faults_of self.new }
-        ensures one_call { RoseBy 1 (calls_of self.old) (calls_of self.new) }
-    {
-        match self.next_fate() {
-            Fate::Stopped | Fate::Listed => self.fail(),
-            Fate::Passes => match self.history.add(Change::Sync { file }) {
-                Ok(()) => Ok(()),
-                Err(_) => self.starve(),
-            },
-        }
-    }
-
-    /// Counts a call of `read`.
-    fn count_read(&mut self)
-        ensures counted { self.new ≡ read_once self.old }
-        ensures one_read { RoseBy 1 (reads_of self.old) (reads_of self.new) }
-    {
-        self.reads = self.reads.saturating_add(1);
-    }
-
     /// Counts a fault.
     fn fail<T>(&mut self) -> Result<T, Failed>
         ensures fails { IsErr result }
-        ensures later { self.old.faults ≤ self.new.faults }
         ensures after { self.new ≡ record self.old { faults = raised self.old.faults } }
     {
         self.faults = self.faults.saturating_add(1);
@@ -175,7 +230,6 @@ impl MemDisk {
     /// Counts a fault for lack of memory.
     fn starve<T>(&mut self) -> Result<T, Failed>
         ensures fails { IsErr result }
-        ensures later { self.old.faults ≤ self.new.faults }
         ensures after { self.new ≡ record self.old { faults = raised self.old.faults; starved = raised self.old.starved } }
     {
         self.starved = self.starved.saturating_add(1);
@@ -185,12 +239,7 @@ impl MemDisk {
 
 impl Device for MemDisk {
     ghost use Rattle.std.specs.Prelude.{true};
-    ghost use Rattle.disk_model.specs.Images.{bytes_of, Besides, SameBytes, OnFile};
-    ghost use Rattle.disk_model.specs.Bytes.{overwritten, Torn, HalfCut};
-    ghost use Rattle.disk_model.specs.Counts.{RoseBy};
-    ghost use Rattle.disk_model.specs.Crash.{Follows, Within, OnlyBytes, Elapses, HasCause};
     ghost use Rattle.disk_model.specs.History.{held_now, MayLeave, LeftSince};
-    ghost use Rattle.disk_model.specs.Memory.{past_of, reads_of, calls_of, faults_of, next_fate, passed, failed, noted, read_once, Outcome};
     ghost use Rattle.disk_model.specs.HistoryLaws.{held_stays, left_now, only_left_now};
 
     ghost tells = { λ disk. true };
@@ -209,119 +258,50 @@ impl Device for MemDisk {
 
     ghost calls = { λ disk. disk.calls };
 
+    ghost far_writes = { λ disk. disk.far_writes };
+
     ghost counts_now = { λ disk start image earlier left. left_now disk.history start image earlier left };
 
     ghost only_now = { λ disk image left. only_left_now disk.history image left };
 
     ghost held_may_stay = { λ disk told. held_stays disk.history };
 
-    fn len(&mut self, file: u32) -> Result<u64, Failed>
-        ensures length { IsTrue true → IfOk result (λ len. len ≡ length (bytes_of (held_now (past_of self.old)) file)) }
-        ensures same_bytes { IsTrue true → SameBytes (held_now (past_of self.old)) (held_now (past_of self.new)) }
-        ensures crash { Within (MayLeave (past_of self.old)) (MayLeave (past_of self.new)) }
-        ensures time { Elapses (length (past_of self.old).changes) (length (past_of self.new).changes) (LeftSince (past_of self.old)) (LeftSince (past_of self.new)) (MayLeave (past_of self.new)) }
-        ensures telling { true ≡ true }
-        ensures cause { HasCause (faults_of self.old) (faults_of self.new) result }
-        ensures one_call { RoseBy 1 (calls_of self.old) (calls_of self.new) }
-        ensures no_read { reads_of self.new ≡ reads_of self.old }
-
-        // It fails exactly where it is listed or stopped.
-        ensures passes { next_fate self.old ≡ Passes → IsOk result × (self.new ≡ passed self.old) }
-        ensures fails { next_fate self.old ≢ Passes → IsErr result × (self.new ≡ failed self.old) }
-    {
-        match self.next_fate() {
-            Fate::Passes => Ok(self.history.bytes(file).len() as u64),
-            _ => self.fail(),
-        }
+    fn len(&mut self, file: u32) -> Result<u64, Failed> {
+        self.counts_fit();
+        MemDisk::len(self, file)
     }
 
-    fn read(&mut self, file: u32, at: u64, buf: &mut [u8]) -> Result<usize, Failed>
-        ensures count { IsTrue true → IfOk result (λ count. count ≡ min (length buf.old) (length (bytes_of (held_now (past_of self.old)) file) - at)) }
-        ensures bytes { IsTrue true → IfOk result (λ count. buf.new ≡ take count (drop at (bytes_of (held_now (past_of self.old)) file)) ++ drop count buf.old) }
-        ensures fits { IfOk result (λ count. count ≤ length buf.old) }
-        ensures same_bytes { IsTrue true → SameBytes (held_now (past_of self.old)) (held_now (past_of self.new)) }
-        ensures crash { Within (MayLeave (past_of self.old)) (MayLeave (past_of self.new)) }
-        ensures time { Elapses (length (past_of self.old).changes) (length (past_of self.new).changes) (LeftSince (past_of self.old)) (LeftSince (past_of self.new)) (MayLeave (past_of self.new)) }
-        ensures telling { true ≡ true }
-        ensures cause { HasCause (faults_of self.old) (faults_of self.new) result }
-        ensures one_call { RoseBy 1 (calls_of self.old) (calls_of self.new) }
-        ensures one_read { RoseBy 1 (reads_of self.old) (reads_of self.new) }
-
-        // It fails exactly where it is listed or stopped, and leaves the buffer then.
-        ensures passes { next_fate self.old ≡ Passes → IsOk result × (self.new ≡ read_once (passed self.old)) }
-        ensures fails { next_fate self.old ≢ Passes → IsErr result × (self.new ≡ read_once (failed self.old)) }
-        ensures left_alone { OnErr result (buf.new ≡ buf.old) }
-    {
-        self.count_read();
-        match self.next_fate() {
-            Fate::Passes => Ok(copy_from(self.history.bytes(file), at, buf)),
-            _ => self.fail(),
-        }
+    fn read(&mut self, file: u32, at: u64, buf: &mut [u8]) -> Result<usize, Failed> {
+        self.counts_fit();
+        MemDisk::read(self, file, at, buf)
     }
 
-    fn write(&mut self, file: u32, at: u64, bytes: &[u8]) -> Result<(), Failed>
-        ensures written { IsTrue true → OnOk result (bytes_of (held_now (past_of self.new)) file ≡ overwritten (bytes_of (held_now (past_of self.old)) file) at bytes.now) }
-        ensures near { OnOk result (at + length bytes.now < 2 ^ 63) }
-        ensures far_bytes { IsTrue true → 2 ^ 63 ≤ at + length bytes.now → SameBytes (held_now (past_of self.old)) (held_now (past_of self.new)) }
-        ensures far_crash { 2 ^ 63 ≤ at + length bytes.now → Within (MayLeave (past_of self.old)) (MayLeave (past_of self.new)) }
-        ensures besides { IsTrue true → Besides file (held_now (past_of self.old)) (held_now (past_of self.new)) }
-        ensures crash { Follows (OnFile file (Torn at (length bytes.now))) (MayLeave (past_of self.old)) (MayLeave (past_of self.new)) }
-        ensures time { Elapses (length (past_of self.old).changes) (length (past_of self.new).changes) (LeftSince (past_of self.old)) (LeftSince (past_of self.new)) (MayLeave (past_of self.new)) }
-        ensures telling { true ≡ true }
-        ensures cause { HasCause (faults_of self.old) (faults_of self.new) result }
-        ensures one_call { RoseBy 1 (calls_of self.old) (calls_of self.new) }
-        ensures no_read { reads_of self.new ≡ reads_of self.old }
-
-        // It fails exactly where it is listed or stopped, ends at 2^63 or more, or memory runs out.
-        ensures outcome { at + length bytes.now < 2 ^ 63 → Outcome self.old (noted (Write file at bytes.now)) (noted (LostWrite file at (length bytes.now))) result self.new }
-        ensures too_far { 2 ^ 63 ≤ at + length bytes.now → IsErr result × (self.new ≡ failed self.old) }
-    {
-        if ends_below(at, bytes.len()) {
-            return self.write_bytes(file, at, bytes);
-        }
-        self.next_fate();
-        self.fail()
+    fn write(&mut self, file: u32, at: u64, bytes: &[u8]) -> Result<(), Failed> {
+        self.counts_fit();
+        MemDisk::write(self, file, at, bytes)
     }
 
-    fn cut(&mut self, file: u32, len: u64) -> Result<(), Failed>
-        ensures shortened { IsTrue true → OnOk result (bytes_of (held_now (past_of self.new)) file ≡ take len (bytes_of (held_now (past_of self.old)) file)) }
-        ensures besides { IsTrue true → Besides file (held_now (past_of self.old)) (held_now (past_of self.new)) }
-        ensures crash { Follows (OnFile file (HalfCut len)) (MayLeave (past_of self.old)) (MayLeave (past_of self.new)) }
-        ensures time { Elapses (length (past_of self.old).changes) (length (past_of self.new).changes) (LeftSince (past_of self.old)) (LeftSince (past_of self.new)) (MayLeave (past_of self.new)) }
-        ensures telling { true ≡ true }
-        ensures cause { HasCause (faults_of self.old) (faults_of self.new) result }
-        ensures one_call { RoseBy 1 (calls_of self.old) (calls_of self.new) }
-        ensures no_read { reads_of self.new ≡ reads_of self.old }
-
-        // It fails exactly where it is listed or stopped, or memory runs out.
-        ensures outcome { Outcome self.old (noted (Cut file len)) (noted (LostCut file len)) result self.new }
-    {
-        self.cut_file(file, len)
+    fn cut(&mut self, file: u32, len: u64) -> Result<(), Failed> {
+        self.counts_fit();
+        MemDisk::cut(self, file, len)
     }
 
-    fn sync(&mut self, file: u32) -> Result<(), Failed>
-        ensures lasting { IsTrue true → OnOk result (OnlyBytes file (bytes_of (held_now (past_of self.new)) file) (MayLeave (past_of self.new))) }
-        ensures same_bytes { IsTrue true → SameBytes (held_now (past_of self.old)) (held_now (past_of self.new)) }
-        ensures crash { Within (MayLeave (past_of self.old)) (MayLeave (past_of self.new)) }
-        ensures time { Elapses (length (past_of self.old).changes) (length (past_of self.new).changes) (LeftSince (past_of self.old)) (LeftSince (past_of self.new)) (MayLeave (past_of self.new)) }
-        ensures telling { true ≡ true }
-        ensures cause { HasCause (faults_of self.old) (faults_of self.new) result }
-        ensures one_call { RoseBy 1 (calls_of self.old) (calls_of self.new) }
-        ensures no_read { reads_of self.new ≡ reads_of self.old }
-
-        // It fails exactly where it is listed or stopped, or memory runs out; then it changes nothing.
-        ensures outcome { Outcome self.old (noted (Sync file)) (λ disk. disk) result self.new }
-    {
-        self.sync_file(file)
+    fn sync(&mut self, file: u32) -> Result<(), Failed> {
+        self.counts_fit();
+        MemDisk::sync(self, file)
     }
 
     fn faults(&self) -> u64 {
         self.faults
     }
+
+    fn is_short(&self, file: u32) {
+        self.history.bytes(file);
+    }
 }
 
 /// Whether a write of that many bytes ends below 2^63.
-fn ends_below(at: u64, len: usize) -> bool
+pub fn ends_below(at: u64, len: usize) -> bool
     ensures { IsTrue result ↔ (at + len < 2 ^ 63) }
 {
     match at.checked_add(len as u64) {

@@ -3,8 +3,8 @@
 ghost use Rattle.std.specs.Prelude.{◌≡◌, ◌<◌, ◌+◌, ◌^◌, ℕ, List, length, take, IsTrue, OnOk};
 ghost use Rattle.disk_model.specs.Images.{bytes_of, Besides, OnFile};
 ghost use Rattle.disk_model.specs.Bytes.{overwritten, Torn, HalfCut};
-ghost use Rattle.disk_model.specs.Counts.{MakesCalls};
-ghost use Rattle.disk_model.specs.Crash.{Follows, Reached, OnlyBytes, LeavesOnly, RunInFile, HasCause};
+ghost use Rattle.disk_model.specs.Calls.{Calls};
+ghost use Rattle.disk_model.specs.Crash.{Follows, Reached, OnlyBytes, LeavesOnly, RunInFile};
 
 use crate::Device;
 use span_types::Failed;
@@ -28,10 +28,7 @@ pub fn write_through<D: Device>(
     // The same, where it is known what the file's bytes are in each image.
     ensures passes { (known : List ℕ) → OnlyBytes file known (D.may_leave disk.old) → RunInFile D.moment D.left_since D.may_leave file (Torn at (length bytes.now) known) (Torn at (length bytes.now) known) disk.old disk.new }
 
-    ensures telling { D.tells disk.new ≡ D.tells disk.old }
-    ensures cause { HasCause (D.faults disk.old) (D.faults disk.new) result }
-    ensures calls { MakesCalls 2 (D.calls disk.old) (D.calls disk.new) result }
-    ensures no_read { D.reads disk.new ≡ D.reads disk.old }
+    ensures counted { Calls D.Device.own 2 (at + length bytes.now) disk.old disk.new result }
 {
     disk.write(file, at, bytes)?;
     disk.sync(file)
@@ -50,10 +47,7 @@ pub fn cut_through<D: Device>(disk: &mut D, file: u32, len: u64) -> Result<(), F
     // The same, where it is known what the file's bytes are in each image.
     ensures passes { (known : List ℕ) → OnlyBytes file known (D.may_leave disk.old) → RunInFile D.moment D.left_since D.may_leave file (HalfCut len known) (HalfCut len known) disk.old disk.new }
 
-    ensures telling { D.tells disk.new ≡ D.tells disk.old }
-    ensures cause { HasCause (D.faults disk.old) (D.faults disk.new) result }
-    ensures calls { MakesCalls 2 (D.calls disk.old) (D.calls disk.new) result }
-    ensures no_read { D.reads disk.new ≡ D.reads disk.old }
+    ensures counted { Calls D.Device.own 2 0 disk.old disk.new result }
 {
     disk.cut(file, len)?;
     disk.sync(file)

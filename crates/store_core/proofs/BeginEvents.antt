@@ -1,5 +1,5 @@
 -- A flush that begins, as an event of a core.
-use Rattle.std.proofs.Common.{◌≡◌, ◌≢◌, inl, ℕ, ◌+◌, ◌-◌, ◌^◌, ◌<◌, ◌≤◌, ◌==◌, min, List, [], ◌∷◌, ◌++◌, length, map, take, drop, Some, None, Option, IfSome, IsTrue, Bool, true, false, refl, sym, ◌∙◌, ap, subst, arith}
+use Rattle.std.proofs.Common.{◌≡◌, ◌≢◌, inl, ℕ, ◌+◌, ◌-◌, ◌^◌, ◌<◌, ◌≤◌, ◌==◌, min, List, [], ◌∷◌, ◌++◌, length, map, take, drop, Some, None, Option, IfSome, IsTrue, Bool, true, false, refl, sym, ◌∙◌, ap, subst, arith, Result, IsOk, IsErr}
 use Rattle.std.specs.Prelude.{nat_le, Vec}
 use Rattle.std.proofs.lemmas.Bool.{le-leb, lt-leb, ne_eqb}
 use Rattle.std.proofs.lemmas.List.{take-append-drop}
@@ -7,6 +7,8 @@ use Rattle.std.specs.Vec.{vec_len, vec_capacity}
 use Rattle.std.specs.declared.alloc.Global.{Global}
 use Rattle.span_types.specs.Faults.{Rose}
 use Rattle.span_types.specs.declared.spans.Row.{Row}
+use Rattle.span_types.specs.declared.errors.Failed.{Failed}
+use Rattle.disk_model.specs.Calls.{Calls}
 use Rattle.disk_model.specs.Images.{Image, bytes_of}
 use Rattle.disk_model.specs.Crash.{OnlyBytes, Run}
 use Rattle.disk_model.specs.declared.disk.Device.{Ghosts}
@@ -37,10 +39,12 @@ use Rattle.store_core.specs.declared.jobs.OpenFlush.{OpenFlush}
 use Rattle.store_core.specs.declared.room.CommitRoom.{CommitRoom}
 use Rattle.store_core.specs.declared.state.CoreState.{CoreState}
 use Rattle.store_core.specs.declared.store.Core.{Core}
-use Rattle.store_core.specs.Cores.{HasState, StandsFor, CoreStandsFor, CoreShows, AreDescribed, listed_as, tail_of}
+use Rattle.store_core.specs.Cores.{HasState, StandsFor, CoreShows, AreDescribed, listed_as, tail_of}
+use Rattle.store_core.proofs.Now.{StandsNow}
 use Rattle.store_core.specs.Events.{Did}
 use Rattle.store_core.specs.Beginning.{KeepsRooms, unless_rows}
 use Rattle.store_core.proofs.Apart.{keeps_below, settled_below}
+use Rattle.store_core.proofs.Counted.{calls_fine, calls_fault, calls_rose, calls_exact, calls_most, calls_unread}
 use Rattle.store_core.proofs.Kept.{stands_kept, did_kept, described_below}
 use Rattle.store_core.proofs.InUse.{used_begun}
 use Rattle.store_core.proofs.Logged.{logged_kept}
@@ -252,17 +256,19 @@ has_begun core live infos jobs m files room rows none below block segment fits k
 
 module _ {D : Type 0} (g : Ghosts D) (old : Core D) (disk : D) (files : FlushFiles) (writes : old.state.read_only ≡ None) (none : old.state.jobs.flush ≡ None) (below : old.state.jobs.next_file < 4294967294)
     (block : files.block ≡ old.state.jobs.next_file) (segment : files.segment ≡ old.state.jobs.next_file + 1) (free : (m : Machine) → HasState old.state m → early m BeginFlush ≡ None)
-    (telling : g.tells disk ≡ g.tells old.disk)
+    (result : Result (Unit {0}) Failed) (made : Calls g 5 2 old.disk disk result)
     (run : (limit : ℕ) → limit ≤ files.block → limit ≤ files.segment → Run (SameBelow limit) g.moment g.left_since g.may_leave old.disk disk)
-    (others : IsTrue (g.tells old.disk) → (file : ℕ) → file ≢ files.block → file ≢ files.segment → bytes_of (g.held disk) file ≡ bytes_of (g.held old.disk) file)
-    (later : g.faults old.disk ≤ g.faults disk) (calls : RoseAtMost 5 (g.calls old.disk) (g.calls disk)) (reads : g.reads disk ≡ g.reads old.disk) where
+    (others : IsTrue (g.tells old.disk) → (file : ℕ) → file ≢ files.block → file ≢ files.segment → bytes_of (g.held disk) file ≡ bytes_of (g.held old.disk) file) where
+  telling : g.tells disk ≡ g.tells old.disk
+  telling = made.telling
+
   abbrev limit : ℕ
   limit = old.state.list.next_file
 
   run_below : (m : Machine) → HasState old.state m → Run (SameBelow limit) g.moment g.left_since g.may_leave old.disk disk
   run_below m has = let given = has.jobs.given in run limit (omega (arith, given, block)) (omega (arith, given, segment))
 
-  run_keeps : IsTrue (g.tells old.disk) → (m : Machine) → CoreStandsFor g old m → Run KeepsStored g.moment g.left_since g.may_leave old.disk disk
+  run_keeps : IsTrue (g.tells old.disk) → (m : Machine) → StandsNow g old m → Run KeepsStored g.moment g.left_since g.may_leave old.disk disk
   run_keeps told m s =
       run_more g.moment g.left_since g.may_leave (SameBelow limit) KeepsStored old.disk disk (run_below m s.has)
       (λ origin image possible same. keeps_below (g.held old.disk) (g.may_leave old.disk) old.state.list (s.settled told writes).lies.ready origin image possible same)
@@ -280,7 +286,7 @@ module _ {D : Type 0} (g : Ghosts D) (old : Core D) (disk : D) (files : FlushFil
       (begun : Begun old.state.jobs jobs files old.state.list room) (takes : TakesHead old.state.live live rows) where
     after : (told told' : Type 0) → (told' → told) → (told → IsTrue (g.tells old.disk)) → (m : Machine) → StandsFor told (g.held old.disk) (g.may_leave old.disk) old.state m
         → Step (g.faults old.disk) (g.faults disk) m BeginFlush (Flushing (record { number = jobs.begun; file = files.block; rows = rows })) (with_state (after_begin_flush m.state) m)
-        → (told → HasFreshSegment (g.held disk) (g.may_leave disk) jobs) → (told → CoreStandsFor g old m)
+        → (told → HasFreshSegment (g.held disk) (g.may_leave disk) jobs) → (told → StandsNow g old m)
         → StandsFor told' (g.held disk) (g.may_leave disk) (record old.state { live = live; infos = infos; jobs = jobs }) (with_state (after_begin_flush m.state) m)
     after told told' later_told tells m s step fresh whole =
         stands_kept told told' (g.held old.disk) (g.held disk) (g.may_leave old.disk) (g.may_leave disk) old.state (record old.state { live = live; infos = infos; jobs = jobs }) m (with_state (after_begin_flush m.state) m)
@@ -304,11 +310,13 @@ module _ {D : Type 0} (g : Ghosts D) (old : Core D) (disk : D) (files : FlushFil
           refl,
         )
 
-    pub did_begin : (IsTrue (g.tells old.disk) → IsEmptied (g.held disk) (g.may_leave disk) files.block)
+    pub did_begin : IsOk result → (IsTrue (g.tells old.disk) → IsEmptied (g.held disk) (g.may_leave disk) files.block)
         → (IsTrue (g.tells old.disk) → ((first : ℕ) → SegmentHolds first [] 1 (bytes_of (g.held disk) files.segment)) × OnlyBytes files.segment (bytes_of (g.held disk) files.segment) (g.may_leave disk))
         → Did g old BeginFlush (Flushing (record { number = jobs.begun; file = files.block; rows = rows })) (record old { disk = disk; state = record old.state { live = live; infos = infos; jobs = jobs } })
-    did_begin empty made =
-        did_kept g old disk (record old.state { live = live; infos = infos; jobs = jobs }) BeginFlush (Flushing (record { number = jobs.begun; file = files.block; rows = rows })) telling run_keeps refl refl
+    did_begin fine empty fresh =
+        did_kept g old disk (record old.state { live = live; infos = infos; jobs = jobs }) BeginFlush (Flushing (record { number = jobs.begun; file = files.block; rows = rows }))
+        (calls_fine g old.disk disk 5 2 0 (λ low. omega arith) result made fine (Flushing (record { number = jobs.begun; file = files.block; rows = rows })) (λ is. let bad : Flushing (record { number = jobs.begun; file = files.block; rows = rows }) ≡ Refused Fault = is in absurd cc))
+        run_keeps refl refl
         (λ m s.
         let step = its_step m s.has s.sound.fits.jobs in (
           with_state (after_begin_flush m.state) m,
@@ -324,25 +332,26 @@ module _ {D : Type 0} (g : Ghosts D) (old : Core D) (disk : D) (files : FlushFil
         ))
         (λ told m s hold is_open stays f among. stay told m s hold is_open f among)
         (λ told f among. one_begun files.block f (IsEmptied (g.held disk) (g.may_leave disk)) (empty told) among) (λ told. tt) (λ shows h. tt)
-        later (λ is. let bad : Flushing (record { number = jobs.begun; file = files.block; rows = rows }) ≡ Refused Fault = is in absurd cc) calls (omega (arith, reads), omega (arith, reads))
+        (calls_exact g old.disk disk 5 2 0 (λ low. omega arith) result made fine) (calls_unread g old.disk disk 5 2 0 (λ low. omega arith) result made)
       where
         its_segment : IsTrue (g.tells old.disk) → HasFreshSegment (g.held disk) (g.may_leave disk) jobs
         its_segment told = subst (λ (k : Option OpenFlush). IfSome k (λ mine. ((first : ℕ) → SegmentHolds first [] 1 (bytes_of (g.held disk) mine.files.segment))
-            × OnlyBytes mine.files.segment (bytes_of (g.held disk) mine.files.segment) (g.may_leave disk))) (sym begun.flush) (made told)
+            × OnlyBytes mine.files.segment (bytes_of (g.held disk) mine.files.segment) (g.may_leave disk))) (sym begun.flush) (fresh told)
 
-    pub did_begin_as : (number : ℕ) → number ≡ jobs.begun → (IsTrue (g.tells old.disk) → IsEmptied (g.held disk) (g.may_leave disk) files.block)
+    pub did_begin_as : IsOk result → (number : ℕ) → number ≡ jobs.begun → (IsTrue (g.tells old.disk) → IsEmptied (g.held disk) (g.may_leave disk) files.block)
         → (IsTrue (g.tells old.disk) → ((first : ℕ) → SegmentHolds first [] 1 (bytes_of (g.held disk) files.segment)) × OnlyBytes files.segment (bytes_of (g.held disk) files.segment) (g.may_leave disk))
         → Did g old BeginFlush (Flushing (record { number = number; file = files.block; rows = rows })) (record old { disk = disk; state = record old.state { live = live; infos = infos; jobs = jobs } })
-    did_begin_as number is empty made =
-        subst (λ (n : ℕ). Did g old BeginFlush (Flushing (record { number = n; file = files.block; rows = rows })) (record old { disk = disk; state = record old.state { live = live; infos = infos; jobs = jobs } })) (sym is) (did_begin empty made)
+    did_begin_as fine number is empty fresh =
+        subst (λ (n : ℕ). Did g old BeginFlush (Flushing (record { number = n; file = files.block; rows = rows })) (record old { disk = disk; state = record old.state { live = live; infos = infos; jobs = jobs } })) (sym is) (did_begin fine empty fresh)
 
-  pub did_begin_fail : (live : LiveParts) (infos : Vec InfoParts Global) (jobs : Jobs) (faults : ℕ) → faults ≡ g.faults disk → Rose (g.faults old.disk) (g.faults disk)
+  pub did_begin_fail : (live : LiveParts) (infos : Vec InfoParts Global) (jobs : Jobs) (faults : ℕ) → faults ≡ g.faults disk → IsErr result
       → KeepsRooms old.state.list old.state.infos infos old.state.jobs jobs
       → ((m : Machine) → HasState old.state m → SameRows old.state.live live)
       → Did g old BeginFlush (Refused Fault) (record old { disk = disk; state = record old.state { live = live; infos = infos; jobs = jobs; read_only = Some faults } })
-  did_begin_fail live infos jobs faults counted rose kept rows =
+  did_begin_fail live infos jobs faults counted err kept rows =
+      let rose = calls_rose g old.disk disk 5 2 0 (λ low. omega arith) result made err in
       subst (λ (n : ℕ). Did g old BeginFlush (Refused Fault) (record old { disk = disk; state = record old.state { live = live; infos = infos; jobs = jobs; read_only = Some n } })) (sym counted)
-      (did_kept g old disk (record old.state { live = live; infos = infos; jobs = jobs; read_only = Some (g.faults disk) }) BeginFlush (Refused Fault) telling run_keeps refl (adds_none BeginFlush refl (Refused Fault) _)
+      (did_kept g old disk (record old.state { live = live; infos = infos; jobs = jobs; read_only = Some (g.faults disk) }) BeginFlush (Refused Fault) (calls_fault g old.disk disk 5 2 0 (λ low. omega arith) result made err) run_keeps refl (adds_none BeginFlush refl (Refused Fault) _)
       (λ m s. (
         broken (g.faults disk) m,
         stands_kept (IsTrue (g.tells old.disk)) (IsTrue (g.tells disk)) (g.held old.disk) (g.held disk) (g.may_leave old.disk) (g.may_leave disk) old.state (record old.state { live = live; infos = infos; jobs = jobs; read_only = Some (g.faults disk) }) m (broken (g.faults disk) m)
@@ -362,7 +371,7 @@ module _ {D : Type 0} (g : Ghosts D) (old : Core D) (disk : D) (files : FlushFil
       ))
       (λ told m s hold is_open stays f among. stay told m s hold is_open f among)
       (λ told f among. none_begun (Refused Fault) f _ refl among) (λ told. tt) (λ shows h. tt)
-      later (λ is. rose) calls (omega (arith, reads), omega (arith, reads)))
+      (calls_most g old.disk disk 5 2 0 (λ low. omega arith) result made) (calls_unread g old.disk disk 5 2 0 (λ low. omega arith) result made))
     where
       has : (m : Machine) → HasState old.state m → HasState (record old.state { live = live; infos = infos; jobs = jobs; read_only = Some (g.faults disk) }) (broken (g.faults disk) m)
       has m was = has_stopped (record old.state { live = live; infos = infos; jobs = jobs }) (g.faults disk) m (has_memory old.state live infos jobs m none kept (rows m was) was)

@@ -1,7 +1,6 @@
 -- What the steps of a flush's commit tell, put together.
 use Rattle.std.proofs.Common.{◌≡◌, ℕ, ◌+◌, ◌-◌, ◌≤◌, List, [], ◌∷◌, ◌++◌, length, length-append, map, take, Some, None, Option, IfSome, IsTrue, refl, sym, ◌∙◌, ap, subst, arith}
 use Rattle.std.specs.Vec.{vec_len, vec_capacity}
-use Rattle.span_types.specs.Faults.{Rose}
 use Rattle.span_types.specs.First.{IsFirstOf}
 use Rattle.block_format.specs.Blocks.{BlockHasInfo}
 use Rattle.span_types.specs.declared.spans.Row.{Row}
@@ -35,10 +34,9 @@ use Rattle.store_core.proofs.CommitStates.{TookOver}
 use Rattle.store_core.proofs.OpenJobs.{IsOpenHere, open_here}
 use Rattle.store_core.proofs.RoomLeft.{one_of_compaction}
 
--- the refusal that is answered, and the core as it is said
-pub did_stopped : {D : Type 0} (g : Ghosts D) (old new target : Core D) (event : Event) (why : WriteError) → why ≡ Fault → new ≡ target → Did g old event (Refused IsFault) target → Did g old event (Refused (write_refusal why)) new
-did_stopped {D} g old new target event why is same did =
-    subst (λ (w : WriteError). Did g old event (Refused (write_refusal w)) new) (sym is) (subst (λ (s : Core D). Did g old event (Refused IsFault) s) (sym same) did)
+-- the core as it is said
+pub did_stopped : {D : Type 0} (g : Ghosts D) (old new target : Core D) (event : Event) → new ≡ target → Did g old event (Refused IsFault) target → Did g old event (Refused IsFault) new
+did_stopped {D} g old new target event same did = subst (λ (s : Core D). Did g old event (Refused IsFault) s) (sym same) did
 
 -- the flush that is given back is the one that every machine has open
 pub flush_here : (core : CoreState) (m0 m : Machine) (number file : ℕ) (rows : List Row) → HasState core m0 → IsOpenFlush m0 (record { number = number; file = file; rows = rows }) → HasState core m → IsOpenHere core m number file
@@ -188,7 +186,3 @@ unsure_after_spent core before later mine is same = unsure_same before later sam
   where
     unsure_same : (a b : CoreState) → b.unsure ≡ a.unsure → unsure_of b ≡ unsure_of a
     unsure_same a b is = cc
-
--- a count that rose later rose since before
-pub rose_after : (a b c : ℕ) → a ≤ b → Rose b c → Rose a c
-rose_after a b c le rose = omega (arith, le, rose)

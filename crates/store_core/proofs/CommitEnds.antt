@@ -1,11 +1,13 @@
 -- A commit as an event of a core: where the list was written, or may have been.
-use Rattle.std.proofs.Common.{◌≡◌, ◌⊎◌, inl, inr, ℕ, ◌≤◌, List, Some, None, Option, IsTrue, Bool, true, false, refl, sym, ◌∙◌, ap, subst, arith}
+use Rattle.std.proofs.Common.{◌≡◌, ◌⊎◌, inl, inr, ℕ, ◌≤◌, List, Some, None, Option, IsTrue, Bool, true, false, refl, sym, ◌∙◌, ap, subst, arith, Result, IsOk, IsErr}
 use Rattle.std.proofs.lemmas.Bool.{cases_lt}
-use Rattle.span_types.specs.Faults.{Rose}
+use Rattle.span_types.specs.declared.errors.Failed.{Failed}
 use Rattle.span_types.specs.declared.spans.Span.{Span}
+use Rattle.disk_model.specs.Calls.{Counts}
 use Rattle.disk_model.specs.Images.{Image, bytes_of}
 use Rattle.disk_model.specs.Crash.{LeavesOnly}
 use Rattle.disk_model.specs.declared.disk.Device.{Ghosts}
+use Rattle.disk_model.proofs.CallRuns.{calls_counts, counts_then, raised_rose}
 use Rattle.disk_model.proofs.Moments.{widened}
 use Rattle.block_info.specs.InfoParts.{InfoParts}
 use Rattle.block_list.specs.declared.body.ListBody.{ListBody}
@@ -30,7 +32,9 @@ use Rattle.store_core.specs.Waiting.{rows_outside, AreLogged}
 use Rattle.store_core.specs.declared.state.CoreState.{CoreState}
 use Rattle.store_core.specs.declared.store.Core.{Core}
 use Rattle.store_core.specs.Cores.{HasState, StandsFor, CoreShows, AreDescribed, tail_of, unsure_of}
-use Rattle.store_core.specs.Events.{Did, Between}
+use Rattle.store_core.specs.Events.{Did, Between, end_of}
+use Rattle.store_core.proofs.Counted.{counted_fine, counted_fault, calls_exact, rose_then}
+use Rattle.store_core.proofs.Now.{did_since}
 use Rattle.store_core.proofs.CommitEvents.{IsCommit}
 use Rattle.store_core.proofs.CommitRuns.{Synced, Ran, MayList, stands_since, stands_now, tidy_since}
 use Rattle.store_core.proofs.Described.{described_same}
@@ -61,7 +65,7 @@ pub record Takes (told : Type 0) (held : Image) (may_leave : Image → Type 0) (
   pub logged : told → AreLogged held core.list (rows_outside m.state)
 
 module _ {D : Type 0} (g : Ghosts D) (only_now : OnlyNow g) (old : Core D) (mid disk : D) (event : Event) (is : IsCommit event) (file slot : ℕ) (list : ListBody) (free : old.state.read_only ≡ None)
-    (synced : Synced g old.disk mid file) (ran : Ran g mid disk old.state.list list slot)
+    (result : Result (Unit {0}) Failed) (synced : Synced g old.disk mid file) (ran : Ran g mid disk old.state.list list slot result)
     (lists : (told : Type 0) → (told → IsTrue (g.tells old.disk)) → IsDecided told → (m : Machine) → StandsFor told (g.held old.disk) (g.may_leave old.disk) old.state m → Lists told (g.held mid) (g.may_leave mid) old.state list event m) where
   can : (m : Machine) → HasState old.state m → early m event ≡ None
   can m has = is.early_is m ∙ ap (λ (r : Option ℕ). if_read_only r None) (has.read_only ∙ free)
@@ -80,13 +84,13 @@ module _ {D : Type 0} (g : Ghosts D) (only_now : OnlyNow g) (old : Core D) (mid 
     before known image left = settled_now (g.held old.disk) (g.may_leave old.disk) old.state.list m.state.blocks (tail_of old.state.segment) m.history (s.settled known free) image left
 
     images : told → LeavesOnly g.moment g.left_since old.disk disk (λ image. ImageStandsFor image m.history)
-    images known = stands_since g only_now old.disk mid disk file slot old.state.list list m.history synced ran (tells known) (before known) (l.images known)
+    images known = stands_since g only_now old.disk mid disk file slot old.state.list list m.history result synced ran (tells known) (before known) (l.images known)
 
     left_now : told → (image : Image) → g.may_leave disk image → ImageStandsFor image m.history
-    left_now known = stands_now g only_now old.disk mid disk file slot old.state.list list m.history synced ran (tells known) (before known) (l.images known)
+    left_now known = stands_now g only_now old.disk mid disk file slot old.state.list list m.history result synced ran (tells known) (before known) (l.images known)
 
     tidy_in : told → ((image : Image) → g.may_leave old.disk image → IsTidy image) → LeavesOnly g.moment g.left_since old.disk disk IsTidy
-    tidy_in known = tidy_since g only_now old.disk mid disk file slot old.state.list list m.history synced ran (tells known) (before known) (l.images known)
+    tidy_in known = tidy_since g only_now old.disk mid disk file slot old.state.list list m.history result synced ran (tells known) (before known) (l.images known)
 
     sure : (u : Option Entry) → u ≡ unsure_of old.state → (image : Image) → ImageStandsFor image m.history → MayStandFor m.history u image
     sure u is image stands = subst (λ (v : Option Entry). MayStandFor m.history v image) (sym (is ∙ s.sure free)) stands
@@ -138,19 +142,19 @@ module _ {D : Type 0} (g : Ghosts D) (only_now : OnlyNow g) (old : Core D) (mid 
     | inr least ↦ same_file told f least
   ]
 
-  risen : g.faults old.disk ≤ g.faults disk
-  risen = let one = synced.later in let two = ran.later in omega (arith, one, two)
+  counts : Counts g 0 (IsOk result) (IsErr result) old.disk disk
+  counts = counts_then g 0 (IsOk synced.result) (IsErr synced.result) (IsOk result) (IsErr result) old.disk mid disk (calls_counts g old.disk mid synced.result 1 0 synced.made) synced.fine (calls_counts g mid disk result 6 0 ran.made)
 
   made : RoseAtMost 7 (g.calls old.disk) (g.calls disk)
-  made = let one = synced.calls.later in let most = synced.calls.at_most in let two = ran.calls.0 in let more = ran.calls.1 in (omega (arith, one, two), omega (arith, most, more))
+  made = let one = synced.made.calls in let more = ran.made.calls in (omega (arith, one.later, more.later), omega (arith, one.at_most, more.at_most))
 
   unread : RoseAtMost 0 (g.reads old.disk) (g.reads disk)
-  unread = let one = synced.reads in let two = ran.reads in (omega (arith, one, two), omega (arith, one, two))
+  unread = let one = synced.made.no_read in let two = ran.made.no_read in (omega (arith, one, two), omega (arith, one, two))
 
-  pub did_committed : (later : CoreState) → unsure_of later ≡ unsure_of old.state
+  pub did_committed : IsOk result → (later : CoreState) → unsure_of later ≡ unsure_of old.state
       → ((told : Type 0) → (tells : told → IsTrue (g.tells old.disk)) → (decided : IsDecided told) → (m : Machine) → (s : StandsFor told (g.held old.disk) (g.may_leave old.disk) old.state m) → Takes told (g.held disk) (g.may_leave disk) later (with_state (lists told tells decided m s).after m))
       → Did g old event Fine (record old { disk = disk; state = later })
-  did_committed later unsure takes = record {
+  did_committed fine later unsure takes = did_since g old _ _ _ refl (record {
     stepped = λ m s. record {
       machine = with_state (lists (IsTrue (g.tells old.disk)) (λ t. t) (true_or_not (g.tells old.disk)) m s).after m;
       stands = stands_after (IsTrue (g.tells old.disk)) (λ t. t) (true_or_not (g.tells old.disk)) m s later unsure (takes (IsTrue (g.tells old.disk)) (λ t. t) (true_or_not (g.tells old.disk)) m s) (IsTrue (g.tells disk)) (λ t. subst IsTrue telling t);
@@ -170,16 +174,14 @@ module _ {D : Type 0} (g : Ghosts D) (only_now : OnlyNow g) (old : Core D) (mid 
     empty = λ told f among. none_begun Fine f _ refl among;
     page = λ told. is.no_page Fine (λ f. bytes_of (g.held old.disk) f);
     look = λ told m s. tt;
-    telling = telling;
-    later = risen;
-    cause = λ fault. absurd (let bad : Fine ≡ Refused Fault = fault in cc);
-    calls = is.calls_done _ _ made;
+    counts = counted_fine g old.disk disk 0 (end_of old.state event) (λ low. omega arith) (IsOk result) (IsErr result) counts fine Fine (λ fault. let bad : Fine ≡ Refused Fault = fault in absurd cc);
+    calls = is.calls_done _ _ (rose_then 1 6 (g.calls old.disk) (g.calls mid) (g.calls disk) (calls_exact g old.disk mid 1 0 0 (λ low. low) synced.result synced.made synced.fine) (calls_exact g mid disk 6 0 0 (λ low. low) result ran.made fine));
     reads = is.reads_none _ _ unread;
-  }
+  })
 
   pub did_commit_fail : (later : CoreState) → ((m : Machine) → HasState old.state m → HasState later (broken (g.faults disk) m)) → later.infos.items ≡ old.state.infos.items → later.read_only ≡ Some (g.faults disk)
-      → unsure_of later ≡ unsure_of old.state → Rose (g.faults old.disk) (g.faults disk) → Did g old event (Refused Fault) (record old { disk = disk; state = later })
-  did_commit_fail later has infos read_only unsure rose = record {
+      → unsure_of later ≡ unsure_of old.state → IsErr result → Did g old event (Refused Fault) (record old { disk = disk; state = later })
+  did_commit_fail later has infos read_only unsure err = let rose = raised_rose (g.faults old.disk) (g.faults disk) (counts.fault err) in did_since g old _ _ _ refl (record {
     stepped = λ m s. record {
       machine = broken (g.faults disk) m;
       stands = stands_broken (IsTrue (g.tells old.disk)) (λ t. t) (true_or_not (g.tells old.disk)) m s later (has m s.has) infos read_only unsure (IsTrue (g.tells disk)) (λ t. subst IsTrue telling t);
@@ -199,9 +201,7 @@ module _ {D : Type 0} (g : Ghosts D) (only_now : OnlyNow g) (old : Core D) (mid 
     empty = λ told f among. none_begun (Refused Fault) f _ refl among;
     page = λ told. is.no_page (Refused Fault) (λ f. bytes_of (g.held old.disk) f);
     look = λ told m s. tt;
-    telling = telling;
-    later = risen;
-    cause = λ fault. rose;
+    counts = counted_fault g old.disk disk 0 (end_of old.state event) (λ low. omega arith) (IsOk result) (IsErr result) counts err;
     calls = is.calls_failed _ _ made;
     reads = is.reads_none _ _ unread;
-  }
+  })

@@ -1,7 +1,8 @@
 -- A commit as an event of a core: what the events of commits have in common, and where one ends before the list is written.
-use Rattle.std.proofs.Common.{◌≡◌, ℕ, ◌≤◌, List, Some, None, Option, IsTrue, true, refl, ◌∙◌, ap, subst, sym, arith}
-use Rattle.span_types.specs.Faults.{Rose}
+use Rattle.std.proofs.Common.{◌≡◌, ℕ, ◌≤◌, List, Some, None, Option, IsTrue, true, refl, ◌∙◌, ap, subst, sym, arith, Result, IsErr}
+use Rattle.span_types.specs.declared.errors.Failed.{Failed}
 use Rattle.span_types.specs.declared.spans.Span.{Span}
+use Rattle.disk_model.specs.Calls.{Calls}
 use Rattle.disk_model.specs.Images.{SameBytes, bytes_of}
 use Rattle.disk_model.specs.Counts.{RoseBy}
 use Rattle.disk_model.specs.Crash.{Within, Elapses, Run}
@@ -22,13 +23,14 @@ use Rattle.store_images.specs.Stored.{KeepsStored}
 use Rattle.store_images.proofs.Keeping.{keeps_same}
 use Rattle.store_core.specs.declared.store.Core.{Core}
 use Rattle.store_core.specs.Cores.{HasState}
-use Rattle.store_core.specs.Events.{Did, unsure_after}
+use Rattle.store_core.specs.Events.{Did, unsure_after, end_of}
+use Rattle.store_core.proofs.Counted.{calls_fault, calls_rose, calls_most, calls_unread}
 use Rattle.store_core.proofs.Kept.{stands_kept, did_kept, described_below}
 use Rattle.store_core.proofs.PushEvents.{OnlyNow, refused_is}
 use Rattle.store_core.proofs.Quiet.{quiet, none_begun, adds_none}
 use Rattle.store_core.proofs.States.{has_stopped}
 
--- It writes, answers no batch and no page, changes no file of what is open, and makes seven calls at most and none once the store is read-only.
+-- It writes, answers no batch and no page, changes no file of what is open, and makes seven calls, and none once the store is read-only.
 pub record IsCommit (event : Event) : Type 0 where
   pub early_is : (m : Machine) → early m event ≡ if_read_only m.read_only None
   pub writes_is : (u : State) → writes u event ≡ true
@@ -36,7 +38,7 @@ pub record IsCommit (event : Event) : Type 0 where
   pub files_are : (reply : Reply) (file : ℕ) (old new : List ℕ) → new ≡ old → Rewritten event reply file old new
   pub no_page : (reply : Reply) (shows : ℕ → List ℕ) → IsPageRead event reply shows
   pub calls_none : (faults n : ℕ) → MadeCalls event (Refused (ReadOnly faults)) n n
-  pub calls_done : (old new : ℕ) → RoseAtMost 7 old new → MadeCalls event Fine old new
+  pub calls_done : (old new : ℕ) → RoseBy 7 old new → MadeCalls event Fine old new
   pub calls_failed : (old new : ℕ) → RoseAtMost 7 old new → MadeCalls event (Refused Fault) old new
   pub reads_none : (old new : ℕ) → RoseAtMost 0 old new → RoseAtMost (reads_of event) old new
 
@@ -75,20 +77,24 @@ no_commit g only_now old event is faults stopped =
 
 -- the block wasn't synced
 module _ {D : Type 0} (g : Ghosts D) (only_now : OnlyNow g) (old : Core D) (disk : D) (event : Event) (is : IsCommit event) (free : old.state.read_only ≡ None)
-    (telling : g.tells disk ≡ g.tells old.disk) (same : IsTrue (g.tells old.disk) → SameBytes (g.held old.disk) (g.held disk)) (crash : Within (g.may_leave old.disk) (g.may_leave disk))
-    (time : Elapses (g.moment old.disk) (g.moment disk) (g.left_since old.disk) (g.left_since disk) (g.may_leave disk))
-    (later : g.faults old.disk ≤ g.faults disk) (calls : RoseBy 1 (g.calls old.disk) (g.calls disk)) (reads : g.reads disk ≡ g.reads old.disk) where
+    (result : Result (Unit {0}) Failed) (made : Calls g 1 0 old.disk disk result) (same : IsTrue (g.tells old.disk) → SameBytes (g.held old.disk) (g.held disk)) (crash : Within (g.may_leave old.disk) (g.may_leave disk))
+    (time : Elapses (g.moment old.disk) (g.moment disk) (g.left_since old.disk) (g.left_since disk) (g.may_leave disk)) where
+  telling : g.tells disk ≡ g.tells old.disk
+  telling = made.telling
+
   can : (m : Machine) → HasState old.state m → early m event ≡ None
   can m has = is.early_is m ∙ ap (λ (r : Option ℕ). if_read_only r None) (has.read_only ∙ free)
 
   run_keeps : Run KeepsStored g.moment g.left_since g.may_leave old.disk disk
   run_keeps = run_call g.moment g.left_since g.may_leave KeepsStored old.disk disk keeps_same (λ image left. only_now old.disk image left) crash time
 
-  pub did_sync_fail : (faults : ℕ) → faults ≡ g.faults disk → Rose (g.faults old.disk) (g.faults disk)
+  pub did_sync_fail : (faults : ℕ) → faults ≡ g.faults disk → IsErr result
       → Did g old event (Refused Fault) (record old { disk = disk; state = record old.state { read_only = Some faults } })
-  did_sync_fail faults counted rose =
+  did_sync_fail faults counted err =
+      let rose = calls_rose g old.disk disk 1 0 (end_of old.state event) (λ low. omega arith) result made err in
+      let most = calls_most g old.disk disk 1 0 (end_of old.state event) (λ low. omega arith) result made in
       subst (λ (n : ℕ). Did g old event (Refused Fault) (record old { disk = disk; state = record old.state { read_only = Some n } })) (sym counted)
-      (did_kept g old disk (record old.state { read_only = Some (g.faults disk) }) event (Refused Fault) telling (λ told m s. run_keeps) refl (is.unsure_is (Refused Fault) _)
+      (did_kept g old disk (record old.state { read_only = Some (g.faults disk) }) event (Refused Fault) (calls_fault g old.disk disk 1 0 (end_of old.state event) (λ low. omega arith) result made err) (λ told m s. run_keeps) refl (is.unsure_is (Refused Fault) _)
       (λ m s. (
         broken (g.faults disk) m,
         stands_kept (IsTrue (g.tells old.disk)) (IsTrue (g.tells disk)) (g.held old.disk) (g.held disk) (g.may_leave old.disk) (g.may_leave disk) old.state (record old.state { read_only = Some (g.faults disk) }) m (broken (g.faults disk) m)
@@ -109,4 +115,4 @@ module _ {D : Type 0} (g : Ghosts D) (only_now : OnlyNow g) (old : Core D) (disk
       ))
       (λ told m s hold is_open stays f among. is.files_are (Refused Fault) f _ _ (same told f))
       (λ told f among. none_begun (Refused Fault) f _ refl among) (λ told. is.no_page (Refused Fault) (λ f. bytes_of (g.held old.disk) f)) (λ shows h. tt)
-      later (λ fault. rose) (is.calls_failed _ _ (calls.later, (let most = calls.at_most in omega (arith, most)))) (is.reads_none _ _ (omega (arith, reads), omega (arith, reads))))
+      (is.calls_failed _ _ (most.0, omega (arith, most.1))) (is.reads_none _ _ (calls_unread g old.disk disk 1 0 (end_of old.state event) (λ low. omega arith) result made)))

@@ -1,7 +1,8 @@
 -- What a crash leaves at any moment of a commit: of the sync of its block, and of the writing of the list.
-use Rattle.std.proofs.Common.{◌≡◌, ℕ, ◌<◌, ◌≤◌, Some, IsTrue, sym, subst}
+use Rattle.std.proofs.Common.{◌≡◌, ℕ, ◌<◌, ◌≤◌, Some, IsTrue, sym, subst, Result, IsOk}
+use Rattle.span_types.specs.declared.errors.Failed.{Failed}
 use Rattle.disk_model.specs.Images.{Image, bytes_of, SameBytes, Besides}
-use Rattle.disk_model.specs.Counts.{RoseBy}
+use Rattle.disk_model.specs.Calls.{Calls}
 use Rattle.disk_model.specs.Crash.{OnlyBytes, Within, Reached, Elapses, LeavesOnly, Run}
 use Rattle.disk_model.specs.declared.disk.Device.{Ghosts}
 use Rattle.disk_model.proofs.Moments.{joined, widened, still}
@@ -9,7 +10,6 @@ use Rattle.block_list.specs.Commit.{ImageHoldsEither, WritesSlot}
 use Rattle.block_list.specs.Loading.{IsReady}
 use Rattle.block_list.specs.declared.body.ListBody.{ListBody}
 use Rattle.store_model.specs.History.{History}
-use Rattle.store_state.specs.Calls.{RoseAtMost}
 use Rattle.store_images.specs.Stored.{ImageStandsFor, IsTidy}
 use Rattle.store_core.proofs.PushEvents.{OnlyNow}
 
@@ -20,20 +20,18 @@ pub record Synced {D : Type 0} (g : Ghosts D) (old mid : D) (file : ℕ) : Type 
   pub crash : Within (g.may_leave old) (g.may_leave mid)
   pub time : Elapses (g.moment old) (g.moment mid) (g.left_since old) (g.left_since mid) (g.may_leave mid)
   pub lasting : IsTrue (g.tells old) → OnlyBytes file (bytes_of (g.held mid) file) (g.may_leave mid)
-  pub later : g.faults old ≤ g.faults mid
-  pub calls : RoseBy 1 (g.calls old) (g.calls mid)
-  pub reads : g.reads mid ≡ g.reads old
+  pub result : Result (Unit {0}) Failed
+  pub fine : IsOk result
+  pub made : Calls g 1 0 old mid result
 
 -- what the writing of the next list tells, done or not
-pub record Ran {D : Type 0} (g : Ghosts D) (mid new : D) (list next : ListBody) (slot : ℕ) : Type 0 where
+pub record Ran {D : Type 0} (g : Ghosts D) (mid new : D) (list next : ListBody) (slot : ℕ) (result : Result (Unit {0}) Failed) : Type 0 where
   pub below : slot < 2
   pub run : IsTrue (g.tells mid) → IsReady (g.held mid) (g.may_leave mid) (Some list)
       → Run (WritesSlot slot (ImageHoldsEither (Some list) next)) g.moment g.left_since g.may_leave mid new
   pub besides : IsTrue (g.tells mid) → Besides slot (g.held mid) (g.held new)
   pub telling : g.tells new ≡ g.tells mid
-  pub later : g.faults mid ≤ g.faults new
-  pub calls : RoseAtMost 6 (g.calls mid) (g.calls new)
-  pub reads : g.reads new ≡ g.reads mid
+  pub made : Calls g 6 0 mid new result
 
 -- The list may be written in the place of the one that counts: every image that the writing makes stands for the history, and is
 -- tidy where the one before it was.
@@ -42,7 +40,7 @@ pub record MayList (held : Image) (may_leave : Image → Type 0) (body new : Lis
   pub stands : (slot : ℕ) → slot < 2 → (origin image : Image) → may_leave origin → WritesSlot slot (ImageHoldsEither (Some body) new) origin image → ImageStandsFor image h
   pub tidy : (slot : ℕ) → slot < 2 → (origin image : Image) → may_leave origin → WritesSlot slot (ImageHoldsEither (Some body) new) origin image → IsTidy origin → IsTidy image
 
-module _ {D : Type 0} (g : Ghosts D) (only_now : OnlyNow g) (old mid new : D) (file slot : ℕ) (list next : ListBody) (h : History) (synced : Synced g old mid file) (ran : Ran g mid new list next slot)
+module _ {D : Type 0} (g : Ghosts D) (only_now : OnlyNow g) (old mid new : D) (file slot : ℕ) (list next : ListBody) (h : History) (result : Result (Unit {0}) Failed) (synced : Synced g old mid file) (ran : Ran g mid new list next slot result)
     (told : IsTrue (g.tells old)) (before : (image : Image) → g.may_leave old image → ImageStandsFor image h) (c : MayList (g.held mid) (g.may_leave mid) list next h) where
   pub its_run : Run (WritesSlot slot (ImageHoldsEither (Some list) next)) g.moment g.left_since g.may_leave mid new
   its_run = ran.run (subst IsTrue (sym synced.telling) told) c.ready

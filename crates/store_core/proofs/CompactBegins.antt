@@ -1,10 +1,12 @@
 -- A compaction that begins, as an event of a core.
-use Rattle.std.proofs.Common.{◌≡◌, ◌≢◌, inl, inr, ℕ, ◌+◌, ◌-◌, ◌^◌, ◌<◌, ◌≤◌, ◌==◌, min, List, [], ◌∷◌, length, map, Some, None, Option, IsTrue, Bool, true, false, not, refl, sym, ◌∙◌, ap, subst, arith, if◌then◌else◌}
+use Rattle.std.proofs.Common.{◌≡◌, ◌≢◌, inl, inr, ℕ, ◌+◌, ◌-◌, ◌^◌, ◌<◌, ◌≤◌, ◌==◌, min, List, [], ◌∷◌, length, map, Some, None, Option, IsTrue, Bool, true, false, not, refl, sym, ◌∙◌, ap, subst, arith, if◌then◌else◌, Result, IsOk, IsErr}
 use Rattle.std.specs.Prelude.{nat_le, Vec, ◌||◌, ◌&&◌}
 use Rattle.std.proofs.lemmas.Bool.{le-leb, lt-leb, cases_lt}
 use Rattle.std.specs.Vec.{vec_len, vec_capacity}
 use Rattle.std.specs.declared.alloc.Global.{Global}
 use Rattle.span_types.specs.Faults.{Rose}
+use Rattle.span_types.specs.declared.errors.Failed.{Failed}
+use Rattle.disk_model.specs.Calls.{Calls}
 use Rattle.disk_model.specs.Images.{bytes_of}
 use Rattle.disk_model.specs.Crash.{Run}
 use Rattle.disk_model.specs.declared.disk.Device.{Ghosts}
@@ -36,11 +38,13 @@ use Rattle.store_core.specs.declared.jobs.OpenCompaction.{OpenCompaction}
 use Rattle.store_core.specs.declared.room.CommitRoom.{CommitRoom}
 use Rattle.store_core.specs.declared.state.CoreState.{CoreState}
 use Rattle.store_core.specs.declared.store.Core.{Core}
-use Rattle.store_core.specs.Cores.{HasState, StandsFor, CoreStandsFor, CoreShows, listed_as, tail_of}
+use Rattle.store_core.specs.Cores.{HasState, StandsFor, CoreShows, listed_as, tail_of}
+use Rattle.store_core.proofs.Now.{StandsNow}
 use Rattle.store_core.specs.Events.{Did}
 use Rattle.store_core.proofs.Apart.{keeps_below, settled_below}
 use Rattle.store_core.proofs.BeginEvents.{built_same, not_zero}
 use Rattle.store_core.proofs.JobRooms.{RoomOfFlush, RoomOfCompaction, SpareCompaction, LowLevel, rooms_fewer, two_at_most, flush_shown, compaction_shown, spare_flush, fresh_same}
+use Rattle.store_core.proofs.Counted.{calls_fine, calls_fault, calls_rose, calls_exact, calls_most, calls_unread}
 use Rattle.store_core.proofs.Kept.{stands_kept, did_kept, described_below}
 use Rattle.store_core.proofs.InUse.{used_begun_compact}
 use Rattle.store_core.proofs.Logged.{logged_kept}
@@ -232,10 +236,13 @@ has_begun core infos jobs pins m level pin files room none below fits known spar
     }
 
 module _ {D : Type 0} (g : Ghosts D) (old : Core D) (disk : D) (writes : old.state.read_only ≡ None) (none : old.state.jobs.compaction ≡ None) (below : old.state.jobs.next_file < 4294967294)
-    (free : (m : Machine) → HasState old.state m → early m BeginCompact ≡ None) (telling : g.tells disk ≡ g.tells old.disk)
+    (free : (m : Machine) → HasState old.state m → early m BeginCompact ≡ None)
+    (result : Result (Unit {0}) Failed) (made : Calls g 2 0 old.disk disk result)
     (run : Run (SameBelow old.state.jobs.next_file) g.moment g.left_since g.may_leave old.disk disk)
-    (others : IsTrue (g.tells old.disk) → (other : ℕ) → other ≢ old.state.jobs.next_file → bytes_of (g.held disk) other ≡ bytes_of (g.held old.disk) other)
-    (later : g.faults old.disk ≤ g.faults disk) (calls : RoseAtMost 2 (g.calls old.disk) (g.calls disk)) (reads : g.reads disk ≡ g.reads old.disk) where
+    (others : IsTrue (g.tells old.disk) → (other : ℕ) → other ≢ old.state.jobs.next_file → bytes_of (g.held disk) other ≡ bytes_of (g.held old.disk) other) where
+  telling : g.tells disk ≡ g.tells old.disk
+  telling = made.telling
+
   abbrev file : ℕ
   file = old.state.jobs.next_file
 
@@ -246,7 +253,7 @@ module _ {D : Type 0} (g : Ghosts D) (old : Core D) (disk : D) (writes : old.sta
   run_below m has = run_more g.moment g.left_since g.may_leave (SameBelow file) (SameBelow limit) old.disk disk run
       (λ origin image possible same. λ other under. same other (let given = has.jobs.given in omega (arith, given, under)))
 
-  run_keeps : IsTrue (g.tells old.disk) → (m : Machine) → CoreStandsFor g old m → Run KeepsStored g.moment g.left_since g.may_leave old.disk disk
+  run_keeps : IsTrue (g.tells old.disk) → (m : Machine) → StandsNow g old m → Run KeepsStored g.moment g.left_since g.may_leave old.disk disk
   run_keeps told m s =
       run_more g.moment g.left_since g.may_leave (SameBelow limit) KeepsStored old.disk disk (run_below m s.has)
       (λ origin image possible same. keeps_below (g.held old.disk) (g.may_leave old.disk) old.state.list (s.settled told writes).lies.ready origin image possible same)
@@ -271,7 +278,7 @@ module _ {D : Type 0} (g : Ghosts D) (old : Core D) (disk : D) (writes : old.sta
         omega (arith, one, none))
   ]
 
-  fresh_later : IsTrue (g.tells old.disk) → (m : Machine) → CoreStandsFor g old m → (jobs : Jobs) → SameFlush old.state.jobs.flush jobs.flush → HasFreshSegment (g.held disk) (g.may_leave disk) jobs
+  fresh_later : IsTrue (g.tells old.disk) → (m : Machine) → StandsNow g old m → (jobs : Jobs) → SameFlush old.state.jobs.flush jobs.flush → HasFreshSegment (g.held disk) (g.may_leave disk) jobs
   fresh_later told m s jobs same =
       fresh_same (g.held disk) (g.may_leave disk) old.state.jobs.flush jobs.flush same
       (fresh_moved old.state.jobs.flush (g.held old.disk) (g.held disk) (g.may_leave old.disk) (g.may_leave disk)
@@ -282,7 +289,7 @@ module _ {D : Type 0} (g : Ghosts D) (old : Core D) (disk : D) (writes : old.sta
   module _ (infos : Vec InfoParts Global) (jobs : Jobs) (pins : Vec (Option (List ℕ)) Global) (level pin : ℕ) (files : List ℕ) (room : CommitRoom) (known : infos.items ≡ old.state.infos.items) (spare : vec_len infos + 2 ≤ vec_capacity infos)
       (begun : Begun old.state.jobs jobs level pin old.state.list room) (its_pin : Pins pin files old.state.pins.items pins.items) (choice_is : (m : Machine) → HasState old.state m → IsChoice level files m) where
     after : (told told' : Type 0) → (told' → told) → (told → IsTrue (g.tells old.disk)) → (m : Machine) → StandsFor told (g.held old.disk) (g.may_leave old.disk) old.state m
-        → Step (g.faults old.disk) (g.faults disk) m BeginCompact (Compacting (record { number = jobs.begun; file = file; level = level; pin = pin; files = files })) (with_state (after_begin_compact pin m.state) m) → (told → CoreStandsFor g old m)
+        → Step (g.faults old.disk) (g.faults disk) m BeginCompact (Compacting (record { number = jobs.begun; file = file; level = level; pin = pin; files = files })) (with_state (after_begin_compact pin m.state) m) → (told → StandsNow g old m)
         → StandsFor told' (g.held disk) (g.may_leave disk) (record old.state { infos = infos; jobs = jobs; pins = pins }) (with_state (after_begin_compact pin m.state) m)
     after told told' later_told tells m s step whole =
         stands_kept told told' (g.held old.disk) (g.held disk) (g.may_leave old.disk) (g.may_leave disk) old.state (record old.state { infos = infos; jobs = jobs; pins = pins }) m (with_state (after_begin_compact pin m.state) m)
@@ -309,10 +316,12 @@ module _ {D : Type 0} (g : Ghosts D) (old : Core D) (disk : D) (writes : old.sta
           refl,
         )
 
-    pub did_compact : (IsTrue (g.tells old.disk) → IsEmptied (g.held disk) (g.may_leave disk) file)
+    pub did_compact : IsOk result → (IsTrue (g.tells old.disk) → IsEmptied (g.held disk) (g.may_leave disk) file)
         → Did g old BeginCompact (Compacting (record { number = jobs.begun; file = file; level = level; pin = pin; files = files })) (record old { disk = disk; state = record old.state { infos = infos; jobs = jobs; pins = pins } })
-    did_compact empty =
-        did_kept g old disk (record old.state { infos = infos; jobs = jobs; pins = pins }) BeginCompact (Compacting (record { number = jobs.begun; file = file; level = level; pin = pin; files = files })) telling run_keeps refl refl
+    did_compact fine empty =
+        did_kept g old disk (record old.state { infos = infos; jobs = jobs; pins = pins }) BeginCompact (Compacting (record { number = jobs.begun; file = file; level = level; pin = pin; files = files }))
+        (calls_fine g old.disk disk 2 0 0 (λ low. low) result made fine (Compacting (record { number = jobs.begun; file = file; level = level; pin = pin; files = files })) (λ is. let bad : Compacting (record { number = jobs.begun; file = file; level = level; pin = pin; files = files }) ≡ Refused Fault = is in absurd cc))
+        run_keeps refl refl
         (λ m s.
         let step = its_step m s.has s.sound.fits.jobs in (
           with_state (after_begin_compact pin m.state) m,
@@ -328,14 +337,15 @@ module _ {D : Type 0} (g : Ghosts D) (old : Core D) (disk : D) (writes : old.sta
         ))
         (λ told m s hold is_open stays f among. stay told m s hold is_open f among)
         (λ told f among. one_begun file f (IsEmptied (g.held disk) (g.may_leave disk)) (empty told) among) (λ told. tt) (λ shows h. tt)
-        later (λ is. let bad : Compacting (record { number = jobs.begun; file = file; level = level; pin = pin; files = files }) ≡ Refused Fault = is in absurd cc) calls (omega (arith, reads), omega (arith, reads))
+        (calls_exact g old.disk disk 2 0 0 (λ low. low) result made fine) (calls_unread g old.disk disk 2 0 0 (λ low. low) result made)
 
-  pub did_compact_fail : (infos : Vec InfoParts Global) (jobs : Jobs) (pins : Vec (Option (List ℕ)) Global) (faults : ℕ) → faults ≡ g.faults disk → Rose (g.faults old.disk) (g.faults disk)
+  pub did_compact_fail : (infos : Vec InfoParts Global) (jobs : Jobs) (pins : Vec (Option (List ℕ)) Global) (faults : ℕ) → faults ≡ g.faults disk → IsErr result
       → KeepsRooms old.state.list old.state.infos infos old.state.jobs jobs → SamePins old.state.pins.items pins.items
       → Did g old BeginCompact (Refused Fault) (record old { disk = disk; state = record old.state { infos = infos; jobs = jobs; pins = pins; read_only = Some faults } })
-  did_compact_fail infos jobs pins faults counted rose kept same =
+  did_compact_fail infos jobs pins faults counted err kept same =
+      let rose = calls_rose g old.disk disk 2 0 0 (λ low. low) result made err in
       subst (λ (n : ℕ). Did g old BeginCompact (Refused Fault) (record old { disk = disk; state = record old.state { infos = infos; jobs = jobs; pins = pins; read_only = Some n } })) (sym counted)
-      (did_kept g old disk (record old.state { infos = infos; jobs = jobs; pins = pins; read_only = Some (g.faults disk) }) BeginCompact (Refused Fault) telling run_keeps refl (adds_none BeginCompact refl (Refused Fault) _)
+      (did_kept g old disk (record old.state { infos = infos; jobs = jobs; pins = pins; read_only = Some (g.faults disk) }) BeginCompact (Refused Fault) (calls_fault g old.disk disk 2 0 0 (λ low. low) result made err) run_keeps refl (adds_none BeginCompact refl (Refused Fault) _)
       (λ m s. (
         broken (g.faults disk) m,
         stands_kept (IsTrue (g.tells old.disk)) (IsTrue (g.tells disk)) (g.held old.disk) (g.held disk) (g.may_leave old.disk) (g.may_leave disk) old.state (record old.state { infos = infos; jobs = jobs; pins = pins; read_only = Some (g.faults disk) }) m
@@ -355,7 +365,7 @@ module _ {D : Type 0} (g : Ghosts D) (old : Core D) (disk : D) (writes : old.sta
       ))
       (λ told m s hold is_open stays f among. stay told m s hold is_open f among)
       (λ told f among. none_begun (Refused Fault) f _ refl among) (λ told. tt) (λ shows h. tt)
-      later (λ is. rose) calls (omega (arith, reads), omega (arith, reads)))
+      (calls_most g old.disk disk 2 0 0 (λ low. low) result made) (calls_unread g old.disk disk 2 0 0 (λ low. low) result made))
     where
       has : (m : Machine) → HasState old.state m → HasState (record old.state { infos = infos; jobs = jobs; pins = pins; read_only = Some (g.faults disk) }) (broken (g.faults disk) m)
       has m was = has_stopped (record old.state { infos = infos; jobs = jobs; pins = pins }) (g.faults disk) m (has_room old.state infos jobs pins m kept same was)

@@ -1,6 +1,6 @@
 -- A compaction's commit as an event of a core: its next list, and what it leaves.
-use Rattle.std.proofs.Common.{◌≡◌, ℕ, ◌≤◌, List, Some, None, Option, IfSome, IsTrue, refl, sym, ◌∙◌, ap, subst, arith}
-use Rattle.span_types.specs.Faults.{Rose}
+use Rattle.std.proofs.Common.{◌≡◌, ℕ, ◌≤◌, List, Some, None, Option, IfSome, IsTrue, refl, sym, ◌∙◌, ap, subst, arith, Result, IsOk, IsErr}
+use Rattle.span_types.specs.declared.errors.Failed.{Failed}
 use Rattle.disk_model.specs.Images.{Image, bytes_of}
 use Rattle.disk_model.specs.Crash.{Run}
 use Rattle.disk_model.specs.declared.disk.Device.{Ghosts}
@@ -85,7 +85,7 @@ pub record Joins (old : CoreState) (held : Image) (told : Type 0) (number file l
 
 module _ {D : Type 0} (g : Ghosts D) (only_now : OnlyNow g) (old : Core D) (mid disk : D) (number file level pin slot : ℕ) (infos : List InfoParts) (info : InfoParts) (list : ListBody)
     (c : Joins old.state (g.held old.disk) (IsTrue (g.tells old.disk)) number file level pin infos info list)
-    (synced : Synced g old.disk mid file) (ran : Ran g mid disk old.state.list list slot) where
+    (result : Result (Unit {0}) Failed) (synced : Synced g old.disk mid file) (ran : Ran g mid disk old.state.list list slot result) where
   module _ (told : Type 0) (tells : told → IsTrue (g.tells old.disk)) (decided : IsDecided told) (m : Machine) (s : StandsFor told (g.held old.disk) (g.may_leave old.disk) old.state m) where
     abbrev here : IsCompactionHere old.state m number file level pin (info_files infos)
     here = c.here m s.has
@@ -141,7 +141,7 @@ module _ {D : Type 0} (g : Ghosts D) (only_now : OnlyNow g) (old : Core D) (mid 
     before known image left = settled_now (g.held old.disk) (g.may_leave old.disk) old.state.list m.state.blocks (tail_of old.state.segment) m.history (s.settled known c.writes) image left
 
     run : told → Run (WritesSlot slot (ImageHoldsEither (Some old.state.list) list)) g.moment g.left_since g.may_leave mid disk
-    run known = its_run g only_now old.disk mid disk file slot old.state.list list m.history synced ran (tells known) (before known) (may_list known)
+    run known = its_run g only_now old.disk mid disk file slot old.state.list list m.history result synced ran (tells known) (before known) (may_list known)
 
   abbrev lists : (told : Type 0) → (told → IsTrue (g.tells old.disk)) → IsDecided told → (m : Machine) → StandsFor told (g.held old.disk) (g.may_leave old.disk) old.state m
       → Lists told (g.held mid) (g.may_leave mid) old.state list (CommitCompact number info.rows) m
@@ -235,15 +235,15 @@ module _ {D : Type 0} (g : Ghosts D) (only_now : OnlyNow g) (old : Core D) (mid 
     }
 
   -- the pins without that of the compaction, whichever machine it is
-  pub did_compact_committed : (later : CoreState) → unsure_of later ≡ unsure_of old.state → TookJoined old.state later list info (info_files infos)
+  pub did_compact_committed : IsOk result → (later : CoreState) → unsure_of later ≡ unsure_of old.state → TookJoined old.state later list info (info_files infos)
       → ((m : Machine) → (has : HasState old.state m) → ShowsPins (without_pin (c.here m has).mine.pin m.state.pins) later.pins.items)
       → (IsTrue (g.tells mid) → g.may_leave mid (g.held mid)) → (IsTrue (g.tells mid) → IsReady (g.held mid) (g.may_leave mid) (Some old.state.list) → IsReady (g.held disk) (g.may_leave disk) (Some list))
       → Did g old (CommitCompact number info.rows) Fine (record old { disk = disk; state = later })
-  did_compact_committed later unsure took pins stays ready =
-      did_committed g only_now old mid disk (CommitCompact number info.rows) (compact_commits number info.rows) file slot list c.writes synced ran lists later unsure
+  did_compact_committed fine later unsure took pins stays ready =
+      did_committed g only_now old mid disk (CommitCompact number info.rows) (compact_commits number info.rows) file slot list c.writes result synced ran lists fine later unsure
       (λ told tells decided m s. compact_takes told tells decided m s later took (pins m s.has) (λ t. stays (subst IsTrue (sym synced.telling) (tells t))) (λ t. ready (subst IsTrue (sym synced.telling) (tells t))))
 
   pub did_compact_fail : (later : CoreState) → ((m : Machine) → HasState old.state m → HasState later (broken (g.faults disk) m)) → later.infos.items ≡ old.state.infos.items → later.read_only ≡ Some (g.faults disk)
-      → unsure_of later ≡ unsure_of old.state → Rose (g.faults old.disk) (g.faults disk) → Did g old (CommitCompact number info.rows) (Refused Fault) (record old { disk = disk; state = later })
-  did_compact_fail later has infos_same read_only unsure rose =
-      did_commit_fail g only_now old mid disk (CommitCompact number info.rows) (compact_commits number info.rows) file slot list c.writes synced ran lists later has infos_same read_only unsure rose
+      → unsure_of later ≡ unsure_of old.state → IsErr result → Did g old (CommitCompact number info.rows) (Refused Fault) (record old { disk = disk; state = later })
+  did_compact_fail later has infos_same read_only unsure err =
+      did_commit_fail g only_now old mid disk (CommitCompact number info.rows) (compact_commits number info.rows) file slot list c.writes result synced ran lists later has infos_same read_only unsure err

@@ -1,10 +1,12 @@
 -- What a compaction that begins makes in memory, and the event that it is then.
-use Rattle.std.proofs.Common.{◌≡◌, ◌≢◌, ℕ, ◌+◌, ◌-◌, ◌^◌, ◌≤◌, ◌==◌, min, List, [], ◌∷◌, length, map, Some, None, Option, IfSome, IsTrue, not, refl, sym, ◌∙◌, ap, subst, arith, if◌then◌else◌}
+use Rattle.std.proofs.Common.{◌≡◌, ◌≢◌, ℕ, ◌+◌, ◌-◌, ◌^◌, ◌≤◌, ◌==◌, min, List, [], ◌∷◌, length, map, Some, None, Option, IfSome, IsTrue, not, refl, sym, ◌∙◌, ap, subst, arith, if◌then◌else◌, Result, IsOk, IsErr}
 use Rattle.std.specs.Prelude.{Vec, ◌&&◌}
 use Rattle.std.specs.Vec.{vec_len, vec_capacity}
 use Rattle.std.specs.List.{Contains}
 use Rattle.std.specs.declared.alloc.Global.{Global}
 use Rattle.span_types.specs.Faults.{Rose}
+use Rattle.span_types.specs.declared.errors.Failed.{Failed}
+use Rattle.disk_model.specs.Calls.{Calls}
 use Rattle.disk_model.specs.Images.{bytes_of}
 use Rattle.disk_model.specs.Crash.{Run}
 use Rattle.disk_model.specs.declared.disk.Device.{Ghosts}
@@ -34,7 +36,8 @@ use Rattle.store_core.specs.declared.jobs.OpenFlush.{OpenFlush}
 use Rattle.store_core.specs.declared.room.CommitRoom.{CommitRoom}
 use Rattle.store_core.specs.declared.state.CoreState.{CoreState}
 use Rattle.store_core.specs.declared.store.Core.{Core}
-use Rattle.store_core.specs.Cores.{HasState, CoreStandsFor, listed_as}
+use Rattle.store_core.specs.Cores.{HasState, listed_as}
+use Rattle.store_core.proofs.Now.{StandsNow}
 use Rattle.store_core.specs.Events.{Did}
 use Rattle.store_core.proofs.ChosenBlocks.{chosen_files, chosen_level, told_choice, in_places, some_there, level_fits, joins_choice, blocks_at}
 use Rattle.store_core.proofs.CompactBegins.{Begun, Pins, IsChoice, did_compact, did_compact_fail, did_lack_compact, did_not_compact, given_back}
@@ -74,7 +77,7 @@ module _ (core : CoreState) (chosen : List ℕ) (level : ℕ) (pinned : List Inf
   pub joins_made : (m : Machine) → HasState core m → JoinsChoice (λ infos. infos ≡ core.infos.items) level pinned
   joins_made m has = joins_choice core.infos.items pinned level (told_choice core chosen pinned are picks has.listed) theirs (some m has) (level_is m has).0
 
-pub blocks_made : {D : Type 0} (g : Ghosts D) (new : Core D) (chosen : List ℕ) (pinned : List InfoParts) (m : Machine) → pinned ≡ at_places chosen new.state.infos.items → IsTrue (g.tells new.disk) → CoreStandsFor g new m
+pub blocks_made : {D : Type 0} (g : Ghosts D) (new : Core D) (chosen : List ℕ) (pinned : List InfoParts) (m : Machine) → pinned ≡ at_places chosen new.state.infos.items → IsTrue (g.tells new.disk) → StandsNow g new m
     → AreBlocks (λ file. bytes_of (g.held new.disk) file) pinned
 blocks_made g new chosen pinned m are told s =
     subst (λ (l : List InfoParts). AreBlocks (λ file. bytes_of (g.held new.disk) file) l) (sym are)
@@ -102,10 +105,10 @@ begun_after old mid new level pin list infos room same made number next compacti
 }
 
 module _ {D : Type 0} (g : Ghosts D) (old : Core D) (disk : D) (chosen : List ℕ) (level : ℕ) (pin : Pin) (room : CommitRoom) (mid : CoreState) (made : IsMade old.state chosen level pin room mid)
-    (may : MayCompact old.state chosen) (free : (m : Machine) → HasState old.state m → early m BeginCompact ≡ None) (telling : g.tells disk ≡ g.tells old.disk)
+    (may : MayCompact old.state chosen) (free : (m : Machine) → HasState old.state m → early m BeginCompact ≡ None)
+    (result : Result (Unit {0}) Failed) (calls : Calls g 2 0 old.disk disk result)
     (run : Run (SameBelow mid.jobs.next_file) g.moment g.left_since g.may_leave old.disk disk)
-    (others : IsTrue (g.tells old.disk) → (other : ℕ) → other ≢ mid.jobs.next_file → bytes_of (g.held disk) other ≡ bytes_of (g.held old.disk) other)
-    (later : g.faults old.disk ≤ g.faults disk) (calls : RoseAtMost 2 (g.calls old.disk) (g.calls disk)) (reads : g.reads disk ≡ g.reads old.disk) where
+    (others : IsTrue (g.tells old.disk) → (other : ℕ) → other ≢ mid.jobs.next_file → bytes_of (g.held disk) other ≡ bytes_of (g.held old.disk) other) where
   same_file : mid.jobs.next_file ≡ old.state.jobs.next_file
   same_file = made.still.keeps.same.next_file
 
@@ -115,27 +118,27 @@ module _ {D : Type 0} (g : Ghosts D) (old : Core D) (disk : D) (chosen : List �
   its_others : IsTrue (g.tells old.disk) → (other : ℕ) → other ≢ old.state.jobs.next_file → bytes_of (g.held disk) other ≡ bytes_of (g.held old.disk) other
   its_others told other apart = others told other (λ is. apart (is ∙ same_file))
 
-  pub did_made : (jobs : Jobs) (number : ℕ) → number ≡ jobs.begun → jobs.begun ≡ min (mid.jobs.begun + 1) (2 ^ 64 - 1) → jobs.next_file ≡ mid.jobs.next_file + 1
+  pub did_made : IsOk result → (jobs : Jobs) (number : ℕ) → number ≡ jobs.begun → jobs.begun ≡ min (mid.jobs.begun + 1) (2 ^ 64 - 1) → jobs.next_file ≡ mid.jobs.next_file + 1
       → jobs.compaction ≡ Some (record { number = jobs.begun; file = mid.jobs.next_file; level = level; pin = pin.number; room = Some room }) → (jobs.loose ≡ mid.jobs.loose) × (jobs.flush ≡ mid.jobs.flush)
       → Picks old.state.list.blocks chosen → ChoiceIsFew → (IsTrue (g.tells old.disk) → IsEmptied (g.held disk) (g.may_leave disk) mid.jobs.next_file)
       → Did g old BeginCompact (Compacting (record { number = number; file = mid.jobs.next_file; level = level; pin = pin.number; files = info_files pin.blocks })) (record old { disk = disk; state = record mid { jobs = jobs } })
-  did_made jobs number is now next compaction still picks few empty =
+  did_made fine jobs number is now next compaction still picks few empty =
       subst (λ (s : CoreState). Did g old BeginCompact (Compacting (record { number = number; file = mid.jobs.next_file; level = level; pin = pin.number; files = info_files pin.blocks })) (record old { disk = disk; state = record s { jobs = jobs } })) (sym made.still.is)
       (subst (λ (f : ℕ). Did g old BeginCompact (Compacting (record { number = number; file = f; level = level; pin = pin.number; files = info_files pin.blocks })) (record old { disk = disk; state = record old.state { infos = mid.infos; jobs = jobs; pins = mid.pins } })) (sym same_file)
       (subst (λ (n : ℕ). Did g old BeginCompact (Compacting (record { number = n; file = old.state.jobs.next_file; level = level; pin = pin.number; files = info_files pin.blocks })) (record old { disk = disk; state = record old.state { infos = mid.infos; jobs = jobs; pins = mid.pins } })) (sym is)
-      (did_compact g old disk may.writes may.none may.files free telling its_run its_others later calls reads mid.infos jobs mid.pins level pin.number (info_files pin.blocks) room made.still.keeps.infos made.has_room.infos
+      (did_compact g old disk may.writes may.none may.files free result calls its_run its_others mid.infos jobs mid.pins level pin.number (info_files pin.blocks) room made.still.keeps.infos made.has_room.infos
       (begun_after old.state.jobs mid.jobs jobs level pin.number old.state.list mid.infos room made.still.keeps.same made.has_room now next compaction still)
       (pins_made old.state mid chosen level pin room made)
       (choice_made old.state chosen level pin.blocks made.blocks made.its_level picks may few)
-      (λ told. subst (λ (f : ℕ). IsEmptied (g.held disk) (g.may_leave disk) f) same_file (empty told)))))
+      fine (λ told. subst (λ (f : ℕ). IsEmptied (g.held disk) (g.may_leave disk) f) same_file (empty told)))))
 
-  pub did_made_fail : (pins : Vec (Option (List ℕ)) Global) (faults : ℕ) → faults ≡ g.faults disk → Rose (g.faults old.disk) (g.faults disk)
+  pub did_made_fail : (pins : Vec (Option (List ℕ)) Global) (faults : ℕ) → faults ≡ g.faults disk → IsErr result
       → ((other : ℕ) → is_taken other pins.items ≡ (is_taken other mid.pins.items && not (pin.number == other)))
       → ((other : ℕ) → files_at other pins.items ≡ (if pin.number == other then [] else files_at other mid.pins.items))
       → Did g old BeginCompact (Refused Fault) (record old { disk = disk; state = record mid { pins = pins; read_only = Some faults } })
-  did_made_fail pins faults counted rose taken named =
+  did_made_fail pins faults counted err taken named =
       subst (λ (s : CoreState). Did g old BeginCompact (Refused Fault) (record old { disk = disk; state = record s { pins = pins; read_only = Some faults } })) (sym made.still.is)
-      (did_compact_fail g old disk may.writes may.none may.files free telling its_run its_others later calls reads mid.infos mid.jobs pins faults counted rose made.still.keeps
+      (did_compact_fail g old disk may.writes may.none may.files free result calls its_run its_others mid.infos mid.jobs pins faults counted err made.still.keeps
       (given_back pin.number (info_files pin.blocks) old.state.pins.items mid.pins.items pins.items (pins_made old.state mid chosen level pin room made) taken named))
 
 pub did_not_make : {D : Type 0} (g : Ghosts D) (only_now : OnlyNow g) (old : Core D) (mid : CoreState) → ((m : Machine) → HasState old.state m → early m BeginCompact ≡ None) → IsNotMade old.state mid

@@ -1,8 +1,8 @@
 -- A flush's commit as an event of a core: its next list, and what it leaves.
-use Rattle.std.proofs.Common.{◌≡◌, ℕ, ◌+◌, ◌%◌, ◌<◌, ◌≤◌, List, [], ◌∷◌, ◌++◌, map, length, Some, None, Option, IfSome, IsTrue, refl, sym, ◌∙◌, ap, subst, arith}
-use Rattle.span_types.specs.Faults.{Rose}
+use Rattle.std.proofs.Common.{◌≡◌, ℕ, ◌+◌, ◌%◌, ◌<◌, ◌≤◌, List, [], ◌∷◌, ◌++◌, map, length, Some, None, Option, IfSome, IsTrue, refl, sym, ◌∙◌, ap, subst, arith, Result, IsOk, IsErr}
 use Rattle.span_types.specs.First.{IsFirstOf}
 use Rattle.span_types.specs.declared.spans.Row.{Row}
+use Rattle.span_types.specs.declared.errors.Failed.{Failed}
 use Rattle.disk_model.specs.Images.{Image, bytes_of}
 use Rattle.disk_model.specs.Crash.{OnlyBytes}
 use Rattle.disk_model.specs.declared.disk.Device.{Ghosts}
@@ -114,7 +114,7 @@ pub record Commits (old : CoreState) (held : Image) (told : Type 0) (number file
 
 module _ {D : Type 0} (g : Ghosts D) (only_now : OnlyNow g) (old : Core D) (mid disk : D) (number file size slot : ℕ) (rows firsts : List Row) (info : InfoParts) (list : ListBody)
     (c : Commits old.state (g.held old.disk) (IsTrue (g.tells old.disk)) number file size rows firsts info list)
-    (synced : Synced g old.disk mid file) (ran : Ran g mid disk old.state.list list slot) where
+    (result : Result (Unit {0}) Failed) (synced : Synced g old.disk mid file) (ran : Ran g mid disk old.state.list list slot result) where
   module _ (told : Type 0) (tells : told → IsTrue (g.tells old.disk)) (m : Machine) (s : StandsFor told (g.held old.disk) (g.may_leave old.disk) old.state m) where
     abbrev here : IsOpenHere old.state m number file
     here = c.here m s.has
@@ -232,7 +232,7 @@ module _ {D : Type 0} (g : Ghosts D) (only_now : OnlyNow g) (old : Core D) (mid 
 
     its_settled : told → IsSettled (g.held disk) (g.may_leave disk) later.list (m.state.blocks ++ its_block ∷ []) (tail_of later.segment) m.history
     its_settled known =
-        let run = its_run g only_now old.disk mid disk file slot old.state.list list m.history synced ran (tells known) (before known) (may_list told tells m s known) in
+        let run = its_run g only_now old.disk mid disk file slot old.state.list list m.history result synced ran (tells known) (before known) (may_list told tells m s known) in
         subst (λ (t : Tail). IsSettled (g.held disk) (g.may_leave disk) later.list (m.state.blocks ++ its_block ∷ []) t m.history) (sym tail_is)
         (subst (λ (l : ListBody). IsSettled (g.held disk) (g.may_leave disk) l (m.state.blocks ++ its_block ∷ []) (empty_tail its_last) m.history) (sym took.listing)
         (settled_committed (g.held mid) (g.may_leave mid) old.state.list list m.state.blocks its_block (tail_of old.state.segment) m.history its_last waiting (its_own known) slot ran.below (g.held disk) (g.may_leave disk)
@@ -240,7 +240,7 @@ module _ {D : Type 0} (g : Ghosts D) (only_now : OnlyNow g) (old : Core D) (mid 
 
     its_logged : told → AreLogged (g.held disk) later.list (rows_outside after)
     its_logged known =
-        let run = its_run g only_now old.disk mid disk file slot old.state.list list m.history synced ran (tells known) (before known) (may_list told tells m s known) in
+        let run = its_run g only_now old.disk mid disk file slot old.state.list list m.history result synced ran (tells known) (before known) (may_list told tells m s known) in
         subst (λ (l : ListBody). AreLogged (g.held disk) l (rows_outside after)) (sym took.listing)
         (logged_committed (g.held mid) (g.may_leave mid) old.state.list list m.state.blocks its_block (tail_of old.state.segment) m.history its_last waiting (its_own known) slot ran.below (g.held disk) (g.may_leave disk)
         (stays known) (ran.besides (subst IsTrue (sym synced.telling) (tells known))) (ready known (its_own known).settled.lies.ready) run.now)
@@ -258,14 +258,14 @@ module _ {D : Type 0} (g : Ghosts D) (only_now : OnlyNow g) (old : Core D) (mid 
       logged = λ t. its_logged t;
     }
 
-  pub did_flush_committed : (later : CoreState) → unsure_of later ≡ unsure_of old.state → ((m : Machine) → (has : HasState old.state m) → TookOver old.state later list info (c.here m has).mine.files.segment (count_of m.history))
+  pub did_flush_committed : IsOk result → (later : CoreState) → unsure_of later ≡ unsure_of old.state → ((m : Machine) → (has : HasState old.state m) → TookOver old.state later list info (c.here m has).mine.files.segment (count_of m.history))
       → (IsTrue (g.tells mid) → g.may_leave mid (g.held mid)) → (IsTrue (g.tells mid) → IsReady (g.held mid) (g.may_leave mid) (Some old.state.list) → IsReady (g.held disk) (g.may_leave disk) (Some list))
       → Did g old (CommitFlush number size) Fine (record old { disk = disk; state = later })
-  did_flush_committed later unsure took stays ready =
-      did_committed g only_now old mid disk (CommitFlush number size) (flush_commits number size) file slot list c.writes synced ran lists later unsure
+  did_flush_committed fine later unsure took stays ready =
+      did_committed g only_now old mid disk (CommitFlush number size) (flush_commits number size) file slot list c.writes result synced ran lists fine later unsure
       (λ told tells decided m s. flush_takes told tells decided m s later (took m s.has) (λ t. stays (subst IsTrue (sym synced.telling) (tells t))) (λ t. ready (subst IsTrue (sym synced.telling) (tells t))))
 
   pub did_flush_fail : (later : CoreState) → ((m : Machine) → HasState old.state m → HasState later (broken (g.faults disk) m)) → later.infos.items ≡ old.state.infos.items → later.read_only ≡ Some (g.faults disk)
-      → unsure_of later ≡ unsure_of old.state → Rose (g.faults old.disk) (g.faults disk) → Did g old (CommitFlush number size) (Refused Fault) (record old { disk = disk; state = later })
-  did_flush_fail later has infos read_only unsure rose =
-      did_commit_fail g only_now old mid disk (CommitFlush number size) (flush_commits number size) file slot list c.writes synced ran lists later has infos read_only unsure rose
+      → unsure_of later ≡ unsure_of old.state → IsErr result → Did g old (CommitFlush number size) (Refused Fault) (record old { disk = disk; state = later })
+  did_flush_fail later has infos read_only unsure err =
+      did_commit_fail g only_now old mid disk (CommitFlush number size) (flush_commits number size) file slot list c.writes result synced ran lists later has infos read_only unsure err

@@ -1,6 +1,5 @@
 -- Events that write to a disk and leave the history as it is.
 use Rattle.std.proofs.Common.{◌≡◌, inl, inr, ℕ, ◌≤◌, List, [], Some, None, Option, IsTrue, true, false, sym, ◌∙◌, subst}
-use Rattle.span_types.specs.Faults.{Rose}
 use Rattle.span_types.specs.declared.spans.Span.{Span}
 use Rattle.disk_model.specs.Images.{Image, bytes_of}
 use Rattle.disk_model.specs.Crash.{Within, Reached, Run}
@@ -29,8 +28,10 @@ use Rattle.store_core.specs.Jobs.{HasFreshSegment}
 use Rattle.store_core.specs.Waiting.{rows_outside, AreLogged}
 use Rattle.store_core.specs.declared.state.CoreState.{CoreState}
 use Rattle.store_core.specs.declared.store.Core.{Core}
-use Rattle.store_core.specs.Cores.{HasState, StandsFor, CoreStandsFor, CoreShows, AreDescribed, tail_of, unsure_of}
-use Rattle.store_core.specs.Events.{Did, Between, unsure_after}
+use Rattle.store_core.specs.Cores.{HasState, StandsFor, CoreShows, AreDescribed, tail_of, unsure_of}
+use Rattle.store_core.proofs.Counted.{Counted}
+use Rattle.store_core.proofs.Now.{StandsNow, did_since}
+use Rattle.store_core.specs.Events.{Did, Between, unsure_after, end_of}
 use Rattle.store_core.proofs.Described.{described_same}
 
 pub may_kept : (h : History) (unsure : Option Entry) (origin image : Image) → KeepsStored origin image → MayStandFor h unsure origin → MayStandFor h unsure image
@@ -63,19 +64,19 @@ stands_kept told told' held held' may_leave may_leave' core core' m m' before fa
 }
 
 pub did_kept : {D : Type 0} (g : Ghosts D) (old : Core D) (disk : D) (state : CoreState) (event : Event) (reply : Reply)
-    → g.tells disk ≡ g.tells old.disk
-    → (IsTrue (g.tells old.disk) → (m : Machine) → CoreStandsFor g old m → Run KeepsStored g.moment g.left_since g.may_leave old.disk disk)
+    → Counted g (end_of old.state event) reply old.disk disk
+    → (IsTrue (g.tells old.disk) → (m : Machine) → StandsNow g old m → Run KeepsStored g.moment g.left_since g.may_leave old.disk disk)
     → unsure_of state ≡ unsure_of old.state → unsure_after event reply (unsure_of old.state) ≡ unsure_of old.state
-    → ((m : Machine) → CoreStandsFor g old m → (m' : Machine) × CoreStandsFor g (record old { disk = disk; state = state }) m' × (m'.history ≡ m.history) × Step (g.faults old.disk) (g.faults disk) m event reply m')
+    → ((m : Machine) → StandsNow g old m → (m' : Machine) × StandsNow g (record old { disk = disk; state = state }) m' × (m'.history ≡ m.history) × Step (g.faults old.disk) (g.faults disk) m event reply m')
     → ((m : Machine) → CoreShows g old m → (m' : Machine) × CoreShows g (record old { disk = disk; state = state }) m' × Step (g.faults old.disk) (g.faults disk) m event reply m')
     → (IsTrue (g.tells old.disk) → (m : Machine) → CoreShows g old m → (hold : Hold) → OpenIn m hold → ends event reply hold ≡ false → (file : ℕ) → is_among file (files_of hold) ≡ true
     → Rewritten event reply file (bytes_of (g.held old.disk) file) (bytes_of (g.held disk) file))
     → (IsTrue (g.tells old.disk) → (file : ℕ) → is_among file (own_files reply) ≡ true → IsEmptied (g.held disk) (g.may_leave disk) file)
     → (IsTrue (g.tells old.disk) → IsPageRead event reply (λ file. bytes_of (g.held old.disk) file)) → ((shows : ℕ → List ℕ) (h : History) → IsLookTaken reply shows h)
-    → g.faults old.disk ≤ g.faults disk → (reply ≡ Refused Fault → Rose (g.faults old.disk) (g.faults disk)) → MadeCalls event reply (g.calls old.disk) (g.calls disk)
+    → MadeCalls event reply (g.calls old.disk) (g.calls disk)
     → RoseAtMost (reads_of event) (g.reads old.disk) (g.reads disk)
     → Did g old event reply (record old { disk = disk; state = state })
-did_kept {D} g old disk state event reply telling run unsure same stands shows files empty page look later cause calls reads = record {
+did_kept {D} g old disk state event reply counts run unsure same stands shows files empty page look calls reads = did_since g old _ _ _ refl (record {
   stepped = λ m s.
       let after = stands m s in record {
         machine = after.0;
@@ -92,12 +93,10 @@ did_kept {D} g old disk state event reply telling run unsure same stands shows f
   empty = empty;
   page = page;
   look = λ told m stands. look (λ file. bytes_of (g.held disk) file) m.history;
-  telling = telling;
-  later = later;
-  cause = cause;
+  counts = counts;
   calls = calls;
   reads = reads;
-}
+})
 
 -- the blocks of a core whose list names none of the files that changed
 pub described_below : (held later : Image) (core : CoreState) (m : Machine) → HasState core m → SameBelow core.list.next_file held later → AreDescribed held core.infos.items m.state.blocks → AreDescribed later core.infos.items m.state.blocks

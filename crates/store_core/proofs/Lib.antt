@@ -1,3 +1,5 @@
+mod Counted
+mod Now
 mod Quiet
 mod Described
 mod JobRooms
@@ -48,6 +50,7 @@ mod CompactAnswers
 mod PortEvents
 pub mod LogSteps
 mod LooseFiles
+mod LeftFiles
 mod Spare
 mod Rising
 mod PinnedFiles

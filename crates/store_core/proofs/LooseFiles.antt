@@ -101,7 +101,7 @@ cut_empty [] cut = refl
 cut_empty (x ∷ xs) cut = absurd (let most = cut.no_longer in omega (arith, most))
 
 module _ (held : Image) (may_leave : Image → Type 0) (body : ListBody) (ready : IsReady held may_leave (Some body)) where
-  ready_rules : MeetsRules body
+  pub ready_rules : MeetsRules body
   ready_rules = rules_in held body ready.stands
 
   in_slot : (origin : Image) → may_leave origin → (slot : ℕ) → slot < 2 → bytes_of origin slot ≡ bytes_of held slot
@@ -262,11 +262,11 @@ module _ {D : Type 0} (moment : D → ℕ) (left_since : D → ℕ → Image →
 
 -- ---- the other files
 
-pub others_same : (files : List ℕ) (held : Image) (before : Image → Type 0) → OthersStay files held held before before
-others_same files held before = record { still = λ file low apart. refl; images = λ file known low apart only. only }
+pub others_same : (changes : ℕ → Type 0) (held : Image) (before : Image → Type 0) → OthersStay changes held held before before
+others_same changes held before = record { still = λ file low apart. refl; images = λ file known low apart only. only }
 
-module _ (files : List ℕ) (held mid later : Image) (before between after : Image → Type 0) (stay : OthersStay files held mid before between) where
-  pub others_emptied : (file : ℕ) (step : List ℕ → List ℕ → Type 0) → Contains files file → Besides file mid later → Within (Reached (OnFile file step) between) after → OthersStay files held later before after
+module _ (changes : ℕ → Type 0) (held mid later : Image) (before between after : Image → Type 0) (stay : OthersStay changes held mid before between) where
+  pub others_emptied : (file : ℕ) (step : List ℕ → List ℕ → Type 0) → changes file → Besides file mid later → Within (Reached (OnFile file step) between) after → OthersStay changes held later before after
   others_emptied file step c besides follows = record {
     still = λ other low apart. besides other (differs_from other apart) ∙ stay.still other low apart;
     images = λ other known low apart only image left.
@@ -274,10 +274,10 @@ module _ (files : List ℕ) (held mid later : Image) (before between after : Ima
         r.2.besides other (differs_from other apart) ∙ stay.images other known low apart only r.0 r.1;
   }
     where
-      differs_from : (other : ℕ) → (Contains files other → ⊥) → other ≢ file
-      differs_from other apart is = apart (subst (λ (n : ℕ). Contains files n) (sym is) c)
+      differs_from : (other : ℕ) → (changes other → ⊥) → other ≢ file
+      differs_from other apart is = apart (subst changes (sym is) c)
 
-  pub others_committed : (slot : ℕ) (P : Image → Type 0) → slot < 2 → Besides slot mid later → Within (Reached (WritesSlot slot P) between) after → OthersStay files held later before after
+  pub others_committed : (slot : ℕ) (P : Image → Type 0) → slot < 2 → Besides slot mid later → Within (Reached (WritesSlot slot P) between) after → OthersStay changes held later before after
   others_committed slot P below besides follows = record {
     still = λ other low apart. besides other (λ is. omega (arith, is, low, below)) ∙ stay.still other low apart;
     images = λ other known low apart only image left.

@@ -36,6 +36,7 @@ use Rattle.store_core.specs.LogReading.{LogRead}
 use Rattle.store_core.specs.New.{IsEmptyHistory, StoresNothing}
 use Rattle.store_core.specs.NewCore.{new_machine}
 use Rattle.store_core.specs.Opening.{KeepsDisk, opened_state, BeginsAs, BeginsEmpty, Opened, OpensAs, OpensOver, IsOpenedState}
+use Rattle.store_core.proofs.Now.{StandsNow, stands_now}
 use Rattle.store_core.proofs.Founding.{empty_history, nothing_keeps}
 use Rattle.store_core.proofs.NewCores.{no_history, no_history_is_empty}
 use Rattle.store_core.proofs.LogLaws.{one_log}
@@ -129,7 +130,7 @@ module _ {D : Type 0} (g : Ghosts D) where
 
       new_over : OpensOver g core (new_machine no_history)
       new_over = record {
-        shows = tells_less _ ⊥ (g.held core.disk) (g.may_leave core.disk) core.state (new_machine no_history) (λ bad. absurd bad) (stands no_history no_history_is_empty);
+        shows = tells_less _ ⊥ (g.held core.disk) (g.may_leave core.disk) core.state (new_machine no_history) (λ bad. absurd bad) (stands no_history no_history_is_empty).stands;
         empty = new_is_empty no_history;
         base_alone = refl;
         once = none_once;
@@ -146,7 +147,8 @@ module _ {D : Type 0} (g : Ghosts D) where
       (still : IsTrue (g.tells mid) → (x : SegmentRef) → Contains list.segments x → bytes_of (g.held core.disk) x.file ≡ bytes_of (g.held mid) x.file)
       (blocks_still : IsTrue (g.tells mid) → (x : BlockRef) → Contains list.blocks x → bytes_of (g.held core.disk) x.file ≡ bytes_of (g.held mid) x.file)
       (settled : IsTrue (g.tells mid) → (blocks : List Block) → list.blocks ≡ map ref_of blocks → BlocksStand (g.held mid) blocks → (h : History) → ImageStandsFor (g.held mid) h
-      → IsSettled (g.held core.disk) (g.may_leave core.disk) core.state.list blocks (tail_of core.state.segment) h) where
+      → IsSettled (g.held core.disk) (g.may_leave core.disk) core.state.list blocks (tail_of core.state.segment) h)
+      (only_now : (disk : D) (image : Image) → g.left_since disk (g.moment disk) image → g.may_leave disk image) (ends : core.since.moment ≡ g.moment core.disk) where
     told_mid : IsTrue (g.tells disk) → IsTrue (g.tells mid)
     told_mid told = subst IsTrue (sym telling) told
 
@@ -199,7 +201,7 @@ module _ {D : Type 0} (g : Ghosts D) where
         let f = there_blocks told in
         found (g.held disk) list f.blocks batches h f.its (there told) (blocks_before told) (logged_before told) s
 
-    stands_for : (told : IsTrue (g.tells disk)) (h : History) → ImageStandsFor (g.held disk) h → CoreStandsFor g core (opened_machine list (there_blocks told).blocks batches moment h)
+    stands_for : (told : IsTrue (g.tells disk)) (h : History) → ImageStandsFor (g.held disk) h → StandsNow g core (opened_machine list (there_blocks told).blocks batches moment h)
     stands_for told h s =
         let f = there_blocks told in
         let is : IsFound (g.held disk) list f.blocks batches h = its_history told h s in
@@ -233,7 +235,7 @@ module _ {D : Type 0} (g : Ghosts D) where
         let stands = stands_for told (base_of list blocks batches) stored in
         record {
           over = over blocks (tells_less _ ⊥ (g.held core.disk) (g.may_leave core.disk) core.state (opened_machine list blocks batches moment (base_of list blocks batches)) (λ bad. absurd bad) stands);
-          stands = stands;
+          stands = stands_now g only_now core (opened_machine list blocks batches moment (base_of list blocks batches)) ends stands;
           stored = λ again. (stored, begins told (base_of list blocks batches));
         }
 
@@ -255,13 +257,18 @@ module _ {D : Type 0} (g : Ghosts D) where
     unfounded : (IsTrue (g.tells disk) → ⊥) → OpensAs g disk moment core (opened_machine list unread batches moment (base_of list unread batches))
     unfounded never = record {
       over = over unread (by_memory ⊥ (λ bad. bad));
-      stands = by_memory (IsTrue (g.tells core.disk)) (λ t. never (subst IsTrue telling_core t));
+      stands = stands_now g only_now core (opened_machine list unread batches moment (base_of list unread batches)) ends (by_memory (IsTrue (g.tells core.disk)) (λ t. never (subst IsTrue telling_core t)));
       stored = λ told. absurd (never told);
     }
 
     pub opened_existing : Opened g disk moment core
     opened_existing = record {
-      stands = λ told h s. (opened_machine list (there_blocks told).blocks batches moment h, stands_for told h s, refl, begins told h);
+      stands = λ told h s. (
+        opened_machine list (there_blocks told).blocks batches moment h,
+        stands_now g only_now core (opened_machine list (there_blocks told).blocks batches moment h) ends (stands_for told h s),
+        refl,
+        begins told h,
+      );
       founded = by_telling (g.tells disk) refl;
       begins = (opened_machine list unread batches moment (base_of list unread batches), over unread (by_memory ⊥ (λ bad. bad)));
     }

@@ -1,7 +1,6 @@
 -- What was left since the opening, from event to event.
 use Rattle.std.proofs.Common.{◌≡◌, ◌⊎◌, inl, inr, ℕ, ◌+◌, ◌-◌, ◌≤◌, List, [], ◌∷◌, ◌++◌, length, take, None, Some, Option, IsTrue, refl, sym, ◌∙◌, ap, subst, arith}
 use Rattle.std.proofs.lemmas.List.{take_all}
-use Rattle.span_types.specs.declared.spans.Span.{Span}
 use Rattle.disk_model.specs.Images.{Image}
 use Rattle.disk_model.specs.declared.disk.Device.{Ghosts}
 use Rattle.disk_model.proofs.Moments.{joined, started, widened}
@@ -19,8 +18,8 @@ use Rattle.store_model.proofs.TellsHistory.{step_tells}
 use Rattle.store_images.specs.Stored.{MayStandFor, ImageStandsFor}
 use Rattle.store_core.specs.Cores.{CoreStandsFor, unsure_of}
 use Rattle.store_core.specs.Events.{Did, Between, unsure_after}
-use Rattle.store_core.specs.Past.{StandsSince, StoodFor}
-use Rattle.store_core.proofs.PushEvents.{OnlyNow}
+use Rattle.store_core.specs.Past.{StandsSince}
+use Rattle.store_core.specs.Stood.{StoodFor}
 use Rattle.store_core.specs.declared.store.Core.{Core}
 
 now_is : (h : History) → up_to (count_of h) h ≡ h
@@ -38,6 +37,14 @@ past_in e r h n low = by_entry (added_entry e r)
 stays_some : (e : Event) (r : Reply) (entry : Entry) → unsure_after e r (Some entry) ≡ Some entry
 stays_some e (Refused Fault) entry = refl
 stays_some e _ entry = refl
+
+-- nor does its start change
+pub same_start : (e : Event) (r : Reply) (h h' : History) → h' ≡ history_after e r h → h'.start ≡ h.start
+same_start e r h h' after = ap (λ (x : History). x.start) after ∙ by_entry (added_entry e r)
+  where
+    by_entry : (added : Option Entry) → (with_entry added h).start ≡ h.start
+    by_entry None = refl
+    by_entry (Some entry) = refl
 
 stays_unsure : (e : Event) (r : Reply) (h h' : History) (unsure unsure' : Option Entry) → unsure' ≡ unsure_after e r unsure → (unsure ≡ None) ⊎ (h' ≡ h)
     → (unsure ≡ None) ⊎ ((h' ≡ h) × (unsure' ≡ unsure))
@@ -61,23 +68,23 @@ module _ (e : Event) (r : Reply) (h h' : History) (unsure unsure' : Option Entry
     | inr same ↦ inr (subst (λ (u : Option Entry). MayStandFor h' u image) (sym same.1) (subst (λ (x : History). MayStandFor x unsure image) (sym same.0) stands))
   ]
 
-  stood : (image : Image) → StoodFor least h unsure image → StoodFor least h' unsure' image
+  pub stood : (image : Image) → StoodFor least h unsure image → StoodFor least h' unsure' image
   stood image was = elim was [
     | inl past ↦ at_length past.0 image past.1 past.2 past.3
     | inr now ↦ before image now
   ]
 
-  between : (image : Image) → Between h unsure h' unsure' image → StoodFor least h' unsure' image
+  pub between : (image : Image) → Between h unsure h' unsure' image → StoodFor least h' unsure' image
   between image was = elim was [ inl old ↦ before image old | inr new ↦ inr new ]
 
 -- As a core is opened nothing was left but what its disk may leave.
-pub stands_since_now : {D : Type 0} (g : Ghosts D) (only_now : OnlyNow g) (core : Core D) (m : Machine) → CoreStandsFor g core m
+pub stands_since_now : {D : Type 0} (g : Ghosts D) (only_now : (disk : D) (image : Image) → g.left_since disk (g.moment disk) image → g.may_leave disk image) (core : Core D) (m : Machine) → CoreStandsFor g core m
     → StandsSince g core.disk (count_of m.history) core m
 stands_since_now g only_now core m stands = record {
   stands = stands;
   reached = omega arith;
   past = λ told. started g.moment g.left_since core.disk (StoodFor (count_of m.history) m.history (unsure_of core.state))
-      (λ image left. inr (stands.now told image (only_now core.disk image left)));
+      (λ image left. inr (stands.stands.now told image (only_now core.disk image left)));
 }
 
 pub stands_since : {D : Type 0} (g : Ghosts D) (old new : Core D) (e : Event) (r : Reply) (m : Machine) (start : D) (least : ℕ) (did : Did g old e r new)
@@ -89,7 +96,7 @@ stands_since g old new e r m start least did since =
       stands = one.stands;
       reached = reached after;
       past = λ told.
-          let tells = subst IsTrue did.telling told in
+          let tells = subst IsTrue did.counts.telling told in
           joined g.moment g.left_since start old.disk new.disk now
           (widened g.moment g.left_since start old.disk (StoodFor least m.history (unsure_of old.state)) now (since.past tells)
           (stood e r m.history one.machine.history (unsure_of old.state) (unsure_of new.state) least after since.reached one.unsure one.ended))

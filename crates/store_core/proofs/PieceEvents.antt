@@ -1,9 +1,9 @@
 -- A piece that is written to a job's file, as an event of a core.
-use Rattle.std.proofs.Common.{◌≡◌, ℕ, ◌≤◌, ◌==◌, List, ◌++◌, length, Some, None, Option, IsTrue, true, false, if◌then◌else◌, refl, sym, ◌∙◌, ap, subst, arith, eq-eqb}
-use Rattle.span_types.specs.Faults.{Rose}
+use Rattle.std.proofs.Common.{◌≡◌, ℕ, ◌≤◌, ◌==◌, List, ◌++◌, length, Some, None, Option, IsTrue, true, false, if◌then◌else◌, refl, sym, ◌∙◌, ap, subst, arith, eq-eqb, Result, IsOk, IsErr, ◌^◌, ◌+◌}
+use Rattle.span_types.specs.declared.errors.Failed.{Failed}
+use Rattle.disk_model.specs.Calls.{Calls}
 use Rattle.disk_model.specs.Images.{bytes_of, Besides, OnFile}
 use Rattle.disk_model.specs.Bytes.{overwritten, Torn}
-use Rattle.disk_model.specs.Counts.{RoseBy}
 use Rattle.disk_model.specs.Crash.{Within, Reached, Elapses, Run}
 use Rattle.disk_model.specs.declared.disk.Device.{Ghosts}
 use Rattle.disk_model.proofs.BytesLemmas.{overwritten_end}
@@ -18,8 +18,10 @@ use Rattle.store_model.proofs.Numbers.{same_number}
 use Rattle.store_images.specs.Stored.{KeepsStored}
 use Rattle.store_core.specs.Jobs.{HasFreshSegment}
 use Rattle.store_core.specs.declared.store.Core.{Core}
-use Rattle.store_core.specs.Cores.{HasState, CoreStandsFor, tail_of}
+use Rattle.store_core.specs.Cores.{HasState, tail_of}
+use Rattle.store_core.proofs.Now.{StandsNow}
 use Rattle.store_core.specs.Events.{Did}
+use Rattle.store_core.proofs.Counted.{calls_fine, calls_fault, calls_rose, calls_exact, calls_most, calls_unread}
 use Rattle.store_core.proofs.Kept.{stands_kept, did_kept}
 use Rattle.store_core.proofs.OpenJobs.{IsJobFile, fresh_moved}
 use Rattle.store_core.proofs.PushEvents.{OnlyNow, refused_is}
@@ -35,11 +37,13 @@ no_piece g only_now old number file bytes faults is =
 
 module _ {D : Type 0} (g : Ghosts D) (only_now : OnlyNow g) (old : Core D) (disk : D) (number file at : ℕ) (bytes : List ℕ) (writes : old.state.read_only ≡ None)
     (its : IsJobFile old.state file)
-    (telling : g.tells disk ≡ g.tells old.disk) (besides : IsTrue (g.tells old.disk) → Besides file (g.held old.disk) (g.held disk))
+    (result : Result (Unit {0}) Failed) (made : Calls g 1 (at + length bytes) old.disk disk result) (besides : IsTrue (g.tells old.disk) → Besides file (g.held old.disk) (g.held disk))
     (crash : Within (Reached (OnFile file (Torn at (length bytes))) (g.may_leave old.disk)) (g.may_leave disk))
-    (time : Elapses (g.moment old.disk) (g.moment disk) (g.left_since old.disk) (g.left_since disk) (g.may_leave disk))
-    (later : g.faults old.disk ≤ g.faults disk) (calls : RoseBy 1 (g.calls old.disk) (g.calls disk)) (reads : g.reads disk ≡ g.reads old.disk) where
-  run_keeps : IsTrue (g.tells old.disk) → (m : Machine) → CoreStandsFor g old m → Run KeepsStored g.moment g.left_since g.may_leave old.disk disk
+    (time : Elapses (g.moment old.disk) (g.moment disk) (g.left_since old.disk) (g.left_since disk) (g.may_leave disk)) where
+  telling : g.tells disk ≡ g.tells old.disk
+  telling = made.telling
+
+  run_keeps : IsTrue (g.tells old.disk) → (m : Machine) → StandsNow g old m → Run KeepsStored g.moment g.left_since g.may_leave old.disk disk
   run_keeps told m s =
       run_more g.moment g.left_since g.may_leave (OnFile file (Torn at (length bytes))) KeepsStored old.disk disk
       (run_change g.moment g.left_since g.may_leave file (Torn at (length bytes)) (torn_same at (length bytes)) old.disk disk (only_now old.disk) crash time)
@@ -51,7 +55,7 @@ module _ {D : Type 0} (g : Ghosts D) (only_now : OnlyNow g) (old : Core D) (disk
   free : (m : Machine) → HasState old.state m → early m (WritePiece number file bytes) ≡ None
   free m has = ap (λ (r : Option ℕ). if_read_only r None) (has.read_only ∙ writes)
 
-  fresh_after : IsTrue (g.tells old.disk) → (m : Machine) → CoreStandsFor g old m → HasFreshSegment (g.held disk) (g.may_leave disk) old.state.jobs
+  fresh_after : IsTrue (g.tells old.disk) → (m : Machine) → StandsNow g old m → HasFreshSegment (g.held disk) (g.may_leave disk) old.state.jobs
   fresh_after told m s =
       let differs = its.apart m s.has s.sound in
       fresh_moved old.state.jobs.flush (g.held old.disk) (g.held disk) (g.may_leave old.disk) (g.may_leave disk)
@@ -60,9 +64,9 @@ module _ {D : Type 0} (g : Ghosts D) (only_now : OnlyNow g) (old : Core D) (disk
       (s.fresh told writes)
 
   pub did_piece : (IsTrue (g.tells old.disk) → bytes_of (g.held disk) file ≡ overwritten (bytes_of (g.held old.disk) file) at bytes) → (IsTrue (g.tells old.disk) → at ≡ length (bytes_of (g.held old.disk) file))
-      → Did g old (WritePiece number file bytes) Fine (record old { disk = disk })
-  did_piece written whole =
-      did_kept g old disk old.state (WritePiece number file bytes) Fine telling run_keeps refl refl
+      → IsOk result → Did g old (WritePiece number file bytes) Fine (record old { disk = disk })
+  did_piece written whole fine =
+      did_kept g old disk old.state (WritePiece number file bytes) Fine (calls_fine g old.disk disk 1 (at + length bytes) (2 ^ 63) (λ low. omega (arith, low)) result made fine Fine (λ is. let bad : Fine ≡ Refused Fault = is in absurd cc)) run_keeps refl refl
       (λ m s. (
         m,
         stands_kept (IsTrue (g.tells old.disk)) (IsTrue (g.tells disk)) (g.held old.disk) (g.held disk) (g.may_leave old.disk) (g.may_leave disk) old.state old.state m m (g.faults old.disk) (g.faults disk) (WritePiece number file bytes) Fine
@@ -85,7 +89,7 @@ module _ {D : Type 0} (g : Ghosts D) (only_now : OnlyNow g) (old : Core D) (disk
       ))
       (λ told m s hold is_open stays f among. appended told f)
       (λ told f among. none_begun Fine f _ refl among) (λ told. tt) (λ shows h. tt)
-      later (λ is. let bad : Fine ≡ Refused Fault = is in absurd cc) calls (omega (arith, reads), omega (arith, reads))
+      (calls_exact g old.disk disk 1 (at + length bytes) (2 ^ 63) (λ low. omega (arith, low)) result made fine) (calls_unread g old.disk disk 1 (at + length bytes) (2 ^ 63) (λ low. omega (arith, low)) result made)
     where
       appended : IsTrue (g.tells old.disk) → (f : ℕ) → bytes_of (g.held disk) f ≡ (if file == f then bytes_of (g.held old.disk) f ++ bytes else bytes_of (g.held old.disk) f)
       appended told f = elim (file == f) as (λ t. (file == f) ≡ t → bytes_of (g.held disk) f ≡ (if t then bytes_of (g.held old.disk) f ++ bytes else bytes_of (g.held old.disk) f)) [
@@ -93,11 +97,12 @@ module _ {D : Type 0} (g : Ghosts D) (only_now : OnlyNow g) (old : Core D) (disk
         | false ↦ λ e. besides told f (λ is. let bad = eq-eqb file f (sym is) in absurd cc)
       ] refl
 
-  pub did_piece_fail : (faults : ℕ) → faults ≡ g.faults disk → Rose (g.faults old.disk) (g.faults disk)
+  pub did_piece_fail : (faults : ℕ) → faults ≡ g.faults disk → IsErr result
       → Did g old (WritePiece number file bytes) (Refused Fault) (record old { disk = disk; state = record old.state { read_only = Some faults } })
-  did_piece_fail faults counted rose =
+  did_piece_fail faults counted err =
+      let rose = calls_rose g old.disk disk 1 (at + length bytes) (2 ^ 63) (λ low. omega (arith, low)) result made err in
       subst (λ (n : ℕ). Did g old (WritePiece number file bytes) (Refused Fault) (record old { disk = disk; state = record old.state { read_only = Some n } })) (sym counted)
-      (did_kept g old disk (record old.state { read_only = Some (g.faults disk) }) (WritePiece number file bytes) (Refused Fault) telling run_keeps refl (adds_none (WritePiece number file bytes) refl (Refused Fault) _)
+      (did_kept g old disk (record old.state { read_only = Some (g.faults disk) }) (WritePiece number file bytes) (Refused Fault) (calls_fault g old.disk disk 1 (at + length bytes) (2 ^ 63) (λ low. omega (arith, low)) result made err) run_keeps refl (adds_none (WritePiece number file bytes) refl (Refused Fault) _)
       (λ m s. (
         broken (g.faults disk) m,
         stands_kept (IsTrue (g.tells old.disk)) (IsTrue (g.tells disk)) (g.held old.disk) (g.held disk) (g.may_leave old.disk) (g.may_leave disk) old.state (record old.state { read_only = Some (g.faults disk) }) m (broken (g.faults disk) m)
@@ -118,4 +123,4 @@ module _ {D : Type 0} (g : Ghosts D) (only_now : OnlyNow g) (old : Core D) (disk
       ))
       (λ told m s hold is_open stays f among differs. besides told f (λ is. let bad = eq-eqb file f (sym is) in absurd cc))
       (λ told f among. none_begun (Refused Fault) f _ refl among) (λ told. tt) (λ shows h. tt)
-      later (λ is. rose) (calls.later, calls.at_most) (omega (arith, reads), omega (arith, reads)))
+      (calls_most g old.disk disk 1 (at + length bytes) (2 ^ 63) (λ low. omega (arith, low)) result made) (calls_unread g old.disk disk 1 (at + length bytes) (2 ^ 63) (λ low. omega (arith, low)) result made))

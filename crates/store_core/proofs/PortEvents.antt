@@ -1,6 +1,7 @@
 -- An event of a core is a call of its port.
 use Rattle.std.proofs.Common.{[]}
 use Rattle.disk_model.specs.declared.disk.Device.{Ghosts}
+use Rattle.disk_model.proofs.CallRuns.{raised_rose}
 use Rattle.store_model.specs.Event.{Event, Reply}
 use Rattle.store_model.specs.Step.{Machine, IsLookPin}
 use Rattle.store_state.specs.Meaning.{Called, IsOpen}
@@ -24,13 +25,14 @@ steps : {D : Type 0} (g : Ghosts D) (old : Core D) (event : Event) (reply : Repl
 steps g old event reply new did = record {
   did = λ m stands. let stepped = did.stepped m stands in (stepped.machine, stepped.stands, stepped.step);
   shown = did.shown;
-  telling = did.telling;
+  telling = did.counts.telling;
   bytes = did.files;
   page = did.page;
   look = did.look;
   empty = λ told file among. (did.empty told file among).0;
-  later = did.later;
-  cause = did.cause;
+  later = did.counts.later;
+  quiet = did.counts.quiet;
+  cause = λ is. raised_rose _ _ (did.counts.fault is);
   calls = did.calls;
   reads_rise = did.reads.0;
   reads_bound = did.reads.1;
@@ -49,6 +51,7 @@ did_is_called g old event reply new did =
       look = called.look;
       empty = called.empty;
       later = called.later;
+      quiet = called.quiet;
       cause = called.cause;
       calls = called.calls;
       reads_rise = called.reads_rise;

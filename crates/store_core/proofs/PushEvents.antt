@@ -1,9 +1,9 @@
 -- A push as an event of a core, by its outcomes.
-use Rattle.std.proofs.Common.{◌≡◌, ◌≢◌, inl, inr, ℕ, ◌+◌, ◌<◌, ◌≤◌, List, [], ◌∷◌, ◌++◌, length, Some, None, Option, IsTrue, refl, sym, ◌∙◌, ap, subst, arith}
-use Rattle.span_types.specs.Faults.{Rose}
+use Rattle.std.proofs.Common.{◌≡◌, ◌≢◌, inl, inr, ℕ, ◌+◌, ◌<◌, ◌≤◌, List, [], ◌∷◌, ◌++◌, length, Some, None, Option, IsTrue, refl, sym, ◌∙◌, ap, subst, arith, Result, IsOk, IsErr}
+use Rattle.span_types.specs.declared.errors.Failed.{Failed}
 use Rattle.span_types.specs.declared.spans.Span.{Span}
+use Rattle.disk_model.specs.Calls.{Calls}
 use Rattle.disk_model.specs.Images.{Image, bytes_of, Besides}
-use Rattle.disk_model.specs.Counts.{RoseBy}
 use Rattle.disk_model.specs.Crash.{OnlyBytes, RunInFile, LeavesOnly}
 use Rattle.disk_model.specs.declared.disk.Device.{Ghosts}
 use Rattle.disk_model.proofs.Moments.{widened}
@@ -24,9 +24,11 @@ use Rattle.store_images.specs.Stored.{MayStandFor, IsTidy}
 use Rattle.store_images.specs.Settled.{Tail, IsSettled}
 use Rattle.store_images.proofs.Storing.{only_tail, settled_after}
 use Rattle.store_core.specs.declared.store.Core.{Core}
-use Rattle.store_core.specs.Cores.{HasState, CoreStandsFor, tail_of, unsure_of}
+use Rattle.store_core.specs.Cores.{HasState, tail_of, unsure_of}
+use Rattle.store_core.proofs.Counted.{calls_fine, calls_fault, calls_rose, calls_exact, calls_most, calls_unread}
+use Rattle.store_core.proofs.Now.{StandsNow, did_since}
 use Rattle.store_state.specs.Calls.{MadeCalls}
-use Rattle.store_core.specs.Events.{Did, Between, unsure_after}
+use Rattle.store_core.specs.Events.{Did, Between, unsure_after, end_of}
 use Rattle.store_core.proofs.Logged.{logged_push}
 use Rattle.store_core.proofs.Quiet.{quiet, none_begun}
 use Rattle.store_core.proofs.States.{SameParts, stands_lacking, after_pushed, step_pushed, has_pushed, stands_pushed, stands_broken}
@@ -85,30 +87,33 @@ pub record Appending {D : Type 0} (g : Ghosts D) (old new : D) (seg : Segment) (
 
 module _ {D : Type 0} (g : Ghosts D) (old : Core D) (disk : D) (spans : List Span) (moment : ℕ)
     (free : (m : Machine) → HasState old.state m → early m (Push spans moment) ≡ None) (writes : old.state.read_only ≡ None)
-    (telling : g.tells disk ≡ g.tells old.disk)
+    (result : Result (Unit {0}) Failed) (made : Calls g 4 (end_of old.state (Push spans moment)) old.disk disk result)
     (appends : IsTrue (g.tells old.disk) → Appending g old.disk disk old.state.segment spans) where
-  settled_in : IsTrue (g.tells old.disk) → (m : Machine) → CoreStandsFor g old m → IsSettled (g.held old.disk) (g.may_leave old.disk) old.state.list m.state.blocks (tail_of old.state.segment) m.history
+  telling : g.tells disk ≡ g.tells old.disk
+  telling = made.telling
+
+  settled_in : IsTrue (g.tells old.disk) → (m : Machine) → StandsNow g old m → IsSettled (g.held old.disk) (g.may_leave old.disk) old.state.list m.state.blocks (tail_of old.state.segment) m.history
   settled_in told m stands = stands.settled told writes
 
-  run_in : (told : IsTrue (g.tells old.disk)) (m : Machine) (stands : CoreStandsFor g old m)
+  run_in : (told : IsTrue (g.tells old.disk)) (m : Machine) (stands : StandsNow g old m)
       → RunInFile g.moment g.left_since g.may_leave old.state.segment.file (SegmentKeepsEither old.state.segment.first (settled_in told m stands).mine spans) (SegmentKeepsEither old.state.segment.first (settled_in told m stands).mine spans) old.disk disk
   run_in told m stands =
       let s = settled_in told m stands in
       (appends told).any_moment s.mine (only_tail (g.held old.disk) (g.may_leave old.disk) old.state.list m.state.blocks (tail_of old.state.segment) m.history s) s.written.current s.written.counted
 
-  both_in : (told : IsTrue (g.tells old.disk)) (m : Machine) (stands : CoreStandsFor g old m)
+  both_in : (told : IsTrue (g.tells old.disk)) (m : Machine) (stands : StandsNow g old m)
       → LeavesOnly g.moment g.left_since old.disk disk (MayStandFor m.history (Some (push_of spans))) × ((image : Image) → g.may_leave disk image → MayStandFor m.history (Some (push_of spans)) image)
   both_in told m stands =
       pushing g.moment g.left_since g.may_leave (g.held old.disk) old.state.list m.state.blocks (tail_of old.state.segment) m.history old.disk disk (settled_in told m stands) spans (run_in told m stands)
 
   -- where the new core may stand for the history, or for it and the batch
-  images_in : (told : IsTrue (g.tells old.disk)) (m : Machine) → CoreStandsFor g old m → (after : History) (later_unsure : Option Entry)
+  images_in : (told : IsTrue (g.tells old.disk)) (m : Machine) → StandsNow g old m → (after : History) (later_unsure : Option Entry)
       → ((image : Image) → MayStandFor m.history (Some (push_of spans)) image → Between m.history (unsure_of old.state) after later_unsure image)
       → LeavesOnly g.moment g.left_since old.disk disk (Between m.history (unsure_of old.state) after later_unsure)
   images_in told m stands after later_unsure between =
       widened g.moment g.left_since old.disk disk (MayStandFor m.history (Some (push_of spans))) (Between m.history (unsure_of old.state) after later_unsure) (both_in told m stands).0 between
 
-  tidy_in : IsTrue (g.tells old.disk) → (m : Machine) → CoreStandsFor g old m → ((image : Image) → g.may_leave old.disk image → IsTidy image) → LeavesOnly g.moment g.left_since old.disk disk IsTidy
+  tidy_in : IsTrue (g.tells old.disk) → (m : Machine) → StandsNow g old m → ((image : Image) → g.may_leave old.disk image → IsTidy image) → LeavesOnly g.moment g.left_since old.disk disk IsTidy
   tidy_in told m stands tidy =
       tidy_push g.moment g.left_since g.may_leave (g.held old.disk) old.state.list m.state.blocks (tail_of old.state.segment) m.history old.disk disk (settled_in told m stands) _ _ (run_in told m stands) tidy
 
@@ -118,7 +123,7 @@ module _ {D : Type 0} (g : Ghosts D) (old : Core D) (disk : D) (spans : List Spa
     | inr more ↦ inr (subst (λ (u : Option Entry). MayStandFor (pushed h spans) u image) (sym none) more)
   ]
 
-  pub did_pushed : (live : LiveParts) (segment : Segment) (number : ℕ)
+  pub did_pushed : IsOk result → (live : LiveParts) (segment : Segment) (number : ℕ)
       → ((m : Machine) → HasState old.state m → number ≡ count_of m.history) → number < 4294967295 → number ≡ old.state.segment.first + old.state.segment.count
       → live.live ≡ old.state.live.live ++ arrived moment (batch_rows number spans) → live.head ≡ old.state.live.head → live.flushing ≡ old.state.live.flushing
       → segment.file ≡ old.state.segment.file → segment.first ≡ old.state.segment.first → segment.count ≡ old.state.segment.count + 1
@@ -127,9 +132,8 @@ module _ {D : Type 0} (g : Ghosts D) (old : Core D) (disk : D) (spans : List Spa
       → SegmentHolds old.state.segment.first batches old.state.segment.gate (bytes_of (g.held old.disk) old.state.segment.file) → length batches ≡ old.state.segment.count
       → SegmentHolds old.state.segment.first (batches ++ spans ∷ []) segment.gate (bytes_of (g.held disk) old.state.segment.file)
       × OnlyBytes old.state.segment.file (bytes_of (g.held disk) old.state.segment.file) (g.may_leave disk))
-      → g.faults old.disk ≤ g.faults disk → RoseBy 4 (g.calls old.disk) (g.calls disk) → g.reads disk ≡ g.reads old.disk
       → Did g old (Push spans moment) (Count number) (record old { disk = disk; state = record old.state { live = live; segment = segment } })
-  did_pushed live segment number length_is below is added head flushing file first count stays acknowledged later calls reads = record {
+  did_pushed fine live segment number length_is below is added head flushing file first count stays acknowledged = did_since g old _ _ _ refl (record {
     stepped = λ m stands.
         let taken = step_pushed (g.faults old.disk) (g.faults disk) m spans moment number (length_is m stands.has) (free m stands.has) in
         let has = has_pushed old.state live segment m spans moment number stands.has added head flushing is below file first count in
@@ -166,17 +170,15 @@ module _ {D : Type 0} (g : Ghosts D) (old : Core D) (disk : D) (spans : List Spa
     empty = λ told f among. none_begun (Count number) f _ refl among;
     page = λ told. tt;
     look = λ told m stands. tt;
-    telling = telling;
-    later = later;
-    cause = λ fault. absurd (let bad : Count number ≡ Refused Fault = fault in cc);
-    calls = calls;
-    reads = (omega (arith, reads), omega (arith, reads));
-  }
+    counts = calls_fine g old.disk disk 4 (end_of old.state (Push spans moment)) (end_of old.state (Push spans moment)) (λ low. low) result made fine (Count number) (λ fault. let bad : Count number ≡ Refused Fault = fault in absurd cc);
+    calls = calls_exact g old.disk disk 4 (end_of old.state (Push spans moment)) (end_of old.state (Push spans moment)) (λ low. low) result made fine;
+    reads = calls_unread g old.disk disk 4 (end_of old.state (Push spans moment)) (end_of old.state (Push spans moment)) (λ low. low) result made;
+  })
 
   broken_at : (live : LiveParts) (segment : Segment) (ready : ChunkParts) → SameParts old.state.live live → segment ≡ old.state.segment → ready.spans ≡ spans
-      → Rose (g.faults old.disk) (g.faults disk) → g.faults old.disk ≤ g.faults disk → (g.calls old.disk ≤ g.calls disk) × (g.calls disk ≤ g.calls old.disk + 4) → g.reads disk ≡ g.reads old.disk
+      → IsErr result
       → Did g old (Push spans moment) (Refused Fault) (record old { disk = disk; state = record old.state { live = live; segment = segment; read_only = Some (g.faults disk); unsure = Some ready } })
-  broken_at live segment ready same still its rose later calls reads = record {
+  broken_at live segment ready same still its err = let rose = calls_rose g old.disk disk 4 (end_of old.state (Push spans moment)) (end_of old.state (Push spans moment)) (λ low. low) result made err in did_since g old _ _ _ refl (record {
     stepped = λ m stands. record {
       machine = broken (g.faults disk) m;
       stands = stands_broken (IsTrue (g.tells old.disk)) (IsTrue (g.tells disk)) (g.held old.disk) (g.held disk) (g.may_leave old.disk) (g.may_leave disk) old.state live segment ready (g.faults disk) m same still stands
@@ -199,16 +201,14 @@ module _ {D : Type 0} (g : Ghosts D) (old : Core D) (disk : D) (spans : List Spa
     empty = λ told f among. none_begun (Refused Fault) f _ refl among;
     page = λ told. tt;
     look = λ told m stands. tt;
-    telling = telling;
-    later = later;
-    cause = λ fault. rose;
-    calls = calls;
-    reads = (omega (arith, reads), omega (arith, reads));
-  }
+    counts = calls_fault g old.disk disk 4 (end_of old.state (Push spans moment)) (end_of old.state (Push spans moment)) (λ low. low) result made err;
+    calls = calls_most g old.disk disk 4 (end_of old.state (Push spans moment)) (end_of old.state (Push spans moment)) (λ low. low) result made;
+    reads = calls_unread g old.disk disk 4 (end_of old.state (Push spans moment)) (end_of old.state (Push spans moment)) (λ low. low) result made;
+  })
 
   pub did_broken : (live : LiveParts) (segment : Segment) (ready : ChunkParts) (faults : ℕ) → faults ≡ g.faults disk → SameParts old.state.live live → segment ≡ old.state.segment → ready.spans ≡ spans
-      → Rose (g.faults old.disk) (g.faults disk) → g.faults old.disk ≤ g.faults disk → (g.calls old.disk ≤ g.calls disk) × (g.calls disk ≤ g.calls old.disk + 4) → g.reads disk ≡ g.reads old.disk
+      → IsErr result
       → Did g old (Push spans moment) (Refused Fault) (record old { disk = disk; state = record old.state { live = live; segment = segment; read_only = Some faults; unsure = Some ready } })
-  did_broken live segment ready faults counted same still its rose later calls reads =
+  did_broken live segment ready faults counted same still its err =
       subst (λ (n : ℕ). Did g old (Push spans moment) (Refused Fault) (record old { disk = disk; state = record old.state { live = live; segment = segment; read_only = Some n; unsure = Some ready } })) (sym counted)
-      (broken_at live segment ready same still its rose later calls reads)
+      (broken_at live segment ready same still its err)

@@ -19,9 +19,11 @@ use Rattle.store_state.specs.Shown.{IsLookTaken}
 use Rattle.store_state.specs.Written.{IsPageRead}
 use Rattle.store_core.specs.declared.state.CoreState.{CoreState}
 use Rattle.store_core.specs.declared.store.Core.{Core}
-use Rattle.store_core.specs.Cores.{StandsFor, CoreStandsFor, unsure_of}
+use Rattle.store_core.specs.Cores.{StandsFor, unsure_of}
+use Rattle.store_core.proofs.Counted.{counted_none}
+use Rattle.store_core.proofs.Now.{StandsNow, did_since}
 use Rattle.store_state.specs.Calls.{MadeCalls}
-use Rattle.store_core.specs.Events.{Did, Between, unsure_after}
+use Rattle.store_core.specs.Events.{Did, Between, unsure_after, end_of}
 
 -- no entry gets unsure where the reply is no fault
 no_new : (event : Event) (reply : Reply) (unsure : Option Entry) → reply ≢ Refused Fault → unsure_after event reply unsure ≡ unsure
@@ -50,11 +52,11 @@ pub quiet : {D : Type 0} (g : Ghosts D) (only_now : (disk : D) (image : Image) �
     → ((file : ℕ) (bytes : List ℕ) → Rewritten event reply file bytes bytes)
     → reply ≢ Refused Fault → ((n : ℕ) → MadeCalls event reply n n) → own_files reply ≡ [] → unsure_of state ≡ unsure_of old.state
     → ((shows : ℕ → List ℕ) → IsPageRead event reply shows)
-    → (IsTrue (g.tells old.disk) → (m : Machine) → CoreStandsFor g (record old { state = state }) m → IsLookTaken reply (λ file. bytes_of (g.held old.disk) file) m.history)
+    → (IsTrue (g.tells old.disk) → (m : Machine) → StandsNow g (record old { state = state }) m → IsLookTaken reply (λ file. bytes_of (g.held old.disk) file) m.history)
     → ((told : Type 0) (m : Machine) → StandsFor told (g.held old.disk) (g.may_leave old.disk) old.state m → (m' : Machine) × StandsFor told (g.held old.disk) (g.may_leave old.disk) state m' × (m'.history ≡ m.history)
     × Step (g.faults old.disk) (g.faults old.disk) m event reply m')
     → Did g old event reply (record old { state = state })
-quiet {D} g only_now old state event reply still no_fault no_call begins same page look step = record {
+quiet {D} g only_now old state event reply still no_fault no_call begins same page look step = did_since g old _ _ _ refl (record {
   stepped = λ m stands. let done = step (IsTrue (g.tells old.disk)) m stands in record {
     machine = done.0;
     stands = done.1;
@@ -70,9 +72,7 @@ quiet {D} g only_now old state event reply still no_fault no_call begins same pa
   empty = λ told file among. none_begun reply file _ begins among;
   page = λ told. page (λ file. bytes_of (g.held old.disk) file);
   look = look;
-  telling = refl;
-  later = omega arith;
-  cause = λ is. absurd (no_fault is);
+  counts = counted_none g (end_of old.state event) reply old.disk no_fault;
   calls = no_call _;
   reads = (omega arith, omega arith);
-}
+})

@@ -1,5 +1,5 @@
 -- A reclaim as an event of a core.
-use Rattle.std.proofs.Common.{◌≡◌, ◌≢◌, inl, inr, ℕ, ◌+◌, ◌*◌, ◌≤◌, ◌==◌, not, filter, if◌then◌else◌, List, [], ◌∷◌, ◌++◌, length, Some, None, Option, IsTrue, Bool, true, false, refl, sym, ◌∙◌, ap, subst, arith}
+use Rattle.std.proofs.Common.{◌≡◌, ◌≢◌, inl, inr, ℕ, ◌+◌, ◌*◌, ◌≤◌, ◌==◌, not, filter, if◌then◌else◌, List, [], ◌∷◌, ◌++◌, length, Some, None, Option, IsTrue, Bool, true, false, refl, sym, ◌∙◌, ap, subst, arith, Result, IsOk, IsErr}
 use Rattle.std.specs.Prelude.{Vec}
 use Rattle.std.specs.Vec.{vec_len, vec_capacity}
 use Rattle.std.specs.declared.alloc.Global.{Global}
@@ -7,6 +7,9 @@ use Rattle.std.specs.List.{Contains}
 use Rattle.std.proofs.lemmas.Bool.{cases_lt, eqb-false}
 use Rattle.std.proofs.lemmas.List.Elements.{Contains-append_left}
 use Rattle.span_types.specs.Faults.{Rose}
+use Rattle.span_types.specs.declared.errors.Failed.{Failed}
+use Rattle.disk_model.specs.Calls.{Calls}
+use Rattle.disk_model.specs.Counts.{RoseBy}
 use Rattle.disk_model.specs.Images.{bytes_of}
 use Rattle.disk_model.specs.Crash.{Run}
 use Rattle.disk_model.specs.declared.disk.Device.{Ghosts}
@@ -24,7 +27,8 @@ use Rattle.store_model.specs.Step.Step.{Sure, Succeeds, Lacks, Breaks}
 use Rattle.store_model.proofs.Numbers.{same_number}
 use Rattle.store_state.specs.Calls.{RoseAtMost, reclaim_calls}
 use Rattle.store_images.specs.Stored.{KeepsStored}
-use Rattle.store_core.specs.Cores.{HasState, CoreStandsFor, CoreShows, tail_of}
+use Rattle.store_core.specs.Cores.{HasState, CoreShows, tail_of}
+use Rattle.store_core.proofs.Now.{StandsNow}
 use Rattle.store_core.specs.Events.{Did}
 use Rattle.store_core.specs.Jobs.{HasFreshSegment, files_of_flush, files_of_compaction}
 use Rattle.store_core.specs.Loose.{MayEmpty, OthersStay, used_files}
@@ -35,6 +39,7 @@ use Rattle.store_core.specs.declared.state.CoreState.{CoreState}
 use Rattle.store_core.specs.declared.store.Core.{Core}
 use Rattle.store_core.proofs.HeldFiles.{held_used, held_kept}
 use Rattle.store_core.proofs.InUse.{contained_once}
+use Rattle.store_core.proofs.Counted.{calls_fine, calls_fault, calls_rose, calls_exact, calls_most, calls_unread}
 use Rattle.store_core.proofs.Kept.{stands_kept, did_kept}
 use Rattle.store_core.proofs.LooseFiles.{used_low}
 use Rattle.store_core.proofs.NextLists.{uses_are}
@@ -148,10 +153,10 @@ module _ (core : CoreState) (m : Machine) (has : HasState core m) (sound : State
     named = named_or_emptied core m has sound kept free parts;
   }
 
-its_calls : (n before now : ℕ) → n ≢ 0 → RoseAtMost (2 * n + 6) before now → RoseAtMost (reclaim_calls n) before now
+its_calls : (n before now : ℕ) → n ≢ 0 → RoseBy (2 * n + 6) before now → RoseBy (reclaim_calls n) before now
 its_calls n before now some rose = at (n == 0) refl
   where
-    at : (t : Bool) → (n == 0) ≡ t → RoseAtMost (if t then 0 else 2 * n + 6) before now
+    at : (t : Bool) → (n == 0) ≡ t → RoseBy (if t then 0 else 2 * n + 6) before now
     at true e = absurd (some (same_number n 0 e))
     at false e = rose
 
@@ -164,15 +169,17 @@ some_not xs some = at (length xs == 0) refl
 
 module _ {D : Type 0} (g : Ghosts D) (old : Core D) (disk : D) (writes : old.state.read_only ≡ None) (kept free : List ℕ)
     (parts : IsParted old.state.pins.items old.state.jobs.loose.items kept free) (some : length free ≢ 0)
-    (telling : g.tells disk ≡ g.tells old.disk)
+    (result : Result (Unit {0}) Failed) (made : Calls g (2 * length free + 6) 0 old.disk disk result)
     (run : IsTrue (g.tells old.disk) → IsReady (g.held old.disk) (g.may_leave old.disk) (Some old.state.list)
     → MayEmpty old.state.list old.state.jobs.next_file (named_loose old.state kept) free → MeetsRules (list_kept old.state.list old.state.jobs kept)
     → Run KeepsStored g.moment g.left_since g.may_leave old.disk disk)
     (others : IsTrue (g.tells old.disk) → IsReady (g.held old.disk) (g.may_leave old.disk) (Some old.state.list)
     → MayEmpty old.state.list old.state.jobs.next_file (named_loose old.state kept) free → MeetsRules (list_kept old.state.list old.state.jobs kept)
-    → OthersStay free (g.held old.disk) (g.held disk) (g.may_leave old.disk) (g.may_leave disk))
-    (still : IsTrue (g.tells old.disk) → (f : ℕ) → 2 ≤ f → (Contains free f → ⊥) → bytes_of (g.held disk) f ≡ bytes_of (g.held old.disk) f)
-    (later : g.faults old.disk ≤ g.faults disk) (calls : RoseAtMost (2 * length free + 6) (g.calls old.disk) (g.calls disk)) (reads : g.reads disk ≡ g.reads old.disk) where
+    → OthersStay (Contains free) (g.held old.disk) (g.held disk) (g.may_leave old.disk) (g.may_leave disk))
+    (still : IsTrue (g.tells old.disk) → (f : ℕ) → 2 ≤ f → (Contains free f → ⊥) → bytes_of (g.held disk) f ≡ bytes_of (g.held old.disk) f) where
+  telling : g.tells disk ≡ g.tells old.disk
+  telling = made.telling
+
   going : (m : Machine) → HasState old.state m → early m Reclaim ≡ None
   going m has = writes_then old.state m has writes
 
@@ -182,16 +189,16 @@ module _ {D : Type 0} (g : Ghosts D) (old : Core D) (disk : D) (writes : old.sta
   rules : (m : Machine) → HasState old.state m → StateIsSound m.state → MeetsRules (list_kept old.state.list old.state.jobs kept)
   rules m has sound = rules_emptied old.state m has sound kept free parts (going m has)
 
-  ready : IsTrue (g.tells old.disk) → (m : Machine) → CoreStandsFor g old m → IsReady (g.held old.disk) (g.may_leave old.disk) (Some old.state.list)
+  ready : IsTrue (g.tells old.disk) → (m : Machine) → StandsNow g old m → IsReady (g.held old.disk) (g.may_leave old.disk) (Some old.state.list)
   ready told m s = (s.settled told writes).lies.ready
 
-  run_keeps : IsTrue (g.tells old.disk) → (m : Machine) → CoreStandsFor g old m → Run KeepsStored g.moment g.left_since g.may_leave old.disk disk
+  run_keeps : IsTrue (g.tells old.disk) → (m : Machine) → StandsNow g old m → Run KeepsStored g.moment g.left_since g.may_leave old.disk disk
   run_keeps told m s = run told (ready told m s) (may m s.has s.sound) (rules m s.has s.sound)
 
-  stay : IsTrue (g.tells old.disk) → (m : Machine) → CoreStandsFor g old m → OthersStay free (g.held old.disk) (g.held disk) (g.may_leave old.disk) (g.may_leave disk)
+  stay : IsTrue (g.tells old.disk) → (m : Machine) → StandsNow g old m → OthersStay (Contains free) (g.held old.disk) (g.held disk) (g.may_leave old.disk) (g.may_leave disk)
   stay told m s = others told (ready told m s) (may m s.has s.sound) (rules m s.has s.sound)
 
-  same_used : IsTrue (g.tells old.disk) → (m : Machine) → CoreStandsFor g old m → SameUsed old.state.list (g.held old.disk) (g.held disk)
+  same_used : IsTrue (g.tells old.disk) → (m : Machine) → StandsNow g old m → SameUsed old.state.list (g.held old.disk) (g.held disk)
   same_used told m s = λ f used. (stay told m s).still f (used_low old.state.list s.has.rules f used) (λ c. ((may m s.has s.sound).unused f c).1 used)
 
   written : (m : Machine) → HasState old.state m → StateIsSound m.state → writes_in m.state Reclaim ≡ true
@@ -207,16 +214,16 @@ module _ {D : Type 0} (g : Ghosts D) (old : Core D) (disk : D) (writes : old.sta
       let none = held_kept m hold s.sound is_open f among in omega (arith, once, none))
 
   unread : RoseAtMost 0 (g.reads old.disk) (g.reads disk)
-  unread = (omega (arith, reads), omega (arith, reads))
+  unread = calls_unread g old.disk disk (2 * length free + 6) 0 0 (λ low. low) result made
 
   -- ---- a write failed
 
   abbrev stopped : CoreState
   stopped = record old.state { read_only = Some (g.faults disk) }
 
-  did_stopped : Rose (g.faults old.disk) (g.faults disk) → Did g old Reclaim (Refused Fault) (record old { disk = disk; state = stopped })
-  did_stopped rose =
-      did_kept g old disk stopped Reclaim (Refused Fault) telling run_keeps refl (adds_none Reclaim refl (Refused Fault) _)
+  did_stopped : IsErr result → Did g old Reclaim (Refused Fault) (record old { disk = disk; state = stopped })
+  did_stopped err =
+      did_kept g old disk stopped Reclaim (Refused Fault) (calls_fault g old.disk disk (2 * length free + 6) 0 0 (λ low. low) result made err) run_keeps refl (adds_none Reclaim refl (Refused Fault) _)
       (λ m s. (
         broken (g.faults disk) m,
         stands_kept (IsTrue (g.tells old.disk)) (IsTrue (g.tells disk)) (g.held old.disk) (g.held disk) (g.may_leave old.disk) (g.may_leave disk) old.state stopped m (broken (g.faults disk) m)
@@ -237,19 +244,22 @@ module _ {D : Type 0} (g : Ghosts D) (old : Core D) (disk : D) (writes : old.sta
       ))
       (λ told m s hold is_open stays f among. held_same told m s hold is_open f among)
       (λ told f among. none_begun (Refused Fault) f _ refl among) (λ told. tt) (λ shows h. tt)
-      later (λ is. rose) calls.0 unread
+      made.calls.later unread
     where
+      rose : Rose (g.faults old.disk) (g.faults disk)
+      rose = calls_rose g old.disk disk (2 * length free + 6) 0 0 (λ low. low) result made err
+
       breaks : (m : Machine) → HasState old.state m → StateIsSound m.state → Step (g.faults old.disk) (g.faults disk) m Reclaim (Refused Fault) (broken (g.faults disk) m)
       breaks m has sound = Breaks (going m has) (written m has sound) refl rose refl
 
-  pub did_reclaim_fail : (faults : ℕ) → faults ≡ g.faults disk → Rose (g.faults old.disk) (g.faults disk)
+  pub did_reclaim_fail : (faults : ℕ) → faults ≡ g.faults disk → IsErr result
       → Did g old Reclaim (Refused Fault) (record old { disk = disk; state = record old.state { read_only = Some faults } })
-  did_reclaim_fail faults its rose =
-      subst (λ (n : ℕ). Did g old Reclaim (Refused Fault) (record old { disk = disk; state = record old.state { read_only = Some n } })) (sym its) (did_stopped rose)
+  did_reclaim_fail faults its err =
+      subst (λ (n : ℕ). Did g old Reclaim (Refused Fault) (record old { disk = disk; state = record old.state { read_only = Some n } })) (sym its) (did_stopped err)
 
   -- ---- the list was committed without them
 
-  module _ (count : ℕ) (counted : count ≡ length free) (loose : Vec ℕ Global) (its : loose.items ≡ kept) (room : vec_capacity old.state.jobs.loose ≤ vec_capacity loose)
+  module _ (fine : IsOk result) (count : ℕ) (counted : count ≡ length free) (loose : Vec ℕ Global) (its : loose.items ≡ kept) (room : vec_capacity old.state.jobs.loose ≤ vec_capacity loose)
       (readied : IsTrue (g.tells old.disk) → IsReady (g.held old.disk) (g.may_leave old.disk) (Some old.state.list)
       → MayEmpty old.state.list old.state.jobs.next_file (named_loose old.state kept) free → MeetsRules (list_kept old.state.list old.state.jobs kept)
       → IsReady (g.held disk) (g.may_leave disk) (Some (list_kept old.state.list old.state.jobs kept))) where
@@ -265,7 +275,7 @@ module _ {D : Type 0} (g : Ghosts D) (old : Core D) (disk : D) (writes : old.sta
     has_after : (m : Machine) → HasState old.state m → StateIsSound m.state → HasState after (done m)
     has_after m has sound = has_emptied old.state m has sound kept free parts writes loose its room (going m has)
 
-    fresh_after : IsTrue (g.tells old.disk) → (m : Machine) → CoreStandsFor g old m → HasFreshSegment (g.held disk) (g.may_leave disk) old.state.jobs
+    fresh_after : IsTrue (g.tells old.disk) → (m : Machine) → StandsNow g old m → HasFreshSegment (g.held disk) (g.may_leave disk) old.state.jobs
     fresh_after told m s =
         fresh_moved old.state.jobs.flush (g.held old.disk) (g.held disk) (g.may_leave old.disk) (g.may_leave disk)
         (λ mine known. (stay told m s).still mine.files.segment (high mine known) (not_loose mine known))
@@ -287,7 +297,9 @@ module _ {D : Type 0} (g : Ghosts D) (old : Core D) (disk : D) (writes : old.sta
 
     did_emptied : Did g old Reclaim (Count count) (record old { disk = disk; state = after })
     did_emptied =
-        did_kept g old disk after Reclaim (Count count) telling run_keeps refl refl
+        did_kept g old disk after Reclaim (Count count)
+        (calls_fine g old.disk disk (2 * length free + 6) 0 0 (λ low. low) result made fine (Count count) (λ is. let bad : Count count ≡ Refused Fault = is in absurd cc))
+        run_keeps refl refl
         (λ m s. (
           done m,
           stands_kept (IsTrue (g.tells old.disk)) (IsTrue (g.tells disk)) (g.held old.disk) (g.held disk) (g.may_leave old.disk) (g.may_leave disk) old.state after m (done m)
@@ -311,8 +323,7 @@ module _ {D : Type 0} (g : Ghosts D) (old : Core D) (disk : D) (writes : old.sta
         ))
         (λ told m s hold is_open stays f among. held_same told m s hold is_open f among)
         (λ told f among. none_begun (Count count) f _ refl among) (λ told. tt) (λ shows h. tt)
-        later (λ is. let bad : Count count ≡ Refused Fault = is in absurd cc)
-        (its_calls count (g.calls old.disk) (g.calls disk) (λ is. some (sym counted ∙ is)) (subst (λ (n : ℕ). RoseAtMost (2 * n + 6) (g.calls old.disk) (g.calls disk)) (sym counted) calls)) unread
+        (its_calls count (g.calls old.disk) (g.calls disk) (λ is. some (sym counted ∙ is)) (subst (λ (n : ℕ). RoseBy (2 * n + 6) (g.calls old.disk) (g.calls disk)) (sym counted) (calls_exact g old.disk disk (2 * length free + 6) 0 0 (λ low. low) result made fine))) unread
 
     pub did_reclaimed : (list : ListBody) (jobs : Jobs) → list ≡ list_kept old.state.list old.state.jobs kept → jobs ≡ record old.state.jobs { loose = loose }
         → Did g old Reclaim (Count count) (record old { disk = disk; state = record old.state { list = list; jobs = jobs } })

@@ -24,6 +24,7 @@ use Rattle.store_core.specs.Pins.{is_taken, files_at}
 use Rattle.store_core.specs.Jobs.{ShowsFlush, ShowsCompaction, JobsFit, HasCommitRoom, HasFreshSegment}
 use Rattle.store_core.specs.Waiting.{rows_outside, AreLogged}
 use Rattle.store_core.specs.InUse.{AreInUse}
+use Rattle.store_core.specs.Stood.{StoodFor}
 use Rattle.store_core.specs.declared.state.CoreState.{CoreState}
 use Rattle.store_core.specs.declared.store.Core.{Core}
 
@@ -96,9 +97,18 @@ pub record StandsFor (told : Type 0) (held : Image) (may_leave : Image → Type 
   pub fresh : told → core.read_only ≡ None → HasFreshSegment held may_leave core.jobs
   pub logged : told → core.read_only ≡ None → AreLogged held core.list (rows_outside m.state)
 
--- the core stands for the machine
-abbrev pub CoreStandsFor : {D : Type 0} (g : Ghosts D) → Core D → Machine → Type 0
-CoreStandsFor {D} g core m = StandsFor (IsTrue (g.tells core.disk)) (g.held core.disk) (g.may_leave core.disk) core.state m
+-- Whenever a crash came since the core's opening ended, the image that it left stands for the history as it was at some length from
+-- its start on, or for what an image may stand for now.
+pub record StoodSince {D : Type 0} (g : Ghosts D) (core : Core D) (m : Machine) : Type 0 where
+  pub opened : core.since.moment ≤ g.moment core.disk
+  pub images : (image : Image) → g.left_since core.disk core.since.moment image
+      → StoodFor m.history.start m.history (unsure_of core.state) image
+
+-- The core stands for the machine: by what it keeps and what its disk may leave now, and by what a crash may have left since its
+-- opening ended.
+pub record CoreStandsFor {D : Type 0} (g : Ghosts D) (core : Core D) (m : Machine) : Type 0 where
+  pub stands : StandsFor (IsTrue (g.tells core.disk)) (g.held core.disk) (g.may_leave core.disk) core.state m
+  pub past : IsTrue (g.tells core.disk) → StoodSince g core m
 
 -- the core's memory shows the machine, whatever its disk holds
 abbrev pub CoreShows : {D : Type 0} (g : Ghosts D) → Core D → Machine → Type 0

@@ -1,13 +1,15 @@
 -- What one event makes of a core and of its disk.
-use Rattle.std.specs.Prelude.{◌≡◌, ◌⊎◌, ◌≤◌, ℕ, List, [], Option, Some, None, IsTrue, true, false}
-use Rattle.span_types.specs.Faults.{Rose}
+use Rattle.std.specs.Prelude.{◌≡◌, ◌≢◌, ◌⊎◌, ◌+◌, ◌^◌, ◌≤◌, ℕ, List, [], length, Option, Some, None, IsTrue, true, false}
+use Rattle.disk_model.specs.Calls.{Counts}
 use Rattle.disk_model.specs.Images.{Image, bytes_of}
 use Rattle.disk_model.specs.Crash.{LeavesOnly}
 use Rattle.disk_model.specs.declared.disk.Device.{Ghosts}
+use Rattle.head_log.specs.Bodies.{body_bytes}
 use Rattle.store_entries.specs.declared.entry.Entry.{Entry}
 use Rattle.store_model.specs.History.{History}
 use Rattle.store_model.specs.State.{is_among}
 use Rattle.store_model.specs.Event.{Event, Reply}
+use Rattle.store_model.specs.Event.Event.{Push, WritePiece}
 use Rattle.store_model.specs.Event.Reply.{Refused}
 use Rattle.store_model.specs.Event.Refusal.{Fault}
 use Rattle.store_model.specs.Holds.{Hold, OpenIn, ends, files_of, own_files}
@@ -20,6 +22,7 @@ use Rattle.store_state.specs.Written.{IsPageRead}
 use Rattle.store_images.specs.Stored.{MayStandFor, IsTidy}
 use Rattle.store_core.specs.Cores.{CoreStandsFor, CoreShows, unsure_of}
 use Rattle.store_core.specs.Files.{IsEmptied}
+use Rattle.store_core.specs.declared.state.CoreState.{CoreState}
 use Rattle.store_core.specs.declared.store.Core.{Core}
 
 -- Whenever a crash comes in the event, what it leaves stands for what it might have stood for before, or for what it may stand
@@ -44,6 +47,14 @@ pub record Stepped {D : Type 0} (g : Ghosts D) (old : Core D) (event : Event) (r
   -- once an entry isn't sure none is added
   pub ended : (unsure_of old.state ≡ None) ⊎ (machine.history ≡ m.history)
 
+-- Where the furthest of the bytes ends that an event writes. A push writes a record behind the gate. A piece goes where its job
+-- says, of which `write_piece` speaks; and lists are short.
+abbrev pub end_of : CoreState → Event → ℕ
+end_of core (Push spans moment) =
+    core.segment.gate + 10 + length (body_bytes (core.segment.first + core.segment.count) spans)
+end_of core (WritePiece job file bytes) = 2 ^ 63
+end_of core event = 0
+
 -- One event of a core, with its reply.
 pub record Did {D : Type 0} (g : Ghosts D) (old : Core D) (event : Event) (reply : Reply) (new : Core D) : Type 0 where
   pub stepped : (m : Machine) → CoreStandsFor g old m → Stepped g old event reply new m
@@ -64,9 +75,10 @@ pub record Did {D : Type 0} (g : Ghosts D) (old : Core D) (event : Event) (reply
   pub page : IsTrue (g.tells old.disk) → IsPageRead event reply (λ file. bytes_of (g.held old.disk) file)
   pub look : IsTrue (g.tells new.disk) → (m : Machine) → CoreStandsFor g new m
       → IsLookTaken reply (λ file. bytes_of (g.held new.disk) file) m.history
-  pub telling : g.tells new.disk ≡ g.tells old.disk
-  pub later : g.faults old.disk ≤ g.faults new.disk
-  pub cause : reply ≡ Refused Fault → Rose (g.faults old.disk) (g.faults new.disk)
+  -- its opening ended when it did
+  pub since : new.since ≡ old.since
+  -- a fault is answered just where a call of the disk failed, and then it was the last one
+  pub counts : Counts g (end_of old.state event) (reply ≢ Refused Fault) (reply ≡ Refused Fault) old.disk new.disk
   pub calls : MadeCalls event reply (g.calls old.disk) (g.calls new.disk)
   -- a page read alone counts as a read
   pub reads : RoseAtMost (reads_of event) (g.reads old.disk) (g.reads new.disk)

@@ -4,6 +4,7 @@ pub mod Jobs
 pub mod NextList
 pub mod Waiting
 pub mod InUse
+pub mod Stood
 pub mod Cores
 pub mod Beginning
 pub mod Events

@@ -39,7 +39,23 @@ pub record MayEmpty (body : ListBody) (next_file : ℕ) (loose files : List ℕ)
   pub named : (file : ℕ) → Contains (files_of body) file ⊎ ((body.next_file ≤ file) × (file < next_file))
       → Contains (files_of (next_with body next_file loose)) file ⊎ Contains files file
 
--- Each file from 2 on but these holds what it held, and where it had one image it has that one still.
-pub record OthersStay (files : List ℕ) (held later : Image) (before after : Image → Type 0) : Type 0 where
-  pub still : (file : ℕ) → 2 ≤ file → (Contains files file → ⊥) → bytes_of later file ≡ bytes_of held file
-  pub images : (file : ℕ) (known : List ℕ) → 2 ≤ file → (Contains files file → ⊥) → OnlyBytes file known before → OnlyBytes file known after
+-- Each file from 2 on but those that change so holds what it held, and where it had one image it has that one still.
+pub record OthersStay (changes : ℕ → Type 0) (held later : Image) (before after : Image → Type 0) : Type 0 where
+  pub still : (file : ℕ) → 2 ≤ file → (changes file → ⊥) → bytes_of later file ≡ bytes_of held file
+  pub images : (file : ℕ) (known : List ℕ) → 2 ≤ file → (changes file → ⊥) → OnlyBytes file known before → OnlyBytes file known after
+
+-- ---- what jobs left
+
+-- eight files in a row from that one on are empty
+abbrev pub IsGap : Image → ℕ → Type 0
+IsGap image start = (file : ℕ) → start ≤ file → file < start + 8 → bytes_of image file ≡ []
+
+-- The file has a number from that one on that a job may get, and no such gap lies between the two.
+pub record IsReached (image : Image) (first file : ℕ) : Type 0 where
+  pub from : first ≤ file
+  pub given : file < 4294967295
+  pub no_gap : (start : ℕ) → first ≤ start → start + 8 ≤ file → IsGap image start → ⊥
+
+-- Each file that is reached from that number on, as the first eight are, is empty in each of these images.
+abbrev pub AreFreed : Image → ℕ → (Image → Type 0) → Type 0
+AreFreed before first images = (file : ℕ) → IsReached before first file → OnlyBytes file [] images

@@ -2,8 +2,8 @@
 
 ghost use Rattle.std.specs.Prelude.{◌≡◌, ◌≢◌, ◌≤◌, ℕ, List, Err, IsTrue, IfOk, OnOk};
 ghost use Rattle.std.specs.List.{Contains};
-ghost use Rattle.span_types.specs.Faults.{Rose};
 ghost use Rattle.span_types.specs.declared.spans.Row.{Row};
+ghost use Rattle.disk_model.specs.Calls.{CountsFault};
 ghost use Rattle.disk_model.specs.Images.{bytes_of};
 ghost use Rattle.disk_model.specs.Crash.{OnlyBytes, Untouched};
 ghost use Rattle.block_format.specs.Blocks.{BlockHasInfo};
@@ -38,8 +38,7 @@ pub(crate) fn read_blocks<D: Device>(
     ensures not_store { IsTrue (D.tells disk.old) → (file at : ℕ) → result ≡ Err (NotStore file at)
         → BlocksBreak (D.held disk.old) blocks.now file at }
     ensures untouched { Untouched D.tells D.held D.may_leave D.moment D.left_since disk.old disk.new }
-    ensures later { D.faults disk.old ≤ D.faults disk.new }
-    ensures fault { result ≡ Err Fault → Rose (D.faults disk.old) (D.faults disk.new) }
+    ensures counted { CountsFault D.Device.own 0 Fault disk.old disk.new result }
 {
     let mut infos = Vec::new(alloc);
     for block in blocks {
@@ -65,8 +64,7 @@ fn read_block<D: Device>(
     ensures malformed { IsTrue (D.tells disk.old) → (file at : ℕ) → result ≡ Err (NotStore file at) → (file ≡ block.now.file)
         × (block_in (D.held disk.old) block.now ≡ Err at) }
     ensures untouched { Untouched D.tells D.held D.may_leave D.moment D.left_since disk.old disk.new }
-    ensures later { D.faults disk.old ≤ D.faults disk.new }
-    ensures fault { result ≡ Err Fault → Rose (D.faults disk.old) (D.faults disk.new) }
+    ensures counted { CountsFault D.Device.own 0 Fault disk.old disk.new result }
 {
     let bytes = last_bytes(alloc, disk, block.file)?;
     let info = match check_bytes(alloc, block.file, block.level, block.rows, bytes.as_slice()) {
@@ -90,8 +88,7 @@ fn last_bytes<D: Device>(alloc: Global, disk: &mut D, file: u32) -> Result<Vec<u
     ensures bytes { IsTrue (D.tells disk.old) → IfOk result (λ bytes. bytes.items ≡ bytes_of (D.held disk.old) file) }
     ensures lies { IsTrue (D.tells disk.old) → OnOk result (OnlyBytes file (bytes_of (D.held disk.old) file) (D.may_leave disk.new)) }
     ensures untouched { Untouched D.tells D.held D.may_leave D.moment D.left_since disk.old disk.new }
-    ensures later { D.faults disk.old ≤ D.faults disk.new }
-    ensures fault { result ≡ Err Fault → Rose (D.faults disk.old) (D.faults disk.new) }
+    ensures counted { CountsFault D.Device.own 0 Fault disk.old disk.new result }
     ensures a_store { (other at : ℕ) → result ≢ Err (NotStore other at) }
 {
     let Ok(()) = disk.sync(file) else {
@@ -104,8 +101,7 @@ fn last_bytes<D: Device>(alloc: Global, disk: &mut D, file: u32) -> Result<Vec<u
 fn file_bytes<D: Device>(alloc: Global, disk: &mut D, file: u32) -> Result<Vec<u8>, OpenError>
     ensures bytes { IsTrue (D.tells disk.old) → IfOk result (λ bytes. bytes.items ≡ bytes_of (D.held disk.old) file) }
     ensures untouched { Untouched D.tells D.held D.may_leave D.moment D.left_since disk.old disk.new }
-    ensures later { D.faults disk.old ≤ D.faults disk.new }
-    ensures fault { result ≡ Err Fault → Rose (D.faults disk.old) (D.faults disk.new) }
+    ensures counted { CountsFault D.Device.own 0 Fault disk.old disk.new result }
     ensures a_store { (other at : ℕ) → result ≢ Err (NotStore other at) }
 {
     let Ok(len) = disk.len(file) else {

@@ -8,7 +8,6 @@ ghost use Rattle.store_model.specs.Step.{Machine};
 ghost use Rattle.store_state.specs.Given.{flush_of};
 ghost use Rattle.store_state.specs.Replies.{write_reply};
 ghost use Rattle.store_state.specs.Written.{IsBlockOf};
-ghost use Rattle.store_state.specs.declared.errors.WriteError.TheVariants.{Fault};
 ghost use Rattle.store_core.specs.Cores.{CoreShows};
 ghost use Rattle.store_core.specs.Events.{Did};
 
@@ -36,7 +35,8 @@ impl<D: Device> Core<D> {
             return Err(WriteError::ReadOnly { faults });
         }
         let Ok(()) = self.disk.sync(job.out.file) else {
-            return Err(self.stop_writing());
+            self.stop_writing();
+            return Err(WriteError::Fault);
         };
         let (list, text) = self.state.next_list(rows_in(&info));
         match commit(&mut self.disk, &text) {
@@ -44,18 +44,19 @@ impl<D: Device> Core<D> {
                 self.state.take_over(list, info);
                 Ok(())
             }
-            Err(_) => Err(self.stop_writing()),
+            Err(_) => {
+                self.stop_writing();
+                Err(WriteError::Fault)
+            }
         }
     }
 
     /// A write failed: from now on the store is read-only, with the disk's count of faults.
-    pub(crate) fn stop_writing(&mut self) -> WriteError
-        ensures fault { result ≡ Fault }
-        ensures stopped { self.new ≡ record self.old { state = record self.old.state { read_only = Some (D.faults self.old.disk) } } }
+    pub(crate) fn stop_writing(&mut self)
+        ensures { self.new ≡ record self.old { state = record self.old.state { read_only = Some (D.faults self.old.disk) } } }
     {
         let faults = self.disk.faults();
         self.state.read_only = Some(faults);
-        WriteError::Fault
     }
 }
 

@@ -207,8 +207,7 @@ impl<D: Device> Core<D> {
             }
             Err(_) => {
                 free_number(&mut self.state.pins, pin.number);
-                let faults = self.disk.faults();
-                self.state.read_only = Some(faults);
+                self.stop_writing();
                 Err(BeginError::Fault)
             }
         }
@@ -230,7 +229,8 @@ impl<D: Device> Core<D> {
             return Err(WriteError::ReadOnly { faults });
         }
         let Ok(()) = self.disk.sync(job.out.file) else {
-            return Err(self.stop_writing());
+            self.stop_writing();
+            return Err(WriteError::Fault);
         };
         let joined = take_files(&mut self.state.pins, job.pin.number);
         let (list, text) = self.state.joined_list(joined.as_slice(), rows_in(&info));
@@ -241,7 +241,8 @@ impl<D: Device> Core<D> {
             }
             Err(_) => {
                 give_back(&mut self.state.pins, job.pin.number, joined);
-                Err(self.stop_writing())
+                self.stop_writing();
+                Err(WriteError::Fault)
             }
         }
     }

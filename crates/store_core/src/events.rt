@@ -41,8 +41,7 @@ impl<D: Device> Core<D> {
                 Ok(number)
             }
             Err(_) => {
-                let faults = self.disk.faults();
-                self.state.read_only = Some(faults);
+                self.stop_writing();
                 self.state.unsure = Some(ready);
                 Err(PushError::Fault)
             }

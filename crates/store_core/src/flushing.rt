@@ -1,6 +1,6 @@
 //! Flushes begin, their blocks are written, and they are given up.
 
-ghost use Rattle.std.specs.Prelude.{◌≡◌, ◌≢◌, ◌≤◌, ◌+◌, None, Some, Err, true, length, IsTrue, IfOk, IfErr, IfSome, OnOk, OnErr};
+ghost use Rattle.std.specs.Prelude.{◌≡◌, ◌≢◌, ◌≤◌, ◌<◌, ◌+◌, ◌^◌, None, Some, Err, true, length, IsTrue, IfOk, IfErr, IfSome, OnOk, OnErr};
 ghost use Rattle.disk_model.specs.Images.{bytes_of};
 ghost use Rattle.store_model.specs.Event.Event.{BeginFlush, WritePiece, DropFlush};
 ghost use Rattle.store_model.specs.Event.Reply.{Fine, Refused};
@@ -121,8 +121,7 @@ impl<D: Device> Core<D> {
             }
             Err(_) => {
                 self.state.live.undo_flush();
-                let faults = self.disk.faults();
-                self.state.read_only = Some(faults);
+                self.stop_writing();
                 Err(BeginError::Fault)
             }
         }
@@ -138,6 +137,9 @@ impl<D: Device> Core<D> {
         ensures kept { OnErr result (out.new.written ≡ out.old.written) }
         ensures whole { IsTrue (D.tells self.old.disk) → result ≢ Err Fault →
             HasWritten (λ file. bytes_of (D.held self.new.disk) file) out.new }
+        // No byte is asked to be written at 2^63 or more, unless the piece would end there.
+        ensures near { out.old.written + length bytes.now < 2 ^ 63 →
+            D.far_writes self.new.disk ≡ D.far_writes self.old.disk }
         ensures same { (out.new.number ≡ out.old.number) × (out.new.file ≡ out.old.file) }
     {
         if let Some(faults) = self.state.read_only {
@@ -149,8 +151,7 @@ impl<D: Device> Core<D> {
                 Ok(())
             }
             Err(_) => {
-                let faults = self.disk.faults();
-                self.state.read_only = Some(faults);
+                self.stop_writing();
                 Err(WriteError::Fault)
             }
         }

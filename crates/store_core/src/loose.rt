@@ -2,30 +2,31 @@
 
 ghost use Rattle.std.specs.Prelude.{◌≡◌, ◌≢◌, ◌≤◌, ◌+◌, ◌*◌, ℕ, List, [], length, Some, Err, IsTrue, IfOk, IfErr, OnOk};
 ghost use Rattle.std.specs.List.{Contains};
-ghost use Rattle.span_types.specs.Faults.{Rose};
+ghost use Rattle.disk_model.specs.Calls.{Calls, CountsFault};
 ghost use Rattle.disk_model.specs.Images.{bytes_of};
-ghost use Rattle.disk_model.specs.Crash.{OnlyBytes, Run, HasCause};
+ghost use Rattle.disk_model.specs.Crash.{OnlyBytes, Run};
 ghost use Rattle.block_list.specs.Body.{MeetsRules};
 ghost use Rattle.block_list.specs.Commit.{IsListText};
 ghost use Rattle.block_list.specs.Loading.{IsReady};
 ghost use Rattle.block_list.specs.declared.body.ListBody.{ListBody};
 ghost use Rattle.store_images.specs.Stored.{KeepsStored};
-ghost use Rattle.store_state.specs.Calls.{RoseAtMost};
-ghost use Rattle.store_core.specs.Loose.{next_without, next_with, without_loose, AreUnused, MayEmpty, OthersStay};
+ghost use Rattle.store_core.specs.Jobs.{IsSpare};
+ghost use Rattle.store_core.specs.Loose.{next_without, next_with, without_loose, AreFreed, AreUnused, MayEmpty, OthersStay};
 ghost use Rattle.store_core.specs.Opening.{KeepsDisk};
 ghost use Rattle.store_core.specs.declared.error.OpenError.TheVariants.{Fault, NotStore};
 
 use crate::error::OpenError;
+use crate::left::empty_left;
 use block_list::{FileList, ListBody, PreparedList, commit, prepare};
 use disk_model::{Device, cut_through};
 use span_types::Failed;
 use std::alloc::Global;
 
-/// Empties the loose files of the list that counts, and commits the next list without them, which is answered. A list
-/// that names none stays, and no device call is made.
+/// Empties the loose files of the list that counts and what jobs left in files from its next one on, and commits the next
+/// list without the loose files, which is answered. A list that names none stays.
 ///
 /// All memory is taken before the disk is changed. The files are made to last as empty ones before the list is
-/// committed.
+/// committed, so that it has their room.
 pub fn empty_loose<D: Device>(
     alloc: Global,
     disk: &mut D,
@@ -39,21 +40,28 @@ pub fn empty_loose<D: Device>(
     ensures ready { IsTrue (D.tells disk.old) →
         IfOk result (λ next. IsReady (D.held disk.new) (D.may_leave disk.new) (Some next)) }
     ensures others { IsTrue (D.tells disk.old) → OnOk result
-        (OthersStay list.loose (D.held disk.old) (D.held disk.new) (D.may_leave disk.old) (D.may_leave disk.new)) }
-    ensures telling { D.tells disk.new ≡ D.tells disk.old }
-    ensures later { D.faults disk.old ≤ D.faults disk.new }
-    ensures fault { result ≡ Err Fault → Rose (D.faults disk.old) (D.faults disk.new) }
+        (OthersStay (IsSpare list) (D.held disk.old) (D.held disk.new) (D.may_leave disk.old) (D.may_leave disk.new)) }
+    ensures freed { IsTrue (D.tells disk.old) →
+        OnOk result (AreFreed (D.held disk.old) list.next_file (D.may_leave disk.new)) }
+    ensures counted { CountsFault D.Device.own 0 Fault disk.old disk.new result }
     ensures a_store { (file at : ℕ) → result ≢ Err (NotStore file at) }
     ensures unchanged { IfErr result (λ error. error ≢ Fault → disk.new ≡ disk.old) }
 {
+    let first = list.next_file;
     if list.loose.len() == 0 {
-        return Ok(list);
+        return match empty_left(disk, first) {
+            Ok(()) => Ok(list),
+            Err(_) => Err(OpenError::Fault),
+        };
     }
     let (next, loose) = take_loose(alloc, list);
     let Ok(prepared) = prepare(alloc, &next) else {
         return Err(OpenError::Memory);
     };
     let Ok(()) = empty_files(disk, loose.as_slice()) else {
+        return Err(OpenError::Fault);
+    };
+    let Ok(()) = empty_left(disk, first) else {
         return Err(OpenError::Fault);
     };
     let Ok(()) = commit(disk, &prepared) else {
@@ -104,13 +112,10 @@ pub(crate) fn commit_without<D: Device>(
     ensures others { IsTrue (D.tells disk.old) → (body : ListBody) (next_file : ℕ) (loose : List ℕ) →
         IsReady (D.held disk.old) (D.may_leave disk.old) (Some body) → MayEmpty body next_file loose files.now →
         IsListText text.now (next_with body next_file loose) →
-        OthersStay files.now (D.held disk.old) (D.held disk.new) (D.may_leave disk.old) (D.may_leave disk.new) }
+        OthersStay (Contains files.now) (D.held disk.old) (D.held disk.new) (D.may_leave disk.old) (D.may_leave disk.new) }
     ensures still { IsTrue (D.tells disk.old) → (file : ℕ) → 2 ≤ file → (Contains files.now file → ⊥) →
         bytes_of (D.held disk.new) file ≡ bytes_of (D.held disk.old) file }
-    ensures telling { D.tells disk.new ≡ D.tells disk.old }
-    ensures cause { HasCause (D.faults disk.old) (D.faults disk.new) result }
-    ensures calls { RoseAtMost (2 * length files.now + 6) (D.calls disk.old) (D.calls disk.new) }
-    ensures no_read { D.reads disk.new ≡ D.reads disk.old }
+    ensures counted { Calls D.Device.own (2 * length files.now + 6) 0 disk.old disk.new result }
 {
     empty_files(disk, files)?;
     commit(disk, text)
@@ -127,11 +132,8 @@ fn empty_files<D: Device>(disk: &mut D, files: &[u32]) -> Result<(), Failed>
     ensures emptied { IsTrue (D.tells disk.old) → OnOk result ((file : ℕ) → Contains files.now file
         → OnlyBytes file [] (D.may_leave disk.new)) }
     ensures others { IsTrue (D.tells disk.old) →
-        OthersStay files.now (D.held disk.old) (D.held disk.new) (D.may_leave disk.old) (D.may_leave disk.new) }
-    ensures telling { D.tells disk.new ≡ D.tells disk.old }
-    ensures cause { HasCause (D.faults disk.old) (D.faults disk.new) result }
-    ensures calls { RoseAtMost (2 * length files.now) (D.calls disk.old) (D.calls disk.new) }
-    ensures no_read { D.reads disk.new ≡ D.reads disk.old }
+        OthersStay (Contains files.now) (D.held disk.old) (D.held disk.new) (D.may_leave disk.old) (D.may_leave disk.new) }
+    ensures counted { Calls D.Device.own (2 * length files.now) 0 disk.old disk.new result }
 {
     for file in files {
         cut_through(disk, *file, 0)?;

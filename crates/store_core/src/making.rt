@@ -2,8 +2,8 @@
 
 ghost use Rattle.std.specs.Prelude.{◌≡◌, ◌≢◌, ◌≤◌, ℕ, [], IsTrue, OnOk};
 ghost use Rattle.disk_model.specs.Images.{bytes_of};
-ghost use Rattle.disk_model.specs.Counts.{MakesCalls};
-ghost use Rattle.disk_model.specs.Crash.{OnlyBytes, Run, HasCause};
+ghost use Rattle.disk_model.specs.Calls.{Calls};
+ghost use Rattle.disk_model.specs.Crash.{OnlyBytes, Run};
 ghost use Rattle.head_log.specs.Stands.{SegmentHolds};
 ghost use Rattle.store_core.specs.Files.{SameBelow, IsEmptied};
 
@@ -24,10 +24,7 @@ pub(crate) fn make_files<D: Device>(disk: &mut D, files: FlushFiles) -> Result<(
     // The segment's first record may have any number.
     ensures segment { IsTrue (D.tells disk.old) → OnOk result (((first : ℕ) → SegmentHolds first [] 1 (bytes_of (D.held disk.new) files.segment))
         × OnlyBytes files.segment (bytes_of (D.held disk.new) files.segment) (D.may_leave disk.new)) }
-    ensures calls { MakesCalls 5 (D.calls disk.old) (D.calls disk.new) result }
-    ensures telling { D.tells disk.new ≡ D.tells disk.old }
-    ensures cause { HasCause (D.faults disk.old) (D.faults disk.new) result }
-    ensures no_read { D.reads disk.new ≡ D.reads disk.old }
+    ensures counted { Calls D.Device.own 5 2 disk.old disk.new result }
 {
     cut_through(disk, files.block, 0)?;
     create(disk, files.segment)

@@ -1,7 +1,7 @@
 //! A new store is made on a disk that has none.
 
 ghost use Rattle.std.specs.Prelude.{◌≡◌, ◌≢◌, ◌≤◌, ℕ, None, Some, Err, IsTrue, IfOk, IfErr, OnOk};
-ghost use Rattle.span_types.specs.Faults.{Rose};
+ghost use Rattle.disk_model.specs.Calls.{Counts, CountsFault};
 ghost use Rattle.disk_model.specs.Crash.{LeavesOnly};
 ghost use Rattle.block_list.specs.Loading.{IsReady};
 ghost use Rattle.store_model.specs.History.{History};
@@ -12,6 +12,7 @@ ghost use Rattle.store_core.specs.declared.error.OpenError.TheVariants.{Fault, N
 
 use crate::error::OpenError;
 use crate::jobs::Jobs;
+use crate::since::Since;
 use crate::state::CoreState;
 use crate::store::Core;
 use block_list::{BlockList, FileList, ListBody, SegmentList, SegmentRef, commit, prepare};
@@ -32,23 +33,25 @@ pub fn open_new<D: Device>(alloc: Global, disk: D) -> Result<Core<D>, (OpenError
         LeavesOnly D.moment D.left_since disk core.disk StoresNothing) }
     ensures any_moment_refused { IfErr result (λ e. IsTrue (D.tells disk) →
         LeavesOnly D.moment D.left_since disk e.1 StoresNothing) }
-    ensures telling { IfOk result (λ core. D.tells core.disk ≡ D.tells disk) }
-    ensures telling_refused { IfErr result (λ e. D.tells e.1 ≡ D.tells disk) }
-    ensures later { IfOk result (λ core. D.faults disk ≤ D.faults core.disk) }
-    ensures later_refused { IfErr result (λ e. D.faults disk ≤ D.faults e.1) }
-    ensures fault { IfErr result (λ e. e.0 ≡ Fault → Rose (D.faults disk) (D.faults e.1)) }
+    ensures counted { IfOk result (λ core. Counts D.Device.own 0 (Unit {0}) ⊥ disk core.disk) }
+    ensures counted_refused { IfErr result (λ e. Counts D.Device.own 0 (e.0 ≢ Fault) (e.0 ≡ Fault) disk e.1) }
     ensures a_store { IfErr result (λ e. (file at : ℕ) → e.0 ≢ NotStore file at) }
     ensures unchanged { IfErr result (λ e. e.0 ≢ Fault → e.1 ≡ disk) }
     ensures list { IfOk result (λ core. core.state.list ≡ new_list) }
+    ensures ends { IfOk result (λ core. core.since.moment ≡ D.moment core.disk) }
     ensures ready { IfOk result (λ core. IsTrue (D.tells disk) → IsReady (D.held core.disk) (D.may_leave core.disk) (Some core.state.list)) }
 {
     let mut disk = disk;
     match make_store(alloc, &mut disk) {
-        Ok(list) => Ok(Core {
-            alloc,
-            disk,
-            state: new_state(alloc, list),
-        }),
+        Ok(list) => {
+            let since = Since::now(&disk);
+            Ok(Core {
+                alloc,
+                disk,
+                state: new_state(alloc, list),
+                since,
+            })
+        }
         Err(error) => Err((error, disk)),
     }
 }
@@ -79,9 +82,7 @@ pub fn make_store<D: Device>(alloc: Global, disk: &mut D) -> Result<ListBody, Op
     // Whenever a crash comes, nothing is stored, and what is left is tidy.
     ensures any_moment { IsTrue (D.tells disk.old) → LeavesOnly D.moment D.left_since disk.old disk.new StoresNothing }
     ensures made { IsTrue (D.tells disk.old) → OnOk result (IsNewStore (D.held disk.new) (D.may_leave disk.new)) }
-    ensures telling { D.tells disk.new ≡ D.tells disk.old }
-    ensures later { D.faults disk.old ≤ D.faults disk.new }
-    ensures fault { result ≡ Err Fault → Rose (D.faults disk.old) (D.faults disk.new) }
+    ensures counted { CountsFault D.Device.own 0 Fault disk.old disk.new result }
     ensures a_store { (file at : ℕ) → result ≢ Err (NotStore file at) }
     ensures unchanged { IfErr result (λ error. error ≢ Fault → disk.new ≡ disk.old) }
     ensures no_read { D.reads disk.new ≡ D.reads disk.old }

@@ -2,8 +2,8 @@
 
 ghost use Rattle.std.specs.Prelude.{◌≡◌, ◌≢◌, ◌≤◌, ◌+◌, ◌-◌, ℕ, List, [], drop, map, Option, Some, Err, IsTrue, IfOk, IfErr, OnOk};
 ghost use Rattle.std.specs.List.{Contains};
-ghost use Rattle.span_types.specs.Faults.{Rose};
 ghost use Rattle.span_types.specs.declared.spans.Span.{Span};
+ghost use Rattle.disk_model.specs.Calls.{Counts, CountsFault};
 ghost use Rattle.disk_model.specs.Images.{bytes_of};
 ghost use Rattle.disk_model.specs.Crash.{OnlyBytes, Untouched};
 ghost use Rattle.block_list.specs.Body.{MeetsRules};
@@ -20,6 +20,7 @@ ghost use Rattle.store_images.specs.Settled.{IsSettled};
 ghost use Rattle.store_core.specs.Cores.{tail_of};
 ghost use Rattle.store_core.specs.BlockReading.{BlocksRead};
 ghost use Rattle.store_core.specs.LogReading.{LogBreaks, LogRead};
+ghost use Rattle.store_core.specs.Loose.{AreFreed};
 ghost use Rattle.store_core.specs.Opening.{KeepsDisk, LeavesAlone, opened_list, Opened, IsOpenedState, ListBreaks, StoreBreaks, refusal_of};
 ghost use Rattle.store_core.specs.declared.error.OpenError.TheVariants.{Fault, NotStore};
 
@@ -30,6 +31,7 @@ use crate::loose::empty_loose;
 use crate::new_store::open_new;
 use crate::reading::read_log;
 use crate::reviving::revive;
+use crate::since::Since;
 use crate::state::CoreState;
 use crate::store::Core;
 use block_info::SharedInfo;
@@ -44,7 +46,8 @@ impl<D: Device> Core<D> {
     /// of the rows which then wait in memory.
     ///
     /// The slots, and each listed block and segment, are made to last and read, and each block is checked whole. The loose files are
-    /// emptied, and where there were any the list is committed without them. Refused, it hands the disk back as far as it came: what is stored there is kept, and bytes that are no
+    /// emptied, and what jobs left in files from the list's next one on; where there were loose files the list is committed
+    /// without them. Refused, it hands the disk back as far as it came: what is stored there is kept, and bytes that are no
     /// store are left as they are.
     pub fn open_store(alloc: Global, disk: D, moment: u64) -> Result<Core<D>, (OpenError, D)>
         ensures opened { IfOk result (λ core. Opened D.Device.own disk moment core) }
@@ -58,15 +61,18 @@ impl<D: Device> Core<D> {
             → core.state.list ≡ opened_list list) }
         ensures counted { IfOk result (λ core. IsTrue (D.tells disk) → (list : Option ListBody) × ImageHoldsList (D.held disk) list) }
         ensures ready { IfOk result (λ core. IsTrue (D.tells disk) → IsReady (D.held core.disk) (D.may_leave core.disk) (Some core.state.list)) }
+        // What jobs left in files that the list doesn't name, as they failed or were killed, is gone.
+        ensures freed { IfOk result (λ core. IsTrue (D.tells disk) → (list : ListBody) → ImageHoldsList (D.held disk) (Some list)
+            → AreFreed (D.held disk) list.next_file (D.may_leave core.disk)) }
+        // Its opening ends now.
+        ensures ends { IfOk result (λ core. core.since.moment ≡ D.moment core.disk) }
         // Bytes are refused where they break, and only there: a sound store is not refused.
         ensures not_store { IfErr result (λ e. IsTrue (D.tells disk) → (file at : ℕ) → e.0 ≡ NotStore file at → StoreBreaks (D.held disk) file at) }
         ensures unbroken { IfOk result (λ core. IsTrue (D.tells disk) → (file at : ℕ) → StoreBreaks (D.held disk) file at → ⊥) }
         ensures sound { IfErr result (λ e. IsTrue (D.tells disk) → IsSoundImage (D.held disk) → (file at : ℕ) → e.0 ≢ NotStore file at) }
-        ensures telling { IfOk result (λ core. D.tells core.disk ≡ D.tells disk) }
-        ensures telling_refused { IfErr result (λ e. D.tells e.1 ≡ D.tells disk) }
-        ensures later { IfOk result (λ core. D.faults disk ≤ D.faults core.disk) }
-        ensures later_refused { IfErr result (λ e. D.faults disk ≤ D.faults e.1) }
-        ensures fault { IfErr result (λ e. e.0 ≡ Fault → Rose (D.faults disk) (D.faults e.1)) }
+        // A fault is answered just where a call of the disk failed, and then it was the last one.
+        ensures counted { IfOk result (λ core. Counts D.Device.own 0 (Unit {0}) ⊥ disk core.disk) }
+        ensures counted_refused { IfErr result (λ e. Counts D.Device.own 0 (e.0 ≢ Fault) (e.0 ≡ Fault) disk e.1) }
     {
         let mut disk = disk;
         let found = match load(alloc, &mut disk) {
@@ -76,7 +82,15 @@ impl<D: Device> Core<D> {
         match found {
             None => open_new(alloc, disk),
             Some(list) => match read_store(alloc, &mut disk, list, moment) {
-                Ok(state) => Ok(Core { alloc, disk, state }),
+                Ok(state) => {
+                    let since = Since::now(&disk);
+                    Ok(Core {
+                        alloc,
+                        disk,
+                        state,
+                        since,
+                    })
+                }
                 Err(error) => Err((error, disk)),
             },
         }
@@ -110,6 +124,7 @@ fn read_store<D: Device>(
         → bytes_of (D.held disk.new) x.file ≡ bytes_of (D.held disk.old) x.file) }
     ensures blocks_still { IsTrue (D.tells disk.old) → OnOk result ((x : BlockRef) → Contains list.blocks x
         → bytes_of (D.held disk.new) x.file ≡ bytes_of (D.held disk.old) x.file) }
+    ensures freed { IsTrue (D.tells disk.old) → OnOk result (AreFreed (D.held disk.old) list.next_file (D.may_leave disk.new)) }
     ensures settled { IsTrue (D.tells disk.old) → IfOk result (λ state. (blocks : List Block) → list.blocks ≡ map ref_of blocks
         → BlocksStand (D.held disk.old) blocks → (h : History) → ImageStandsFor (D.held disk.old) h
         → IsSettled (D.held disk.new) (D.may_leave disk.new) state.list blocks (tail_of state.segment) h) }
@@ -117,9 +132,7 @@ fn read_store<D: Device>(
     ensures ready { IsTrue (D.tells disk.old) → IfOk result (λ state. IsReady (D.held disk.new) (D.may_leave disk.new) (Some state.list)) }
     ensures left { IfErr result (λ error. error ≢ Fault → Untouched D.tells D.held D.may_leave D.moment D.left_since disk.old disk.new) }
     ensures not_store { IsTrue (D.tells disk.old) → (file at : ℕ) → result ≡ Err (NotStore file at) → ListBreaks (D.held disk.old) list file at }
-    ensures telling { D.tells disk.new ≡ D.tells disk.old }
-    ensures later { D.faults disk.old ≤ D.faults disk.new }
-    ensures fault { result ≡ Err Fault → Rose (D.faults disk.old) (D.faults disk.new) }
+    ensures counted { CountsFault D.Device.own 0 Fault disk.old disk.new result }
 {
     let (infos, segment, live) = match read_listed(alloc, disk, &list, moment) {
         Ok(read) => read,
@@ -164,8 +177,7 @@ fn read_listed<D: Device>(
         → OnlyBytes x.file (bytes_of (D.held disk.old) x.file) (D.may_leave disk.new)) }
     ensures not_store { IsTrue (D.tells disk.old) → (file at : ℕ) → result ≡ Err (NotStore file at) → ListBreaks (D.held disk.old) list.now file at }
     ensures untouched { Untouched D.tells D.held D.may_leave D.moment D.left_since disk.old disk.new }
-    ensures later { D.faults disk.old ≤ D.faults disk.new }
-    ensures fault { result ≡ Err Fault → Rose (D.faults disk.old) (D.faults disk.new) }
+    ensures counted { CountsFault D.Device.own 0 Fault disk.old disk.new result }
 {
     let infos = match read_blocks(alloc, disk, list.blocks.as_slice()) {
         Ok(infos) => infos,
@@ -195,8 +207,7 @@ fn read_rows<D: Device>(
     ensures not_store { IsTrue (D.tells disk.old) → (file at : ℕ) → result ≡ Err (NotStore file at)
         → LogBreaks (D.held disk.old) list.now.segments (first_number list.now) file at }
     ensures untouched { Untouched D.tells D.held D.may_leave D.moment D.left_since disk.old disk.new }
-    ensures later { D.faults disk.old ≤ D.faults disk.new }
-    ensures fault { result ≡ Err Fault → Rose (D.faults disk.old) (D.faults disk.new) }
+    ensures counted { CountsFault D.Device.own 0 Fault disk.old disk.new result }
 {
     match read_log(alloc, disk, list) {
         Ok((segment, batches)) => {

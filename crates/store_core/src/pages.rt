@@ -1,8 +1,9 @@
 //! Pages of blocks are read.
 
-ghost use Rattle.std.specs.Prelude.{◌≡◌, ◌<◌, ◌^◌, length, IsTrue, OnOk};
+ghost use Rattle.std.specs.Prelude.{◌≡◌, IsTrue, OnOk, IsOk, IsErr};
+ghost use Rattle.disk_model.specs.Calls.{Counts};
 ghost use Rattle.disk_model.specs.Images.{bytes_of};
-ghost use Rattle.disk_model.specs.Crash.{Untouched, HasCause};
+ghost use Rattle.disk_model.specs.Crash.{Untouched};
 ghost use Rattle.store_model.specs.Event.Event.{ReadPage};
 ghost use Rattle.store_state.specs.Calls.{RoseAtMost};
 ghost use Rattle.store_state.specs.Replies.{page_reply};
@@ -44,12 +45,15 @@ fn read_into<D: Device>(
     ensures untouched { Untouched D.tells D.held D.may_leave D.moment D.left_since disk.old disk.new }
     ensures calls { RoseAtMost 1 (D.calls disk.old) (D.calls disk.new) }
     ensures reads { RoseAtMost 1 (D.reads disk.old) (D.reads disk.new) }
-    ensures cause { HasCause (D.faults disk.old) (D.faults disk.new) result }
+    ensures counted { Counts D.Device.own 0 (IsOk result) (IsErr result) disk.old disk.new }
 {
     *buf = [0; 4096];
     match page.checked_mul(4096) {
         Some(at) => read_at(disk, file, at, buf),
-        None => find_end(disk, file),
+        None => {
+            disk.is_short(file);
+            Ok(())
+        }
     }
 }
 
@@ -60,23 +64,9 @@ fn read_at<D: Device>(disk: &mut D, file: u32, at: u64, buf: &mut [u8; 4096]) ->
     ensures untouched { Untouched D.tells D.held D.may_leave D.moment D.left_since disk.old disk.new }
     ensures calls { RoseAtMost 1 (D.calls disk.old) (D.calls disk.new) }
     ensures reads { RoseAtMost 1 (D.reads disk.old) (D.reads disk.new) }
-    ensures cause { HasCause (D.faults disk.old) (D.faults disk.new) result }
+    ensures counted { Counts D.Device.own 0 (IsOk result) (IsErr result) disk.old disk.new }
 {
     match disk.read(file, at, &mut buf[..]) {
-        Ok(_) => Ok(()),
-        Err(_) => Err(Failed),
-    }
-}
-
-// The file's length is a number of 64 bits.
-fn find_end<D: Device>(disk: &mut D, file: u32) -> Result<(), Failed>
-    ensures near { IsTrue (D.tells disk.old) → OnOk result (length (bytes_of (D.held disk.old) file) < 2 ^ 64) }
-    ensures untouched { Untouched D.tells D.held D.may_leave D.moment D.left_since disk.old disk.new }
-    ensures calls { RoseAtMost 1 (D.calls disk.old) (D.calls disk.new) }
-    ensures reads { D.reads disk.new ≡ D.reads disk.old }
-    ensures cause { HasCause (D.faults disk.old) (D.faults disk.new) result }
-{
-    match disk.len(file) {
         Ok(_) => Ok(()),
         Err(_) => Err(Failed),
     }

@@ -2,8 +2,8 @@
 
 ghost use Rattle.std.specs.Prelude.{◌≡◌, ◌≤◌, ◌+◌, ◌++◌, ℕ, List, Err, IsTrue, IfOk, OnOk};
 ghost use Rattle.std.specs.List.{Contains};
-ghost use Rattle.span_types.specs.Faults.{Rose};
 ghost use Rattle.span_types.specs.declared.spans.Span.{Span};
+ghost use Rattle.disk_model.specs.Calls.{CountsFault};
 ghost use Rattle.disk_model.specs.Images.{bytes_of};
 ghost use Rattle.disk_model.specs.Crash.{OnlyBytes, Untouched};
 ghost use Rattle.head_log.specs.Entries.{entries};
@@ -40,8 +40,7 @@ pub fn read_log<D: Device>(
     ensures not_store { IsTrue (D.tells disk.old) → (file at : ℕ) → result ≡ Err (NotStore file at)
         → LogBreaks (D.held disk.old) list.now.segments (first_number list.now) file at }
     ensures untouched { Untouched D.tells D.held D.may_leave D.moment D.left_since disk.old disk.new }
-    ensures later { D.faults disk.old ≤ D.faults disk.new }
-    ensures fault { result ≡ Err Fault → Rose (D.faults disk.old) (D.faults disk.new) }
+    ensures counted { CountsFault D.Device.own 0 Fault disk.old disk.new result }
 {
     let segments = list.segments.as_slice();
     let mut batches = Vec::new(alloc);
@@ -74,8 +73,7 @@ fn add_segment<D: Device>(
     ensures malformed { IsTrue (D.tells disk.old) → (file at : ℕ) → result ≡ Err (NotStore file at) → (file ≡ segment.now.file)
         × (segment_at segment.now.first (bytes_of (D.held disk.old) segment.now.file) ≡ Err at) }
     ensures untouched { Untouched D.tells D.held D.may_leave D.moment D.left_since disk.old disk.new }
-    ensures later { D.faults disk.old ≤ D.faults disk.new }
-    ensures fault { result ≡ Err Fault → Rose (D.faults disk.old) (D.faults disk.new) }
+    ensures counted { CountsFault D.Device.own 0 Fault disk.old disk.new result }
 {
     let Ok(()) = disk.sync(segment.file) else {
         return Err(OpenError::Fault);

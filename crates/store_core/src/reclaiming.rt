@@ -48,8 +48,7 @@ impl<D: Device> Core<D> {
             return Err(ReclaimError::Memory);
         };
         let Ok(()) = commit_without(&mut self.disk, free.as_slice(), &text) else {
-            let faults = self.disk.faults();
-            self.state.read_only = Some(faults);
+            self.stop_writing();
             return Err(ReclaimError::Fault);
         };
         self.state.list = list;

@@ -2,6 +2,7 @@
 
 ghost use Rattle.std.specs.Prelude.{◌≡◌};
 
+use crate::since::Since;
 use crate::state::CoreState;
 use disk_model::Device;
 use std::alloc::Global;
@@ -16,6 +17,8 @@ pub struct Core<D: Device> {
     pub disk: D,
     /// What it keeps in memory.
     pub state: CoreState,
+    /// Since when it is open.
+    pub since: Since,
 }
 
 impl<D: Device> Core<D> {

@@ -86,6 +86,7 @@ step_is_called core old new event reply steps = record {
   look = λ told v known. subst (λ h. IsLookTaken reply (core.shows new) h) known.history (steps.look told known.machine known.stands);
   empty = steps.empty;
   later = steps.later;
+  quiet = steps.quiet;
   cause = steps.cause;
   calls = steps.calls;
   reads_rise = steps.reads_rise;

@@ -1,5 +1,5 @@
 -- A port behind which one machine stands, as a core has it.
-use Rattle.std.specs.Prelude.{◌≡◌, ℕ, ◌+◌, ◌≤◌, List, [], Bool, true, false, IsTrue}
+use Rattle.std.specs.Prelude.{◌≡◌, ◌≢◌, ℕ, ◌+◌, ◌≤◌, List, [], Bool, true, false, IsTrue}
 use Rattle.std.specs.List.{Contains}
 use Rattle.span_types.specs.Faults.{Rose}
 use Rattle.store_model.specs.State.{is_among}
@@ -80,6 +80,7 @@ pub record CoreSteps {P : Type 0} (core : CoreMeaning P) (old : P) (event : Even
       IsLookTaken reply (core.shows new) m.history
   pub empty : IsTrue (core.tells old) → (file : ℕ) → is_among file (own_files reply) ≡ true → core.shows new file ≡ []
   pub later : core.faults old ≤ core.faults new
+  pub quiet : reply ≢ Refused Fault → core.faults new ≡ core.faults old
   pub cause : reply ≡ Refused Fault → Rose (core.faults old) (core.faults new)
   pub calls : MadeCalls event reply (core.calls old) (core.calls new)
   pub reads_rise : core.reads old ≤ core.reads new

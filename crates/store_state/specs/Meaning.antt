@@ -1,5 +1,5 @@
 -- What a port shows, and what one call makes of it.
-use Rattle.std.specs.Prelude.{◌≡◌, ℕ, ◌+◌, ◌≤◌, ◌==◌, List, [], ◌++◌, Bool, true, false, if◌then◌else◌, IsTrue}
+use Rattle.std.specs.Prelude.{◌≡◌, ◌≢◌, ℕ, ◌+◌, ◌≤◌, ◌==◌, List, [], ◌++◌, Bool, true, false, if◌then◌else◌, IsTrue}
 use Rattle.std.specs.List.{Contains}
 use Rattle.span_types.specs.Faults.{Rose}
 use Rattle.store_entries.specs.declared.entry.Entry.{Entry}
@@ -78,10 +78,11 @@ pub record Called {P : Type 0} (meaning : Meaning P) (old : P) (event : Event) (
       IsLookTaken reply (meaning.shows new) v.history
   -- the file of a job that begins
   pub empty : IsTrue (meaning.tells old) → (file : ℕ) → is_among file (own_files reply) ≡ true → meaning.shows new file ≡ []
-  -- faults are counted, and one is answered only where the count rose
+  -- faults are counted, and one is answered just where the count rose
   pub later : meaning.faults old ≤ meaning.faults new
+  pub quiet : reply ≢ Refused Fault → meaning.faults new ≡ meaning.faults old
   pub cause : reply ≡ Refused Fault → Rose (meaning.faults old) (meaning.faults new)
-  -- so many device calls at most; an emptying of loose files that answers a fault has no bound
+  -- so many device calls; an emptying of loose files that answers a fault has no bound
   pub calls : MadeCalls event reply (meaning.calls old) (meaning.calls new)
   -- a page read alone may count as a read, and as one
   pub reads_rise : meaning.reads old ≤ meaning.reads new

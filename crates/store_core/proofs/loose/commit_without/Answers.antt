@@ -22,7 +22,7 @@ pub returns-clause-kept : goal.returns-clause-kept
 returns-clause-kept g c = λ told body next_file loose ready may text.
     let d = g.D.Device in
     let mid = c.empty_files.new.disk in
-    let told_mid : IsTrue (d.tells mid) = subst IsTrue (sym c.empty_files.ensures.telling) told in
+    let told_mid : IsTrue (d.tells mid) = subst IsTrue (sym c.empty_files.ensures.counted.telling) told in
     let readied = c.empty_files.ensures.ready told body ready may.unused in
     let can = can_lay (d.held mid) (d.may_leave mid) (Some body) c.args.text.now readied text.generation in
     committed_next d.moment d.left_since d.may_leave c.args.disk.now mid c.commit.new.disk (d.held mid) body next_file loose c.args.files.now (slot_of c.args.text.now)
@@ -33,7 +33,7 @@ pub returns-clause-ready : goal.returns-clause-ready
 returns-clause-ready g c = λ told body next_file loose ready may text.
     let d = g.D.Device in
     let mid = c.empty_files.new.disk in
-    let told_mid : IsTrue (d.tells mid) = subst IsTrue (sym c.empty_files.ensures.telling) told in
+    let told_mid : IsTrue (d.tells mid) = subst IsTrue (sym c.empty_files.ensures.counted.telling) told in
     let readied = c.empty_files.ensures.ready told body ready may.unused in
     let can = can_lay (d.held mid) (d.may_leave mid) (Some body) c.args.text.now readied text.generation in
     c.commit.ensures.ready told_mid can (Some body) (next_with body next_file loose) readied text
@@ -44,17 +44,17 @@ returns-clause-others g c = λ told body next_file loose ready may text.
     let disk = c.args.disk.now in
     let mid = c.empty_files.new.disk in
     let new = c.commit.new.disk in
-    let told_mid : IsTrue (d.tells mid) = subst IsTrue (sym c.empty_files.ensures.telling) told in
+    let told_mid : IsTrue (d.tells mid) = subst IsTrue (sym c.empty_files.ensures.counted.telling) told in
     let readied = c.empty_files.ensures.ready told body ready may.unused in
     let can = can_lay (d.held mid) (d.may_leave mid) (Some body) c.args.text.now readied text.generation in
-    others_committed c.args.files.now (d.held disk) (d.held mid) (d.held new) (d.may_leave disk) (d.may_leave mid) (d.may_leave new) (c.empty_files.ensures.others told)
+    others_committed (Contains c.args.files.now) (d.held disk) (d.held mid) (d.held new) (d.may_leave disk) (d.may_leave mid) (d.may_leave new) (c.empty_files.ensures.others told)
     (slot_of c.args.text.now) _ (omega arith) (c.commit.ensures.besides told_mid)
     (c.commit.ensures.any_moment told_mid can (Some body) (next_with body next_file loose) readied.stands text.generation text).now
 
 pub returns-clause-still : goal.returns-clause-still
 returns-clause-still g c = λ told file least apart.
     let d = g.D.Device in
-    let told_mid : IsTrue (d.tells c.empty_files.new.disk) = subst IsTrue (sym c.empty_files.ensures.telling) told in
+    let told_mid : IsTrue (d.tells c.empty_files.new.disk) = subst IsTrue (sym c.empty_files.ensures.counted.telling) told in
     c.commit.ensures.besides told_mid file (λ is. omega (arith, least, is)) ∙ (c.empty_files.ensures.others told).still file least apart
 
 pub returns-clause-calls : goal.returns-clause-calls

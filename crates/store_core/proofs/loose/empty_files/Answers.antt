@@ -1,4 +1,5 @@
 use Rattle.std.proofs.Common.{◌<◌, IsTrue, length, get_or, refl, sym, ◌∙◌, subst, arith}
+use Rattle.std.specs.List.{Contains}
 use Rattle.std.proofs.lemmas.List.Elements.{Contains-get_or}
 use Rattle.disk_model.specs.Images.{bytes_of}
 use Rattle.store_core.proofs.LooseFiles.{emptied_then, nothing_done, others_same, others_emptied, empty_now, emptied_more, emptied_all}
@@ -11,7 +12,7 @@ loop-file-init g c =
     record {
       so_far = λ told body ready is. (nothing_done d.moment d.left_since d.may_leave disk (g.met.D.Device.only_now disk), ready);
       emptied = λ told k below. absurd (omega (arith, below));
-      others = λ told. others_same c.args.files.now (d.held disk) (d.may_leave disk);
+      others = λ told. others_same (Contains c.args.files.now) (d.held disk) (d.may_leave disk);
       telling = refl;
       later = omega arith;
       calls = (omega arith, omega arith);
@@ -38,9 +39,9 @@ loop-file-preserved g c =
           (empty_now (get_or files n 0) (d.held new) (bytes_of (d.held mid) (get_or files n 0)) (d.may_leave new) (c.in_ok-cut_through.ensures.shortened told_mid) (c.in_ok-cut_through.ensures.lasting told_mid));
       others = λ told.
           let told_mid : IsTrue (d.tells mid) = subst IsTrue (sym c.loop-file.invariant.telling) told in
-          others_emptied files (d.held c.args.disk.now) (d.held mid) (d.held new) (d.may_leave c.args.disk.now) (d.may_leave mid) (d.may_leave new) (c.loop-file.invariant.others told)
+          others_emptied (Contains files) (d.held c.args.disk.now) (d.held mid) (d.held new) (d.may_leave c.args.disk.now) (d.may_leave mid) (d.may_leave new) (c.loop-file.invariant.others told)
           (get_or files n 0) _ (Contains-get_or files n 0 inside) (c.cut_through.ensures.besides told_mid) c.cut_through.ensures.crash;
-      telling = c.cut_through.ensures.telling ∙ c.loop-file.invariant.telling;
+      telling = c.cut_through.ensures.counted.telling ∙ c.loop-file.invariant.telling;
       later = omega (arith, c.cut_through.ensures.cause.later);
       calls = (let was = c.loop-file.invariant.calls in let more = c.cut_through.ensures.calls in (omega (arith, was.0, more.later), omega (arith, was.1, more.at_most)));
       reads = c.cut_through.ensures.no_read ∙ c.loop-file.invariant.reads;
@@ -97,7 +98,7 @@ returns-in_err-cut_through-clause-others g c = λ told.
     let n = c.loop-file.file-index in
     let inside : n < length files = omega arith in
     let told_mid : IsTrue (d.tells mid) = subst IsTrue (sym c.loop-file.invariant.telling) told in
-    others_emptied files (d.held c.args.disk.now) (d.held mid) (d.held new) (d.may_leave c.args.disk.now) (d.may_leave mid) (d.may_leave new) (c.loop-file.invariant.others told)
+    others_emptied (Contains files) (d.held c.args.disk.now) (d.held mid) (d.held new) (d.may_leave c.args.disk.now) (d.may_leave mid) (d.may_leave new) (c.loop-file.invariant.others told)
     (get_or files n 0) _ (Contains-get_or files n 0 inside) (c.cut_through.ensures.besides told_mid) c.cut_through.ensures.crash
 
 pub returns-clause-kept : goal.returns-clause-kept

@@ -1,4 +1,5 @@
 use Rattle.std.proofs.Common.{◌≡◌, ◌<◌, ◌≤◌, ◌*◌, IsTrue, [], Some, ℕ, get_or}
+use Rattle.std.specs.List.{Contains}
 use Rattle.disk_model.specs.Crash.{OnlyBytes, Run}
 use Rattle.block_list.specs.Loading.{IsReady}
 use Rattle.block_list.specs.declared.body.ListBody.{ListBody}
@@ -14,7 +15,7 @@ invariant-loop-file g l =
       so_far : IsTrue (d.tells l.fn.disk) → (body : ListBody) → IsReady (d.held l.fn.disk) (d.may_leave l.fn.disk) (Some body) → AreUnused body l.files
           → Run KeepsStored d.moment d.left_since d.may_leave l.fn.disk l.disk × IsReady (d.held l.disk) (d.may_leave l.disk) (Some body);
       emptied : IsTrue (d.tells l.fn.disk) → (k : ℕ) → k < l.file-index → OnlyBytes (get_or l.files k 0) [] (d.may_leave l.disk);
-      others : IsTrue (d.tells l.fn.disk) → OthersStay l.files (d.held l.fn.disk) (d.held l.disk) (d.may_leave l.fn.disk) (d.may_leave l.disk);
+      others : IsTrue (d.tells l.fn.disk) → OthersStay (Contains l.files) (d.held l.fn.disk) (d.held l.disk) (d.may_leave l.fn.disk) (d.may_leave l.disk);
       telling : d.tells l.disk ≡ d.tells l.fn.disk;
       later : d.faults l.fn.disk ≤ d.faults l.disk;
       calls : RoseAtMost (2 * l.file-index) (d.calls l.fn.disk) (d.calls l.disk);

@@ -28,17 +28,17 @@ returns-in_err-cut_through-clause-others g c = λ told file first second. c.cut_
 
 pub returns-clause-others : goal.returns-clause-others
 returns-clause-others g c = λ told file first second.
-    c.create.ensures.besides (subst IsTrue (sym c.cut_through.ensures.telling) told) file second ∙ c.cut_through.ensures.besides told file first
+    c.create.ensures.besides (subst IsTrue (sym c.cut_through.ensures.counted.telling) told) file second ∙ c.cut_through.ensures.besides told file first
 
 pub returns-clause-empty : goal.returns-clause-empty
 returns-clause-empty g c = λ told.
     let d = g.D.Device in
     let cut = emptied (d.held c.cut_through.new.disk) (d.may_leave c.cut_through.new.disk) c.args.files.block (c.in_ok-cut_through.ensures.shortened told) (c.in_ok-cut_through.ensures.lasting told) in
     ok_anyway c.create.result (IsEmptied (d.held c.create.new.disk) (d.may_leave c.create.new.disk) c.args.files.block) (
-      c.create.ensures.besides (subst IsTrue (sym c.cut_through.ensures.telling) told) c.args.files.block c.requires ∙ cut.0,
+      c.create.ensures.besides (subst IsTrue (sym c.cut_through.ensures.counted.telling) told) c.args.files.block c.requires ∙ cut.0,
       other_stays_run c.args.files.segment c.args.files.block _ [] (d.may_leave c.cut_through.new.disk) (d.may_leave c.create.new.disk) c.requires cut.1 c.create.ensures.any_moment.now,
     )
 
 pub returns-clause-segment : goal.returns-clause-segment
 returns-clause-segment g c = λ told.
-    ok_each c.create.result _ _ (λ first. c.create.ensures.empty first (subst IsTrue (sym c.cut_through.ensures.telling) told))
+    ok_each c.create.result _ _ (λ first. c.create.ensures.empty first (subst IsTrue (sym c.cut_through.ensures.counted.telling) told))

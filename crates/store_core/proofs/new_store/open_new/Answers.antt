@@ -2,13 +2,16 @@ use Rattle.std.proofs.Common.{IsTrue, Some, sym, subst}
 use Rattle.block_list.specs.Loading.{IsReady}
 use Rattle.block_list.specs.declared.body.ListBody.{ListBody}
 use Rattle.store_core.proofs.NewCores.{new_stands, no_history, no_history_is_empty}
+use Rattle.store_core.specs.NewCore.{new_machine}
+use Rattle.store_core.proofs.Now.{stands_now}
 use Rattle.store_core.proofs.new_store.open_new.Goals as goal
 
 pub returns-in-Ok-clause-stands : goal.returns-in-Ok-clause-stands
 returns-in-Ok-clause-stands g c = λ h empty.
     let d = g.D.Device in
-    new_stands (IsTrue (d.tells c.make_store.new.disk)) (d.held c.make_store.new.disk) (d.may_leave c.make_store.new.disk) c.new_state.result h c.new_state.ensures
-    (λ told. c.in-Ok.ensures.made (subst IsTrue c.make_store.ensures.telling told)) empty
+    stands_now d g.met.D.Device.only_now _ (new_machine h) c.now.ensures
+    (new_stands (IsTrue (d.tells c.make_store.new.disk)) (d.held c.make_store.new.disk) (d.may_leave c.make_store.new.disk) c.new_state.result h c.new_state.ensures
+    (λ told. c.in-Ok.ensures.made (subst IsTrue c.make_store.ensures.counted.telling told)) empty)
 
 pub returns-in-Ok-clause-list : goal.returns-in-Ok-clause-list
 returns-in-Ok-clause-list g c = c.new_state.ensures.list

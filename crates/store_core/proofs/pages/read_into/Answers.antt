@@ -13,4 +13,4 @@ returns-in-Some-clause-bytes g c = λ told.
 pub returns-in-None-clause-bytes : goal.returns-in-None-clause-bytes
 returns-in-None-clause-bytes g c = λ told.
     let bytes : List ℕ = bytes_of (g.D.Device.held c.args.disk.now) c.args.file in
-    ok_then c.find_end.result _ _ (λ near. past_is bytes (c.args.page * 4096) _ refl (past_end bytes (c.args.page * 4096) near c.in-None.ensures)) (c.find_end.ensures.near told)
+    past_is bytes (c.args.page * 4096) _ refl (past_end bytes (c.args.page * 4096) (c.is_short.ensures told) c.in-None.ensures)

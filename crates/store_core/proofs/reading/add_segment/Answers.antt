@@ -11,7 +11,7 @@ returns-in-Ok-append-clause-read g c =
     let disk = c.args.disk.now in
     let mid = c.sync.new.self in
     let ref = c.args.segment.now in
-    let told_mid : IsTrue (d.tells disk) → IsTrue (d.tells mid) = λ told. subst IsTrue (sym c.sync.ensures.telling) told in
+    let told_mid : IsTrue (d.tells disk) → IsTrue (d.tells mid) = λ told. subst IsTrue (sym c.sync.ensures.counted.telling) told in
     read_of (d.tells disk) (bytes_of (d.held disk) ref.file) (bytes_of (d.held mid) ref.file) ref c.in-Ok-scan.found _ _ _ c.requires (λ told. c.sync.ensures.same_bytes told ref.file)
     c.in-Ok-scan.ensures.numbered (λ told. c.in-Ok-scan.ensures.stands (told_mid told)) c.in-Ok-scan.ensures.named c.in-Ok-scan.ensures.below
     (c.in-Ok-append.ensures.items ∙ ap (λ (l : List NumberedBatch). c.args.batches.now.items ++ l) c.into_vec-entries.ensures)
@@ -26,5 +26,5 @@ returns-in-Ok-append-clause-untouched g c =
     let disk = c.args.disk.now in
     let mid = c.sync.new.self in
     untouched_then d.tells d.held d.may_leave d.moment d.left_since disk mid c.scan.new.disk
-    (untouched_call d.tells d.held d.may_leave d.moment d.left_since disk mid (g.met.D.Device.only_now disk) c.sync.ensures.telling c.sync.ensures.same_bytes c.sync.ensures.crash c.sync.ensures.time)
+    (untouched_call d.tells d.held d.may_leave d.moment d.left_since disk mid (g.met.D.Device.only_now disk) c.sync.ensures.counted.telling c.sync.ensures.same_bytes c.sync.ensures.crash c.sync.ensures.time)
     c.scan.ensures.untouched

@@ -1,5 +1,6 @@
 use Rattle.std.proofs.Common.{◌≡◌, ◌≤◌, ◌+◌, IsTrue, List, take, ℕ}
 use Rattle.std.specs.List.{Contains}
+use Rattle.disk_model.specs.Calls.{Counts}
 use Rattle.disk_model.specs.Images.{bytes_of}
 use Rattle.disk_model.specs.Crash.{OnlyBytes, Untouched}
 use Rattle.block_list.specs.declared.body.SegmentRef.{SegmentRef}
@@ -16,5 +17,5 @@ invariant-loop-at g l =
       few : l.last.first + l.last.count ≤ 4294967295;
       lies : IsTrue (d.tells l.fn.disk) → (x : SegmentRef) → Contains (take l.at l.segments) x → OnlyBytes x.file (bytes_of (d.held l.fn.disk) x.file) (d.may_leave l.disk);
       untouched : Untouched d.tells d.held d.may_leave d.moment d.left_since l.fn.disk l.disk;
-      later : d.faults l.fn.disk ≤ d.faults l.disk;
+      counts : Counts d 0 (Unit {0}) ⊥ l.fn.disk l.disk;
     }

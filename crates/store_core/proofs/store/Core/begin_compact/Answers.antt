@@ -8,6 +8,10 @@ use Rattle.store_model.specs.Choice.{choice}
 use Rattle.store_model.specs.Event.Event.{BeginCompact}
 use Rattle.store_model.specs.Step.{early}
 use Rattle.store_state.specs.Listed.{picked}
+use Rattle.store_model.specs.Event.Reply.{Refused}
+use Rattle.store_model.specs.Event.Refusal.{Fault}
+use Rattle.store_core.specs.Events.{Did}
+use Rattle.store_core.specs.declared.store.Core.{Core}
 use Rattle.store_core.specs.Files.{SameBelow}
 use Rattle.store_core.specs.Beginning.{MayCompact, IsMade}
 use Rattle.store_core.proofs.Apart.{below_change, emptied}
@@ -38,11 +42,12 @@ returns-in-Ok-cut_through-clause-begun g c =
     let cut = c.cut_through.ensures in
     let begun = c.begin_compact-number.ensures in
     did_made d core c.cut_through.new.disk c.as_slice.result.now c.in-Ok.level c.in-Ok.pin c.in-Ok.room c.make_compact.new.self made may
-    (λ m has. of_some (λ (v : Vec ℕ Global). early m BeginCompact ≡ None) found.field-0 found.chosen found.field-0-is (found.ensures.free m has)) cut.telling
+    (λ m has. of_some (λ (v : Vec ℕ Global). early m BeginCompact ≡ None) found.field-0 found.chosen found.field-0-is (found.ensures.free m has))
+    _ c.in-Ok-cut_through.ensures.counted
     (run_more d.moment d.left_since d.may_leave (OnFile c.make_compact.new.self.jobs.next_file (HalfCut 0)) (SameBelow c.make_compact.new.self.jobs.next_file) core.disk c.cut_through.new.disk
     (record { since = cut.any_moment; now = cut.crash })
     (λ origin image possible change. below_change c.make_compact.new.self.jobs.next_file c.make_compact.new.self.jobs.next_file (HalfCut 0) origin image (omega arith) change))
-    cut.besides cut.cause.later (cut.calls.later, cut.calls.at_most) cut.no_read
+    cut.besides refl
     c.begin_compact-number.new.self c.begin_compact-number.result begun.number.0 begun.number.1 begun.next_file begun.compaction begun.same
     (λ listed are. subst (λ (l : List ℕ). picked l listed ≡ choice listed) (sym c.as_slice.ensures.value)
     (of_some (λ (v : Vec ℕ Global). picked v.items listed ≡ choice listed) found.field-0 found.chosen found.field-0-is (found.ensures.chosen listed are)))
@@ -64,7 +69,7 @@ returns-in-Ok-cut_through-clause-joins g c = λ m s.
 pub returns-in-Ok-cut_through-clause-blocks : goal.returns-in-Ok-cut_through-clause-blocks
 returns-in-Ok-cut_through-clause-blocks g c = λ told m s.
     let made : IsMade c.args.self.now.state c.as_slice.result.now c.in-Ok.level c.in-Ok.pin c.in-Ok.room c.make_compact.new.self = c.in-Ok.ensures.made in
-    blocks_made g.D.Device _ c.as_slice.result.now c.in-Ok.pin.blocks m (made.blocks ∙ blocks_still c.args.self.now.state c.make_compact.new.self c.as_slice.result.now made.still) told s
+    blocks_made g.D.Device _ c.as_slice.result.now c.in-Ok.pin.blocks m (made.blocks ∙ blocks_still c.args.self.now.state c.make_compact.new.self c.as_slice.result.now made.still) told s.stands
 
 pub returns-clause-begun : goal.returns-clause-begun
 returns-clause-begun g c =
@@ -75,10 +80,11 @@ returns-clause-begun g c =
     (of_some (λ (v : Vec ℕ Global). MayCompact core.state v.items) found.field-0 found.chosen found.field-0-is found.ensures.sure) in
     let made : IsMade core.state c.as_slice.result.now c.in-Ok.level c.in-Ok.pin c.in-Ok.room c.make_compact.new.self = c.in-Ok.ensures.made in
     let cut = c.cut_through.ensures in
-    did_made_fail d core c.cut_through.new.disk c.as_slice.result.now c.in-Ok.level c.in-Ok.pin c.in-Ok.room c.make_compact.new.self made may
-    (λ m has. of_some (λ (v : Vec ℕ Global). early m BeginCompact ≡ None) found.field-0 found.chosen found.field-0-is (found.ensures.free m has)) cut.telling
+    subst (λ (s : Core _). Did d core BeginCompact (Refused Fault) s) (sym c.stop_writing.ensures)
+    (did_made_fail d core c.cut_through.new.disk c.as_slice.result.now c.in-Ok.level c.in-Ok.pin c.in-Ok.room c.make_compact.new.self made may
+    (λ m has. of_some (λ (v : Vec ℕ Global). early m BeginCompact ≡ None) found.field-0 found.chosen found.field-0-is (found.ensures.free m has))
+    _ c.in-Err-cut_through.ensures.counted
     (run_more d.moment d.left_since d.may_leave (OnFile c.make_compact.new.self.jobs.next_file (HalfCut 0)) (SameBelow c.make_compact.new.self.jobs.next_file) core.disk c.cut_through.new.disk
     (record { since = cut.any_moment; now = cut.crash })
     (λ origin image possible change. below_change c.make_compact.new.self.jobs.next_file c.make_compact.new.self.jobs.next_file (HalfCut 0) origin image (omega arith) change))
-    cut.besides cut.cause.later (cut.calls.later, cut.calls.at_most) cut.no_read
-    c.free_number.new.pins c.faults-faults.result c.faults-faults.ensures (c.in-Err-cut_through.ensures.cause.rose refl) c.free_number.ensures.taken c.free_number.ensures.files
+    cut.besides c.free_number.new.pins (d.faults c.cut_through.new.disk) refl refl c.free_number.ensures.taken c.free_number.ensures.files)

@@ -5,6 +5,8 @@ use Rattle.std.specs.declared.alloc.Global.{Global}
 use Rattle.span_types.specs.declared.spans.Row.{Row}
 use Rattle.store_model.specs.Choice.{most_rows}
 use Rattle.store_state.specs.Replies.{begin_refusal}
+use Rattle.store_core.specs.Events.{Did}
+use Rattle.store_core.specs.declared.store.Core.{Core}
 use Rattle.store_core.specs.Jobs.{CommitFits, SameCompaction}
 use Rattle.store_core.specs.declared.jobs.OpenCompaction.{OpenCompaction}
 use Rattle.store_core.proofs.JobRooms.{RoomOfCompaction, kept_infos, kept_jobs, made_jobs, one_none, one_at_most}
@@ -79,7 +81,7 @@ returns-in-Ok-make_files-clause-begun g c =
     let files = c.next_files-files in
     did_begin_as d core c.make_files.new.disk files.result may.writes may.none may.files (files.ensures.0 ∙ same.next_file) (files.ensures.1 ∙ ap (λ (n : ℕ). n + 1) same.next_file)
     (λ m has. free_is c.in-Ok.some m c.if-not-some.false (c.in-Ok.ensures.free m has))
-    c.make_files.ensures.telling c.make_files.ensures.any_moment c.make_files.ensures.others c.make_files.ensures.cause.later (c.make_files.ensures.calls.later, c.make_files.ensures.calls.at_most) c.make_files.ensures.no_read
+    _ c.in-Ok-make_files.ensures.counted c.make_files.ensures.any_moment c.make_files.ensures.others
     c.take_head.new.self c.reserve.new.self c.begin_flush-number.new.self c.in-Ok-make_room.room c.in-Ok-take_head.rows c.reserve.ensures.items c.in-Ok-reserve.ensures.ok
     (record {
       next_file = begun.next_file ∙ ap (λ (n : ℕ). n + 2) same.next_file;
@@ -98,7 +100,7 @@ returns-in-Ok-make_files-clause-begun g c =
       flushing = took.1;
       head = took.2 ∙ ap (λ (r : List Row). drop most_rows r) undone.back;
     })
-    c.begin_flush-number.result begun.number.0 c.in-Ok-make_files.ensures.empty c.in-Ok-make_files.ensures.segment
+    refl c.begin_flush-number.result begun.number.0 c.in-Ok-make_files.ensures.empty c.in-Ok-make_files.ensures.segment
 
 pub returns-in-Ok-make_files-clause-fresh : goal.returns-in-Ok-make_files-clause-fresh
 returns-in-Ok-make_files-clause-fresh g c =
@@ -123,10 +125,11 @@ returns-in-Err-make_files-clause-begun g c =
     let took = c.in-Ok-take_head.ensures.taken in
     let files = c.next_files-files in
     let back = c.undo_flush-in-Err-make_files.ensures in
-    did_begin_fail d core c.make_files.new.disk files.result may.writes may.none may.files (files.ensures.0 ∙ same.next_file) (files.ensures.1 ∙ ap (λ (n : ℕ). n + 1) same.next_file)
+    subst (λ (s : Core _). Did d core BeginFlush (Refused Fault) s) (sym c.stop_writing.ensures)
+    (did_begin_fail d core c.make_files.new.disk files.result may.writes may.none may.files (files.ensures.0 ∙ same.next_file) (files.ensures.1 ∙ ap (λ (n : ℕ). n + 1) same.next_file)
     (λ m has. free_is c.in-Ok.some m c.if-not-some.false (c.in-Ok.ensures.free m has))
-    c.make_files.ensures.telling c.make_files.ensures.any_moment c.make_files.ensures.others c.make_files.ensures.cause.later (c.make_files.ensures.calls.later, c.make_files.ensures.calls.at_most) c.make_files.ensures.no_read
-    c.undo_flush-in-Err-make_files.new.self c.reserve.new.self c.make_room.new.self c.faults-faults.result c.faults-faults.ensures (c.in-Err-make_files.ensures.cause.rose refl)
+    _ c.in-Err-make_files.ensures.counted c.make_files.ensures.any_moment c.make_files.ensures.others
+    c.undo_flush-in-Err-make_files.new.self c.reserve.new.self c.make_room.new.self (d.faults c.make_files.new.disk) refl refl
     (made_jobs core.state.list core.state.infos c.reserve.new.self core.state.jobs c.make_room.new.self same c.in-Ok-make_room.ensures.others c.in-Ok-make_room.ensures.room c.reserve.ensures.items c.in-Ok-reserve.ensures.ok)
     (λ m has. back_in_front core.state.live c.take_head.new.self c.undo_flush-in-Err-make_files.new.self c.in-Ok-take_head.rows
     (record {
@@ -135,4 +138,4 @@ returns-in-Err-make_files-clause-begun g c =
       flushing = took.1;
       head = took.2 ∙ ap (λ (r : List Row). drop most_rows r) undone.back;
     })
-    back.back back.gone back.same)
+    back.back back.gone back.same))

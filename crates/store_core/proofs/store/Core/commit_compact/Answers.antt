@@ -1,12 +1,13 @@
 use Rattle.std.proofs.Common.{◌≡◌, ◌∙◌, ℕ, List, ◌==◌, Option, Some, length, if◌then◌else◌, refl, sym, ap, subst, arith}
 use Rattle.std.specs.Prelude.{◌||◌}
+use Rattle.disk_model.proofs.CallRuns.{plain_calls}
 use Rattle.block_list.specs.Commit.{slot_of}
 use Rattle.block_list.proofs.ReadyLemmas.{can_lay}
 use Rattle.store_state.specs.Given.{info_files}
 use Rattle.store_model.specs.State.{without_pin}
 use Rattle.store_core.specs.Pins.{is_taken, files_at}
 use Rattle.store_core.specs.declared.state.CoreState.{CoreState}
-use Rattle.store_core.proofs.CommitAnswers.{did_stopped, rose_after}
+use Rattle.store_core.proofs.CommitAnswers.{did_stopped}
 use Rattle.store_core.proofs.CommitEvents.{compact_commits, no_commit, did_sync_fail}
 use Rattle.store_core.proofs.CompactAnswers.{rules_joined, joins, pins_ended, taken_inside, spent_is, infos_spent, unsure_spent, unsure_after, next_generation, pin_back, files_back, has_stopped_spent, others_fit, took_joined, pins_after}
 use Rattle.store_core.proofs.CompactCommits.{did_compact_committed, did_compact_fail}
@@ -22,9 +23,9 @@ pub returns-in_default-sync : goal.returns-in_default-sync
 returns-in_default-sync g c =
     let core = c.args.self.now in
     let e = c.sync.ensures in
-    did_stopped g.D.Device core c.stop_writing.new.self _ _ c.stop_writing.result c.stop_writing.ensures.fault c.stop_writing.ensures.stopped
+    did_stopped g.D.Device core c.stop_writing.new.self _ _ c.stop_writing.ensures
     (did_sync_fail g.D.Device g.met.D.Device.only_now core c.sync.new.self _ (compact_commits c.args.job.out.number c.args.info.rows) (none_of core.state.read_only c.in_default.not-Some)
-    e.telling e.same_bytes e.crash e.time e.cause.later e.one_call e.no_read (g.D.Device.faults c.sync.new.self) refl (c.in_default-sync.ensures.cause.rose refl))
+    _ (plain_calls g.D.Device core.disk c.sync.new.self _ 0 e.time.later c.in_default-sync.ensures.counted) e.same_bytes e.crash e.time (g.D.Device.faults c.sync.new.self) refl refl)
 
 pub joined_list-list-requires-clause-rules : goal.joined_list-list-requires-clause-rules
 joined_list-list-requires-clause-rules g c =
@@ -81,26 +82,24 @@ returns-in-Ok-commit g c =
     let follows = s.text.generation ∙ next_generation core.state mine.mine c.as_slice.result.now c.rows_in.result list mine.known s.list in
     did_compact_committed d g.met.D.Device.only_now core c.sync.new.self c.commit.new.disk job.out.number job.out.file job.level job.pin.number (slot_of text) job.pin.blocks c.args.info list
     (joins d core known.0 known.1 job.out.number job.out.file job.level job.pin.number job.pin.blocks known.2 c.args.info writes c.requires.size c.requires.block list c.as_slice.result.now c.rows_in.result files c.rows_in.ensures s.list)
-    (record {
-      telling = e.telling;
+    _ (record {
+      telling = c.in-Ok.ensures.counted.telling;
       same = e.same_bytes;
       crash = e.crash;
       time = e.time;
       lasting = c.in-Ok.ensures.lasting;
-      later = e.cause.later;
-      calls = e.one_call;
-      reads = e.no_read;
+      result = _;
+      fine = refl;
+      made = plain_calls d core.disk c.sync.new.self _ 0 e.time.later c.in-Ok.ensures.counted;
     })
     (record {
       below = omega arith;
       run = λ told ready. w.any_moment told (can_lay (d.held c.sync.new.self) (d.may_leave c.sync.new.self) (Some core.state.list) text ready follows) (Some core.state.list) list ready.stands follows s.text;
       besides = w.besides;
-      telling = w.telling;
-      later = w.cause.later;
-      calls = (w.calls.later, w.calls.at_most);
-      reads = w.no_read;
+      telling = w.counted.telling;
+      made = c.in-Ok-commit.ensures.counted;
     })
-    c.take_over_joined.new.self (unsure_after core.state c.joined_list-list.new.self c.take_over_joined.new.self mine.mine pins is t.same.4)
+    refl c.take_over_joined.new.self (unsure_after core.state c.joined_list-list.new.self c.take_over_joined.new.self mine.mine pins is t.same.4)
     (took_joined core.state c.joined_list-list.new.self c.take_over_joined.new.self list c.args.info c.as_slice-in-Ok-commit.result.now (info_files job.pin.blocks) mine.mine pins mine.known is (c.as_slice-in-Ok-commit.ensures ∙ f.result ∙ mine.named)
     s.few t.list t.infos t.jobs t.loose t.room t.same)
     (λ m has.
@@ -128,27 +127,25 @@ returns g c =
     let is = spent_is core.state c.joined_list-list.new.self mine.mine pins mine.known s.same s.compaction in
     let between = ap (λ (x : CoreState). x.pins.items) is in
     let follows = s.text.generation ∙ next_generation core.state mine.mine c.as_slice.result.now c.rows_in.result list mine.known s.list in
-    did_stopped d core c.stop_writing-in-Err.new.self _ _ c.stop_writing-in-Err.result c.stop_writing-in-Err.ensures.fault c.stop_writing-in-Err.ensures.stopped
+    did_stopped d core c.stop_writing-in-Err.new.self _ _ c.stop_writing-in-Err.ensures
     (did_compact_fail d g.met.D.Device.only_now core c.sync.new.self c.commit.new.disk job.out.number job.out.file job.level job.pin.number (slot_of text) job.pin.blocks c.args.info list
     (joins d core known.0 known.1 job.out.number job.out.file job.level job.pin.number job.pin.blocks known.2 c.args.info writes c.requires.size c.requires.block list c.as_slice.result.now c.rows_in.result (c.as_slice.ensures ∙ f.result ∙ mine.named) c.rows_in.ensures s.list)
-    (record {
-      telling = e.telling;
+    _ (record {
+      telling = c.in-Ok.ensures.counted.telling;
       same = e.same_bytes;
       crash = e.crash;
       time = e.time;
       lasting = c.in-Ok.ensures.lasting;
-      later = e.cause.later;
-      calls = e.one_call;
-      reads = e.no_read;
+      result = _;
+      fine = refl;
+      made = plain_calls d core.disk c.sync.new.self _ 0 e.time.later c.in-Ok.ensures.counted;
     })
     (record {
       below = omega arith;
       run = λ told ready. w.any_moment told (can_lay (d.held c.sync.new.self) (d.may_leave c.sync.new.self) (Some core.state.list) text ready follows) (Some core.state.list) list ready.stands follows s.text;
       besides = w.besides;
-      telling = w.telling;
-      later = w.cause.later;
-      calls = (w.calls.later, w.calls.at_most);
-      reads = w.no_read;
+      telling = w.counted.telling;
+      made = c.in-Err.ensures.counted;
     })
     _
     (λ m has.
@@ -159,4 +156,4 @@ returns g c =
     (λ other. b.files other ∙ ap (λ (items : List (Option (List ℕ))). if job.pin.number == other then c.take_files-joined.result else files_at other items) between))
     has)
     (infos_spent core.state c.joined_list-list.new.self mine.mine pins is) refl (unsure_spent core.state c.joined_list-list.new.self mine.mine pins is)
-    (rose_after (d.faults core.disk) (d.faults c.sync.new.self) (d.faults c.commit.new.disk) e.cause.later (c.in-Err.ensures.cause.rose refl)))
+    refl)

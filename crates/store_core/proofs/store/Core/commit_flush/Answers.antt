@@ -1,7 +1,8 @@
 use Rattle.std.proofs.Common.{◌∙◌, Some, refl, arith}
+use Rattle.disk_model.proofs.CallRuns.{plain_calls}
 use Rattle.block_list.specs.Commit.{slot_of}
 use Rattle.block_list.proofs.ReadyLemmas.{can_lay}
-use Rattle.store_core.proofs.CommitAnswers.{did_stopped, flush_here, rules_known, commits, next_generation, other_named, infos_spent, unsure_spent, unsure_after_spent, rose_after, spent_is, has_stopped_spent, took_over}
+use Rattle.store_core.proofs.CommitAnswers.{did_stopped, flush_here, rules_known, commits, next_generation, other_named, infos_spent, unsure_spent, unsure_after_spent, spent_is, has_stopped_spent, took_over}
 use Rattle.store_core.proofs.CommitEvents.{flush_commits, no_commit, did_sync_fail}
 use Rattle.store_core.proofs.FlushCommits.{did_flush_committed, did_flush_fail}
 use Rattle.store_core.proofs.States.{none_of}
@@ -14,9 +15,9 @@ pub returns-in_default-sync : goal.returns-in_default-sync
 returns-in_default-sync g c =
     let core = c.args.self.now in
     let e = c.sync.ensures in
-    did_stopped g.D.Device core c.stop_writing.new.self _ _ c.stop_writing.result c.stop_writing.ensures.fault c.stop_writing.ensures.stopped
+    did_stopped g.D.Device core c.stop_writing.new.self _ _ c.stop_writing.ensures
     (did_sync_fail g.D.Device g.met.D.Device.only_now core c.sync.new.self _ (flush_commits c.args.job.out.number c.args.info.rows) (none_of core.state.read_only c.in_default.not-Some)
-    e.telling e.same_bytes e.crash e.time e.cause.later e.one_call e.no_read (g.D.Device.faults c.sync.new.self) refl (c.in_default-sync.ensures.cause.rose refl))
+    _ (plain_calls g.D.Device core.disk c.sync.new.self _ 0 e.time.later c.in_default-sync.ensures.counted) e.same_bytes e.crash e.time (g.D.Device.faults c.sync.new.self) refl refl)
 
 pub next_list-list-requires-clause-rules : goal.next_list-list-requires-clause-rules
 next_list-list-requires-clause-rules g c =
@@ -52,26 +53,24 @@ returns-in-Ok-commit g c =
     let follows = s.text.generation ∙ next_generation core.state mine.mine c.rows_in.result list mine.known s.list in
     did_flush_committed d g.met.D.Device.only_now core c.sync.new.self c.commit.new.disk c.args.job.out.number c.args.job.out.file c.args.info.rows (slot_of text) c.args.job.rows c.requires.block.firsts c.args.info list
     (commits d core known.0 known.1 c.args.job.out.number c.args.job.out.file c.args.job.rows known.2 c.args.info writes c.requires.size c.requires.block list c.rows_in.result c.rows_in.ensures s.list)
-    (record {
-      telling = e.telling;
+    _ (record {
+      telling = c.in-Ok.ensures.counted.telling;
       same = e.same_bytes;
       crash = e.crash;
       time = e.time;
       lasting = c.in-Ok.ensures.lasting;
-      later = e.cause.later;
-      calls = e.one_call;
-      reads = e.no_read;
+      result = _;
+      fine = refl;
+      made = plain_calls d core.disk c.sync.new.self _ 0 e.time.later c.in-Ok.ensures.counted;
     })
     (record {
       below = omega arith;
       run = λ told ready. w.any_moment told (can_lay (d.held c.sync.new.self) (d.may_leave c.sync.new.self) (Some core.state.list) text ready follows) (Some core.state.list) list ready.stands follows s.text;
       besides = w.besides;
-      telling = w.telling;
-      later = w.cause.later;
-      calls = (w.calls.later, w.calls.at_most);
-      reads = w.no_read;
+      telling = w.counted.telling;
+      made = c.in-Ok-commit.ensures.counted;
     })
-    c.take_over.new.self (unsure_after_spent core.state c.next_list-list.new.self c.take_over.new.self mine.mine (spent_is core.state c.next_list-list.new.self mine.mine mine.known s.same s.flush) t.same.2)
+    refl c.take_over.new.self (unsure_after_spent core.state c.next_list-list.new.self c.take_over.new.self mine.mine (spent_is core.state c.next_list-list.new.self mine.mine mine.known s.same s.flush) t.same.2)
     (λ m has.
     let here = flush_here core.state known.0 m c.args.job.out.number c.args.job.out.file c.args.job.rows known.1.has known.2 has in
     took_over core.state c.next_list-list.new.self c.take_over.new.self list c.args.info m here.mine has here.known (spent_is core.state c.next_list-list.new.self here.mine here.known s.same s.flush)
@@ -93,30 +92,28 @@ returns g c =
     let mine = flush_here core.state known.0 known.0 c.args.job.out.number c.args.job.out.file c.args.job.rows known.1.has known.2 known.1.has in
     let follows = s.text.generation ∙ next_generation core.state mine.mine c.rows_in.result list mine.known s.list in
     let is = spent_is core.state c.next_list-list.new.self mine.mine mine.known s.same s.flush in
-    did_stopped d core c.stop_writing-in-Err.new.self _ _ c.stop_writing-in-Err.result c.stop_writing-in-Err.ensures.fault c.stop_writing-in-Err.ensures.stopped
+    did_stopped d core c.stop_writing-in-Err.new.self _ _ c.stop_writing-in-Err.ensures
     (did_flush_fail d g.met.D.Device.only_now core c.sync.new.self c.commit.new.disk c.args.job.out.number c.args.job.out.file c.args.info.rows (slot_of text) c.args.job.rows c.requires.block.firsts c.args.info list
     (commits d core known.0 known.1 c.args.job.out.number c.args.job.out.file c.args.job.rows known.2 c.args.info writes c.requires.size c.requires.block list c.rows_in.result c.rows_in.ensures s.list)
-    (record {
-      telling = e.telling;
+    _ (record {
+      telling = c.in-Ok.ensures.counted.telling;
       same = e.same_bytes;
       crash = e.crash;
       time = e.time;
       lasting = c.in-Ok.ensures.lasting;
-      later = e.cause.later;
-      calls = e.one_call;
-      reads = e.no_read;
+      result = _;
+      fine = refl;
+      made = plain_calls d core.disk c.sync.new.self _ 0 e.time.later c.in-Ok.ensures.counted;
     })
     (record {
       below = omega arith;
       run = λ told ready. w.any_moment told (can_lay (d.held c.sync.new.self) (d.may_leave c.sync.new.self) (Some core.state.list) text ready follows) (Some core.state.list) list ready.stands follows s.text;
       besides = w.besides;
-      telling = w.telling;
-      later = w.cause.later;
-      calls = (w.calls.later, w.calls.at_most);
-      reads = w.no_read;
+      telling = w.counted.telling;
+      made = c.in-Err.ensures.counted;
     })
     _
     (λ m has.
     let here = flush_here core.state known.0 m c.args.job.out.number c.args.job.out.file c.args.job.rows known.1.has known.2 has in
     has_stopped_spent core.state c.next_list-list.new.self here.mine (d.faults c.commit.new.disk) m here.known (spent_is core.state c.next_list-list.new.self here.mine here.known s.same s.flush) has)
-    (infos_spent core.state c.next_list-list.new.self mine.mine is) refl (unsure_spent core.state c.next_list-list.new.self mine.mine is) (rose_after (d.faults core.disk) (d.faults c.sync.new.self) (d.faults c.commit.new.disk) e.cause.later (c.in-Err.ensures.cause.rose refl)))
+    (infos_spent core.state c.next_list-list.new.self mine.mine is) refl (unsure_spent core.state c.next_list-list.new.self mine.mine is) refl)

@@ -66,7 +66,7 @@ returns-in-None-clause-counted g c =
     c.open_new.ensures.list
 
 pub returns-in-None-clause-ready : goal.returns-in-None-clause-ready
-returns-in-None-clause-ready g c = if_ok_more c.open_new.result _ _ (λ core ready told. ready (subst IsTrue (sym c.load.ensures.telling) told)) c.open_new.ensures.ready
+returns-in-None-clause-ready g c = if_ok_more c.open_new.result _ _ (λ core ready told. ready (subst IsTrue (sym c.load.ensures.counted.telling) told)) c.open_new.ensures.ready
 
 pub returns-in-None-clause-opened : goal.returns-in-None-clause-opened
 returns-in-None-clause-opened g c =
@@ -79,17 +79,17 @@ pub returns-in-None-clause-kept : goal.returns-in-None-clause-kept
 returns-in-None-clause-kept g c =
     let d = g.D.Device in
     let mid = c.load.new.disk in
-    if_ok_more c.open_new.result _ _ (λ core run. kept_then d c.args.disk mid core.disk c.load.ensures.telling (kept_loaded d c.args.disk mid c.load.ensures.kept)
+    if_ok_more c.open_new.result _ _ (λ core run. kept_then d c.args.disk mid core.disk c.load.ensures.counted.telling (kept_loaded d c.args.disk mid c.load.ensures.kept)
     (kept_new d g.met.D.Device.counts_now g.met.D.Device.held_may_stay mid core.disk
-    (λ told. subst (λ (l : Option ListBody). IsReady (d.held mid) (d.may_leave mid) l) c.in-None.is (c.in-Ok.ensures.ready (subst IsTrue c.load.ensures.telling told))) run)) c.open_new.ensures.any_moment
+    (λ told. subst (λ (l : Option ListBody). IsReady (d.held mid) (d.may_leave mid) l) c.in-None.is (c.in-Ok.ensures.ready (subst IsTrue c.load.ensures.counted.telling told))) run)) c.open_new.ensures.any_moment
 
 pub returns-in-None-clause-kept_refused : goal.returns-in-None-clause-kept_refused
 returns-in-None-clause-kept_refused g c =
     let d = g.D.Device in
     let mid = c.load.new.disk in
-    if_err_more c.open_new.result _ _ (λ e run. kept_then d c.args.disk mid e.1 c.load.ensures.telling (kept_loaded d c.args.disk mid c.load.ensures.kept)
+    if_err_more c.open_new.result _ _ (λ e run. kept_then d c.args.disk mid e.1 c.load.ensures.counted.telling (kept_loaded d c.args.disk mid c.load.ensures.kept)
     (kept_new d g.met.D.Device.counts_now g.met.D.Device.held_may_stay mid e.1
-    (λ told. subst (λ (l : Option ListBody). IsReady (d.held mid) (d.may_leave mid) l) c.in-None.is (c.in-Ok.ensures.ready (subst IsTrue c.load.ensures.telling told))) run)) c.open_new.ensures.any_moment_refused
+    (λ told. subst (λ (l : Option ListBody). IsReady (d.held mid) (d.may_leave mid) l) c.in-None.is (c.in-Ok.ensures.ready (subst IsTrue c.load.ensures.counted.telling told))) run)) c.open_new.ensures.any_moment_refused
 
 pub returns-in-None-clause-not_store : goal.returns-in-None-clause-not_store
 returns-in-None-clause-not_store g c = if_err_more c.open_new.result _ _ (λ e never told file at is. absurd (never file at is)) c.open_new.ensures.a_store
@@ -111,7 +111,7 @@ returns-in-Ok-read_store-clause-counted g c = λ told.
     (Some c.in-Some.list, subst (λ (l : Option ListBody). ImageHoldsList (d.held c.args.disk) l) c.in-Some.is (c.in-Ok.ensures.list told))
 
 pub returns-in-Ok-read_store-clause-ready : goal.returns-in-Ok-read_store-clause-ready
-returns-in-Ok-read_store-clause-ready g c = λ told. c.in-Ok-read_store.ensures.ready (subst IsTrue (sym c.load.ensures.telling) told)
+returns-in-Ok-read_store-clause-ready g c = λ told. c.in-Ok-read_store.ensures.ready (subst IsTrue (sym c.load.ensures.counted.telling) told)
 
 pub returns-in-Err-read_store-clause-left : goal.returns-in-Err-read_store-clause-left
 returns-in-Err-read_store-clause-left g c = λ told other.
@@ -122,7 +122,7 @@ returns-in-Err-read_store-clause-left g c = λ told other.
     (left_loaded d disk mid (Some c.in-Some.list) (c.load.ensures.kept told)
     (subst (λ (l : Option ListBody). ImageHoldsList (d.held disk) l) c.in-Some.is (c.in-Ok.ensures.list told))
     (subst (λ (l : Option ListBody). IsReady (d.held mid) (d.may_leave mid) l) c.in-Some.is (c.in-Ok.ensures.ready told)) (c.load.ensures.slots told) (c.load.ensures.others told))
-    (left_untouched d mid c.read_store.new.disk (subst IsTrue (sym c.load.ensures.telling) told) (c.in-Err-read_store.ensures.left other))
+    (left_untouched d mid c.read_store.new.disk (subst IsTrue (sym c.load.ensures.counted.telling) told) (c.in-Err-read_store.ensures.left other))
 
 pub returns-in-Ok-read_store-clause-opened : goal.returns-in-Ok-read_store-clause-opened
 returns-in-Ok-read_store-clause-opened g c =
@@ -132,15 +132,16 @@ returns-in-Ok-read_store-clause-opened g c =
     let list = c.in-Some.list in
     let state = c.in-Ok-read_store.ensures.state in
     opened_existing d disk mid c.args.moment _ list (c.in-Ok.ensures.rules list (ap Ok c.in-Some.is)) state.0
-    c.load.ensures.telling (c.read_store.ensures.telling ∙ c.load.ensures.telling)
+    c.load.ensures.counted.telling (c.read_store.ensures.counted.telling ∙ c.load.ensures.counted.telling)
     (λ told. subst (λ (l : Option ListBody). ImageHoldsList (d.held disk) l) c.in-Some.is (c.in-Ok.ensures.list told))
     (λ told. (subst (λ (l : Option ListBody). IsReady (d.held mid) (d.may_leave mid) l) c.in-Some.is (c.in-Ok.ensures.ready told)).stands) c.load.ensures.others
     state.1 state.2 c.in-Ok-read_store.ensures.blocks c.in-Ok-read_store.ensures.still c.in-Ok-read_store.ensures.blocks_still c.in-Ok-read_store.ensures.settled
+    g.met.D.Device.only_now c.now.ensures
 
 pub returns-in-Ok-read_store-clause-kept : goal.returns-in-Ok-read_store-clause-kept
 returns-in-Ok-read_store-clause-kept g c =
     let d = g.D.Device in
-    kept_then d c.args.disk c.load.new.disk c.read_store.new.disk c.load.ensures.telling (kept_loaded d c.args.disk c.load.new.disk c.load.ensures.kept) c.read_store.ensures.kept
+    kept_then d c.args.disk c.load.new.disk c.read_store.new.disk c.load.ensures.counted.telling (kept_loaded d c.args.disk c.load.new.disk c.load.ensures.kept) c.read_store.ensures.kept
 
 pub returns-in-Ok-read_store-clause-unbroken : goal.returns-in-Ok-read_store-clause-unbroken
 returns-in-Ok-read_store-clause-unbroken g c = λ told file at broken.
@@ -150,7 +151,7 @@ returns-in-Ok-read_store-clause-unbroken g c = λ told file at broken.
     let list = c.in-Some.list in
     let rules = c.in-Ok.ensures.rules list (ap Ok c.in-Some.is) in
     let state = c.in-Ok-read_store.ensures.state in
-    let told_mid : IsTrue (d.tells mid) = subst IsTrue (sym c.load.ensures.telling) told in
+    let told_mid : IsTrue (d.tells mid) = subst IsTrue (sym c.load.ensures.counted.telling) told in
     store_unbroken (d.held disk) list state.0 file at
     (subst (λ (l : Option ListBody). slots_at (bytes_of (d.held disk) 0) (bytes_of (d.held disk) 1) ≡ Ok l) c.in-Some.is (c.in-Ok.ensures.found told))
     (whole_same (d.held disk) (d.held mid) list.blocks (λ x inside. c.load.ensures.others told x.file (block_low list rules x inside))
@@ -161,7 +162,7 @@ returns-in-Ok-read_store-clause-unbroken g c = λ told file at broken.
 pub returns-in-Err-read_store-clause-kept_refused : goal.returns-in-Err-read_store-clause-kept_refused
 returns-in-Err-read_store-clause-kept_refused g c =
     let d = g.D.Device in
-    kept_then d c.args.disk c.load.new.disk c.read_store.new.disk c.load.ensures.telling (kept_loaded d c.args.disk c.load.new.disk c.load.ensures.kept) c.read_store.ensures.kept
+    kept_then d c.args.disk c.load.new.disk c.read_store.new.disk c.load.ensures.counted.telling (kept_loaded d c.args.disk c.load.new.disk c.load.ensures.kept) c.read_store.ensures.kept
 
 pub returns-in-Err-read_store-clause-not_store : goal.returns-in-Err-read_store-clause-not_store
 returns-in-Err-read_store-clause-not_store g c = λ told file at is.
@@ -169,7 +170,7 @@ returns-in-Err-read_store-clause-not_store g c = λ told file at is.
     let disk = c.args.disk in
     let mid = c.load.new.disk in
     let list = c.in-Some.list in
-    let told_mid : IsTrue (d.tells mid) = subst IsTrue (sym c.load.ensures.telling) told in
+    let told_mid : IsTrue (d.tells mid) = subst IsTrue (sym c.load.ensures.counted.telling) told in
     listed list (subst (λ (l : Option ListBody). slots_at (bytes_of (d.held disk) 0) (bytes_of (d.held disk) 1) ≡ Ok l) c.in-Some.is (c.in-Ok.ensures.found told))
     (list_breaks_same (d.held disk) (d.held mid) list file at
     (λ x inside. c.load.ensures.others told x.file (segment_low list (c.in-Ok.ensures.rules list (ap Ok c.in-Some.is)) x inside))
@@ -181,7 +182,7 @@ returns-in-Err-read_store-clause-sound g c = λ told sound file at is.
     let disk = c.args.disk in
     let mid = c.load.new.disk in
     let list = c.in-Some.list in
-    let told_mid : IsTrue (d.tells mid) = subst IsTrue (sym c.load.ensures.telling) told in
+    let told_mid : IsTrue (d.tells mid) = subst IsTrue (sym c.load.ensures.counted.telling) told in
     sound_unbroken (d.held disk) sound.0 file at sound.1
     (listed list (subst (λ (l : Option ListBody). slots_at (bytes_of (d.held disk) 0) (bytes_of (d.held disk) 1) ≡ Ok l) c.in-Some.is (c.in-Ok.ensures.found told))
     (list_breaks_same (d.held disk) (d.held mid) list file at

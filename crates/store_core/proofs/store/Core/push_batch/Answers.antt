@@ -1,11 +1,18 @@
-use Rattle.std.proofs.Common.{◌++◌, ℕ, List, refl, sym, ◌∙◌, ap, subst}
+use Rattle.std.proofs.Common.{◌++◌, ◌+◌, ℕ, List, length, Some, refl, sym, ◌∙◌, ap, subst}
 use Rattle.span_types.specs.declared.spans.Span.{Span}
 use Rattle.disk_model.specs.Images.{bytes_of}
+use Rattle.head_log.specs.Bodies.{body_bytes}
 use Rattle.head_log.specs.Stands.{IsBatchBody}
 use Rattle.store_model.specs.History.{batch_rows}
 use Rattle.store_model.specs.State.{LiveRow}
 use Rattle.store_model.specs.After.{arrived}
+use Rattle.store_model.specs.Event.Event.{Push}
+use Rattle.store_model.specs.Event.Reply.{Refused}
+use Rattle.store_model.specs.Event.Refusal.{Fault}
 use Rattle.store_state.specs.Replies.{push_refusal}
+use Rattle.store_core.specs.Events.{Did, end_of}
+use Rattle.store_core.specs.declared.store.Core.{Core}
+use Rattle.store_core.proofs.Counted.{made_as}
 use Rattle.store_core.proofs.PushEvents.{did_refused, did_lacking, did_pushed, did_broken}
 use Rattle.store_core.proofs.store.Core.push_batch.Goals as goal
 
@@ -33,15 +40,14 @@ returns-in-Ok-append g c =
     let same = c.reserve.ensures.same in
     let ready = c.in-Ok-reserve.ensures.ready in
     let shown = c.in-Ok-append.ensures.shown in
-    let calls = c.in-Ok-append.ensures.calls in
     let known = bytes_of (d.held core.disk) seg.file in
     let body = subst (λ (n : ℕ). IsBatchBody n spans c.in-Ok-of.entry.body) (sym c.in-Ok-of.ensures.number) (c.in-Ok-of.ensures.body sure.1) in
-    did_pushed d core c.append.new.disk spans c.args.moment (λ m has. c.in-Ok.ensures.free m c.args.moment has) sure.0 c.append.ensures.telling
+    did_pushed d core c.append.new.disk spans c.args.moment (λ m has. c.in-Ok.ensures.free m c.args.moment has) sure.0 _ (made_as d core.disk c.append.new.disk _ (seg.gate + 10 + length c.in-Ok-of.entry.body) (end_of core.state (Push spans c.args.moment)) (ap (λ (b : List ℕ). seg.gate + 10 + length b) (c.in-Ok-of.ensures.spelled ∙ ap (λ (n : ℕ). body_bytes n spans) sure.2)) c.in-Ok-append.ensures.counted)
     (λ told. record {
       any_moment = λ batches only holds counted. c.append.ensures.any_moment batches spans known told only holds counted body;
       besides = c.append.ensures.besides told;
     })
-    c.add.new.self c.append.new.seg c.in-Ok.number c.in-Ok.ensures.number sure.1 sure.2
+    refl c.add.new.self c.append.new.seg c.in-Ok.number c.in-Ok.ensures.number sure.1 sure.2
     (c.add.ensures.added
     ∙ ap (λ (l : List LiveRow). l ++ arrived c.args.moment (batch_rows c.in-Ok-reserve.ready.number c.in-Ok-reserve.ready.spans)) same.0
     ∙ ap (λ (n : ℕ). core.state.live.live ++ arrived c.args.moment (batch_rows n c.in-Ok-reserve.ready.spans)) ready.0
@@ -49,7 +55,6 @@ returns-in-Ok-append g c =
     (c.add.ensures.same.0 ∙ same.1) (c.add.ensures.same.1 ∙ same.2)
     shown.0 shown.1 shown.2 (g.met.D.Device.held_may_stay core.disk)
     (λ told batches only holds counted. c.in-Ok-append.ensures.acknowledged batches spans known told only holds counted body)
-    c.append.ensures.cause.later (record { later = calls.later; at_most = calls.at_most; exact = λ few. calls.all refl few }) c.append.ensures.no_read
 
 pub returns : goal.returns
 returns g c =
@@ -62,11 +67,12 @@ returns g c =
     let ready = c.in-Ok-reserve.ensures.ready in
     let known = bytes_of (d.held core.disk) seg.file in
     let body = subst (λ (n : ℕ). IsBatchBody n spans c.in-Ok-of.entry.body) (sym c.in-Ok-of.ensures.number) (c.in-Ok-of.ensures.body sure.1) in
-    did_broken d core c.append.new.disk spans c.args.moment (λ m has. c.in-Ok.ensures.free m c.args.moment has) sure.0 c.append.ensures.telling
+    subst (λ (s : Core _). Did d core (Push spans c.args.moment) (Refused Fault) (record s { state = record s.state { unsure = Some c.in-Ok-reserve.ready } })) (sym c.stop_writing.ensures)
+    (did_broken d core c.append.new.disk spans c.args.moment (λ m has. c.in-Ok.ensures.free m c.args.moment has) sure.0 _ (made_as d core.disk c.append.new.disk _ (seg.gate + 10 + length c.in-Ok-of.entry.body) (end_of core.state (Push spans c.args.moment)) (ap (λ (b : List ℕ). seg.gate + 10 + length b) (c.in-Ok-of.ensures.spelled ∙ ap (λ (n : ℕ). body_bytes n spans) sure.2)) c.in-Err-append.ensures.counted)
     (λ told. record {
       any_moment = λ batches only holds counted. c.append.ensures.any_moment batches spans known told only holds counted body;
       besides = c.append.ensures.besides told;
     })
-    c.reserve.new.self c.append.new.seg c.in-Ok-reserve.ready c.faults-faults.result c.faults-faults.ensures
+    c.reserve.new.self c.append.new.seg c.in-Ok-reserve.ready (d.faults c.append.new.disk) refl
     (record { live = same.0; head = same.1; flushing = same.2 })
-    c.in-Err-append.ensures.stays ready.1 (c.in-Err-append.ensures.cause.rose refl) c.append.ensures.cause.later (c.append.ensures.calls.later, c.append.ensures.calls.at_most) c.append.ensures.no_read
+    c.in-Err-append.ensures.stays ready.1 refl)

@@ -3,4 +3,4 @@ use Rattle.store_core.proofs.store.Core.read_page.Goals as goal
 
 pub returns-clause-did : goal.returns-clause-did
 returns-clause-did g c = page_done g.D.Device c.args.self.now c.read_into.new.disk c.args.pin.now.number c.args.block c.args.page c.read_into.ensures.untouched
-    c.read_into.ensures.cause.later c.read_into.ensures.calls c.read_into.ensures.reads c.read_into.result c.read_into.new.buf c.read_into.ensures.bytes c.read_into.ensures.cause.rose
+    c.read_into.ensures.calls c.read_into.ensures.reads c.read_into.result c.read_into.new.buf c.read_into.ensures.bytes c.read_into.ensures.counted

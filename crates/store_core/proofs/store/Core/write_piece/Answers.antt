@@ -1,6 +1,12 @@
-use Rattle.std.proofs.Common.{ℕ, List, length, refl, ◌∙◌, ap, arith, length-append}
+use Rattle.std.proofs.Common.{ℕ, ◌+◌, List, length, refl, sym, subst, ◌∙◌, ap, arith, length-append}
 use Rattle.disk_model.specs.Images.{bytes_of}
+use Rattle.disk_model.proofs.CallRuns.{write_calls}
 use Rattle.disk_model.proofs.BytesLemmas.{overwritten_end}
+use Rattle.store_model.specs.Event.Event.{WritePiece}
+use Rattle.store_model.specs.Event.Reply.{Refused}
+use Rattle.store_model.specs.Event.Refusal.{Fault}
+use Rattle.store_core.specs.Events.{Did}
+use Rattle.store_core.specs.declared.store.Core.{Core}
 use Rattle.store_core.proofs.OpenJobs.{job_file}
 use Rattle.store_core.proofs.PieceEvents.{no_piece, did_piece, did_piece_fail}
 use Rattle.store_core.proofs.States.{none_of}
@@ -18,8 +24,8 @@ returns-in-Ok-clause-did g c =
     let known = c.requires.job in
     did_piece g.D.Device g.met.D.Device.only_now core c.write.new.self c.args.out.now.number c.args.out.now.file c.args.out.now.written c.args.bytes.now (none_of core.state.read_only c.in_default.not-Some)
     (job_file core.state known.0 c.args.out.now known.1.has known.2)
-    c.write.ensures.telling c.write.ensures.besides c.write.ensures.crash c.write.ensures.time c.write.ensures.cause.later c.write.ensures.one_call c.write.ensures.no_read
-    c.in-Ok.ensures.written c.requires.whole
+    _ (write_calls g.D.Device core.disk c.write.new.self _ (c.args.out.now.written + length c.args.bytes.now) c.write.ensures.time.later c.in-Ok.ensures.counted) c.write.ensures.besides c.write.ensures.crash c.write.ensures.time
+    c.in-Ok.ensures.written c.requires.whole refl
 
 pub returns-in-Ok-clause-whole : goal.returns-in-Ok-clause-whole
 returns-in-Ok-clause-whole g c = λ told other.
@@ -34,7 +40,8 @@ pub returns-in-Err-clause-did : goal.returns-in-Err-clause-did
 returns-in-Err-clause-did g c =
     let core = c.args.self.now in
     let known = c.requires.job in
-    did_piece_fail g.D.Device g.met.D.Device.only_now core c.write.new.self c.args.out.now.number c.args.out.now.file c.args.out.now.written c.args.bytes.now (none_of core.state.read_only c.in_default.not-Some)
+    subst (λ (s : Core _). Did g.D.Device core (WritePiece c.args.out.now.number c.args.out.now.file c.args.bytes.now) (Refused Fault) s) (sym c.stop_writing.ensures)
+    (did_piece_fail g.D.Device g.met.D.Device.only_now core c.write.new.self c.args.out.now.number c.args.out.now.file c.args.out.now.written c.args.bytes.now (none_of core.state.read_only c.in_default.not-Some)
     (job_file core.state known.0 c.args.out.now known.1.has known.2)
-    c.write.ensures.telling c.write.ensures.besides c.write.ensures.crash c.write.ensures.time c.write.ensures.cause.later c.write.ensures.one_call c.write.ensures.no_read
-    c.faults-faults.result c.faults-faults.ensures (c.in-Err.ensures.cause.rose refl)
+    _ (write_calls g.D.Device core.disk c.write.new.self _ (c.args.out.now.written + length c.args.bytes.now) c.write.ensures.time.later c.in-Err.ensures.counted) c.write.ensures.besides c.write.ensures.crash c.write.ensures.time
+    (g.D.Device.faults c.write.new.self) refl refl)

@@ -1,0 +1,30 @@
+-- What a run of calls makes of a disk's counts, and what it leaves alone.
+use Rattle.std.specs.Prelude.{◌≡◌, ℕ, ◌^◌, ◌<◌, ◌≤◌, Result, IsOk, IsErr, IsErrOf}
+use Rattle.disk_model.specs.Counts.{Raised, MakesCalls}
+use Rattle.disk_model.specs.declared.disk.Device.{Ghosts}
+
+-- A run that ends with its first failed call: no call failed where it is fine, and just one where it failed. None of its
+-- writes ends after `end`. Whether the disk tells its bytes stays.
+pub record Counts {D : Type 0} (g : Ghosts D) (end : ℕ) (fine failed : Type 0) (old new : D) : Type 0 where
+  pub time : g.moment old ≤ g.moment new
+  pub telling : g.tells new ≡ g.tells old
+  pub later : g.faults old ≤ g.faults new
+  pub quiet : fine → g.faults new ≡ g.faults old
+  pub fault : failed → Raised (g.faults old) (g.faults new)
+  pub near : end < 2 ^ 63 → g.far_writes new ≡ g.far_writes old
+
+-- A run of at most so many calls, and of just so many where it succeeds, none of them a read. It ends with its first
+-- failed call, and none of its writes ends after `end`.
+pub record Calls {D T E : Type 0} (g : Ghosts D) (count end : ℕ) (old new : D) (result : Result T E) : Type 0 where
+  pub time : g.moment old ≤ g.moment new
+  pub telling : g.tells new ≡ g.tells old
+  pub later : g.faults old ≤ g.faults new
+  pub quiet : IsOk result → g.faults new ≡ g.faults old
+  pub fault : IsErr result → Raised (g.faults old) (g.faults new)
+  pub near : end < 2 ^ 63 → g.far_writes new ≡ g.far_writes old
+  pub calls : MakesCalls count (g.calls old) (g.calls new) result
+  pub no_read : g.reads new ≡ g.reads old
+
+-- A run that can end otherwise than by a failed call: it answers `fault` just where a call failed.
+abbrev pub CountsFault : {D T E : Type 0} → Ghosts D → ℕ → E → D → D → Result T E → Type 0
+CountsFault g end fault old new result = Counts g end (IsErrOf result fault → ⊥) (IsErrOf result fault) old new
