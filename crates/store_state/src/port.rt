@@ -1,6 +1,6 @@
 //! The calls of a store.
 
-ghost use Rattle.std.specs.Prelude.{◌≡◌, ◌≢◌, ◌≤◌, ◌+◌, ⊥, ℕ, List, length, Err, IsTrue, IfOk, IfSome, OnOk, OnErr};
+ghost use Rattle.std.specs.Prelude.{◌≡◌, ◌≢◌, ◌≤◌, ◌+◌, ℕ, List, length, Err, IsTrue, IfOk, IfSome, OnOk, OnErr};
 ghost use Rattle.block_info.specs.InfoParts.{InfoParts};
 ghost use Rattle.store_model.specs.Event.Event.{Push, Cut, CutAll, Held, BeginFlush, BeginCompact, WritePiece, CommitFlush, CommitCompact, DropFlush, DropCompact, Look as TakeLook, ReadPage, Done, Reclaim};
 ghost use Rattle.store_model.specs.Event.Reply.{Count, Fine};
