@@ -48,7 +48,9 @@ pub fn prepare(alloc: Global, body: &ListBody) -> Result<PreparedList, Memory>
 /// A body in bytes, where it isn't known whether it meets the rules. One with more entries of a kind than there are numbers of
 /// files is refused for memory.
 pub fn prepare_any(alloc: Global, body: &ListBody) -> Result<PreparedList, Memory>
-    ensures { MeetsRules body.now → IfOk result (λ list. IsListText list body.now) }
+    ensures text { MeetsRules body.now → IfOk result (λ list. IsListText list body.now) }
+    // The text is short, whatever the body.
+    ensures short { IfOk result (λ list. 1 + length list.text < 2 ^ 63) }
 {
     let (segments, blocks, loose) = (body.segments.len(), body.blocks.len(), body.loose.len());
     if segments > MOST_ENTRIES || blocks > MOST_ENTRIES || loose > MOST_ENTRIES {

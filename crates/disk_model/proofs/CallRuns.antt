@@ -1,8 +1,9 @@
 -- How the counts of runs of calls join, and those of one call.
 use Rattle.std.proofs.Common.{◌≡◌, ℕ, ◌+◌, ◌^◌, ◌<◌, ◌≤◌, Result, Ok, Err, IsOk, IsErr, refl, ◌∙◌, subst, arith}
+use Rattle.std.specs.Prelude.{IsErrOf}
 use Rattle.span_types.specs.Faults.{Rose}
 use Rattle.disk_model.specs.Counts.{Kind, Plain, Writing, IsNear, Raised, RoseBy, MakesCalls, IsOneCall}
-use Rattle.disk_model.specs.Calls.{Counts, Calls}
+use Rattle.disk_model.specs.Calls.{Counts, Calls, CountsFault}
 use Rattle.disk_model.specs.Crash.{HasCause}
 use Rattle.disk_model.proofs.Counting.{not_both}
 use Rattle.disk_model.specs.declared.disk.Device.{Ghosts}
@@ -108,6 +109,25 @@ module _ {D : Type 0} (g : Ghosts D) where
     fault = λ f. run.fault (to_failed f);
     near = run.near;
   }
+
+  -- a run that answers a fault by another error, or by another result
+  pub fault_as : {S T E F : Type 0} (end : ℕ) (fault : E) (fault' : F) (old new : D) (first : Result S E) (result : Result T F) → CountsFault g end fault old new first
+      → (IsErrOf first fault → IsErrOf result fault') → (IsErrOf result fault' → IsErrOf first fault) → CountsFault g end fault' old new result
+  fault_as end fault fault' old new first result run to from =
+      counts_as end (IsErrOf first fault → ⊥) (IsErrOf first fault) (IsErrOf result fault' → ⊥) (IsErrOf result fault') old new run (λ fine is. fine (to is)) from
+
+  -- one that answered no fault
+  pub fault_fine : {T E : Type 0} (end : ℕ) (fault : E) (old new : D) (result : Result T E) → CountsFault g end fault old new result
+      → (IsErrOf result fault → ⊥) → Counts g end (Unit {0}) ⊥ old new
+  fault_fine end fault old new result run fine =
+      counts_as end (IsErrOf result fault → ⊥) (IsErrOf result fault) (Unit {0}) ⊥ old new run (λ _. fine) (λ f. absurd f)
+
+  -- a fault that a run of calls answers, and none
+  pub fault_of : {S E T F : Type 0} (count end : ℕ) (fault : F) (old new : D) (first : Result S E) (result : Result T F) → Calls g count end old new first
+      → (IsErr first → IsErrOf result fault) → (IsOk first → IsErrOf result fault → ⊥) → CountsFault g end fault old new result
+  fault_of count end fault old new first result run failed fine =
+      counts_as end (IsOk first) (IsErr first) (IsErrOf result fault → ⊥) (IsErrOf result fault) old new (calls_counts old new first count end run)
+      (λ no. ok_or_err first (IsOk first) (λ ok. ok) (λ err. absurd (no (failed err)))) (λ is. ok_or_err first (IsErr first) (λ ok. absurd (fine ok is)) (λ err. err))
 
   pub counts_wider : (end more : ℕ) (fine failed : Type 0) (old new : D) → end ≤ more → Counts g end fine failed old new → Counts g more fine failed old new
   counts_wider end more fine failed old new wider run = record {

@@ -1,25 +1,6 @@
 -- Reading a file block by block.
 use Rattle.std.proofs.Common.{◌≡◌, ℕ, zero, suc, ◌+◌, ◌-◌, ◌<◌, ◌≤◌, min, Bool, List, [], ◌∷◌, ◌++◌, length, take, drop, Result, Err, refl, sym, ap, subst, ◌∙◌, arith}
-use Rattle.std.specs.Prelude.{IsErrOf}
 use Rattle.std.proofs.lemmas.List.{append-nil, take_all, length-take, length-append, length-drop}
-use Rattle.head_log.specs.declared.read_back.Unread.{Unread}
-use Rattle.head_log.specs.declared.read_back.Unread.TheVariants as unread
-use Rattle.head_log.specs.Blocks.{CausesUnread}
-
--- a fault after some calls
-pub causes_then : {S T : Type 0} (before mid now : ℕ) (first : Result S Unread) (result : Result T Unread) → before ≤ mid → CausesUnread mid now first
-    → (IsErrOf result unread.Fault → IsErrOf first unread.Fault) → CausesUnread before now result
-causes_then before mid now first result earlier causes same = record {
-  later = omega (arith, causes.later);
-  rose = λ e. let r = causes.rose (same e) in omega (arith, r, earlier);
-}
-
-same_error : {S T : Type 0} (e d : Unread) → (let a : Result T Unread = Err d in IsErrOf a unread.Fault) → d ≡ e → (let b : Result S Unread = Err e in IsErrOf b unread.Fault)
-same_error {S} {T} e d is same = let f : e ≡ unread.Fault = (let h = is in cc) in ap (λ (x : Unread). Err x) f
-
-pub causes_error : {S T : Type 0} (before mid now : ℕ) (e : Unread) (result : Result T Unread) (d : Unread) → before ≤ mid → (let first : Result S Unread = Err e in CausesUnread mid now first)
-    → result ≡ Err d → d ≡ e → CausesUnread before now result
-causes_error {S} {T} before mid now e result d earlier causes is same = causes_then before mid now (Err e) result earlier causes (λ h. same_error {S = S} {T = T} e d (sym is ∙ h) same)
 
 take_nil : (k : ℕ) → (let none : List ℕ = [] in take k none ≡ none)
 take_nil zero = refl

@@ -6,5 +6,4 @@ pub mod Stands
 pub mod Framing
 pub mod Scanning
 pub mod Outcomes
-pub mod Blocks
 pub mod Entries

@@ -1,6 +1,5 @@
 -- What a scan answers.
-use Rattle.std.specs.Prelude.{◌≡◌, ℕ, ◌≤◌, List, length, Result, Ok, Err, IsErrOf}
-use Rattle.span_types.specs.Faults.{Rose}
+use Rattle.std.specs.Prelude.{◌≡◌, ℕ, List, length, Result, Ok, Err}
 use Rattle.span_types.specs.declared.spans.Span.{Span}
 use Rattle.head_log.specs.declared.numbered.NumberedBatch.{NumberedBatch}
 use Rattle.head_log.specs.declared.segment.Segment.{Segment}
@@ -28,8 +27,3 @@ Recalls first batches gate (Ok x) = (x.1 ≡ entries first batches) × (x.0.gate
 Recalls first batches gate (Err (errors.NotLog f at)) = ⊥
 Recalls first batches gate (Err errors.Fault) = Unit {0}
 Recalls first batches gate (Err errors.Memory) = Unit {0}
-
--- the count of faults didn't fall, and a fault is answered only where it rose
-pub record CausesFault {T : Type 0} (before now : ℕ) (result : Result T LogError) : Type 0 where
-  pub later : before ≤ now
-  pub rose : IsErrOf result errors.Fault → Rose before now

@@ -2,12 +2,14 @@
 
 ghost use Rattle.std.specs.Prelude.{◌≡◌, ◌<◌, ◌≤◌, ◌+◌, ◌-◌, ◌++◌, ℕ, All, List, min, take, drop, IsTrue, IfOk, OnErr, IsErrOf, length};
 ghost use Rattle.disk_model.specs.Images.{bytes_of, SameBytes};
+ghost use Rattle.disk_model.specs.Calls.{CountsFault};
 ghost use Rattle.disk_model.specs.Crash.{Untouched};
 ghost use Rattle.span_types.specs.declared.spans.Span.{Span};
 ghost use Rattle.head_log.specs.Entries.{entries};
-ghost use Rattle.head_log.specs.Outcomes.{IsAt, Scans, Recalls, CausesFault};
+ghost use Rattle.head_log.specs.Outcomes.{IsAt, Scans, Recalls};
 ghost use Rattle.head_log.specs.Stands.{SegmentHolds};
-ghost use Rattle.head_log.specs.Blocks.{CausesUnread};
+ghost use Rattle.head_log.specs.declared.read_back.LogError.TheVariants as errors;
+ghost use Rattle.head_log.specs.declared.read_back.Unread.TheVariants as unread;
 
 use crate::numbered::Numbered;
 use crate::records::read_segment;
@@ -85,7 +87,8 @@ pub fn scan<D: Device>(
     ensures numbered { IfOk result (λ x. (batches : List (List Span)) × (x.1 ≡ entries first batches)) }
     ensures below { IfOk result (λ x. All (λ entry. entry.number < 4294967295) x.1) }
 
-    ensures fault { CausesFault (D.faults disk.old) (D.faults disk.new) result }
+    // A fault is answered just where a call failed, and it was the last one.
+    ensures counted { CountsFault D.Device.own 0 errors.Fault disk.old disk.new result }
     ensures untouched { Untouched D.tells D.held D.may_leave D.moment D.left_since disk.old disk.new }
 {
     let bytes = match read_file(alloc, disk, file) {
@@ -111,7 +114,7 @@ pub fn scan<D: Device>(
 /// All bytes of a file.
 fn read_file<D: Device>(alloc: Global, disk: &mut D, file: u32) -> Result<Vec<u8>, Unread>
     ensures bytes { IsTrue (D.tells disk.old) → IfOk result (λ v. v.items ≡ bytes_of (D.held disk.old) file) }
-    ensures fault { CausesUnread (D.faults disk.old) (D.faults disk.new) result }
+    ensures counted { CountsFault D.Device.own 0 unread.Fault disk.old disk.new result }
     ensures untouched { Untouched D.tells D.held D.may_leave D.moment D.left_since disk.old disk.new }
 {
     let mut bytes = Vec::new(alloc);
@@ -133,7 +136,7 @@ fn read_more<D: Device>(
 ) -> Result<usize, Unread>
     ensures bytes { IsTrue (D.tells disk.old) → IfOk result (λ n. bytes.new.items ≡ bytes.old.items ++ take n (drop (length bytes.old.items) (bytes_of (D.held disk.old) file))) }
     ensures count { IsTrue (D.tells disk.old) → IfOk result (λ n. n ≡ min (length block.old) (length (bytes_of (D.held disk.old) file) - length bytes.old.items)) }
-    ensures fault { CausesUnread (D.faults disk.old) (D.faults disk.new) result }
+    ensures counted { CountsFault D.Device.own 0 unread.Fault disk.old disk.new result }
     ensures untouched { Untouched D.tells D.held D.may_leave D.moment D.left_since disk.old disk.new }
 {
     let count = disk.read(file, bytes.len() as u64, block)?;

@@ -2,8 +2,8 @@
 
 ghost use Rattle.std.specs.Prelude.{◌≡◌, ℕ, ◌+◌, ◌<◌, ◌≤◌, ◌^◌, List, [], ◌∷◌, ◌++◌, length, IsTrue, OnOk, OnErr};
 ghost use Rattle.disk_model.specs.Images.{bytes_of, Besides};
-ghost use Rattle.disk_model.specs.Counts.{MakesCalls};
-ghost use Rattle.disk_model.specs.Crash.{OnlyBytes, RunInFile, HasCause};
+ghost use Rattle.disk_model.specs.Calls.{Calls};
+ghost use Rattle.disk_model.specs.Crash.{OnlyBytes, RunInFile};
 ghost use Rattle.head_log.specs.Records.{HasBodies, SegmentIsEither, framed};
 ghost use Rattle.head_log.specs.Stands.{IsBatchBody, SegmentHolds, SegmentKeepsEither};
 ghost use Rattle.span_types.specs.declared.spans.Span.{Span};
@@ -57,11 +57,7 @@ pub fn create<D: Device>(disk: &mut D, file: u32) -> Result<(), Failed>
     ensures any_moment { RunInFile D.moment D.left_since D.may_leave file (λ bytes. Unit {0}) (λ bytes. Unit {0}) disk.old disk.new }
     ensures besides { IsTrue (D.tells disk.old) → Besides file (D.held disk.old) (D.held disk.new) }
 
-    ensures time { D.moment disk.old ≤ D.moment disk.new }
-    ensures calls { MakesCalls 3 (D.calls disk.old) (D.calls disk.new) result }
-    ensures telling { D.tells disk.new ≡ D.tells disk.old }
-    ensures cause { HasCause (D.faults disk.old) (D.faults disk.new) result }
-    ensures no_read { D.reads disk.new ≡ D.reads disk.old }
+    ensures counted { Calls D.Device.own 3 2 disk.old disk.new result }
 {
     disk.cut(file, 0)?;
     write_through(disk, file, 0, &EMPTY)
@@ -97,11 +93,7 @@ pub fn append<D: Device>(disk: &mut D, seg: &mut Segment, entry: &Prepared) -> R
     ensures any_file { RunInFile D.moment D.left_since D.may_leave seg.old.file (λ bytes. Unit {0}) (λ bytes. Unit {0}) disk.old disk.new }
     ensures besides { IsTrue (D.tells disk.old) → Besides seg.old.file (D.held disk.old) (D.held disk.new) }
 
-    ensures time { D.moment disk.old ≤ D.moment disk.new }
-    ensures calls { MakesCalls 4 (D.calls disk.old) (D.calls disk.new) result }
-    ensures telling { D.tells disk.new ≡ D.tells disk.old }
-    ensures cause { HasCause (D.faults disk.old) (D.faults disk.new) result }
-    ensures no_read { D.reads disk.new ≡ D.reads disk.old }
+    ensures counted { Calls D.Device.own 4 (seg.old.gate + 10 + length entry.now.body) disk.old disk.new result }
 {
     let text = entry.text();
     append_record(disk, seg.file, seg.gate, text)?;
@@ -128,11 +120,8 @@ fn append_record<D: Device>(disk: &mut D, file: u32, gate: u64, text: &[u8]) -> 
 
     ensures near { OnOk result (gate + length text.now < 2 ^ 63) }
     ensures any_file { RunInFile D.moment D.left_since D.may_leave file (λ bytes. Unit {0}) (λ bytes. Unit {0}) disk.old disk.new }
-    ensures calls { MakesCalls 4 (D.calls disk.old) (D.calls disk.new) result }
     ensures besides { IsTrue (D.tells disk.old) → Besides file (D.held disk.old) (D.held disk.new) }
-    ensures telling { D.tells disk.new ≡ D.tells disk.old }
-    ensures cause { HasCause (D.faults disk.old) (D.faults disk.new) result }
-    ensures no_read { D.reads disk.new ≡ D.reads disk.old }
+    ensures counted { Calls D.Device.own 4 (gate + 1 + length text.now) disk.old disk.new result }
 {
     write_through(disk, file, gate + 1, text)?;
     write_through(disk, file, gate, &[OPEN])

@@ -33,7 +33,7 @@ use Rattle.store_core.specs.declared.state.CoreState.{CoreState}
 use Rattle.store_core.specs.declared.store.Core.{Core}
 use Rattle.store_core.specs.Cores.{HasState, StandsFor, CoreShows, AreDescribed, tail_of, unsure_of}
 use Rattle.store_core.specs.Events.{Did, Between, end_of}
-use Rattle.store_core.proofs.Counted.{counted_fine, counted_fault, calls_exact, rose_then}
+use Rattle.store_core.proofs.Counted.{counted_fine, counted_fault, counts_short, calls_exact, rose_then}
 use Rattle.store_core.proofs.Now.{did_since}
 use Rattle.store_core.proofs.CommitEvents.{IsCommit}
 use Rattle.store_core.proofs.CommitRuns.{Synced, Ran, MayList, stands_since, stands_now, tidy_since}
@@ -143,7 +143,8 @@ module _ {D : Type 0} (g : Ghosts D) (only_now : OnlyNow g) (old : Core D) (mid 
   ]
 
   counts : Counts g 0 (IsOk result) (IsErr result) old.disk disk
-  counts = counts_then g 0 (IsOk synced.result) (IsErr synced.result) (IsOk result) (IsErr result) old.disk mid disk (calls_counts g old.disk mid synced.result 1 0 synced.made) synced.fine (calls_counts g mid disk result 6 0 ran.made)
+  counts = counts_then g 0 (IsOk synced.result) (IsErr synced.result) (IsOk result) (IsErr result) old.disk mid disk (calls_counts g old.disk mid synced.result 1 0 synced.made) synced.fine
+      (counts_short g ran.end 0 (IsOk result) (IsErr result) mid disk ran.short (calls_counts g mid disk result 6 ran.end ran.made))
 
   made : RoseAtMost 7 (g.calls old.disk) (g.calls disk)
   made = let one = synced.made.calls in let more = ran.made.calls in (omega (arith, one.later, more.later), omega (arith, one.at_most, more.at_most))
@@ -175,7 +176,7 @@ module _ {D : Type 0} (g : Ghosts D) (only_now : OnlyNow g) (old : Core D) (mid 
     page = λ told. is.no_page Fine (λ f. bytes_of (g.held old.disk) f);
     look = λ told m s. tt;
     counts = counted_fine g old.disk disk 0 (end_of old.state event) (λ low. omega arith) (IsOk result) (IsErr result) counts fine Fine (λ fault. let bad : Fine ≡ Refused Fault = fault in absurd cc);
-    calls = is.calls_done _ _ (rose_then 1 6 (g.calls old.disk) (g.calls mid) (g.calls disk) (calls_exact g old.disk mid 1 0 0 (λ low. low) synced.result synced.made synced.fine) (calls_exact g mid disk 6 0 0 (λ low. low) result ran.made fine));
+    calls = is.calls_done _ _ (rose_then 1 6 (g.calls old.disk) (g.calls mid) (g.calls disk) (calls_exact g old.disk mid 1 0 0 (λ low. low) synced.result synced.made synced.fine) (calls_exact g mid disk 6 ran.end 0 (λ low. ran.short) result ran.made fine));
     reads = is.reads_none _ _ unread;
   })
 

@@ -1,5 +1,5 @@
 -- What a crash leaves at any moment of a commit: of the sync of its block, and of the writing of the list.
-use Rattle.std.proofs.Common.{◌≡◌, ℕ, ◌<◌, ◌≤◌, Some, IsTrue, sym, subst, Result, IsOk}
+use Rattle.std.proofs.Common.{◌≡◌, ℕ, ◌<◌, ◌≤◌, Some, IsTrue, sym, subst, Result, IsOk, ◌^◌}
 use Rattle.span_types.specs.declared.errors.Failed.{Failed}
 use Rattle.disk_model.specs.Images.{Image, bytes_of, SameBytes, Besides}
 use Rattle.disk_model.specs.Calls.{Calls}
@@ -31,7 +31,9 @@ pub record Ran {D : Type 0} (g : Ghosts D) (mid new : D) (list next : ListBody) 
       → Run (WritesSlot slot (ImageHoldsEither (Some list) next)) g.moment g.left_since g.may_leave mid new
   pub besides : IsTrue (g.tells mid) → Besides slot (g.held mid) (g.held new)
   pub telling : g.tells new ≡ g.tells mid
-  pub made : Calls g 6 0 mid new result
+  pub end : ℕ
+  pub short : end < 2 ^ 63
+  pub made : Calls g 6 end mid new result
 
 -- The list may be written in the place of the one that counts: every image that the writing makes stands for the history, and is
 -- tidy where the one before it was.

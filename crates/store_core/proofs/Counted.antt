@@ -1,10 +1,11 @@
 -- What an event says of the disk's counts, by what its calls say.
-use Rattle.std.proofs.Common.{◌≡◌, ◌≢◌, ℕ, ◌+◌, ◌^◌, ◌<◌, ◌≤◌, Result, Ok, IsOk, IsErr, refl, subst, arith}
+use Rattle.std.proofs.Common.{◌≡◌, ◌≢◌, ℕ, ◌+◌, ◌^◌, ◌<◌, ◌≤◌, Result, Ok, Err, IsOk, IsErr, refl, ap, subst, arith}
 use Rattle.span_types.specs.Faults.{Rose}
 use Rattle.span_types.specs.declared.errors.Failed.{Failed}
-use Rattle.disk_model.specs.Calls.{Counts, Calls}
+use Rattle.disk_model.specs.Calls.{Counts, Calls, CountsFault}
 use Rattle.disk_model.specs.Counts.{RoseBy}
 use Rattle.disk_model.specs.declared.disk.Device.{Ghosts}
+use Rattle.disk_model.proofs.Counting.{not_both}
 use Rattle.disk_model.proofs.CallRuns.{calls_counts, counts_as, raised_rose}
 use Rattle.store_model.specs.Event.{Reply}
 use Rattle.store_model.specs.Event.Reply.{Refused}
@@ -89,6 +90,17 @@ rose_then one two a b c first second = record {
   exact = λ few. let mid : b ≡ a + one = first.exact (omega (arith, few)) in let end = second.exact (omega (arith, few, mid)) in omega (arith, mid, end);
 }
 
+-- whose writes end early
+pub counts_short : {D : Type 0} (g : Ghosts D) (end more : ℕ) (fine failed : Type 0) (old new : D) → end < 2 ^ 63 → Counts g end fine failed old new → Counts g more fine failed old new
+counts_short g end more fine failed old new short run = record {
+  time = run.time;
+  telling = run.telling;
+  later = run.later;
+  quiet = run.quiet;
+  fault = run.fault;
+  near = λ _. run.near short;
+}
+
 -- ---- runs that were fine so far
 
 pub fine_so_far : {D T E : Type 0} (g : Ghosts D) (end : ℕ) (old new : D) (x : T) → Counts g end (IsOk (Ok {E = E} x)) (IsErr (Ok {E = E} x)) old new → Counts g end (Unit {0}) ⊥ old new
@@ -96,3 +108,79 @@ fine_so_far g end old new x run = counts_as g end _ _ (Unit {0}) ⊥ old new run
 
 pub fine_calls : {D T E : Type 0} (g : Ghosts D) (count end : ℕ) (old new : D) (x : T) → Calls g count end old new (Ok {E = E} x) → Counts g end (Unit {0}) ⊥ old new
 fine_calls {E = E} g count end old new x run = fine_so_far {E = E} g end old new x (calls_counts g old new (Ok x) count end run)
+
+pub fine_answer : {D T E : Type 0} (g : Ghosts D) (end : ℕ) (fault : E) (old new : D) (x : T) → CountsFault g end fault old new (Ok {E = E} x) → Counts g end (Unit {0}) ⊥ old new
+fine_answer {E = E} g end fault old new x run = counts_as g end _ _ (Unit {0}) ⊥ old new run (λ _ is. let bad : Ok {E = E} x ≡ Err fault = is in absurd cc) (λ bad. absurd bad)
+
+-- so many calls, none of which failed
+abbrev pub FineCalls : {D : Type 0} → Ghosts D → ℕ → ℕ → D → D → Type 0
+FineCalls g count end old new = Calls g count end old new (Ok {T = Unit {0}} {E = Failed} tt)
+
+pub no_calls : {D : Type 0} (g : Ghosts D) (end : ℕ) (disk : D) → FineCalls g 0 end disk disk
+no_calls g end disk = record {
+  time = omega arith;
+  telling = refl;
+  later = omega arith;
+  quiet = λ _. refl;
+  fault = λ err. absurd (let bad : IsErr (Ok {T = Unit {0}} {E = Failed} tt) = err in cc);
+  near = λ _. refl;
+  calls = record { later = omega arith; at_most = omega arith; all = λ _ room. omega arith };
+  no_read = refl;
+}
+
+-- as many calls
+pub count_as : {D U : Type 0} (g : Ghosts D) (end : ℕ) (old new : D) (result : Result U Failed) (a b : ℕ) → a ≡ b → Calls g a end old new result → Calls g b end old new result
+count_as g end old new result a b is run = subst (λ (n : ℕ). Calls g n end old new result) is run
+
+-- a run that failed, of which more calls were to come
+pub calls_short : {D U : Type 0} (g : Ghosts D) (end : ℕ) (old new : D) (result : Result U Failed) (count more : ℕ) → count ≤ more → IsErr result → Calls g count end old new result → Calls g more end old new result
+calls_short g end old new result count more less err run = record {
+  time = run.time;
+  telling = run.telling;
+  later = run.later;
+  quiet = run.quiet;
+  fault = run.fault;
+  near = run.near;
+  calls = record { later = run.calls.later; at_most = omega (arith, run.calls.at_most, less); all = λ ok. absurd (not_both result ok err) };
+  no_read = run.no_read;
+}
+
+-- ---- runs that answer an error of their own
+
+-- a refusal that is handed on
+pub refused_answer : {D T E : Type 0} (g : Ghosts D) (end : ℕ) (fault : E) (old new : D) (error : E) → CountsFault g end fault old new (Err {T = T} error) → Counts g end (error ≢ fault) (error ≡ fault) old new
+refused_answer {T = T} g end fault old new error run =
+    counts_as g end _ _ (error ≢ fault) (error ≡ fault) old new run (λ other is. other (let same : Err {T = T} error ≡ Err fault = is in cc)) (λ is. ap (λ (e : E). Err {T = T} e) is)
+
+-- calls of which one failed
+pub fault_answer : {D T U E : Type 0} (g : Ghosts D) (count end : ℕ) → end < 2 ^ 63 → (fault : E) (old new : D) (why : Failed) → Calls g count end old new (Err {T = U} why) → CountsFault g 0 fault old new (Err {T = T} fault)
+fault_answer g count end short fault old new why run = record {
+  time = run.time;
+  telling = run.telling;
+  later = run.later;
+  quiet = λ other. absurd (other refl);
+  fault = λ _. run.fault refl;
+  near = λ _. run.near short;
+}
+
+-- calls none of which failed
+pub well_answer : {D T U E : Type 0} (g : Ghosts D) (count end : ℕ) → end < 2 ^ 63 → (fault : E) (old new : D) (x : U) (result : Result T E) → (result ≡ Err fault → ⊥) → Calls g count end old new (Ok {E = Failed} x) → CountsFault g 0 fault old new result
+well_answer g count end short fault old new x result other run = record {
+  time = run.time;
+  telling = run.telling;
+  later = run.later;
+  quiet = λ _. run.quiet refl;
+  fault = λ is. absurd (other is);
+  near = λ _. run.near short;
+}
+
+-- no call
+pub still_answer : {D T E : Type 0} (g : Ghosts D) (fault : E) (disk : D) (result : Result T E) → (result ≡ Err fault → ⊥) → CountsFault g 0 fault disk disk result
+still_answer g fault disk result other = record {
+  time = omega arith;
+  telling = refl;
+  later = omega arith;
+  quiet = λ _. refl;
+  fault = λ is. absurd (other is);
+  near = λ _. refl;
+}

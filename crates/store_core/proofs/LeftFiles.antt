@@ -1,17 +1,19 @@
 -- What jobs left is emptied: what is stored is kept, and how far the files are empty then.
-use Rattle.std.proofs.Common.{◌≡◌, ◌≢◌, ◌⊎◌, inl, inr, ℕ, ◌+◌, ◌<◌, ◌≤◌, List, [], ◌∷◌, take, Some, refl, sym, ◌∙◌, ap, subst, arith}
+use Rattle.std.proofs.Common.{◌≡◌, ◌≢◌, ◌⊎◌, inl, inr, ℕ, ◌+◌, ◌<◌, ◌≤◌, List, [], ◌∷◌, length, refl, sym, ◌∙◌, ap, subst, arith}
 use Rattle.std.specs.List.{Contains}
 use Rattle.std.proofs.lemmas.Bool.{cases_eq, cases_lt}
 use Rattle.std.proofs.lemmas.List.Elements.{Contains-append_left}
 use Rattle.disk_model.specs.Images.{Image, bytes_of, Besides, OnFile}
 use Rattle.disk_model.specs.Crash.{OnlyBytes, Within, Reached}
 use Rattle.block_list.specs.Body.{MeetsRules}
+use Rattle.block_list.specs.Commit.{WritesSlot}
+use Rattle.block_list.specs.declared.body.SegmentRef.{SegmentRef}
 use Rattle.block_list.specs.declared.body.ListBody.{ListBody}
 use Rattle.store_images.proofs.Lists.{at_front, in_cons, not_in_nil}
 use Rattle.store_images.proofs.Keeping.{given_out}
 use Rattle.store_core.specs.Jobs.{IsSpare}
 use Rattle.store_core.specs.Loose.{used_files, AreUnused, OthersStay, IsGap, IsReached, AreFreed}
-use Rattle.store_core.proofs.LooseFiles.{empty_now}
+use Rattle.store_core.proofs.LooseFiles.{segment_used}
 
 -- a file from the list's next one on is none of its segments and blocks
 pub beyond_unused : (body : ListBody) → MeetsRules body → (file : ℕ) → 2 ≤ file → body.next_file ≤ file → AreUnused body (file ∷ [])
@@ -58,6 +60,20 @@ reached_same a b first file same reached = record {
 
 pub freed_same : (a b : Image) (first : ℕ) (after : Image → Type 0) → ((file : ℕ) → first ≤ file → bytes_of b file ≡ bytes_of a file) → AreFreed b first after → AreFreed a first after
 freed_same a b first after same freed file reached = freed file (reached_same a b first file same reached)
+
+-- a list is committed, which changes a slot alone
+pub freed_committed : (held : Image) (first slot : ℕ) (P : Image → Type 0) (between after : Image → Type 0) → slot < 2 → 2 ≤ first → Within (Reached (WritesSlot slot P) between) after → AreFreed held first between
+    → AreFreed held first after
+freed_committed held first slot P between after below least follows freed file reached image left =
+    let r = follows image left in r.2.besides file (λ is. let above = reached.from in omega (arith, is, below, least, above)) ∙ freed file reached r.0 r.1
+
+-- the next file isn't a slot
+pub next_low : (body : ListBody) → MeetsRules body → 2 ≤ body.next_file
+next_low body rules = some_below body.segments rules.some_segment (λ x c. given_out body x.file rules (Contains-append_left (used_files body) body.loose x.file (segment_used body x c)))
+  where
+    some_below : (segments : List SegmentRef) → 0 < length segments → ((x : SegmentRef) → Contains segments x → (2 ≤ x.file) × (x.file < body.next_file)) → 2 ≤ body.next_file
+    some_below [] some each = absurd (omega (arith, some))
+    some_below (x ∷ xs) some each = let first = each x (at_front x xs) in omega (arith, first.0, first.1)
 
 -- ---- the other files
 

@@ -1,12 +1,12 @@
 -- The lists that commits make, in the room that the begins of their jobs took.
-use Rattle.std.proofs.Common.{◌≡◌, ℕ, ◌+◌, ◌*◌, ◌≤◌, List, [], ◌∷◌, ◌++◌, length, length-append, map, None, Some, Option, refl, ◌∙◌, ap, arith}
+use Rattle.std.proofs.Common.{◌≡◌, ℕ, ◌+◌, ◌*◌, ◌≤◌, List, [], ◌∷◌, ◌++◌, length, length-append, map, None, Some, Option, refl, ◌∙◌, ap, arith, ◌<◌, ◌^◌}
 use Rattle.std.proofs.lemmas.List.{append-nil}
 use Rattle.std.specs.Vec.{vec_len}
 use Rattle.block_list.specs.Body.{text_of, successor}
 use Rattle.block_list.specs.declared.body.BlockRef.{BlockRef}
 use Rattle.block_list.specs.declared.body.SegmentRef.{SegmentRef}
 use Rattle.block_list.specs.declared.body.ListBody.{ListBody}
-use Rattle.block_list.proofs.BodyLemmas.{length-text}
+use Rattle.block_list.proofs.BodyLemmas.{few_blocks, few_loose, few_segments, length-text}
 use Rattle.store_model.specs.After.{released, staying}
 use Rattle.store_state.specs.Listed.{listed_body, segment_of}
 use Rattle.store_state.specs.Loose.{flush_part, compaction_part}
@@ -161,3 +161,12 @@ joined_of list jobs joined block room generation next other body {bs} {ls} its_b
     (blocks ∙ ap (λ (l : List BlockRef). outside joined l ++ block ∷ []) its_blocks)
     (loose ∙ ap (λ (l : List ℕ). l ++ inside joined bs) its_loose ∙ ap (λ (l : List BlockRef). jobs.loose.items ++ inside joined l) its_blocks)
     (omega (arith, each, block_len, loose_len)) fits
+
+-- the text of a list is short
+pub text_short : (text : ListText) (body : ListBody) → IsListText text body → 1 + length text.text < 2 ^ 63
+text_short text body is =
+    let same : length text.text ≡ length (text_of body) = ap (λ (l : List ℕ). length l) is.text in
+    let segments = few_segments body is.rules in
+    let blocks = few_blocks body is.rules in
+    let loose = few_loose body is.rules in
+    omega (arith, same, length-text body, segments, blocks, loose)

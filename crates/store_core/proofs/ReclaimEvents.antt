@@ -1,5 +1,5 @@
 -- A reclaim as an event of a core.
-use Rattle.std.proofs.Common.{◌≡◌, ◌≢◌, inl, inr, ℕ, ◌+◌, ◌*◌, ◌≤◌, ◌==◌, not, filter, if◌then◌else◌, List, [], ◌∷◌, ◌++◌, length, Some, None, Option, IsTrue, Bool, true, false, refl, sym, ◌∙◌, ap, subst, arith, Result, IsOk, IsErr}
+use Rattle.std.proofs.Common.{◌≡◌, ◌≢◌, inl, inr, ℕ, ◌+◌, ◌*◌, ◌≤◌, ◌==◌, not, filter, if◌then◌else◌, List, [], ◌∷◌, ◌++◌, length, Some, None, Option, IsTrue, Bool, true, false, refl, sym, ◌∙◌, ap, subst, arith, Result, IsOk, IsErr, ◌<◌, ◌^◌}
 use Rattle.std.specs.Prelude.{Vec}
 use Rattle.std.specs.Vec.{vec_len, vec_capacity}
 use Rattle.std.specs.declared.alloc.Global.{Global}
@@ -169,7 +169,7 @@ some_not xs some = at (length xs == 0) refl
 
 module _ {D : Type 0} (g : Ghosts D) (old : Core D) (disk : D) (writes : old.state.read_only ≡ None) (kept free : List ℕ)
     (parts : IsParted old.state.pins.items old.state.jobs.loose.items kept free) (some : length free ≢ 0)
-    (result : Result (Unit {0}) Failed) (made : Calls g (2 * length free + 6) 0 old.disk disk result)
+    (result : Result (Unit {0}) Failed) (end : ℕ) (short : end < 2 ^ 63) (made : Calls g (2 * length free + 6) end old.disk disk result)
     (run : IsTrue (g.tells old.disk) → IsReady (g.held old.disk) (g.may_leave old.disk) (Some old.state.list)
     → MayEmpty old.state.list old.state.jobs.next_file (named_loose old.state kept) free → MeetsRules (list_kept old.state.list old.state.jobs kept)
     → Run KeepsStored g.moment g.left_since g.may_leave old.disk disk)
@@ -214,7 +214,7 @@ module _ {D : Type 0} (g : Ghosts D) (old : Core D) (disk : D) (writes : old.sta
       let none = held_kept m hold s.sound is_open f among in omega (arith, once, none))
 
   unread : RoseAtMost 0 (g.reads old.disk) (g.reads disk)
-  unread = calls_unread g old.disk disk (2 * length free + 6) 0 0 (λ low. low) result made
+  unread = calls_unread g old.disk disk (2 * length free + 6) end 0 (λ low. short) result made
 
   -- ---- a write failed
 
@@ -223,7 +223,7 @@ module _ {D : Type 0} (g : Ghosts D) (old : Core D) (disk : D) (writes : old.sta
 
   did_stopped : IsErr result → Did g old Reclaim (Refused Fault) (record old { disk = disk; state = stopped })
   did_stopped err =
-      did_kept g old disk stopped Reclaim (Refused Fault) (calls_fault g old.disk disk (2 * length free + 6) 0 0 (λ low. low) result made err) run_keeps refl (adds_none Reclaim refl (Refused Fault) _)
+      did_kept g old disk stopped Reclaim (Refused Fault) (calls_fault g old.disk disk (2 * length free + 6) end 0 (λ low. short) result made err) run_keeps refl (adds_none Reclaim refl (Refused Fault) _)
       (λ m s. (
         broken (g.faults disk) m,
         stands_kept (IsTrue (g.tells old.disk)) (IsTrue (g.tells disk)) (g.held old.disk) (g.held disk) (g.may_leave old.disk) (g.may_leave disk) old.state stopped m (broken (g.faults disk) m)
@@ -247,7 +247,7 @@ module _ {D : Type 0} (g : Ghosts D) (old : Core D) (disk : D) (writes : old.sta
       made.calls.later unread
     where
       rose : Rose (g.faults old.disk) (g.faults disk)
-      rose = calls_rose g old.disk disk (2 * length free + 6) 0 0 (λ low. low) result made err
+      rose = calls_rose g old.disk disk (2 * length free + 6) end 0 (λ low. short) result made err
 
       breaks : (m : Machine) → HasState old.state m → StateIsSound m.state → Step (g.faults old.disk) (g.faults disk) m Reclaim (Refused Fault) (broken (g.faults disk) m)
       breaks m has sound = Breaks (going m has) (written m has sound) refl rose refl
@@ -298,7 +298,7 @@ module _ {D : Type 0} (g : Ghosts D) (old : Core D) (disk : D) (writes : old.sta
     did_emptied : Did g old Reclaim (Count count) (record old { disk = disk; state = after })
     did_emptied =
         did_kept g old disk after Reclaim (Count count)
-        (calls_fine g old.disk disk (2 * length free + 6) 0 0 (λ low. low) result made fine (Count count) (λ is. let bad : Count count ≡ Refused Fault = is in absurd cc))
+        (calls_fine g old.disk disk (2 * length free + 6) end 0 (λ low. short) result made fine (Count count) (λ is. let bad : Count count ≡ Refused Fault = is in absurd cc))
         run_keeps refl refl
         (λ m s. (
           done m,
@@ -323,7 +323,7 @@ module _ {D : Type 0} (g : Ghosts D) (old : Core D) (disk : D) (writes : old.sta
         ))
         (λ told m s hold is_open stays f among. held_same told m s hold is_open f among)
         (λ told f among. none_begun (Count count) f _ refl among) (λ told. tt) (λ shows h. tt)
-        (its_calls count (g.calls old.disk) (g.calls disk) (λ is. some (sym counted ∙ is)) (subst (λ (n : ℕ). RoseBy (2 * n + 6) (g.calls old.disk) (g.calls disk)) (sym counted) (calls_exact g old.disk disk (2 * length free + 6) 0 0 (λ low. low) result made fine))) unread
+        (its_calls count (g.calls old.disk) (g.calls disk) (λ is. some (sym counted ∙ is)) (subst (λ (n : ℕ). RoseBy (2 * n + 6) (g.calls old.disk) (g.calls disk)) (sym counted) (calls_exact g old.disk disk (2 * length free + 6) end 0 (λ low. short) result made fine))) unread
 
     pub did_reclaimed : (list : ListBody) (jobs : Jobs) → list ≡ list_kept old.state.list old.state.jobs kept → jobs ≡ record old.state.jobs { loose = loose }
         → Did g old Reclaim (Count count) (record old { disk = disk; state = record old.state { list = list; jobs = jobs } })

@@ -1,6 +1,6 @@
 //! The blocks of a store are read as it is opened.
 
-ghost use Rattle.std.specs.Prelude.{◌≡◌, ◌≢◌, ◌≤◌, ℕ, List, Err, IsTrue, IfOk, OnOk};
+ghost use Rattle.std.specs.Prelude.{◌≡◌, ◌≢◌, ◌≤◌, ◌-◌, ◌++◌, ℕ, List, length, take, drop, min, Err, IsTrue, IfOk, OnOk};
 ghost use Rattle.std.specs.List.{Contains};
 ghost use Rattle.span_types.specs.declared.spans.Row.{Row};
 ghost use Rattle.disk_model.specs.Calls.{CountsFault};
@@ -20,6 +20,9 @@ use disk_model::Device;
 use span_fields::Break;
 use span_types::Shared;
 use std::alloc::Global;
+
+/// How many bytes of a block's file one call of the disk reads.
+const PART: usize = 16_384;
 
 /// The information of listed blocks, in list order. Each file is made to last, read whole and checked, one after another; its
 /// bytes and its rows are dropped before the next one is read.
@@ -97,22 +100,43 @@ fn last_bytes<D: Device>(alloc: Global, disk: &mut D, file: u32) -> Result<Vec<u
     file_bytes(alloc, disk, file)
 }
 
-// All bytes of a file.
+// All bytes of a file. What is taken for them grows with what was read: a file may be said to be longer than its bytes take room.
 fn file_bytes<D: Device>(alloc: Global, disk: &mut D, file: u32) -> Result<Vec<u8>, OpenError>
     ensures bytes { IsTrue (D.tells disk.old) → IfOk result (λ bytes. bytes.items ≡ bytes_of (D.held disk.old) file) }
     ensures untouched { Untouched D.tells D.held D.may_leave D.moment D.left_since disk.old disk.new }
     ensures counted { CountsFault D.Device.own 0 Fault disk.old disk.new result }
     ensures a_store { (other at : ℕ) → result ≢ Err (NotStore other at) }
 {
-    let Ok(len) = disk.len(file) else {
+    let mut bytes = Vec::new(alloc);
+    let mut part = [0; PART];
+    for _ in 0..u64::MAX {
+        if read_more(disk, file, &mut bytes, &mut part)? == 0 {
+            return Ok(bytes);
+        }
+    }
+    Err(OpenError::Memory)
+}
+
+// Reads the bytes after those that were read, as many as the part holds, and answers how many they are.
+fn read_more<D: Device>(
+    disk: &mut D,
+    file: u32,
+    bytes: &mut Vec<u8>,
+    part: &mut [u8],
+) -> Result<usize, OpenError>
+    ensures bytes { IsTrue (D.tells disk.old) → IfOk result (λ n. bytes.new.items ≡ bytes.old.items
+        ++ take n (drop (length bytes.old.items) (bytes_of (D.held disk.old) file))) }
+    ensures count { IsTrue (D.tells disk.old) → IfOk result (λ n. n ≡ min (length part.old)
+        (length (bytes_of (D.held disk.old) file) - length bytes.old.items)) }
+    ensures untouched { Untouched D.tells D.held D.may_leave D.moment D.left_since disk.old disk.new }
+    ensures counted { CountsFault D.Device.own 0 Fault disk.old disk.new result }
+    ensures a_store { (other at : ℕ) → result ≢ Err (NotStore other at) }
+{
+    let Ok(count) = disk.read(file, bytes.len() as u64, part) else {
         return Err(OpenError::Fault);
     };
-    let Ok(mut bytes) = vec![in alloc; 0; len as usize] else {
+    let Ok(()) = bytes.extend_from_slice(&part[..count]) else {
         return Err(OpenError::Memory);
     };
-    let Ok(count) = disk.read(file, 0, &mut bytes) else {
-        return Err(OpenError::Fault);
-    };
-    bytes.truncate(count);
-    Ok(bytes)
+    Ok(count)
 }

@@ -1,8 +1,8 @@
 //! The files that a list names as loose are emptied, and the list is committed without them.
 
-ghost use Rattle.std.specs.Prelude.{◌≡◌, ◌≢◌, ◌≤◌, ◌+◌, ◌*◌, ℕ, List, [], length, Some, Err, IsTrue, IfOk, IfErr, OnOk};
+ghost use Rattle.std.specs.Prelude.{◌≡◌, ◌≢◌, ◌⊎◌, ◌<◌, ◌≤◌, ◌+◌, ◌*◌, ℕ, List, [], length, Some, Err, IsTrue, IfOk, IfErr, OnOk, IsOk, IsErr};
 ghost use Rattle.std.specs.List.{Contains};
-ghost use Rattle.disk_model.specs.Calls.{Calls, CountsFault};
+ghost use Rattle.disk_model.specs.Calls.{Calls, Counts, CountsFault};
 ghost use Rattle.disk_model.specs.Images.{bytes_of};
 ghost use Rattle.disk_model.specs.Crash.{OnlyBytes, Run};
 ghost use Rattle.block_list.specs.Body.{MeetsRules};
@@ -49,19 +49,16 @@ pub fn empty_loose<D: Device>(
 {
     let first = list.next_file;
     if list.loose.len() == 0 {
-        return match empty_left(disk, first) {
-            Ok(()) => Ok(list),
-            Err(_) => Err(OpenError::Fault),
+        let Ok(()) = empty_left(disk, first) else {
+            return Err(OpenError::Fault);
         };
+        return Ok(list);
     }
     let (next, loose) = take_loose(alloc, list);
     let Ok(prepared) = prepare(alloc, &next) else {
         return Err(OpenError::Memory);
     };
-    let Ok(()) = empty_files(disk, loose.as_slice()) else {
-        return Err(OpenError::Fault);
-    };
-    let Ok(()) = empty_left(disk, first) else {
+    let Ok(()) = free_files(disk, loose.as_slice(), first) else {
         return Err(OpenError::Fault);
     };
     let Ok(()) = commit(disk, &prepared) else {
@@ -94,6 +91,27 @@ fn take_loose(alloc: Global, list: ListBody) -> (ListBody, FileList)
     (next, loose)
 }
 
+// Empties files that are neither segments nor blocks of the list which counts, and what jobs left in files from its next one on.
+fn free_files<D: Device>(disk: &mut D, files: &[u32], first: u32) -> Result<(), Failed>
+    requires given { 2 ≤ first }
+    ensures kept { IsTrue (D.tells disk.old) → (body : ListBody) →
+        IsReady (D.held disk.old) (D.may_leave disk.old) (Some body) → AreUnused body files.now → body.next_file ≤ first →
+        Run KeepsStored D.moment D.left_since D.may_leave disk.old disk.new }
+    ensures ready { IsTrue (D.tells disk.old) → (body : ListBody) →
+        IsReady (D.held disk.old) (D.may_leave disk.old) (Some body) → AreUnused body files.now → body.next_file ≤ first →
+        IsReady (D.held disk.new) (D.may_leave disk.new) (Some body) }
+    ensures emptied { IsTrue (D.tells disk.old) → OnOk result ((file : ℕ) → Contains files.now file → 2 ≤ file → file < first
+        → OnlyBytes file [] (D.may_leave disk.new)) }
+    ensures freed { IsTrue (D.tells disk.old) → ((file : ℕ) → Contains files.now file → file < first)
+        → OnOk result (AreFreed (D.held disk.old) first (D.may_leave disk.new)) }
+    ensures others { IsTrue (D.tells disk.old) → OthersStay (λ file. (first ≤ file) ⊎ Contains files.now file)
+        (D.held disk.old) (D.held disk.new) (D.may_leave disk.old) (D.may_leave disk.new) }
+    ensures counted { Counts D.Device.own 0 (IsOk result) (IsErr result) disk.old disk.new }
+{
+    empty_files(disk, files)?;
+    empty_left(disk, first)
+}
+
 /// Empties files that are neither segments nor blocks of the list which counts, one after another, makes that last, and
 /// commits the next list, which this text is.
 pub(crate) fn commit_without<D: Device>(
@@ -115,7 +133,7 @@ pub(crate) fn commit_without<D: Device>(
         OthersStay (Contains files.now) (D.held disk.old) (D.held disk.new) (D.may_leave disk.old) (D.may_leave disk.new) }
     ensures still { IsTrue (D.tells disk.old) → (file : ℕ) → 2 ≤ file → (Contains files.now file → ⊥) →
         bytes_of (D.held disk.new) file ≡ bytes_of (D.held disk.old) file }
-    ensures counted { Calls D.Device.own (2 * length files.now + 6) 0 disk.old disk.new result }
+    ensures counted { Calls D.Device.own (2 * length files.now + 6) (1 + length text.now.text) disk.old disk.new result }
 {
     empty_files(disk, files)?;
     commit(disk, text)

@@ -77,6 +77,7 @@ impl CoreState {
         ensures list { IfOk result (λ next. next.0 ≡ list_kept self.now.list self.now.jobs kept.now) }
         ensures text { IfOk result (λ next. MeetsRules (list_kept self.now.list self.now.jobs kept.now) →
             IsListText next.1 (list_kept self.now.list self.now.jobs kept.now)) }
+        ensures short { IfOk result (λ next. 1 + length next.1.text < 2 ^ 63) }
     {
         let (blocks, segments) = copy_used(alloc, &self.list)?;
         let loose = files_named(alloc, kept, &self.jobs)?;

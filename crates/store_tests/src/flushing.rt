@@ -167,8 +167,9 @@ fn ends(alloc: Global, what: Upset, end: End, place: Place) -> Result<bool, Memo
     Ok(pushed && ready && found == Some(end) && images_show(alloc, &disk, place)?)
 }
 
-// The opening makes nine calls: both slots are synced, measured and read, and the segment is synced and read in two.
-const OPENING: u64 = 9;
+// The opening makes 25 calls: both slots are synced, measured and read, the segment is synced and read in two, and the eight files
+// from the next one on are synced and measured.
+const OPENING: u64 = 25;
 
 // What a flush answers that fails, and then the next one.
 const FAILS: End = (Round::Refused(Refusal::Fault), Some(1));

@@ -1,6 +1,8 @@
 use Rattle.std.proofs.Common.{◌≡◌, ◌-◌, min, ◌++◌, List, ℕ, length, take, drop, ◌∙◌, refl, sym, ap, subst, arith}
 use Rattle.std.specs.Prelude.{IsTrue}
 use Rattle.disk_model.specs.Images.{bytes_of}
+use Rattle.disk_model.proofs.CallRuns.{counts_none, counts_then, fault_fine}
+use Rattle.head_log.specs.declared.read_back.Unread.TheVariants as unread
 use Rattle.disk_model.proofs.Runs.{untouched_same, untouched_then}
 use Rattle.head_log.proofs.FileReading.{front_more}
 use Rattle.head_log.proofs.read_back.read_file.Goals as goal
@@ -10,7 +12,7 @@ loop-init g c =
     let D = g.D.Device in (
       λ told. c.new-bytes.ensures.items ∙ sym (ap (λ (l : List ℕ). take (length l) (bytes_of (D.held c.args.disk.now) c.args.file)) c.new-bytes.ensures.items),
       untouched_same D.tells D.held D.may_leave D.moment D.left_since c.args.disk.now (g.met.D.Device.only_now c.args.disk.now),
-      omega arith,
+      counts_none D 0 ⊥ c.args.disk.now (λ f. f),
       refl,
     )
 
@@ -27,6 +29,7 @@ loop-preserved g c =
           let count = subst (λ (b : List ℕ). c.in_ok-read_more.field-0 ≡ min (length c.loop.block) (length b - length c.loop.bytes.items)) same (e.count there) in
           front_more all c.loop.bytes.items c.read_more.new.bytes.items c.in_ok-read_more.field-0 (h.0 told) is (omega (arith, count)),
       untouched_then D.tells D.held D.may_leave D.moment D.left_since c.args.disk.now c.loop.disk c.read_more.new.disk h.1 e.untouched,
-      omega (arith, h.2, e.fault.later),
+      counts_then D 0 (Unit {0}) ⊥ (Unit {0}) ⊥ c.args.disk.now c.loop.disk c.read_more.new.disk h.2 tt
+      (fault_fine D 0 unread.Fault c.loop.disk c.read_more.new.disk _ e.counted (λ is. absurd (cc))),
       omega (arith, h.3, c.read_more.auto.block),
     )

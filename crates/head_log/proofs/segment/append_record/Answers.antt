@@ -37,7 +37,7 @@ returns-clause-acknowledged g c = λ bodies body known tells text fits only has.
     let held : bytes_of (D.held c.args.disk.now) file ≡ known = only (D.held c.args.disk.now) (g.met.D.Device.held_may_stay c.args.disk.now tells) in
     let now : bytes_of (D.held c.write_through.new.disk) file ≡ overwritten known (gate + 1) (framed body) =
     c.in_ok-write_through.ensures.written tells ∙ ap (λ (b : List ℕ). overwritten b (gate + 1) c.args.text.now) held ∙ ap (overwritten known (gate + 1)) text in
-    let told : IsTrue (D.tells c.write_through.new.disk) = subst IsTrue (sym c.in_ok-write_through.ensures.telling) tells in
+    let told : IsTrue (D.tells c.write_through.new.disk) = subst IsTrue (sym c.in_ok-write_through.ensures.counted.telling) tells in
     let end : gate + length (framed body) ≡ gate + length c.args.text.now = ap (λ (b : List ℕ). gate + length b) (sym text) in
     let opened = gate_opened bodies gate known body has fits in
     on_ok_both c.write_through-2.result _ _ _ (c.write_through-2.ensures.written told) (c.write_through-2.ensures.lasting told)

@@ -1,12 +1,14 @@
 use Rattle.std.proofs.Common.{◌≡◌, ◌<◌, ◌≤◌, ℕ, IsTrue, List, length, take, take_all, get_or, refl, sym, ◌∙◌, ap, subst, arith}
 use Rattle.std.specs.List.{Contains}
 use Rattle.std.proofs.lemmas.Result.{err_from_is_err_and}
+use Rattle.disk_model.proofs.CallRuns.{counts_none, counts_then}
 use Rattle.disk_model.specs.Images.{bytes_of}
 use Rattle.disk_model.proofs.Runs.{untouched_same, untouched_then}
 use Rattle.block_list.specs.declared.body.BlockRef.{BlockRef}
 use Rattle.store_images.proofs.Lists.{not_in_nil}
 use Rattle.store_core.specs.BlockReading.{BlocksRead}
-use Rattle.store_core.specs.declared.error.OpenError.TheVariants.{NotStore}
+use Rattle.store_core.specs.declared.error.OpenError.TheVariants.{NotStore, Fault}
+use Rattle.store_core.proofs.Counted.{fine_answer}
 use Rattle.store_core.proofs.LogSteps.{lie_on, passed_on}
 use Rattle.store_core.proofs.ReadBlocks.{breaks_at, built_before, malformed_before, none_first, none_read, read_further}
 use Rattle.store_core.proofs.blocks.read_blocks.Goals as goal
@@ -22,7 +24,7 @@ loop-block-init g c =
       read = none_read (IsTrue (d.tells disk)) (d.held disk) c.args.blocks.now c.new-infos.result.items c.new-infos.ensures.items;
       lies = λ told x inside. absurd (not_in_nil x (subst (λ (l : List BlockRef). Contains l x) (none_first c.args.blocks.now) inside));
       untouched = untouched_same d.tells d.held d.may_leave d.moment d.left_since disk (g.met.D.Device.only_now disk);
-      later = omega arith;
+      counts = counts_none d 0 ⊥ disk (λ bad. bad);
     }
 
 pub loop-block-preserved : goal.loop-block-preserved
@@ -37,8 +39,6 @@ loop-block-preserved g c =
     let untouched = c.loop-block.invariant.untouched in
     let told_mid : IsTrue (d.tells disk) → IsTrue (d.tells mid) = λ told. subst IsTrue (sym untouched.telling) told in
     let one = c.in_ok-info.ensures in
-    let before = c.loop-block.invariant.later in
-    let since = c.read_block.ensures.later in
     record {
       read = read_further (IsTrue (d.tells disk)) (d.held disk) blocks n no_block c.loop-block.infos.items _ c.in_ok-info.info inside c.loop-block.invariant.read one.named
           (built_before (IsTrue (d.tells disk)) (IsTrue (d.tells mid)) (d.held disk) (d.held mid) (get_or blocks n no_block).file c.in_ok-info.info told_mid (λ told. untouched.same_bytes told _) one.built)
@@ -46,7 +46,7 @@ loop-block-preserved g c =
       lies = λ told. lie_on (λ (ref : BlockRef). ref.file) (d.held disk) (d.may_leave mid) (d.may_leave new) blocks n no_block inside c.read_block.ensures.untouched.crash (c.loop-block.invariant.lies told)
           (λ image left. one.lies (told_mid told) image left ∙ untouched.same_bytes told _);
       untouched = untouched_then d.tells d.held d.may_leave d.moment d.left_since disk mid new untouched c.read_block.ensures.untouched;
-      later = omega (arith, before, since);
+      counts = counts_then d 0 (Unit {0}) ⊥ (Unit {0}) ⊥ disk mid new c.loop-block.invariant.counts tt (fine_answer d 0 Fault mid new _ c.in_ok-info.ensures.counted);
     }
 
 pub returns-in_err-info-clause-not_store : goal.returns-in_err-info-clause-not_store

@@ -1,4 +1,7 @@
-use Rattle.std.proofs.Common.{IsTrue, Some, sym, ◌∙◌, subst, arith}
+use Rattle.std.proofs.Common.{◌+◌, ◌*◌, ◌≤◌, IsTrue, Some, length, refl, sym, ◌∙◌, subst, arith}
+use Rattle.std.specs.List.{Contains}
+use Rattle.std.proofs.lemmas.Result.{err_from_is_err_and}
+use Rattle.disk_model.proofs.CallRuns.{calls_failed, calls_then, calls_wider}
 use Rattle.block_list.specs.Commit.{slot_of}
 use Rattle.block_list.proofs.ReadyLemmas.{can_lay}
 use Rattle.store_core.specs.Loose.{next_with}
@@ -15,8 +18,12 @@ returns-in_err-empty_files-clause-others g c = λ told body next_file loose read
 pub returns-in_err-empty_files-clause-still : goal.returns-in_err-empty_files-clause-still
 returns-in_err-empty_files-clause-still g c = λ told. (c.empty_files.ensures.others told).still
 
-pub returns-in_err-empty_files-clause-calls : goal.returns-in_err-empty_files-clause-calls
-returns-in_err-empty_files-clause-calls g c = let made = c.empty_files.ensures.calls in (made.0, omega (arith, made.1))
+pub returns-in_err-empty_files-clause-counted : goal.returns-in_err-empty_files-clause-counted
+returns-in_err-empty_files-clause-counted g c =
+    let d = g.D.Device in
+    let p = err_from_is_err_and c.from_residual.result c.from_residual.ensures.1 in
+    rw p.1 (calls_failed d (2 * length c.args.files.now) 6 (1 + length c.args.text.now.text) c.args.disk.now c.empty_files.new.disk _ _
+    (calls_wider d c.args.disk.now c.empty_files.new.disk _ (2 * length c.args.files.now) 0 (1 + length c.args.text.now.text) (omega arith) c.in_err-empty_files.ensures.counted) refl refl)
 
 pub returns-clause-kept : goal.returns-clause-kept
 returns-clause-kept g c = λ told body next_file loose ready may text.
@@ -57,7 +64,8 @@ returns-clause-still g c = λ told file least apart.
     let told_mid : IsTrue (d.tells c.empty_files.new.disk) = subst IsTrue (sym c.empty_files.ensures.counted.telling) told in
     c.commit.ensures.besides told_mid file (λ is. omega (arith, least, is)) ∙ (c.empty_files.ensures.others told).still file least apart
 
-pub returns-clause-calls : goal.returns-clause-calls
-returns-clause-calls g c =
-    let first = c.empty_files.ensures.calls in let second = c.commit.ensures.calls in
-    (omega (arith, first.0, second.later), omega (arith, first.1, second.at_most))
+pub returns-clause-counted : goal.returns-clause-counted
+returns-clause-counted g c =
+    let d = g.D.Device in
+    calls_then d (2 * length c.args.files.now) 6 (1 + length c.args.text.now.text) c.args.disk.now c.empty_files.new.disk c.commit.new.disk _ _
+    (calls_wider d c.args.disk.now c.empty_files.new.disk _ (2 * length c.args.files.now) 0 (1 + length c.args.text.now.text) (omega arith) c.in_ok-empty_files.ensures.counted) refl c.commit.ensures.counted

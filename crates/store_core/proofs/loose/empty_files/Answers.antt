@@ -1,7 +1,10 @@
-use Rattle.std.proofs.Common.{◌<◌, IsTrue, length, get_or, refl, sym, ◌∙◌, subst, arith}
+use Rattle.std.proofs.Common.{◌<◌, ◌+◌, ◌*◌, IsTrue, length, get_or, refl, sym, ◌∙◌, subst, arith}
 use Rattle.std.specs.List.{Contains}
+use Rattle.std.proofs.lemmas.Result.{err_from_is_err_and}
 use Rattle.std.proofs.lemmas.List.Elements.{Contains-get_or}
+use Rattle.disk_model.proofs.CallRuns.{calls_then}
 use Rattle.disk_model.specs.Images.{bytes_of}
+use Rattle.store_core.proofs.Counted.{no_calls, count_as, calls_short}
 use Rattle.store_core.proofs.LooseFiles.{emptied_then, nothing_done, others_same, others_emptied, empty_now, emptied_more, emptied_all}
 use Rattle.store_core.proofs.loose.empty_files.Goals as goal
 
@@ -13,10 +16,7 @@ loop-file-init g c =
       so_far = λ told body ready is. (nothing_done d.moment d.left_since d.may_leave disk (g.met.D.Device.only_now disk), ready);
       emptied = λ told k below. absurd (omega (arith, below));
       others = λ told. others_same (Contains c.args.files.now) (d.held disk) (d.may_leave disk);
-      telling = refl;
-      later = omega arith;
-      calls = (omega arith, omega arith);
-      reads = refl;
+      made = no_calls d 0 disk;
     }
 
 pub loop-file-preserved : goal.loop-file-preserved
@@ -30,38 +30,30 @@ loop-file-preserved g c =
     record {
       so_far = λ told body ready is.
           let so_far = c.loop-file.invariant.so_far told body ready is in
-          let told_mid : IsTrue (d.tells mid) = subst IsTrue (sym c.loop-file.invariant.telling) told in
+          let told_mid : IsTrue (d.tells mid) = subst IsTrue (sym c.loop-file.invariant.made.telling) told in
           emptied_then d.moment d.left_since d.may_leave c.args.disk.now mid new (d.held mid) (d.held new) body files is (get_or files n 0) so_far.0 so_far.1
           (Contains-get_or files n 0 inside) c.cut_through.ensures.any_moment c.cut_through.ensures.crash (c.cut_through.ensures.besides told_mid);
       emptied = λ told.
-          let told_mid : IsTrue (d.tells mid) = subst IsTrue (sym c.loop-file.invariant.telling) told in
+          let told_mid : IsTrue (d.tells mid) = subst IsTrue (sym c.loop-file.invariant.made.telling) told in
           emptied_more files n _ (d.may_leave mid) (d.may_leave new) (c.loop-file.invariant.emptied told) c.cut_through.ensures.crash
           (empty_now (get_or files n 0) (d.held new) (bytes_of (d.held mid) (get_or files n 0)) (d.may_leave new) (c.in_ok-cut_through.ensures.shortened told_mid) (c.in_ok-cut_through.ensures.lasting told_mid));
       others = λ told.
-          let told_mid : IsTrue (d.tells mid) = subst IsTrue (sym c.loop-file.invariant.telling) told in
+          let told_mid : IsTrue (d.tells mid) = subst IsTrue (sym c.loop-file.invariant.made.telling) told in
           others_emptied (Contains files) (d.held c.args.disk.now) (d.held mid) (d.held new) (d.may_leave c.args.disk.now) (d.may_leave mid) (d.may_leave new) (c.loop-file.invariant.others told)
           (get_or files n 0) _ (Contains-get_or files n 0 inside) (c.cut_through.ensures.besides told_mid) c.cut_through.ensures.crash;
-      telling = c.cut_through.ensures.counted.telling ∙ c.loop-file.invariant.telling;
-      later = omega (arith, c.cut_through.ensures.cause.later);
-      calls = (let was = c.loop-file.invariant.calls in let more = c.cut_through.ensures.calls in (omega (arith, was.0, more.later), omega (arith, was.1, more.at_most)));
-      reads = c.cut_through.ensures.no_read ∙ c.loop-file.invariant.reads;
+      made = count_as d 0 c.args.disk.now new _ (2 * n + 2) (2 * (n + 1)) (omega arith) (calls_then d (2 * n) 2 0 c.args.disk.now mid new _ _ c.loop-file.invariant.made refl c.in_ok-cut_through.ensures.counted);
     }
 
-pub returns-in_err-cut_through-clause-calls : goal.returns-in_err-cut_through-clause-calls
-returns-in_err-cut_through-clause-calls g c =
-    let inside : c.loop-file.file-index < length c.args.files.now = omega arith in
-    let was = c.loop-file.invariant.calls in
-    let more = c.cut_through.ensures.calls in
-    (omega (arith, was.0, more.later), omega (arith, was.1, more.at_most, inside))
-
-pub returns-in_err-cut_through-clause-no_read : goal.returns-in_err-cut_through-clause-no_read
-returns-in_err-cut_through-clause-no_read g c = c.cut_through.ensures.no_read ∙ c.loop-file.invariant.reads
-
-pub returns-clause-calls : goal.returns-clause-calls
-returns-clause-calls g c = let was = c.loop-file.invariant.calls in (omega (arith, was.0), omega (arith, was.1))
-
-pub returns-clause-no_read : goal.returns-clause-no_read
-returns-clause-no_read g c = c.loop-file.invariant.reads
+pub returns-in_err-cut_through-clause-counted : goal.returns-in_err-cut_through-clause-counted
+returns-in_err-cut_through-clause-counted g c =
+    let d = g.D.Device in
+    let n = c.loop-file.file-index in
+    let inside : n < length c.args.files.now = omega arith in
+    let disk = c.args.disk.now in
+    let new = c.cut_through.new.disk in
+    let p = err_from_is_err_and c.from_residual.result c.from_residual.ensures.1 in
+    rw p.1 (calls_short d 0 disk new _ (2 * n + 2) (2 * length c.args.files.now) (omega (arith, inside)) refl
+    (calls_then d (2 * n) 2 0 disk c.loop-file.disk new _ _ c.loop-file.invariant.made refl c.in_err-cut_through.ensures.counted))
 
 pub returns-in_err-cut_through-clause-kept : goal.returns-in_err-cut_through-clause-kept
 returns-in_err-cut_through-clause-kept g c = λ told body ready is.
@@ -72,7 +64,7 @@ returns-in_err-cut_through-clause-kept g c = λ told body ready is.
     let n = c.loop-file.file-index in
     let inside : n < length files = omega arith in
     let so_far = c.loop-file.invariant.so_far told body ready is in
-    let told_mid : IsTrue (d.tells mid) = subst IsTrue (sym c.loop-file.invariant.telling) told in
+    let told_mid : IsTrue (d.tells mid) = subst IsTrue (sym c.loop-file.invariant.made.telling) told in
     (emptied_then d.moment d.left_since d.may_leave c.args.disk.now mid new (d.held mid) (d.held new) body files is (get_or files n 0) so_far.0 so_far.1
     (Contains-get_or files n 0 inside) c.cut_through.ensures.any_moment c.cut_through.ensures.crash (c.cut_through.ensures.besides told_mid)).0
 
@@ -85,7 +77,7 @@ returns-in_err-cut_through-clause-ready g c = λ told body ready is.
     let n = c.loop-file.file-index in
     let inside : n < length files = omega arith in
     let so_far = c.loop-file.invariant.so_far told body ready is in
-    let told_mid : IsTrue (d.tells mid) = subst IsTrue (sym c.loop-file.invariant.telling) told in
+    let told_mid : IsTrue (d.tells mid) = subst IsTrue (sym c.loop-file.invariant.made.telling) told in
     (emptied_then d.moment d.left_since d.may_leave c.args.disk.now mid new (d.held mid) (d.held new) body files is (get_or files n 0) so_far.0 so_far.1
     (Contains-get_or files n 0 inside) c.cut_through.ensures.any_moment c.cut_through.ensures.crash (c.cut_through.ensures.besides told_mid)).1
 
@@ -97,7 +89,7 @@ returns-in_err-cut_through-clause-others g c = λ told.
     let files = c.args.files.now in
     let n = c.loop-file.file-index in
     let inside : n < length files = omega arith in
-    let told_mid : IsTrue (d.tells mid) = subst IsTrue (sym c.loop-file.invariant.telling) told in
+    let told_mid : IsTrue (d.tells mid) = subst IsTrue (sym c.loop-file.invariant.made.telling) told in
     others_emptied (Contains files) (d.held c.args.disk.now) (d.held mid) (d.held new) (d.may_leave c.args.disk.now) (d.may_leave mid) (d.may_leave new) (c.loop-file.invariant.others told)
     (get_or files n 0) _ (Contains-get_or files n 0 inside) (c.cut_through.ensures.besides told_mid) c.cut_through.ensures.crash
 

@@ -1,11 +1,11 @@
-use Rattle.std.proofs.Common.{◌≡◌, ◌<◌, ◌≤◌, ◌*◌, IsTrue, [], Some, ℕ, get_or}
+use Rattle.std.proofs.Common.{◌<◌, ◌*◌, IsTrue, [], Some, ℕ, get_or}
 use Rattle.std.specs.List.{Contains}
 use Rattle.disk_model.specs.Crash.{OnlyBytes, Run}
 use Rattle.block_list.specs.Loading.{IsReady}
 use Rattle.block_list.specs.declared.body.ListBody.{ListBody}
 use Rattle.store_images.specs.Stored.{KeepsStored}
-use Rattle.store_state.specs.Calls.{RoseAtMost}
 use Rattle.store_core.specs.Loose.{AreUnused, OthersStay}
+use Rattle.store_core.proofs.Counted.{FineCalls}
 use Rattle.store_core.proofs.loose.empty_files.Given as goal
 
 abbrev pub invariant-loop-file : goal.invariant-loop-file
@@ -16,8 +16,5 @@ invariant-loop-file g l =
           → Run KeepsStored d.moment d.left_since d.may_leave l.fn.disk l.disk × IsReady (d.held l.disk) (d.may_leave l.disk) (Some body);
       emptied : IsTrue (d.tells l.fn.disk) → (k : ℕ) → k < l.file-index → OnlyBytes (get_or l.files k 0) [] (d.may_leave l.disk);
       others : IsTrue (d.tells l.fn.disk) → OthersStay (Contains l.files) (d.held l.fn.disk) (d.held l.disk) (d.may_leave l.fn.disk) (d.may_leave l.disk);
-      telling : d.tells l.disk ≡ d.tells l.fn.disk;
-      later : d.faults l.fn.disk ≤ d.faults l.disk;
-      calls : RoseAtMost (2 * l.file-index) (d.calls l.fn.disk) (d.calls l.disk);
-      reads : d.reads l.disk ≡ d.reads l.fn.disk;
+      made : FineCalls d (2 * l.file-index) 0 l.fn.disk l.disk;
     }

@@ -1,4 +1,4 @@
-use Rattle.std.proofs.Common.{◌≡◌, ℕ, IsTrue, List, Some, sym, ◌∙◌, subst, arith}
+use Rattle.std.proofs.Common.{◌≡◌, ◌⊎◌, inl, inr, ◌≤◌, ℕ, IsTrue, List, Some, sym, ◌∙◌, subst, arith}
 use Rattle.std.specs.List.{Contains}
 use Rattle.block_list.specs.Body.{MeetsRules}
 use Rattle.block_list.specs.Commit.{IsListText, slot_of}
@@ -6,46 +6,49 @@ use Rattle.block_list.specs.Loading.{IsReady}
 use Rattle.block_list.specs.declared.body.ListBody.{ListBody}
 use Rattle.block_list.proofs.ReadyLemmas.{can_lay}
 use Rattle.store_core.specs.Loose.{next_without, AreUnused, OthersStay}
-use Rattle.store_core.proofs.LooseFiles.{nothing_done, committed_then, others_same, others_committed, rules_without, loose_unused, left_as_is, left_without}
+use Rattle.store_images.proofs.Keeping.{given_out}
+use Rattle.store_core.specs.Jobs.{IsSpare}
+use Rattle.store_core.proofs.LeftFiles.{freed_committed, next_low, others_wider}
+use Rattle.store_core.proofs.LooseFiles.{committed_then, loose_named, others_committed, rules_without, loose_unused, left_as_is, left_without}
 use Rattle.store_core.proofs.loose.empty_loose.Goals as goal
 
 pub returns-then-len-eq0-clause-list : goal.returns-then-len-eq0-clause-list
 returns-then-len-eq0-clause-list g c = left_as_is c.args.list (sym c.len.ensures ∙ c.if-len-eq0.true)
 
 pub returns-then-len-eq0-clause-kept : goal.returns-then-len-eq0-clause-kept
-returns-then-len-eq0-clause-kept g c = λ told.
-    let d = g.D.Device in
-    nothing_done d.moment d.left_since d.may_leave c.args.disk.now (g.met.D.Device.only_now c.args.disk.now)
+returns-then-len-eq0-clause-kept g c = λ told. c.empty_left.ensures.kept told c.args.list (c.requires.ready told) (omega arith)
 
 pub returns-then-len-eq0-clause-ready : goal.returns-then-len-eq0-clause-ready
-returns-then-len-eq0-clause-ready g c = c.requires.ready
+returns-then-len-eq0-clause-ready g c = λ told. c.empty_left.ensures.ready told c.args.list (c.requires.ready told) (omega arith)
 
 pub returns-then-len-eq0-clause-others : goal.returns-then-len-eq0-clause-others
 returns-then-len-eq0-clause-others g c = λ told.
     let d = g.D.Device in
-    others_same c.args.list.loose (d.held c.args.disk.now) (d.may_leave c.args.disk.now)
+    let disk = c.args.disk.now in
+    let new = c.empty_left.new.disk in
+    others_wider (λ (file : ℕ). c.args.list.next_file ≤ file) (IsSpare c.args.list) (d.held disk) (d.held new) (d.may_leave disk) (d.may_leave new) (λ file beyond. inl beyond) (c.empty_left.ensures.others told)
 
 pub prepare-requires : goal.prepare-requires
 prepare-requires g c = subst MeetsRules (sym c.take_loose-next.ensures.list) (rules_without c.args.list c.requires.rules)
 
-pub returns-in_default-empty_files-clause-kept : goal.returns-in_default-empty_files-clause-kept
-returns-in_default-empty_files-clause-kept g c = λ told.
-    c.empty_files.ensures.kept told c.args.list (c.requires.ready told) (subst (AreUnused c.args.list) (sym (c.as_slice.ensures ∙ c.take_loose-next.ensures.loose)) (loose_unused c.args.list c.requires.rules))
+pub returns-in_default-free_files-clause-kept : goal.returns-in_default-free_files-clause-kept
+returns-in_default-free_files-clause-kept g c = λ told.
+    c.free_files.ensures.kept told c.args.list (c.requires.ready told) (subst (AreUnused c.args.list) (sym (c.as_slice.ensures ∙ c.take_loose-next.ensures.loose)) (loose_unused c.args.list c.requires.rules)) (omega arith)
 
 pub returns-in_default-commit-clause-kept : goal.returns-in_default-commit-clause-kept
 returns-in_default-commit-clause-kept g c = λ told.
     let d = g.D.Device in
     let list : ListBody = c.args.list in
-    let mid = c.empty_files.new.disk in
+    let mid = c.free_files.new.disk in
     let prepared = c.in-Ok.prepared in
-    let told_mid : IsTrue (d.tells mid) = subst IsTrue (sym c.empty_files.ensures.counted.telling) told in
+    let told_mid : IsTrue (d.tells mid) = subst IsTrue (sym c.free_files.ensures.counted.telling) told in
     let text : IsListText prepared (next_without list) = subst (λ (l : ListBody). IsListText prepared l) c.take_loose-next.ensures.list c.in-Ok.ensures.text in
     let are : _ ≡ list.loose = c.as_slice.ensures ∙ c.take_loose-next.ensures.loose in
-    let ready = c.empty_files.ensures.ready told list (c.requires.ready told) (subst (AreUnused list) (sym are) (loose_unused list c.requires.rules)) in
+    let ready = c.free_files.ensures.ready told list (c.requires.ready told) (subst (AreUnused list) (sym are) (loose_unused list c.requires.rules)) (omega arith) in
     let can = can_lay (d.held mid) (d.may_leave mid) (Some list) prepared ready text.generation in
     committed_then d.moment d.left_since d.may_leave c.args.disk.now mid c.commit.new.disk (d.held mid) list (slot_of prepared)
-    (c.empty_files.ensures.kept told list (c.requires.ready told) (subst (AreUnused list) (sym are) (loose_unused list c.requires.rules))) ready
-    (λ file inside. c.in-Ok-empty_files.ensures.emptied told file (subst (λ (l : List ℕ). Contains l file) (sym are) inside)) (omega arith)
+    (c.free_files.ensures.kept told list (c.requires.ready told) (subst (AreUnused list) (sym are) (loose_unused list c.requires.rules)) (omega arith)) ready
+    (λ file inside. let given = given_out list file c.requires.rules (loose_named list file inside) in c.in-Ok-free_files.ensures.emptied told file (subst (λ (l : List ℕ). Contains l file) (sym are) inside) given.0 given.1) (omega arith)
     (c.commit.ensures.any_moment told_mid can (Some list) (next_without list) ready.stands text.generation text)
 
 pub returns-clause-list : goal.returns-clause-list
@@ -55,28 +58,28 @@ pub returns-clause-kept : goal.returns-clause-kept
 returns-clause-kept g c = λ told.
     let d = g.D.Device in
     let list : ListBody = c.args.list in
-    let mid = c.empty_files.new.disk in
+    let mid = c.free_files.new.disk in
     let prepared = c.in-Ok.prepared in
-    let told_mid : IsTrue (d.tells mid) = subst IsTrue (sym c.empty_files.ensures.counted.telling) told in
+    let told_mid : IsTrue (d.tells mid) = subst IsTrue (sym c.free_files.ensures.counted.telling) told in
     let text : IsListText prepared (next_without list) = subst (λ (l : ListBody). IsListText prepared l) c.take_loose-next.ensures.list c.in-Ok.ensures.text in
     let are : _ ≡ list.loose = c.as_slice.ensures ∙ c.take_loose-next.ensures.loose in
-    let ready = c.empty_files.ensures.ready told list (c.requires.ready told) (subst (AreUnused list) (sym are) (loose_unused list c.requires.rules)) in
+    let ready = c.free_files.ensures.ready told list (c.requires.ready told) (subst (AreUnused list) (sym are) (loose_unused list c.requires.rules)) (omega arith) in
     let can = can_lay (d.held mid) (d.may_leave mid) (Some list) prepared ready text.generation in
     committed_then d.moment d.left_since d.may_leave c.args.disk.now mid c.commit.new.disk (d.held mid) list (slot_of prepared)
-    (c.empty_files.ensures.kept told list (c.requires.ready told) (subst (AreUnused list) (sym are) (loose_unused list c.requires.rules))) ready
-    (λ file inside. c.in-Ok-empty_files.ensures.emptied told file (subst (λ (l : List ℕ). Contains l file) (sym are) inside)) (omega arith)
+    (c.free_files.ensures.kept told list (c.requires.ready told) (subst (AreUnused list) (sym are) (loose_unused list c.requires.rules)) (omega arith)) ready
+    (λ file inside. let given = given_out list file c.requires.rules (loose_named list file inside) in c.in-Ok-free_files.ensures.emptied told file (subst (λ (l : List ℕ). Contains l file) (sym are) inside) given.0 given.1) (omega arith)
     (c.commit.ensures.any_moment told_mid can (Some list) (next_without list) ready.stands text.generation text)
 
 pub returns-clause-ready : goal.returns-clause-ready
 returns-clause-ready g c = λ told.
     let d = g.D.Device in
     let list : ListBody = c.args.list in
-    let mid = c.empty_files.new.disk in
+    let mid = c.free_files.new.disk in
     let new = c.commit.new.disk in
     let prepared = c.in-Ok.prepared in
-    let told_mid : IsTrue (d.tells mid) = subst IsTrue (sym c.empty_files.ensures.counted.telling) told in
+    let told_mid : IsTrue (d.tells mid) = subst IsTrue (sym c.free_files.ensures.counted.telling) told in
     let text : IsListText prepared (next_without list) = subst (λ (l : ListBody). IsListText prepared l) c.take_loose-next.ensures.list c.in-Ok.ensures.text in
-    let ready = c.empty_files.ensures.ready told list (c.requires.ready told) (subst (AreUnused list) (sym (c.as_slice.ensures ∙ c.take_loose-next.ensures.loose)) (loose_unused list c.requires.rules)) in
+    let ready = c.free_files.ensures.ready told list (c.requires.ready told) (subst (AreUnused list) (sym (c.as_slice.ensures ∙ c.take_loose-next.ensures.loose)) (loose_unused list c.requires.rules)) (omega arith) in
     let can = can_lay (d.held mid) (d.may_leave mid) (Some list) prepared ready text.generation in
     subst (λ (l : ListBody). IsReady (d.held new) (d.may_leave new) (Some l)) (sym c.take_loose-next.ensures.list)
     (c.in-Ok-commit.ensures.ready told_mid can (Some list) (next_without list) ready text)
@@ -86,15 +89,41 @@ returns-clause-others g c = λ told.
     let d = g.D.Device in
     let list : ListBody = c.args.list in
     let disk = c.args.disk.now in
-    let mid = c.empty_files.new.disk in
+    let mid = c.free_files.new.disk in
     let new = c.commit.new.disk in
     let prepared = c.in-Ok.prepared in
-    let told_mid : IsTrue (d.tells mid) = subst IsTrue (sym c.empty_files.ensures.counted.telling) told in
+    let told_mid : IsTrue (d.tells mid) = subst IsTrue (sym c.free_files.ensures.counted.telling) told in
     let text : IsListText prepared (next_without list) = subst (λ (l : ListBody). IsListText prepared l) c.take_loose-next.ensures.list c.in-Ok.ensures.text in
     let are : _ ≡ list.loose = c.as_slice.ensures ∙ c.take_loose-next.ensures.loose in
-    let ready = c.empty_files.ensures.ready told list (c.requires.ready told) (subst (AreUnused list) (sym are) (loose_unused list c.requires.rules)) in
+    let ready = c.free_files.ensures.ready told list (c.requires.ready told) (subst (AreUnused list) (sym are) (loose_unused list c.requires.rules)) (omega arith) in
     let can = can_lay (d.held mid) (d.may_leave mid) (Some list) prepared ready text.generation in
-    others_committed list.loose (d.held disk) (d.held mid) (d.held new) (d.may_leave disk) (d.may_leave mid) (d.may_leave new)
-    (subst (λ (l : List ℕ). OthersStay l (d.held disk) (d.held mid) (d.may_leave disk) (d.may_leave mid)) are (c.empty_files.ensures.others told))
+    others_committed (IsSpare list) (d.held disk) (d.held mid) (d.held new) (d.may_leave disk) (d.may_leave mid) (d.may_leave new)
+    (subst (λ (l : List ℕ). OthersStay (λ (file : ℕ). (list.next_file ≤ file) ⊎ Contains l file) (d.held disk) (d.held mid) (d.may_leave disk) (d.may_leave mid)) are (c.free_files.ensures.others told))
     (slot_of prepared) _ (omega arith) (c.commit.ensures.besides told_mid)
     (c.commit.ensures.any_moment told_mid can (Some list) (next_without list) ready.stands text.generation text).now
+
+pub returns-in_default-empty_left-clause-kept : goal.returns-in_default-empty_left-clause-kept
+returns-in_default-empty_left-clause-kept g c = λ told. c.empty_left.ensures.kept told c.args.list (c.requires.ready told) (omega arith)
+
+pub returns-clause-freed : goal.returns-clause-freed
+returns-clause-freed g c = λ told.
+    let d = g.D.Device in
+    let list : ListBody = c.args.list in
+    let mid = c.free_files.new.disk in
+    let new = c.commit.new.disk in
+    let prepared = c.in-Ok.prepared in
+    let told_mid : IsTrue (d.tells mid) = subst IsTrue (sym c.free_files.ensures.counted.telling) told in
+    let text : IsListText prepared (next_without list) = subst (λ (l : ListBody). IsListText prepared l) c.take_loose-next.ensures.list c.in-Ok.ensures.text in
+    let are : _ ≡ list.loose = c.as_slice.ensures ∙ c.take_loose-next.ensures.loose in
+    let ready = c.free_files.ensures.ready told list (c.requires.ready told) (subst (AreUnused list) (sym are) (loose_unused list c.requires.rules)) (omega arith) in
+    let can = can_lay (d.held mid) (d.may_leave mid) (Some list) prepared ready text.generation in
+    let run = c.commit.ensures.any_moment told_mid can (Some list) (next_without list) ready.stands text.generation text in
+    let low = λ (file : ℕ) (inside : Contains list.loose file). (given_out list file c.requires.rules (loose_named list file inside)).1 in
+    freed_committed (d.held c.args.disk.now) list.next_file (slot_of prepared) _ (d.may_leave mid) (d.may_leave new) (omega arith) (next_low list c.requires.rules) run.now
+    (c.in-Ok-free_files.ensures.freed told (λ file inside. low file (subst (λ (l : List ℕ). Contains l file) are inside)))
+
+pub empty_left-requires : goal.empty_left-requires
+empty_left-requires g c = next_low c.args.list c.requires.rules
+
+pub free_files-requires : goal.free_files-requires
+free_files-requires g c = next_low c.args.list c.requires.rules

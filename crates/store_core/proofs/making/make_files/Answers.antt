@@ -1,6 +1,8 @@
-use Rattle.std.proofs.Common.{[], IsTrue, sym, ◌∙◌, subst}
+use Rattle.std.proofs.Common.{[], IsTrue, refl, sym, ◌∙◌, subst, arith}
+use Rattle.std.proofs.lemmas.Result.{err_from_is_err_and}
 use Rattle.disk_model.specs.Images.{OnFile}
 use Rattle.disk_model.specs.Bytes.{HalfCut}
+use Rattle.disk_model.proofs.CallRuns.{calls_failed, calls_then, calls_wider}
 use Rattle.disk_model.proofs.Passing.{other_stays_run}
 use Rattle.disk_model.proofs.Runs.{run_more, run_on}
 use Rattle.store_core.specs.Files.{SameBelow, IsEmptied}
@@ -42,3 +44,18 @@ returns-clause-empty g c = λ told.
 pub returns-clause-segment : goal.returns-clause-segment
 returns-clause-segment g c = λ told.
     ok_each c.create.result _ _ (λ first. c.create.ensures.empty first (subst IsTrue (sym c.cut_through.ensures.counted.telling) told))
+
+pub returns-in_err-cut_through-clause-counted : goal.returns-in_err-cut_through-clause-counted
+returns-in_err-cut_through-clause-counted g c =
+    let d = g.D.Device in
+    let disk = c.args.disk.now in
+    let mid = c.cut_through.new.disk in
+    let p = err_from_is_err_and c.from_residual.result c.from_residual.ensures.1 in
+    rw p.1 (calls_failed d 2 3 2 disk mid _ _ (calls_wider d disk mid _ 2 0 2 (omega arith) c.in_err-cut_through.ensures.counted) refl refl)
+
+pub returns-clause-counted : goal.returns-clause-counted
+returns-clause-counted g c =
+    let d = g.D.Device in
+    let disk = c.args.disk.now in
+    let mid = c.cut_through.new.disk in
+    calls_then d 2 3 2 disk mid c.create.new.disk _ _ (calls_wider d disk mid _ 2 0 2 (omega arith) c.in_ok-cut_through.ensures.counted) refl c.create.ensures.counted

@@ -13,6 +13,7 @@ use Rattle.store_core.specs.Cores.{tail_of}
 use Rattle.store_core.specs.declared.error.OpenError.TheVariants.{NotStore}
 use Rattle.store_core.proofs.LogSteps.{handed_on}
 use Rattle.store_core.specs.Loose.{used_files}
+use Rattle.store_core.proofs.LeftFiles.{freed_same, used_not_spare}
 use Rattle.store_core.proofs.LooseFiles.{segment_used, used_low}
 use Rattle.store_core.proofs.OpeningSteps.{block_low, listed_used, segment_low, settled_again, used_by, used_stays}
 use Rattle.store_core.proofs.opening.read_store.Goals as goal
@@ -58,7 +59,7 @@ returns-in-Ok-empty_loose-clause-blocks_still g c = λ told x inside.
     let rules = c.requires.rules in
     let untouched = c.read_listed.ensures.untouched in
     let others = c.in-Ok-empty_loose.ensures.others (subst IsTrue (sym untouched.telling) told) in
-    others.still x.file (block_low list rules x inside) (used_stays list rules x.file (listed_used list x inside)) ∙ untouched.same_bytes told x.file
+    others.still x.file (block_low list rules x inside) (used_not_spare list rules x.file (listed_used list x inside) (used_stays list rules x.file (listed_used list x inside))) ∙ untouched.same_bytes told x.file
 
 pub returns-in-Ok-empty_loose-clause-settled : goal.returns-in-Ok-empty_loose-clause-settled
 returns-in-Ok-empty_loose-clause-settled g c = λ told blocks its stand h stands.
@@ -77,8 +78,8 @@ returns-in-Ok-empty_loose-clause-settled g c = λ told blocks its stand h stands
     used_by list (λ (file : ℕ). OnlyBytes file (bytes_of (d.held disk) file) (d.may_leave mid)) (c.in-Ok.ensures.segments_lie told) (c.in-Ok.ensures.blocks_lie told) in
     subst (λ (l : ListBody). IsSettled (d.held new) (d.may_leave new) l blocks tail h) (sym c.in-Ok-empty_loose.ensures.list)
     (settled_again (IsTrue (d.tells disk)) told (d.held disk) (d.held new) (d.may_leave new) list read.0 tail (c.requires.ready told).stands read.2
-    (λ file used. others.still file (used_low list rules file used) (used_stays list rules file used) ∙ untouched.same_bytes told file)
-    (λ file used. others.images file (bytes_of (d.held disk) file) (used_low list rules file used) (used_stays list rules file used) (one_image file used))
+    (λ file used. others.still file (used_low list rules file used) (used_not_spare list rules file used (used_stays list rules file used)) ∙ untouched.same_bytes told file)
+    (λ file used. others.images file (bytes_of (d.held disk) file) (used_low list rules file used) (used_not_spare list rules file used (used_stays list rules file used)) (one_image file used))
     blocks its stand h stands (subst (λ (l : ListBody). IsReady (d.held new) (d.may_leave new) (Some l)) c.in-Ok-empty_loose.ensures.list (c.in-Ok-empty_loose.ensures.ready told_mid)))
 
 pub returns-in-Ok-empty_loose-clause-ready : goal.returns-in-Ok-empty_loose-clause-ready
@@ -97,4 +98,11 @@ returns-in-Ok-empty_loose-clause-still g c = λ told x inside.
     let list : ListBody = c.args.list in
     let untouched = c.read_listed.ensures.untouched in
     let others = c.in-Ok-empty_loose.ensures.others (subst IsTrue (sym untouched.telling) told) in
-    others.still x.file (segment_low list c.requires.rules x inside) (used_stays list c.requires.rules x.file (segment_used list x inside)) ∙ untouched.same_bytes told x.file
+    others.still x.file (segment_low list c.requires.rules x inside) (used_not_spare list c.requires.rules x.file (segment_used list x inside) (used_stays list c.requires.rules x.file (segment_used list x inside))) ∙ untouched.same_bytes told x.file
+
+pub returns-in-Ok-empty_loose-clause-freed : goal.returns-in-Ok-empty_loose-clause-freed
+returns-in-Ok-empty_loose-clause-freed g c = λ told.
+    let d = g.D.Device in
+    let untouched = c.read_listed.ensures.untouched in
+    freed_same (d.held c.args.disk.now) (d.held c.read_listed.new.disk) c.args.list.next_file (d.may_leave c.empty_loose.new.disk) (λ file above. untouched.same_bytes told file)
+    (c.in-Ok-empty_loose.ensures.freed (subst IsTrue (sym untouched.telling) told))

@@ -1,6 +1,7 @@
 use Rattle.std.proofs.Common.{◌≡◌, ◌<◌, ◌≤◌, ◌+◌, ℕ, IsTrue, List, length, take, take_all, get_or, refl, sym, ◌∙◌, ap, subst, arith}
 use Rattle.std.specs.List.{Contains}
 use Rattle.std.proofs.lemmas.Result.{err_from_is_err_and}
+use Rattle.disk_model.proofs.CallRuns.{counts_then}
 use Rattle.disk_model.specs.Images.{bytes_of}
 use Rattle.disk_model.proofs.Runs.{untouched_then}
 use Rattle.head_log.specs.Scanning.{segment_at}
@@ -9,7 +10,8 @@ use Rattle.store_images.specs.Stored.{first_number}
 use Rattle.store_images.proofs.Lists.{not_in_nil}
 use Rattle.store_core.specs.Cores.{tail_of}
 use Rattle.store_core.specs.LogReading.{LogBreaks}
-use Rattle.store_core.specs.declared.error.OpenError.TheVariants.{NotStore}
+use Rattle.store_core.specs.declared.error.OpenError.TheVariants.{NotStore, Fault}
+use Rattle.store_core.proofs.Counted.{fine_answer}
 use Rattle.store_core.proofs.LogSteps.{Reads, reads_one, reads_on, read_before, first_breaks, later_breaks, astray_at, breaks_as, passed_on, first_is, lie_on}
 use Rattle.store_core.proofs.reading.read_log.Goals as goal
 
@@ -27,7 +29,7 @@ loop-at-init g c =
       lies = λ told. lie_on (λ (ref : SegmentRef). ref.file) held (d.may_leave c.add_segment.new.disk) (d.may_leave c.add_segment.new.disk) segments 0 (record { file = 0; first = 0 }) some (λ image left. left)
           (λ x inside. absurd (not_in_nil x inside)) (c.in_ok-last.ensures.lies told);
       untouched = c.add_segment.ensures.untouched;
-      later = c.add_segment.ensures.later;
+      counts = fine_answer d 0 Fault c.args.disk.now c.add_segment.new.disk _ c.in_ok-last.ensures.counted;
     }
 
 pub loop-at-preserved : goal.loop-at-preserved
@@ -42,8 +44,6 @@ loop-at-preserved g c =
     let untouched = c.loop-at.invariant.untouched in
     let told_mid : IsTrue (d.tells disk) → IsTrue (d.tells mid) = λ told. subst IsTrue (sym untouched.telling) told in
     let more = c.in_ok-last-2.ensures.read in
-    let before = c.loop-at.invariant.later in
-    let since = c.add_segment-in-loop-at.ensures.later in
     record {
       read = reads_on (IsTrue (d.tells disk)) (d.held disk) segments at (record { file = 0; first = 0 }) (first_number c.args.list.now) c.loop-at.batches.items c.add_segment-in-loop-at.new.batches.items
           (tail_of c.loop-at.last) c.in_ok-last-2.last inside c.loop-at.invariant.read (omega (arith, c.if-segment-last.false))
@@ -52,7 +52,7 @@ loop-at-preserved g c =
       lies = λ told. lie_on (λ (ref : SegmentRef). ref.file) (d.held disk) (d.may_leave mid) (d.may_leave new) segments at (record { file = 0; first = 0 }) inside c.add_segment-in-loop-at.ensures.untouched.crash (c.loop-at.invariant.lies told)
           (λ image left. c.in_ok-last-2.ensures.lies (told_mid told) image left ∙ untouched.same_bytes told _);
       untouched = untouched_then d.tells d.held d.may_leave d.moment d.left_since disk mid new untouched c.add_segment-in-loop-at.ensures.untouched;
-      later = omega (arith, before, since);
+      counts = counts_then d 0 (Unit {0}) ⊥ (Unit {0}) ⊥ disk mid new c.loop-at.invariant.counts tt (fine_answer d 0 Fault mid new _ c.in_ok-last-2.ensures.counted);
     }
 
 pub returns-in_err-last-clause-not_store : goal.returns-in_err-last-clause-not_store

@@ -8,6 +8,7 @@ use Rattle.store_model.specs.State.{without_pin}
 use Rattle.store_core.specs.Pins.{is_taken, files_at}
 use Rattle.store_core.specs.declared.state.CoreState.{CoreState}
 use Rattle.store_core.proofs.CommitAnswers.{did_stopped}
+use Rattle.store_core.proofs.NextRoom.{text_short}
 use Rattle.store_core.proofs.CommitEvents.{compact_commits, no_commit, did_sync_fail}
 use Rattle.store_core.proofs.CompactAnswers.{rules_joined, joins, pins_ended, taken_inside, spent_is, infos_spent, unsure_spent, unsure_after, next_generation, pin_back, files_back, has_stopped_spent, others_fit, took_joined, pins_after}
 use Rattle.store_core.proofs.CompactCommits.{did_compact_committed, did_compact_fail}
@@ -97,6 +98,8 @@ returns-in-Ok-commit g c =
       run = λ told ready. w.any_moment told (can_lay (d.held c.sync.new.self) (d.may_leave c.sync.new.self) (Some core.state.list) text ready follows) (Some core.state.list) list ready.stands follows s.text;
       besides = w.besides;
       telling = w.counted.telling;
+      end = _;
+      short = text_short text list s.text;
       made = c.in-Ok-commit.ensures.counted;
     })
     refl c.take_over_joined.new.self (unsure_after core.state c.joined_list-list.new.self c.take_over_joined.new.self mine.mine pins is t.same.4)
@@ -145,6 +148,8 @@ returns g c =
       run = λ told ready. w.any_moment told (can_lay (d.held c.sync.new.self) (d.may_leave c.sync.new.self) (Some core.state.list) text ready follows) (Some core.state.list) list ready.stands follows s.text;
       besides = w.besides;
       telling = w.counted.telling;
+      end = _;
+      short = text_short text list s.text;
       made = c.in-Err.ensures.counted;
     })
     _

@@ -3,6 +3,7 @@ use Rattle.disk_model.proofs.CallRuns.{plain_calls}
 use Rattle.block_list.specs.Commit.{slot_of}
 use Rattle.block_list.proofs.ReadyLemmas.{can_lay}
 use Rattle.store_core.proofs.CommitAnswers.{did_stopped, firsts, flush_here, rules_known, commits, next_generation, other_named, infos_spent, unsure_spent, unsure_after_spent, spent_is, has_stopped_spent, took_over}
+use Rattle.store_core.proofs.NextRoom.{text_short}
 use Rattle.store_core.proofs.CommitEvents.{flush_commits, no_commit, did_sync_fail}
 use Rattle.store_core.proofs.FlushCommits.{did_flush_committed, did_flush_fail}
 use Rattle.store_core.proofs.States.{none_of}
@@ -69,6 +70,8 @@ returns-in-Ok-commit g c =
       run = λ told ready. w.any_moment told (can_lay (d.held c.sync.new.self) (d.may_leave c.sync.new.self) (Some core.state.list) text ready follows) (Some core.state.list) list ready.stands follows s.text;
       besides = w.besides;
       telling = w.counted.telling;
+      end = _;
+      short = text_short text list s.text;
       made = c.in-Ok-commit.ensures.counted;
     })
     refl c.take_over.new.self (unsure_after_spent core.state c.next_list-list.new.self c.take_over.new.self mine.mine (spent_is core.state c.next_list-list.new.self mine.mine mine.known s.same s.flush) t.same.2)
@@ -112,6 +115,8 @@ returns g c =
       run = λ told ready. w.any_moment told (can_lay (d.held c.sync.new.self) (d.may_leave c.sync.new.self) (Some core.state.list) text ready follows) (Some core.state.list) list ready.stands follows s.text;
       besides = w.besides;
       telling = w.counted.telling;
+      end = _;
+      short = text_short text list s.text;
       made = c.in-Err.ensures.counted;
     })
     _

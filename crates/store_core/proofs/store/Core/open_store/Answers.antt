@@ -1,4 +1,4 @@
-use Rattle.std.proofs.Common.{◌≡◌, IsTrue, Option, None, Some, Ok, Err, sym, ◌∙◌, ap, subst}
+use Rattle.std.proofs.Common.{◌≡◌, ℕ, IsTrue, Option, None, Some, Ok, Err, sym, ◌∙◌, ap, subst, arith}
 use Rattle.block_list.specs.Slots.{ImageHoldsList}
 use Rattle.block_list.specs.Reading.{slots_at}
 use Rattle.block_list.specs.Loading.{IsReady}
@@ -7,6 +7,9 @@ use Rattle.disk_model.specs.Images.{bytes_of}
 use Rattle.store_core.specs.Opening.StoreBreaks.{slot, listed}
 use Rattle.store_core.proofs.OpeningSteps.{block_low, list_breaks_same, segment_low, store_unbroken, sound_unbroken, refused_slot, refused_fault}
 use Rattle.store_core.specs.Opening.{LeavesAlone, opened_list, refusal_of}
+use Rattle.block_list.proofs.SlotLemmas.{same_some}
+use Rattle.store_core.specs.Loose.{AreFreed}
+use Rattle.store_core.proofs.LeftFiles.{freed_same, next_low}
 use Rattle.store_images.proofs.Keeping.{one_list}
 use Rattle.store_core.proofs.LeftAlone.{left_untouched, left_loaded, left_then}
 use Rattle.store_images.specs.Stored.{first_number}
@@ -30,9 +33,6 @@ pub returns-in-Err-clause-sound : goal.returns-in-Err-clause-sound
 returns-in-Err-clause-sound g c = λ told sound file at is.
     sound_unbroken (g.D.Device.held c.args.disk) sound.0 file at sound.1
     (slot (c.in-Err.ensures.not_list told file at (ap Err (refused_slot c.in-Err.error file at (sym c.refusal.ensures ∙ is)))))
-
-pub returns-in-Err-clause-fault : goal.returns-in-Err-clause-fault
-returns-in-Err-clause-fault g c = λ is. c.in-Err.ensures.fault (ap Err (refused_fault c.in-Err.error (sym c.refusal.ensures ∙ is)))
 
 pub returns-in-Err-clause-left : goal.returns-in-Err-clause-left
 returns-in-Err-clause-left g c = λ told other.
@@ -188,3 +188,23 @@ returns-in-Err-read_store-clause-sound g c = λ told sound file at is.
     (list_breaks_same (d.held disk) (d.held mid) list file at
     (λ x inside. c.load.ensures.others told x.file (segment_low list (c.in-Ok.ensures.rules list (ap Ok c.in-Some.is)) x inside))
     (λ x inside. c.load.ensures.others told x.file (block_low list (c.in-Ok.ensures.rules list (ap Ok c.in-Some.is)) x inside)) (c.in-Err-read_store.ensures.not_store told_mid file at (ap Err is))))
+
+pub returns-in-Ok-read_store-clause-freed : goal.returns-in-Ok-read_store-clause-freed
+returns-in-Ok-read_store-clause-freed g c = λ told other there.
+    let d = g.D.Device in
+    let disk = c.args.disk in
+    let mid = c.load.new.disk in
+    let list : ListBody = c.in-Some.list in
+    let rules = c.in-Ok.ensures.rules list (ap Ok c.in-Some.is) in
+    let least = next_low list rules in
+    let is : list ≡ other = same_some list other (one_list (d.held disk) (Some list) (Some other) (subst (λ (l : Option ListBody). ImageHoldsList (d.held disk) l) c.in-Some.is (c.in-Ok.ensures.list told)) there) in
+    subst (λ (l : ListBody). AreFreed (d.held disk) l.next_file (d.may_leave c.read_store.new.disk)) is
+    (freed_same (d.held disk) (d.held mid) list.next_file (d.may_leave c.read_store.new.disk) (λ file above. c.load.ensures.others told file (omega (arith, least, above)))
+    (c.in-Ok-read_store.ensures.freed (subst IsTrue (sym c.load.ensures.counted.telling) told)))
+
+pub returns-in-None-clause-freed : goal.returns-in-None-clause-freed
+returns-in-None-clause-freed g c =
+    let d = g.D.Device in
+    if_ok_more c.open_new.result _ _
+    (λ core is told list there. absurd (let bad : None ≡ Some list = one_list (d.held c.args.disk) None (Some list) (subst (λ (l : Option ListBody). ImageHoldsList (d.held c.args.disk) l) c.in-None.is (c.in-Ok.ensures.list told)) there in cc))
+    c.open_new.ensures.list

@@ -41,7 +41,7 @@ returns-in_default-commit_without g c =
     (did_reclaim_fail g.D.Device core c.commit_without.new.disk (none_of core.state.read_only c.in_default.not-Some) kept free
     (parted_as core.state.pins.items core.state.jobs.loose.items c.in-Ok.kept.items kept c.in-Ok.free.items free c.as_slice.ensures.value c.as_slice-2.ensures.value c.in-Ok.ensures)
     (some_there c.in-Ok.free free c.as_slice-2.ensures.value (sym c.is_empty-2.ensures ∙ c.if-is_empty-2.false))
-    _ c.in_default-commit_without.ensures.counted
+    _ _ c.in-Ok-list_without.ensures.short c.in_default-commit_without.ensures.counted
     (λ told ready may rules. w.kept told core.state.list core.state.jobs.next_file (named_loose core.state kept) ready may (text rules))
     (λ told ready may rules. w.others told core.state.list core.state.jobs.next_file (named_loose core.state kept) ready may (text rules))
     w.still (g.D.Device.faults c.commit_without.new.disk) refl refl)
@@ -62,7 +62,7 @@ returns g c =
     did_reclaimed g.D.Device core c.commit_without.new.disk (none_of core.state.read_only c.in_default.not-Some) kept free
     (parted_as core.state.pins.items core.state.jobs.loose.items c.in-Ok.kept.items kept c.in-Ok.free.items free c.as_slice.ensures.value c.as_slice-2.ensures.value c.in-Ok.ensures)
     (some_there c.in-Ok.free free c.as_slice-2.ensures.value (sym c.is_empty-2.ensures ∙ c.if-is_empty-2.false))
-    _ c.in-Ok-commit_without.ensures.counted
+    _ _ c.in-Ok-list_without.ensures.short c.in-Ok-commit_without.ensures.counted
     (λ told ready may rules. w.kept told core.state.list core.state.jobs.next_file (named_loose core.state kept) ready may (list.text rules))
     (λ told ready may rules. w.others told core.state.list core.state.jobs.next_file (named_loose core.state kept) ready may (list.text rules))
     w.still refl c.len.result (c.len.ensures ∙ sym c.as_slice-2.ensures.len) c.keep_loose.new.self.loose (loose.loose ∙ c.as_slice-3.ensures.value ∙ sym c.as_slice.ensures.value) loose.room
