@@ -1,5 +1,5 @@
 -- What a core keeps stays, where its list, the rows in its memory and the bytes of its disk do.
-use Rattle.std.proofs.Common.{◌≡◌, ℕ, List, [], ◌∷◌, IsTrue, sym, ◌∙◌, ap, subst}
+use Rattle.std.proofs.Common.{◌≡◌, ℕ, List, [], ◌∷◌, ◌++◌, IsTrue, sym, ◌∙◌, ap, subst}
 use Rattle.span_types.specs.declared.spans.Row.{Row}
 use Rattle.block_format.specs.Blocks.{BlockHasInfo}
 use Rattle.block_info.specs.InfoParts.{InfoParts}
@@ -8,7 +8,12 @@ use Rattle.disk_model.specs.declared.disk.Device.{Ghosts}
 use Rattle.store_state.specs.Kept.{Kept}
 use Rattle.store_state.specs.Meaning.{LeavesKept}
 use Rattle.store_state.specs.Written.{AreBlocksOf}
+use Rattle.store_model.specs.State.{LiveRow, live_rows}
+use Rattle.store_model.specs.Step.{Machine}
+use Rattle.store_core.specs.declared.state.CoreState.{CoreState}
 use Rattle.store_core.specs.declared.store.Core.{Core}
+use Rattle.store_core.specs.Cores.{HasState}
+use Rattle.store_core.specs.Waiting.{rows_outside}
 use Rattle.store_core.specs.Kept.{CoreKeeps, IsLeft, rows_held}
 use Rattle.store_core.specs.Port.{port_of}
 
@@ -42,3 +47,10 @@ left_kept g old new left = record {
   lists = λ infos. (λ is. is ∙ ap (λ i. i.items) (sym left.infos), λ is. is ∙ ap (λ i. i.items) left.infos);
   keeps = λ kept. (keeps g old new left kept, keeps g new old (back g old new left) kept);
 }
+
+-- the rows of a machine that wait outside of blocks are those in the core's memory
+pub outside_is : (core : CoreState) (m : Machine) → HasState core m → rows_outside m.state ≡ rows_held core
+outside_is core m has =
+    ap (λ (f : List Row). f ++ m.state.head ++ live_rows m.state.live) (sym has.flushing)
+    ∙ ap (λ (h : List Row). core.live.flushing ++ h ++ live_rows m.state.live) has.head
+    ∙ ap (λ (l : List LiveRow). core.live.flushing ++ core.live.head ++ live_rows l) has.live

@@ -3,11 +3,13 @@ use Rattle.std.specs.Prelude.{◌≡◌, ℕ, List, ◌++◌, IsTrue}
 use Rattle.span_types.specs.declared.spans.Row.{Row}
 use Rattle.disk_model.specs.Images.{bytes_of}
 use Rattle.disk_model.specs.declared.disk.Device.{Ghosts}
-use Rattle.store_model.specs.State.{live_rows}
+use Rattle.store_model.specs.State.{State, live_rows}
 use Rattle.store_state.specs.Kept.{Kept}
 use Rattle.store_state.specs.Written.{AreBlocksOf}
 use Rattle.store_core.specs.declared.state.CoreState.{CoreState}
 use Rattle.store_core.specs.declared.store.Core.{Core}
+use Rattle.store_core.specs.Cores.{rows_by_block}
+use Rattle.store_core.specs.Waiting.{rows_outside}
 
 -- the rows in memory outside of blocks: those of an open flush, those of the head, and those of live traces
 abbrev pub rows_held : CoreState → List Row
@@ -20,6 +22,10 @@ pub record CoreKeeps {D : Type 0} (g : Ghosts D) (core : Core D) (kept : Kept) :
   pub infos : kept.infos ≡ core.state.infos.items
   pub blocks : AreBlocksOf (λ file. bytes_of (g.held core.disk) file) kept.infos kept.parts
   pub outside : kept.outside ≡ rows_held core.state
+
+-- a machine's blocks by the information that the core has of them, with their rows, and the machine's rows outside of blocks
+abbrev pub kept_in : CoreState → State → Kept
+kept_in core u = record { infos = core.infos.items; parts = rows_by_block u.blocks; outside = rows_outside u }
 
 -- What the core lists, the rows in its memory, and the bytes of its disk are as they were.
 pub record IsLeft {D : Type 0} (g : Ghosts D) (old new : Core D) : Type 0 where
