@@ -44,3 +44,12 @@ returns-in-Err-clause-did g c =
     (job_file core.state known.0 c.args.out.now known.1.has known.2)
     _ (write_calls g.D.Device core.disk c.write.new.self _ (c.args.out.now.written + length c.args.bytes.now) c.write.ensures.time.later c.in-Err.ensures.counted) c.write.ensures.besides c.write.ensures.crash c.write.ensures.time
     (g.D.Device.faults c.write.new.self) refl refl)
+
+pub returns-in-Some-clause-refused : goal.returns-in-Some-clause-refused
+returns-in-Some-clause-refused g c = λ stopped. (c.in-Some.faults, refl)
+
+pub returns-in-Ok-clause-refused : goal.returns-in-Ok-clause-refused
+returns-in-Ok-clause-refused g c = λ stopped. absurd (stopped (none_of c.args.self.now.state.read_only c.in_default.not-Some))
+
+pub returns-in-Err-clause-refused : goal.returns-in-Err-clause-refused
+returns-in-Err-clause-refused g c = λ stopped. absurd (stopped (none_of c.args.self.now.state.read_only c.in_default.not-Some))
