@@ -18,9 +18,9 @@ use disk_model::Device;
 use store_state::{FlushJob, WriteError};
 
 impl<D: Device> Core<D> {
-    /// Lists a flush's block, which, where bytes are told, its file holds and the information describes: the file is synced, and the list with the block,
-    /// the flush's new segment, and without the segments whose rows are all in blocks, is committed. Pushes then go to the new
-    /// segment. The job is spent, refused or not.
+    /// Lists a flush's block, which, where bytes are told, its file holds and the information describes: the file is synced, and
+    /// the list with the block, the flush's new segment, and without the segments whose rows are all in blocks, is committed. Pushes
+    /// then go to the new segment. The job is spent, refused or not.
     ///
     /// It makes seven device calls at most, and takes no memory. After `Fault` the store is read-only, and its rows are in memory
     /// as they were; a later opening finds the list with the block or the one before it.

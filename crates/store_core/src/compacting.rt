@@ -213,8 +213,8 @@ impl<D: Device> Core<D> {
         }
     }
 
-    /// Lists a compaction's block, which, where bytes are told, its file holds and the information describes, in the place of those that it joins, whose
-    /// files become loose: the file is synced, and the list is committed. The job is spent, refused or not.
+    /// Lists a compaction's block, which, where bytes are told, its file holds and the information describes, in the place of those
+    /// that it joins, whose files become loose: the file is synced, and the list is committed. The job is spent, refused or not.
     ///
     /// It makes seven device calls at most, and takes no memory. After `Fault` the store is read-only, its list and looks are in
     /// memory as they were, and the job stays open; a later opening may find the list with the new block or the one before it.
