@@ -11,7 +11,7 @@ use Rattle.store_core.proofs.new_store.open_new.Goals as goal
 pub returns-in-Ok-clause-stands : goal.returns-in-Ok-clause-stands
 returns-in-Ok-clause-stands g c = λ h empty.
     let d = g.D.Device in
-    stands_now d g.met.D.Device.only_now _ (new_machine h) c.now.ensures
+    stands_now d g.met.D.Device.only_now _ (new_machine h) c.now-since.ensures
     (new_stands (IsTrue (d.tells c.make_store.new.disk)) (d.held c.make_store.new.disk) (d.may_leave c.make_store.new.disk) c.new_state.result h c.new_state.ensures
     (λ told. c.in-Ok.ensures.made (subst IsTrue c.make_store.ensures.counted.telling told)) empty)
 

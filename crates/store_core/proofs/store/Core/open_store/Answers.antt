@@ -136,7 +136,7 @@ returns-in-Ok-read_store-clause-opened g c =
     (λ told. subst (λ (l : Option ListBody). ImageHoldsList (d.held disk) l) c.in-Some.is (c.in-Ok.ensures.list told))
     (λ told. (subst (λ (l : Option ListBody). IsReady (d.held mid) (d.may_leave mid) l) c.in-Some.is (c.in-Ok.ensures.ready told)).stands) c.load.ensures.others
     state.1 state.2 c.in-Ok-read_store.ensures.blocks c.in-Ok-read_store.ensures.still c.in-Ok-read_store.ensures.blocks_still c.in-Ok-read_store.ensures.settled
-    g.met.D.Device.only_now c.now.ensures
+    g.met.D.Device.only_now c.now-since.ensures
 
 pub returns-in-Ok-read_store-clause-kept : goal.returns-in-Ok-read_store-clause-kept
 returns-in-Ok-read_store-clause-kept g c =
