@@ -5,7 +5,9 @@ use Rattle.std.specs.List.{flat_map}
 use Rattle.std.proofs.lemmas.Bool.{eqb-true}
 use Rattle.std.proofs.lemmas.List.{drop_all, length-take-le, take_all}
 use Rattle.span_types.specs.declared.spans.Row.{Row}
+use Rattle.span_types.specs.First.{IsFirstOf}
 use Rattle.block_info.specs.InfoParts.{InfoParts}
+use Rattle.block_format.specs.Blocks.{BlockHasInfo}
 use Rattle.block_build.proofs.Firsts.{can_be_block}
 use Rattle.store_model.specs.Event.Event.{WritePiece, CommitCompact}
 use Rattle.store_model.specs.Event.{Reply as reply}
@@ -28,7 +30,7 @@ use Rattle.store_state.specs.declared.rounds.Refusal.TheVariants.{Memory}
 use Rattle.store_state.specs.declared.rounds.Round.{Round}
 use Rattle.store_state.specs.declared.rounds.Round.TheVariants.{Did, Refused}
 use Rattle.store_state.proofs.HoldLaws.{stays_open}
-use Rattle.flusher.proofs.TaskLaws.{itself, outs_equal, same_count, take_whole}
+use Rattle.flusher.proofs.TaskLaws.{itself, outs_equal, take_whole}
 use Rattle.flusher.proofs.TaskLaws.{take_more as take_twice}
 use Rattle.compactor.specs.Rounds.{FoundBlocks, IsJoined, Job, Leads, Stage}
 use Rattle.compactor.specs.Rounds.{Stage as stage}
@@ -169,23 +171,11 @@ block_rows meaning job bytes info port is =
 
 -- what a compaction wrote whole may be listed
 pub may_be_listed : {P : Type 0} (meaning : Meaning P) (job : CompactJob) (bytes : List ℕ) (info : InfoParts) (port : P) → IsWriting meaning job bytes info port
-    → job.out.written ≡ length bytes → IsJoinedBlock (IsTrue (meaning.tells port)) (meaning.shows port) job.out.file job.level info job.pin.blocks
-may_be_listed meaning job bytes info port is whole = record {
-  parts = is.parts;
-  one_each = is.one_each;
-  their_rows = λ tells. (is.told tells).their_rows;
-  block = record {
-    its_info = record {
-      its_file = is.block.its_file;
-      its_level = is.block.its_level;
-      counted = λ firsts are. is.block.counted ∙ same_count (flat_map (λ (rows : List Row). rows) is.parts) is.block.firsts firsts is.block.are_first are is.some;
-    };
-    firsts = is.block.firsts;
-    are_first = is.block.are_first;
-    bytes = bytes;
-    block = is.block.describes;
-    its_bytes = λ tells. (is.told tells).so_far ∙ take_whole job.out.written bytes whole;
-  };
+    → job.out.written ≡ length bytes → IsTrue (meaning.tells port) → IsJoinedBlock (meaning.shows port) (meaning.shows port job.out.file) info job.pin.blocks
+may_be_listed meaning job bytes info port is whole tells others holds = record {
+  firsts = is.block.firsts;
+  are_first = subst (λ (parts : List (List Row)). IsFirstOf (flat_map (λ (rows : List Row). rows) parts) is.block.firsts) (sym ((is.told tells).their_rows others holds)) is.block.are_first;
+  block = subst (λ (b : List ℕ). BlockHasInfo info b is.block.firsts) (sym ((is.told tells).so_far ∙ take_whole job.out.written bytes whole)) is.block.describes;
 }
 
 -- ---- what leads on

@@ -3,8 +3,8 @@ use Rattle.std.proofs.Common.{rules, ◌≡◌, ℕ, ◌+◌, ◌≤◌, ◌==�
 use Rattle.std.specs.Prelude.{IsTrue, ◌||◌}
 use Rattle.span_types.specs.declared.spans.Row.{Row}
 use Rattle.span_types.specs.First.{IsFirstOf}
-use Rattle.span_types.proofs.FirstLaws.{first_at-firsts, firsts_alike}
 use Rattle.block_info.specs.InfoParts.{InfoParts}
+use Rattle.block_format.specs.Blocks.{BlockHasInfo}
 use Rattle.block_build.proofs.Firsts.{can_be_block}
 use Rattle.store_model.specs.Event.Event.{WritePiece, CommitFlush}
 use Rattle.store_model.specs.Event.{Reply as reply}
@@ -68,27 +68,13 @@ block_rows file rows bytes info is some few =
     let can = can_be_block rows is.firsts is.are_first some in
     (omega (arith, can.some, is.counted), omega (arith, can.few, is.counted, few))
 
-no_more : (rows a b : List Row) → IsFirstOf rows a → IsFirstOf rows b → 1 ≤ length rows → length b ≤ length a
-no_more rows a b one other some =
-    (can_be_block a b (firsts_alike rows a b (λ k. sym (first_at-firsts rows a one k)) other) (can_be_block rows a one some).some).few
-
-pub same_count : (rows a b : List Row) → IsFirstOf rows a → IsFirstOf rows b → 1 ≤ length rows → length a ≡ length b
-same_count rows a b one other some = omega (arith, no_more rows a b one other some, no_more rows b a other one some)
-
 -- what a flush wrote whole may be listed
 pub may_be_listed : {P : Type 0} (meaning : Meaning P) (job : FlushJob) (bytes : List ℕ) (info : InfoParts) (port : P) → IsWriting meaning job bytes info port
-    → job.out.written ≡ length bytes → IsBlockOf (IsTrue (meaning.tells port)) (meaning.shows port job.out.file) job.out.file 0 info job.rows
-may_be_listed meaning job bytes info port is whole = record {
-  its_info = record {
-    its_file = is.block.its_file;
-    its_level = is.block.its_level;
-    counted = λ firsts are. is.block.counted ∙ same_count job.rows is.block.firsts firsts is.block.are_first are is.some;
-  };
+    → job.out.written ≡ length bytes → IsTrue (meaning.tells port) → IsBlockOf (meaning.shows port job.out.file) info job.rows
+may_be_listed meaning job bytes info port is whole told = record {
   firsts = is.block.firsts;
   are_first = is.block.are_first;
-  bytes = bytes;
-  block = is.block.describes;
-  its_bytes = λ told. is.so_far told ∙ take_whole job.out.written bytes whole;
+  block = subst (λ (b : List ℕ). BlockHasInfo info b is.block.firsts) (sym (is.so_far told ∙ take_whole job.out.written bytes whole)) is.block.describes;
 }
 
 -- ---- pieces

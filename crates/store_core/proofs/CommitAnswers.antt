@@ -1,5 +1,5 @@
 -- What the steps of a flush's commit tell, put together.
-use Rattle.std.proofs.Common.{◌≡◌, ℕ, ◌+◌, ◌-◌, ◌≤◌, List, [], ◌∷◌, ◌++◌, length, length-append, map, take, Some, None, Option, IfSome, IsTrue, refl, sym, ◌∙◌, ap, subst, arith}
+use Rattle.std.proofs.Common.{◌≡◌, inl, inr, ℕ, ◌+◌, ◌-◌, ◌≤◌, List, [], ◌∷◌, ◌++◌, length, length-append, map, take, Some, None, Option, IfSome, IsTrue, refl, sym, ◌∙◌, ap, subst, arith}
 use Rattle.std.specs.Vec.{vec_len, vec_capacity}
 use Rattle.span_types.specs.First.{IsFirstOf}
 use Rattle.block_format.specs.Blocks.{BlockHasInfo}
@@ -19,7 +19,7 @@ use Rattle.store_model.specs.Holds.{IsOpenFlush}
 use Rattle.store_model.specs.Step.{Machine, broken}
 use Rattle.store_state.specs.Listed.{segment_of}
 use Rattle.store_state.specs.Replies.{write_refusal}
-use Rattle.store_state.specs.Written.{IsBlockOf}
+use Rattle.store_state.specs.Written.{NamesJob, IsBlockOf}
 use Rattle.store_state.specs.declared.errors.WriteError.{WriteError}
 use Rattle.store_state.specs.declared.errors.WriteError.TheVariants.{Fault}
 use Rattle.store_core.specs.Jobs.{ShowsFlush, IsSpare, one_if, files_of_compaction}
@@ -29,10 +29,26 @@ use Rattle.store_core.specs.declared.state.CoreState.{CoreState}
 use Rattle.store_core.specs.declared.store.Core.{Core}
 use Rattle.store_core.specs.Cores.{HasState, CoreShows, unsure_of}
 use Rattle.store_core.specs.Events.{Did}
+use Rattle.store_model.proofs.FirstsExist.{firsts_exist}
+use Rattle.store_core.proofs.CommitEnds.{IsDecided, true_or_not}
 use Rattle.store_core.proofs.FlushCommits.{Commits, meets_rules}
 use Rattle.store_core.proofs.CommitStates.{TookOver}
 use Rattle.store_core.proofs.OpenJobs.{IsOpenHere, open_here}
 use Rattle.store_core.proofs.RoomLeft.{one_of_compaction}
+
+-- a block has as many rows as its information says
+pub counted_by : (info : InfoParts) (bytes : List ℕ) (rows : List Row) → BlockHasInfo info bytes rows → info.rows ≡ length rows
+counted_by info bytes rows has = ap (λ (i : InfoParts). i.rows) has.info_is
+
+-- The first occurrences of a flush's rows, of which the bytes are a block where they are told.
+record FlushFirsts (told : Type 0) (own : List ℕ) (info : InfoParts) (rows : List Row) : Type 0 where
+  firsts : List Row
+  are_first : IsFirstOf rows firsts
+  block : told → BlockHasInfo info own firsts
+
+flush_firsts : (told : Type 0) (own : List ℕ) (info : InfoParts) (rows : List Row) → IsDecided told → (told → IsBlockOf own info rows) → FlushFirsts told own info rows
+flush_firsts told own info rows (inl known) block = record { firsts = (block known).firsts; are_first = (block known).are_first; block = λ t. (block known).block }
+flush_firsts told own info rows (inr never) block = let found = firsts_exist rows in record { firsts = found.0; are_first = found.1; block = λ t. absurd (never t) }
 
 -- the core as it is said
 pub did_stopped : {D : Type 0} (g : Ghosts D) (old new target : Core D) (event : Event) → new ≡ target → Did g old event (Refused IsFault) target → Did g old event (Refused IsFault) new
@@ -46,27 +62,33 @@ pub rows_here : (core : CoreState) (m0 : Machine) (number file : ℕ) (rows : Li
 rows_here core m0 number file rows its is = its.flushing ∙ ap flush_rows is.is_open ∙ is.its_rows
 
 module _ {D : Type 0} (g : Ghosts D) (old : Core D) (m0 : Machine) (s0 : CoreShows g old m0) (number file : ℕ) (rows : List Row) (is : IsOpenFlush m0 (record { number = number; file = file; rows = rows })) (info : InfoParts)
-    (writes : old.state.read_only ≡ None) (size : (1 ≤ info.rows) × (info.rows ≤ 1048576)) (block : IsBlockOf (IsTrue (g.tells old.disk)) (bytes_of (g.held old.disk) file) file 0 info rows) where
+    (writes : old.state.read_only ≡ None) (size : (1 ≤ info.rows) × (info.rows ≤ 1048576)) (names : NamesJob file 0 info) (block : IsTrue (g.tells old.disk) → IsBlockOf (bytes_of (g.held old.disk) file) info rows) where
+  abbrev found : FlushFirsts (IsTrue (g.tells old.disk)) (bytes_of (g.held old.disk) file) info rows
+  found = flush_firsts (IsTrue (g.tells old.disk)) (bytes_of (g.held old.disk) file) info rows (true_or_not (g.tells old.disk)) block
+
+  abbrev pub firsts : List Row
+  firsts = found.firsts
+
   abbrev here : IsOpenHere old.state m0 number file
   here = flush_here old.state m0 m0 number file rows s0.has is s0.has
 
   -- the list that is made in the room of the commit meets the rules
   pub rules_known : (count : ℕ) → count ≡ info.rows → IfSome old.state.jobs.flush (λ known. (next : ListBody) → IsNextList old.state known.files count next → MeetsRules next)
   rules_known count counted = subst (λ (k : Option OpenFlush). IfSome k (λ known. (next : ListBody) → IsNextList old.state known.files count next → MeetsRules next)) (sym here.known)
-      (λ next its. meets_rules ⊥ (g.held old.disk) (g.may_leave old.disk) old.state m0 s0 writes number file info.rows here block.firsts
-      (subst (λ (r : List Row). IsFirstOf r block.firsts) (sym (sym (s0.has.flushing ∙ ap flush_rows here.is_open) ∙ rows_here old.state m0 number file rows s0.has is)) block.are_first)
+      (λ next its. meets_rules ⊥ (g.held old.disk) (g.may_leave old.disk) old.state m0 s0 writes number file info.rows here found.firsts
+      (subst (λ (r : List Row). IsFirstOf r found.firsts) (sym (sym (s0.has.flushing ∙ ap flush_rows here.is_open) ∙ rows_here old.state m0 number file rows s0.has is)) found.are_first)
       next (subst (λ (n : ℕ). IsNextList old.state here.mine.files n next) counted its) size.0 size.1)
 
   abbrev pub commits : (list : ListBody) (count : ℕ) → count ≡ info.rows → IfSome old.state.jobs.flush (λ known. IsNextList old.state known.files count list)
-      → Commits old.state (g.held old.disk) (IsTrue (g.tells old.disk)) number file info.rows rows block.firsts info list
+      → Commits old.state (g.held old.disk) (IsTrue (g.tells old.disk)) number file info.rows rows found.firsts info list
   commits list count counted next = record {
     writes = writes;
     here = λ m has. flush_here old.state m0 m number file rows s0.has is has;
     its_rows = rows_here old.state m0 number file rows s0.has is;
-    are_first = block.are_first;
-    block = λ told. subst (λ (b : List ℕ). BlockHasInfo info b block.firsts) (sym (block.its_bytes told)) block.block;
-    its_info = record { file_is = block.its_info.its_file; level = block.its_info.its_level; rows = refl };
-    counted = block.its_info.counted block.firsts block.are_first;
+    are_first = found.are_first;
+    block = found.block;
+    its_info = record { file_is = names.its_file; level = names.its_level; rows = refl };
+    counted = λ told. counted_by info (bytes_of (g.held old.disk) file) found.firsts (found.block told);
     some = size.0;
     most = size.1;
     next = λ m has. subst (λ (n : ℕ). IsNextList old.state (flush_here old.state m0 m number file rows s0.has is has).mine.files n list) counted

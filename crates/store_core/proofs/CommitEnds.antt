@@ -46,7 +46,7 @@ use Rattle.store_core.proofs.Quiet.{none_begun}
 abbrev pub IsDecided : Type 0 → Type 0
 IsDecided told = told ⊎ (told → ⊥)
 
-true_or_not : (b : Bool) → IsDecided (IsTrue b)
+pub true_or_not : (b : Bool) → IsDecided (IsTrue b)
 true_or_not true = inl refl
 true_or_not false = inr (λ is. let bad : false ≡ true = is in absurd cc)
 

@@ -14,7 +14,7 @@ use Rattle.store_model.specs.Step.{Machine, broken}
 use Rattle.store_model.proofs.Numbers.{same_number}
 use Rattle.store_state.specs.Given.{info_files}
 use Rattle.store_state.specs.Parted.{inside}
-use Rattle.store_state.specs.Written.{IsJoinedBlock}
+use Rattle.store_state.specs.Written.{NamesJob, IsJoinedBlock}
 use Rattle.store_core.specs.Cores.{HasState, CoreShows, unsure_of}
 use Rattle.store_core.specs.Jobs.{ShowsCompaction, IsSpare, one_if, files_of_flush}
 use Rattle.store_core.specs.NextList.{IsJoinedList, infos_outside}
@@ -35,7 +35,8 @@ Pins = Vec (Option (List ℕ)) Global
 -- ---- what is known where the list is made
 
 module _ {D : Type 0} (g : Ghosts D) (old : Core D) (m0 : Machine) (s0 : CoreShows g old m0) (number file level pin : ℕ) (infos : List InfoParts) (is : IsOpenCompact m0 (record { number = number; file = file; level = level; pin = pin; files = info_files infos })) (info : InfoParts)
-    (writes : old.state.read_only ≡ None) (size : (1 ≤ info.rows) × (info.rows ≤ 1048576)) (joined : IsJoinedBlock (IsTrue (g.tells old.disk)) (λ f. bytes_of (g.held old.disk) f) file level info infos) where
+    (writes : old.state.read_only ≡ None) (size : (1 ≤ info.rows) × (info.rows ≤ 1048576)) (names : NamesJob file level info)
+    (joined : IsTrue (g.tells old.disk) → IsJoinedBlock (λ f. bytes_of (g.held old.disk) f) (bytes_of (g.held old.disk) file) info infos) where
   abbrev pub here : IsCompactionHere old.state m0 number file level pin (info_files infos)
   here = compaction_here old.state m0 m0 number file level pin (info_files infos) s0.has is s0.has
 
@@ -45,7 +46,7 @@ module _ {D : Type 0} (g : Ghosts D) (old : Core D) (m0 : Machine) (s0 : CoreSho
   rules_joined files count are counted =
       subst (λ (k : Option OpenCompaction). IfSome k (λ known. (next : ListBody) → IsJoinedList old.state known files count next → MeetsRules next)) (sym here.known)
       (λ next its. joined_rules ⊥ (g.held old.disk) (g.may_leave old.disk) old.state m0 s0 writes number file level pin info.rows infos info here
-      (firsts_for ⊥ (g.held old.disk) (g.may_leave old.disk) old.state m0 s0 number file level pin infos here (inr (λ bad. bad)) info (IsTrue (g.tells old.disk)) (λ bad. absurd bad) joined)
+      (firsts_for ⊥ (g.held old.disk) (g.may_leave old.disk) old.state m0 s0 number file level pin infos here (inr (λ bad. bad)) info (λ bad. absurd bad))
       next (subst (λ (n : ℕ). IsJoinedList old.state here.mine (info_files infos) n next) counted (subst (λ (fs : List ℕ). IsJoinedList old.state here.mine fs count next) are its)) size.0 size.1)
 
   abbrev pub joins : (list : ListBody) (files : List ℕ) (count : ℕ) → files ≡ info_files infos → count ≡ info.rows → IfSome old.state.jobs.compaction (λ known. IsJoinedList old.state known files count list)
@@ -53,6 +54,7 @@ module _ {D : Type 0} (g : Ghosts D) (old : Core D) (m0 : Machine) (s0 : CoreSho
   joins list files count are counted next = record {
     writes = writes;
     here = λ m has. compaction_here old.state m0 m number file level pin (info_files infos) s0.has is has;
+    names = names;
     joined = joined;
     some = size.0;
     most = size.1;

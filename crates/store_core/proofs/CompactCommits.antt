@@ -22,7 +22,7 @@ use Rattle.store_model.specs.Step.{Machine, Step, broken, if_read_only, with_sta
 use Rattle.store_model.specs.Step.Step.{Succeeds}
 use Rattle.store_model.proofs.KeepsSound.{step_keeps as keeps_sound}
 use Rattle.store_state.specs.Given.{info_files}
-use Rattle.store_state.specs.Written.{IsJoinedBlock}
+use Rattle.store_state.specs.Written.{NamesJob, IsJoinedBlock}
 use Rattle.store_images.specs.Committed.{MayCompact}
 use Rattle.store_images.specs.Stored.{ImageStandsFor}
 use Rattle.store_images.specs.Settled.{Tail, IsSettled}
@@ -78,7 +78,8 @@ module _ (told : Type 0) (held : Image) (may_leave : Image → Type 0) (core : C
 pub record Joins (old : CoreState) (held : Image) (told : Type 0) (number file level pin : ℕ) (infos : List InfoParts) (info : InfoParts) (list : ListBody) : Type 0 where
   pub writes : old.read_only ≡ None
   pub here : (m : Machine) → HasState old m → IsCompactionHere old m number file level pin (info_files infos)
-  pub joined : IsJoinedBlock told (λ f. bytes_of held f) file level info infos
+  pub names : NamesJob file level info
+  pub joined : told → IsJoinedBlock (λ f. bytes_of held f) (bytes_of held file) info infos
   pub some : 1 ≤ info.rows
   pub most : info.rows ≤ 1048576
   pub next : (m : Machine) → (has : HasState old m) → IsJoinedList old (here m has).mine (info_files infos) info.rows list
@@ -97,7 +98,7 @@ module _ {D : Type 0} (g : Ghosts D) (only_now : OnlyNow g) (old : Core D) (mid 
     files = job_files its_job m.state
 
     found : HasFirsts told (bytes_of (g.held old.disk) file) info files m.state.blocks
-    found = firsts_for told (g.held old.disk) (g.may_leave old.disk) old.state m s number file level pin infos here decided info (IsTrue (g.tells old.disk)) tells c.joined
+    found = firsts_for told (g.held old.disk) (g.may_leave old.disk) old.state m s number file level pin infos here decided info (λ t. c.joined (tells t))
 
     abbrev block : Block
     block = joined_block its_job info.rows found.firsts
@@ -167,7 +168,7 @@ module _ {D : Type 0} (g : Ghosts D) (only_now : OnlyNow g) (old : Core D) (mid 
     mine_here = c.here m s.has
 
     its_info : IsJoinedInfo info mine_here.mine info.rows
-    its_info = record { file_is = c.joined.block.its_info.its_file ∙ sym mine_here.its_file; level = c.joined.block.its_info.its_level ∙ sym mine_here.its_level; rows = refl }
+    its_info = record { file_is = c.names.its_file ∙ sym mine_here.its_file; level = c.names.its_level ∙ sym mine_here.its_level; rows = refl }
 
     its_own : told → MayCompact (g.held mid) (g.may_leave mid) old.state.list list its_files m.state.blocks its_block (tail_of old.state.segment) m.history
     its_own known = may told tells decided m s known
@@ -212,7 +213,7 @@ module _ {D : Type 0} (g : Ghosts D) (only_now : OnlyNow g) (old : Core D) (mid 
     block_has known =
         let low : 2 ≤ info.file = (let least = (its_own known).low in let one = its_info.file_is in omega (arith, least, one)) in
         subst (λ (b : List ℕ). BlockHasInfo info b its_block.rows) (sym (still_file (tells known) info.file low))
-        (subst (λ (n : ℕ). BlockHasInfo info (bytes_of (g.held old.disk) n) its_block.rows) (sym c.joined.block.its_info.its_file) ((found told tells decided m s).block known))
+        (subst (λ (n : ℕ). BlockHasInfo info (bytes_of (g.held old.disk) n) its_block.rows) (sym c.names.its_file) ((found told tells decided m s).block known))
 
     its_built : told → AreDescribed (g.held disk) later.infos.items after.blocks
     its_built known =

@@ -18,7 +18,7 @@ use Rattle.store_model.proofs.Chosen.{split}
 use Rattle.store_model.proofs.FirstsExist.{firsts_exist}
 use Rattle.store_model.proofs.Numbers.{times-append, map_append}
 use Rattle.store_state.specs.Given.{info_files}
-use Rattle.store_state.specs.Written.{AreBlocksOf, HoldRows, IsJoinedBlock}
+use Rattle.store_state.specs.Written.{AreBlocksOf, HoldRows, IsBlockOf, IsJoinedBlock}
 use Rattle.store_images.specs.Committed.{MayCompact}
 use Rattle.store_core.specs.Cores.{StandsFor, rows_by_block, tail_of}
 use Rattle.store_core.specs.InUse.{AreInUse}
@@ -67,24 +67,22 @@ module _ (told : Type 0) (held : Image) (may_leave : Image → Type 0) (core : C
   inside_files : block_files (in_files (job_files its_job m.state) m.state.blocks) ≡ job_files its_job m.state
   inside_files = ap block_files (s.sound.joining its_job here.is_open).listed
 
-  rows_told : told → (info : InfoParts) → (told' : Type 0) → (told → told') → (block : IsJoinedBlock told' (λ f. bytes_of held f) file level info infos)
-      → flat_map (λ (rows : List Row). rows) block.parts ≡ block_rows (in_files (job_files its_job m.state) m.state.blocks)
-  rows_told known info told' tells block =
+  -- the new block is one of the first occurrences of their rows
+  joined_told : told → (info : InfoParts) → IsJoinedBlock (λ f. bytes_of held f) (bytes_of held file) info infos
+      → IsBlockOf (bytes_of held file) info (block_rows (in_files (job_files its_job m.state) m.state.blocks))
+  joined_told known info joined =
       let inside : List Block = in_files (job_files its_job m.state) m.state.blocks in
       let holds : HoldRows (λ f. bytes_of held f) (block_files inside) (rows_by_block inside) =
       holds_inside (λ f. bytes_of held f) (job_files its_job m.state) m.state.blocks (described_holds (λ f. bytes_of held f) core.infos.items m.state.blocks s.has.infos (s.built known)) in
-      let theirs = block.their_rows (tells known) (rows_by_block inside) (subst (λ (fs : List ℕ). HoldRows (λ f. bytes_of held f) fs (rows_by_block inside)) (inside_files ∙ sym files_here) holds) in
-      ap (flat_map (λ (rows : List Row). rows)) (sym theirs) ∙ rows_joined inside
+      subst (λ (rows : List Row). IsBlockOf (bytes_of held file) info rows) (rows_joined inside)
+      (joined (rows_by_block inside) (subst (λ (fs : List ℕ). HoldRows (λ f. bytes_of held f) fs (rows_by_block inside)) (inside_files ∙ sym files_here) holds))
 
-  pub firsts_for : told ⊎ (told → ⊥) → (info : InfoParts) → (told' : Type 0) → (told → told') → IsJoinedBlock told' (λ f. bytes_of held f) file level info infos
+  pub firsts_for : told ⊎ (told → ⊥) → (info : InfoParts) → (told → IsJoinedBlock (λ f. bytes_of held f) (bytes_of held file) info infos)
       → HasFirsts told (bytes_of held file) info (job_files its_job m.state) m.state.blocks
-  firsts_for (inl known) info told' tells joined = record {
-    firsts = joined.block.firsts;
-    are_first = subst (λ (rows : List Row). IsFirstOf rows joined.block.firsts) (rows_told known info told' tells joined) joined.block.are_first;
-    block = λ t. subst (λ (b : List ℕ). BlockHasInfo info b joined.block.firsts) (sym (joined.block.its_bytes (tells t))) joined.block.block;
-    counted = λ t. joined.block.its_info.counted joined.block.firsts joined.block.are_first;
-  }
-  firsts_for (inr never) info told' tells joined =
+  firsts_for (inl known) info joined =
+      let its = joined_told known info (joined known) in
+      record { firsts = its.firsts; are_first = its.are_first; block = λ t. its.block; counted = λ t. ap (λ (i : InfoParts). i.rows) its.block.info_is }
+  firsts_for (inr never) info joined =
       let found = firsts_exist (block_rows (in_files (job_files its_job m.state) m.state.blocks)) in
       record { firsts = found.0; are_first = found.1; block = λ t. absurd (never t); counted = λ t. absurd (never t) }
 

@@ -107,7 +107,7 @@ pub record Commits (old : CoreState) (held : Image) (told : Type 0) (number file
   pub are_first : IsFirstOf rows firsts
   pub block : told → BlockHasInfo info (bytes_of held file) firsts
   pub its_info : IsItsInfo info file size
-  pub counted : size ≡ length firsts
+  pub counted : told → size ≡ length firsts
   pub some : 1 ≤ size
   pub most : size ≤ 1048576
   pub next : (m : Machine) → (has : HasState old m) → IsNextList old (here m has).mine.files size list
@@ -174,7 +174,7 @@ module _ {D : Type 0} (g : Ghosts D) (only_now : OnlyNow g) (old : Core D) (mid 
         (subst (λ (n : ℕ). OnlyBytes n (bytes_of (g.held mid) n) (g.may_leave mid)) (sym here.its_file) (synced.lasting (tells known)))
         (done 0 0) firsts_are
         (subst (λ (n : ℕ). BlockHolds (bytes_of (g.held old.disk) n) firsts) (sym here.its_file) (its_rows_hold known))
-        c.counted segments blocks_are for_m.floor
+        (c.counted (tells known)) segments blocks_are for_m.floor
 
     pub may_list : told → MayList (g.held mid) (g.may_leave mid) old.state.list list m.history
     may_list known = record {

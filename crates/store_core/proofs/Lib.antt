@@ -24,6 +24,8 @@ mod LookEvents
 pub mod CutEvents
 mod Apart
 mod Kept
+mod KeptCores
+mod Ended
 mod PageEvents
 mod PieceEvents
 mod DropEvents

@@ -1,5 +1,5 @@
 -- An event of a core is a call of its port.
-use Rattle.std.proofs.Common.{[]}
+use Rattle.std.proofs.Common.{[], sym, ◌∙◌}
 use Rattle.disk_model.specs.declared.disk.Device.{Ghosts}
 use Rattle.disk_model.proofs.CallRuns.{raised_rose}
 use Rattle.store_model.specs.Event.{Event, Reply}
@@ -15,6 +15,7 @@ use Rattle.store_state.specs.declared.jobs.Look.{Look}
 use Rattle.store_state.proofs.CallLaws.{step_is_called}
 use Rattle.store_images.proofs.Lists.{not_in_nil}
 use Rattle.store_core.specs.declared.store.Core.{Core}
+use Rattle.store_core.proofs.Ended.{wrote}
 use Rattle.store_core.specs.Cores.{CoreShows}
 use Rattle.store_core.specs.Events.{Did}
 use Rattle.store_core.specs.Port.{shown_by, port_of}
@@ -26,6 +27,9 @@ steps g old event reply new did = record {
   did = λ m stands. let stepped = did.stepped m stands in (stepped.machine, stepped.stands, stepped.step);
   shown = did.shown;
   telling = did.counts.telling;
+  ended = λ m shown free.
+      let after = did.shown m shown in
+      sym shown.has.read_only ∙ wrote (g.faults old.disk) (g.faults new.disk) m after.0 event reply after.2 (after.1.has.read_only ∙ free);
   bytes = did.files;
   page = did.page;
   look = did.look;
@@ -46,6 +50,7 @@ did_is_called g old event reply new did =
       learns = called.learns;
       holds = called.holds;
       telling = called.telling;
+      ended = called.ended;
       bytes = called.bytes;
       page = called.page;
       look = called.look;

@@ -15,4 +15,5 @@ pub mod LogReading
 pub mod BlockReading
 pub mod Loose
 pub mod Opening
+pub mod Kept
 pub mod Port

@@ -7,7 +7,7 @@ ghost use Rattle.store_model.specs.Holds.{OpenIn};
 ghost use Rattle.store_model.specs.Step.{Machine};
 ghost use Rattle.store_state.specs.Given.{flush_of};
 ghost use Rattle.store_state.specs.Replies.{write_reply};
-ghost use Rattle.store_state.specs.Written.{IsBlockOf};
+ghost use Rattle.store_state.specs.Written.{NamesJob, IsBlockOf};
 ghost use Rattle.store_core.specs.Cores.{CoreShows};
 ghost use Rattle.store_core.specs.Events.{Did};
 
@@ -18,17 +18,18 @@ use disk_model::Device;
 use store_state::{FlushJob, WriteError};
 
 impl<D: Device> Core<D> {
-    /// Lists a flush's block, which its file holds and the information describes: the file is synced, and the list with the block,
-    /// the flush's new segment, and without the segments whose rows are all in blocks, is committed. Pushes then go to the new
-    /// segment. The job is spent, refused or not.
+    /// Lists a flush's block, which, where bytes are told, its file holds and the information describes: the file is synced, and
+    /// the list with the block, the flush's new segment, and without the segments whose rows are all in blocks, is committed. Pushes
+    /// then go to the new segment. The job is spent, refused or not.
     ///
     /// It makes seven device calls at most, and takes no memory. After `Fault` the store is read-only, and its rows are in memory
     /// as they were; a later opening finds the list with the block or the one before it.
     pub fn commit_flush(&mut self, job: FlushJob, info: SharedInfo) -> Result<(), WriteError>
         requires job { (m : Machine) × CoreShows D.Device.own self.now m × OpenIn m (flush_of job) }
         requires size { (1 ≤ info.rows) × (info.rows ≤ 1048576) }
-        requires block { IsBlockOf (IsTrue (D.tells self.now.disk)) (bytes_of (D.held self.now.disk) job.out.file)
-            job.out.file 0 info job.rows }
+        requires names { NamesJob job.out.file 0 info }
+        requires block { IsTrue (D.tells self.now.disk) →
+            IsBlockOf (bytes_of (D.held self.now.disk) job.out.file) info job.rows }
         ensures { Did D.Device.own self.old (CommitFlush job.out.number info.rows) (write_reply result) self.new }
     {
         if let Some(faults) = self.state.read_only {

@@ -14,7 +14,7 @@ ghost use Rattle.store_state.specs.Given.{compact_of};
 ghost use Rattle.store_state.specs.Listed.{picked, ref_of};
 ghost use Rattle.store_state.specs.Replies.{begin_refusal, begin_compact_reply, write_reply};
 ghost use Rattle.store_state.specs.Shown.{AreBlocks, JoinsChoice, told_block};
-ghost use Rattle.store_state.specs.Written.{IsJoinedBlock};
+ghost use Rattle.store_state.specs.Written.{NamesJob, IsJoinedBlock};
 ghost use Rattle.store_state.specs.declared.errors.BeginError.TheVariants.{Memory as Lacking};
 ghost use Rattle.store_core.specs.Beginning.{MayCompact, HasRoomStill, HasRoomToBegin, IsMade, IsNotMade, at_places};
 ghost use Rattle.store_core.specs.Cores.{CoreShows, CoreStandsFor, HasState};
@@ -213,16 +213,17 @@ impl<D: Device> Core<D> {
         }
     }
 
-    /// Lists a compaction's block, which its file holds and the information describes, in the place of those that it joins, whose
-    /// files become loose: the file is synced, and the list is committed. The job is spent, refused or not.
+    /// Lists a compaction's block, which, where bytes are told, its file holds and the information describes, in the place of those
+    /// that it joins, whose files become loose: the file is synced, and the list is committed. The job is spent, refused or not.
     ///
     /// It makes seven device calls at most, and takes no memory. After `Fault` the store is read-only, its list and looks are in
     /// memory as they were, and the job stays open; a later opening may find the list with the new block or the one before it.
     pub fn commit_compact(&mut self, job: CompactJob, info: SharedInfo) -> Result<(), WriteError>
         requires job { (m : Machine) × CoreShows D.Device.own self.now m × OpenIn m (compact_of job) }
         requires size { (1 ≤ info.rows) × (info.rows ≤ 1048576) }
-        requires block { IsJoinedBlock (IsTrue (D.tells self.now.disk)) (λ file. bytes_of (D.held self.now.disk) file)
-            job.out.file job.level info job.pin.blocks }
+        requires names { NamesJob job.out.file job.level info }
+        requires block { IsTrue (D.tells self.now.disk) → IsJoinedBlock (λ file. bytes_of (D.held self.now.disk) file)
+            (bytes_of (D.held self.now.disk) job.out.file) info job.pin.blocks }
         ensures { Did D.Device.own self.old (CommitCompact job.out.number info.rows) (write_reply result) self.new }
     {
         if let Some(faults) = self.state.read_only {

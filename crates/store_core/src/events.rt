@@ -1,12 +1,15 @@
 //! The events of a store.
 
 ghost use Rattle.std.specs.Prelude.{◌≡◌, IfOk};
+ghost use Rattle.disk_model.specs.Images.{bytes_of};
 ghost use Rattle.store_model.specs.Event.Event.{Push, Held, Look as TakeLook, Done};
 ghost use Rattle.store_model.specs.Event.Reply.{Count, Fine};
 ghost use Rattle.store_model.specs.Step.{Machine, IsLookPin};
+ghost use Rattle.store_state.specs.Kept.{Kept, HasKept};
 ghost use Rattle.store_state.specs.Replies.{push_reply, look_reply};
 ghost use Rattle.store_core.specs.Cores.{CoreStandsFor, CoreShows, held_in};
 ghost use Rattle.store_core.specs.Events.{Did};
+ghost use Rattle.store_core.specs.Kept.{CoreKeeps, IsLeft};
 ghost use Rattle.store_core.specs.Port.{LookShows};
 
 use crate::pins::{free_number, take_number};
@@ -66,6 +69,9 @@ impl<D: Device> Core<D> {
     pub fn take_look(&mut self) -> Result<Look, Memory>
         ensures looked { Did D.Device.own self.old TakeLook (look_reply result) self.new }
         ensures infos { IfOk result (λ look. look.pin.blocks ≡ self.old.state.infos.items) }
+        ensures kept { IfOk result (λ look. (kept : Kept) → CoreKeeps D.Device.own self.old kept →
+            HasKept (λ file. bytes_of (D.held self.new.disk) file) look kept) }
+        ensures left { IsLeft D.Device.own self.old self.new }
         ensures shows { IfOk result (λ look. (m : Machine) → CoreStandsFor D.Device.own self.new m →
             LookShows D.Device.own self.new look m.history) }
     {
@@ -84,7 +90,8 @@ impl<D: Device> Core<D> {
     /// Gives a look back, and ends its pin. It makes no device call.
     pub fn end_look(&mut self, look: Look)
         requires open { (m : Machine) × CoreShows D.Device.own self.now m × IsLookPin look.pin.number m.state }
-        ensures { Did D.Device.own self.old (Done look.pin.number) Fine self.new }
+        ensures did { Did D.Device.own self.old (Done look.pin.number) Fine self.new }
+        ensures left { IsLeft D.Device.own self.old self.new }
     {
         free_number(&mut self.state.pins, look.pin.number);
     }

@@ -1,6 +1,6 @@
 //! Flushes begin, their blocks are written, and they are given up.
 
-ghost use Rattle.std.specs.Prelude.{◌≡◌, ◌≢◌, ◌≤◌, ◌<◌, ◌+◌, ◌^◌, None, Some, Err, true, length, IsTrue, IfOk, IfErr, IfSome, OnOk, OnErr};
+ghost use Rattle.std.specs.Prelude.{◌≡◌, ◌≢◌, ◌≤◌, ◌<◌, ◌+◌, ◌^◌, ℕ, None, Some, Err, true, length, IsTrue, IfOk, IfErr, IfSome, OnOk, OnErr};
 ghost use Rattle.disk_model.specs.Images.{bytes_of};
 ghost use Rattle.store_model.specs.Event.Event.{BeginFlush, WritePiece, DropFlush};
 ghost use Rattle.store_model.specs.Event.Reply.{Fine, Refused};
@@ -10,7 +10,7 @@ ghost use Rattle.store_model.specs.Step.{Machine, early};
 ghost use Rattle.store_state.specs.Given.{IsJobOf, flush_of};
 ghost use Rattle.store_state.specs.Replies.{begin_refusal, begin_flush_reply, write_reply};
 ghost use Rattle.store_state.specs.Written.{HasWritten};
-ghost use Rattle.store_state.specs.declared.errors.WriteError.TheVariants.{Fault};
+ghost use Rattle.store_state.specs.declared.errors.WriteError.TheVariants.{ReadOnly, Fault};
 ghost use Rattle.store_core.specs.Cores.{CoreShows, HasState};
 ghost use Rattle.store_core.specs.Events.{Did};
 ghost use Rattle.store_core.specs.Beginning.{MayBegin, unless_rows};
@@ -131,12 +131,15 @@ impl<D: Device> Core<D> {
     /// call, and takes no memory. After `Fault` the store is read-only, and nothing is known of the file's length.
     pub fn write_piece(&mut self, out: &mut JobFile, bytes: &[u8]) -> Result<(), WriteError>
         requires job { (m : Machine) × CoreShows D.Device.own self.now m × IsJobOf out.now (OpenIn m) }
-        requires whole { IsTrue (D.tells self.now.disk) → HasWritten (λ file. bytes_of (D.held self.now.disk) file) out.now }
+        requires whole { IsTrue (D.tells self.now.disk) → self.now.state.read_only ≡ None →
+            HasWritten (λ file. bytes_of (D.held self.now.disk) file) out.now }
         ensures did { Did D.Device.own self.old (WritePiece out.old.number out.old.file bytes.now) (write_reply result) self.new }
         ensures raised { OnOk result (out.new.written ≡ out.old.written + length bytes.now) }
         ensures kept { OnErr result (out.new.written ≡ out.old.written) }
-        ensures whole { IsTrue (D.tells self.old.disk) → result ≢ Err Fault →
-            HasWritten (λ file. bytes_of (D.held self.new.disk) file) out.new }
+        ensures whole { IsTrue (D.tells self.old.disk) → HasWritten (λ file. bytes_of (D.held self.old.disk) file) out.old →
+            result ≢ Err Fault → HasWritten (λ file. bytes_of (D.held self.new.disk) file) out.new }
+        ensures broken { result ≡ Err Fault → self.new.state.read_only ≢ None }
+        ensures refused { self.old.state.read_only ≢ None → (faults : ℕ) × (result ≡ Err (ReadOnly faults)) }
         // No byte is asked to be written at 2^63 or more, unless the piece would end there.
         ensures near { out.old.written + length bytes.now < 2 ^ 63 →
             D.far_writes self.new.disk ≡ D.far_writes self.old.disk }

@@ -35,7 +35,7 @@ pub use jobs::{Jobs, OpenCompaction, OpenFlush};
 pub use laws::images_since_opening;
 pub use loose::empty_loose;
 pub use new_store::{make_store, open_new};
-pub use port::{a_shown_core_is_a_port, an_event_is_a_call};
+pub use port::{a_core_keeps_its_blocks, a_shown_core_is_a_port, an_event_is_a_call};
 pub use reading::read_log;
 pub use room::CommitRoom;
 pub use since::Since;

@@ -10,6 +10,7 @@ ghost use Rattle.store_state.specs.Replies.{page_reply};
 ghost use Rattle.store_state.specs.Written.{page_of};
 ghost use Rattle.store_core.specs.Events.{Did};
 ghost use Rattle.store_core.specs.Files.{read_over};
+ghost use Rattle.store_core.specs.Kept.{IsLeft};
 
 use crate::store::Core;
 use disk_model::Device;
@@ -29,6 +30,7 @@ impl<D: Device> Core<D> {
         ensures did { Did D.Device.own self.old (ReadPage pin.now.number block page) (page_reply buf.new result) self.new }
         ensures bytes { IsTrue (D.tells self.old.disk) →
             OnOk result (buf.new ≡ page_of (bytes_of (D.held self.old.disk) block) page) }
+        ensures left { IsLeft D.Device.own self.old self.new }
     {
         read_into(&mut self.disk, block, page, buf)
     }

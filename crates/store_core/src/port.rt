@@ -1,11 +1,12 @@
 //! A core as a port.
 
-ghost use Rattle.std.specs.Prelude.{[]};
+ghost use Rattle.std.specs.Prelude.{[], IsTrue};
 ghost use Rattle.store_model.specs.Event.{Event, Reply};
 ghost use Rattle.store_state.specs.Meaning.{Called};
 ghost use Rattle.store_model.specs.Step.{Machine};
-ghost use Rattle.store_core.specs.Cores.{CoreShows};
+ghost use Rattle.store_core.specs.Cores.{CoreStandsFor, CoreShows};
 ghost use Rattle.store_core.specs.Events.{Did};
+ghost use Rattle.store_core.specs.Kept.{kept_in};
 ghost use Rattle.store_core.specs.Port.{port_of};
 
 use crate::store::Core;
@@ -103,4 +104,11 @@ pub fn an_event_is_a_call<D: Device>(old: &Core<D>, new: &Core<D>)
 /// what it gives out from then on is.
 pub fn a_shown_core_is_a_port<D: Device>(core: &Core<D>)
     ensures { (m : Machine) → CoreShows D.Device.own core.now m → (port_of D.Device.own).holds core.now [] }
+{}
+
+/// Over a disk that tells its bytes a core that stands for a machine keeps that machine's blocks, with their rows, and its rows
+/// outside of them.
+pub fn a_core_keeps_its_blocks<D: Device>(core: &Core<D>)
+    ensures { IsTrue (D.tells core.now.disk) → (m : Machine) → CoreStandsFor D.Device.own core.now m →
+        (port_of D.Device.own).keeps core.now (kept_in core.now.state m.state) }
 {}

@@ -80,6 +80,7 @@ step_is_called core old new event reply steps = record {
       );
   holds = λ held is. let after = steps.shown is.machine is.shown in holds_on core old new event reply held is after.0 after.1 after.2;
   telling = steps.telling;
+  ended = λ held is. steps.ended is.machine is.shown;
   bytes = λ told hold is_open stays file named.
       steps.bytes told is_open.1.machine is_open.1.shown hold (is_open.1.open_holds hold is_open.2) stays file named;
   page = steps.page;

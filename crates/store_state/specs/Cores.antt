@@ -12,6 +12,7 @@ use Rattle.store_model.specs.Sound.{StateIsSound}
 use Rattle.store_model.specs.Holds.{Hold, OpenIn, ends, files_of, own_files}
 use Rattle.block_info.specs.InfoParts.{InfoParts}
 use Rattle.store_state.specs.Calls.{MadeCalls}
+use Rattle.store_state.specs.Kept.{Kept}
 use Rattle.store_state.specs.Meaning.{View, Meaning, Rewritten, reads_of}
 use Rattle.store_state.specs.Shown.{IsLookTaken}
 use Rattle.store_state.specs.Written.{IsPageRead}
@@ -23,6 +24,8 @@ pub record CoreMeaning (P : Type 0) : Type 1 where
   pub tells : P → Bool
   pub shows : P → ℕ → List ℕ
   pub lists : P → List InfoParts → Type 0
+  pub keeps : P → Kept → Type 0
+  pub writes : P → Type 0
   pub faults : P → ℕ
   pub reads : P → ℕ
   pub calls : P → ℕ
@@ -61,6 +64,8 @@ meaning_of {P} core = record {
   tells = core.tells;
   shows = core.shows;
   lists = core.lists;
+  keeps = core.keeps;
+  writes = core.writes;
   faults = core.faults;
   reads = core.reads;
   calls = core.calls;
@@ -72,6 +77,7 @@ pub record CoreSteps {P : Type 0} (core : CoreMeaning P) (old : P) (event : Even
   pub did : CoreDid core old event reply new
   pub shown : CoreShown core old event reply new
   pub telling : core.tells new ≡ core.tells old
+  pub ended : (m : Machine) → core.in_memory old m → core.writes new → core.writes old
   pub bytes : IsTrue (core.tells old) → (m : Machine) → core.in_memory old m → (hold : Hold) → OpenIn m hold →
       ends event reply hold ≡ false → (file : ℕ) → is_among file (files_of hold) ≡ true
       → Rewritten event reply file (core.shows old file) (core.shows new file)

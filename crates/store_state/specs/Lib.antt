@@ -5,6 +5,7 @@ pub mod Rounds
 pub mod Given
 pub mod Replies
 pub mod Written
+pub mod Kept
 pub mod Shown
 pub mod Loose
 pub mod Listed

@@ -12,6 +12,7 @@ use Rattle.store_model.specs.Event.Reply.{Fine, Refused}
 use Rattle.store_model.specs.Event.Refusal.{Fault}
 use Rattle.block_info.specs.InfoParts.{InfoParts}
 use Rattle.store_state.specs.Calls.{MadeCalls}
+use Rattle.store_state.specs.Kept.{Kept}
 use Rattle.store_state.specs.Shown.{IsLookTaken}
 use Rattle.store_state.specs.Written.{IsPageRead}
 use Rattle.store_model.specs.Holds.{Hold, ends, holds_after, files_of, own_files}
@@ -31,6 +32,10 @@ pub record Meaning (P : Type 0) : Type 1 where
   pub shows : P → ℕ → List ℕ
   -- the listed blocks by their information, in list order, where a port tells them
   pub lists : P → List InfoParts → Type 0
+  -- where bytes are told, too, the rows of these blocks and the rows outside of blocks, where a port tells them
+  pub keeps : P → Kept → Type 0
+  -- whether it still writes: no write failed
+  pub writes : P → Type 0
   -- how often a device call failed, how many pages were read, and how many device calls were made
   pub faults : P → ℕ
   pub reads : P → ℕ
@@ -59,6 +64,11 @@ abbrev pub reads_of : Event → ℕ
 reads_of (ReadPage pin block page) = 1
 reads_of _ = 0
 
+-- What a port lists and keeps is as it was.
+pub record LeavesKept {P : Type 0} (meaning : Meaning P) (old new : P) : Type 0 where
+  pub lists : (infos : List InfoParts) → (meaning.lists old infos → meaning.lists new infos) × (meaning.lists new infos → meaning.lists old infos)
+  pub keeps : (kept : Kept) → (meaning.keeps old kept → meaning.keeps new kept) × (meaning.keeps new kept → meaning.keeps old kept)
+
 -- One call.
 pub record Called {P : Type 0} (meaning : Meaning P) (old : P) (event : Event) (reply : Reply) (new : P) : Type 0 where
   pub did : meaning.did old event reply new
@@ -68,6 +78,8 @@ pub record Called {P : Type 0} (meaning : Meaning P) (old : P) (event : Event) (
   -- the same of what is open where no history is known
   pub holds : (held : List Hold) → meaning.holds old held → meaning.holds new (holds_after event reply held)
   pub telling : meaning.tells new ≡ meaning.tells old
+  -- once a write failed it doesn't write again
+  pub ended : (held : List Hold) → meaning.holds old held → meaning.writes new → meaning.writes old
   -- the files of what stays open
   pub bytes : IsTrue (meaning.tells old) → (hold : Hold) → IsOpen meaning old hold → ends event reply hold ≡ false →
       (file : ℕ) → is_among file (files_of hold) ≡ true

@@ -19,20 +19,16 @@ abbrev pub IsPageRead : Event → Reply → (ℕ → List ℕ) → Type 0
 IsPageRead (ReadPage pin block page) (Page bytes) shows = bytes ≡ page_of (shows block) page
 IsPageRead _ _ shows = Unit {0}
 
--- The information names the job's file and level, and counts the first occurrences of the rows.
-pub record IsInfoOf (file level : ℕ) (info : InfoParts) (rows : List Row) : Type 0 where
+-- The information names the job's file and level.
+pub record NamesJob (file level : ℕ) (info : InfoParts) : Type 0 where
   pub its_file : info.file ≡ file
   pub its_level : info.level ≡ level
-  pub counted : (firsts : List Row) → IsFirstOf rows firsts → info.rows ≡ length firsts
 
--- The information is that of a block of the rows' first occurrences, and where bytes are told the job's file holds that block.
-pub record IsBlockOf (told : Type 0) (own : List ℕ) (file level : ℕ) (info : InfoParts) (rows : List Row) : Type 0 where
-  pub its_info : IsInfoOf file level info rows
+-- The bytes are a block of the rows' first occurrences, as the information describes it.
+pub record IsBlockOf (bytes : List ℕ) (info : InfoParts) (rows : List Row) : Type 0 where
   pub firsts : List Row
   pub are_first : IsFirstOf rows firsts
-  pub bytes : List ℕ
   pub block : BlockHasInfo info bytes firsts
-  pub its_bytes : told → own ≡ bytes
 
 -- Blocks, each of which holds the rows of one part.
 abbrev pub AreBlocksOf : (ℕ → List ℕ) → List InfoParts → List (List Row) → Type 0
@@ -47,13 +43,10 @@ HoldRows bytes [] [] = Unit {0}
 HoldRows bytes (file ∷ files) (rows ∷ parts) = BlockHolds (bytes file) rows × HoldRows bytes files parts
 HoldRows bytes _ _ = ⊥
 
--- It is a block of the first occurrences of the rows of these parts, one for each of the blocks. Where bytes are told, they are the
--- rows of whatever blocks the files hold.
-pub record IsJoinedBlock (told : Type 0) (bytes : ℕ → List ℕ) (file level : ℕ) (info : InfoParts) (infos : List InfoParts) : Type 0 where
-  pub parts : List (List Row)
-  pub one_each : length parts ≡ length infos
-  pub their_rows : told → (others : List (List Row)) → HoldRows bytes (map (λ i. i.file) infos) others → others ≡ parts
-  pub block : IsBlockOf told (bytes file) file level info (flat_map (λ rows. rows) parts)
+-- The bytes are a block of the first occurrences of the rows that the files of these blocks hold.
+abbrev pub IsJoinedBlock : (ℕ → List ℕ) → List ℕ → InfoParts → List InfoParts → Type 0
+IsJoinedBlock shows bytes info infos = (parts : List (List Row)) → HoldRows shows (map (λ i. i.file) infos) parts
+    → IsBlockOf bytes info (flat_map (λ rows. rows) parts)
 
 -- What the file of a job holds is just as long as what was written to it.
 abbrev pub HasWritten : (ℕ → List ℕ) → JobFile → Type 0

@@ -1,16 +1,17 @@
 //! The calls of a store.
 
-ghost use Rattle.std.specs.Prelude.{◌≡◌, ◌≢◌, ◌≤◌, ◌+◌, List, length, Err, IsTrue, IfOk, IfSome, OnOk, OnErr};
+ghost use Rattle.std.specs.Prelude.{◌≡◌, ◌≢◌, ◌≤◌, ◌+◌, ℕ, List, length, Err, IsTrue, IfOk, IfSome, OnOk, OnErr};
 ghost use Rattle.block_info.specs.InfoParts.{InfoParts};
 ghost use Rattle.store_model.specs.Event.Event.{Push, Cut, CutAll, Held, BeginFlush, BeginCompact, WritePiece, CommitFlush, CommitCompact, DropFlush, DropCompact, Look as TakeLook, ReadPage, Done, Reclaim};
 ghost use Rattle.store_model.specs.Event.Reply.{Count, Fine};
 ghost use Rattle.store_model.specs.Holds.{Hold};
-ghost use Rattle.store_state.specs.Meaning.{View, Meaning, Called, IsOpen};
+ghost use Rattle.store_state.specs.Kept.{Kept, HasKept};
+ghost use Rattle.store_state.specs.Meaning.{View, Meaning, Called, LeavesKept, IsOpen};
 ghost use Rattle.store_state.specs.Given.{look_of, flush_of, compact_of, IsJobOf, IsPinOf};
 ghost use Rattle.store_state.specs.Replies.{push_reply, count_reply, begin_flush_reply, begin_compact_reply, write_reply, look_reply, page_reply, reclaim_reply};
-ghost use Rattle.store_state.specs.Written.{IsBlockOf, IsJoinedBlock, HasWritten, page_of};
+ghost use Rattle.store_state.specs.Written.{NamesJob, IsBlockOf, IsJoinedBlock, HasWritten, page_of};
 ghost use Rattle.store_state.specs.Shown.{ShowsHistory, AreBlocks, JoinsChoice};
-ghost use Rattle.store_state.specs.declared.errors.WriteError.TheVariants.{Fault};
+ghost use Rattle.store_state.specs.declared.errors.WriteError.TheVariants.{ReadOnly, Fault};
 
 use crate::{
     BeginError, CompactJob, FlushJob, JobFile, Look, Pin, PushError, ReclaimError, WriteError,
@@ -35,17 +36,21 @@ pub trait LookPort {
         ensures { Called meaning self.old Held (Count result) self.new };
 
     /// Takes a look: all rows outside of blocks, and a pin on all listed blocks. Together they have the first occurrences of each
-    /// history that is known after it.
+    /// history that is known after it. What the port keeps stays as it was.
     fn look(&mut self) -> Result<Look, Memory>
         ensures called { Called meaning self.old TakeLook (look_reply result) self.new }
         ensures pins { IfOk result (λ look. (infos : List InfoParts) → meaning.lists self.old infos → look.pin.blocks ≡ infos) }
+        ensures kept { IfOk result (λ look. (kept : Kept) → meaning.keeps self.old kept → HasKept (meaning.shows self.new) look kept) }
+        ensures left { LeavesKept meaning self.old self.new }
         ensures shows { IfOk result (λ look. (v : View) → meaning.knows self.new v →
             ShowsHistory (IsTrue (meaning.tells self.new)) (meaning.shows self.new) look v.history) };
 
-    /// Gives a look back, and ends its pin. Only one that this port gave and that is open is taken.
+    /// Gives a look back, and ends its pin. Only one that this port gave and that is open is taken. What the port keeps stays as it
+    /// was.
     fn done(&mut self, look: Look)
         requires { IsOpen meaning self.now (look_of look) }
-        ensures { Called meaning self.old (Done look.pin.number) Fine self.new };
+        ensures called { Called meaning self.old (Done look.pin.number) Fine self.new }
+        ensures left { LeavesKept meaning self.old self.new };
 }
 
 /// What a flusher and the reads of blocks ask of a store besides, each call one event: cuts, flushes and page reads.
@@ -67,24 +72,31 @@ pub trait FlushPort: LookPort {
         ensures fresh { IfOk result (λ begun. IfSome begun (λ job.
             (job.out.written ≡ 0) × (1 ≤ length job.rows) × (length job.rows ≤ 1048576))) };
 
-    /// Writes bytes behind those that were written to a job's file, and counts them; a refusal counts none. The file is handed in
-    /// as the port left it: what was written to it is what it holds. Only where the write itself failed is this not so afterwards.
+    /// Writes bytes at the end of those that were written to a job's file, and counts them; a refusal counts none. As long as no
+    /// write failed the file is handed in as the port left it: what was written to it is what it holds. Once a write failed the
+    /// answer is `ReadOnly`.
     fn write_piece(&mut self, out: &mut JobFile, bytes: &[u8]) -> Result<(), WriteError>
         requires open { IsJobOf out.now (IsOpen Self.meaning self.now) }
-        requires whole { IsTrue (Self.meaning.tells self.now) → HasWritten (Self.meaning.shows self.now) out.now }
+        requires whole { IsTrue (Self.meaning.tells self.now) → Self.meaning.writes self.now →
+            HasWritten (Self.meaning.shows self.now) out.now }
         ensures called { Called Self.meaning self.old (WritePiece out.old.number out.old.file bytes.now)
             (write_reply result) self.new }
         ensures raised { OnOk result (out.new.written ≡ out.old.written + length bytes.now) }
         ensures kept { OnErr result (out.new.written ≡ out.old.written) }
-        ensures whole { IsTrue (Self.meaning.tells self.old) → result ≢ Err Fault → HasWritten (Self.meaning.shows self.new) out.new }
+        ensures whole { IsTrue (Self.meaning.tells self.old) → HasWritten (Self.meaning.shows self.old) out.old →
+            result ≢ Err Fault → HasWritten (Self.meaning.shows self.new) out.new }
+        ensures broken { result ≡ Err Fault → Self.meaning.writes self.new → ⊥ }
+        ensures refused { (Self.meaning.writes self.old → ⊥) → (faults : ℕ) × (result ≡ Err (ReadOnly faults)) }
         ensures same { (out.new.number ≡ out.old.number) × (out.new.file ≡ out.old.file) };
 
-    /// Lists a flush's block, which its file holds and the information describes. The job is spent, refused or not.
+    /// Lists a flush's block, which its file holds and the information describes, where bytes are told. The job is spent, refused
+    /// or not.
     fn commit_flush(&mut self, job: FlushJob, info: SharedInfo) -> Result<(), WriteError>
         requires open { IsOpen Self.meaning self.now (flush_of job) }
         requires size { (1 ≤ info.rows) × (info.rows ≤ 1048576) }
-        requires block { IsBlockOf (IsTrue (Self.meaning.tells self.now)) (Self.meaning.shows self.now job.out.file)
-            job.out.file 0 info job.rows }
+        requires names { NamesJob job.out.file 0 info }
+        requires block { IsTrue (Self.meaning.tells self.now) →
+            IsBlockOf (Self.meaning.shows self.now job.out.file) info job.rows }
         ensures { Called Self.meaning self.old (CommitFlush job.out.number info.rows)
             (write_reply result) self.new };
 
@@ -105,7 +117,8 @@ pub trait FlushPort: LookPort {
         ensures called { Called Self.meaning self.old (ReadPage pin.now.number block page) (page_reply buf.new result)
             self.new }
         ensures bytes { IsTrue (Self.meaning.tells self.old) →
-            OnOk result (buf.new ≡ page_of (Self.meaning.shows self.old block) page) };
+            OnOk result (buf.new ≡ page_of (Self.meaning.shows self.old block) page) }
+        ensures left { LeavesKept Self.meaning self.old self.new };
 }
 
 /// All calls of a store, each of which is one event: those of a `FlushPort`, and with these compactions and the emptying of loose
@@ -121,13 +134,14 @@ pub trait Port: FlushPort {
         ensures blocks { IsTrue (Self.meaning.tells self.new) → IfOk result (λ begun. IfSome begun (λ job.
             (v : View) → Self.meaning.knows self.new v → AreBlocks (Self.meaning.shows self.new) job.pin.blocks)) };
 
-    /// Lists a compaction's block, which its file holds and the information describes, in the place of those that it joins. The job
-    /// is spent, refused or not.
+    /// Lists a compaction's block, which its file holds and the information describes, where bytes are told, in the place of those
+    /// that it joins. The job is spent, refused or not.
     fn commit_compact(&mut self, job: CompactJob, info: SharedInfo) -> Result<(), WriteError>
         requires open { IsOpen Self.meaning self.now (compact_of job) }
         requires size { (1 ≤ info.rows) × (info.rows ≤ 1048576) }
-        requires block { IsJoinedBlock (IsTrue (Self.meaning.tells self.now)) (Self.meaning.shows self.now)
-            job.out.file job.level info job.pin.blocks }
+        requires names { NamesJob job.out.file job.level info }
+        requires block { IsTrue (Self.meaning.tells self.now) → IsJoinedBlock (Self.meaning.shows self.now)
+            (Self.meaning.shows self.now job.out.file) info job.pin.blocks }
         ensures { Called Self.meaning self.old (CommitCompact job.out.number info.rows)
             (write_reply result) self.new };
 

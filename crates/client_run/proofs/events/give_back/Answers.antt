@@ -11,7 +11,7 @@ done-requires g c =
 pub returns-in-Some : goal.returns-in-Some
 returns-in-Some g c = λ flush ready.
     has_ended g.P.LookPort.meaning c.args.port.now c.done.new.self c.args.number c.in-Some.look
-    (looks_of c.args.looks.now.items) (looks_of c.end_look.new.looks.items) flush ready c.in-Some.ensures.open c.done.ensures c.in-Some.ensures.ended
+    (looks_of c.args.looks.now.items) (looks_of c.end_look.new.looks.items) flush ready c.in-Some.ensures.open c.done.ensures.called c.in-Some.ensures.ended
 
 pub returns-in-None : goal.returns-in-None
 returns-in-None g c = λ flush ready.

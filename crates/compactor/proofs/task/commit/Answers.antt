@@ -20,6 +20,9 @@ done_of-done-requires g c = (let few = c.requires.is_writing.joins in omega (ari
 pub commit_compact-requires-clause-size : goal.commit_compact-requires-clause-size
 commit_compact-requires-clause-size g c = block_rows g.P.LookPort.meaning c.args.job c.args.block.bytes c.args.block.info c.args.port.now c.requires.is_writing
 
+pub commit_compact-requires-clause-names : goal.commit_compact-requires-clause-names
+commit_compact-requires-clause-names g c = record { its_file = c.requires.is_writing.block.its_file; its_level = c.requires.is_writing.block.its_level }
+
 pub commit_compact-requires-clause-block : goal.commit_compact-requires-clause-block
 commit_compact-requires-clause-block g c = may_be_listed g.P.LookPort.meaning c.args.job c.args.block.bytes c.args.block.info c.args.port.now c.requires.is_writing c.requires.whole
 

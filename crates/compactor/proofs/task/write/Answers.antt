@@ -20,7 +20,7 @@ pub write_piece-requires-clause-open : goal.write_piece-requires-clause-open
 write_piece-requires-clause-open g c = OfCompact (compact_parts c.args.job) refl refl c.requires.is_writing.is_open
 
 pub write_piece-requires-clause-whole : goal.write_piece-requires-clause-whole
-write_piece-requires-clause-whole g c = λ tells.
+write_piece-requires-clause-whole g c = λ tells writes.
     has_written (g.P.LookPort.meaning.shows c.args.port.now) c.args.job c.requires.is_writing.parts c.args.block.bytes (c.requires.is_writing.told tells) c.requires.is_writing.within
 
 pub returns-in-Ok-clause-steps : goal.returns-in-Ok-clause-steps

@@ -14,6 +14,9 @@ pub commit_flush-requires-clause-size : goal.commit_flush-requires-clause-size
 commit_flush-requires-clause-size g c =
     block_rows c.args.job.out.file c.args.job.rows c.args.block.bytes c.args.block.info c.requires.is_writing.block c.requires.is_writing.some c.requires.is_writing.few
 
+pub commit_flush-requires-clause-names : goal.commit_flush-requires-clause-names
+commit_flush-requires-clause-names g c = record { its_file = c.requires.is_writing.block.its_file; its_level = c.requires.is_writing.block.its_level }
+
 pub commit_flush-requires-clause-block : goal.commit_flush-requires-clause-block
 commit_flush-requires-clause-block g c = may_be_listed g.P.LookPort.meaning c.args.job c.args.block.bytes c.args.block.info c.args.port.now c.requires.is_writing c.requires.whole
 

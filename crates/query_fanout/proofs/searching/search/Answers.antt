@@ -15,4 +15,4 @@ done-requires g c = c.search_of_look-found.ensures.stays.is_open
 pub returns : goal.returns
 returns g c =
     has_asked g.P.LookPort.meaning c.args.port.now (IsSearchAnswer c.args.asked.now) c.look.new.self c.search_of_look-found.new.port c.done.new.self c.in-Ok.look c.search_of_look-found.result
-    (search_tells_firsts c.args.asked.now) c.in-Ok.ensures.called c.in-Ok.ensures.shows c.search_of_look-found.ensures c.done.ensures
+    (search_tells_firsts c.args.asked.now) c.in-Ok.ensures.called c.in-Ok.ensures.shows c.search_of_look-found.ensures c.done.ensures.called

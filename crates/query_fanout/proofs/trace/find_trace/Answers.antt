@@ -14,4 +14,4 @@ done-requires g c = c.trace_of_look-found.ensures.stays.is_open
 pub returns : goal.returns
 returns g c =
     has_asked g.P.LookPort.meaning c.args.port.now (IsTraceAnswer c.args.id) c.look.new.self c.trace_of_look-found.new.port c.done.new.self c.in-Ok.look c.trace_of_look-found.result
-    (trace_tells_firsts c.args.id) c.in-Ok.ensures.called c.in-Ok.ensures.shows c.trace_of_look-found.ensures c.done.ensures
+    (trace_tells_firsts c.args.id) c.in-Ok.ensures.called c.in-Ok.ensures.shows c.trace_of_look-found.ensures c.done.ensures.called

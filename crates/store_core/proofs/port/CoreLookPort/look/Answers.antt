@@ -2,6 +2,7 @@ use Rattle.std.proofs.Common.{◌∙◌, sym, subst}
 use Rattle.store_model.specs.History.{History}
 use Rattle.store_core.specs.Port.{LookShows}
 use Rattle.store_core.proofs.OpeningEnds.{if_ok_more}
+use Rattle.store_core.proofs.KeptCores.{left_kept}
 use Rattle.store_core.proofs.PortEvents.{did_is_called}
 use Rattle.store_core.proofs.port.CoreLookPort.look.Goals as goal
 
@@ -15,3 +16,6 @@ pub returns-clause-shows : goal.returns-clause-shows
 returns-clause-shows g c =
     let d = g.D.Device in
     if_ok_more c.take_look.result _ _ (λ look shows v known. subst (λ (h : History). LookShows d c.take_look.new.self look h) known.history (shows known.machine known.stands)) c.take_look.ensures.shows
+
+pub returns-clause-left : goal.returns-clause-left
+returns-clause-left g c = left_kept g.D.Device c.args.self.now c.take_look.new.self c.take_look.ensures.left

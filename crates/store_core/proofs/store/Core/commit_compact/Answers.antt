@@ -34,7 +34,7 @@ joined_list-list-requires-clause-rules g c =
     let known = c.requires.job in
     let job = c.args.job in
     let mine = compaction_here core.state known.0 known.0 job.out.number job.out.file job.level job.pin.number (info_files job.pin.blocks) known.1.has known.2 known.1.has in
-    rules_joined g.D.Device core known.0 known.1 job.out.number job.out.file job.level job.pin.number job.pin.blocks known.2 c.args.info (none_of core.state.read_only c.in_default.not-Some) c.requires.size c.requires.block
+    rules_joined g.D.Device core known.0 known.1 job.out.number job.out.file job.level job.pin.number job.pin.blocks known.2 c.args.info (none_of core.state.read_only c.in_default.not-Some) c.requires.size c.requires.names c.requires.block
     c.as_slice.result.now c.rows_in.result (c.as_slice.ensures ∙ c.take_files-joined.ensures.result ∙ mine.named) c.rows_in.ensures
 
 -- ---- where the list was made
@@ -82,7 +82,7 @@ returns-in-Ok-commit g c =
     let files = c.as_slice.ensures ∙ f.result ∙ mine.named in
     let follows = s.text.generation ∙ next_generation core.state mine.mine c.as_slice.result.now c.rows_in.result list mine.known s.list in
     did_compact_committed d g.met.D.Device.only_now core c.sync.new.self c.commit.new.disk job.out.number job.out.file job.level job.pin.number (slot_of text) job.pin.blocks c.args.info list
-    (joins d core known.0 known.1 job.out.number job.out.file job.level job.pin.number job.pin.blocks known.2 c.args.info writes c.requires.size c.requires.block list c.as_slice.result.now c.rows_in.result files c.rows_in.ensures s.list)
+    (joins d core known.0 known.1 job.out.number job.out.file job.level job.pin.number job.pin.blocks known.2 c.args.info writes c.requires.size c.requires.names c.requires.block list c.as_slice.result.now c.rows_in.result files c.rows_in.ensures s.list)
     _ (record {
       telling = c.in-Ok.ensures.counted.telling;
       same = e.same_bytes;
@@ -107,7 +107,7 @@ returns-in-Ok-commit g c =
     s.few t.list t.infos t.jobs t.loose t.room t.same)
     (λ m has.
     subst (λ (items : List (Option (List ℕ))). ShowsPins (without_pin (compaction_here core.state known.0 m job.out.number job.out.file job.level job.pin.number (info_files job.pin.blocks) known.1.has known.2 has).mine.pin m.state.pins) items) (sym (pins_after core.state c.joined_list-list.new.self c.take_over_joined.new.self mine.mine pins is t.same.2))
-    (pins_ended d core known.0 known.1 job.out.number job.out.file job.level job.pin.number job.pin.blocks known.2 c.args.info writes c.requires.size c.requires.block pins.items f.taken f.files m has))
+    (pins_ended d core known.0 known.1 job.out.number job.out.file job.level job.pin.number job.pin.blocks known.2 c.args.info writes c.requires.size c.requires.names c.requires.block pins.items f.taken f.files m has))
     (g.met.D.Device.held_may_stay c.sync.new.self)
     (λ told ready. o.ready told (can_lay (d.held c.sync.new.self) (d.may_leave c.sync.new.self) (Some core.state.list) text ready follows) (Some core.state.list) list ready s.text)
 
@@ -132,7 +132,7 @@ returns g c =
     let follows = s.text.generation ∙ next_generation core.state mine.mine c.as_slice.result.now c.rows_in.result list mine.known s.list in
     did_stopped d core c.stop_writing-in-Err.new.self _ _ c.stop_writing-in-Err.ensures
     (did_compact_fail d g.met.D.Device.only_now core c.sync.new.self c.commit.new.disk job.out.number job.out.file job.level job.pin.number (slot_of text) job.pin.blocks c.args.info list
-    (joins d core known.0 known.1 job.out.number job.out.file job.level job.pin.number job.pin.blocks known.2 c.args.info writes c.requires.size c.requires.block list c.as_slice.result.now c.rows_in.result (c.as_slice.ensures ∙ f.result ∙ mine.named) c.rows_in.ensures s.list)
+    (joins d core known.0 known.1 job.out.number job.out.file job.level job.pin.number job.pin.blocks known.2 c.args.info writes c.requires.size c.requires.names c.requires.block list c.as_slice.result.now c.rows_in.result (c.as_slice.ensures ∙ f.result ∙ mine.named) c.rows_in.ensures s.list)
     _ (record {
       telling = c.in-Ok.ensures.counted.telling;
       same = e.same_bytes;

@@ -2,7 +2,7 @@ use Rattle.std.proofs.Common.{◌∙◌, Some, refl, arith}
 use Rattle.disk_model.proofs.CallRuns.{plain_calls}
 use Rattle.block_list.specs.Commit.{slot_of}
 use Rattle.block_list.proofs.ReadyLemmas.{can_lay}
-use Rattle.store_core.proofs.CommitAnswers.{did_stopped, flush_here, rules_known, commits, next_generation, other_named, infos_spent, unsure_spent, unsure_after_spent, spent_is, has_stopped_spent, took_over}
+use Rattle.store_core.proofs.CommitAnswers.{did_stopped, firsts, flush_here, rules_known, commits, next_generation, other_named, infos_spent, unsure_spent, unsure_after_spent, spent_is, has_stopped_spent, took_over}
 use Rattle.store_core.proofs.NextRoom.{text_short}
 use Rattle.store_core.proofs.CommitEvents.{flush_commits, no_commit, did_sync_fail}
 use Rattle.store_core.proofs.FlushCommits.{did_flush_committed, did_flush_fail}
@@ -24,7 +24,7 @@ pub next_list-list-requires-clause-rules : goal.next_list-list-requires-clause-r
 next_list-list-requires-clause-rules g c =
     let core = c.args.self.now in
     let known = c.requires.job in
-    rules_known g.D.Device core known.0 known.1 c.args.job.out.number c.args.job.out.file c.args.job.rows known.2 c.args.info (none_of core.state.read_only c.in_default.not-Some) c.requires.size c.requires.block
+    rules_known g.D.Device core known.0 known.1 c.args.job.out.number c.args.job.out.file c.args.job.rows known.2 c.args.info (none_of core.state.read_only c.in_default.not-Some) c.requires.size c.requires.names c.requires.block
     c.rows_in.result c.rows_in.ensures
 
 pub take_over-requires-clause-other : goal.take_over-requires-clause-other
@@ -52,8 +52,9 @@ returns-in-Ok-commit g c =
     let writes = none_of core.state.read_only c.in_default.not-Some in
     let mine = flush_here core.state known.0 known.0 c.args.job.out.number c.args.job.out.file c.args.job.rows known.1.has known.2 known.1.has in
     let follows = s.text.generation ∙ next_generation core.state mine.mine c.rows_in.result list mine.known s.list in
-    did_flush_committed d g.met.D.Device.only_now core c.sync.new.self c.commit.new.disk c.args.job.out.number c.args.job.out.file c.args.info.rows (slot_of text) c.args.job.rows c.requires.block.firsts c.args.info list
-    (commits d core known.0 known.1 c.args.job.out.number c.args.job.out.file c.args.job.rows known.2 c.args.info writes c.requires.size c.requires.block list c.rows_in.result c.rows_in.ensures s.list)
+    did_flush_committed d g.met.D.Device.only_now core c.sync.new.self c.commit.new.disk c.args.job.out.number c.args.job.out.file c.args.info.rows (slot_of text) c.args.job.rows
+    (firsts d core known.0 known.1 c.args.job.out.number c.args.job.out.file c.args.job.rows known.2 c.args.info writes c.requires.size c.requires.names c.requires.block) c.args.info list
+    (commits d core known.0 known.1 c.args.job.out.number c.args.job.out.file c.args.job.rows known.2 c.args.info writes c.requires.size c.requires.names c.requires.block list c.rows_in.result c.rows_in.ensures s.list)
     _ (record {
       telling = c.in-Ok.ensures.counted.telling;
       same = e.same_bytes;
@@ -96,8 +97,9 @@ returns g c =
     let follows = s.text.generation ∙ next_generation core.state mine.mine c.rows_in.result list mine.known s.list in
     let is = spent_is core.state c.next_list-list.new.self mine.mine mine.known s.same s.flush in
     did_stopped d core c.stop_writing-in-Err.new.self _ _ c.stop_writing-in-Err.ensures
-    (did_flush_fail d g.met.D.Device.only_now core c.sync.new.self c.commit.new.disk c.args.job.out.number c.args.job.out.file c.args.info.rows (slot_of text) c.args.job.rows c.requires.block.firsts c.args.info list
-    (commits d core known.0 known.1 c.args.job.out.number c.args.job.out.file c.args.job.rows known.2 c.args.info writes c.requires.size c.requires.block list c.rows_in.result c.rows_in.ensures s.list)
+    (did_flush_fail d g.met.D.Device.only_now core c.sync.new.self c.commit.new.disk c.args.job.out.number c.args.job.out.file c.args.info.rows (slot_of text) c.args.job.rows
+    (firsts d core known.0 known.1 c.args.job.out.number c.args.job.out.file c.args.job.rows known.2 c.args.info writes c.requires.size c.requires.names c.requires.block) c.args.info list
+    (commits d core known.0 known.1 c.args.job.out.number c.args.job.out.file c.args.job.rows known.2 c.args.info writes c.requires.size c.requires.names c.requires.block list c.rows_in.result c.rows_in.ensures s.list)
     _ (record {
       telling = c.in-Ok.ensures.counted.telling;
       same = e.same_bytes;

@@ -1,6 +1,9 @@
 use Rattle.std.proofs.Common.{◌≡◌, ◌==◌, ◌+◌, ℕ, List, IsTrue, if◌then◌else◌, ap, refl, sym, ◌∙◌, subst, arith}
 use Rattle.std.proofs.lemmas.Result.{err_from_is_err_and}
+use Rattle.block_info.specs.InfoParts.{InfoParts}
+use Rattle.disk_model.specs.Images.{bytes_of}
 use Rattle.store_state.specs.Given.{info_files}
+use Rattle.store_state.specs.Written.{AreBlocksOf}
 use Rattle.store_core.specs.Pins.{files_at}
 use Rattle.store_core.proofs.Showing.{look_shows}
 use Rattle.store_core.proofs.LookEvents.{did_looked, did_look_lacking}
@@ -41,3 +44,26 @@ returns-clause-shows g c = λ m stands.
     let few = stands.stands.has.few in
     let length_is : c.length-as_of.result ≡ core.state.segment.first + core.state.segment.count = omega (arith, sum, few) in
     look_shows (IsTrue (d.tells core.disk)) (d.held core.disk) (d.may_leave core.disk) (record core.state { pins = c.take_number.new.pins }) m _ stands.stands c.in_ok-blocks.ensures length_is c.in_ok-rows.ensures
+
+pub returns-in_err-rows-clause-left : goal.returns-in_err-rows-clause-left
+returns-in_err-rows-clause-left g c = record { infos = refl; live = refl; telling = refl; bytes = λ told file. refl }
+
+pub returns-in_err-blocks-clause-left : goal.returns-in_err-blocks-clause-left
+returns-in_err-blocks-clause-left g c = record { infos = refl; live = refl; telling = refl; bytes = λ told file. refl }
+
+pub returns-in_err-files-clause-left : goal.returns-in_err-files-clause-left
+returns-in_err-files-clause-left g c = record { infos = refl; live = refl; telling = refl; bytes = λ told file. refl }
+
+pub returns-in_err-number-clause-left : goal.returns-in_err-number-clause-left
+returns-in_err-number-clause-left g c = record { infos = refl; live = refl; telling = refl; bytes = λ told file. refl }
+
+pub returns-clause-left : goal.returns-clause-left
+returns-clause-left g c = record { infos = refl; live = refl; telling = refl; bytes = λ told file. refl }
+
+pub returns-clause-kept : goal.returns-clause-kept
+returns-clause-kept g c = λ kept k.
+    let bytes = bytes_of (g.D.Device.held c.args.self.now.disk) in record {
+      pinned = c.in_ok-blocks.ensures ∙ sym k.infos;
+      blocks = subst (λ (infos : List InfoParts). AreBlocksOf bytes infos kept.parts) (k.infos ∙ sym c.in_ok-blocks.ensures) k.blocks;
+      outside = c.in_ok-rows.ensures ∙ sym k.outside;
+    }

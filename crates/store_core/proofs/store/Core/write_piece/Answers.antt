@@ -16,7 +16,7 @@ pub returns-in-Some-clause-did : goal.returns-in-Some-clause-did
 returns-in-Some-clause-did g c = no_piece g.D.Device g.met.D.Device.only_now c.args.self.now c.args.out.now.number c.args.out.now.file c.args.bytes.now c.in-Some.faults c.in-Some.is
 
 pub returns-in-Some-clause-whole : goal.returns-in-Some-clause-whole
-returns-in-Some-clause-whole g c = λ told other. c.requires.whole told
+returns-in-Some-clause-whole g c = λ told whole other. whole
 
 pub returns-in-Ok-clause-did : goal.returns-in-Ok-clause-did
 returns-in-Ok-clause-did g c =
@@ -25,14 +25,13 @@ returns-in-Ok-clause-did g c =
     did_piece g.D.Device g.met.D.Device.only_now core c.write.new.self c.args.out.now.number c.args.out.now.file c.args.out.now.written c.args.bytes.now (none_of core.state.read_only c.in_default.not-Some)
     (job_file core.state known.0 c.args.out.now known.1.has known.2)
     _ (write_calls g.D.Device core.disk c.write.new.self _ (c.args.out.now.written + length c.args.bytes.now) c.write.ensures.time.later c.in-Ok.ensures.counted) c.write.ensures.besides c.write.ensures.crash c.write.ensures.time
-    c.in-Ok.ensures.written c.requires.whole refl
+    c.in-Ok.ensures.written (λ told. c.requires.whole told (none_of core.state.read_only c.in_default.not-Some)) refl
 
 pub returns-in-Ok-clause-whole : goal.returns-in-Ok-clause-whole
-returns-in-Ok-clause-whole g c = λ told other.
+returns-in-Ok-clause-whole g c = λ told whole other.
     let old = bytes_of (g.D.Device.held c.args.self.now.disk) c.args.out.now.file in
-    let new = c.in-Ok.ensures.written told ∙ overwritten_end old c.args.out.now.written c.args.bytes.now (c.requires.whole told) in
+    let new = c.in-Ok.ensures.written told ∙ overwritten_end old c.args.out.now.written c.args.bytes.now whole in
     let size = length-append old c.args.bytes.now in
-    let whole = c.requires.whole told in
     let same = ap (λ (b : List ℕ). length b) new in
     omega (arith, size, whole, same)
 
@@ -45,3 +44,12 @@ returns-in-Err-clause-did g c =
     (job_file core.state known.0 c.args.out.now known.1.has known.2)
     _ (write_calls g.D.Device core.disk c.write.new.self _ (c.args.out.now.written + length c.args.bytes.now) c.write.ensures.time.later c.in-Err.ensures.counted) c.write.ensures.besides c.write.ensures.crash c.write.ensures.time
     (g.D.Device.faults c.write.new.self) refl refl)
+
+pub returns-in-Some-clause-refused : goal.returns-in-Some-clause-refused
+returns-in-Some-clause-refused g c = λ stopped. (c.in-Some.faults, refl)
+
+pub returns-in-Ok-clause-refused : goal.returns-in-Ok-clause-refused
+returns-in-Ok-clause-refused g c = λ stopped. absurd (stopped (none_of c.args.self.now.state.read_only c.in_default.not-Some))
+
+pub returns-in-Err-clause-refused : goal.returns-in-Err-clause-refused
+returns-in-Err-clause-refused g c = λ stopped. absurd (stopped (none_of c.args.self.now.state.read_only c.in_default.not-Some))
