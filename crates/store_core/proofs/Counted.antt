@@ -1,12 +1,12 @@
 -- What an event says of the disk's counts, by what its calls say.
-use Rattle.std.proofs.Common.{◌≡◌, ◌≢◌, ℕ, ◌+◌, ◌^◌, ◌<◌, ◌≤◌, Result, Ok, Err, IsOk, IsErr, refl, ap, subst, arith}
+use Rattle.std.proofs.Common.{◌≡◌, ◌≢◌, ℕ, ◌+◌, ◌^◌, ◌<◌, ◌≤◌, Result, Ok, Err, IsOk, IsErr, refl, sym, ◌∙◌, ap, subst, arith}
 use Rattle.span_types.specs.Faults.{Rose}
 use Rattle.span_types.specs.declared.errors.Failed.{Failed}
 use Rattle.disk_model.specs.Calls.{Counts, Calls, CountsFault}
-use Rattle.disk_model.specs.Counts.{RoseBy}
+use Rattle.disk_model.specs.Counts.{RoseBy, Plain}
 use Rattle.disk_model.specs.declared.disk.Device.{Ghosts}
 use Rattle.disk_model.proofs.Counting.{not_both}
-use Rattle.disk_model.proofs.CallRuns.{calls_counts, counts_as, raised_rose}
+use Rattle.disk_model.proofs.CallRuns.{OneCall, calls_counts, counts_as, counts_then, fault_fine, plain_calls, raised_rose}
 use Rattle.store_model.specs.Event.{Reply}
 use Rattle.store_model.specs.Event.Reply.{Refused}
 use Rattle.store_model.specs.Event.Refusal.{Fault}
@@ -184,3 +184,43 @@ still_answer g fault disk result other = record {
   fault = λ is. absurd (other is);
   near = λ _. refl;
 }
+
+-- calls that were fine, whatever they answered
+pub went_well : {D : Type 0} (g : Ghosts D) (old new : D) {fine failed : Type 0} → Counts g 0 fine failed old new → fine → (failed → ⊥) → Counts g 0 (Unit {0}) ⊥ old new
+went_well g old new {fine} {failed} run is never = counts_as g 0 fine failed (Unit {0}) ⊥ old new run (λ _. is) (λ bad. absurd bad)
+
+-- calls that weren't, and so a fault
+pub broke_answer : {D T E : Type 0} (g : Ghosts D) (fault : E) (old new : D) {fine failed : Type 0} → Counts g 0 fine failed old new → failed → CountsFault g 0 fault old new (Err {T = T} fault)
+broke_answer g fault old new {fine} {failed} run is = counts_as g 0 fine failed _ _ old new run (λ other. absurd (other refl)) (λ _. is)
+
+-- calls that were fine, and no fault
+pub other_answer : {D T E : Type 0} (g : Ghosts D) (fault : E) (old new : D) (result : Result T E) → (result ≡ Err fault → ⊥) → Counts g 0 (Unit {0}) ⊥ old new → CountsFault g 0 fault old new result
+other_answer g fault old new result other run = counts_as g 0 (Unit {0}) ⊥ _ _ old new run (λ _. tt) other
+
+-- an answer after calls that were fine
+pub then_answer : {D T E : Type 0} (g : Ghosts D) (fault : E) (old mid new : D) (result : Result T E) → Counts g 0 (Unit {0}) ⊥ old mid → CountsFault g 0 fault mid new result → CountsFault g 0 fault old new result
+then_answer g fault old mid new result first second = counts_then g 0 (Unit {0}) ⊥ _ _ old mid new first tt second
+
+err_is : {T E : Type 0} (a b : E) → Err {T = T} a ≡ Err b → a ≡ b
+err_is a b is = cc
+
+-- an error that is handed on
+pub handed_answer : {D S T E : Type 0} (g : Ghosts D) (fault : E) (old new : D) (error : E) → CountsFault g 0 fault old new (Err {T = S} error) → CountsFault g 0 fault old new (Err {T = T} error)
+handed_answer {S = S} {T = T} {E = E} g fault old new error run =
+    counts_as g 0 _ _ _ _ old new run (λ other is. other (ap (λ (e : E). Err {T = T} e) (err_is {T = S} error fault is))) (λ is. ap (λ (e : E). Err {T = S} e) (err_is {T = T} error fault is))
+
+pub passed_answer : {D S T E : Type 0} (g : Ghosts D) (fault : E) (old new : D) (r : Result T E) (own given : E) → r ≡ Err own → own ≡ given → CountsFault g 0 fault old new (Err {T = S} given) → CountsFault g 0 fault old new r
+passed_answer {S = S} {T = T} {E = E} g fault old new r own given is same run =
+    subst (λ (x : Result T E). CountsFault g 0 fault old new x) (sym (is ∙ ap (λ (e : E). Err {T = T} e) same)) (handed_answer {S = S} {T = T} g fault old new given run)
+
+-- an answer that isn't a fault, of a run that answered none
+pub as_other : {D S T E F : Type 0} (g : Ghosts D) (fault : E) (fault' : F) (old new : D) (first : Result S E) (result : Result T F) → (first ≡ Err fault → ⊥) → (result ≡ Err fault' → ⊥)
+    → CountsFault g 0 fault old new first → CountsFault g 0 fault' old new result
+as_other g fault fault' old new first result fine other run = other_answer g fault' old new result other (fault_fine g 0 fault old new first run fine)
+
+-- a sync, a cut or a length
+pub plain_fine : {D T : Type 0} (g : Ghosts D) (old new : D) (x : T) → g.moment old ≤ g.moment new → OneCall g Plain old new (Ok {E = Failed} x) → Counts g 0 (Unit {0}) ⊥ old new
+plain_fine g old new x time one = fine_calls {E = Failed} g 1 0 old new x (plain_calls g old new (Ok x) 0 time one)
+
+pub plain_fault : {D T U E : Type 0} (g : Ghosts D) (fault : E) (old new : D) (why : Failed) → g.moment old ≤ g.moment new → OneCall g Plain old new (Err {T = U} why) → CountsFault g 0 fault old new (Err {T = T} fault)
+plain_fault {U = U} g fault old new why time one = fault_answer {U = U} g 1 0 (omega arith) fault old new why (plain_calls g old new (Err why) 0 time one)

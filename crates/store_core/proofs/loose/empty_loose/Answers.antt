@@ -1,4 +1,4 @@
-use Rattle.std.proofs.Common.{◌≡◌, ◌⊎◌, inl, inr, ◌≤◌, ℕ, IsTrue, List, Some, sym, ◌∙◌, subst, arith}
+use Rattle.std.proofs.Common.{◌≡◌, ◌⊎◌, inl, inr, ◌+◌, ◌≤◌, ℕ, IsTrue, List, length, Some, refl, sym, ◌∙◌, subst, arith}
 use Rattle.std.specs.List.{Contains}
 use Rattle.block_list.specs.Body.{MeetsRules}
 use Rattle.block_list.specs.Commit.{IsListText, slot_of}
@@ -10,6 +10,9 @@ use Rattle.store_images.proofs.Keeping.{given_out}
 use Rattle.store_core.specs.Jobs.{IsSpare}
 use Rattle.store_core.proofs.LeftFiles.{freed_committed, next_low, others_wider}
 use Rattle.store_core.proofs.LooseFiles.{committed_then, loose_named, others_committed, rules_without, loose_unused, left_as_is, left_without}
+use Rattle.store_core.specs.declared.error.OpenError.TheVariants.{Fault}
+use Rattle.store_core.proofs.Counted.{broke_answer, fault_answer, other_answer, still_answer, then_answer, well_answer, went_well}
+use Rattle.store_core.proofs.NextRoom.{text_short}
 use Rattle.store_core.proofs.loose.empty_loose.Goals as goal
 
 pub returns-then-len-eq0-clause-list : goal.returns-then-len-eq0-clause-list
@@ -127,3 +130,39 @@ empty_left-requires g c = next_low c.args.list c.requires.rules
 
 pub free_files-requires : goal.free_files-requires
 free_files-requires g c = next_low c.args.list c.requires.rules
+
+-- ---- what it counts
+
+pub returns-in_default-empty_left-clause-counted : goal.returns-in_default-empty_left-clause-counted
+returns-in_default-empty_left-clause-counted g c = broke_answer g.D.Device Fault c.args.disk.now c.empty_left.new.disk c.in_default-empty_left.ensures.counted refl
+
+pub returns-then-len-eq0-clause-counted : goal.returns-then-len-eq0-clause-counted
+returns-then-len-eq0-clause-counted g c =
+    let d = g.D.Device in
+    let disk = c.args.disk.now in
+    let new = c.empty_left.new.disk in
+    other_answer d Fault disk new _ (λ is. absurd cc) (went_well d disk new c.in-Ok-empty_left.ensures.counted refl (λ bad. absurd cc))
+
+pub returns-in_default-clause-counted : goal.returns-in_default-clause-counted
+returns-in_default-clause-counted g c = still_answer g.D.Device Fault c.args.disk.now _ (λ is. absurd cc)
+
+pub returns-in_default-free_files-clause-counted : goal.returns-in_default-free_files-clause-counted
+returns-in_default-free_files-clause-counted g c = broke_answer g.D.Device Fault c.args.disk.now c.free_files.new.disk c.in_default-free_files.ensures.counted refl
+
+pub returns-in_default-commit-clause-counted : goal.returns-in_default-commit-clause-counted
+returns-in_default-commit-clause-counted g c =
+    let d = g.D.Device in
+    let disk = c.args.disk.now in
+    let mid = c.free_files.new.disk in
+    let prepared = c.in-Ok.prepared in
+    then_answer d Fault disk mid c.commit.new.disk _ (went_well d disk mid c.in-Ok-free_files.ensures.counted refl (λ bad. absurd cc))
+    (fault_answer d 6 (1 + length prepared.text) (text_short prepared _ c.in-Ok.ensures.text) Fault mid c.commit.new.disk _ c.in_default-commit.ensures.counted)
+
+pub returns-clause-counted : goal.returns-clause-counted
+returns-clause-counted g c =
+    let d = g.D.Device in
+    let disk = c.args.disk.now in
+    let mid = c.free_files.new.disk in
+    let prepared = c.in-Ok.prepared in
+    then_answer d Fault disk mid c.commit.new.disk _ (went_well d disk mid c.in-Ok-free_files.ensures.counted refl (λ bad. absurd cc))
+    (well_answer d 6 (1 + length prepared.text) (text_short prepared _ c.in-Ok.ensures.text) Fault mid c.commit.new.disk _ _ (λ is. absurd cc) c.in-Ok-commit.ensures.counted)

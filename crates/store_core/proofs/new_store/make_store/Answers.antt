@@ -1,4 +1,4 @@
-use Rattle.std.proofs.Common.{◌≡◌, ◌%◌, ℕ, List, [], IsTrue, None, Some, refl, sym, ◌∙◌, ap, subst, arith}
+use Rattle.std.proofs.Common.{◌≡◌, ◌+◌, ◌%◌, ℕ, length, List, [], IsTrue, None, Some, refl, sym, ◌∙◌, ap, subst, arith}
 use Rattle.disk_model.specs.Images.{Image, bytes_of}
 use Rattle.disk_model.specs.Crash.{OnlyBytes}
 use Rattle.disk_model.proofs.Moments.{started}
@@ -9,6 +9,9 @@ use Rattle.block_list.specs.declared.body.ListBody.{ListBody}
 use Rattle.block_list.proofs.ReadyLemmas.{can_lay}
 use Rattle.store_core.specs.New.{new_list, StoresNothing}
 use Rattle.store_core.proofs.Founding.{rules_new, vacant_now, made_segment, ready_still, committed, still_two, new_settled}
+use Rattle.store_core.specs.declared.error.OpenError.TheVariants.{Fault}
+use Rattle.store_core.proofs.Counted.{counts_short, fault_answer, fine_calls, still_answer, then_answer, well_answer}
+use Rattle.store_core.proofs.NextRoom.{text_short}
 use Rattle.store_core.proofs.new_store.make_store.Goals as goal
 
 pub prepare-requires : goal.prepare-requires
@@ -84,3 +87,32 @@ returns-clause-made g c = λ told.
     new_settled (d.held new) (d.may_leave new) (c.in-Ok-commit.ensures.ready told_mid can None new_list ready body)
     (subst (λ (b : List ℕ). SegmentHolds 0 [] 1 b) (sym two) lies.0)
     (subst (λ (b : List ℕ). OnlyBytes 2 b (d.may_leave new)) (sym two) (still_two d.moment d.left_since d.may_leave mid new (slot_of prepared) (bytes_of (d.held mid) 2) first_slot lies.1 run))
+
+-- ---- what it counts
+
+pub returns-in_default-clause-counted : goal.returns-in_default-clause-counted
+returns-in_default-clause-counted g c = still_answer g.D.Device Fault c.args.disk.now _ (λ is. absurd cc)
+
+pub returns-in_default-prepare-clause-counted : goal.returns-in_default-prepare-clause-counted
+returns-in_default-prepare-clause-counted g c = still_answer g.D.Device Fault c.args.disk.now _ (λ is. absurd cc)
+
+pub returns-in_default-create-clause-counted : goal.returns-in_default-create-clause-counted
+returns-in_default-create-clause-counted g c = fault_answer g.D.Device 3 2 (omega arith) Fault c.args.disk.now c.create.new.disk _ c.in_default-create.ensures.counted
+
+pub returns-in_default-commit-clause-counted : goal.returns-in_default-commit-clause-counted
+returns-in_default-commit-clause-counted g c =
+    let d = g.D.Device in
+    let disk = c.args.disk.now in
+    let mid = c.create.new.disk in
+    let prepared = c.in-Ok-prepare.prepared in
+    then_answer d Fault disk mid c.commit.new.disk _ (counts_short d 2 0 (Unit {0}) ⊥ disk mid (omega arith) (fine_calls d 3 2 disk mid _ c.in-Ok-create.ensures.counted))
+    (fault_answer d 6 (1 + length prepared.text) (text_short prepared _ c.in-Ok-prepare.ensures.text) Fault mid c.commit.new.disk _ c.in_default-commit.ensures.counted)
+
+pub returns-clause-counted : goal.returns-clause-counted
+returns-clause-counted g c =
+    let d = g.D.Device in
+    let disk = c.args.disk.now in
+    let mid = c.create.new.disk in
+    let prepared = c.in-Ok-prepare.prepared in
+    then_answer d Fault disk mid c.commit.new.disk _ (counts_short d 2 0 (Unit {0}) ⊥ disk mid (omega arith) (fine_calls d 3 2 disk mid _ c.in-Ok-create.ensures.counted))
+    (well_answer d 6 (1 + length prepared.text) (text_short prepared _ c.in-Ok-prepare.ensures.text) Fault mid c.commit.new.disk _ _ (λ is. absurd cc) c.in-Ok-commit.ensures.counted)

@@ -6,10 +6,12 @@ use Rattle.store_images.specs.Stored.{first_number}
 use Rattle.store_core.specs.BlockReading.{BlocksBreak, BlocksRead}
 use Rattle.store_core.specs.Cores.{tail_of}
 use Rattle.store_core.specs.Opening.ListBreaks.{block, log}
-use Rattle.store_core.specs.declared.error.OpenError.TheVariants.{NotStore}
+use Rattle.store_core.specs.declared.error.OpenError.TheVariants.{Fault, NotStore}
 use Rattle.store_core.proofs.LogSteps.{handed_on, log_read_before}
 use Rattle.store_core.proofs.OpeningSteps.{breaks_same}
 use Rattle.store_core.proofs.ReadBlocks.{read_blocks_whole}
+use Rattle.disk_model.proofs.CallRuns.{counts_then}
+use Rattle.store_core.proofs.Counted.{fine_answer, handed_answer, other_answer, then_answer}
 use Rattle.store_core.proofs.opening.read_listed.Goals as goal
 
 pub returns-in-Err-clause-not_store : goal.returns-in-Err-clause-not_store
@@ -68,3 +70,25 @@ returns-in-Err-read_rows-clause-not_store g c = λ told file at is.
     log (read_blocks_whole (IsTrue (d.tells disk)) (d.held disk) list.blocks c.in-Ok.infos.items (subst (λ (l : List BlockRef). BlocksRead (IsTrue (d.tells disk)) (d.held disk) l c.in-Ok.infos.items) c.as_slice.ensures c.in-Ok.ensures.read) told)
     (breaks_same (d.held disk) (d.held mid) list.segments (first_number list) file at (λ x inside. untouched.same_bytes told x.file)
     (c.in-Err-read_rows.ensures.not_store told_mid file at (handed_on _ c.in-Err-read_rows.error (NotStore file at) refl is)))
+
+-- ---- what it counts
+
+pub returns-in-Err-clause-counted : goal.returns-in-Err-clause-counted
+returns-in-Err-clause-counted g c = handed_answer g.D.Device Fault c.args.disk.now c.read_blocks.new.disk c.in-Err.error c.in-Err.ensures.counted
+
+pub returns-in-Ok-read_rows-clause-counted : goal.returns-in-Ok-read_rows-clause-counted
+returns-in-Ok-read_rows-clause-counted g c =
+    let d = g.D.Device in
+    let disk = c.args.disk.now in
+    let mid = c.read_blocks.new.disk in
+    let new = c.read_rows.new.disk in
+    other_answer d Fault disk new _ (λ is. absurd cc)
+    (counts_then d 0 (Unit {0}) ⊥ (Unit {0}) ⊥ disk mid new (fine_answer d 0 Fault disk mid _ c.in-Ok.ensures.counted) tt (fine_answer d 0 Fault mid new _ c.in-Ok-read_rows.ensures.counted))
+
+pub returns-in-Err-read_rows-clause-counted : goal.returns-in-Err-read_rows-clause-counted
+returns-in-Err-read_rows-clause-counted g c =
+    let d = g.D.Device in
+    let disk = c.args.disk.now in
+    let mid = c.read_blocks.new.disk in
+    let new = c.read_rows.new.disk in
+    then_answer d Fault disk mid new _ (fine_answer d 0 Fault disk mid _ c.in-Ok.ensures.counted) (handed_answer d Fault mid new c.in-Err-read_rows.error c.in-Err-read_rows.ensures.counted)

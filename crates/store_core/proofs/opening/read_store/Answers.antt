@@ -10,12 +10,14 @@ use Rattle.store_images.specs.Stored.{KeepsStored}
 use Rattle.store_images.specs.Settled.{IsSettled}
 use Rattle.store_images.proofs.Keeping.{keeps_same, keeps_then}
 use Rattle.store_core.specs.Cores.{tail_of}
-use Rattle.store_core.specs.declared.error.OpenError.TheVariants.{NotStore}
+use Rattle.store_core.specs.declared.error.OpenError.TheVariants.{Fault, NotStore}
 use Rattle.store_core.proofs.LogSteps.{handed_on}
 use Rattle.store_core.specs.Loose.{used_files}
 use Rattle.store_core.proofs.LeftFiles.{freed_same, used_not_spare}
 use Rattle.store_core.proofs.LooseFiles.{segment_used, used_low}
 use Rattle.store_core.proofs.OpeningSteps.{block_low, listed_used, segment_low, settled_again, used_by, used_stays}
+use Rattle.disk_model.proofs.CallRuns.{counts_then}
+use Rattle.store_core.proofs.Counted.{fine_answer, handed_answer, other_answer, then_answer}
 use Rattle.store_core.proofs.opening.read_store.Goals as goal
 
 pub returns-in-Err-clause-not_store : goal.returns-in-Err-clause-not_store
@@ -106,3 +108,25 @@ returns-in-Ok-empty_loose-clause-freed g c = λ told.
     let untouched = c.read_listed.ensures.untouched in
     freed_same (d.held c.args.disk.now) (d.held c.read_listed.new.disk) c.args.list.next_file (d.may_leave c.empty_loose.new.disk) (λ file above. untouched.same_bytes told file)
     (c.in-Ok-empty_loose.ensures.freed (subst IsTrue (sym untouched.telling) told))
+
+-- ---- what it counts
+
+pub returns-in-Err-clause-counted : goal.returns-in-Err-clause-counted
+returns-in-Err-clause-counted g c = handed_answer g.D.Device Fault c.args.disk.now c.read_listed.new.disk c.in-Err.error c.in-Err.ensures.counted
+
+pub returns-in-Ok-empty_loose-clause-counted : goal.returns-in-Ok-empty_loose-clause-counted
+returns-in-Ok-empty_loose-clause-counted g c =
+    let d = g.D.Device in
+    let disk = c.args.disk.now in
+    let mid = c.read_listed.new.disk in
+    let new = c.empty_loose.new.disk in
+    other_answer d Fault disk new _ (λ is. absurd cc)
+    (counts_then d 0 (Unit {0}) ⊥ (Unit {0}) ⊥ disk mid new (fine_answer d 0 Fault disk mid _ c.in-Ok.ensures.counted) tt (fine_answer d 0 Fault mid new _ c.in-Ok-empty_loose.ensures.counted))
+
+pub returns-in-Err-empty_loose-clause-counted : goal.returns-in-Err-empty_loose-clause-counted
+returns-in-Err-empty_loose-clause-counted g c =
+    let d = g.D.Device in
+    let disk = c.args.disk.now in
+    let mid = c.read_listed.new.disk in
+    let new = c.empty_loose.new.disk in
+    then_answer d Fault disk mid new _ (fine_answer d 0 Fault disk mid _ c.in-Ok.ensures.counted) (handed_answer d Fault mid new c.in-Err-empty_loose.error c.in-Err-empty_loose.ensures.counted)

@@ -11,7 +11,7 @@ use Rattle.store_images.proofs.Lists.{not_in_nil}
 use Rattle.store_core.specs.Cores.{tail_of}
 use Rattle.store_core.specs.LogReading.{LogBreaks}
 use Rattle.store_core.specs.declared.error.OpenError.TheVariants.{NotStore, Fault}
-use Rattle.store_core.proofs.Counted.{fine_answer}
+use Rattle.store_core.proofs.Counted.{fine_answer, other_answer, passed_answer, then_answer}
 use Rattle.store_core.proofs.LogSteps.{Reads, reads_one, reads_on, read_before, first_breaks, later_breaks, astray_at, breaks_as, passed_on, first_is, lie_on}
 use Rattle.store_core.proofs.reading.read_log.Goals as goal
 
@@ -103,3 +103,25 @@ returns-clause-lies g c = λ told x inside.
     let at = c.loop-at.at in
     let whole : take at segments ≡ segments = take_all at segments (omega (arith, c.loop-at-test.false)) in
     c.loop-at.invariant.lies told x (subst (λ (l : List SegmentRef). Contains l x) (sym (whole ∙ c.as_slice-segments.ensures)) inside)
+
+-- ---- what it counts
+
+pub returns-in_err-last-clause-counted : goal.returns-in_err-last-clause-counted
+returns-in_err-last-clause-counted g c =
+    let p = err_from_is_err_and c.from_residual.result c.from_residual.ensures.1 in
+    passed_answer g.D.Device Fault c.args.disk.now c.add_segment.new.disk c.from_residual.result p.0 c.in_err-last.field-0.0 p.1 p.2 c.in_err-last.ensures.counted
+
+pub returns-then-segment-last-clause-counted : goal.returns-then-segment-last-clause-counted
+returns-then-segment-last-clause-counted g c = other_answer g.D.Device Fault c.args.disk.now c.loop-at.disk _ (λ is. absurd cc) c.loop-at.invariant.counts
+
+pub returns-in_err-last-2-clause-counted : goal.returns-in_err-last-2-clause-counted
+returns-in_err-last-2-clause-counted g c =
+    let d = g.D.Device in
+    let mid = c.loop-at.disk in
+    let new = c.add_segment-in-loop-at.new.disk in
+    let p = err_from_is_err_and c.from_residual-in_err-last-2.result c.from_residual-in_err-last-2.ensures.1 in
+    then_answer d Fault c.args.disk.now mid new _ c.loop-at.invariant.counts
+    (passed_answer d Fault mid new c.from_residual-in_err-last-2.result p.0 c.in_err-last-2.field-0.0 p.1 p.2 c.in_err-last-2.ensures.counted)
+
+pub returns-clause-counted : goal.returns-clause-counted
+returns-clause-counted g c = other_answer g.D.Device Fault c.args.disk.now c.loop-at.disk _ (λ is. absurd cc) c.loop-at.invariant.counts

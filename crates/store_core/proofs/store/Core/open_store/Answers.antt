@@ -18,6 +18,10 @@ use Rattle.store_core.specs.Cores.{tail_of}
 use Rattle.store_core.proofs.LogSteps.{read_whole}
 use Rattle.store_core.proofs.ReadBlocks.{read_blocks_whole, whole_same}
 use Rattle.store_core.proofs.OpeningEnds.{opened_existing, opened_new, kept_loaded, kept_then, kept_new, if_ok_more, if_err_more}
+use Rattle.disk_model.proofs.CallRuns.{counts_as, counts_then}
+use Rattle.store_core.specs.declared.error.OpenError.TheVariants.{Fault}
+use Rattle.block_list.specs.declared.error.ListError.TheVariants as list_errors
+use Rattle.store_core.proofs.Counted.{fine_answer, refused_answer}
 use Rattle.store_core.proofs.store.Core.open_store.Goals as goal
 
 -- ---- the list wasn't loaded
@@ -208,3 +212,42 @@ returns-in-None-clause-freed g c =
     if_ok_more c.open_new.result _ _
     (λ core is told list there. absurd (let bad : None ≡ Some list = one_list (d.held c.args.disk) None (Some list) (subst (λ (l : Option ListBody). ImageHoldsList (d.held c.args.disk) l) c.in-None.is (c.in-Ok.ensures.list told)) there in cc))
     c.open_new.ensures.list
+
+-- ---- what it counts
+
+pub returns-in-Err-clause-calls_refused : goal.returns-in-Err-clause-calls_refused
+returns-in-Err-clause-calls_refused g c =
+    let error = c.in-Err.error in
+    counts_as g.D.Device 0 _ _ _ _ c.args.disk c.load.new.disk (refused_answer g.D.Device 0 list_errors.Fault c.args.disk c.load.new.disk error c.in-Err.ensures.counted)
+    (λ other is. other (c.refusal.ensures ∙ ap refusal_of is)) (λ is. refused_fault error (sym c.refusal.ensures ∙ is))
+
+pub returns-in-None-clause-calls : goal.returns-in-None-clause-calls
+returns-in-None-clause-calls g c =
+    let d = g.D.Device in
+    let disk = c.args.disk in
+    let mid = c.load.new.disk in
+    if_ok_more c.open_new.result _ _ (λ core run. counts_then d 0 (Unit {0}) ⊥ (Unit {0}) ⊥ disk mid core.disk (fine_answer d 0 list_errors.Fault disk mid _ c.in-Ok.ensures.counted) tt run) c.open_new.ensures.counted
+
+pub returns-in-None-clause-calls_refused : goal.returns-in-None-clause-calls_refused
+returns-in-None-clause-calls_refused g c =
+    let d = g.D.Device in
+    let disk = c.args.disk in
+    let mid = c.load.new.disk in
+    if_err_more c.open_new.result _ _ (λ e run. counts_then d 0 (Unit {0}) ⊥ _ _ disk mid e.1 (fine_answer d 0 list_errors.Fault disk mid _ c.in-Ok.ensures.counted) tt run) c.open_new.ensures.counted_refused
+
+pub returns-in-Ok-read_store-clause-calls : goal.returns-in-Ok-read_store-clause-calls
+returns-in-Ok-read_store-clause-calls g c =
+    let d = g.D.Device in
+    let disk = c.args.disk in
+    let mid = c.load.new.disk in
+    let new = c.read_store.new.disk in
+    counts_then d 0 (Unit {0}) ⊥ (Unit {0}) ⊥ disk mid new (fine_answer d 0 list_errors.Fault disk mid _ c.in-Ok.ensures.counted) tt (fine_answer d 0 Fault mid new _ c.in-Ok-read_store.ensures.counted)
+
+pub returns-in-Err-read_store-clause-calls_refused : goal.returns-in-Err-read_store-clause-calls_refused
+returns-in-Err-read_store-clause-calls_refused g c =
+    let d = g.D.Device in
+    let disk = c.args.disk in
+    let mid = c.load.new.disk in
+    let new = c.read_store.new.disk in
+    counts_then d 0 (Unit {0}) ⊥ _ _ disk mid new (fine_answer d 0 list_errors.Fault disk mid _ c.in-Ok.ensures.counted) tt
+    (refused_answer d 0 Fault mid new c.in-Err-read_store.error c.in-Err-read_store.ensures.counted)

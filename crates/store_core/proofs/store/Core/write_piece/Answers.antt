@@ -53,3 +53,9 @@ returns-in-Ok-clause-refused g c = λ stopped. absurd (stopped (none_of c.args.s
 
 pub returns-in-Err-clause-refused : goal.returns-in-Err-clause-refused
 returns-in-Err-clause-refused g c = λ stopped. absurd (stopped (none_of c.args.self.now.state.read_only c.in_default.not-Some))
+
+pub returns-in-Ok-clause-near : goal.returns-in-Ok-clause-near
+returns-in-Ok-clause-near g c = λ low. c.in-Ok.ensures.counted.near low
+
+pub returns-in-Err-clause-near : goal.returns-in-Err-clause-near
+returns-in-Err-clause-near g c = λ low. ap (λ (s : Core _). g.D.Device.far_writes s.disk) c.stop_writing.ensures ∙ c.in-Err.ensures.counted.near low
