@@ -1,7 +1,11 @@
-use Rattle.std.proofs.Common.{◌≡◌, ◌++◌, List, IsTrue, sym, ◌∙◌, ap, subst}
+use Rattle.std.proofs.Common.{◌≡◌, ◌++◌, List, IsTrue, Err, sym, ◌∙◌, ap, subst}
 use Rattle.disk_model.specs.Images.{bytes_of}
 use Rattle.disk_model.proofs.Runs.{untouched_call, untouched_then}
 use Rattle.head_log.specs.declared.numbered.NumberedBatch.{NumberedBatch}
+use Rattle.head_log.specs.declared.read_back.LogError.TheVariants as log_errors
+use Rattle.store_core.specs.declared.error.OpenError.TheVariants.{Fault}
+use Rattle.disk_model.proofs.CallRuns.{counts_then}
+use Rattle.store_core.proofs.Counted.{broke_answer, fine_answer, other_answer, plain_fault, plain_fine, then_answer, went_well}
 use Rattle.store_core.proofs.LogSteps.{read_of}
 use Rattle.store_core.proofs.reading.add_segment.Goals as goal
 
@@ -28,3 +32,46 @@ returns-in-Ok-append-clause-untouched g c =
     untouched_then d.tells d.held d.may_leave d.moment d.left_since disk mid c.scan.new.disk
     (untouched_call d.tells d.held d.may_leave d.moment d.left_since disk mid (g.met.D.Device.only_now disk) c.sync.ensures.counted.telling c.sync.ensures.same_bytes c.sync.ensures.crash c.sync.ensures.time)
     c.scan.ensures.untouched
+
+-- ---- what it counts
+
+pub returns-in_default-clause-counted : goal.returns-in_default-clause-counted
+returns-in_default-clause-counted g c = plain_fault g.D.Device Fault c.args.disk.now c.sync.new.self _ c.sync.ensures.time.later c.in_default.ensures.counted
+
+pub returns-in-Ok-append-clause-counted : goal.returns-in-Ok-append-clause-counted
+returns-in-Ok-append-clause-counted g c =
+    let d = g.D.Device in
+    let disk = c.args.disk.now in
+    let mid = c.sync.new.self in
+    let new = c.scan.new.disk in
+    other_answer d Fault disk new _ (λ is. absurd cc)
+    (counts_then d 0 (Unit {0}) ⊥ (Unit {0}) ⊥ disk mid new (plain_fine d disk mid _ c.sync.ensures.time.later c.in-Ok.ensures.counted) tt (fine_answer d 0 log_errors.Fault mid new _ c.in-Ok-scan.ensures.counted))
+
+pub returns-in-Err-Fault-clause-counted : goal.returns-in-Err-Fault-clause-counted
+returns-in-Err-Fault-clause-counted g c =
+    let d = g.D.Device in
+    let disk = c.args.disk.now in
+    let mid = c.sync.new.self in
+    let new = c.scan.new.disk in
+    then_answer d Fault disk mid new _ (plain_fine d disk mid _ c.sync.ensures.time.later c.in-Ok.ensures.counted)
+    (broke_answer d Fault mid new c.in-Err-Fault.ensures.counted (ap Err c.in-Err-Fault.field-0-is))
+
+pub returns-in-Err-NotLog-clause-counted : goal.returns-in-Err-NotLog-clause-counted
+returns-in-Err-NotLog-clause-counted g c =
+    let d = g.D.Device in
+    let disk = c.args.disk.now in
+    let mid = c.sync.new.self in
+    let new = c.scan.new.disk in
+    let e = c.in-Err-NotLog.field-0-is in
+    other_answer d Fault disk new _ (λ is. absurd cc)
+    (counts_then d 0 (Unit {0}) ⊥ (Unit {0}) ⊥ disk mid new (plain_fine d disk mid _ c.sync.ensures.time.later c.in-Ok.ensures.counted) tt (went_well d mid new c.in-Err-NotLog.ensures.counted (λ is. absurd cc) (λ is. absurd cc)))
+
+pub returns-in-Err-Memory-clause-counted : goal.returns-in-Err-Memory-clause-counted
+returns-in-Err-Memory-clause-counted g c =
+    let d = g.D.Device in
+    let disk = c.args.disk.now in
+    let mid = c.sync.new.self in
+    let new = c.scan.new.disk in
+    let e = c.in-Err-Memory.field-0-is in
+    other_answer d Fault disk new _ (λ is. absurd cc)
+    (counts_then d 0 (Unit {0}) ⊥ (Unit {0}) ⊥ disk mid new (plain_fine d disk mid _ c.sync.ensures.time.later c.in-Ok.ensures.counted) tt (went_well d mid new c.in-Err-Memory.ensures.counted (λ is. absurd cc) (λ is. absurd cc)))
