@@ -116,8 +116,8 @@ module _ {D : Type 0} (g : Ghosts D) where
   knows_all core m stands = record {
     machine = m;
     stands = stands;
-    agrees = stands.agrees;
-    sound = stands.sound;
+    agrees = stands.stands.agrees;
+    sound = stands.stands.sound;
     history = refl;
     open_holds = λ hold inside. absurd (not_in_nil hold inside);
   }
@@ -143,13 +143,13 @@ module _ {D : Type 0} (g : Ghosts D) where
     pub since_means : (items : List Item) (replies : List Reply) (first last : Core D) (m : Machine) → TellsSince first m → AreAnsweredOver (port_of g) first items replies last
         → (m' : Machine) × TellsSince last m' × Session true (at_core g first m) items replies (at_core g last m')
     since_means = over_means TellsSince tells_on true
-        (λ old new m item reply since is h. item_means_told item (at_core g old m) (at_core g new h.machine) reply h.calls since.0.stands.agrees h.answered h.lead (item_told old new item reply m since is)
+        (λ old new m item reply since is h. item_means_told item (at_core g old m) (at_core g new h.machine) reply h.calls since.0.stands.stands.agrees h.answered h.lead (item_told old new item reply m since is)
         (blocks_counted g new h.machine h.stands.0.stands h.stands.1))
 
     pub since_ingests : (todo : List Duty) (moments : Option (List ℕ)) (items : List Item) (replies : List Reply) (first last : Core D) (m : Machine) (left : List Duty) (to_tell : Option (List ℕ))
         → TellsSince first m → IngestsOver g todo moments first items replies last left to_tell
         → (m' : Machine) × TellsSince last m' × Ingests true todo moments (at_core g first m) items replies (at_core g last m') left to_tell
     since_ingests = ingest_means TellsSince tells_on true
-        (λ old new m item reply since is h. item_means_told item (at_core g old m) (at_core g new h.machine) reply h.calls since.0.stands.agrees h.answered h.lead (item_told old new item reply m since is)
+        (λ old new m item reply since is h. item_means_told item (at_core g old m) (at_core g new h.machine) reply h.calls since.0.stands.stands.agrees h.answered h.lead (item_told old new item reply m since is)
         (blocks_counted g new h.machine h.stands.0.stands h.stands.1))
-        (λ core m since. held_shown core m since.0.stands.has)
+        (λ core m since. held_shown core m since.0.stands.stands.has)

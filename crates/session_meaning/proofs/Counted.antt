@@ -28,4 +28,4 @@ counted held (info ∷ infos) (block ∷ blocks) are same =
     (sym (ap (λ (r : BlockRef). r.rows) first.0) ∙ rows_of info (bytes_of held info.file) block.rows are.0, counted held infos blocks are.1 first.1)
 
 pub blocks_counted : {D : Type 0} (g : Ghosts D) (core : Core D) (m : Machine) → CoreStandsFor g core m → IsTrue (g.tells core.disk) → AreCounted m.state.blocks
-blocks_counted g core m stands tells = counted (g.held core.disk) core.state.infos.items m.state.blocks (stands.built tells) (stands.has.listed ∙ stands.has.blocks)
+blocks_counted g core m stands tells = counted (g.held core.disk) core.state.infos.items m.state.blocks (stands.stands.built tells) (stands.stands.has.listed ∙ stands.stands.has.blocks)

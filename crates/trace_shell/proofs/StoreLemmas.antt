@@ -154,7 +154,7 @@ module _ {D : Type 0} (g : Ghosts D) (disk : D) (moment : ℕ) (core later : Cor
     -- the entry that isn't sure is the one that the replies tell
     unsure_is : unsure_of later.state ≡ unsure_entry items replies
     unsure_is =
-        let none : unsure_of core.state ≡ None = stands_first.sure (sym stands_first.has.read_only ∙ opens.empty.writes) in
+        let none : unsure_of core.state ≡ None = stands_first.stands.sure (sym stands_first.stands.has.read_only ∙ opens.empty.writes) in
         unsure_stepped g core later over.calls over.made first stands_first
         ∙ ap (unsure_after_calls over.calls) none
         ∙ items_unsure unsure_after_calls (λ u. refl) (λ c calls u. refl) items replies over.calls None over.by_calls
@@ -166,7 +166,7 @@ module _ {D : Type 0} (g : Ghosts D) (disk : D) (moment : ℕ) (core later : Cor
         let kept = keeps told in
         let stored = founded.stored told in record {
           begins = λ opened. record { stored = stored.0; once = opens.once; base_alone = opens.base_alone; begins = stored.1 };
-          returned = λ opened image left. subst (λ (u : Option Entry). MayStandFor last.history u image) unsure_is (since.stands.now told_later image left);
+          returned = λ opened image left. subst (λ (u : Option Entry). MayStandFor last.history u image) unsure_is (since.stands.stands.now told_later image left);
           any_moment = λ image left.
               ⊎_elim (λ early. inl (kept.since.each image early))
               (λ stood. inr (refl, subst (λ (u : Option Entry). StoodFor (count_of first.history) last.history u image) unsure_is stood))
