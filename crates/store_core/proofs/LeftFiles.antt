@@ -19,7 +19,7 @@ use Rattle.store_core.proofs.LooseFiles.{segment_used}
 pub beyond_unused : (body : ListBody) → MeetsRules body → (file : ℕ) → 2 ≤ file → body.next_file ≤ file → AreUnused body (file ∷ [])
 beyond_unused body rules file low beyond other c = elim (in_cons other file [] c) [
   | inl is ↦ (
-    subst (λ (n : ℕ). 2 ≤ n) (sym is) low,
+    subst (λ (n : ℕ). 2 ≤ n) is low,
     λ used. let given = (given_out body other rules (Contains-append_left (used_files body) body.loose other used)).1 in omega (arith, given, is, beyond),
   )
   | inr none ↦ absurd (not_in_nil other none)

@@ -1,4 +1,4 @@
-use Rattle.std.proofs.Common.{◌≡◌, ◌≤◌, ◌-◌, ℕ, [], ◌∷◌, IsTrue, Some, sym, ◌∙◌, subst, arith}
+use Rattle.std.proofs.Common.{◌≡◌, ◌≤◌, ◌-◌, ℕ, [], ◌∷◌, IsTrue, Some, refl, sym, ◌∙◌, subst, arith}
 use Rattle.disk_model.specs.Images.{bytes_of}
 use Rattle.disk_model.specs.Crash.{OnlyBytes, Run}
 use Rattle.disk_model.proofs.CallRuns.{counts_then}
@@ -9,7 +9,7 @@ use Rattle.block_list.proofs.ReadyLemmas.{ready_quiet}
 use Rattle.store_images.specs.Stored.{KeepsStored}
 use Rattle.store_images.proofs.Keeping.{keeps_same}
 use Rattle.store_images.proofs.Lists.{at_front}
-use Rattle.store_core.proofs.Counted.{fine_so_far, fine_calls}
+use Rattle.store_core.proofs.Counted.{fine_calls, went_well}
 use Rattle.store_core.proofs.LooseFiles.{empty_now, emptied_then, others_emptied, ready_rules}
 use Rattle.store_core.proofs.LeftFiles.{beyond_unused, freed_more, freed_up_to, others_untouched}
 use Rattle.store_core.proofs.left.empty_left.Goals as goal
@@ -48,7 +48,7 @@ loop-file-init g c =
       );
       empty = λ told. c.in_ok-end.ensures.empty told;
       others = λ told. others_untouched (λ (file : ℕ). c.args.first ≤ file) (d.held disk) (d.held mid) (d.may_leave disk) (d.may_leave mid) (untouched.same_bytes told) untouched.crash;
-      counts = fine_so_far d 0 disk mid _ c.in_ok-end.ensures.counted;
+      counts = went_well d disk mid c.in_ok-end.ensures.counted refl (λ bad. absurd cc);
     }
 
 pub loop-file-preserved : goal.loop-file-preserved

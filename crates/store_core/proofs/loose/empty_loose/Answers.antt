@@ -43,9 +43,9 @@ returns-in_default-commit-clause-kept g c = λ told.
     let d = g.D.Device in
     let list : ListBody = c.args.list in
     let mid = c.free_files.new.disk in
-    let prepared = c.in-Ok.prepared in
+    let prepared = c.in-Ok-prepare.prepared in
     let told_mid : IsTrue (d.tells mid) = subst IsTrue (sym c.free_files.ensures.counted.telling) told in
-    let text : IsListText prepared (next_without list) = subst (λ (l : ListBody). IsListText prepared l) c.take_loose-next.ensures.list c.in-Ok.ensures.text in
+    let text : IsListText prepared (next_without list) = subst (λ (l : ListBody). IsListText prepared l) c.take_loose-next.ensures.list c.in-Ok-prepare.ensures.text in
     let are : _ ≡ list.loose = c.as_slice.ensures ∙ c.take_loose-next.ensures.loose in
     let ready = c.free_files.ensures.ready told list (c.requires.ready told) (subst (AreUnused list) (sym are) (loose_unused list c.requires.rules)) (omega arith) in
     let can = can_lay (d.held mid) (d.may_leave mid) (Some list) prepared ready text.generation in
@@ -62,9 +62,9 @@ returns-clause-kept g c = λ told.
     let d = g.D.Device in
     let list : ListBody = c.args.list in
     let mid = c.free_files.new.disk in
-    let prepared = c.in-Ok.prepared in
+    let prepared = c.in-Ok-prepare.prepared in
     let told_mid : IsTrue (d.tells mid) = subst IsTrue (sym c.free_files.ensures.counted.telling) told in
-    let text : IsListText prepared (next_without list) = subst (λ (l : ListBody). IsListText prepared l) c.take_loose-next.ensures.list c.in-Ok.ensures.text in
+    let text : IsListText prepared (next_without list) = subst (λ (l : ListBody). IsListText prepared l) c.take_loose-next.ensures.list c.in-Ok-prepare.ensures.text in
     let are : _ ≡ list.loose = c.as_slice.ensures ∙ c.take_loose-next.ensures.loose in
     let ready = c.free_files.ensures.ready told list (c.requires.ready told) (subst (AreUnused list) (sym are) (loose_unused list c.requires.rules)) (omega arith) in
     let can = can_lay (d.held mid) (d.may_leave mid) (Some list) prepared ready text.generation in
@@ -79,9 +79,9 @@ returns-clause-ready g c = λ told.
     let list : ListBody = c.args.list in
     let mid = c.free_files.new.disk in
     let new = c.commit.new.disk in
-    let prepared = c.in-Ok.prepared in
+    let prepared = c.in-Ok-prepare.prepared in
     let told_mid : IsTrue (d.tells mid) = subst IsTrue (sym c.free_files.ensures.counted.telling) told in
-    let text : IsListText prepared (next_without list) = subst (λ (l : ListBody). IsListText prepared l) c.take_loose-next.ensures.list c.in-Ok.ensures.text in
+    let text : IsListText prepared (next_without list) = subst (λ (l : ListBody). IsListText prepared l) c.take_loose-next.ensures.list c.in-Ok-prepare.ensures.text in
     let ready = c.free_files.ensures.ready told list (c.requires.ready told) (subst (AreUnused list) (sym (c.as_slice.ensures ∙ c.take_loose-next.ensures.loose)) (loose_unused list c.requires.rules)) (omega arith) in
     let can = can_lay (d.held mid) (d.may_leave mid) (Some list) prepared ready text.generation in
     subst (λ (l : ListBody). IsReady (d.held new) (d.may_leave new) (Some l)) (sym c.take_loose-next.ensures.list)
@@ -94,9 +94,9 @@ returns-clause-others g c = λ told.
     let disk = c.args.disk.now in
     let mid = c.free_files.new.disk in
     let new = c.commit.new.disk in
-    let prepared = c.in-Ok.prepared in
+    let prepared = c.in-Ok-prepare.prepared in
     let told_mid : IsTrue (d.tells mid) = subst IsTrue (sym c.free_files.ensures.counted.telling) told in
-    let text : IsListText prepared (next_without list) = subst (λ (l : ListBody). IsListText prepared l) c.take_loose-next.ensures.list c.in-Ok.ensures.text in
+    let text : IsListText prepared (next_without list) = subst (λ (l : ListBody). IsListText prepared l) c.take_loose-next.ensures.list c.in-Ok-prepare.ensures.text in
     let are : _ ≡ list.loose = c.as_slice.ensures ∙ c.take_loose-next.ensures.loose in
     let ready = c.free_files.ensures.ready told list (c.requires.ready told) (subst (AreUnused list) (sym are) (loose_unused list c.requires.rules)) (omega arith) in
     let can = can_lay (d.held mid) (d.may_leave mid) (Some list) prepared ready text.generation in
@@ -105,8 +105,8 @@ returns-clause-others g c = λ told.
     (slot_of prepared) _ (omega arith) (c.commit.ensures.besides told_mid)
     (c.commit.ensures.any_moment told_mid can (Some list) (next_without list) ready.stands text.generation text).now
 
-pub returns-in_default-empty_left-clause-kept : goal.returns-in_default-empty_left-clause-kept
-returns-in_default-empty_left-clause-kept g c = λ told. c.empty_left.ensures.kept told c.args.list (c.requires.ready told) (omega arith)
+pub returns-in_default-clause-kept : goal.returns-in_default-clause-kept
+returns-in_default-clause-kept g c = λ told. c.empty_left.ensures.kept told c.args.list (c.requires.ready told) (omega arith)
 
 pub returns-clause-freed : goal.returns-clause-freed
 returns-clause-freed g c = λ told.
@@ -114,9 +114,9 @@ returns-clause-freed g c = λ told.
     let list : ListBody = c.args.list in
     let mid = c.free_files.new.disk in
     let new = c.commit.new.disk in
-    let prepared = c.in-Ok.prepared in
+    let prepared = c.in-Ok-prepare.prepared in
     let told_mid : IsTrue (d.tells mid) = subst IsTrue (sym c.free_files.ensures.counted.telling) told in
-    let text : IsListText prepared (next_without list) = subst (λ (l : ListBody). IsListText prepared l) c.take_loose-next.ensures.list c.in-Ok.ensures.text in
+    let text : IsListText prepared (next_without list) = subst (λ (l : ListBody). IsListText prepared l) c.take_loose-next.ensures.list c.in-Ok-prepare.ensures.text in
     let are : _ ≡ list.loose = c.as_slice.ensures ∙ c.take_loose-next.ensures.loose in
     let ready = c.free_files.ensures.ready told list (c.requires.ready told) (subst (AreUnused list) (sym are) (loose_unused list c.requires.rules)) (omega arith) in
     let can = can_lay (d.held mid) (d.may_leave mid) (Some list) prepared ready text.generation in
@@ -126,25 +126,25 @@ returns-clause-freed g c = λ told.
     (c.in-Ok-free_files.ensures.freed told (λ file inside. low file (subst (λ (l : List ℕ). Contains l file) are inside)))
 
 pub empty_left-requires : goal.empty_left-requires
-empty_left-requires g c = next_low c.args.list c.requires.rules
+empty_left-requires g c = record { given = next_low c.args.list c.requires.rules }
 
 pub free_files-requires : goal.free_files-requires
-free_files-requires g c = next_low c.args.list c.requires.rules
+free_files-requires g c = record { given = next_low c.args.list c.requires.rules }
 
 -- ---- what it counts
 
-pub returns-in_default-empty_left-clause-counted : goal.returns-in_default-empty_left-clause-counted
-returns-in_default-empty_left-clause-counted g c = broke_answer g.D.Device Fault c.args.disk.now c.empty_left.new.disk c.in_default-empty_left.ensures.counted refl
+pub returns-in_default-clause-counted : goal.returns-in_default-clause-counted
+returns-in_default-clause-counted g c = broke_answer g.D.Device Fault c.args.disk.now c.empty_left.new.disk c.in_default.ensures.counted refl
 
 pub returns-then-len-eq0-clause-counted : goal.returns-then-len-eq0-clause-counted
 returns-then-len-eq0-clause-counted g c =
     let d = g.D.Device in
     let disk = c.args.disk.now in
     let new = c.empty_left.new.disk in
-    other_answer d Fault disk new _ (λ is. absurd cc) (went_well d disk new c.in-Ok-empty_left.ensures.counted refl (λ bad. absurd cc))
+    other_answer d Fault disk new _ (λ is. absurd cc) (went_well d disk new c.in-Ok.ensures.counted refl (λ bad. absurd cc))
 
-pub returns-in_default-clause-counted : goal.returns-in_default-clause-counted
-returns-in_default-clause-counted g c = still_answer g.D.Device Fault c.args.disk.now _ (λ is. absurd cc)
+pub returns-in_default-prepare-clause-counted : goal.returns-in_default-prepare-clause-counted
+returns-in_default-prepare-clause-counted g c = still_answer g.D.Device Fault c.args.disk.now _ (λ is. absurd cc)
 
 pub returns-in_default-free_files-clause-counted : goal.returns-in_default-free_files-clause-counted
 returns-in_default-free_files-clause-counted g c = broke_answer g.D.Device Fault c.args.disk.now c.free_files.new.disk c.in_default-free_files.ensures.counted refl
@@ -154,15 +154,15 @@ returns-in_default-commit-clause-counted g c =
     let d = g.D.Device in
     let disk = c.args.disk.now in
     let mid = c.free_files.new.disk in
-    let prepared = c.in-Ok.prepared in
+    let prepared = c.in-Ok-prepare.prepared in
     then_answer d Fault disk mid c.commit.new.disk _ (went_well d disk mid c.in-Ok-free_files.ensures.counted refl (λ bad. absurd cc))
-    (fault_answer d 6 (1 + length prepared.text) (text_short prepared _ c.in-Ok.ensures.text) Fault mid c.commit.new.disk _ c.in_default-commit.ensures.counted)
+    (fault_answer d 6 (1 + length prepared.text) (text_short prepared _ c.in-Ok-prepare.ensures.text) Fault mid c.commit.new.disk _ c.in_default-commit.ensures.counted)
 
 pub returns-clause-counted : goal.returns-clause-counted
 returns-clause-counted g c =
     let d = g.D.Device in
     let disk = c.args.disk.now in
     let mid = c.free_files.new.disk in
-    let prepared = c.in-Ok.prepared in
+    let prepared = c.in-Ok-prepare.prepared in
     then_answer d Fault disk mid c.commit.new.disk _ (went_well d disk mid c.in-Ok-free_files.ensures.counted refl (λ bad. absurd cc))
-    (well_answer d 6 (1 + length prepared.text) (text_short prepared _ c.in-Ok.ensures.text) Fault mid c.commit.new.disk _ _ (λ is. absurd cc) c.in-Ok-commit.ensures.counted)
+    (well_answer d 6 (1 + length prepared.text) (text_short prepared _ c.in-Ok-prepare.ensures.text) Fault mid c.commit.new.disk _ _ (λ is. absurd cc) c.in-Ok-commit.ensures.counted)
