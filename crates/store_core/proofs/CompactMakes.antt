@@ -25,7 +25,7 @@ use Rattle.store_state.specs.Listed.{picked, ref_of}
 use Rattle.store_state.specs.Shown.{told_block, IsChoiceOf, AreFew, AreBlocks, JoinsChoice}
 use Rattle.store_state.specs.Replies.{begin_refusal}
 use Rattle.store_state.specs.declared.errors.BeginError.{BeginError}
-use Rattle.store_state.specs.declared.errors.BeginError.TheVariants.{ReadOnly as IsReadOnly, Busy as IsBusy, FilesSpent as AreSpent, Fault as Failed, Memory as Lacking}
+use Rattle.store_state.specs.declared.errors.BeginError.TheVariants.{ReadOnly as IsReadOnly, Busy as IsBusy, FilesSpent as AreSpent, Fault as Faulted, Memory as Lacking}
 use Rattle.store_state.specs.declared.jobs.Pin.{Pin}
 use Rattle.store_core.specs.Files.{SameBelow, IsEmptied}
 use Rattle.store_core.specs.Pins.{is_taken, files_at}
@@ -160,7 +160,7 @@ did_refused g only_now old Lacking refused lacking no_fault = did_not_make g onl
 did_refused g only_now old (IsReadOnly faults) refused lacking no_fault = did_not_compact g only_now old (ReadOnly faults) (λ m has. refused m has (λ is. cc)) no_fault
 did_refused g only_now old (IsBusy job) refused lacking no_fault = did_not_compact g only_now old (Busy job) (λ m has. refused m has (λ is. cc)) no_fault
 did_refused g only_now old (AreSpent next) refused lacking no_fault = did_not_compact g only_now old (FilesSpent next) (λ m has. refused m has (λ is. cc)) no_fault
-did_refused g only_now old Failed refused lacking no_fault = absurd (no_fault refl)
+did_refused g only_now old Faulted refused lacking no_fault = absurd (no_fault refl)
 
 pub of_some : {X : Type 0} (P : X → Type 0) (o : Option X) (x : X) → o ≡ Some x → IfSome o P → P x
 of_some {X} P o x is holds = subst (λ (k : Option X). IfSome k P) is holds
