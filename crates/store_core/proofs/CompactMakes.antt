@@ -36,8 +36,7 @@ use Rattle.store_core.specs.declared.jobs.OpenFlush.{OpenFlush}
 use Rattle.store_core.specs.declared.room.CommitRoom.{CommitRoom}
 use Rattle.store_core.specs.declared.state.CoreState.{CoreState}
 use Rattle.store_core.specs.declared.store.Core.{Core}
-use Rattle.store_core.specs.Cores.{HasState, listed_as}
-use Rattle.store_core.proofs.Now.{StandsNow}
+use Rattle.store_core.specs.Cores.{CoreStandsFor, HasState, listed_as}
 use Rattle.store_core.specs.Events.{Did}
 use Rattle.store_core.proofs.ChosenBlocks.{chosen_files, chosen_level, told_choice, in_places, some_there, level_fits, joins_choice, blocks_at}
 use Rattle.store_core.proofs.CompactBegins.{Begun, Pins, IsChoice, did_compact, did_compact_fail, did_lack_compact, did_not_compact, given_back}
@@ -77,11 +76,11 @@ module _ (core : CoreState) (chosen : List ℕ) (level : ℕ) (pinned : List Inf
   pub joins_made : (m : Machine) → HasState core m → JoinsChoice (λ infos. infos ≡ core.infos.items) level pinned
   joins_made m has = joins_choice core.infos.items pinned level (told_choice core chosen pinned are picks has.listed) theirs (some m has) (level_is m has).0
 
-pub blocks_made : {D : Type 0} (g : Ghosts D) (new : Core D) (chosen : List ℕ) (pinned : List InfoParts) (m : Machine) → pinned ≡ at_places chosen new.state.infos.items → IsTrue (g.tells new.disk) → StandsNow g new m
+pub blocks_made : {D : Type 0} (g : Ghosts D) (new : Core D) (chosen : List ℕ) (pinned : List InfoParts) (m : Machine) → pinned ≡ at_places chosen new.state.infos.items → IsTrue (g.tells new.disk) → CoreStandsFor g new m
     → AreBlocks (λ file. bytes_of (g.held new.disk) file) pinned
 blocks_made g new chosen pinned m are told s =
     subst (λ (l : List InfoParts). AreBlocks (λ file. bytes_of (g.held new.disk) file) l) (sym are)
-    (at_places chosen (map (λ (b : Block). b.rows) m.state.blocks), blocks_at (λ file. bytes_of (g.held new.disk) file) chosen new.state.infos.items (map (λ (b : Block). b.rows) m.state.blocks) (s.built told))
+    (at_places chosen (map (λ (b : Block). b.rows) m.state.blocks), blocks_at (λ file. bytes_of (g.held new.disk) file) chosen new.state.infos.items (map (λ (b : Block). b.rows) m.state.blocks) (s.stands.built told))
 
 -- ---- the event
 
