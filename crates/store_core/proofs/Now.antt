@@ -80,8 +80,8 @@ module _ {D : Type 0} (g : Ghosts D) (old new : Core D) (e : Event) (r : Reply) 
                 opened = omega (arith, moment, was.opened, run.later);
                 images = λ image left. subst (λ (n : ℕ). StoodFor n one.machine.history (unsure_of new.state) image) (sym start)
                     (elim (run.before old.since.moment image was.opened (subst (λ (n : ℕ). g.left_since new.disk n image) moment left)) [
-                    | inl past ↦ stood e r m.history one.machine.history (unsure_of old.state) (unsure_of new.state) m.history.start after first one.unsure one.ended image (was.images image past)
-                    | inr meanwhile ↦ between e r m.history one.machine.history (unsure_of old.state) (unsure_of new.state) m.history.start after first one.unsure one.ended image meanwhile
+                      | inl past ↦ stood e r m.history one.machine.history (unsure_of old.state) (unsure_of new.state) m.history.start after first one.unsure one.ended image (was.images image past)
+                      | inr meanwhile ↦ between e r m.history one.machine.history (unsure_of old.state) (unsure_of new.state) m.history.start after first one.unsure one.ended image meanwhile
                     ]);
               };
         };
