@@ -18,10 +18,7 @@ use Rattle.store_model.specs.Event.Refusal.{Fault as IsFault}
 use Rattle.store_model.specs.Holds.{IsOpenFlush}
 use Rattle.store_model.specs.Step.{Machine, broken}
 use Rattle.store_state.specs.Listed.{segment_of}
-use Rattle.store_state.specs.Replies.{write_refusal}
 use Rattle.store_state.specs.Written.{NamesJob, IsBlockOf}
-use Rattle.store_state.specs.declared.errors.WriteError.{WriteError}
-use Rattle.store_state.specs.declared.errors.WriteError.TheVariants.{Fault}
 use Rattle.store_core.specs.Jobs.{ShowsFlush, IsSpare, one_if, files_of_compaction}
 use Rattle.store_core.specs.NextList.{IsNextList, length_of, next_floor}
 use Rattle.store_core.specs.declared.jobs.OpenFlush.{OpenFlush}

@@ -4,7 +4,6 @@ use Rattle.std.specs.Prelude.{Vec, ◌&&◌}
 use Rattle.std.specs.Vec.{vec_len, vec_capacity}
 use Rattle.std.specs.List.{Contains}
 use Rattle.std.specs.declared.alloc.Global.{Global}
-use Rattle.span_types.specs.Faults.{Rose}
 use Rattle.span_types.specs.declared.errors.Failed.{Failed}
 use Rattle.disk_model.specs.Calls.{Calls}
 use Rattle.disk_model.specs.Images.{bytes_of}
@@ -19,7 +18,6 @@ use Rattle.store_model.specs.Event.Event.{BeginCompact}
 use Rattle.store_model.specs.Event.Reply.{Compacting, Refused}
 use Rattle.store_model.specs.Event.Refusal.{ReadOnly, Busy, FilesSpent, Fault, Memory}
 use Rattle.store_model.specs.Step.{Machine, early}
-use Rattle.store_state.specs.Calls.{RoseAtMost}
 use Rattle.store_state.specs.Given.{info_files}
 use Rattle.store_state.specs.Listed.{picked, ref_of}
 use Rattle.store_state.specs.Shown.{told_block, IsChoiceOf, AreFew, AreBlocks, JoinsChoice}

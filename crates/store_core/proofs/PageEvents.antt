@@ -4,7 +4,6 @@ use Rattle.std.specs.Prelude.{replicate, OnOk}
 use Rattle.std.proofs.Math.Seq.{take-append-add, take-length}
 use Rattle.std.proofs.lemmas.Bool.{cases_lt}
 use Rattle.std.proofs.lemmas.List.{append-nil, take-append-le, drop-replicate, take-replicate, length-replicate}
-use Rattle.span_types.specs.Faults.{Rose}
 use Rattle.span_types.specs.declared.errors.Failed.{Failed}
 use Rattle.disk_model.specs.Calls.{Counts}
 use Rattle.disk_model.specs.Images.{bytes_of}

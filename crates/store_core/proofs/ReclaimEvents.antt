@@ -39,7 +39,7 @@ use Rattle.store_core.specs.declared.state.CoreState.{CoreState}
 use Rattle.store_core.specs.declared.store.Core.{Core}
 use Rattle.store_core.proofs.HeldFiles.{held_used, held_kept}
 use Rattle.store_core.proofs.InUse.{contained_once}
-use Rattle.store_core.proofs.Counted.{calls_fine, calls_fault, calls_rose, calls_exact, calls_most, calls_unread}
+use Rattle.store_core.proofs.Counted.{calls_fine, calls_fault, calls_rose, calls_exact, calls_unread}
 use Rattle.store_core.proofs.Kept.{stands_kept, did_kept}
 use Rattle.store_core.proofs.LooseFiles.{used_low}
 use Rattle.store_core.proofs.NextLists.{uses_are}

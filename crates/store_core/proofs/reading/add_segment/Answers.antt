@@ -1,4 +1,4 @@
-use Rattle.std.proofs.Common.{◌≡◌, ◌++◌, List, IsTrue, Err, sym, ◌∙◌, ap, subst}
+use Rattle.std.proofs.Common.{◌++◌, List, IsTrue, Err, sym, ◌∙◌, ap, subst}
 use Rattle.disk_model.specs.Images.{bytes_of}
 use Rattle.disk_model.proofs.Runs.{untouched_call, untouched_then}
 use Rattle.head_log.specs.declared.numbered.NumberedBatch.{NumberedBatch}
