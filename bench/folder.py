@@ -200,6 +200,26 @@ def no_room():
         subprocess.run(["umount", room], check=True)
 
 
+# A flush for whose block there is no room leaves a part of it in a file that no list names; the next start frees that.
+def no_room_for_a_block():
+    room = f"{ROOM}/smaller"
+    os.mkdir(room)
+    if subprocess.run(["mount", "-t", "tmpfs", "-o", "size=600k", "none", room], stderr=subprocess.PIPE).returncode != 0:
+        return "not tried"
+    try:
+        folder = f"{room}/store"
+        lines = [push_line(number, 20_000) for number in range(20)]
+        status, replies = run(folder, lines + ["cutall", "flush"])
+        expect(all(reply.startswith("ok push") for reply in replies[:20]), "pushes with room were refused", replies[:20])
+        expect(replies[21] == "refused disk-fault", "a flush without room was answered", replies[20:])
+        status, replies = run(folder, [push_line(99, 20_000), trace_line(99), trace_line(3)])
+        expect(status == FINE, "a run after a flush without room gave status", status, replies)
+        expect(all(" spans=1 " in reply for reply in replies[1:]), "pushes are lost", replies)
+        return "freed"
+    finally:
+        subprocess.run(["umount", room], check=True)
+
+
 def main():
     modes()
     tried = kinds()
@@ -207,9 +227,10 @@ def main():
     lock_taken_away()
     descriptors()
     full = no_room()
+    freed = no_room_for_a_block()
     shutil.rmtree(ROOM)
     print(f"modes, {tried} odd files, folders without slots, a lock taken away and few descriptors went as they have to;"
-          f" a file system without room: {full}")
+          f" a file system without room: {full}; what a flush without room left: {freed}")
 
 
 main()

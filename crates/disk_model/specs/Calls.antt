@@ -3,8 +3,8 @@ use Rattle.std.specs.Prelude.{◌≡◌, ℕ, ◌^◌, ◌<◌, ◌≤◌, Resul
 use Rattle.disk_model.specs.Counts.{Raised, MakesCalls}
 use Rattle.disk_model.specs.declared.disk.Device.{Ghosts}
 
--- A run that ends with its first failed call: no call failed where it is fine, and just one where it failed. None of its
--- writes ends after `end`. Whether the disk tells its bytes stays.
+-- A run that ends with its first failed call: no call failed if it is fine, and just one if it failed. If the last byte of its
+-- writes is to end at `end` and that is below 2^63, it makes no far write. Whether the disk tells its bytes stays.
 pub record Counts {D : Type 0} (g : Ghosts D) (end : ℕ) (fine failed : Type 0) (old new : D) : Type 0 where
   pub time : g.moment old ≤ g.moment new
   pub telling : g.tells new ≡ g.tells old
@@ -13,8 +13,8 @@ pub record Counts {D : Type 0} (g : Ghosts D) (end : ℕ) (fine failed : Type 0)
   pub fault : failed → Raised (g.faults old) (g.faults new)
   pub near : end < 2 ^ 63 → g.far_writes new ≡ g.far_writes old
 
--- A run of at most so many calls, and of just so many where it succeeds, none of them a read. It ends with its first
--- failed call, and none of its writes ends after `end`.
+-- A run of at most so many calls, and of just so many if it succeeds, none of them a read. It ends with its first failed
+-- call, and makes no far write if the last byte of its writes is to end at `end` and that is below 2^63.
 pub record Calls {D T E : Type 0} (g : Ghosts D) (count end : ℕ) (old new : D) (result : Result T E) : Type 0 where
   pub time : g.moment old ≤ g.moment new
   pub telling : g.tells new ≡ g.tells old

@@ -47,8 +47,9 @@ pub record Stepped {D : Type 0} (g : Ghosts D) (old : Core D) (event : Event) (r
   -- once an entry isn't sure none is added
   pub ended : (unsure_of old.state ≡ None) ⊎ (machine.history ≡ m.history)
 
--- Where the furthest of the bytes ends that an event writes. A push writes a record behind the gate. A piece goes where its job
--- says, of which `write_piece` speaks; and lists are short.
+-- Where the last byte that an event writes is to end, as far as that may be 2^63 or more; `counts` says no more than that there is
+-- no far write if it isn't. A push writes a record behind the gate. A piece goes where its job says, of which `write_piece` speaks.
+-- Lists are short, so for them it is 0.
 abbrev pub end_of : CoreState → Event → ℕ
 end_of core (Push spans moment) =
     core.segment.gate + 10 + length (body_bytes (core.segment.first + core.segment.count) spans)

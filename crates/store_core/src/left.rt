@@ -17,8 +17,9 @@ use span_types::Failed;
 ///
 /// File numbers are given out one after another. Since the list was committed each flush got two of them, the second for a
 /// segment, which isn't empty, and each compaction one, whether the job is open or was given up. So what they wrote is found,
-/// unless seven compactions in a row were given up before they wrote a byte, and no list was committed meanwhile. What stands
-/// behind their files then stays there: its room is lost, and nothing else.
+/// unless no list was committed since and eight of these files in a row are empty: after seven compactions that were given up
+/// before they wrote a byte, or a `reclaim` that was stopped after it emptied what jobs had given up. What stands behind these
+/// files then stays there: its room is lost, and nothing else.
 const EMPTY_IN_A_ROW: u32 = 8;
 
 /// Empties the files from this number on, which is the next one of the list that counts or a later one, up to the first

@@ -18,7 +18,7 @@ use span_types::Failed;
 use store_state::Pin;
 
 impl<D: Device> Core<D> {
-    /// Reads a page of 4,096 bytes of a pinned block. Behind the file's end it has zeros. It makes one device call, takes no memory,
+    /// Reads a page of 4,096 bytes of a pinned block. Behind the file's end it has zeros. It makes one device call at most, takes no memory,
     /// and goes on in a store that is read-only.
     pub fn read_page(
         &mut self,

@@ -27,8 +27,8 @@ impl<D: Device> Core<D> {
     /// Empties the loose files that no pin names, and answers how many. With none it makes no device call.
     ///
     /// All memory is taken before the disk is changed; with no loose file none is taken. The files are made to last as empty
-    /// ones before the list is committed without them. After `Fault` the store is read-only, some of these files may be empty,
-    /// and all stay loose in memory, or some are loose no more.
+    /// ones before the list is committed without them. After `Fault` the store is read-only, some of these files may be empty.
+    /// In memory they stay loose.
     pub fn reclaim(&mut self) -> Result<u64, ReclaimError>
         ensures { Did D.Device.own self.old Reclaim (reclaim_reply result) self.new }
     {

@@ -7,8 +7,9 @@ ghost use Rattle.store_state.specs.Given.{flush_of};
 ghost use Rattle.store_state.specs.Meaning.{IsOpen};
 
 use crate::live::has_rows;
-use crate::store::{Step, Upset, Upsets, played};
+use crate::store::{Step, Upset, Upsets, counted, played};
 use block_info::SharedInfo;
+use block_list::load;
 use disk_model::{Device, MemDisk};
 use flusher::flush_round;
 use span_types::Memory;
@@ -205,6 +206,48 @@ fn a_flush_with_a_failed_call_keeps_the_push(rt: HostRuntime) -> Result<(), Fail
         };
         let what = Upset::Fails(OPENING + call);
         assert!(rt; ends(alloc, what, FAILS, place)?, "call {call}");
+    }
+    Ok(())
+}
+
+// Whether the files from the list's next number on are empty.
+fn is_free_beyond(alloc: Global, disk: &mut MemDisk) -> Result<bool, Fail> {
+    let Some(list) = load(alloc, disk)? else {
+        return Ok(false);
+    };
+    let mut is_free = true;
+    for file in list.next_file..list.next_file.saturating_add(8) {
+        is_free &= disk.len(file)? == 0;
+    }
+    Ok(is_free)
+}
+
+// What a flush leaves whose call of this number fails.
+fn left_by_a_failed_flush(alloc: Global, call: u64) -> Option<MemDisk> {
+    let (pushed, disk) = with_push(alloc);
+    let mut disk = disk;
+    let ready = disk.upset(alloc, Upset::Fails(OPENING + call));
+    let (found, disk) = flushed(alloc, disk);
+    (pushed && ready && found == Some(FAILS)).then_some(disk)
+}
+
+// The first two calls empty the block's file, and the third begins the segment's.
+#[test]
+fn what_a_failed_flush_left_is_freed_by_the_next_opening(rt: HostRuntime) -> Result<(), Fail> {
+    let alloc = rt.alloc();
+    for call in 1u64..12 {
+        let Some(disk) = left_by_a_failed_flush(alloc, call) else {
+            return Err(Fail::from("another flush"));
+        };
+        let mut disk = disk;
+        assert_eq!(rt; is_free_beyond(alloc, &mut disk)?, call < 4, "call {call}");
+        let (found, disk) = counted(alloc, disk);
+        let mut disk = disk;
+        assert!(rt;
+            found == Some(1) && is_free_beyond(alloc, &mut disk)?,
+            "call {call}"
+        );
+        assert_eq!(rt; disk.starved(), 0, "call {call}");
     }
     Ok(())
 }

@@ -185,7 +185,7 @@ fn is_tidy(alloc: Global, disk: &MemDisk, pick: u64) -> Result<bool, Fail> {
 #[test]
 fn an_opening_that_is_stopped_keeps_what_is_stored(rt: HostRuntime) -> Result<(), Fail> {
     let alloc = rt.alloc();
-    for calls in 0..20 {
+    for calls in 0..34 {
         let disk = stopped_opening(alloc, loose_file(alloc)?, calls);
         assert_eq!(rt; disk.starved(), 0, "{calls} calls");
         for pick in 0..8 {
