@@ -236,8 +236,15 @@ fn ends(alloc: Global, what: Upset, end: End, reads: bool) -> Result<bool, Fail>
     Ok(same && images_have_both(alloc, &disk)?)
 }
 
-// A new store is opened with fifteen calls. Each push makes four, each flush thirteen, and the look reads eight pages.
-const READY: u64 = 57;
+// The calls before the compaction begins: those of the opening of a new store, four of each push, thirteen of each flush, and eight
+// of the look, which reads so many pages.
+fn calls_before(alloc: Global) -> u64 {
+    let disk = match Core::open_store(alloc, MemDisk::empty(alloc), 7) {
+        Ok(core) => core.close(),
+        Err((_, disk)) => disk,
+    };
+    disk.calls().saturating_add(42)
+}
 
 const JOINED: Round = Round::Did { blocks: 2, rows: 1 };
 
@@ -278,7 +285,7 @@ fn a_look_keeps_the_blocks_that_are_joined(rt: HostRuntime) -> Result<(), Fail> 
 fn a_compaction_that_is_stopped_keeps_both_entries(rt: HostRuntime) -> Result<(), Fail> {
     let alloc = rt.alloc();
     for calls in 0u64..18 {
-        let what = Upset::Stops(READY + calls);
+        let what = Upset::Stops(calls_before(alloc).saturating_add(calls));
         assert!(rt;
             ends(alloc, what, stopped_end(calls), false)?,
             "{calls} calls"
@@ -291,7 +298,7 @@ fn a_compaction_that_is_stopped_keeps_both_entries(rt: HostRuntime) -> Result<()
 fn emptying_that_is_stopped_keeps_both_entries(rt: HostRuntime) -> Result<(), Fail> {
     let alloc = rt.alloc();
     for calls in 18u64..29 {
-        let what = Upset::Stops(READY + calls);
+        let what = Upset::Stops(calls_before(alloc).saturating_add(calls));
         assert!(rt;
             ends(alloc, what, stopped_end(calls), false)?,
             "{calls} calls"
@@ -304,7 +311,7 @@ fn emptying_that_is_stopped_keeps_both_entries(rt: HostRuntime) -> Result<(), Fa
 fn a_compaction_with_a_failed_call_keeps_both_entries(rt: HostRuntime) -> Result<(), Fail> {
     let alloc = rt.alloc();
     for call in 1u64..19 {
-        let what = Upset::Fails(READY + call);
+        let what = Upset::Fails(calls_before(alloc).saturating_add(call));
         assert!(rt; ends(alloc, what, failed_end(call), true)?, "call {call}");
     }
     Ok(())
@@ -314,7 +321,7 @@ fn a_compaction_with_a_failed_call_keeps_both_entries(rt: HostRuntime) -> Result
 fn emptying_with_a_failed_call_keeps_both_entries(rt: HostRuntime) -> Result<(), Fail> {
     let alloc = rt.alloc();
     for call in 19u64..29 {
-        let what = Upset::Fails(READY + call);
+        let what = Upset::Fails(calls_before(alloc).saturating_add(call));
         assert!(rt; ends(alloc, what, failed_end(call), true)?, "call {call}");
     }
     Ok(())

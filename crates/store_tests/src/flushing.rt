@@ -231,7 +231,7 @@ fn left_by_a_failed_flush(alloc: Global, call: u64) -> Option<MemDisk> {
     (pushed && ready && found == Some(FAILS)).then_some(disk)
 }
 
-// The first two calls empty the block's file, and the third begins the segment's.
+// The first two calls empty the block's file; the third empties the segment's, and the fourth writes its first bytes.
 #[test]
 fn what_a_failed_flush_left_is_freed_by_the_next_opening(rt: HostRuntime) -> Result<(), Fail> {
     let alloc = rt.alloc();
@@ -240,7 +240,7 @@ fn what_a_failed_flush_left_is_freed_by_the_next_opening(rt: HostRuntime) -> Res
             return Err(Fail::from("another flush"));
         };
         let mut disk = disk;
-        assert_eq!(rt; is_free_beyond(alloc, &mut disk)?, call < 4, "call {call}");
+        assert_eq!(rt; is_free_beyond(alloc, &mut disk)?, call < 5, "call {call}");
         let (found, disk) = counted(alloc, disk);
         let mut disk = disk;
         assert!(rt;
