@@ -1,11 +1,10 @@
 -- A flush that begins, as an event of a core.
-use Rattle.std.proofs.Common.{◌≡◌, ◌≢◌, inl, ℕ, ◌+◌, ◌-◌, ◌^◌, ◌<◌, ◌≤◌, ◌==◌, min, List, [], ◌∷◌, ◌++◌, length, map, take, drop, Some, None, Option, IfSome, IsTrue, Bool, true, false, refl, sym, ◌∙◌, ap, subst, arith, Result, IsOk, IsErr}
+use Rattle.std.proofs.Common.{◌≡◌, ◌≢◌, inl, ℕ, ◌+◌, ◌-◌, ◌^◌, ◌<◌, ◌≤◌, ◌==◌, min, List, [], ◌++◌, length, map, take, drop, Some, None, Option, IfSome, IsTrue, Bool, true, false, refl, sym, ◌∙◌, ap, subst, arith, Result, IsOk, IsErr}
 use Rattle.std.specs.Prelude.{nat_le, Vec}
 use Rattle.std.proofs.lemmas.Bool.{le-leb, lt-leb, ne_eqb}
 use Rattle.std.proofs.lemmas.List.{take-append-drop}
 use Rattle.std.specs.Vec.{vec_len, vec_capacity}
 use Rattle.std.specs.declared.alloc.Global.{Global}
-use Rattle.span_types.specs.Faults.{Rose}
 use Rattle.span_types.specs.declared.spans.Row.{Row}
 use Rattle.span_types.specs.declared.errors.Failed.{Failed}
 use Rattle.disk_model.specs.Calls.{Calls}
@@ -27,7 +26,7 @@ use Rattle.store_model.specs.Event.Refusal.{ReadOnly, Busy, FilesSpent, Fault, M
 use Rattle.store_model.specs.Holds.{Hold, OpenIn, files_of}
 use Rattle.store_model.specs.Step.{Machine, Step, early, broken, with_state, if_read_only, if_flushing, if_idle, if_test}
 use Rattle.store_model.specs.Step.Step.{Sure, Succeeds, Lacks, Breaks}
-use Rattle.store_state.specs.Calls.{MadeCalls, RoseAtMost}
+use Rattle.store_state.specs.Calls.{MadeCalls}
 use Rattle.store_state.specs.Given.{info_files}
 use Rattle.store_state.specs.declared.listing.FlushFiles.{FlushFiles}
 use Rattle.store_images.specs.Stored.{KeepsStored}

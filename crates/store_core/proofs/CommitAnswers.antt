@@ -18,10 +18,7 @@ use Rattle.store_model.specs.Event.Refusal.{Fault as IsFault}
 use Rattle.store_model.specs.Holds.{IsOpenFlush}
 use Rattle.store_model.specs.Step.{Machine, broken}
 use Rattle.store_state.specs.Listed.{segment_of}
-use Rattle.store_state.specs.Replies.{write_refusal}
 use Rattle.store_state.specs.Written.{NamesJob, IsBlockOf}
-use Rattle.store_state.specs.declared.errors.WriteError.{WriteError}
-use Rattle.store_state.specs.declared.errors.WriteError.TheVariants.{Fault}
 use Rattle.store_core.specs.Jobs.{ShowsFlush, IsSpare, one_if, files_of_compaction}
 use Rattle.store_core.specs.NextList.{IsNextList, length_of, next_floor}
 use Rattle.store_core.specs.declared.jobs.OpenFlush.{OpenFlush}
@@ -41,12 +38,12 @@ pub counted_by : (info : InfoParts) (bytes : List ℕ) (rows : List Row) → Blo
 counted_by info bytes rows has = ap (λ (i : InfoParts). i.rows) has.info_is
 
 -- The first occurrences of a flush's rows, of which the bytes are a block where they are told.
-record FlushFirsts (told : Type 0) (own : List ℕ) (info : InfoParts) (rows : List Row) : Type 0 where
-  firsts : List Row
-  are_first : IsFirstOf rows firsts
-  block : told → BlockHasInfo info own firsts
+pub record FlushFirsts (told : Type 0) (own : List ℕ) (info : InfoParts) (rows : List Row) : Type 0 where
+  pub firsts : List Row
+  pub are_first : IsFirstOf rows firsts
+  pub block : told → BlockHasInfo info own firsts
 
-flush_firsts : (told : Type 0) (own : List ℕ) (info : InfoParts) (rows : List Row) → IsDecided told → (told → IsBlockOf own info rows) → FlushFirsts told own info rows
+pub flush_firsts : (told : Type 0) (own : List ℕ) (info : InfoParts) (rows : List Row) → IsDecided told → (told → IsBlockOf own info rows) → FlushFirsts told own info rows
 flush_firsts told own info rows (inl known) block = record { firsts = (block known).firsts; are_first = (block known).are_first; block = λ t. (block known).block }
 flush_firsts told own info rows (inr never) block = let found = firsts_exist rows in record { firsts = found.0; are_first = found.1; block = λ t. absurd (never t) }
 

@@ -2,7 +2,6 @@
 use Rattle.std.proofs.Common.{◌≡◌, ◌⊎◌, inl, inr, ℕ, ◌≤◌, List, Some, None, Option, IsTrue, Bool, true, false, refl, sym, ◌∙◌, ap, subst, arith, Result, IsOk, IsErr}
 use Rattle.std.proofs.lemmas.Bool.{cases_lt}
 use Rattle.span_types.specs.declared.errors.Failed.{Failed}
-use Rattle.span_types.specs.declared.spans.Span.{Span}
 use Rattle.disk_model.specs.Calls.{Counts}
 use Rattle.disk_model.specs.Images.{Image, bytes_of}
 use Rattle.disk_model.specs.Crash.{LeavesOnly}

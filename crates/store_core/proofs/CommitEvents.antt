@@ -1,7 +1,6 @@
 -- A commit as an event of a core: what the events of commits have in common, and where one ends before the list is written.
-use Rattle.std.proofs.Common.{◌≡◌, ℕ, ◌≤◌, List, Some, None, Option, IsTrue, true, refl, ◌∙◌, ap, subst, sym, arith, Result, IsErr}
+use Rattle.std.proofs.Common.{◌≡◌, ℕ, List, Some, None, Option, IsTrue, true, refl, ◌∙◌, ap, subst, sym, arith, Result, IsErr}
 use Rattle.span_types.specs.declared.errors.Failed.{Failed}
-use Rattle.span_types.specs.declared.spans.Span.{Span}
 use Rattle.disk_model.specs.Calls.{Calls}
 use Rattle.disk_model.specs.Images.{SameBytes, bytes_of}
 use Rattle.disk_model.specs.Counts.{RoseBy}

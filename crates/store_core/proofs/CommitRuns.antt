@@ -1,5 +1,5 @@
 -- What a crash leaves at any moment of a commit: of the sync of its block, and of the writing of the list.
-use Rattle.std.proofs.Common.{◌≡◌, ℕ, ◌<◌, ◌≤◌, Some, IsTrue, sym, subst, Result, IsOk, ◌^◌}
+use Rattle.std.proofs.Common.{◌≡◌, ℕ, ◌<◌, Some, IsTrue, sym, subst, Result, IsOk, ◌^◌}
 use Rattle.span_types.specs.declared.errors.Failed.{Failed}
 use Rattle.disk_model.specs.Images.{Image, bytes_of, SameBytes, Besides}
 use Rattle.disk_model.specs.Calls.{Calls}

@@ -1,10 +1,9 @@
 -- A compaction that begins, as an event of a core.
-use Rattle.std.proofs.Common.{◌≡◌, ◌≢◌, inl, inr, ℕ, ◌+◌, ◌-◌, ◌^◌, ◌<◌, ◌≤◌, ◌==◌, min, List, [], ◌∷◌, length, map, Some, None, Option, IsTrue, Bool, true, false, not, refl, sym, ◌∙◌, ap, subst, arith, if◌then◌else◌, Result, IsOk, IsErr}
+use Rattle.std.proofs.Common.{◌≡◌, ◌≢◌, inl, inr, ℕ, ◌+◌, ◌-◌, ◌^◌, ◌<◌, ◌≤◌, ◌==◌, min, List, [], length, map, Some, None, Option, IsTrue, Bool, true, false, not, refl, sym, ◌∙◌, ap, subst, arith, if◌then◌else◌, Result, IsOk, IsErr}
 use Rattle.std.specs.Prelude.{nat_le, Vec, ◌||◌, ◌&&◌}
 use Rattle.std.proofs.lemmas.Bool.{le-leb, lt-leb, cases_lt}
 use Rattle.std.specs.Vec.{vec_len, vec_capacity}
 use Rattle.std.specs.declared.alloc.Global.{Global}
-use Rattle.span_types.specs.Faults.{Rose}
 use Rattle.span_types.specs.declared.errors.Failed.{Failed}
 use Rattle.disk_model.specs.Calls.{Calls}
 use Rattle.disk_model.specs.Images.{bytes_of}
@@ -24,7 +23,7 @@ use Rattle.store_model.specs.Holds.{Hold, OpenIn, files_of}
 use Rattle.store_model.specs.Step.{Machine, Step, early, broken, with_state, if_read_only, if_compacting, if_idle, if_test}
 use Rattle.store_model.specs.Step.Step.{Sure, Succeeds, Lacks, Breaks}
 use Rattle.store_model.proofs.Numbers.{same_number}
-use Rattle.store_state.specs.Calls.{MadeCalls, RoseAtMost}
+use Rattle.store_state.specs.Calls.{MadeCalls}
 use Rattle.store_state.specs.Given.{info_files}
 use Rattle.store_images.specs.Stored.{KeepsStored}
 use Rattle.store_images.proofs.Keeping.{keeps_same}

@@ -149,7 +149,7 @@ module _ {D : Type 0} (g : Ghosts D) (only_now : OnlyNow g) (old : Core D) (mid 
   lists told tells decided m s = compact_lists told tells decided m s
 
   still_file : IsTrue (g.tells old.disk) → (f : ℕ) → 2 ≤ f → bytes_of (g.held disk) f ≡ bytes_of (g.held old.disk) f
-  still_file = same_file g only_now old mid disk (CommitCompact number info.rows) (compact_commits number info.rows) file slot list c.writes synced ran lists
+  still_file = same_file g only_now old mid disk (CommitCompact number info.rows) (compact_commits number info.rows) file slot list c.writes result synced ran lists
 
   module _ (told : Type 0) (tells : told → IsTrue (g.tells old.disk)) (decided : IsDecided told) (m : Machine) (s : StandsFor told (g.held old.disk) (g.may_leave old.disk) old.state m)
       (later : CoreState) (took : TookJoined old.state later list info (info_files infos)) (pins : ShowsPins (u' told tells decided m s).pins later.pins.items)
@@ -222,7 +222,7 @@ module _ {D : Type 0} (g : Ghosts D) (only_now : OnlyNow g) (old : Core D) (mid 
         (subst (λ (fs : List ℕ). AreDescribed (g.held disk) (infos_outside (info_files infos) old.state.infos.items) (outside_files fs m.state.blocks))
         (files_here told (g.held old.disk) (g.may_leave old.disk) old.state m s number file level pin infos mine_here)
         (described_left (g.held disk) (info_files infos) old.state.infos.items m.state.blocks s.has.infos
-        (built_old g only_now old mid disk (CommitCompact number info.rows) (compact_commits number info.rows) file slot list c.writes synced ran lists told tells decided m s known)))
+        (built_old g only_now old mid disk (CommitCompact number info.rows) (compact_commits number info.rows) file slot list c.writes result synced ran lists told tells decided m s known)))
         (block_has known))
 
     compact_takes : Takes told (g.held disk) (g.may_leave disk) later (with_state after m)

@@ -18,7 +18,7 @@ use Rattle.store_model.proofs.Chosen.{split}
 use Rattle.store_model.proofs.FirstsExist.{firsts_exist}
 use Rattle.store_model.proofs.Numbers.{times-append, map_append}
 use Rattle.store_state.specs.Given.{info_files}
-use Rattle.store_state.specs.Written.{AreBlocksOf, HoldRows, IsBlockOf, IsJoinedBlock}
+use Rattle.store_state.specs.Written.{HoldRows, IsBlockOf, IsJoinedBlock}
 use Rattle.store_images.specs.Committed.{MayCompact}
 use Rattle.store_core.specs.Cores.{StandsFor, rows_by_block, tail_of}
 use Rattle.store_core.specs.InUse.{AreInUse}

@@ -4,7 +4,6 @@ use Rattle.std.specs.Prelude.{Vec, ◌&&◌}
 use Rattle.std.specs.Vec.{vec_len, vec_capacity}
 use Rattle.std.specs.List.{Contains}
 use Rattle.std.specs.declared.alloc.Global.{Global}
-use Rattle.span_types.specs.Faults.{Rose}
 use Rattle.span_types.specs.declared.errors.Failed.{Failed}
 use Rattle.disk_model.specs.Calls.{Calls}
 use Rattle.disk_model.specs.Images.{bytes_of}
@@ -19,13 +18,12 @@ use Rattle.store_model.specs.Event.Event.{BeginCompact}
 use Rattle.store_model.specs.Event.Reply.{Compacting, Refused}
 use Rattle.store_model.specs.Event.Refusal.{ReadOnly, Busy, FilesSpent, Fault, Memory}
 use Rattle.store_model.specs.Step.{Machine, early}
-use Rattle.store_state.specs.Calls.{RoseAtMost}
 use Rattle.store_state.specs.Given.{info_files}
 use Rattle.store_state.specs.Listed.{picked, ref_of}
 use Rattle.store_state.specs.Shown.{told_block, IsChoiceOf, AreFew, AreBlocks, JoinsChoice}
 use Rattle.store_state.specs.Replies.{begin_refusal}
 use Rattle.store_state.specs.declared.errors.BeginError.{BeginError}
-use Rattle.store_state.specs.declared.errors.BeginError.TheVariants.{ReadOnly as IsReadOnly, Busy as IsBusy, FilesSpent as AreSpent, Fault as Failed, Memory as Lacking}
+use Rattle.store_state.specs.declared.errors.BeginError.TheVariants.{ReadOnly as IsReadOnly, Busy as IsBusy, FilesSpent as AreSpent, Fault as Faulted, Memory as Lacking}
 use Rattle.store_state.specs.declared.jobs.Pin.{Pin}
 use Rattle.store_core.specs.Files.{SameBelow, IsEmptied}
 use Rattle.store_core.specs.Pins.{is_taken, files_at}
@@ -36,8 +34,7 @@ use Rattle.store_core.specs.declared.jobs.OpenFlush.{OpenFlush}
 use Rattle.store_core.specs.declared.room.CommitRoom.{CommitRoom}
 use Rattle.store_core.specs.declared.state.CoreState.{CoreState}
 use Rattle.store_core.specs.declared.store.Core.{Core}
-use Rattle.store_core.specs.Cores.{HasState, listed_as}
-use Rattle.store_core.proofs.Now.{StandsNow}
+use Rattle.store_core.specs.Cores.{CoreStandsFor, HasState, listed_as}
 use Rattle.store_core.specs.Events.{Did}
 use Rattle.store_core.proofs.ChosenBlocks.{chosen_files, chosen_level, told_choice, in_places, some_there, level_fits, joins_choice, blocks_at}
 use Rattle.store_core.proofs.CompactBegins.{Begun, Pins, IsChoice, did_compact, did_compact_fail, did_lack_compact, did_not_compact, given_back}
@@ -77,11 +74,11 @@ module _ (core : CoreState) (chosen : List ℕ) (level : ℕ) (pinned : List Inf
   pub joins_made : (m : Machine) → HasState core m → JoinsChoice (λ infos. infos ≡ core.infos.items) level pinned
   joins_made m has = joins_choice core.infos.items pinned level (told_choice core chosen pinned are picks has.listed) theirs (some m has) (level_is m has).0
 
-pub blocks_made : {D : Type 0} (g : Ghosts D) (new : Core D) (chosen : List ℕ) (pinned : List InfoParts) (m : Machine) → pinned ≡ at_places chosen new.state.infos.items → IsTrue (g.tells new.disk) → StandsNow g new m
+pub blocks_made : {D : Type 0} (g : Ghosts D) (new : Core D) (chosen : List ℕ) (pinned : List InfoParts) (m : Machine) → pinned ≡ at_places chosen new.state.infos.items → IsTrue (g.tells new.disk) → CoreStandsFor g new m
     → AreBlocks (λ file. bytes_of (g.held new.disk) file) pinned
 blocks_made g new chosen pinned m are told s =
     subst (λ (l : List InfoParts). AreBlocks (λ file. bytes_of (g.held new.disk) file) l) (sym are)
-    (at_places chosen (map (λ (b : Block). b.rows) m.state.blocks), blocks_at (λ file. bytes_of (g.held new.disk) file) chosen new.state.infos.items (map (λ (b : Block). b.rows) m.state.blocks) (s.built told))
+    (at_places chosen (map (λ (b : Block). b.rows) m.state.blocks), blocks_at (λ file. bytes_of (g.held new.disk) file) chosen new.state.infos.items (map (λ (b : Block). b.rows) m.state.blocks) (s.stands.built told))
 
 -- ---- the event
 
@@ -160,7 +157,7 @@ did_refused g only_now old Lacking refused lacking no_fault = did_not_make g onl
 did_refused g only_now old (IsReadOnly faults) refused lacking no_fault = did_not_compact g only_now old (ReadOnly faults) (λ m has. refused m has (λ is. cc)) no_fault
 did_refused g only_now old (IsBusy job) refused lacking no_fault = did_not_compact g only_now old (Busy job) (λ m has. refused m has (λ is. cc)) no_fault
 did_refused g only_now old (AreSpent next) refused lacking no_fault = did_not_compact g only_now old (FilesSpent next) (λ m has. refused m has (λ is. cc)) no_fault
-did_refused g only_now old Failed refused lacking no_fault = absurd (no_fault refl)
+did_refused g only_now old Faulted refused lacking no_fault = absurd (no_fault refl)
 
 pub of_some : {X : Type 0} (P : X → Type 0) (o : Option X) (x : X) → o ≡ Some x → IfSome o P → P x
 of_some {X} P o x is holds = subst (λ (k : Option X). IfSome k P) is holds

@@ -217,7 +217,7 @@ module _ {D : Type 0} (g : Ghosts D) (only_now : OnlyNow g) (old : Core D) (mid 
     block_stays : told → BlockHasInfo info (bytes_of (g.held disk) info.file) firsts
     block_stays known =
         let low : 2 ≤ info.file = (let least = (its_own known).low in let one = (c.here m s.has).its_file in let two = c.its_info.file_is in omega (arith, least, one, two)) in
-        subst (λ (b : List ℕ). BlockHasInfo info b firsts) (sym (same_file g only_now old mid disk (CommitFlush number size) (flush_commits number size) file slot list c.writes synced ran lists (tells known) info.file low))
+        subst (λ (b : List ℕ). BlockHasInfo info b firsts) (sym (same_file g only_now old mid disk (CommitFlush number size) (flush_commits number size) file slot list c.writes result synced ran lists (tells known) info.file low))
         (subst (λ (n : ℕ). BlockHasInfo info (bytes_of (g.held old.disk) n) firsts) (sym c.its_info.file_is) (c.block (tells known)))
 
     tail_is : tail_of later.segment ≡ record { file = its_files.segment; first = count_of m.history; count = 0; gate = 1 }
@@ -251,7 +251,7 @@ module _ {D : Type 0} (g : Ghosts D) (only_now : OnlyNow g) (old : Core D) (mid 
           (record { file_is = c.its_info.file_is ∙ sym (c.here m s.has).its_file; level = c.its_info.level; rows = c.its_info.rows }) (names told tells m s) (rules told tells m s) (segments told tells m s);
       built = λ t. subst (λ (l : List InfoParts). AreDescribed (g.held disk) l (m.state.blocks ++ its_block ∷ [])) (sym took.infos)
           (described_more (g.held disk) old.state.infos.items info m.state.blocks its_block
-          (built_old g only_now old mid disk (CommitFlush number size) (flush_commits number size) file slot list c.writes synced ran lists told tells decided m s t) (block_stays t));
+          (built_old g only_now old mid disk (CommitFlush number size) (flush_commits number size) file slot list c.writes result synced ran lists told tells decided m s t) (block_stays t));
       settled = λ t. its_settled t;
       fresh = λ t. subst (λ (k : Option OpenFlush). IfSome k (λ mine. ((first : ℕ) → SegmentHolds first [] 1 (bytes_of (g.held disk) mine.files.segment))
           × OnlyBytes mine.files.segment (bytes_of (g.held disk) mine.files.segment) (g.may_leave disk))) (sym took.none) tt;

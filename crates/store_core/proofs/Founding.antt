@@ -1,12 +1,11 @@
 -- A new store is made.
-use Rattle.std.proofs.Common.{◌≡◌, ◌≢◌, ◌⊎◌, inl, inr, ℕ, ◌+◌, ◌-◌, ◌%◌, ◌<◌, ◌≤◌, List, [], ◌∷◌, ◌++◌, length, nat_eq, get_or, zero, suc, Some, None, Option, refl, sym, ◌∙◌, ap, subst, arith}
-use Rattle.std.specs.List.{Contains, All, IsDistinct}
+use Rattle.std.proofs.Common.{◌≡◌, inl, inr, ℕ, ◌<◌, ◌≤◌, List, [], ◌∷◌, get_or, zero, suc, Some, None, refl, sym, ◌∙◌, subst, arith}
+use Rattle.std.specs.List.{Contains, IsDistinct}
 use Rattle.std.proofs.lemmas.List.Elements.{All-nil, All-cons}
 use Rattle.std.proofs.lemmas.Bool.{cases_eq}
 use Rattle.disk_model.specs.Images.{Image, bytes_of, Besides}
-use Rattle.disk_model.specs.Crash.{OnlyBytes, Within, Follows, LeavesOnly, ButFor, RunInFile, Run, Reached}
+use Rattle.disk_model.specs.Crash.{OnlyBytes, LeavesOnly, ButFor, RunInFile, Run, Reached}
 use Rattle.disk_model.proofs.Moments.{started, widened, joined}
-use Rattle.disk_model.proofs.Passing.{other_stays_run}
 use Rattle.head_log.specs.Stands.{SegmentHolds}
 use Rattle.block_list.specs.Body.{MeetsRules}
 use Rattle.block_list.specs.Slots.{ImageHoldsList}
@@ -14,19 +13,17 @@ use Rattle.block_list.specs.Commit.{ImageHoldsEither, WritesSlot}
 use Rattle.block_list.specs.Loading.{IsReady}
 use Rattle.block_list.proofs.ReadyLemmas.{ready_besides}
 use Rattle.block_list.specs.declared.body.SegmentRef.{SegmentRef}
-use Rattle.block_list.specs.declared.body.ListBody.{ListBody}
 use Rattle.store_images.proofs.Kept.{stands_with}
 use Rattle.store_model.specs.History.{History, count_of}
 use Rattle.store_images.specs.Log.LogHolds.{ended, goes_on}
 use Rattle.span_types.specs.declared.spans.Row.{Row}
 use Rattle.store_model.specs.Laws.{AgreesOn}
-use Rattle.store_images.specs.Stored.{StoreHolds, ImageStores, ImageStandsFor, IsTidy, KeepsStored}
+use Rattle.store_images.specs.Stored.{StoreHolds, ImageStores, ImageStandsFor, KeepsStored}
 use Rattle.store_images.specs.Stored.ImageStores.{vacant, filled}
-use Rattle.store_images.specs.Settled.{Tail, IsTail, ListLies, IsSettled}
 use Rattle.store_images.proofs.Lists.{not_in_nil, in_cons, at_front}
 use Rattle.store_images.proofs.Keeping.{slots_same, one_list}
 use Rattle.store_core.proofs.OpeningSteps.{found}
-use Rattle.store_core.specs.New.{new_list, new_tail, IsEmptyHistory, StoresNothing, IsNewStore}
+use Rattle.store_core.specs.New.{new_list, IsEmptyHistory, StoresNothing, IsNewStore}
 
 at_zero : (i d : ℕ) → i < 1 → get_or (0 ∷ []) i d ≡ 0
 at_zero zero d less = refl

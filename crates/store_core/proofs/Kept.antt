@@ -1,6 +1,5 @@
 -- Events that write to a disk and leave the history as it is.
-use Rattle.std.proofs.Common.{◌≡◌, inl, inr, ℕ, ◌≤◌, List, [], Some, None, Option, IsTrue, true, false, sym, ◌∙◌, subst}
-use Rattle.span_types.specs.declared.spans.Span.{Span}
+use Rattle.std.proofs.Common.{◌≡◌, inl, inr, ℕ, List, [], ◌∷◌, Some, None, Option, IsTrue, true, false, refl, sym, ◌∙◌, subst}
 use Rattle.disk_model.specs.Images.{Image, bytes_of}
 use Rattle.disk_model.specs.Crash.{Within, Reached, Run}
 use Rattle.disk_model.specs.declared.disk.Device.{Ghosts}
@@ -9,8 +8,6 @@ use Rattle.store_entries.specs.declared.entry.Entry.{Entry}
 use Rattle.store_model.specs.History.{History, grown}
 use Rattle.store_model.specs.State.{is_among}
 use Rattle.store_model.specs.Event.{Event, Reply}
-use Rattle.store_model.specs.Event.Reply.{Refused}
-use Rattle.store_model.specs.Event.Refusal.{Fault}
 use Rattle.store_model.specs.Holds.{Hold, OpenIn, ends, files_of, own_files}
 use Rattle.store_model.specs.Step.{Machine, Step}
 use Rattle.store_model.proofs.KeepsFirsts.{step_keeps as keeps_firsts}

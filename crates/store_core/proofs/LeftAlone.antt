@@ -1,5 +1,5 @@
 -- What a refused opening leaves as it was.
-use Rattle.std.proofs.Common.{◌≡◌, ◌⊎◌, inl, inr, ℕ, ◌<◌, ◌≤◌, IsTrue, Option, refl, sym, subst}
+use Rattle.std.proofs.Common.{◌≡◌, inl, ℕ, ◌<◌, ◌≤◌, IsTrue, Option, subst}
 use Rattle.disk_model.specs.Images.{Image, bytes_of, SameBytes}
 use Rattle.disk_model.specs.Crash.{Run, Untouched}
 use Rattle.disk_model.specs.declared.disk.Device.{Ghosts}

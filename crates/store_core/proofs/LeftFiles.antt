@@ -1,9 +1,9 @@
 -- What jobs left is emptied: what is stored is kept, and how far the files are empty then.
-use Rattle.std.proofs.Common.{◌≡◌, ◌≢◌, ◌⊎◌, inl, inr, ℕ, ◌+◌, ◌<◌, ◌≤◌, List, [], ◌∷◌, length, refl, sym, ◌∙◌, ap, subst, arith}
+use Rattle.std.proofs.Common.{◌≡◌, inl, inr, ℕ, ◌+◌, ◌<◌, ◌≤◌, List, [], ◌∷◌, length, sym, ◌∙◌, subst, arith}
 use Rattle.std.specs.List.{Contains}
 use Rattle.std.proofs.lemmas.Bool.{cases_eq, cases_lt}
 use Rattle.std.proofs.lemmas.List.Elements.{Contains-append_left}
-use Rattle.disk_model.specs.Images.{Image, bytes_of, Besides, OnFile}
+use Rattle.disk_model.specs.Images.{Image, bytes_of, OnFile}
 use Rattle.disk_model.specs.Crash.{OnlyBytes, Within, Reached}
 use Rattle.block_list.specs.Body.{MeetsRules}
 use Rattle.block_list.specs.Commit.{WritesSlot}
@@ -12,7 +12,7 @@ use Rattle.block_list.specs.declared.body.ListBody.{ListBody}
 use Rattle.store_images.proofs.Lists.{at_front, in_cons, not_in_nil}
 use Rattle.store_images.proofs.Keeping.{given_out}
 use Rattle.store_core.specs.Jobs.{IsSpare}
-use Rattle.store_core.specs.Loose.{used_files, AreUnused, OthersStay, IsGap, IsReached, AreFreed}
+use Rattle.store_core.specs.Loose.{used_files, AreUnused, OthersStay, IsReached, AreFreed}
 use Rattle.store_core.proofs.LooseFiles.{segment_used}
 
 -- a file from the list's next one on is none of its segments and blocks

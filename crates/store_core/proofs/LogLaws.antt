@@ -1,12 +1,10 @@
 -- A log stands for one list of batches, and then it doesn't break.
-use Rattle.std.proofs.Common.{◌≡◌, ◌≢◌, ℕ, ◌+◌, List, [], ◌∷◌, ◌++◌, length, Ok, Err, Result, refl, sym, ◌∙◌, ap, subst, arith}
+use Rattle.std.proofs.Common.{◌≡◌, ℕ, ◌+◌, List, [], ◌∷◌, ◌++◌, length, Ok, Err, refl, sym, ◌∙◌, ap, subst, arith}
 use Rattle.span_types.specs.declared.spans.Span.{Span}
 use Rattle.disk_model.specs.Images.{Image, bytes_of}
-use Rattle.byte_fields.specs.Reading.{Stand}
 use Rattle.head_log.specs.Entries.{entries}
 use Rattle.head_log.specs.Scanning.{segment_at}
 use Rattle.head_log.specs.Stands.{SegmentHolds, SegmentKeeps}
-use Rattle.head_log.specs.declared.numbered.NumberedBatch.{NumberedBatch}
 use Rattle.head_log.proofs.AgainRecords.{segment_again, one_list}
 use Rattle.block_list.specs.declared.body.SegmentRef.{SegmentRef}
 use Rattle.store_images.specs.Log.{LogHolds}

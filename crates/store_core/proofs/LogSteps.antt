@@ -1,5 +1,5 @@
 -- A log that is read one segment further.
-use Rattle.std.proofs.Common.{◌≡◌, ◌≢◌, ◌⊎◌, inl, inr, ℕ, ◌+◌, ◌<◌, ◌≤◌, zero, suc, Bool, true, false, IsTrue, List, [], ◌∷◌, ◌++◌, length, map, take, drop, get_or, Result, Ok, Err, refl, sym, ◌∙◌, ap, subst, arith, append_assoc, length-append}
+use Rattle.std.proofs.Common.{◌≡◌, ◌≢◌, inl, inr, ℕ, ◌+◌, ◌<◌, ◌≤◌, zero, suc, Bool, true, false, IsTrue, List, [], ◌∷◌, ◌++◌, length, map, take, drop, get_or, Result, Err, refl, sym, ◌∙◌, ap, subst, arith, append_assoc, length-append}
 use Rattle.std.specs.List.{Contains, All}
 use Rattle.std.proofs.lemmas.List.{take_more}
 use Rattle.std.proofs.lemmas.List.Elements.{Contains-append_cases, All-head, All-tail}
@@ -24,7 +24,7 @@ use Rattle.store_images.proofs.Lists.{in_cons, not_in_nil}
 use Rattle.store_core.specs.Cores.{tail_of}
 use Rattle.store_core.specs.declared.error.OpenError.{OpenError}
 use Rattle.store_core.specs.declared.error.OpenError.TheVariants.{NotStore}
-use Rattle.store_core.specs.LogReading.{SegmentRead, LogRead, SegmentBreaks, LogBreaks}
+use Rattle.store_core.specs.LogReading.{SegmentRead, LogRead, LogBreaks}
 use Rattle.store_core.specs.LogReading.SegmentBreaks.{malformed, astray}
 
 -- ---- a list and its first items

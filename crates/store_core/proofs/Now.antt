@@ -1,13 +1,12 @@
 -- An event by what a core stands for now, and from that by what a crash may have left since its opening ended.
-use Rattle.std.proofs.Common.{◌≡◌, ◌≢◌, ◌⊎◌, inl, inr, ℕ, ◌+◌, ◌-◌, ◌≤◌, List, Option, Some, None, IsTrue, true, false, refl, sym, ap, subst, arith}
+use Rattle.std.proofs.Common.{◌≡◌, ◌≢◌, ◌⊎◌, inl, inr, ℕ, ◌≤◌, None, IsTrue, true, false, sym, ap, subst, arith}
 use Rattle.disk_model.specs.Calls.{Counts}
 use Rattle.disk_model.specs.Images.{Image, bytes_of}
 use Rattle.disk_model.specs.Crash.{LeavesOnly}
 use Rattle.disk_model.specs.declared.disk.Device.{Ghosts}
-use Rattle.store_model.specs.History.{History, count_of}
+use Rattle.store_model.specs.History.{count_of}
 use Rattle.store_model.specs.State.{is_among}
 use Rattle.store_model.specs.Event.{Event, Reply}
-use Rattle.store_model.specs.Event.Event.{Push}
 use Rattle.store_model.specs.Event.Reply.{Refused}
 use Rattle.store_model.specs.Event.Refusal.{Fault}
 use Rattle.store_model.specs.Holds.{Hold, OpenIn, ends, files_of, own_files}
@@ -16,12 +15,12 @@ use Rattle.store_state.specs.Meaning.{Rewritten, reads_of}
 use Rattle.store_state.specs.Calls.{MadeCalls, RoseAtMost}
 use Rattle.store_state.specs.Shown.{IsLookTaken}
 use Rattle.store_state.specs.Written.{IsPageRead}
-use Rattle.store_images.specs.Stored.{MayStandFor, IsTidy}
+use Rattle.store_images.specs.Stored.{IsTidy}
 use Rattle.store_core.specs.Files.{IsEmptied}
 use Rattle.store_core.specs.declared.store.Core.{Core}
 use Rattle.store_model.proofs.TellsHistory.{step_tells}
 use Rattle.store_model.specs.Told.{history_after}
-use Rattle.store_core.specs.Cores.{CoreStandsFor, CoreShows, StandsFor, StoodSince, unsure_of}
+use Rattle.store_core.specs.Cores.{CoreStandsFor, CoreShows, StandsFor, unsure_of}
 use Rattle.store_core.specs.Events.{Between, Did, Stepped, end_of, unsure_after}
 use Rattle.store_core.specs.declared.since.Since.{Since}
 use Rattle.store_core.specs.Stood.{StoodFor}
@@ -80,8 +79,8 @@ module _ {D : Type 0} (g : Ghosts D) (old new : Core D) (e : Event) (r : Reply) 
                 opened = omega (arith, moment, was.opened, run.later);
                 images = λ image left. subst (λ (n : ℕ). StoodFor n one.machine.history (unsure_of new.state) image) (sym start)
                     (elim (run.before old.since.moment image was.opened (subst (λ (n : ℕ). g.left_since new.disk n image) moment left)) [
-                    | inl past ↦ stood e r m.history one.machine.history (unsure_of old.state) (unsure_of new.state) m.history.start after first one.unsure one.ended image (was.images image past)
-                    | inr meanwhile ↦ between e r m.history one.machine.history (unsure_of old.state) (unsure_of new.state) m.history.start after first one.unsure one.ended image meanwhile
+                      | inl past ↦ stood e r m.history one.machine.history (unsure_of old.state) (unsure_of new.state) m.history.start after first one.unsure one.ended image (was.images image past)
+                      | inr meanwhile ↦ between e r m.history one.machine.history (unsure_of old.state) (unsure_of new.state) m.history.start after first one.unsure one.ended image meanwhile
                     ]);
               };
         };

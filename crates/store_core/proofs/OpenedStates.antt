@@ -1,6 +1,6 @@
 -- What the core of an opened store stands for.
-use Rattle.std.proofs.Common.{◌≡◌, ◌≢◌, ◌⊎◌, inl, inr, ℕ, ◌+◌, ◌-◌, ◌<◌, ◌≤◌, ◌==◌, zero, suc, Bool, true, false, List, [], ◌∷◌, ◌++◌, map, length, take, drop, get_or, nat_eq, slice_index_or, Some, None, Option, refl, sym, ◌∙◌, ap, subst, arith, eq-eqb, append_assoc, length-append, length-drop, length-take, if◌then◌else◌}
-use Rattle.std.specs.List.{Contains, All, IsDistinct, AllByRecursion}
+use Rattle.std.proofs.Common.{◌≡◌, ◌⊎◌, inl, inr, ℕ, ◌+◌, ◌-◌, ◌<◌, ◌≤◌, ◌==◌, zero, suc, true, false, List, [], ◌∷◌, ◌++◌, map, length, drop, nat_eq, slice_index_or, Some, None, Option, refl, sym, ◌∙◌, ap, subst, arith, eq-eqb, length-drop, if◌then◌else◌}
+use Rattle.std.specs.List.{Contains, IsDistinct, AllByRecursion}
 use Rattle.std.proofs.lemmas.List.{append-nil}
 use Rattle.std.proofs.lemmas.List.Elements.{All-contains, Contains-append_cases, Contains-append_left, Contains-append_right}
 use Rattle.span_types.specs.declared.spans.Span.{Span}
@@ -8,33 +8,31 @@ use Rattle.span_types.specs.declared.spans.Row.{Row}
 use Rattle.span_types.specs.declared.ids.Key.{Key}
 use Rattle.span_types.specs.First.{IsFirstOf, first_at}
 use Rattle.span_types.proofs.FirstLaws.{first_at-firsts, firsts_alike}
-use Rattle.disk_model.specs.Images.{Image, bytes_of}
+use Rattle.disk_model.specs.Images.{Image}
 use Rattle.block_list.specs.Body.{MeetsRules, files_of, successor}
-use Rattle.block_info.specs.InfoParts.{InfoParts}
 use Rattle.block_list.specs.declared.body.BlockRef.{BlockRef}
 use Rattle.block_list.specs.declared.body.SegmentRef.{SegmentRef}
 use Rattle.block_list.specs.declared.body.ListBody.{ListBody}
 use Rattle.store_entries.specs.declared.entry.Entry.{Entry}
 use Rattle.store_model.specs.History.{History, batch_rows, record_rows, history_rows, count_of}
-use Rattle.store_model.specs.State.{State, Block, Compaction, Segment as ModelSegment, segment_files, block_rows, block_files, is_among, live_rows}
+use Rattle.store_model.specs.State.{Block, segment_files, block_rows, block_files, live_rows}
 use Rattle.store_model.specs.After.{arrived}
 use Rattle.store_model.specs.RowSets.{OnePlace}
 use Rattle.store_model.specs.Laws.{AgreesOn}
 use Rattle.store_model.specs.Sound.{times, StateIsSound}
 use Rattle.store_model.specs.Step.{Machine}
 use Rattle.store_model.proofs.FirstsExist.{firsts_exist}
-use Rattle.store_model.proofs.HistoryLaws.{number_of, position_of}
+use Rattle.store_model.proofs.HistoryLaws.{position_of}
 use Rattle.store_model.proofs.KeepsFirsts.{number_in}
 use Rattle.store_model.proofs.Numbers.{same_number, times-append}
 use Rattle.store_images.specs.Log.{LogHolds}
 use Rattle.store_images.specs.Stored.{MayStandFor, SameFirsts, stored_rows, first_number, ref_of}
-use Rattle.store_images.specs.Settled.{Tail, IsSettled}
-use Rattle.store_images.proofs.Lists.{not_in_nil, in_cons, in_map}
+use Rattle.store_images.specs.Settled.{IsSettled}
+use Rattle.store_images.proofs.Lists.{not_in_nil}
 use Rattle.store_images.proofs.Storing.{settled_now, last_first}
 use Rattle.store_core.specs.declared.state.CoreState.{CoreState}
-use Rattle.store_state.specs.Given.{info_files}
 use Rattle.store_core.specs.Pins.{is_taken, files_at}
-use Rattle.store_core.specs.Cores.{AreDescribed, HasState, StandsFor, listed_as, segment_of, tail_of, unsure_of}
+use Rattle.store_core.specs.Cores.{AreDescribed, HasState, StandsFor, segment_of, tail_of}
 use Rattle.store_core.specs.InUse.{AreInUse}
 use Rattle.store_core.specs.Waiting.{rows_outside, AreLogged}
 use Rattle.store_core.specs.Loose.{without_loose, list_after, used_files}

@@ -1,11 +1,10 @@
 -- How an opening ends.
-use Rattle.std.proofs.Common.{◌≡◌, ◌≢◌, ℕ, ◌+◌, ◌≤◌, Bool, true, false, IsTrue, List, [], length, map, Some, None, Option, Result, Ok, Err, IfOk, IfErr, IfSome, refl, sym, ◌∙◌, ap, subst, arith}
+use Rattle.std.proofs.Common.{◌≡◌, ℕ, ◌+◌, ◌≤◌, Bool, true, false, IsTrue, List, [], length, map, Some, None, Option, Result, Ok, Err, IfOk, IfErr, IfSome, refl, sym, ◌∙◌, ap, subst, arith}
 use Rattle.std.specs.List.{Contains}
 use Rattle.span_types.specs.declared.spans.Span.{Span}
-use Rattle.span_types.specs.declared.spans.Row.{Row}
 use Rattle.span_types.specs.First.{IsFirstOf}
 use Rattle.disk_model.specs.Images.{Image, bytes_of}
-use Rattle.disk_model.specs.Crash.{OnlyBytes, Within, LeavesOnly, Reached, Run}
+use Rattle.disk_model.specs.Crash.{LeavesOnly, Reached, Run}
 use Rattle.disk_model.specs.declared.disk.Device.{Ghosts}
 use Rattle.disk_model.proofs.Runs.{run_more, run_on}
 use Rattle.disk_model.proofs.Moments.{widened}
@@ -13,19 +12,17 @@ use Rattle.block_list.specs.Body.{MeetsRules}
 use Rattle.block_list.specs.Slots.{ImageHoldsList}
 use Rattle.block_list.specs.Loading.{KeepsList, IsReady}
 use Rattle.block_list.proofs.SlotLemmas.{same_some}
-use Rattle.block_info.specs.InfoParts.{InfoParts}
 use Rattle.block_list.specs.declared.body.BlockRef.{BlockRef}
 use Rattle.block_list.specs.declared.body.SegmentRef.{SegmentRef}
 use Rattle.block_list.specs.declared.body.ListBody.{ListBody}
 use Rattle.store_images.proofs.Kept.{stands_with}
 use Rattle.store_model.specs.History.{History, count_of}
-use Rattle.store_model.specs.State.{State, Block}
-use Rattle.store_model.specs.Laws.{AgreesOn}
+use Rattle.store_model.specs.State.{Block}
 use Rattle.store_model.specs.Step.{Machine}
 use Rattle.store_images.specs.Log.{LogHolds}
-use Rattle.store_images.specs.Stored.{BlocksStand, ImageStores, ImageStandsFor, IsSoundImage, KeepsStored, first_number, ref_of, stored_rows}
+use Rattle.store_images.specs.Stored.{BlocksStand, ImageStandsFor, IsSoundImage, KeepsStored, first_number, ref_of}
 use Rattle.store_images.specs.Stored.ImageStores.{vacant}
-use Rattle.store_images.specs.Settled.{Tail, IsSettled}
+use Rattle.store_images.specs.Settled.{IsSettled}
 use Rattle.store_images.proofs.Logs.{log_same}
 use Rattle.store_images.proofs.Keeping.{blocks_same, one_list, loaded, keeps_then}
 use Rattle.store_core.specs.declared.state.CoreState.{CoreState}
@@ -45,7 +42,7 @@ use Rattle.store_core.proofs.Described.{described_same}
 use Rattle.store_core.proofs.LooseFiles.{block_used, stands_moved, used_low}
 use Rattle.store_core.proofs.ReadBlocks.{BlocksFound, block_in_list, blocks_found, one_blocks, same_block_files, told_refs, told_rows}
 use Rattle.store_state.specs.Shown.{told_block}
-use Rattle.store_core.proofs.OpenedStates.{opened_machine, opened_stands, base_of, kept_rows, low_floor, agrees_again, agrees_base, agrees_kept, agrees_stored, base_once}
+use Rattle.store_core.proofs.OpenedStates.{opened_machine, opened_stands, base_of, low_floor, agrees_base, agrees_kept, agrees_stored, base_once}
 use Rattle.store_core.proofs.OpeningSteps.{IsFound, found, segment_low}
 
 -- the same, where the disk may tell less

@@ -1,5 +1,5 @@
 -- What an opening keeps of its disk, and that it ends settled.
-use Rattle.std.proofs.Common.{◌≡◌, ◌⊎◌, inl, inr, ℕ, ◌+◌, ◌-◌, ◌<◌, ◌≤◌, List, [], ◌∷◌, ◌++◌, map, length, drop, get_or, Some, None, Result, Ok, Err, refl, sym, ◌∙◌, ap, subst, arith}
+use Rattle.std.proofs.Common.{◌≡◌, inl, inr, ℕ, ◌+◌, ◌-◌, ◌≤◌, List, [], ◌∷◌, ◌++◌, map, length, drop, Some, None, Ok, Err, refl, sym, ◌∙◌, ap, subst, arith}
 use Rattle.std.specs.List.{Contains}
 use Rattle.std.proofs.lemmas.List.Elements.{Contains-append_cases, Contains-append_left, Contains-append_right}
 use Rattle.span_types.specs.declared.spans.Span.{Span}
@@ -31,7 +31,6 @@ use Rattle.store_images.proofs.Logs.{log_same}
 use Rattle.store_images.proofs.Keeping.{blocks_same, one_list, given_out, segment_named}
 use Rattle.store_core.specs.Loose.{without_loose, used_files}
 use Rattle.store_core.specs.LogReading.{LogRead, SegmentBreaks, LogBreaks}
-use Rattle.store_core.specs.declared.error.OpenError.{OpenError}
 use Rattle.store_core.specs.declared.error.OpenError.TheVariants.{NotStore, Fault}
 use Rattle.store_core.specs.BlockReading.{AreWhole}
 use Rattle.store_core.specs.Opening.{ListBreaks, StoreBreaks, refusal_of}

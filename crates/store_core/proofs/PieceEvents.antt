@@ -1,5 +1,5 @@
 -- A piece that is written to a job's file, as an event of a core.
-use Rattle.std.proofs.Common.{◌≡◌, ℕ, ◌≤◌, ◌==◌, List, ◌++◌, length, Some, None, Option, IsTrue, true, false, if◌then◌else◌, refl, sym, ◌∙◌, ap, subst, arith, eq-eqb, Result, IsOk, IsErr, ◌^◌, ◌+◌}
+use Rattle.std.proofs.Common.{◌≡◌, ℕ, ◌==◌, List, ◌++◌, length, Some, None, Option, IsTrue, true, false, if◌then◌else◌, refl, sym, ◌∙◌, ap, subst, arith, eq-eqb, Result, IsOk, IsErr, ◌^◌, ◌+◌}
 use Rattle.span_types.specs.declared.errors.Failed.{Failed}
 use Rattle.disk_model.specs.Calls.{Calls}
 use Rattle.disk_model.specs.Images.{bytes_of, Besides, OnFile}

@@ -1,5 +1,5 @@
 -- A push as an event of a core, by its outcomes.
-use Rattle.std.proofs.Common.{◌≡◌, ◌≢◌, inl, inr, ℕ, ◌+◌, ◌<◌, ◌≤◌, List, [], ◌∷◌, ◌++◌, length, Some, None, Option, IsTrue, refl, sym, ◌∙◌, ap, subst, arith, Result, IsOk, IsErr}
+use Rattle.std.proofs.Common.{◌≡◌, ◌≢◌, inl, inr, ℕ, ◌+◌, ◌<◌, List, [], ◌∷◌, ◌++◌, length, Some, None, Option, IsTrue, refl, sym, ◌∙◌, ap, subst, Result, IsOk, IsErr}
 use Rattle.span_types.specs.declared.errors.Failed.{Failed}
 use Rattle.span_types.specs.declared.spans.Span.{Span}
 use Rattle.disk_model.specs.Calls.{Calls}

@@ -1,5 +1,5 @@
 -- Blocks that are read one further, which blocks they are, and where one breaks.
-use Rattle.std.proofs.Common.{◌≡◌, ◌⊎◌, inl, inr, ℕ, ◌+◌, ◌<◌, ◌≤◌, List, [], ◌∷◌, ◌++◌, map, length, take, drop, get_or, Result, Ok, Err, refl, sym, ◌∙◌, ap, subst, arith}
+use Rattle.std.proofs.Common.{◌≡◌, inl, inr, ℕ, ◌+◌, ◌<◌, List, [], ◌∷◌, ◌++◌, map, length, take, drop, get_or, Result, Ok, Err, refl, sym, ◌∙◌, ap, subst}
 use Rattle.std.specs.List.{Contains}
 use Rattle.std.proofs.lemmas.List.{take_more, map-append}
 use Rattle.std.proofs.lemmas.List.Elements.{Contains-append_left, Contains-append_right}
@@ -8,7 +8,6 @@ use Rattle.disk_model.specs.Images.{Image, bytes_of}
 use Rattle.block_info.specs.InfoParts.{InfoParts}
 use Rattle.block_format.specs.Blocks.{BlockHasInfo}
 use Rattle.block_list.specs.declared.body.BlockRef.{BlockRef}
-use Rattle.block_list.specs.declared.body.ListBody.{ListBody}
 use Rattle.block_read.specs.BlockReadings.{block_at, listed_at}
 use Rattle.block_read.specs.declared.block.Block.{Block as ReadBlock}
 use Rattle.block_read.proofs.BlockBoth.{block_again}

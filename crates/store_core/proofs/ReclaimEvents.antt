@@ -39,7 +39,7 @@ use Rattle.store_core.specs.declared.state.CoreState.{CoreState}
 use Rattle.store_core.specs.declared.store.Core.{Core}
 use Rattle.store_core.proofs.HeldFiles.{held_used, held_kept}
 use Rattle.store_core.proofs.InUse.{contained_once}
-use Rattle.store_core.proofs.Counted.{calls_fine, calls_fault, calls_rose, calls_exact, calls_most, calls_unread}
+use Rattle.store_core.proofs.Counted.{calls_fine, calls_fault, calls_rose, calls_exact, calls_unread}
 use Rattle.store_core.proofs.Kept.{stands_kept, did_kept}
 use Rattle.store_core.proofs.LooseFiles.{used_low}
 use Rattle.store_core.proofs.NextLists.{uses_are}
@@ -76,7 +76,7 @@ none_freed : {D : Type 0} (g : Ghosts D) (only_now : OnlyNow g) (old : Core D) �
     → ((m : Machine) → HasState old.state m → StateIsSound m.state → free_files m.state ≡ [])
     → Did g old Reclaim (Count 0) (record old { state = old.state })
 none_freed g only_now old writes none =
-    quiet g only_now old old.state Reclaim (Count 0) (λ f b. refl) (λ e. let bad : Count 0 ≡ Refused Fault = e in cc) (λ n. (omega arith, omega arith)) refl refl (λ shows. tt) (λ told m s. tt)
+    quiet g only_now old old.state Reclaim (Count 0) (λ f b. refl) (λ e. let bad : Count 0 ≡ Refused Fault = e in cc) (λ n. record { later = omega arith; at_most = omega arith; exact = λ few. omega arith }) refl refl (λ shows. tt) (λ told m s. tt)
     (λ told m stands.
     let empty : free_files m.state ≡ [] = none m stands.has stands.sound in (
       m,

@@ -1,7 +1,6 @@
 -- A new store: its list, and what its disk holds.
-use Rattle.std.specs.Prelude.{◌≡◌, ℕ, List, [], ◌∷◌}
+use Rattle.std.specs.Prelude.{◌≡◌, [], ◌∷◌}
 use Rattle.disk_model.specs.Images.{Image}
-use Rattle.block_list.specs.declared.body.SegmentRef.{SegmentRef}
 use Rattle.block_list.specs.declared.body.ListBody.{ListBody}
 use Rattle.store_model.specs.History.{History, count_of}
 use Rattle.store_model.specs.Laws.{AgreesOn}

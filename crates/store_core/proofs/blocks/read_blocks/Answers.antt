@@ -1,8 +1,7 @@
-use Rattle.std.proofs.Common.{◌≡◌, ◌<◌, ◌≤◌, ℕ, IsTrue, List, length, take, take_all, get_or, refl, sym, ◌∙◌, ap, subst, arith}
+use Rattle.std.proofs.Common.{◌<◌, IsTrue, List, length, take_all, get_or, sym, ◌∙◌, subst, arith}
 use Rattle.std.specs.List.{Contains}
 use Rattle.std.proofs.lemmas.Result.{err_from_is_err_and}
 use Rattle.disk_model.proofs.CallRuns.{counts_none, counts_then}
-use Rattle.disk_model.specs.Images.{bytes_of}
 use Rattle.disk_model.proofs.Runs.{untouched_same, untouched_then}
 use Rattle.block_list.specs.declared.body.BlockRef.{BlockRef}
 use Rattle.store_images.proofs.Lists.{not_in_nil}

@@ -1,10 +1,7 @@
-use Rattle.std.proofs.Common.{◌≡◌, ◌≤◌, ◌-◌, ℕ, [], ◌∷◌, IsTrue, Some, refl, sym, ◌∙◌, subst, arith}
+use Rattle.std.proofs.Common.{◌≤◌, ◌-◌, ℕ, [], ◌∷◌, IsTrue, Some, refl, sym, ◌∙◌, subst, arith}
 use Rattle.disk_model.specs.Images.{bytes_of}
-use Rattle.disk_model.specs.Crash.{OnlyBytes, Run}
 use Rattle.disk_model.proofs.CallRuns.{counts_then}
 use Rattle.disk_model.proofs.Runs.{run_untouched}
-use Rattle.block_list.specs.Loading.{IsReady}
-use Rattle.block_list.specs.declared.body.ListBody.{ListBody}
 use Rattle.block_list.proofs.ReadyLemmas.{ready_quiet}
 use Rattle.store_images.specs.Stored.{KeepsStored}
 use Rattle.store_images.proofs.Keeping.{keeps_same}

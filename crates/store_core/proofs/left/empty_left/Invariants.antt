@@ -1,4 +1,4 @@
-use Rattle.std.proofs.Common.{◌≡◌, ◌<◌, ◌≤◌, ◌+◌, ℕ, [], Some, IsTrue}
+use Rattle.std.proofs.Common.{◌<◌, ◌≤◌, ◌+◌, ℕ, [], Some, IsTrue}
 use Rattle.disk_model.specs.Calls.{Counts}
 use Rattle.disk_model.specs.Crash.{OnlyBytes, Run}
 use Rattle.block_list.specs.Loading.{IsReady}

@@ -1,13 +1,12 @@
-use Rattle.std.proofs.Common.{◌≡◌, ◌+◌, ◌%◌, ℕ, length, List, [], IsTrue, None, Some, refl, sym, ◌∙◌, ap, subst, arith}
-use Rattle.disk_model.specs.Images.{Image, bytes_of}
+use Rattle.std.proofs.Common.{◌≡◌, ◌+◌, ◌%◌, ℕ, length, List, [], IsTrue, None, sym, ap, subst, arith}
+use Rattle.disk_model.specs.Images.{bytes_of}
 use Rattle.disk_model.specs.Crash.{OnlyBytes}
-use Rattle.disk_model.proofs.Moments.{started}
 use Rattle.head_log.specs.Stands.{SegmentHolds}
 use Rattle.block_list.specs.Body.{MeetsRules}
 use Rattle.block_list.specs.Commit.{IsListText, slot_of}
 use Rattle.block_list.specs.declared.body.ListBody.{ListBody}
 use Rattle.block_list.proofs.ReadyLemmas.{can_lay}
-use Rattle.store_core.specs.New.{new_list, StoresNothing}
+use Rattle.store_core.specs.New.{new_list}
 use Rattle.store_core.proofs.Founding.{rules_new, vacant_now, made_segment, ready_still, committed, still_two, new_settled}
 use Rattle.store_core.specs.declared.error.OpenError.TheVariants.{Fault}
 use Rattle.store_core.proofs.Counted.{counts_short, fault_answer, fine_calls, still_answer, then_answer, well_answer}

@@ -1,4 +1,4 @@
-use Rattle.std.proofs.Common.{◌≡◌, ℕ, IsTrue, List, Err, refl, sym, ◌∙◌, subst}
+use Rattle.std.proofs.Common.{IsTrue, List, refl, sym, ◌∙◌, subst}
 use Rattle.std.specs.List.{Contains}
 use Rattle.disk_model.proofs.Runs.{untouched_then}
 use Rattle.block_list.specs.declared.body.BlockRef.{BlockRef}

@@ -1,4 +1,4 @@
-use Rattle.std.proofs.Common.{◌≡◌, ◌-◌, ◌++◌, ℕ, List, drop, ◌∙◌, ap}
+use Rattle.std.proofs.Common.{◌-◌, ◌++◌, List, drop, ◌∙◌, ap}
 use Rattle.store_model.specs.History.{record_rows}
 use Rattle.store_model.specs.State.{LiveRow}
 use Rattle.store_model.specs.After.{arrived}

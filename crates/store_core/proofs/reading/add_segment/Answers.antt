@@ -1,4 +1,4 @@
-use Rattle.std.proofs.Common.{◌≡◌, ◌++◌, List, IsTrue, Err, sym, ◌∙◌, ap, subst}
+use Rattle.std.proofs.Common.{◌++◌, List, IsTrue, Err, sym, ◌∙◌, ap, subst}
 use Rattle.disk_model.specs.Images.{bytes_of}
 use Rattle.disk_model.proofs.Runs.{untouched_call, untouched_then}
 use Rattle.head_log.specs.declared.numbered.NumberedBatch.{NumberedBatch}
@@ -65,13 +65,3 @@ returns-in-Err-NotLog-clause-counted g c =
     let e = c.in-Err-NotLog.field-0-is in
     other_answer d Fault disk new _ (λ is. absurd cc)
     (counts_then d 0 (Unit {0}) ⊥ (Unit {0}) ⊥ disk mid new (plain_fine d disk mid _ c.sync.ensures.time.later c.in-Ok.ensures.counted) tt (went_well d mid new c.in-Err-NotLog.ensures.counted (λ is. absurd cc) (λ is. absurd cc)))
-
-pub returns-in-Err-Memory-clause-counted : goal.returns-in-Err-Memory-clause-counted
-returns-in-Err-Memory-clause-counted g c =
-    let d = g.D.Device in
-    let disk = c.args.disk.now in
-    let mid = c.sync.new.self in
-    let new = c.scan.new.disk in
-    let e = c.in-Err-Memory.field-0-is in
-    other_answer d Fault disk new _ (λ is. absurd cc)
-    (counts_then d 0 (Unit {0}) ⊥ (Unit {0}) ⊥ disk mid new (plain_fine d disk mid _ c.sync.ensures.time.later c.in-Ok.ensures.counted) tt (went_well d mid new c.in-Err-Memory.ensures.counted (λ is. absurd cc) (λ is. absurd cc)))

@@ -1,8 +1,7 @@
-use Rattle.std.proofs.Common.{◌≡◌, ◌<◌, ◌≤◌, ◌+◌, ℕ, IsTrue, List, length, take, take_all, get_or, refl, sym, ◌∙◌, ap, subst, arith}
+use Rattle.std.proofs.Common.{◌≡◌, ◌<◌, ℕ, IsTrue, List, length, take, take_all, get_or, refl, sym, ◌∙◌, ap, subst, arith}
 use Rattle.std.specs.List.{Contains}
 use Rattle.std.proofs.lemmas.Result.{err_from_is_err_and}
 use Rattle.disk_model.proofs.CallRuns.{counts_then}
-use Rattle.disk_model.specs.Images.{bytes_of}
 use Rattle.disk_model.proofs.Runs.{untouched_then}
 use Rattle.head_log.specs.Scanning.{segment_at}
 use Rattle.block_list.specs.declared.body.SegmentRef.{SegmentRef}
@@ -12,7 +11,7 @@ use Rattle.store_core.specs.Cores.{tail_of}
 use Rattle.store_core.specs.LogReading.{LogBreaks}
 use Rattle.store_core.specs.declared.error.OpenError.TheVariants.{NotStore, Fault}
 use Rattle.store_core.proofs.Counted.{fine_answer, other_answer, passed_answer, then_answer}
-use Rattle.store_core.proofs.LogSteps.{Reads, reads_one, reads_on, read_before, first_breaks, later_breaks, astray_at, breaks_as, passed_on, first_is, lie_on}
+use Rattle.store_core.proofs.LogSteps.{reads_one, reads_on, read_before, first_breaks, later_breaks, astray_at, breaks_as, passed_on, first_is, lie_on}
 use Rattle.store_core.proofs.reading.read_log.Goals as goal
 
 pub loop-at-init : goal.loop-at-init

@@ -1,4 +1,4 @@
-use Rattle.std.proofs.Common.{◌≡◌, ◌≤◌, ◌+◌, IsTrue, List, take, ℕ}
+use Rattle.std.proofs.Common.{◌≤◌, ◌+◌, IsTrue, take}
 use Rattle.std.specs.List.{Contains}
 use Rattle.disk_model.specs.Calls.{Counts}
 use Rattle.disk_model.specs.Images.{bytes_of}

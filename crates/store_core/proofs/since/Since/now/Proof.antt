@@ -1,5 +1,5 @@
 -- `now` makes a value of no bytes, with the disk's moment.
-use Rattle.std.proofs.Common.{◌≡◌, ℕ, List, [], ◌∷◌, refl}
+use Rattle.std.proofs.Common.{◌≡◌, [], ◌∷◌, refl}
 use mir.Syntax.{a_type, dcons, dnil, named}
 use mir.Val.{Val, vptr, vstruct, vcons, vnil}
 use mir.MapTy.{inst_fn}
@@ -17,7 +17,7 @@ use seplogic.Ra.Ura.{Ura}
 use types.Logic.{Logic, sem}
 use denote.Exit.{yes}
 use denote.RattleType.{RattleType, owns}
-use denote.Signature.{Signature, type_at, types_at, plain}
+use denote.Signature.{type_at, types_at, plain}
 use denote.Steps.{nothing}
 use denote.Param.{param, bounded}
 use denote.Builtin.{RefOf}

@@ -1,4 +1,4 @@
-use Rattle.std.proofs.Common.{◌≡◌, None, Some, Option, refl, arith}
+use Rattle.std.proofs.Common.{arith}
 use Rattle.store_core.proofs.States.{none_of}
 use Rattle.store_core.proofs.state.CoreState.admit.Goals as goal
 

@@ -69,7 +69,7 @@ returns-in-Ok-cut_through-clause-joins g c = λ m s.
 pub returns-in-Ok-cut_through-clause-blocks : goal.returns-in-Ok-cut_through-clause-blocks
 returns-in-Ok-cut_through-clause-blocks g c = λ told m s.
     let made : IsMade c.args.self.now.state c.as_slice.result.now c.in-Ok.level c.in-Ok.pin c.in-Ok.room c.make_compact.new.self = c.in-Ok.ensures.made in
-    blocks_made g.D.Device _ c.as_slice.result.now c.in-Ok.pin.blocks m (made.blocks ∙ blocks_still c.args.self.now.state c.make_compact.new.self c.as_slice.result.now made.still) told s.stands
+    blocks_made g.D.Device _ c.as_slice.result.now c.in-Ok.pin.blocks m (made.blocks ∙ blocks_still c.args.self.now.state c.make_compact.new.self c.as_slice.result.now made.still) told s
 
 pub returns-clause-begun : goal.returns-clause-begun
 returns-clause-begun g c =

@@ -4,6 +4,9 @@ use Rattle.std.specs.Vec.{vec_len, vec_capacity}
 use Rattle.std.specs.declared.alloc.Global.{Global}
 use Rattle.span_types.specs.declared.spans.Row.{Row}
 use Rattle.store_model.specs.Choice.{most_rows}
+use Rattle.store_model.specs.Event.Event.{BeginFlush}
+use Rattle.store_model.specs.Event.Reply.{Refused}
+use Rattle.store_model.specs.Event.Refusal.{Fault}
 use Rattle.store_state.specs.Replies.{begin_refusal}
 use Rattle.store_core.specs.Events.{Did}
 use Rattle.store_core.specs.declared.store.Core.{Core}

@@ -1,4 +1,4 @@
-use Rattle.std.proofs.Common.{◌≡◌, ℕ, IsTrue, Option, None, Some, Ok, Err, sym, ◌∙◌, ap, subst, arith}
+use Rattle.std.proofs.Common.{◌≡◌, IsTrue, Option, None, Some, Ok, Err, sym, ◌∙◌, ap, subst, arith}
 use Rattle.block_list.specs.Slots.{ImageHoldsList}
 use Rattle.block_list.specs.Reading.{slots_at}
 use Rattle.block_list.specs.Loading.{IsReady}
