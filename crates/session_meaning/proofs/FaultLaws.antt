@@ -1,5 +1,5 @@
 -- As many replies of a session tell of a fault of the disk as calls of it failed.
-use Rattle.std.proofs.Common.{◌≡◌, ◌⊎◌, inl, inr, ◌∙◌, ℕ, ◌+◌, ◌<◌, ◌≤◌, Bool, true, false, ◌||◌, List, [], ◌∷◌, Result, Ok, Err, arith, if◌then◌else◌, refl, sym, ap, subst}
+use Rattle.std.proofs.Common.{◌≡◌, inl, inr, ◌∙◌, ℕ, ◌+◌, Bool, true, false, ◌||◌, List, [], ◌∷◌, Result, Ok, Err, arith, if◌then◌else◌, refl, sym, ap, subst}
 use Rattle.std.specs.List.{list_any}
 use Rattle.span_types.specs.declared.errors.Memory.{Memory}
 use Rattle.disk_model.specs.Counts.{RoseBy}
@@ -7,12 +7,11 @@ use Rattle.disk_model.proofs.CallRuns.{raised_by}
 use Rattle.otlp_spans.specs.declared.read.Reading.{Reading}
 use Rattle.session_text.specs.declared.refusal.Refusal.TheVariants as told
 use Rattle.session_text.specs.declared.reply.Reply.{Reply}
-use Rattle.session_text.specs.declared.reply.Reply.TheVariants.{Compacted, Cut, CutAll, Flushed, NothingCompacted, NothingFlushed, Refused, Searched, Traced}
+use Rattle.session_text.specs.declared.reply.Reply.TheVariants.{Cut, CutAll, Refused}
 use Rattle.session_text.specs.declared.request.Request.TheVariants as request
 use Rattle.session_text.specs.Items.{Item}
-use Rattle.store_model.specs.Event.{Event as event, Reply as reply, Refusal as why}
+use Rattle.store_model.specs.Event.{Event as event, Reply as reply}
 use Rattle.store_model.specs.Event.Event.{BeginCompact, BeginFlush}
-use Rattle.store_model.specs.Event.Reply.{Fine}
 use Rattle.store_state.specs.Replies.{begin_refusal, count_reply, push_reply, reclaim_reply}
 use Rattle.store_state.specs.Rounds.{begin_cause}
 use Rattle.store_state.specs.declared.errors.BeginError.{BeginError}
@@ -27,7 +26,7 @@ use Rattle.store_state.specs.declared.rounds.Round.{Round}
 use Rattle.store_state.specs.declared.rounds.Round.TheVariants as round_is
 use Rattle.client_run.specs.Answers.{compact_reply, cut_reply, flush_reply, pushed_reply, reclaimed_reply}
 use Rattle.client_run.specs.CoreRuns.{IsCounted, is_fault}
-use Rattle.session_meaning.specs.At.{At, IsStep, IsStill, IsUnchanged}
+use Rattle.session_meaning.specs.At.{At, IsStep, IsUnchanged}
 use Rattle.session_meaning.specs.Causes.{blames_disk, disk_faults, faults_in, is_disk_fault}
 use Rattle.session_meaning.specs.Rounds.{IsEnded, IsGivenUpFor, IsRound, Job, given}
 use Rattle.session_meaning.specs.Rounds.{IsEnded as ended, IsRound as round_of}

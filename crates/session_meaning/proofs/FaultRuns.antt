@@ -1,6 +1,6 @@
 -- No line is refused in reading for a fault of the disk, so each run tells of all that were.
 use Rattle.std.specs.Prelude.{⊤}
-use Rattle.std.proofs.Common.{◌≡◌, ◌≢◌, ◌⊎◌, inl, inr, ◌∙◌, ℕ, ◌+◌, Bool, true, false, ◌||◌, nat_le, List, [], ◌∷◌, ◌++◌, codes, Option, Some, None, Result, Ok, Err, if◌then◌else◌, length, refl, sym, ap, subst}
+use Rattle.std.proofs.Common.{◌≡◌, ◌≢◌, inl, inr, ◌∙◌, ℕ, ◌+◌, Bool, true, false, ◌||◌, nat_le, List, [], ◌∷◌, ◌++◌, codes, Option, Some, None, Result, Ok, Err, if◌then◌else◌, length, refl, sym, ap, subst}
 use Rattle.std.specs.Prelude.{IfSome}
 use Rattle.std.specs.Str.{bytes_eq, is_utf8}
 use Rattle.std.specs.List.{list_any}
@@ -16,23 +16,21 @@ use Rattle.traceql_syntax.specs.declared.errors.ParseError.TheVariants as parse
 use Rattle.traceql_types.specs.declared.errors.TypeError.{TypeError}
 use Rattle.traceql_types.specs.declared.errors.TypeError.TheVariants as type
 use Rattle.session_text.specs.declared.refusal.Refusal.{Refusal}
-use Rattle.session_text.specs.declared.refusal.Refusal.TheVariants as told
 use Rattle.session_text.specs.declared.reply.Reply.{Reply}
 use Rattle.session_text.specs.declared.request.Request.{Request}
 use Rattle.session_text.specs.declared.request.Request.TheVariants as request
 use Rattle.session_text.specs.Items.{Item}
 use Rattle.session_text.specs.Lines.{first_part, other_parts}
 use Rattle.session_text.specs.Options.{SearchLine, search_parts}
-use Rattle.session_text.specs.Requests.{Answers, AsksAt, AsksPush, Line, alone, line_of, other_line, plain, push_of, push_with, pushed, refusal_of, request_by, request_of, search_with, searched, trace_with, with_id}
+use Rattle.session_text.specs.Requests.{Answers, AsksAt, AsksPush, Line, alone, line_of, other_line, plain, push_of, push_with, pushed, request_by, search_with, searched, trace_with, with_id}
 use Rattle.session_text.specs.Searches.{of_check, of_parse}
-use Rattle.session_meaning.specs.declared.ending.Ending.{Ending}
 use Rattle.session_meaning.specs.declared.ending.Ending.TheVariants.{NotOpened}
-use Rattle.session_meaning.specs.Asked.{AreAsked, AsksNext, after_moment}
+use Rattle.session_meaning.specs.Asked.{AreAsked, after_moment}
 use Rattle.session_meaning.specs.At.{At}
 use Rattle.session_meaning.specs.Causes.{blames_disk, disk_faults, is_disk_fault}
 use Rattle.session_meaning.specs.Ingest.{Duty, Ingests, IsDue, ask, compact_all, due_at, keep_small, push}
 use Rattle.session_meaning.specs.Runs.{DoesInStore, Edges, HasAnswered, HasIngested, HasRun, IsRunOf, Outcome, TellsAll}
-use Rattle.session_meaning.proofs.FaultLaws.{both_none, rose_none, session_counts}
+use Rattle.session_meaning.proofs.FaultLaws.{rose_none, session_counts}
 
 -- ---- one line
 

@@ -2,7 +2,7 @@
 use Rattle.std.proofs.Common.{◌≡◌, ℕ, ◌+◌, ◌<◌, List, [], arith, length, sym, ◌∙◌, subst}
 use Rattle.span_types.specs.declared.ids.TraceId.{TraceId}
 use Rattle.span_types.specs.declared.spans.Row.{Row}
-use Rattle.span_types.specs.First.{IsFirstOf, first_at}
+use Rattle.span_types.specs.First.{IsFirstOf}
 use Rattle.span_types.proofs.FirstLaws.{first_at-firsts, firsts_alike}
 use Rattle.rows_by_trace.specs.Traces.{rows_of_trace}
 use Rattle.rows_by_trace.proofs.TraceLaws.{trace_of_firsts}
