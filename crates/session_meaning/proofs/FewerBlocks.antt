@@ -1,6 +1,5 @@
 -- A compaction that joins blocks leaves fewer.
 use Rattle.std.proofs.Common.{◌≡◌, ◌⊎◌, inl, inr, ℕ, ◌+◌, ◌-◌, ◌≤◌, zero, suc, Bool, true, false, not, List, [], ◌∷◌, ◌++◌, length, length-append, refl, sym, ◌∙◌, ap, subst, arith, if◌then◌else◌}
-use Rattle.span_types.specs.declared.spans.Row.{Row}
 use Rattle.store_model.specs.After.{after_begin_compact, chosen_job, job_files}
 use Rattle.store_model.specs.Choice.{begun_with, choice, chosen_at, chosen_from, fits, joined, most_rows, or_else, outside_files}
 use Rattle.store_model.specs.Sound.{times}

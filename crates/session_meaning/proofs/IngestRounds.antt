@@ -1,9 +1,8 @@
 -- Compactions that join blocks come to an end.
-use Rattle.std.proofs.Common.{◌≡◌, ◌⊎◌, inl, inr, ◌∙◌, ℕ, ◌+◌, ◌<◌, ◌≤◌, Bool, true, false, List, [], ◌∷◌, Ok, length, refl, sym, ap, subst, arith}
+use Rattle.std.proofs.Common.{◌≡◌, ◌⊎◌, inl, inr, ◌∙◌, ◌+◌, ◌<◌, ◌≤◌, Bool, true, List, [], ◌∷◌, Ok, length, refl, sym, ap, subst, arith}
 use Rattle.session_text.specs.declared.reply.Reply.{Reply}
 use Rattle.session_text.specs.declared.request.Request.TheVariants.{Compact}
 use Rattle.session_text.specs.Items.{Item}
-use Rattle.store_state.specs.declared.rounds.Refusal.{Refusal}
 use Rattle.store_state.specs.declared.rounds.Round.{Round}
 use Rattle.store_state.specs.declared.rounds.Round.TheVariants as round
 use Rattle.client_run.specs.Answers.{compact_reply}

@@ -7,7 +7,7 @@ use Rattle.compactor.specs.Rounds.{IsCompactRound, Leads as CompactLeads, Stage 
 use Rattle.compactor.specs.Rounds.{Leads as joins, Stage as joining}
 use Rattle.flusher.specs.Rounds.{IsFlushRound, Leads, Stage}
 use Rattle.flusher.specs.Rounds.{Leads as leads, Stage as stage}
-use Rattle.query_fanout.specs.BlockReads.{AreRead, ComesOf, IsRead, Stops, StopsAt, StopsWithin, page_reads}
+use Rattle.query_fanout.specs.BlockReads.{AreRead, ComesOf, Stops, StopsAt, page_reads}
 use Rattle.query_fanout.specs.Queries.{IsAsked, all_rows}
 use Rattle.query_fanout.specs.declared.error.QueryError.{QueryError}
 use Rattle.query_fanout.specs.declared.error.QueryError.TheVariants as error
