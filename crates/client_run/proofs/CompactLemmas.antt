@@ -8,7 +8,7 @@ use Rattle.compactor.specs.Tasks.{Answers, FindsBlocks, Fits, Known, OneEvent, S
 use Rattle.compactor.specs.Tasks.Task.{Fresh, Reading, Writing, Failing, Ended}
 use Rattle.store_model.specs.Event.{Event as event, Reply as reply}
 use Rattle.store_model.specs.Holds.{Hold, holds_after}
-use Rattle.store_state.specs.Given.{flush_of, info_files}
+use Rattle.store_state.specs.Given.{flush_of, info_files, flush_parts, compact_parts}
 use Rattle.store_state.specs.Made.{Call, call}
 use Rattle.store_state.specs.Meaning.{Meaning, IsOpen}
 use Rattle.store_state.specs.Replies.{write_refusal}
@@ -66,28 +66,28 @@ given_up s number why c of = record { looks = of.looks; flushes = of.flushes; fi
 
 is_of : (s : Stage) (c : Call) (calls : List Call) (r : Round) → Leads s (c ∷ calls) r → IsOf s c
 is_of s c calls r lead.nothing = record {
-  looks = (λ pin files as_of rows. refl, refl);
-  flushes = λ number file rows. refl;
+  looks = (λ look. refl, refl);
+  flushes = λ job. refl;
   files = λ file apart before after is. is;
 }
 is_of s c calls r (lead.no_job why) = record {
-  looks = (λ pin files as_of rows. refl, refl);
-  flushes = λ number file rows. refl;
+  looks = (λ look. refl, refl);
+  flushes = λ job. refl;
   files = λ file apart before after is. is;
 }
 is_of s c calls r (lead.begun job h) = record {
-  looks = (λ pin files as_of rows. refl, refl);
-  flushes = λ number file rows. refl;
+  looks = (λ look. refl, refl);
+  flushes = λ job. refl;
   files = λ file apart before after is. is;
 }
 is_of s c calls r (lead.read job parts info infos pages bytes page more h) = record {
-  looks = (λ pin files as_of rows. refl, refl);
-  flushes = λ number file rows. refl;
+  looks = (λ look. refl, refl);
+  flushes = λ job. refl;
   files = λ file apart before after is. is;
 }
 is_of s c calls r (lead.unread job parts info infos pages bytes more h) = record {
-  looks = (λ pin files as_of rows. refl, refl);
-  flushes = λ number file rows. refl;
+  looks = (λ look. refl, refl);
+  flushes = λ job. refl;
   files = λ file apart before after is. is;
 }
 is_of s c calls r (lead.block job parts info infos pages bytes rows all is h) =
@@ -101,28 +101,28 @@ is_of s c calls r (lead.built job parts pages pages_read bytes info is h) =
     let inner = is_of (stage.Writing job bytes info.rows) c calls r h in
     record { looks = inner.looks; flushes = inner.flushes; files = inner.files }
 is_of s c calls r (lead.written job bytes size some h) = record {
-  looks = (λ pin files as_of rows. refl, refl);
-  flushes = λ number file rows. refl;
+  looks = (λ look. refl, refl);
+  flushes = λ job. refl;
   files = λ file apart. written_apart job.number job.file file (take 65536 bytes) apart;
 }
 is_of s c calls r (lead.unwritten job bytes size why some h) = record {
-  looks = (λ pin files as_of rows. refl, refl);
-  flushes = λ number file rows. refl;
+  looks = (λ look. refl, refl);
+  flushes = λ job. refl;
   files = λ file apart. refused_apart job.number job.file file (take 65536 bytes) why apart;
 }
 is_of s c calls r (lead.listed job size) = record {
-  looks = (λ pin files as_of rows. refl, refl);
-  flushes = λ number file rows. refl;
+  looks = (λ look. refl, refl);
+  flushes = λ job. refl;
   files = λ file apart before after is. is;
 }
 is_of s c calls r (lead.unlisted job size why) = record {
-  looks = (λ pin files as_of rows. refl, refl);
-  flushes = λ number file rows. refl;
+  looks = (λ look. refl, refl);
+  flushes = λ job. refl;
   files = λ file apart before after is. is;
 }
 is_of s c calls r (lead.dropped number why) = record {
-  looks = (λ pin files as_of rows. refl, refl);
-  flushes = λ number file rows. refl;
+  looks = (λ look. refl, refl);
+  flushes = λ job. refl;
   files = λ file apart before after is. is;
 }
 
@@ -132,10 +132,10 @@ apart : {P : Type 0} (meaning : Meaning P) (port : P) → HaveOwnFiles meaning p
 apart meaning port own Fresh fits job is_open = tt
 apart meaning port own (Reading j parts pages bytes) fits job is_open =
     other_first job.out.file j.out.file (info_files j.pin.blocks)
-    (own job.out.number job.out.file job.rows j.out.number j.out.file j.level j.pin.number (info_files j.pin.blocks) is_open fits.is_open)
+    (own (flush_parts job) (compact_parts j) is_open fits.is_open)
 apart meaning port own (Writing j bytes info) fits job is_open =
     other_first job.out.file j.out.file (info_files j.pin.blocks)
-    (own job.out.number job.out.file job.rows j.out.number j.out.file j.level j.pin.number (info_files j.pin.blocks) is_open fits.is_open)
+    (own (flush_parts job) (compact_parts j) is_open fits.is_open)
 apart meaning port own (Failing j why) fits job is_open = tt
 apart meaning port own (Ended r) fits job is_open = tt
 

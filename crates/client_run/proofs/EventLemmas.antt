@@ -7,7 +7,7 @@ use Rattle.span_types.specs.declared.spans.Row.{Row}
 use Rattle.store_model.specs.Event.{Event as event, Reply as reply, Refusal as refusal}
 use Rattle.store_model.specs.Holds.{Hold, ends}
 use Rattle.store_model.specs.State.{is_among}
-use Rattle.store_state.specs.Given.{IsPinOf, info_files, look_of}
+use Rattle.store_state.specs.Given.{IsPinOf, info_files, look_of, look_parts}
 use Rattle.store_state.specs.Given.IsPinOf.{OfLook}
 use Rattle.store_state.specs.Meaning.{Meaning, Called, IsOpen}
 use Rattle.store_state.specs.Replies.{count_reply, push_reply, reclaim_reply}
@@ -69,53 +69,53 @@ pub has_pushed : {P : Type 0} (meaning : Meaning P) (old new : P) (batch copy : 
 has_pushed meaning old new batch copy moment answer same called looks tasks ready =
     one_call meaning old new (event.Push batch.spans moment) (push_reply answer) looks looks tasks (Push batch moment) (Pushed answer) ready tt
     (subst (λ (b : BatchParts). Called meaning old (event.Push b.spans moment) (push_reply answer) new) same called)
-    (record { flush = λ number file rows. refl; compaction = λ number file level pin files. refl; files = λ file before after h. h }) ((answer, refl, refl), refl)
+    (record { flush = λ job. refl; compaction = λ job. refl; files = λ file before after h. h }) ((answer, refl, refl), refl)
     (sym (same_looks (event.Push batch.spans moment) (push_reply answer) looks (λ hold. refl) (none_taken answer)))
 
 pub has_cut : {P : Type 0} (meaning : Meaning P) (old new : P) (moment : ℕ) (answer : Result ℕ Memory) → Called meaning old (event.Cut moment) (count_reply answer) new
     → (looks : Looks) (tasks : Tasks) → IsReady meaning old looks tasks → HasAnswered meaning old looks tasks (Cut moment) (told.Cut answer) new looks tasks
 has_cut meaning old new moment answer called looks tasks ready =
     one_call meaning old new (event.Cut moment) (count_reply answer) looks looks tasks (Cut moment) (told.Cut answer) ready tt called
-    (record { flush = λ number file rows. refl; compaction = λ number file level pin files. refl; files = λ file before after h. h }) ((answer, refl, refl), refl)
+    (record { flush = λ job. refl; compaction = λ job. refl; files = λ file before after h. h }) ((answer, refl, refl), refl)
     (sym (same_looks (event.Cut moment) (count_reply answer) looks (λ hold. refl) (none_counted answer)))
 
 pub has_cut_all : {P : Type 0} (meaning : Meaning P) (old new : P) (answer : Result ℕ Memory) → Called meaning old event.CutAll (count_reply answer) new
     → (looks : Looks) (tasks : Tasks) → IsReady meaning old looks tasks → HasAnswered meaning old looks tasks CutAll (told.CutAll answer) new looks tasks
 has_cut_all meaning old new answer called looks tasks ready =
     one_call meaning old new event.CutAll (count_reply answer) looks looks tasks CutAll (told.CutAll answer) ready tt called
-    (record { flush = λ number file rows. refl; compaction = λ number file level pin files. refl; files = λ file before after h. h }) ((answer, refl, refl), refl)
+    (record { flush = λ job. refl; compaction = λ job. refl; files = λ file before after h. h }) ((answer, refl, refl), refl)
     (sym (same_looks event.CutAll (count_reply answer) looks (λ hold. refl) (none_counted answer)))
 
 pub has_reclaimed : {P : Type 0} (meaning : Meaning P) (old new : P) (answer : Result ℕ ReclaimError) → Called meaning old event.Reclaim (reclaim_reply answer) new
     → (looks : Looks) (tasks : Tasks) → IsReady meaning old looks tasks → HasAnswered meaning old looks tasks Reclaim (Reclaimed answer) new looks tasks
 has_reclaimed meaning old new answer called looks tasks ready =
     one_call meaning old new event.Reclaim (reclaim_reply answer) looks looks tasks Reclaim (Reclaimed answer) ready tt called
-    (record { flush = λ number file rows. refl; compaction = λ number file level pin files. refl; files = λ file before after h. h }) ((answer, refl, refl), refl)
+    (record { flush = λ job. refl; compaction = λ job. refl; files = λ file before after h. h }) ((answer, refl, refl), refl)
     (sym (same_looks event.Reclaim (reclaim_reply answer) looks (λ hold. refl) (none_reclaimed answer)))
 
 pub has_not_looked : {P : Type 0} (meaning : Meaning P) (old new : P) (e : Memory) (looks : Looks) (tasks : Tasks) → IsReady meaning old looks tasks
     → Called meaning old event.Look (reply.Refused refusal.Memory) new → HasAnswered meaning old looks tasks Look (Looked (Err e)) new looks tasks
 has_not_looked meaning old new e looks tasks ready called =
     one_call meaning old new event.Look (reply.Refused refusal.Memory) looks looks tasks Look (Looked (Err e)) ready tt called
-    (record { flush = λ number file rows. refl; compaction = λ number file level pin files. refl; files = λ file before after h. h }) ((Err e, refl, refl), refl)
+    (record { flush = λ job. refl; compaction = λ job. refl; files = λ file before after h. h }) ((Err e, refl, refl), refl)
     (sym (same_looks event.Look (reply.Refused refusal.Memory) looks (λ hold. refl) refl))
 
 pub has_looked : {P : Type 0} (meaning : Meaning P) (old new : P) (look : Given) (rows : List Row) (looks later : Looks) (tasks : Tasks) → IsReady meaning old looks tasks
-    → Called meaning old event.Look (reply.Looked look.pin.number (info_files look.pin.blocks) look.as_of look.rows) new → rows ≡ look.rows
+    → Called meaning old event.Look (reply.Looked (look_parts look)) new → rows ≡ look.rows
     → later ≡ looks ++ Some (look_of look) ∷ []
     → HasAnswered meaning old looks tasks Look (Looked (Ok (record { as_of = look.as_of; rows = rows }))) new later tasks
 has_looked meaning old new look rows looks later tasks ready called same left =
     subst (λ (rs : List Row). HasAnswered meaning old looks tasks Look (Looked (Ok (record { as_of = look.as_of; rows = rs }))) new later tasks) (sym same)
-    (one_call meaning old new event.Look (reply.Looked look.pin.number (info_files look.pin.blocks) look.as_of look.rows) looks later tasks Look
+    (one_call meaning old new event.Look (reply.Looked (look_parts look)) looks later tasks Look
     (Looked (Ok (record { as_of = look.as_of; rows = look.rows }))) ready tt called
-    (record { flush = λ number file rows. refl; compaction = λ number file level pin files. refl; files = λ file before after h. h })
-    ((Ok (record { as_of = look.as_of; rows = look.rows }), refl, (look.pin.number, info_files look.pin.blocks, refl)), refl)
+    (record { flush = λ job. refl; compaction = λ job. refl; files = λ file before after h. h })
+    ((Ok (record { as_of = look.as_of; rows = look.rows }), refl, (look_parts look, refl, refl, refl)), refl)
     (left ∙ ap (λ (ls : Looks). ls ++ Some (look_of look) ∷ [])
-    (sym (none_ended event.Look (reply.Looked look.pin.number (info_files look.pin.blocks) look.as_of look.rows) looks (λ hold. refl)))))
+    (sym (none_ended event.Look (reply.Looked (look_parts look)) looks (λ hold. refl)))))
 
 -- a look that was taken, and of which the reply wasn't told
 pub looked_untold : {P : Type 0} (meaning : Meaning P) (old new : P) (look : Given) (looks : Looks) (tasks : Tasks) → IsReady meaning old looks tasks
-    → Called meaning old event.Look (reply.Looked look.pin.number (info_files look.pin.blocks) look.as_of look.rows) new
+    → Called meaning old event.Look (reply.Looked (look_parts look)) new
     → MayHaveAnswered meaning old looks tasks Look new
 looked_untold meaning old new look looks tasks ready called = inr (
   Looked (Ok (record { as_of = look.as_of; rows = look.rows })),
@@ -148,7 +148,7 @@ pub has_ended : {P : Type 0} (meaning : Meaning P) (old new : P) (number : ℕ) 
     → HasAnswered meaning old looks tasks (Done number) Ended new later tasks
 has_ended meaning old new number look looks later tasks ready some called left =
     one_call meaning old new (event.Done look.pin.number) reply.Fine looks later tasks (Done number) Ended ready tt called
-    (record { flush = λ number file rows. refl; compaction = λ number file level pin files. refl; files = λ file before after h. h })
+    (record { flush = λ job. refl; compaction = λ job. refl; files = λ file before after h. h })
     (subst (λ (l : Option Hold). IsEndAnswered l Ended (call (event.Done look.pin.number) reply.Fine ∷ [])) (sym some) (refl, refl), refl)
     (left ∙ sym (append-nil (map (unless_ended (call (event.Done look.pin.number) reply.Fine)) looks)))
 
@@ -158,7 +158,7 @@ has_ended meaning old new number look looks later tasks ready some called left =
 pub is_pinned : {P : Type 0} (meaning : Meaning P) (port : P) (number block : ℕ) (look : Given) (looks : Looks) → look_at number looks ≡ Some (look_of look)
     → is_among block (info_files look.pin.blocks) ≡ true → AreOpen meaning port looks → IsPinOf look.pin block (IsOpen meaning port)
 is_pinned meaning port number block look looks some named open_looks =
-    OfLook look.as_of look.rows (open_at meaning port number looks (look_of look) some open_looks) named
+    OfLook (look_parts look) refl refl (open_at meaning port number looks (look_of look) some open_looks) named
 
 not_named : (look : Option Hold) (block page : ℕ) → NamesNo look block → IsPageAnswered look block page Idle []
 not_named None block page other = (refl, refl)
@@ -175,7 +175,7 @@ pub has_paged : {P : Type 0} (meaning : Meaning P) (old new : P) (number block p
     → (tasks : Tasks) → IsReady meaning old looks tasks → HasAnswered meaning old looks tasks (Page number block page) (Paged answer) new looks tasks
 has_paged meaning old new number block page look looks answer some named called tasks ready =
     one_call meaning old new (event.ReadPage look.pin.number block page) (page_reply answer) looks looks tasks (Page number block page) (Paged answer) ready tt called
-    (record { flush = λ number file rows. refl; compaction = λ number file level pin files. refl; files = λ file before after h. h }) (
+    (record { flush = λ job. refl; compaction = λ job. refl; files = λ file before after h. h }) (
       subst (λ (l : Option Hold). IsPageAnswered l block page (Paged answer) (call (event.ReadPage look.pin.number block page) (page_reply answer) ∷ [])) (sym some)
           (subst (λ (b : Bool). IsPageOf b look.pin.number block page (Paged answer) (call (event.ReadPage look.pin.number block page) (page_reply answer) ∷ [])) (sym named)
           (answer, refl, refl)),

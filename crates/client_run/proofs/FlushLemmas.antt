@@ -10,7 +10,7 @@ use Rattle.flusher.specs.Tasks.Task.{Fresh, Begun, Writing, Failing, Ended}
 use Rattle.store_model.specs.Event.{Event as event, Reply as reply}
 use Rattle.store_model.specs.Holds.{Hold, files_of, holds_after}
 use Rattle.store_model.specs.State.{is_among}
-use Rattle.store_state.specs.Given.{compact_of, info_files}
+use Rattle.store_state.specs.Given.{compact_of, info_files, flush_parts, compact_parts}
 use Rattle.store_state.specs.Made.{Call, call}
 use Rattle.store_state.specs.Meaning.{Meaning, IsOpen}
 use Rattle.store_state.specs.Replies.{write_refusal}
@@ -60,51 +60,51 @@ record IsOf (s : Stage) (c : Call) : Type 0 where
 
 is_of : (s : Stage) (c : Call) (calls : List Call) (r : Round) → Leads s (c ∷ calls) r → IsOf s c
 is_of s c calls r lead.nothing = record {
-  looks = (λ pin files as_of rows. refl, refl);
-  compactions = λ number file level pin files. refl;
+  looks = (λ look. refl, refl);
+  compactions = λ job. refl;
   files = λ file apart before after is. is;
 }
 is_of s c calls r (lead.no_job why) = record {
-  looks = (λ pin files as_of rows. refl, refl);
-  compactions = λ number file level pin files. refl;
+  looks = (λ look. refl, refl);
+  compactions = λ job. refl;
   files = λ file apart before after is. is;
 }
 is_of s c calls r (lead.job number file rows h) = record {
-  looks = (λ pin files as_of rows. refl, refl);
-  compactions = λ number file level pin files. refl;
+  looks = (λ look. refl, refl);
+  compactions = λ job. refl;
   files = λ file apart before after is. is;
 }
 is_of s c calls r (lead.starved number file rows) = record {
-  looks = (λ pin files as_of rows. refl, refl);
-  compactions = λ number file level pin files. refl;
+  looks = (λ look. refl, refl);
+  compactions = λ job. refl;
   files = λ file apart before after is. is;
 }
 is_of s c calls r (lead.built number file rows bytes info is h) =
     let inner = is_of (stage.Writing number file bytes info.rows) c calls r h in
     record { looks = inner.looks; compactions = inner.compactions; files = inner.files }
 is_of s c calls r (lead.written number own bytes size some h) = record {
-  looks = (λ pin files as_of rows. refl, refl);
-  compactions = λ number file level pin files. refl;
+  looks = (λ look. refl, refl);
+  compactions = λ job. refl;
   files = λ file apart. written_apart number own file (take 65536 bytes) apart;
 }
 is_of s c calls r (lead.unwritten number own bytes size why some h) = record {
-  looks = (λ pin files as_of rows. refl, refl);
-  compactions = λ number file level pin files. refl;
+  looks = (λ look. refl, refl);
+  compactions = λ job. refl;
   files = λ file apart. refused_apart number own file (take 65536 bytes) why apart;
 }
 is_of s c calls r (lead.listed number file size) = record {
-  looks = (λ pin files as_of rows. refl, refl);
-  compactions = λ number file level pin files. refl;
+  looks = (λ look. refl, refl);
+  compactions = λ job. refl;
   files = λ file apart before after is. is;
 }
 is_of s c calls r (lead.unlisted number file size why) = record {
-  looks = (λ pin files as_of rows. refl, refl);
-  compactions = λ number file level pin files. refl;
+  looks = (λ look. refl, refl);
+  compactions = λ job. refl;
   files = λ file apart before after is. is;
 }
 is_of s c calls r (lead.dropped number why) = record {
-  looks = (λ pin files as_of rows. refl, refl);
-  compactions = λ number file level pin files. refl;
+  looks = (λ look. refl, refl);
+  compactions = λ job. refl;
   files = λ file apart before after is. is;
 }
 
@@ -139,10 +139,10 @@ apart : {P : Type 0} (meaning : Meaning P) (port : P) → HaveOwnFiles meaning p
 apart meaning port own Fresh fits job is_open file among = tt
 apart meaning port own (Begun j) fits job is_open file among =
     other_among j.out.file file (files_of (compact_of job))
-    (own j.out.number j.out.file j.rows job.out.number job.out.file job.level job.pin.number (info_files job.pin.blocks) fits.is_open is_open) among
+    (own (flush_parts j) (compact_parts job) fits.is_open is_open) among
 apart meaning port own (Writing j bytes info) fits job is_open file among =
     other_among j.out.file file (files_of (compact_of job))
-    (own j.out.number j.out.file j.rows job.out.number job.out.file job.level job.pin.number (info_files job.pin.blocks) fits.is_open is_open) among
+    (own (flush_parts j) (compact_parts job) fits.is_open is_open) among
 apart meaning port own (Failing j why) fits job is_open file among = tt
 apart meaning port own (Ended r) fits job is_open file among = tt
 

@@ -11,12 +11,12 @@ use Rattle.flusher.specs.Tasks as flush
 use Rattle.flusher.specs.Tasks.{Task as flushing}
 use Rattle.span_types.specs.declared.spans.Row.{Row}
 use Rattle.store_model.proofs.Numbers.{equal_itself}
-use Rattle.store_model.specs.Event.{Event as event, Reply as reply}
+use Rattle.store_model.specs.Event.{Event as event, Reply as reply, FlushParts, CompactParts}
 use Rattle.store_model.specs.Holds.{Hold, ends, files_of, holds_after}
 use Rattle.store_model.specs.Holds.Hold.{OpenCompact, OpenFlush}
 use Rattle.store_model.specs.State.{is_among}
 use Rattle.store_state.proofs.HoldLaws.{stays_open}
-use Rattle.store_state.specs.Given.{compact_of, flush_of, info_files}
+use Rattle.store_state.specs.Given.{compact_of, flush_of, info_files, flush_parts, compact_parts}
 use Rattle.store_state.specs.Meaning.{Meaning, Called, IsOpen, Rewritten}
 use Rattle.store_state.specs.declared.jobs.CompactJob.{CompactJob}
 use Rattle.store_state.specs.declared.jobs.FlushJob.{FlushJob}
@@ -29,10 +29,10 @@ abbrev pub Untouched : event → reply → ℕ → Type 0
 Untouched e r file = (before after : List ℕ) → Rewritten e r file before after → after ≡ before
 
 abbrev pub EndsNoFlush : event → reply → Type 0
-EndsNoFlush e r = (number file : ℕ) (rows : List Row) → ends e r (OpenFlush number file rows) ≡ false
+EndsNoFlush e r = (job : FlushParts) → ends e r (OpenFlush job) ≡ false
 
 abbrev pub EndsNoCompaction : event → reply → Type 0
-EndsNoCompaction e r = (number file level pin : ℕ) (files : List ℕ) → ends e r (OpenCompact number file level pin files) ≡ false
+EndsNoCompaction e r = (job : CompactParts) → ends e r (OpenCompact job) ≡ false
 
 -- the call writes nothing to a file of an open compaction
 abbrev pub LeavesBlocks : {P : Type 0} → Meaning P → P → event → reply → Type 0
@@ -54,28 +54,28 @@ pub flush_stays : {P : Type 0} (meaning : Meaning P) (old new : P) (e : event) (
     → ((held : List Hold) × meaning.holds old held) → flush.Fits meaning task old → flush.Fits meaning task new
 flush_stays meaning old new e r flushing.Fresh called none same holds fits = (holds_after e r holds.0, called.holds holds.0 holds.1)
 flush_stays meaning old new e r (flushing.Begun job) called none same holds fits = record {
-  is_open = stays_open meaning old new e r (flush_of job) called fits.is_open (none job.out.number job.out.file job.rows);
+  is_open = stays_open meaning old new e r (flush_of job) called fits.is_open (none (flush_parts job));
   at_start = fits.at_start;
   some = fits.some;
   few = fits.few;
   empty = λ tells.
-      same_file meaning old new e r (flush_of job) job.out.file called (none job.out.number job.out.file job.rows) (same job fits.is_open) fits.is_open
+      same_file meaning old new e r (flush_of job) job.out.file called (none (flush_parts job)) (same job fits.is_open) fits.is_open
       (among_itself job.out.file []) tells
       ∙ fits.empty (subst IsTrue called.telling tells);
 }
 flush_stays meaning old new e r (flushing.Writing job bytes info) called none same holds fits = record {
-  is_open = stays_open meaning old new e r (flush_of job) called fits.is_open (none job.out.number job.out.file job.rows);
+  is_open = stays_open meaning old new e r (flush_of job) called fits.is_open (none (flush_parts job));
   some = fits.some;
   few = fits.few;
   block = fits.block;
   within = fits.within;
   so_far = λ tells.
-      same_file meaning old new e r (flush_of job) job.out.file called (none job.out.number job.out.file job.rows) (same job fits.is_open) fits.is_open
+      same_file meaning old new e r (flush_of job) job.out.file called (none (flush_parts job)) (same job fits.is_open) fits.is_open
       (among_itself job.out.file []) tells
       ∙ fits.so_far (subst IsTrue called.telling tells);
 }
 flush_stays meaning old new e r (flushing.Failing job why) called none same holds fits =
-    stays_open meaning old new e r (flush_of job) called fits (none job.out.number job.out.file job.rows)
+    stays_open meaning old new e r (flush_of job) called fits (none (flush_parts job))
 flush_stays meaning old new e r (flushing.Ended round) called none same holds fits = fits
 
 -- ---- a compaction
@@ -93,7 +93,7 @@ pub compaction_stays : {P : Type 0} (meaning : Meaning P) (old new : P) (e : eve
     → LeavesBlocks meaning old e r → ((held : List Hold) × meaning.holds old held) → compaction.Fits meaning task old → compaction.Fits meaning task new
 compaction_stays meaning old new e r compacting.Fresh called none same holds fits = (holds_after e r holds.0, called.holds holds.0 holds.1)
 compaction_stays meaning old new e r (compacting.Reading job parts pages bytes) called none same holds fits =
-    let ends_not = none job.out.number job.out.file job.level job.pin.number (info_files job.pin.blocks) in
+    let ends_not = none (compact_parts job) in
     record {
       is_open = stays_open meaning old new e r (compact_of job) called fits.is_open ends_not;
       at_start = fits.at_start;
@@ -107,7 +107,7 @@ compaction_stays meaning old new e r (compacting.Reading job parts pages bytes) 
           (fits.told (subst IsTrue called.telling tells));
     }
 compaction_stays meaning old new e r (compacting.Writing job bytes info) called none same holds fits =
-    let ends_not = none job.out.number job.out.file job.level job.pin.number (info_files job.pin.blocks) in
+    let ends_not = none (compact_parts job) in
     record {
       is_open = stays_open meaning old new e r (compact_of job) called fits.is_open ends_not;
       joins = fits.joins;
@@ -123,7 +123,7 @@ compaction_stays meaning old new e r (compacting.Writing job bytes info) called 
           (fits.told (subst IsTrue called.telling tells));
     }
 compaction_stays meaning old new e r (compacting.Failing job why) called none same holds fits =
-    stays_open meaning old new e r (compact_of job) called fits (none job.out.number job.out.file job.level job.pin.number (info_files job.pin.blocks))
+    stays_open meaning old new e r (compact_of job) called fits (none (compact_parts job))
 compaction_stays meaning old new e r (compacting.Ended round) called none same holds fits = fits
 
 -- A call that isn't the compaction's own changes none of the blocks that it reads.
@@ -131,7 +131,7 @@ pub finds_after : {P : Type 0} (meaning : Meaning P) (old new : P) (e : event) (
     → LeavesBlocks meaning old e r → compaction.Fits meaning task old → compaction.FindsBlocks meaning task old → compaction.FindsBlocks meaning task new
 finds_after meaning old new e r compacting.Fresh called none same fits known = known_after meaning old new e r called known
 finds_after meaning old new e r (compacting.Reading job parts pages bytes) called none same fits are = λ tells.
-    let ends_not = none job.out.number job.out.file job.level job.pin.number (info_files job.pin.blocks) in
+    let ends_not = none (compact_parts job) in
     blocks_told (meaning.shows old) (meaning.shows new) job
     (λ file among. same_file meaning old new e r (compact_of job) file called ends_not (same job fits.is_open file among) fits.is_open among tells)
     (are (subst IsTrue called.telling tells))

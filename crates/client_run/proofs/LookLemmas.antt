@@ -53,13 +53,13 @@ kept meaning old new event reply (Some x ∷ looks) called h =
 
 taken_open : {P : Type 0} (meaning : Meaning P) (old new : P) (event : Event) (reply : Reply) → Called meaning old event reply new
     → ((held : List Hold) × meaning.holds old held) → AreOpen meaning new (taken reply)
-taken_open meaning old new event (Looked pin files as_of rows) called holds =
-    (opens_new meaning old new event (Looked pin files as_of rows) (OpenLook pin files as_of rows) called holds (0, omega arith, refl), tt)
+taken_open meaning old new event (Looked look) called holds =
+    (opens_new meaning old new event (Looked look) (OpenLook look) called holds (0, omega arith, refl), tt)
 taken_open meaning old new event (Count n) called holds = tt
 taken_open meaning old new event Fine called holds = tt
 taken_open meaning old new event Nothing called holds = tt
-taken_open meaning old new event (Flushing number file rows) called holds = tt
-taken_open meaning old new event (Compacting number file level pin files) called holds = tt
+taken_open meaning old new event (Flushing job) called holds = tt
+taken_open meaning old new event (Compacting job) called holds = tt
 taken_open meaning old new event (Page bytes) called holds = tt
 taken_open meaning old new event (Refused why) called holds = tt
 

@@ -2,6 +2,7 @@
 use Rattle.std.proofs.Common.{◌≡◌, ℕ, ◌≤◌, ◌==◌, Bool, true, false, List, [], ◌∷◌, ◌++◌, Option, Some, None, refl, sym, ◌∙◌, ap, subst, arith, if◌then◌else◌}
 use Rattle.std.proofs.lemmas.Option.{same_Some}
 use Rattle.disk_model.specs.declared.disk.Device.{Ghosts}
+use Rattle.store_model.specs.Event.{CompactParts}
 use Rattle.store_model.specs.Holds.{IsOpenCompact}
 use Rattle.store_model.specs.Sound.{StateIsSound, times}
 use Rattle.store_model.specs.State.{Compaction, Flush, Pinned, State, block_files, compaction_files, flush_files, is_among, pinned_blocks, pinned_files}
@@ -71,16 +72,16 @@ neither file own files here there = at (own == file) refl
     at true e = absurd (here e)
     at false e = rw e (later (is_among file files) refl)
 
-apart_in : (m : Machine) (flush : Flush) (file number own level pin : ℕ) (files : List ℕ) → StateIsSound m.state → m.state.flush ≡ Some flush → flush.file ≡ file
-    → IsOpenCompact m number own level pin files → is_among file (own ∷ files) ≡ false
-apart_in m flush file number own level pin files sound is_open its is =
-    subst (λ (f : ℕ). is_among f (own ∷ files) ≡ false) its
-    (neither flush.file own files
+apart_in : (m : Machine) (flush : Flush) (file : ℕ) (mine : CompactParts) → StateIsSound m.state → m.state.flush ≡ Some flush → flush.file ≡ file
+    → IsOpenCompact m mine → is_among file (mine.file ∷ mine.files) ≡ false
+apart_in m flush file mine sound is_open its is =
+    subst (λ (f : ℕ). is_among f (mine.file ∷ mine.files) ≡ false) its
+    (neither flush.file mine.file mine.files
     (λ same. not_own m.state flush is.job sound is_open is.is_open (subst (λ (f : ℕ). (f == flush.file) ≡ true) (sym is.its_file) same))
-    (λ among. not_pinned m.state flush pin files sound is_open is.its_files among))
+    (λ among. not_pinned m.state flush mine.pin mine.files sound is_open is.its_files among))
 
 pub own_files : {D : Type 0} (g : Ghosts D) (core : Core D) → HaveOwnFiles (port_of g) core
-own_files g core number file rows other own level pin files (held, holds, there) (others, shown, here) =
+own_files g core mine other (held, holds, there) (others, shown, here) =
     let flush = holds.open_holds _ there in
     let same = same_flush core.state.jobs.flush holds.machine.state.flush shown.machine.state.flush flush.job holds.shown.has.flush shown.shown.has.flush flush.is_open in
-    apart_in shown.machine same.0 file other own level pin files shown.sound same.1 (same.2 ∙ flush.its_file) (shown.open_holds _ here)
+    apart_in shown.machine same.0 mine.file other shown.sound same.1 (same.2 ∙ flush.its_file) (shown.open_holds _ here)

@@ -49,24 +49,24 @@ apart_append one (Some x ∷ looks) back h k = (h.0, apart_append one looks back
 
 module _ (before faults : ℕ) (m m' : Machine) (event : Event) (agrees : Agrees m) (sound : StateIsSound m.state) where
   new_apart : (reply : Reply) (one : Hold) → Step before faults m event reply m' → OpenIn m one → ApartFrom one (taken reply)
-  new_apart (Looked pin files as_of rows) one step is =
-      (opens_apart before faults m m' event (Looked pin files as_of rows) (OpenLook pin files as_of rows) one sound step (0, omega arith, refl) is, tt)
+  new_apart (Looked look) one step is =
+      (opens_apart before faults m m' event (Looked look) (OpenLook look) one sound step (0, omega arith, refl) is, tt)
   new_apart (Count n) one step is = tt
   new_apart Fine one step is = tt
   new_apart Nothing one step is = tt
-  new_apart (Flushing number file rows) one step is = tt
-  new_apart (Compacting number file level pin files) one step is = tt
+  new_apart (Flushing job) one step is = tt
+  new_apart (Compacting job) one step is = tt
   new_apart (Page bytes) one step is = tt
   new_apart (Refused why) one step is = tt
 
   new_looks : (reply : Reply) → Step before faults m event reply m' → AreLooks m' (taken reply)
-  new_looks (Looked pin files as_of rows) step =
-      (step_opens before faults m m' event (Looked pin files as_of rows) (OpenLook pin files as_of rows) agrees sound step (0, omega arith, refl), tt, tt)
+  new_looks (Looked look) step =
+      (step_opens before faults m m' event (Looked look) (OpenLook look) agrees sound step (0, omega arith, refl), tt, tt)
   new_looks (Count n) step = tt
   new_looks Fine step = tt
   new_looks Nothing step = tt
-  new_looks (Flushing number file rows) step = tt
-  new_looks (Compacting number file level pin files) step = tt
+  new_looks (Flushing job) step = tt
+  new_looks (Compacting job) step = tt
   new_looks (Page bytes) step = tt
   new_looks (Refused why) step = tt
 

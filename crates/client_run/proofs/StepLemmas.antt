@@ -3,12 +3,13 @@ use Rattle.std.proofs.Common.{◌≡◌, ℕ, ◌==◌, List, [], ◌∷◌, ◌
 use Rattle.std.specs.Prelude.{◌||◌}
 use Rattle.std.proofs.lemmas.Bool.{eqb-true}
 use Rattle.span_types.specs.declared.spans.Row.{Row}
+use Rattle.store_model.specs.Event.{LookParts}
 use Rattle.store_model.specs.Event.Event.{WritePiece}
 use Rattle.store_model.specs.Event.Reply.{Fine, Refused}
 use Rattle.store_model.specs.Holds.{Hold, ends}
 use Rattle.store_model.specs.Holds.Hold.{OpenLook}
 use Rattle.store_model.specs.State.{is_among}
-use Rattle.store_state.specs.Given.{info_files, look_of}
+use Rattle.store_state.specs.Given.{info_files, look_of, look_parts}
 use Rattle.store_state.specs.Made.{Call}
 use Rattle.store_state.specs.Replies.{write_refusal}
 use Rattle.store_state.specs.declared.errors.WriteError.{WriteError}
@@ -22,14 +23,14 @@ use Rattle.client_run.proofs.JobLemmas.{Untouched}
 
 -- a call that ends no look and gives none
 abbrev pub LeavesLooks : Call → Type 0
-LeavesLooks c = ((pin : ℕ) (files : List ℕ) (as_of : ℕ) (rows : List Row) → ends c.event c.reply (OpenLook pin files as_of rows) ≡ false) × (taken c.reply ≡ [])
+LeavesLooks c = ((look : LookParts) → ends c.event c.reply (OpenLook look) ≡ false) × (taken c.reply ≡ [])
 
 kept_looks : (c : Call) (items : List (Option Look)) → LeavesLooks c → map (unless_ended c) (looks_of items) ≡ looks_of items
 kept_looks c [] h = refl
 kept_looks c (None ∷ items) h = ap (λ (ls : Looks). None ∷ ls) (kept_looks c items h)
 kept_looks c (Some look ∷ items) h =
     ap (λ (o : Option Hold). o ∷ map (unless_ended c) (looks_of items))
-    (ap (λ (t : Bool). if t then None else Some (look_of look)) (h.0 look.pin.number (info_files look.pin.blocks) look.as_of look.rows))
+    (ap (λ (t : Bool). if t then None else Some (look_of look)) (h.0 (look_parts look)))
     ∙ ap (λ (ls : Looks). Some (look_of look) ∷ ls) (kept_looks c items h)
 
 pub same_looks : (c : Call) (items : List (Option Look)) → LeavesLooks c → after_call c (looks_of items) ≡ looks_of items

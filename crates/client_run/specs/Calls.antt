@@ -22,7 +22,7 @@ unless_ended c (Some hold) = if ends c.event c.reply hold then None else Some ho
 
 -- the look that a reply gives
 abbrev pub taken : Reply → Looks
-taken (Looked pin files as_of rows) = Some (OpenLook pin files as_of rows) ∷ []
+taken (Looked look) = Some (OpenLook look) ∷ []
 taken _ = []
 
 -- The looks after a call: those that it ended are open no more, and one that it gives comes last.

@@ -8,6 +8,7 @@ use Rattle.flusher.specs.Rounds.{Leads as FlushLeads, Stage as FlushStage}
 use Rattle.flusher.specs.Rounds.{Stage as flush}
 use Rattle.span_types.specs.declared.errors.Failed.{Failed}
 use Rattle.span_types.specs.declared.errors.Memory.{Memory}
+use Rattle.store_model.specs.Event.{LookParts}
 use Rattle.store_model.specs.Event.{Event as event, Reply as reply, Refusal as refusal}
 use Rattle.store_model.specs.Holds.{Hold, files_of}
 use Rattle.store_model.specs.Holds.Hold.{OpenLook, OpenFlush, OpenCompact}
@@ -32,13 +33,14 @@ use Rattle.client_run.specs.Calls.{Looks, after_calls, look_at}
 -- A look is taken, and what it sees is told; or there is no memory for it.
 abbrev pub IsLookAnswered : Result Seen Memory → List Call → Type 0
 IsLookAnswered (Ok seen) calls =
-    (pin : ℕ) × (files : List ℕ) × (calls ≡ call event.Look (reply.Looked pin files seen.as_of seen.rows) ∷ [])
+    (look : LookParts) × (look.as_of ≡ seen.as_of) × (look.rows ≡ seen.rows)
+    × (calls ≡ call event.Look (reply.Looked look) ∷ [])
 IsLookAnswered (Err e) calls = calls ≡ call event.Look (reply.Refused refusal.Memory) ∷ []
 
 abbrev pub pin_of : Hold → ℕ
-pin_of (OpenLook pin files as_of rows) = pin
-pin_of (OpenFlush number file rows) = number
-pin_of (OpenCompact number file level pin files) = pin
+pin_of (OpenLook look) = look.pin
+pin_of (OpenFlush job) = job.number
+pin_of (OpenCompact job) = job.pin
 
 -- A look that is open is ended. Where it isn't open nothing is done.
 abbrev pub IsEndAnswered : Option Hold → EventReply → List Call → Type 0

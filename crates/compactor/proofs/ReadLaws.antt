@@ -14,7 +14,7 @@ use Rattle.store_model.specs.Event.Event.{BeginCompact, ReadPage}
 use Rattle.store_model.specs.Event.{Reply as reply}
 use Rattle.store_model.specs.Event.Reply.{Compacting, Page}
 use Rattle.store_model.specs.Event.{Refusal as refusal}
-use Rattle.store_state.specs.Given.{compact_of, info_files}
+use Rattle.store_state.specs.Given.{compact_of, info_files, compact_parts}
 use Rattle.store_state.specs.Made.{Call, call}
 use Rattle.store_state.specs.Meaning.{Meaning, IsOpen, Called}
 use Rattle.store_state.specs.Replies.{begin_compact_reply}
@@ -253,7 +253,7 @@ has_page_more job parts pages info infos left has =
 
 pub begun_event : {P : Type 0} (meaning : Meaning P) (old new : P) (job : CompactJob) → Called meaning old BeginCompact (begin_compact_reply (Ok (Some job))) new → OneEvent meaning Fresh old (Reading job [] 0 []) new
 begun_event meaning old new job called = record {
-  made = call BeginCompact (Compacting job.out.number job.out.file job.level job.pin.number (info_files job.pin.blocks));
+  made = call BeginCompact (Compacting (compact_parts job));
   called = called;
   leads = λ calls round h. begun (job_of job) h;
 }

@@ -8,6 +8,7 @@ use Rattle.block_format.specs.Blocks.{BlockHasInfo}
 use Rattle.block_read.specs.Answers.{made_of}
 use Rattle.block_read.specs.BlockReadings.{listed_at}
 use Rattle.store_model.specs.Event.Event.{BeginCompact, ReadPage, WritePiece, CommitCompact, DropCompact}
+use Rattle.store_model.specs.Event.{CompactParts}
 use Rattle.store_model.specs.Event.{Reply as reply}
 use Rattle.store_model.specs.Event.Reply.{Fine, Compacting, Page}
 use Rattle.store_model.specs.Event.{Refusal as refusal}
@@ -54,6 +55,16 @@ pub record Job : Type 0 where
   pub pin : ℕ
   pub blocks : List InfoParts
 
+-- what is given out of it
+abbrev pub parts_of : Job → CompactParts
+parts_of job = record {
+  number = job.number;
+  file = job.file;
+  level = job.level;
+  pin = job.pin;
+  files = info_files job.blocks;
+}
+
 -- How far a compaction is.
 pub data Stage : Type 0 where
   Fresh : Stage
@@ -72,7 +83,7 @@ pub data Leads : Stage → List Call → Round → Type 0 where
   nothing : Leads Fresh (call BeginCompact reply.Nothing ∷ []) Nothing
   no_job : (why : BeginError) → Leads Fresh (call BeginCompact (reply.Refused (begin_refusal why)) ∷ []) (Refused (begin_cause why))
   begun : {calls : List Call} {round : Round} (job : Job) → Leads (Reading job [] job.blocks 0 []) calls round
-      → Leads Fresh (call BeginCompact (Compacting job.number job.file job.level job.pin (info_files job.blocks)) ∷ calls) round
+      → Leads Fresh (call BeginCompact (Compacting (parts_of job)) ∷ calls) round
   -- the next page of the block is read
   read : {calls : List Call} {round : Round} (job : Job) (parts : List (List Row)) (info : InfoParts) (infos : List InfoParts) (pages : ℕ) (bytes page : List ℕ)
       → pages < pages_of info → Leads (Reading job parts (info ∷ infos) (pages + 1) (bytes ++ page)) calls round

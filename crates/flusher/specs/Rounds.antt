@@ -43,7 +43,7 @@ pub data Leads : Stage → List Call → Round → Type 0 where
   nothing : Leads Fresh (call BeginFlush reply.Nothing ∷ []) Nothing
   no_job : (why : BeginError) → Leads Fresh (call BeginFlush (reply.Refused (begin_refusal why)) ∷ []) (Refused (begin_cause why))
   job : {calls : List Call} {round : Round} (number file : ℕ) (rows : List Row) → Leads (Begun number file rows) calls round
-      → Leads Fresh (call BeginFlush (Flushing number file rows) ∷ calls) round
+      → Leads Fresh (call BeginFlush (Flushing (record { number = number; file = file; rows = rows })) ∷ calls) round
   -- the block is built of the job's rows, or there is no memory for it
   starved : (number file : ℕ) (rows : List Row) → Leads (Begun number file rows) (call (DropFlush number) Fine ∷ []) (Refused Memory)
   built : {calls : List Call} {round : Round} (number file : ℕ) (rows : List Row) (bytes : List ℕ) (info : InfoParts)

@@ -7,7 +7,7 @@ use Rattle.std.proofs.lemmas.List.Elements.{filter-append}
 use Rattle.span_types.specs.declared.ids.Key.{Key}
 use Rattle.span_types.specs.declared.ids.TraceId.{TraceId}
 use Rattle.span_types.specs.declared.spans.Row.{Row}
-use Rattle.span_types.specs.declared.spans.Span.{Span}
+use Rattle.store_entries.specs.declared.entry.Entry.{Entry}
 use Rattle.span_types.specs.First.{IsFirstOf, first_at}
 use Rattle.span_types.proofs.FirstLaws.{first_at-firsts, firsts_alike}
 use Rattle.rows_by_trace.specs.Traces.{is_of_trace, rows_of_trace}
@@ -17,7 +17,7 @@ use Rattle.store_model.specs.Event.{Event as event, Reply as reply, Refusal as c
 use Rattle.store_model.specs.History.{History, count_of, grown, history_rows, up_to}
 use Rattle.store_model.specs.Holds.{Hold}
 use Rattle.store_model.proofs.FirstsExist.{firsts_exist}
-use Rattle.store_state.specs.Given.{info_files, look_of}
+use Rattle.store_state.specs.Given.{look_of, look_parts}
 use Rattle.store_state.specs.Made.{call}
 use Rattle.store_state.specs.Meaning.{Meaning, Called, IsOpen, View}
 use Rattle.store_state.specs.Shown.{ShowsHistory}
@@ -55,7 +55,7 @@ trace_tells_firsts id x n a b same h = record { count = h.count; firsts = trace_
 -- ---- what is asked of an open look
 
 abbrev pub given : Look → reply
-given look = reply.Looked look.pin.number (info_files look.pin.blocks) look.as_of look.rows
+given look = reply.Looked (look_parts look)
 
 -- a look that was just given is open
 pub is_open : {P : Type 0} (meaning : Meaning P) (old new : P) (look : Look) → Called meaning old event.Look (given look) new → ((held : List Hold) × meaning.holds old held)
@@ -116,7 +116,7 @@ sound_map one other (Err why) f h = sound_error one other why h
 whole_history : (h : History) → up_to (count_of h) h ≡ h
 whole_history h =
     let size : length h.entries ≤ h.start + length h.entries - h.start = omega arith in
-    ap (λ (entries : List (List Span)). record { base = h.base; start = h.start; entries = entries }) (take_all (h.start + length h.entries - h.start) h.entries size)
+    ap (λ (entries : List Entry). record { base = h.base; start = h.start; entries = entries }) (take_all (h.start + length h.entries - h.start) h.entries size)
 
 module _ {P A : Type 0} (meaning : Meaning P) (old : P) (tells : ℕ → List Row → A → Type 0) where
   pub not_looked : (new : P) → Called meaning old event.Look (reply.Refused cause.Memory) new → HasAsked meaning old tells (Err Memory) new
@@ -140,9 +140,10 @@ module _ {P A : Type 0} (meaning : Meaning P) (old : P) (tells : ℕ → List Ro
         of_history v later.0 later.2 (shown later.0 later.1) (subst IsTrue (sym looked.telling) told);
   }
     where
-      of_history : (v v' : View) → (others : List (List Span)) × (v'.history ≡ grown v.history others) × (look.as_of ≡ count_of v'.history)
+      of_history : (v v' : View) → (others : List Entry) × (v'.history ≡ grown v.history others) × (look.as_of ≡ count_of (grown v.history others))
           → ShowsHistory (IsTrue (meaning.tells mid)) (meaning.shows mid) look v'.history → IsTrue (meaning.tells mid) → Sound (TellsOf tells v.history) r
-      of_history v v' (others, is, count) shows told =
+      of_history v v' (others, is, tells_length) shows told =
+          let count : look.as_of ≡ count_of v'.history = tells_length ∙ ap count_of (sym is) in
           let alike : AreAlike (all_rows look.rows shows.parts) (history_rows v'.history) =
           λ k. shows.firsts k ∙ ap (λ (n : ℕ). first_at k (history_rows (up_to n v'.history))) count ∙ ap (λ (h : History). first_at k (history_rows h)) (whole_history v'.history) in
           sound_map (λ (x : A). tells look.as_of (all_rows look.rows shows.parts) x) (TellsOf tells v.history) r

@@ -2,8 +2,9 @@
 use Rattle.std.specs.Prelude.{◌≡◌, ◌⊎◌, ℕ, List, [], ◌∷◌, ◌++◌, Result, Ok, Err, IsTrue}
 use Rattle.std.specs.List.{flat_map}
 use Rattle.span_types.specs.declared.spans.Row.{Row}
-use Rattle.span_types.specs.declared.spans.Span.{Span}
 use Rattle.block_info.specs.InfoParts.{InfoParts}
+use Rattle.store_entries.specs.declared.entry.Entry.{Entry}
+use Rattle.store_model.specs.Event.{LookParts}
 use Rattle.store_model.specs.Event.{Event as event, Reply as reply, Refusal as cause}
 use Rattle.store_model.specs.History.{History, count_of, grown, history_rows}
 use Rattle.store_state.specs.Given.{info_files}
@@ -24,8 +25,17 @@ pub record Taken : Type 0 where
   pub as_of : ℕ
   pub rows : List Row
 
+-- what was given out of it
+abbrev pub parts_of : Taken → LookParts
+parts_of look = record {
+  pin = look.pin;
+  files = info_files look.blocks;
+  as_of = look.as_of;
+  rows = look.rows;
+}
+
 abbrev pub look_call : Taken → Call
-look_call look = call event.Look (reply.Looked look.pin (info_files look.blocks) look.as_of look.rows)
+look_call look = call event.Look (reply.Looked (parts_of look))
 
 -- A query takes one look, reads the blocks that it pins, each page at most once, and gives the look back. It tells of the look's rows
 -- and those of its blocks, as of the look's count, or why it can't. Where there is no memory for the look nothing else is done.
@@ -43,9 +53,9 @@ Sound fits (Err Fault) = Unit {0}
 Sound fits (Err (NotBlock file at)) = ⊥
 Sound fits (Err Memory) = Unit {0}
 
--- It is told of the rows of a history, as of its length, before which others may have pushed to this one.
+-- It is told of the rows of a history, as of its length, that others may have made of this one.
 abbrev pub TellsOf : {A : Type 0} → (ℕ → List Row → A → Type 0) → History → A → Type 0
-TellsOf tells h x = (others : List (List Span)) × tells (count_of (grown h others)) (history_rows (grown h others)) x
+TellsOf tells h x = (others : List Entry) × tells (count_of (grown h others)) (history_rows (grown h others)) x
 
 -- A query was asked over a port: these calls are all that it made. Where the port tells its bytes, what it tells is told of each
 -- history that is known, and each block is found to be one.

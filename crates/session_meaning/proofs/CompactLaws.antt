@@ -89,11 +89,11 @@ joined_at number size pin m at m' free begun_is done =
 
 ended_joined : (told : Bool) (before : At) (job : Job) (blocks count : ℕ) (after : At) → (has : HasBegun BeginCompact before job (Did blocks count) after) → OfKind BeginCompact job
     → (told ≡ true → AreCounted after.machine.state.blocks) → Ending job has.begun_at (Did blocks count) after → HasJoined told before.machine blocks count after.machine
-ended_joined told before job blocks count after has (Blocks number file level pin files) tells (Lists size sized done is) =
+ended_joined told before job blocks count after has (Blocks its) tells (Lists size sized done is) =
     let m = before.machine in
-    let same = same_did blocks count (length files) size is in
-    let theirs : files ≡ block_files (choice m.state.blocks) = (same_files number file level pin files _ _ _ _ _ has.happened.2).1 in
-    let now = joined_at number size has.happened.0 m has.begun_at.machine after.machine has.happened.1 has.happened.3 done in record {
+    let same = same_did blocks count (length its.files) size is in
+    let theirs : its.files ≡ block_files (choice m.state.blocks) = (same_files its _ has.happened.2).1 in
+    let now = joined_at its.number size has.happened.0 m has.begun_at.machine after.machine has.happened.1 has.happened.3 done in record {
       some = has.is_free.some;
       all = same.0 ∙ ap length theirs ∙ length-map (choice m.state.blocks) (λ (block : Block). block.file);
       pin = has.happened.0;

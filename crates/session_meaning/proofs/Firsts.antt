@@ -33,7 +33,7 @@ based_count h = omega arith
 pub agrees_based : (rows firsts : List Row) (h : History) → IsFirstOf (history_rows h) firsts → AgreesOn rows h
     → AgreesOn rows (record { base = firsts; start = count_of h; entries = [] })
 agrees_based rows firsts h are is = record {
-  firsts = λ k. is.firsts k ∙ sym (first_at-firsts (history_rows h) firsts are k) ∙ ap (first_at k) (sym (append-nil firsts));
+  firsts = λ k. is.firsts k ∙ sym (first_at-firsts (history_rows h) firsts are k);
   one = is.one;
   below = λ x there. subst (λ (n : ℕ). x.place.number < n) (based_count h) (is.below x there);
 }

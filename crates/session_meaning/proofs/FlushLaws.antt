@@ -5,7 +5,7 @@ use Rattle.span_types.specs.First.{IsFirstOf}
 use Rattle.span_types.specs.declared.spans.Row.{Row}
 use Rattle.store_model.specs.After.{after_begin_flush, after_commit_flush, taken}
 use Rattle.store_model.specs.Choice.{most_rows}
-use Rattle.store_model.specs.Event.{Reply as reply}
+use Rattle.store_model.specs.Event.{Reply as reply, FlushParts}
 use Rattle.store_model.specs.Event.Event.{BeginFlush}
 use Rattle.store_model.specs.Event.Reply.{Fine}
 use Rattle.store_model.specs.History.{count_of}
@@ -53,8 +53,8 @@ same_did a b c d e = (cc, cc)
 some_job : (a b : Flush) → Some a ≡ Some b → a ≡ b
 some_job a b e = cc
 
-same_rows : (a b c d : ℕ) (rs ss : List Row) → reply.Flushing a b rs ≡ reply.Flushing c d ss → rs ≡ ss
-same_rows a b c d rs ss e = cc
+same_rows : (one other : FlushParts) → reply.Flushing one ≡ reply.Flushing other → one.rows ≡ other.rows
+same_rows one other e = let same : one ≡ other = cc in ap (λ (job : FlushParts). job.rows) same
 
 listed_at : (number size : ℕ) (m at m' : Machine) → at ≡ with_state (after_begin_flush m.state) m → IsCommittedFlush number size at Fine m'
     → (rows : List Row) × IsFirstOf (take most_rows m.state.head) rows
@@ -69,13 +69,13 @@ listed_at number size m at m' begun_is done =
 
 ended_listed : (before : At) (job : Job) (blocks count : ℕ) (after : At) → (has : HasBegun BeginFlush before job (Did blocks count) after) → OfKind BeginFlush job
     → Ending job has.begun_at (Did blocks count) after → HasListed before.machine blocks count after.machine
-ended_listed before job blocks count after has (Rows number file rows) (Lists size (firsts, are, counted) done is) =
+ended_listed before job blocks count after has (Rows its) (Lists size (firsts, are, counted) done is) =
     let m = before.machine in
     let same = same_did blocks count 1 size is in
-    let now = listed_at number size m has.begun_at.machine after.machine has.happened.1 done in record {
+    let now = listed_at its.number size m has.begun_at.machine after.machine has.happened.1 done in record {
       some = has.is_free.some;
       firsts = firsts;
-      are_first = subst (λ (rs : List Row). IsFirstOf rs firsts) (same_rows number file _ _ rows _ has.happened.0) are;
+      are_first = subst (λ (rs : List Row). IsFirstOf rs firsts) (same_rows its _ has.happened.0) are;
       counted = same.1 ∙ counted;
       one = same.0;
       rows = now.0;

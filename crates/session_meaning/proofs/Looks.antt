@@ -2,6 +2,7 @@
 use Rattle.std.proofs.Common.{◌≡◌, ℕ, ◌==◌, true, false, not, List, [], ◌∷◌, ◌++◌, refl, ◌∙◌, ap, if◌then◌else◌}
 use Rattle.std.specs.Prelude.{◌||◌}
 use Rattle.span_types.specs.declared.spans.Row.{Row}
+use Rattle.store_model.specs.Event.{LookParts}
 use Rattle.store_model.specs.State.{Block, Pinned, State, IsFreeNumber, is_among, pin_numbers, without_pin}
 use Rattle.store_model.specs.After.{after_done, after_look}
 use Rattle.store_model.specs.Event.Event.{Done, Look}
@@ -39,14 +40,14 @@ look_refused before faults m m' (Unread reads reply rose same) = same
 look_refused before faults m m' (Breaks none writes reply rose same) = let bad : ⊥ = cc in absurd bad
 look_refused before faults m m' (Halts none reclaims writes reply rose emptied fewer same) = let bad : ⊥ = cc in absurd bad
 
-pub look_taken : (before faults : ℕ) (m m' : Machine) (pin : ℕ) (files : List ℕ) (as_of : ℕ) (rows : List Row) →
-    Step before faults m Look (Looked pin files as_of rows) m' → IsLook m (Looked pin files as_of rows) m'
-look_taken before faults m m' pin files as_of rows (Sure told same) = let bad : ⊥ = cc in absurd bad
-look_taken before faults m m' pin files as_of rows (Succeeds none done) = done
-look_taken before faults m m' pin files as_of rows (Lacks none takes reply same) = let bad : ⊥ = cc in absurd bad
-look_taken before faults m m' pin files as_of rows (Unread reads reply rose same) = let bad : ⊥ = cc in absurd bad
-look_taken before faults m m' pin files as_of rows (Breaks none writes reply rose same) = let bad : ⊥ = cc in absurd bad
-look_taken before faults m m' pin files as_of rows (Halts none reclaims writes reply rose emptied fewer same) = let bad : ⊥ = cc in absurd bad
+pub look_taken : (before faults : ℕ) (m m' : Machine) (look : LookParts) →
+    Step before faults m Look (Looked look) m' → IsLook m (Looked look) m'
+look_taken before faults m m' look (Sure told same) = let bad : ⊥ = cc in absurd bad
+look_taken before faults m m' look (Succeeds none done) = done
+look_taken before faults m m' look (Lacks none takes reply same) = let bad : ⊥ = cc in absurd bad
+look_taken before faults m m' look (Unread reads reply rose same) = let bad : ⊥ = cc in absurd bad
+look_taken before faults m m' look (Breaks none writes reply rose same) = let bad : ⊥ = cc in absurd bad
+look_taken before faults m m' look (Halts none reclaims writes reply rose emptied fewer same) = let bad : ⊥ = cc in absurd bad
 
 pub look_ended : (before faults : ℕ) (m m' : Machine) (pin : ℕ) → Step before faults m (Done pin) Fine m' → m' ≡ with_state (after_done pin m.state) m
 look_ended before faults m m' pin (Sure told same) = let bad : ⊥ = cc in absurd bad

@@ -6,15 +6,15 @@ use Rattle.span_types.specs.Faults.{Rose}
 use Rattle.span_types.specs.First.{first_at}
 use Rattle.span_types.specs.declared.ids.Key.{Key}
 use Rattle.span_types.specs.declared.spans.Row.{Row}
-use Rattle.span_types.specs.declared.spans.Span.{Span}
 use Rattle.block_info.specs.InfoParts.{InfoParts}
 use Rattle.query_fanout.specs.BlockReads.{AreRead, ComesOf, IsRead, Stops, StopsAt, StopsWithin, page_reads}
-use Rattle.query_fanout.specs.Queries.{IsAsked, Sound, TellsOf, all_rows}
+use Rattle.query_fanout.specs.Queries.{IsAsked, Sound, TellsOf, all_rows, parts_of}
 use Rattle.query_fanout.specs.declared.error.QueryError.{QueryError}
 use Rattle.query_fanout.specs.declared.error.QueryError.TheVariants as error
+use Rattle.store_entries.specs.declared.entry.Entry.{Entry}
 use Rattle.store_images.specs.Stored.{SameFirsts}
 use Rattle.store_model.specs.After.{after_done}
-use Rattle.store_model.specs.Event.{Reply as reply}
+use Rattle.store_model.specs.Event.{Reply as reply, LookParts}
 use Rattle.store_model.specs.Event.Event.{Done, Look, ReadPage}
 use Rattle.store_model.specs.Event.Reply.{Fine, Page, Refused}
 use Rattle.store_model.specs.Event.Refusal.{Fault, Memory}
@@ -117,8 +117,11 @@ Says tells (Err error.Fault) before after = Rose before.faults after.faults
 Says tells (Err (error.NotBlock file at)) before after = is_among file (block_files before.machine.state.blocks) ≡ true
 Says tells (Err error.Memory) before after = ⊤
 
-looked_same : (p q : ℕ) (fs gs : List ℕ) (a b : ℕ) (rs ss : List Row) → reply.Looked p fs a rs ≡ reply.Looked q gs b ss → (p ≡ q) × (fs ≡ gs) × (a ≡ b) × (rs ≡ ss)
-looked_same p q fs gs a b rs ss e = (cc, cc, cc, cc)
+looked_same : (look other : LookParts) → reply.Looked look ≡ reply.Looked other
+    → (look.pin ≡ other.pin) × (look.files ≡ other.files) × (look.as_of ≡ other.as_of) × (look.rows ≡ other.rows)
+looked_same look other e =
+    let same : look ≡ other = cc in
+    (ap (λ (l : LookParts). l.pin) same, ap (λ (l : LookParts). l.files) same, ap (λ (l : LookParts). l.as_of) same, ap (λ (l : LookParts). l.rows) same)
 
 -- the parts that no block has
 no_infos : (infos : List InfoParts) → info_files infos ≡ [] → infos ≡ []
@@ -165,7 +168,7 @@ asked_says {A} tells r before after calls agrees (inr (look, reads, are, comes))
     m = before.machine
 
     looked : reply
-    looked = reply.Looked look.pin (info_files look.blocks) look.as_of look.rows
+    looked = reply.Looked (parts_of look)
 
     behind : List Call
     behind = call (Done look.pin) Fine ∷ []
@@ -183,10 +186,10 @@ asked_says {A} tells r before after calls agrees (inr (look, reads, are, comes))
     read = comes_still (λ parts x. tells look.as_of (all_rows look.rows parts) x) look.pin look.blocks reads r s.0 p.0 comes p.1
 
     given : IsLook m looked s.0.machine
-    given = look_taken before.faults s.0.faults m s.0.machine look.pin (info_files look.blocks) look.as_of look.rows s.1.1
+    given = look_taken before.faults s.0.faults m s.0.machine (parts_of look) s.1.1
 
     same : (look.pin ≡ given.0) × (info_files look.blocks ≡ block_files m.state.blocks) × (look.as_of ≡ count_of m.history) × (look.rows ≡ given.1)
-    same = looked_same look.pin given.0 (info_files look.blocks) (block_files m.state.blocks) look.as_of (count_of m.history) look.rows given.1 given.4
+    same = looked_same (parts_of look) (record { pin = given.0; files = block_files m.state.blocks; as_of = count_of m.history; rows = given.1 }) given.4
 
     ended : after.machine ≡ with_state (after_done look.pin s.0.machine.state) s.0.machine
     ended = subst (λ (x : Machine). after.machine ≡ with_state (after_done look.pin x.state) x) read.0
@@ -214,12 +217,12 @@ asked_says {A} tells r before after calls agrees (inr (look, reads, are, comes))
 
 -- ---- what is told of the history
 
-none_left : (xs : List (List Span)) → length xs ≡ 0 → xs ≡ []
+none_left : (xs : List Entry) → length xs ≡ 0 → xs ≡ []
 none_left [] none = refl
 none_left (x ∷ xs) none = absurd (let bad : ⊥ = omega (arith, none) in bad)
 
 nothing_grown : (h : History) → grown h [] ≡ h
-nothing_grown h = ap (λ (bs : List (List Span)). record { base = h.base; start = h.start; entries = bs }) (append-nil h.entries)
+nothing_grown h = ap (λ (bs : List Entry). record { base = h.base; start = h.start; entries = bs }) (append-nil h.entries)
 
 -- What is told of a history before which nobody else pushed, since it is told as of its length.
 pub told_exactly : {A : Type 0} (tells : ℕ → List Row → A → Type 0) (as_of : A → ℕ) → ((n : ℕ) (rows : List Row) (x : A) → tells n rows x → as_of x ≡ n)

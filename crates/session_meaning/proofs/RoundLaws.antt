@@ -3,14 +3,15 @@ use Rattle.std.proofs.Common.{◌≡◌, ◌⊎◌, inl, inr, ℕ, ◌≤◌, Li
 use Rattle.std.specs.Prelude.{⊤, true}
 use Rattle.span_types.specs.Faults.{Rose}
 use Rattle.span_types.specs.declared.spans.Row.{Row}
+use Rattle.store_entries.specs.declared.entry.Entry.{Entry}
 use Rattle.store_model.specs.Choice.{choice}
-use Rattle.store_model.specs.Event.{Event as event, Reply as reply, Refusal as why}
+use Rattle.store_model.specs.Event.{Event as event, Reply as reply, Refusal as why, FlushParts, CompactParts}
 use Rattle.store_model.specs.Event.Event.{BeginCompact, BeginFlush, Push, ReadPage, WritePiece}
 use Rattle.store_model.specs.Event.Reply.{Fine}
-use Rattle.store_model.specs.History.{History}
+use Rattle.store_model.specs.History.{History, with_entry}
 use Rattle.store_model.specs.State.{Compaction, Flush, block_files, is_among}
 use Rattle.store_model.specs.Step.{Happens, Machine, Step}
-use Rattle.store_model.specs.Told.{history_after}
+use Rattle.store_model.specs.Told.{history_after, asked_entry}
 use Rattle.store_model.proofs.Chosen.{choice_part, part_within}
 use Rattle.store_model.proofs.Numbers.{among, named}
 use Rattle.store_model.proofs.TellsHistory.{step_tells}
@@ -62,16 +63,16 @@ begin_pushes begins OfFlush = tt
 begin_pushes begins OfCompaction = tt
 
 commit_pushes : (job : Job) (size : ℕ) → PushesNothing (commit_of job size)
-commit_pushes (OfRows number file rows) size = tt
-commit_pushes (OfBlocks number file level pin files) size = tt
+commit_pushes (OfRows job) size = tt
+commit_pushes (OfBlocks job) size = tt
 
 drop_pushes : (job : Job) → PushesNothing (drop_of job)
-drop_pushes (OfRows number file rows) = tt
-drop_pushes (OfBlocks number file level pin files) = tt
+drop_pushes (OfRows job) = tt
+drop_pushes (OfBlocks job) = tt
 
 work_pushes : (job : Job) (e : event) → IsWorkOf job e → PushesNothing e
-work_pushes (OfRows number file rows) (Push spans moment) works = works
-work_pushes (OfBlocks number file level pin files) (Push spans moment) works = works
+work_pushes (OfRows job) (Push spans moment) works = works
+work_pushes (OfBlocks job) (Push spans moment) works = works
 work_pushes job _ works = tt
 
 -- What each of its events carries on a round carries on.
@@ -100,9 +101,14 @@ round_keeps P keeps =
     round_carries (λ at. P at.machine) (λ before after e r none step has. keeps before.faults after.faults before.machine after.machine e r none step.1 has)
     (λ before after still has. subst P (sym still.0) has)
 
+-- an event that pushes nothing is to add no entry
+pub asks_none : (e : event) → PushesNothing e → asked_entry e ≡ None
+asks_none (Push spans moment) none = absurd none
+asks_none _ none = refl
+
 no_push : (e : event) (r : reply) (h : History) → PushesNothing e → history_after e r h ≡ h
-no_push (Push spans moment) r h none = absurd none
-no_push _ r h none = refl
+no_push e (reply.Count n) h none = ap (λ (added : Option Entry). with_entry added h) (asks_none e none)
+no_push e _ h none = refl
 
 -- Each event that pushes nothing keeps the history.
 pub same_history : (h : History) → IsKept (λ m. m.history ≡ h)
@@ -114,8 +120,8 @@ round_history begins is before round after so = round_keeps (λ m. m.history ≡
 -- ---- how a job ends, by the machine that its begin left
 
 abbrev IsJoining : Job → Type 0
-IsJoining (OfRows number file rows) = ⊥
-IsJoining (OfBlocks number file level pin files) = ⊤
+IsJoining (OfRows job) = ⊥
+IsJoining (OfBlocks job) = ⊤
 
 pub data Ending (job : Job) (begun_at : At) (round : Round) (after : At) : Type 0 where
   Lists : (size : ℕ) → IsSized job size → Happens begun_at.machine (commit_of job size) Fine after.machine → round ≡ Did (blocks_of job) size → Ending job begun_at round after
@@ -149,14 +155,14 @@ misread_then job pin block page begun_at made broke after round joins still step
 
 failed_then : (job : Job) (e : event) (begun_at made broke after : At) (round : Round) → Writes begun_at → IsWorkOf job e → IsStill begun_at made
     → IsStep made e (reply.Refused why.Fault) broke → IsStep broke (drop_of job) Fine after → round ≡ Refused Fault → Ending job begun_at round after
-failed_then (OfRows number file rows) (WritePiece its own bytes) begun_at made broke after round writes works still step gone is =
-    broke_then (OfRows number file rows) its own bytes begun_at made broke after round writes still step gone is
-failed_then (OfBlocks number file level pin files) (WritePiece its own bytes) begun_at made broke after round writes works still step gone is =
-    broke_then (OfBlocks number file level pin files) its own bytes begun_at made broke after round writes still step gone is
-failed_then (OfBlocks number file level pin files) (ReadPage its block page) begun_at made broke after round writes works still step gone is =
-    misread_then (OfBlocks number file level pin files) its block page begun_at made broke after round tt still step gone is
-failed_then (OfRows number file rows) _ begun_at made broke after round writes works still step gone is = absurd works
-failed_then (OfBlocks number file level pin files) _ begun_at made broke after round writes works still step gone is = absurd works
+failed_then (OfRows job) (WritePiece its own bytes) begun_at made broke after round writes works still step gone is =
+    broke_then (OfRows job) its own bytes begun_at made broke after round writes still step gone is
+failed_then (OfBlocks job) (WritePiece its own bytes) begun_at made broke after round writes works still step gone is =
+    broke_then (OfBlocks job) its own bytes begun_at made broke after round writes still step gone is
+failed_then (OfBlocks job) (ReadPage its block page) begun_at made broke after round writes works still step gone is =
+    misread_then (OfBlocks job) its block page begun_at made broke after round tt still step gone is
+failed_then (OfRows job) _ begun_at made broke after round writes works still step gone is = absurd works
+failed_then (OfBlocks job) _ begun_at made broke after round writes works still step gone is = absurd works
 
 pub ending : (job : Job) (begun_at : At) (round : Round) (after : At) → Writes begun_at → IsEnded job begun_at round after → Ending job begun_at round after
 ending job begun_at round after writes (ended.listed size written sized still step is) =
@@ -172,14 +178,14 @@ ending job begun_at round after writes (ended.given_up w made for still gone is)
 -- ---- jobs of a kind
 
 pub data OfKind : event → Job → Type 0 where
-  Rows : (number file : ℕ) (rows : List Row) → OfKind BeginFlush (OfRows number file rows)
-  Blocks : (number file level pin : ℕ) (files : List ℕ) → OfKind BeginCompact (OfBlocks number file level pin files)
+  Rows : (job : FlushParts) → OfKind BeginFlush (OfRows job)
+  Blocks : (job : CompactParts) → OfKind BeginCompact (OfBlocks job)
 
 pub kind_of : (begins : event) → IsBegin begins → (m m' : Machine) (job : Job) → Happens m begins (given job) m' → OfKind begins job
-kind_of begins OfFlush m m' (OfRows number file rows) done = Rows number file rows
-kind_of begins OfFlush m m' (OfBlocks number file level pin files) done = let bad : ⊥ = (let is = done.0 in cc) in absurd bad
-kind_of begins OfCompaction m m' (OfRows number file rows) done = let bad : ⊥ = (let is = done.2 in cc) in absurd bad
-kind_of begins OfCompaction m m' (OfBlocks number file level pin files) done = Blocks number file level pin files
+kind_of begins OfFlush m m' (OfRows job) done = Rows job
+kind_of begins OfFlush m m' (OfBlocks job) done = let bad : ⊥ = (let is = done.0 in cc) in absurd bad
+kind_of begins OfCompaction m m' (OfRows job) done = let bad : ⊥ = (let is = done.2 in cc) in absurd bad
+kind_of begins OfCompaction m m' (OfBlocks job) done = Blocks job
 
 -- What a round that begun a job came to.
 pub record HasBegun (begins : event) (before : At) (job : Job) (round : Round) (after : At) : Type 0 where
@@ -219,15 +225,15 @@ other_begun begins OfFlush m m' r done none = ap (λ (n : Machine). n.state.comp
 other_begun begins OfCompaction m m' r done none = ap (λ (n : Machine). n.state.flush) done.3 ∙ none
 
 commit_closes : (begins : event) (job : Job) (size : ℕ) (m m' : Machine) → OfKind begins job → Happens m (commit_of job size) Fine m' → Other begins m → HasNoJob m'
-commit_closes begins job size m m' (Rows number file rows) done none =
+commit_closes begins job size m m' (Rows its) done none =
     record { flush = ap (λ (n : Machine). n.state.flush) done.6; compaction = ap (λ (n : Machine). n.state.compaction) done.6 ∙ none }
-commit_closes begins job size m m' (Blocks number file level pin files) done none =
+commit_closes begins job size m m' (Blocks its) done none =
     record { flush = ap (λ (n : Machine). n.state.flush) done.6 ∙ none; compaction = ap (λ (n : Machine). n.state.compaction) done.6 }
 
 drop_closes : (begins : event) (job : Job) (m m' : Machine) → OfKind begins job → Happens m (drop_of job) Fine m' → Other begins m → HasNoJob m'
-drop_closes begins job m m' (Rows number file rows) done none =
+drop_closes begins job m m' (Rows its) done none =
     record { flush = ap (λ (n : Machine). n.state.flush) done.4; compaction = ap (λ (n : Machine). n.state.compaction) done.4 ∙ none }
-drop_closes begins job m m' (Blocks number file level pin files) done none =
+drop_closes begins job m m' (Blocks its) done none =
     record { flush = ap (λ (n : Machine). n.state.flush) done.4 ∙ none; compaction = ap (λ (n : Machine). n.state.compaction) done.4 }
 
 broken_closed : (n : ℕ) (m' : Machine) → m'.read_only ≡ Some n → IsClosed m'
@@ -289,14 +295,15 @@ begin_caused begins is before after (begin.FilesSpent next) c closed = (c.0, c.1
 begin_caused begins is before after begin.Fault c closed = inl (after.faults, c.1, omega arith, ap (λ (m : Machine). m.read_only) c.2)
 begin_caused begins is before after begin.Memory c closed = tt
 
-pub same_files : (a b c d : ℕ) (fs : List ℕ) (e f g h : ℕ) (gs : List ℕ) → reply.Compacting a b c d fs ≡ reply.Compacting e f g h gs → (d ≡ h) × (fs ≡ gs)
-same_files a b c d fs e f g h gs is = (cc, cc)
+pub same_files : (one other : CompactParts) → reply.Compacting one ≡ reply.Compacting other → (one.pin ≡ other.pin) × (one.files ≡ other.files)
+same_files one other is =
+    let same : one ≡ other = cc in (ap (λ (job : CompactParts). job.pin) same, ap (λ (job : CompactParts). job.files) same)
 
 -- the files of a compaction's job are those of listed blocks
-chosen_listed : (m m' : Machine) (number file level pin : ℕ) (files : List ℕ) → Happens m BeginCompact (given (OfBlocks number file level pin files)) m' → (block : ℕ) → is_among block files ≡ true
+chosen_listed : (m m' : Machine) (job : CompactParts) → Happens m BeginCompact (given (OfBlocks job)) m' → (block : ℕ) → is_among block job.files ≡ true
     → is_among block (block_files m.state.blocks) ≡ true
-chosen_listed m m' number file level pin files done block inside =
-    let theirs : files ≡ block_files (choice m.state.blocks) = (same_files number file level pin files _ _ _ _ _ done.2).1 in
+chosen_listed m m' job done block inside =
+    let theirs : job.files ≡ block_files (choice m.state.blocks) = (same_files job _ done.2).1 in
     let some = named block (block_files (choice m.state.blocks)) (subst (λ (fs : List ℕ). is_among block fs ≡ true) theirs inside) in
     let within = part_within block (choice m.state.blocks) m.state.blocks (choice_part m.state.blocks) in
     among block (block_files m.state.blocks) (omega (arith, some, within))
@@ -304,24 +311,24 @@ chosen_listed m m' number file level pin files done block inside =
 given_up_for : (begins : event) (job : Job) (m m' : Machine) (before after : At) (w : Refusal) → before.machine ≡ m → OfKind begins job → Happens m begins (given job) m' → IsGivenUpFor job w
     → IsRefusedFor begins w before after
 given_up_for begins job m m' before after Memory same kind done for = tt
-given_up_for begins job m m' before after (NotBlock block at) same (Blocks number file level pin files) done for =
-    (refl, subst (λ (n : Machine). is_among block (block_files n.state.blocks) ≡ true) (sym same) (chosen_listed m m' number file level pin files done block for))
-given_up_for begins job m m' before after (NotBlock block at) same (Rows number file rows) done for = absurd for
-given_up_for begins job m m' before after (ReadOnly faults) same (Rows number file rows) done for = absurd for
-given_up_for begins job m m' before after (ReadOnly faults) same (Blocks number file level pin files) done for = absurd for
-given_up_for begins job m m' before after (Busy number) same (Rows n file rows) done for = absurd for
-given_up_for begins job m m' before after (Busy number) same (Blocks n file level pin files) done for = absurd for
-given_up_for begins job m m' before after (FilesSpent next) same (Rows number file rows) done for = absurd for
-given_up_for begins job m m' before after (FilesSpent next) same (Blocks number file level pin files) done for = absurd for
-given_up_for begins job m m' before after Fault same (Rows number file rows) done for = absurd for
-given_up_for begins job m m' before after Fault same (Blocks number file level pin files) done for = absurd for
+given_up_for begins job m m' before after (NotBlock block at) same (Blocks its) done for =
+    (refl, subst (λ (n : Machine). is_among block (block_files n.state.blocks) ≡ true) (sym same) (chosen_listed m m' its done block for))
+given_up_for begins job m m' before after (NotBlock block at) same (Rows its) done for = absurd for
+given_up_for begins job m m' before after (ReadOnly faults) same (Rows its) done for = absurd for
+given_up_for begins job m m' before after (ReadOnly faults) same (Blocks its) done for = absurd for
+given_up_for begins job m m' before after (Busy number) same (Rows its) done for = absurd for
+given_up_for begins job m m' before after (Busy number) same (Blocks its) done for = absurd for
+given_up_for begins job m m' before after (FilesSpent next) same (Rows its) done for = absurd for
+given_up_for begins job m m' before after (FilesSpent next) same (Blocks its) done for = absurd for
+given_up_for begins job m m' before after Fault same (Rows its) done for = absurd for
+given_up_for begins job m m' before after Fault same (Blocks its) done for = absurd for
 
 pub not_did : (w : Refusal) (a b : ℕ) → Did a b ≡ Refused w → ⊥
 not_did w a b e = cc
 
 joins_only : (begins : event) (job : Job) → OfKind begins job → IsJoining job → begins ≡ BeginCompact
-joins_only begins job (Rows number file rows) joins = absurd joins
-joins_only begins job (Blocks number file level pin files) joins = refl
+joins_only begins job (Rows its) joins = absurd joins
+joins_only begins job (Blocks its) joins = refl
 
 job_caused : (begins : event) (before : At) (job : Job) (after : At) (w : Refusal) → (has : HasBegun begins before job (Refused w) after) → Ending job has.begun_at (Refused w) after
     → IsRefusedFor begins w before after

@@ -110,12 +110,12 @@ none_held (Some job) e = let bad : ⊥ = cc in absurd bad
 
 commit_room : (begins : event) (job : Job) (size : ℕ) (m at m' : Machine) → OfKind begins job → open_job begins m.state ≡ None → Happens m begins (given job) at → Happens at (commit_of job size) Fine m'
     → KeepsRoom 2 m m'
-commit_room begins job size m at m' (Rows number file rows) none begun_is done = flush_listed_room number size m at m' begun_is.1 done (none_held m.state.flush none)
-commit_room begins job size m at m' (Blocks number file level pin files) none begun_is done = joined_room number size begun_is.0 m at m' begun_is.3 done
+commit_room begins job size m at m' (Rows its) none begun_is done = flush_listed_room its.number size m at m' begun_is.1 done (none_held m.state.flush none)
+commit_room begins job size m at m' (Blocks its) none begun_is done = joined_room its.number size begun_is.0 m at m' begun_is.3 done
 
 drop_room : (begins : event) (job : Job) (m at m' : Machine) → OfKind begins job → open_job begins m.state ≡ None → Happens m begins (given job) at → Happens at (drop_of job) Fine m' → KeepsRoom 2 m m'
-drop_room begins job m at m' (Rows number file rows) none begun_is done = flush_dropped_room number m at m' begun_is.1 done (none_held m.state.flush none)
-drop_room begins job m at m' (Blocks number file level pin files) none begun_is done = not_joined_room number begun_is.0 m at m' begun_is.3 done
+drop_room begins job m at m' (Rows its) none begun_is done = flush_dropped_room its.number m at m' begun_is.1 done (none_held m.state.flush none)
+drop_room begins job m at m' (Blocks its) none begun_is done = not_joined_room its.number begun_is.0 m at m' begun_is.3 done
 
 begin_without : (begins : event) (is : IsBegin begins) (f g : ℕ) (m m' : Machine) (b : BeginError) → (Rose f g → ⊥) → m.read_only ≡ None → IsClosed m → m.state.next_file < 4294967294
     → BeginCause begins is f g m m' (begin_refusal b) → IsDoneOrStarved (Refused (begin_cause b)) × KeepsRoom 2 m m'
@@ -133,14 +133,14 @@ FoundNone round = (file at : ℕ) × (round ≡ Refused (NotBlock file at))
 given_up_well : (job : Job) (w : Refusal) → IsGivenUpFor job w → (FoundNone (Refused w) → ⊥) → IsDoneOrStarved (Refused w)
 given_up_well job Memory for found = tt
 given_up_well job (NotBlock file at) for found = absurd (found (file, at, refl))
-given_up_well (OfRows number file rows) (ReadOnly faults) for found = absurd for
-given_up_well (OfBlocks number file level pin files) (ReadOnly faults) for found = absurd for
-given_up_well (OfRows number file rows) (Busy n) for found = absurd for
-given_up_well (OfBlocks number file level pin files) (Busy n) for found = absurd for
-given_up_well (OfRows number file rows) (FilesSpent n) for found = absurd for
-given_up_well (OfBlocks number file level pin files) (FilesSpent n) for found = absurd for
-given_up_well (OfRows number file rows) Fault for found = absurd for
-given_up_well (OfBlocks number file level pin files) Fault for found = absurd for
+given_up_well (OfRows job) (ReadOnly faults) for found = absurd for
+given_up_well (OfBlocks job) (ReadOnly faults) for found = absurd for
+given_up_well (OfRows job) (Busy n) for found = absurd for
+given_up_well (OfBlocks job) (Busy n) for found = absurd for
+given_up_well (OfRows job) (FilesSpent n) for found = absurd for
+given_up_well (OfBlocks job) (FilesSpent n) for found = absurd for
+given_up_well (OfRows job) Fault for found = absurd for
+given_up_well (OfBlocks job) Fault for found = absurd for
 
 ended_without : (begins : event) (before : At) (job : Job) (round : Round) (after : At) → (Rose before.faults after.faults → ⊥) → (FoundNone round → ⊥) → (has : HasBegun begins before job round after)
     → Ending job has.begun_at round after → IsDoneOrStarved round × KeepsRoom 2 before.machine after.machine

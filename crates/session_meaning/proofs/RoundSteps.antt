@@ -83,8 +83,8 @@ no_reclaim begin OfCompaction e = cc
 
 -- what a begin answers that succeeds
 abbrev GivesJob : reply → Type 0
-GivesJob (Flushing number file rows) = ⊤
-GivesJob (Compacting number file level pin files) = ⊤
+GivesJob (Flushing job) = ⊤
+GivesJob (Compacting job) = ⊤
 GivesJob _ = ⊥
 
 gives_job : (begin : event) → IsBegin begin → (m m' : Machine) (r : reply) → Happens m begin r m' → GivesJob r
@@ -143,17 +143,17 @@ module _ (begin : event) (is : IsBegin begin) (f g : ℕ) (m m' : Machine) where
   -- ---- it gives a job
 
   abbrev IsNoJob : reply → Type 0
-  IsNoJob (Flushing number file rows) = ⊥
-  IsNoJob (Compacting number file level pin files) = ⊥
+  IsNoJob (Flushing job) = ⊥
+  IsNoJob (Compacting job) = ⊥
   IsNoJob _ = ⊤
 
   no_job_is : (job : Job) → IsNoJob (given job) → ⊥
-  no_job_is (OfRows number file rows) none = none
-  no_job_is (OfBlocks number file level pin files) none = none
+  no_job_is (OfRows job) none = none
+  no_job_is (OfBlocks job) none = none
 
   refused_not : (job : Job) (why : cause) → given job ≡ Refused why → ⊥
-  refused_not (OfRows number file rows) why e = cc
-  refused_not (OfBlocks number file level pin files) why e = cc
+  refused_not (OfRows job) why e = cc
+  refused_not (OfBlocks job) why e = cc
 
   pub begun : (job : Job) → Step f g m begin (given job) m' → IsFree begin m × Happens m begin (given job) m'
   begun job (Sure told same) =
@@ -211,8 +211,8 @@ pub data IsWrite : event → Type 0 where
   OfCompactCommit : (number size : ℕ) → IsWrite (CommitCompact number size)
 
 pub commits : (job : Job) (size : ℕ) → IsWrite (commit_of job size)
-commits (OfRows number file rows) size = OfFlushCommit number size
-commits (OfBlocks number file level pin files) size = OfCompactCommit number size
+commits (OfRows job) size = OfFlushCommit job.number size
+commits (OfBlocks job) size = OfCompactCommit job.number size
 
 early_write : (e : event) → IsWrite e → (m : Machine) → early m e ≡ if_read_only m.read_only None
 early_write e (OfPiece number file bytes) m = refl
@@ -290,8 +290,8 @@ pub data IsDrop : event → Type 0 where
   OfCompactDrop : (number : ℕ) → IsDrop (DropCompact number)
 
 pub drops : (job : Job) → IsDrop (drop_of job)
-drops (OfRows number file rows) = OfFlushDrop number
-drops (OfBlocks number file level pin files) = OfCompactDrop number
+drops (OfRows job) = OfFlushDrop job.number
+drops (OfBlocks job) = OfCompactDrop job.number
 
 not_sure : (e : event) → IsDrop e → (m : Machine) → early m e ≡ None
 not_sure e (OfFlushDrop number) m = refl

@@ -4,7 +4,7 @@ use Rattle.std.specs.Prelude.{⊤}
 use Rattle.std.proofs.lemmas.List.{length-map}
 use Rattle.span_types.specs.declared.spans.Row.{Row}
 use Rattle.block_info.specs.InfoParts.{InfoParts}
-use Rattle.compactor.specs.Rounds.{IsCompactRound, Leads as CompactLeads, Stage as CompactStage}
+use Rattle.compactor.specs.Rounds.{IsCompactRound, Leads as CompactLeads, Stage as CompactStage, parts_of}
 use Rattle.compactor.specs.Rounds.{Job as Joining}
 use Rattle.compactor.specs.Rounds.{Leads as joins, Stage as joining}
 use Rattle.flusher.specs.Rounds.{IsFlushRound, Leads, Stage}
@@ -74,10 +74,10 @@ commits_not job size why begun_at now after writes sized still lead =
 -- What the calls from a stage on make of a store that is at that stage.
 abbrev Does : Stage → List Call → Round → Type 0
 Does stage.Fresh calls round = (before after : At) → CallsLead before calls after → IsRound BeginFlush before round after
-Does (stage.Begun number file rows) calls round = (begun_at after : At) → Writes begun_at → CallsLead begun_at calls after → IsEnded (OfRows number file rows) begun_at round after
+Does (stage.Begun number file rows) calls round = (begun_at after : At) → Writes begun_at → CallsLead begun_at calls after → IsEnded (OfRows (record { number = number; file = file; rows = rows })) begun_at round after
 Does (stage.Writing number file bytes size) calls round =
-    (rows : List Row) (begun_at now after : At) → Writes begun_at → IsSized (OfRows number file rows) size → IsStill begun_at now → CallsLead now calls after
-    → IsEnded (OfRows number file rows) begun_at round after
+    (rows : List Row) (begun_at now after : At) → Writes begun_at → IsSized (OfRows (record { number = number; file = file; rows = rows })) size → IsStill begun_at now → CallsLead now calls after
+    → IsEnded (OfRows (record { number = number; file = file; rows = rows })) begun_at round after
 Does (stage.Failing number why) calls round = (now after : At) → CallsLead now calls after → IsStep now (DropFlush number) Fine after × (round ≡ Refused why)
 Does (stage.Ended last) calls round = ⊤
 
@@ -85,9 +85,9 @@ leads_does : (at : Stage) (calls : List Call) (round : Round) → Leads at calls
 leads_does at calls round leads.nothing = λ before after lead. round_of.nothing (one_step before after BeginFlush reply.Nothing lead) refl
 leads_does at calls round (leads.no_job why) = λ before after lead. round_of.no_job why (one_step before after BeginFlush (reply.Refused (begin_refusal why)) lead) refl
 leads_does at calls round (leads.job {calls = cs} {round = r} number file rows rest) = λ before after lead.
-    let s = first_step before after BeginFlush (Flushing number file rows) cs lead in
+    let s = first_step before after BeginFlush (Flushing (record { number = number; file = file; rows = rows })) cs lead in
     let on = leads_does (stage.Begun number file rows) cs r rest in
-    round_of.job (OfRows number file rows) s.0 s.1 (on s.0 after (begun_writes BeginFlush OfFlush before s.0 (OfRows number file rows) s.1) s.2)
+    round_of.job (OfRows (record { number = number; file = file; rows = rows })) s.0 s.1 (on s.0 after (begun_writes BeginFlush OfFlush before s.0 (OfRows (record { number = number; file = file; rows = rows })) s.1) s.2)
 leads_does at calls round (leads.starved number file rows) = λ begun_at after writes lead.
     ended.given_up cause.Memory begun_at tt (still_itself begun_at) (one_step begun_at after (DropFlush number) Fine lead) refl
 leads_does at calls round (leads.built {calls = cs} {round = r} number file rows bytes info block rest) = λ begun_at after writes lead.
@@ -105,9 +105,9 @@ leads_does at calls round (leads.unwritten {calls = cs} {round = r} number file 
     let gone = on s.0 after s.2 in
     ended.failed piece now s.0 (refl, refl) still step.0 gone.0 (gone.1 ∙ ap Refused step.1)
 leads_does at calls round (leads.listed number file size) = λ rows begun_at now after writes sized still lead.
-    commits_well (OfRows number file rows) size begun_at now after sized still lead (Did 1 size) refl
+    commits_well (OfRows (record { number = number; file = file; rows = rows })) size begun_at now after sized still lead (Did 1 size) refl
 leads_does at calls round (leads.unlisted number file size why) = λ rows begun_at now after writes sized still lead.
-    commits_not (OfRows number file rows) size why begun_at now after writes sized still lead
+    commits_not (OfRows (record { number = number; file = file; rows = rows })) size why begun_at now after writes sized still lead
 leads_does at calls round (leads.dropped number why) = λ now after lead. (one_step now after (DropFlush number) Fine lead, refl)
 leads_does at calls round (leads.over last) = tt
 
@@ -117,7 +117,7 @@ flush_does calls round before after leads lead = leads_does stage.Fresh calls ro
 -- ---- a compaction
 
 abbrev of_blocks : Joining → Job
-of_blocks job = OfBlocks job.number job.file job.level job.pin (info_files job.blocks)
+of_blocks job = OfBlocks (parts_of job)
 
 -- the files of these blocks are among these
 abbrev AreAmong : List InfoParts → List ℕ → Type 0

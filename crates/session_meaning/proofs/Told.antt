@@ -1,12 +1,12 @@
 -- What the replies of a session tell of its history.
 use Rattle.std.proofs.Common.{Bool, ◌≡◌, inl, inr, ℕ, ◌+◌, ◌<◌, ◌≤◌, zero, suc, List, [], ◌∷◌, ◌++◌, Some, None, Result, Ok, Err, append_assoc, append-nil, arith, length, length-append, refl, sym, ◌∙◌, ap, subst}
 use Rattle.std.specs.List.{Contains}
-use Rattle.span_types.specs.declared.spans.Span.{Span}
 use Rattle.otlp_spans.specs.declared.read.Reading.{Reading}
 use Rattle.session_text.specs.declared.reply.Reply.{Reply}
 use Rattle.session_text.specs.declared.reply.Reply.TheVariants.{Compacted, Cut, CutAll, Flushed, NothingCompacted, NothingFlushed, Pushed, Refused, Searched, Traced}
 use Rattle.session_text.specs.declared.request.Request.TheVariants as request
 use Rattle.session_text.specs.Items.{Item}
+use Rattle.store_entries.specs.declared.entry.Entry.{Entry}
 use Rattle.store_model.specs.Event.{Event as event}
 use Rattle.store_model.specs.Event.Event.{BeginCompact, BeginFlush}
 use Rattle.store_model.specs.History.{History, count_of, grown}
@@ -23,7 +23,7 @@ use Rattle.traceql_syntax.specs.Trees.{query_tree}
 use Rattle.search_text.specs.Fields.{printed_fields}
 use Rattle.span_types.specs.declared.errors.Memory.{Memory}
 use Rattle.client_run.specs.Answers.{compact_reply, cut_reply, flush_reply, pushed_reply, reclaimed_reply, round_reply}
-use Rattle.session_meaning.specs.Pushes.{accepted_batch, accepted_batches, known_pushes}
+use Rattle.session_meaning.specs.Pushes.{accepted_entry, accepted_entries, known_pushes}
 use Rattle.session_meaning.specs.At.{At, history_of}
 use Rattle.session_meaning.specs.Session.{IsAnsweredOrRefused, Session}
 use Rattle.session_meaning.proofs.RoundLaws.{round_history}
@@ -32,73 +32,73 @@ use Rattle.session_meaning.proofs.RoundSteps.IsBegin.{OfCompaction, OfFlush}
 -- ---- the last history
 
 same_grown : (h : History) → grown h [] ≡ h
-same_grown h = ap (λ (bs : List (List Span)). record { base = h.base; start = h.start; entries = bs }) (append-nil h.entries)
+same_grown h = ap (λ (bs : List Entry). record { base = h.base; start = h.start; entries = bs }) (append-nil h.entries)
 
-grown_twice : (h : History) (more last : List (List Span)) → grown (grown h more) last ≡ grown h (more ++ last)
-grown_twice h more last = ap (λ (bs : List (List Span)). record { base = h.base; start = h.start; entries = bs }) (append_assoc h.entries more last)
+grown_twice : (h : History) (more last : List Entry) → grown (grown h more) last ≡ grown h (more ++ last)
+grown_twice h more last = ap (λ (bs : List Entry). record { base = h.base; start = h.start; entries = bs }) (append_assoc h.entries more last)
 
 push_grows : (reading : Reading) (moment : ℕ) (answer : Result ℕ PushError) (h : History)
-    → history_after (event.Push reading.batch.spans moment) (push_reply answer) h ≡ grown h (accepted_batch (Ok (request.Push reading moment)) (pushed_reply reading answer))
+    → history_after (event.Push reading.batch.spans moment) (push_reply answer) h ≡ grown h (accepted_entry (Ok (request.Push reading moment)) (pushed_reply reading answer))
 push_grows reading moment (Ok number) h = refl
 push_grows reading moment (Err why) h = sym (same_grown h)
 
-history_grown : (before after : At) (more : List (List Span)) → more ≡ [] → history_of after ≡ history_of before → history_of after ≡ grown (history_of before) more
+history_grown : (before after : At) (more : List Entry) → more ≡ [] → history_of after ≡ history_of before → history_of after ≡ grown (history_of before) more
 history_grown before after more none same = same ∙ sym (same_grown (history_of before)) ∙ ap (grown (history_of before)) (sym none)
 
-still_grown : (before after : At) (more : List (List Span)) → more ≡ [] → after.machine ≡ before.machine → history_of after ≡ grown (history_of before) more
+still_grown : (before after : At) (more : List Entry) → more ≡ [] → after.machine ≡ before.machine → history_of after ≡ grown (history_of before) more
 still_grown before after more none same = history_grown before after more none (ap (λ (m : Machine). m.history) same)
 
 item_grows : (told : Bool) (item : Item) (before after : At) (r : Reply) → IsAnsweredOrRefused told item before r after
-    → history_of after ≡ grown (history_of before) (accepted_batch item r)
+    → history_of after ≡ grown (history_of before) (accepted_entry item r)
 item_grows told (Ok (request.Push reading moment)) before after r (inl (answer, is, step)) =
     (step_tells before.faults after.faults before.machine after.machine (event.Push reading.batch.spans moment) (push_reply answer) step.1).0
     ∙ push_grows reading moment answer (history_of before)
-    ∙ ap (λ (x : Reply). grown (history_of before) (accepted_batch (Ok (request.Push reading moment)) x)) (sym is)
+    ∙ ap (λ (x : Reply). grown (history_of before) (accepted_entry (Ok (request.Push reading moment)) x)) (sym is)
 item_grows told (Ok (request.Push reading moment)) before after r (inr bad) = absurd bad
-item_grows told (Ok (request.Trace id)) before after r (inl (rows, found, is, still)) = still_grown before after (accepted_batch (Ok (request.Trace id)) r) refl still.0
-item_grows told (Ok (request.Trace id)) before after r (inr (why, is, cause, still)) = still_grown before after (accepted_batch (Ok (request.Trace id)) r) refl still.0
-item_grows told (Ok (request.Search s)) before after r (inl (results, found, is, still)) = still_grown before after (accepted_batch (Ok (request.Search s)) r) refl still.0
-item_grows told (Ok (request.Search s)) before after r (inr (why, is, cause, still)) = still_grown before after (accepted_batch (Ok (request.Search s)) r) refl still.0
+item_grows told (Ok (request.Trace id)) before after r (inl (rows, found, is, still)) = still_grown before after (accepted_entry (Ok (request.Trace id)) r) refl still.0
+item_grows told (Ok (request.Trace id)) before after r (inr (why, is, cause, still)) = still_grown before after (accepted_entry (Ok (request.Trace id)) r) refl still.0
+item_grows told (Ok (request.Search s)) before after r (inl (results, found, is, still)) = still_grown before after (accepted_entry (Ok (request.Search s)) r) refl still.0
+item_grows told (Ok (request.Search s)) before after r (inr (why, is, cause, still)) = still_grown before after (accepted_entry (Ok (request.Search s)) r) refl still.0
 item_grows told (Ok (request.Cut moment)) before after r (inl (answer, is, step)) =
-    history_grown before after (accepted_batch (Ok (request.Cut moment)) r) refl
+    history_grown before after (accepted_entry (Ok (request.Cut moment)) r) refl
     (step_tells before.faults after.faults before.machine after.machine (event.Cut moment) (count_reply answer) step.1).0
 item_grows told (Ok (request.Cut moment)) before after r (inr bad) = absurd bad
 item_grows told (Ok request.CutAll) before after r (inl (answer, is, step)) =
-    history_grown before after (accepted_batch (Ok request.CutAll) r) refl
+    history_grown before after (accepted_entry (Ok request.CutAll) r) refl
     (step_tells before.faults after.faults before.machine after.machine event.CutAll (count_reply answer) step.1).0
 item_grows told (Ok request.CutAll) before after r (inr bad) = absurd bad
 item_grows told (Ok request.Flush) before after r (inl (round, is, flushed)) =
-    history_grown before after (accepted_batch (Ok request.Flush) r) refl (round_history BeginFlush OfFlush before round after flushed)
+    history_grown before after (accepted_entry (Ok request.Flush) r) refl (round_history BeginFlush OfFlush before round after flushed)
 item_grows told (Ok request.Flush) before after r (inr bad) = absurd bad
 item_grows told (Ok request.Compact) before after r (inl (round, is, compacted)) =
-    history_grown before after (accepted_batch (Ok request.Compact) r) refl (round_history BeginCompact OfCompaction before round after compacted.0)
+    history_grown before after (accepted_entry (Ok request.Compact) r) refl (round_history BeginCompact OfCompaction before round after compacted.0)
 item_grows told (Ok request.Compact) before after r (inr bad) = absurd bad
 item_grows told (Ok request.Reclaim) before after r (inl (answer, is, step)) =
-    history_grown before after (accepted_batch (Ok request.Reclaim) r) refl
+    history_grown before after (accepted_entry (Ok request.Reclaim) r) refl
     (step_tells before.faults after.faults before.machine after.machine event.Reclaim (reclaim_reply answer) step.1).0
 item_grows told (Ok request.Reclaim) before after r (inr bad) = absurd bad
-item_grows told (Err why) before after r (inl (is, same)) = still_grown before after (accepted_batch (Err why) r) refl (ap (λ (at : At). at.machine) same)
+item_grows told (Err why) before after r (inl (is, same)) = still_grown before after (accepted_entry (Err why) r) refl (ap (λ (at : At). at.machine) same)
 item_grows told (Err why) before after r (inr bad) = absurd bad
 
 -- The last history is the first one with the accepted batches behind it, in order.
 pub session_grows : (told : Bool) (items : List Item) (replies : List Reply) (first last : At) → Session told first items replies last
-    → history_of last ≡ grown (history_of first) (accepted_batches items replies)
+    → history_of last ≡ grown (history_of first) (accepted_entries items replies)
 session_grows told [] replies first last h = ap history_of h.1 ∙ sym (same_grown (history_of first))
 session_grows told (i ∷ is) [] first last h = absurd h
 session_grows told (i ∷ is) (r ∷ rs) first last h =
     session_grows told is rs h.0 last h.2
-    ∙ ap (λ (x : History). grown x (accepted_batches is rs)) (item_grows told i first h.0 r h.1)
-    ∙ grown_twice (history_of first) (accepted_batch i r) (accepted_batches is rs)
+    ∙ ap (λ (x : History). grown x (accepted_entries is rs)) (item_grows told i first h.0 r h.1)
+    ∙ grown_twice (history_of first) (accepted_entry i r) (accepted_entries is rs)
 
 -- ---- numbers
 
-count_grown : (h : History) (more : List (List Span)) → count_of h ≤ count_of (grown h more)
+count_grown : (h : History) (more : List Entry) → count_of h ≤ count_of (grown h more)
 count_grown h more = let e = length-append h.entries more in omega (arith, e)
 
 item_counts : (told : Bool) (item : Item) (before after : At) (r : Reply) → IsAnsweredOrRefused told item before r after
     → count_of (history_of before) ≤ count_of (history_of after)
 item_counts told item before after r is =
-    subst (λ (h : History). count_of (history_of before) ≤ count_of h) (sym (item_grows told item before after r is)) (count_grown (history_of before) (accepted_batch item r))
+    subst (λ (h : History). count_of (history_of before) ≤ count_of h) (sym (item_grows told item before after r is)) (count_grown (history_of before) (accepted_entry item r))
 
 some_same : (a b : ℕ) → Some a ≡ Some b → a ≡ b
 some_same a b e = cc

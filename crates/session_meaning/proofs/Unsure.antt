@@ -1,12 +1,13 @@
--- The batch that isn't sure after calls is the one that the replies tell.
+-- The entry that isn't sure after calls is the one that the replies tell.
 use Rattle.std.proofs.Common.{◌≡◌, List, [], ◌∷◌, ◌++◌, Option, Some, None, Result, Ok, Err, ℕ, refl, sym, ◌∙◌, ap}
-use Rattle.span_types.specs.declared.spans.Span.{Span}
 use Rattle.otlp_spans.specs.declared.read.Reading.{Reading}
 use Rattle.session_text.specs.declared.refusal.Refusal.TheVariants.{DiskFault}
 use Rattle.session_text.specs.declared.reply.Reply.{Reply}
 use Rattle.session_text.specs.declared.reply.Reply.TheVariants as told
 use Rattle.session_text.specs.declared.request.Request.TheVariants as request
 use Rattle.session_text.specs.Items.{Item}
+use Rattle.store_core.proofs.Quiet.{adds_none}
+use Rattle.store_entries.specs.declared.entry.Entry.{Entry}
 use Rattle.store_model.specs.Event.{Event, Reply as reply}
 use Rattle.store_model.specs.Event.Event.{Cut, CutAll, Push, Reclaim}
 use Rattle.store_model.specs.Event.Reply.{Refused}
@@ -20,21 +21,21 @@ use Rattle.query_fanout.specs.TraceAnswers.{IsTraceAnswer}
 use Rattle.client_run.specs.Answers.{asked_of, pushed_reply}
 use Rattle.store_state.specs.Made.{Call, call}
 use Rattle.session_meaning.specs.Answering.{AreItemsAnswered, IsItemAnswered}
-use Rattle.session_meaning.specs.Pushes.{unsure_batch, unsure_or}
-use Rattle.session_meaning.proofs.RoundLaws.{PushesNothing}
+use Rattle.session_meaning.specs.Pushes.{unsure_entry, unsure_or}
+use Rattle.session_meaning.proofs.RoundLaws.{PushesNothing, asks_none}
 use Rattle.session_meaning.proofs.Pushless.{AllPushNothing, compaction_pushes_nothing, flush_pushes_nothing, query_pushes_nothing}
 
-abbrev Batch : Type 0
-Batch = Option (List Span)
+abbrev Unsure : Type 0
+Unsure = Option Entry
 
 -- the one that there is already, else the later one
-abbrev pub first_unsure : Batch → Batch → Batch
+abbrev pub first_unsure : Unsure → Unsure → Unsure
 first_unsure None later = later
-first_unsure (Some spans) later = Some spans
+first_unsure (Some entry) later = Some entry
 
-stays_some : (e : Event) (r : reply) (spans : List Span) → unsure_after e r (Some spans) ≡ Some spans
-stays_some (Push _ _) (Refused Fault) spans = refl
-stays_some _ _ spans = refl
+stays_some : (e : Event) (r : reply) (entry : Entry) → unsure_after e r (Some entry) ≡ Some entry
+stays_some e (Refused Fault) entry = refl
+stays_some e _ entry = refl
 
 push_none : (reading : Reading) (moment : ℕ) (answer : Result ℕ PushError)
     → unsure_after (Push reading.batch.spans moment) (push_reply answer) None ≡ unsure_or (Ok (request.Push reading moment)) (pushed_reply reading answer) None
@@ -45,40 +46,39 @@ push_none reading moment (Err (push.ReadOnly faults)) = refl
 push_none reading moment (Err push.Fault) = refl
 push_none reading moment (Err push.Memory) = refl
 
-push_unsure : (reading : Reading) (moment : ℕ) (answer : Result ℕ PushError) (u : Batch)
+push_unsure : (reading : Reading) (moment : ℕ) (answer : Result ℕ PushError) (u : Unsure)
     → unsure_after (Push reading.batch.spans moment) (push_reply answer) u ≡ first_unsure u (unsure_or (Ok (request.Push reading moment)) (pushed_reply reading answer) None)
 push_unsure reading moment answer None = push_none reading moment answer
-push_unsure reading moment answer (Some spans) = stays_some (Push reading.batch.spans moment) (push_reply answer) spans
+push_unsure reading moment answer (Some entry) = stays_some (Push reading.batch.spans moment) (push_reply answer) entry
 
-first_none : (u : Batch) → u ≡ first_unsure u None
+first_none : (u : Unsure) → u ≡ first_unsure u None
 first_none None = refl
-first_none (Some spans) = refl
+first_none (Some entry) = refl
 
-or_first : (item : Item) (r : Reply) (later : Batch) → first_unsure (unsure_or item r None) later ≡ unsure_or item r later
+or_first : (item : Item) (r : Reply) (later : Unsure) → first_unsure (unsure_or item r None) later ≡ unsure_or item r later
 or_first (Ok (request.Push reading moment)) (told.Refused DiskFault) later = refl
 or_first _ _ later = refl
 
-first_assoc : (u : Batch) (item : Item) (r : Reply) (later : Batch) → first_unsure (first_unsure u (unsure_or item r None)) later ≡ first_unsure u (unsure_or item r later)
-first_assoc (Some spans) item r later = refl
+first_assoc : (u : Unsure) (item : Item) (r : Reply) (later : Unsure) → first_unsure (first_unsure u (unsure_or item r None)) later ≡ first_unsure u (unsure_or item r later)
+first_assoc (Some entry) item r later = refl
 first_assoc None item r later = or_first item r later
 
--- an event that pushes nothing leaves the batch as it was
-no_push_sure : (e : Event) (r : reply) (u : Batch) → PushesNothing e → unsure_after e r u ≡ u
-no_push_sure (Push spans moment) r u none = absurd none
-no_push_sure _ r u none = refl
+-- an event that pushes nothing leaves the entry as it was
+no_push_sure : (e : Event) (r : reply) (u : Unsure) → PushesNothing e → unsure_after e r u ≡ u
+no_push_sure e r u none = adds_none e (asks_none e none) r u
 
--- `after` is what calls leave of the batch that isn't sure: one by one.
-module _ (after : List Call → Batch → Batch) (none : (u : Batch) → after [] u ≡ u)
-    (one : (c : Call) (calls : List Call) (u : Batch) → after (c ∷ calls) u ≡ after calls (unsure_after c.event c.reply u)) where
-  in_turn : (front back : List Call) (u : Batch) → after (front ++ back) u ≡ after back (after front u)
+-- `after` is what calls leave of the entry that isn't sure: one by one.
+module _ (after : List Call → Unsure → Unsure) (none : (u : Unsure) → after [] u ≡ u)
+    (one : (c : Call) (calls : List Call) (u : Unsure) → after (c ∷ calls) u ≡ after calls (unsure_after c.event c.reply u)) where
+  in_turn : (front back : List Call) (u : Unsure) → after (front ++ back) u ≡ after back (after front u)
   in_turn [] back u = ap (after back) (sym (none u))
   in_turn (c ∷ front) back u = one c (front ++ back) u ∙ in_turn front back (unsure_after c.event c.reply u) ∙ ap (after back) (sym (one c front u))
 
-  upkeep_unsure : (calls : List Call) (u : Batch) → AllPushNothing calls → after calls u ≡ u
+  upkeep_unsure : (calls : List Call) (u : Unsure) → AllPushNothing calls → after calls u ≡ u
   upkeep_unsure [] u all = none u
   upkeep_unsure (c ∷ calls) u all = one c calls u ∙ ap (after calls) (no_push_sure c.event c.reply u all.0) ∙ upkeep_unsure calls u all.1
 
-  item_unsure : (item : Item) (r : Reply) (calls : List Call) (u : Batch) → IsItemAnswered item r calls → after calls u ≡ first_unsure u (unsure_or item r None)
+  item_unsure : (item : Item) (r : Reply) (calls : List Call) (u : Unsure) → IsItemAnswered item r calls → after calls u ≡ first_unsure u (unsure_or item r None)
   item_unsure (Ok (request.Push reading moment)) r calls u (answer, told, are) =
       let pushed = call (Push reading.batch.spans moment) (push_reply answer) in
       ap (λ (cs : List Call). after cs u) are ∙ one pushed [] u ∙ none (unsure_after pushed.event pushed.reply u) ∙ push_unsure reading moment answer u
@@ -95,10 +95,10 @@ module _ (after : List Call → Batch → Batch) (none : (u : Batch) → after [
       ap (λ (cs : List Call). after cs u) are ∙ upkeep_unsure (call Reclaim (reclaim_reply answer) ∷ []) u (tt, tt) ∙ first_none u
   item_unsure (Err why) r calls u a = ap (λ (cs : List Call). after cs u) a.1 ∙ none u ∙ first_none u
 
-  pub items_unsure : (items : List Item) (replies : List Reply) (calls : List Call) (u : Batch) → AreItemsAnswered items replies calls
-      → after calls u ≡ first_unsure u (unsure_batch items replies)
+  pub items_unsure : (items : List Item) (replies : List Reply) (calls : List Call) (u : Unsure) → AreItemsAnswered items replies calls
+      → after calls u ≡ first_unsure u (unsure_entry items replies)
   items_unsure [] replies calls u a = ap (λ (cs : List Call). after cs u) a.1 ∙ none u ∙ first_none u
   items_unsure (i ∷ is) [] calls u a = absurd a
   items_unsure (i ∷ is) (r ∷ rs) calls u (now, later, are, here, rest) =
       ap (λ (cs : List Call). after cs u) are ∙ in_turn now later u ∙ items_unsure is rs later (after now u) rest
-      ∙ ap (λ (x : Batch). first_unsure x (unsure_batch is rs)) (item_unsure i r now u here) ∙ first_assoc u i r (unsure_batch is rs)
+      ∙ ap (λ (x : Unsure). first_unsure x (unsure_entry is rs)) (item_unsure i r now u here) ∙ first_assoc u i r (unsure_entry is rs)

@@ -1,38 +1,38 @@
 -- What the replies of a session tell of its pushes.
 use Rattle.std.specs.Prelude.{◌≡◌, ℕ, ◌+◌, ◌*◌, ◌<◌, ◌≤◌, List, [], ◌∷◌, ◌++◌, length, Option, Some, None, Ok}
-use Rattle.span_types.specs.declared.spans.Span.{Span}
 use Rattle.session_text.specs.declared.request.Request.TheVariants.{Compact, Flush, Push}
 use Rattle.session_text.specs.declared.refusal.Refusal.TheVariants.{DiskFault}
 use Rattle.session_text.specs.declared.reply.Reply.{Reply}
 use Rattle.session_text.specs.declared.reply.Reply.TheVariants.{Pushed, Traced, Searched, Refused}
 use Rattle.session_text.specs.Items.{Item}
-use Rattle.store_model.specs.History.{count_of}
+use Rattle.store_entries.specs.declared.entry.Entry.{Entry}
+use Rattle.store_model.specs.History.{count_of, push_of}
 use Rattle.store_model.specs.State.{held_of}
 use Rattle.store_model.specs.Step.{Machine}
 use Rattle.session_meaning.specs.Upkeep.{HasNoJob}
 
--- the batch of a push that was accepted
-abbrev pub accepted_batch : Item → Reply → List (List Span)
-accepted_batch (Ok (Push reading moment)) (Pushed number kept rejected skipped) = reading.batch.spans ∷ []
-accepted_batch _ _ = []
+-- the entry of a push that was accepted
+abbrev pub accepted_entry : Item → Reply → List Entry
+accepted_entry (Ok (Push reading moment)) (Pushed number kept rejected skipped) = push_of reading.batch.spans ∷ []
+accepted_entry _ _ = []
 
--- The batches of the pushes that were accepted, in order.
-abbrev pub accepted_batches : List Item → List Reply → List (List Span)
-accepted_batches [] replies = []
-accepted_batches (item ∷ items) [] = []
-accepted_batches (item ∷ items) (reply ∷ replies) = accepted_batch item reply ++ accepted_batches items replies
+-- The entries that were accepted, in order.
+abbrev pub accepted_entries : List Item → List Reply → List Entry
+accepted_entries [] replies = []
+accepted_entries (item ∷ items) [] = []
+accepted_entries (item ∷ items) (reply ∷ replies) = accepted_entry item reply ++ accepted_entries items replies
 
--- the batch of a push that was refused since the disk failed, else another one
-abbrev pub unsure_or : Item → Reply → Option (List Span) → Option (List Span)
-unsure_or (Ok (Push reading moment)) (Refused DiskFault) other = Some reading.batch.spans
+-- the entry of a push that was refused since the disk failed, else another one
+abbrev pub unsure_or : Item → Reply → Option Entry → Option Entry
+unsure_or (Ok (Push reading moment)) (Refused DiskFault) other = Some (push_of reading.batch.spans)
 unsure_or _ _ other = other
 
--- The batch of the push that was refused since the disk failed, where there was one: whether it is stored isn't sure. There is no
+-- The entry of the push that was refused since the disk failed, if there was one: whether it is stored isn't sure. There is no
 -- second one, since from then on the store takes no push.
-abbrev pub unsure_batch : List Item → List Reply → Option (List Span)
-unsure_batch [] replies = None
-unsure_batch (item ∷ items) [] = None
-unsure_batch (item ∷ items) (reply ∷ replies) = unsure_or item reply (unsure_batch items replies)
+abbrev pub unsure_entry : List Item → List Reply → Option Entry
+unsure_entry [] replies = None
+unsure_entry (item ∷ items) [] = None
+unsure_entry (item ∷ items) (reply ∷ replies) = unsure_or item reply (unsure_entry items replies)
 
 -- how many pushes an answered query says that it knows of
 abbrev pub known_pushes : Reply → Option ℕ

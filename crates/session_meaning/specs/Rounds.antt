@@ -4,6 +4,7 @@ use Rattle.span_types.specs.First.{IsFirstOf}
 use Rattle.span_types.specs.declared.spans.Row.{Row}
 use Rattle.store_model.specs.After.{after_begin_compact, after_begin_flush, after_commit_compact, after_commit_flush, chosen_job, taken}
 use Rattle.store_model.specs.Choice.{choice, in_files, most_rows}
+use Rattle.store_model.specs.Event.{FlushParts, CompactParts}
 use Rattle.store_model.specs.Event.{Event as event, Reply as reply, Refusal as refusal}
 use Rattle.store_model.specs.Event.Event.{BeginCompact, BeginFlush, CommitCompact, CommitFlush, DropCompact, DropFlush, ReadPage, WritePiece}
 use Rattle.store_model.specs.Event.Reply.{Compacting, Fine, Flushing}
@@ -23,47 +24,47 @@ use Rattle.session_meaning.specs.At.{At, IsStep, IsStill}
 -- ---- a job
 
 pub data Job : Type 0 where
-  -- of a flush: its number, its block's file, and its rows
-  OfRows : ℕ → ℕ → List Row → Job
-  -- of a compaction: its number, its block's file and level, and the number and the files of its pin
-  OfBlocks : ℕ → ℕ → ℕ → ℕ → List ℕ → Job
+  -- of a flush
+  OfRows : FlushParts → Job
+  -- of a compaction
+  OfBlocks : CompactParts → Job
 
 -- the reply that gives it
 abbrev pub given : Job → reply
-given (OfRows number file rows) = Flushing number file rows
-given (OfBlocks number file level pin files) = Compacting number file level pin files
+given (OfRows job) = Flushing job
+given (OfBlocks job) = Compacting job
 
 -- the commit of its block, which has so many rows
 abbrev pub commit_of : Job → ℕ → event
-commit_of (OfRows number file rows) size = CommitFlush number size
-commit_of (OfBlocks number file level pin files) size = CommitCompact number size
+commit_of (OfRows job) size = CommitFlush job.number size
+commit_of (OfBlocks job) size = CommitCompact job.number size
 
 abbrev pub drop_of : Job → event
-drop_of (OfRows number file rows) = DropFlush number
-drop_of (OfBlocks number file level pin files) = DropCompact number
+drop_of (OfRows job) = DropFlush job.number
+drop_of (OfBlocks job) = DropCompact job.number
 
 -- how many blocks it writes, or joins
 abbrev pub blocks_of : Job → ℕ
-blocks_of (OfRows number file rows) = 1
-blocks_of (OfBlocks number file level pin files) = length files
+blocks_of (OfRows job) = 1
+blocks_of (OfBlocks job) = length job.files
 
 -- The calls by which its block is made: pieces are written, and in a compaction pages are read of the blocks that it joins.
 abbrev pub IsWorkOf : Job → event → Type 0
-IsWorkOf (OfRows number file rows) (WritePiece its own bytes) = (its ≡ number) × (own ≡ file)
-IsWorkOf (OfRows number file rows) e = ⊥
-IsWorkOf (OfBlocks number file level pin files) (WritePiece its own bytes) = (its ≡ number) × (own ≡ file)
-IsWorkOf (OfBlocks number file level pin files) (ReadPage its block page) = (its ≡ pin) × (is_among block files ≡ true)
-IsWorkOf (OfBlocks number file level pin files) e = ⊥
+IsWorkOf (OfRows job) (WritePiece its own bytes) = (its ≡ job.number) × (own ≡ job.file)
+IsWorkOf (OfRows job) e = ⊥
+IsWorkOf (OfBlocks job) (WritePiece its own bytes) = (its ≡ job.number) × (own ≡ job.file)
+IsWorkOf (OfBlocks job) (ReadPage its block page) = (its ≡ job.pin) × (is_among block job.files ≡ true)
+IsWorkOf (OfBlocks job) e = ⊥
 
 -- A flush's block has as many rows as there are first occurrences of its rows. That of a compaction has as many as were read.
 abbrev pub IsSized : Job → ℕ → Type 0
-IsSized (OfRows number file rows) size = (firsts : List Row) × IsFirstOf rows firsts × (size ≡ length firsts)
-IsSized (OfBlocks number file level pin files) size = ⊤
+IsSized (OfRows job) size = (firsts : List Row) × IsFirstOf job.rows firsts × (size ≡ length firsts)
+IsSized (OfBlocks job) size = ⊤
 
 -- It is given up where no call failed: for want of memory, or since a block that is to be joined is none.
 abbrev pub IsGivenUpFor : Job → Refusal → Type 0
 IsGivenUpFor job Memory = ⊤
-IsGivenUpFor (OfBlocks number file level pin files) (NotBlock block at) = is_among block files ≡ true
+IsGivenUpFor (OfBlocks job) (NotBlock block at) = is_among block job.files ≡ true
 IsGivenUpFor job _ = ⊥
 
 -- ---- a round

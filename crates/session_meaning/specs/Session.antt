@@ -20,7 +20,7 @@ use Rattle.session_text.specs.declared.refusal.Refusal.TheVariants as refusal
 use Rattle.session_text.specs.Items.{Item}
 use Rattle.session_text.specs.Replies.{reply_text}
 use Rattle.span_types.specs.declared.errors.Memory.{Memory}
-use Rattle.store_model.specs.History.{History, count_of, history_rows}
+use Rattle.store_model.specs.History.{History, AreFirstIn, count_of, history_rows}
 use Rattle.store_model.specs.Event.{Event as event}
 use Rattle.store_state.specs.Replies.{count_reply, push_reply, reclaim_reply}
 use Rattle.store_state.specs.declared.errors.PushError.{PushError}
@@ -44,7 +44,7 @@ IsTraceIn id history rows = IsFirstOf (rows_of_trace id (history_rows history)) 
 -- What a search finds at a history: its answer over the first occurrences of all spans in it.
 pub record IsFound (s : Search) (history : History) (results : List TraceResult) : Type 0 where
   pub rows : List Row
-  pub firsts : IsFirstOf (history_rows history) rows
+  pub firsts : AreFirstIn history rows
   pub answer : IsAnswer s.checked.patterns (query_tree s.checked.query) s.range s.limit s.spans_per_set rows results
 
 -- What a query tells is sure where what the blocks hold is told, which is what `told` says, or where the store lists no block.

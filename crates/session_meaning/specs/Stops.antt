@@ -1,21 +1,21 @@
 -- What is stored, in what a run leaves and whenever it is stopped.
 use Rattle.std.specs.Prelude.{◌≡◌, ◌⊎◌, ℕ, List, [], Option, IsTrue}
-use Rattle.span_types.specs.declared.spans.Span.{Span}
 use Rattle.span_types.specs.First.{IsFirstOf}
 use Rattle.disk_model.specs.Images.{Image}
 use Rattle.disk_model.specs.Crash.{Reached}
 use Rattle.disk_model.specs.declared.disk.Device.{Ghosts}
+use Rattle.store_entries.specs.declared.entry.Entry.{Entry}
 use Rattle.store_model.specs.History.{count_of}
 use Rattle.store_images.specs.Stored.{ImageStandsFor, KeepsStored, MayStandFor}
 use Rattle.store_core.specs.Opening.{BeginsAs}
 use Rattle.store_core.specs.Past.{StoodFor}
 use Rattle.session_meaning.specs.At.{At, history_of}
-use Rattle.session_meaning.specs.Pushes.{unsure_batch}
+use Rattle.session_meaning.specs.Pushes.{unsure_entry}
 use Rattle.session_meaning.specs.Runs.{Outcome}
 
--- the batch that isn't sure, of a run
-abbrev pub unsure_spans : Outcome → Option (List Span)
-unsure_spans o = unsure_batch o.items o.replies
+-- the entry that isn't sure, of a run
+abbrev pub unsure_of_run : Outcome → Option Entry
+unsure_of_run o = unsure_entry o.items o.replies
 
 -- The run begins with what was stored: its first history is a base alone, each span of it once, that the disk's bytes stand for;
 -- and the store begins as one that was opened on these bytes at this moment.
@@ -25,18 +25,18 @@ pub record Begins (held : Image) (moment : ℕ) (first : At) : Type 0 where
   pub base_alone : (history_of first).entries ≡ []
   pub begins : BeginsAs held moment first.machine
 
--- It stands for the last history, or for it and then the batch that isn't sure.
+-- It stands for the last history, or for it and then the entry that isn't sure.
 abbrev pub StandsForLast : Outcome → Image → Type 0
-StandsForLast o image = MayStandFor (history_of o.last) (unsure_spans o) image
+StandsForLast o image = MayStandFor (history_of o.last) (unsure_of_run o) image
 
 -- Each of these images does.
 abbrev pub Returns : (Image → Type 0) → Outcome → Type 0
 Returns may_leave o = (image : Image) → may_leave image → StandsForLast o image
 
 -- It stands for a history that begins with the first one and that the last one begins with, or for the last one and then the
--- batch that isn't sure.
+-- entry that isn't sure.
 abbrev pub StandsWithin : Outcome → Image → Type 0
-StandsWithin o image = StoodFor (count_of (history_of o.first)) (history_of o.last) (unsure_spans o) image
+StandsWithin o image = StoodFor (count_of (history_of o.first)) (history_of o.last) (unsure_of_run o) image
 
 -- Each of these images keeps what an image stored at the start; or, once the store was opened, it stands for a history in
 -- between.

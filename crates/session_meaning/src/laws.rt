@@ -33,12 +33,12 @@ ghost use Rattle.session_meaning.specs.Causes.{HasCompactCause, HasFlushCause, H
 ghost use Rattle.session_meaning.specs.Rounds.{HasJoined, HasListed, IsCompacted, IsDoneOrStarved, IsFlushed, IsRound};
 ghost use Rattle.session_meaning.specs.declared.ending.Ending.TheVariants.{Answered, Starved};
 ghost use Rattle.session_meaning.specs.Progress.{AreAnsweredOver, IngestsOver};
-ghost use Rattle.session_meaning.specs.Pushes.{HasRoomFor, HasRoomForPush, accepted_batches, known_pushes};
+ghost use Rattle.session_meaning.specs.Pushes.{HasRoomFor, HasRoomForPush, accepted_entries, known_pushes};
 ghost use Rattle.session_meaning.specs.Runs.{ComesToItsEnd, Edges, GoesWell, IsRunOf, Outcome};
 ghost use Rattle.session_meaning.specs.At.{At, IsStill, history_of};
 ghost use Rattle.session_meaning.specs.Ingest.{AreJoined, Duty, HasFinished, Ingests, duties, most_rounds};
 ghost use Rattle.session_meaning.specs.Session.{IsAnswered, IsAnsweredOrRefused, Session, is_refused};
-ghost use Rattle.session_meaning.specs.Stops.{StandsForLast, StandsWithin, unsure_spans};
+ghost use Rattle.session_meaning.specs.Stops.{StandsForLast, StandsWithin, unsure_of_run};
 ghost use Rattle.session_meaning.specs.Upkeep.{HasEmptied, HasFailedSince, IsClosed};
 
 use disk_model::Device;
@@ -98,10 +98,10 @@ pub fn sessions_keep_the_store()
 
 /// What the replies of a session tell of its pushes.
 pub fn replies_tell_the_history()
-    // The last history is the first one, and behind it the batches of the pushes that were accepted, in order.
+    // The last history is the first one, and behind it the entries that were accepted, in order.
     ensures appended { (told : Bool) (items : List Item) (replies : List Reply) (first last : At)
         → Session told first items replies last
-        → history_of last ≡ grown (history_of first) (accepted_batches items replies) }
+        → history_of last ≡ grown (history_of first) (accepted_entries items replies) }
     // What an accepted push is told, its number, is below the count of pushes that any later query knows of.
     ensures known_later { (told : Bool) (items : List Item) (earlier later : List Reply) (first last : At)
         → (number kept rejected skipped : ℕ)
@@ -122,20 +122,20 @@ pub fn pushes_have_their_causes()
         → HasRoomForPush (length reading.batch.spans) before.machine × (number ≡ count_of (history_of before)) }
 {}
 
-/// What is stored, by the pushes that were accepted. A run that is stopped is one over a disk of which from some call
+/// What is stored, by the entries that were accepted. A run that is stopped is one over a disk of which from some call
 /// on every call fails: what it hands back then has each push that was accepted before the stop.
 pub fn accepted_pushes_are_stored()
-    // An image of the disk that is handed back: what was stored at first and behind it all accepted batches, in order.
+    // An image of the disk that is handed back: what was stored at first and behind it all accepted entries, in order.
     ensures returned { (told : Bool) (o : Outcome) (image : Image)
         → Session told o.first o.items o.replies o.last
         → StandsForLast o image
-        → MayStandFor (grown (history_of o.first) (accepted_batches o.items o.replies)) (unsure_spans o) image }
-    // One since the store was opened: the same with the first few of these batches.
+        → MayStandFor (grown (history_of o.first) (accepted_entries o.items o.replies)) (unsure_of_run o) image }
+    // One since the store was opened: the same with the first few of these entries.
     ensures at_any_moment { (told : Bool) (o : Outcome) (image : Image)
         → Session told o.first o.items o.replies o.last
         → StandsWithin o image
-        → ((n : ℕ) × ImageStandsFor image (grown (history_of o.first) (take n (accepted_batches o.items o.replies))))
-        ⊎ MayStandFor (grown (history_of o.first) (accepted_batches o.items o.replies)) (unsure_spans o) image }
+        → ((n : ℕ) × ImageStandsFor image (grown (history_of o.first) (take n (accepted_entries o.items o.replies))))
+        ⊎ MayStandFor (grown (history_of o.first) (accepted_entries o.items o.replies)) (unsure_of_run o) image }
 {}
 
 /// Of the histories that an image stands for one is a base alone, in which each span stands once.

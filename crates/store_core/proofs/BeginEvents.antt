@@ -1,5 +1,5 @@
 -- A flush that begins, as an event of a core.
-use Rattle.std.proofs.Common.{◌≡◌, ◌≢◌, inl, ℕ, ◌+◌, ◌-◌, ◌^◌, ◌<◌, ◌≤◌, ◌==◌, min, List, [], ◌∷◌, ◌++◌, length, map, take, drop, Some, None, Option, IfSome, IsTrue, Bool, true, false, refl, sym, ◌∙◌, ap, subst, arith}
+use Rattle.std.proofs.Common.{◌≡◌, ◌≢◌, inl, ℕ, ◌+◌, ◌-◌, ◌^◌, ◌<◌, ◌≤◌, ◌==◌, min, List, [], ◌++◌, length, map, take, drop, Some, None, Option, IfSome, IsTrue, Bool, true, false, refl, sym, ◌∙◌, ap, subst, arith}
 use Rattle.std.specs.Prelude.{nat_le, Vec}
 use Rattle.std.proofs.lemmas.Bool.{le-leb, lt-leb, ne_eqb}
 use Rattle.std.proofs.lemmas.List.{take-append-drop}
@@ -48,7 +48,7 @@ use Rattle.store_core.proofs.JobRooms.{RoomOfFlush, RoomOfCompaction, SpareFlush
 use Rattle.store_core.proofs.NoJobs.{no_segment}
 use Rattle.store_core.proofs.OpenJobs.{held_low}
 use Rattle.store_core.proofs.PushEvents.{OnlyNow, refused_is}
-use Rattle.store_core.proofs.Quiet.{quiet, none_begun, one_begun}
+use Rattle.store_core.proofs.Quiet.{quiet, none_begun, one_begun, adds_none}
 use Rattle.store_core.proofs.States.{has_stopped}
 
 -- ---- what is tested first
@@ -279,36 +279,36 @@ module _ {D : Type 0} (g : Ghosts D) (old : Core D) (disk : D) (files : FlushFil
   module _ (live : LiveParts) (infos : Vec InfoParts Global) (jobs : Jobs) (room : CommitRoom) (rows : List Row) (known : infos.items ≡ old.state.infos.items) (spare : vec_len infos + 2 ≤ vec_capacity infos)
       (begun : Begun old.state.jobs jobs files old.state.list room) (takes : TakesHead old.state.live live rows) where
     after : (told told' : Type 0) → (told' → told) → (told → IsTrue (g.tells old.disk)) → (m : Machine) → StandsFor told (g.held old.disk) (g.may_leave old.disk) old.state m
-        → Step (g.faults old.disk) (g.faults disk) m BeginFlush (Flushing jobs.begun files.block rows) (with_state (after_begin_flush m.state) m)
+        → Step (g.faults old.disk) (g.faults disk) m BeginFlush (Flushing (record { number = jobs.begun; file = files.block; rows = rows })) (with_state (after_begin_flush m.state) m)
         → (told → HasFreshSegment (g.held disk) (g.may_leave disk) jobs) → (told → CoreStandsFor g old m)
         → StandsFor told' (g.held disk) (g.may_leave disk) (record old.state { live = live; infos = infos; jobs = jobs }) (with_state (after_begin_flush m.state) m)
     after told told' later_told tells m s step fresh whole =
         stands_kept told told' (g.held old.disk) (g.held disk) (g.may_leave old.disk) (g.may_leave disk) old.state (record old.state { live = live; infos = infos; jobs = jobs }) m (with_state (after_begin_flush m.state) m)
-        (g.faults old.disk) (g.faults disk) BeginFlush (Flushing jobs.begun files.block rows) later_told s step refl
+        (g.faults old.disk) (g.faults disk) BeginFlush (Flushing (record { number = jobs.begun; file = files.block; rows = rows })) later_told s step refl
         (has_begun old.state live infos jobs m files room rows none below block segment s.sound.fits.jobs known spare begun takes s.has) refl
         (λ t. (run_keeps (tells t) m (whole t)).now)
         (λ t. built_same (g.held disk) old.state infos m known (described_below (g.held old.disk) (g.held disk) old.state m s.has (same_held (tells t) m s.has) (s.built t)))
         (λ t free. settled_below (g.held old.disk) (g.may_leave old.disk) old.state.list (s.settled t writes).lies.ready (g.held disk) (g.may_leave disk) (same_held (tells t) m s.has) (run_below m s.has).now
         m.state.blocks (tail_of old.state.segment) m.history (s.settled t writes))
         (λ free. free) (λ t free. fresh t)
-        (λ t free. logged_kept (g.held old.disk) (g.held disk) old.state.list (g.faults old.disk) (g.faults disk) m (with_state (after_begin_flush m.state) m) BeginFlush (Flushing jobs.begun files.block rows)
+        (λ t free. logged_kept (g.held old.disk) (g.held disk) old.state.list (g.faults old.disk) (g.faults disk) m (with_state (after_begin_flush m.state) m) BeginFlush (Flushing (record { number = jobs.begun; file = files.block; rows = rows }))
         s.has.rules (same_held (tells t) m s.has) step refl (s.logged t writes))
 
-    its_step : (m : Machine) → HasState old.state m → m.state.begun + 3 ≤ m.state.next_file → Step (g.faults old.disk) (g.faults disk) m BeginFlush (Flushing jobs.begun files.block rows) (with_state (after_begin_flush m.state) m)
+    its_step : (m : Machine) → HasState old.state m → m.state.begun + 3 ≤ m.state.next_file → Step (g.faults old.disk) (g.faults disk) m BeginFlush (Flushing (record { number = jobs.begun; file = files.block; rows = rows })) (with_state (after_begin_flush m.state) m)
     its_step m has fits =
         let whole : old.state.live.flushing ++ old.state.live.head ≡ m.state.head = ap (λ (r : List Row). r ++ old.state.live.head) (none_flushing old.state m has none) ∙ sym has.head in
         let number : jobs.begun ≡ m.state.begun + 1 = (let was = has.begun in let next = has.next_file in let now = begun.number in omega (arith, was, next, now, fits, below)) in
         let its_rows : rows ≡ take most_rows m.state.head = takes.taken ∙ ap (λ (r : List Row). take most_rows r) whole in
         Succeeds (free m has) (
-          ap (λ (n : ℕ). Flushing n files.block rows) number ∙ ap (λ (f : ℕ). Flushing (m.state.begun + 1) f rows) (block ∙ sym has.next_file) ∙ ap (λ (r : List Row). Flushing (m.state.begun + 1) m.state.next_file r) its_rows,
+          ap (λ (n : ℕ). Flushing (record { number = n; file = files.block; rows = rows })) number ∙ ap (λ (f : ℕ). Flushing (record { number = m.state.begun + 1; file = f; rows = rows })) (block ∙ sym has.next_file) ∙ ap (λ (r : List Row). Flushing (record { number = m.state.begun + 1; file = m.state.next_file; rows = r })) its_rows,
           refl,
         )
 
     pub did_begin : (IsTrue (g.tells old.disk) → IsEmptied (g.held disk) (g.may_leave disk) files.block)
         → (IsTrue (g.tells old.disk) → ((first : ℕ) → SegmentHolds first [] 1 (bytes_of (g.held disk) files.segment)) × OnlyBytes files.segment (bytes_of (g.held disk) files.segment) (g.may_leave disk))
-        → Did g old BeginFlush (Flushing jobs.begun files.block rows) (record old { disk = disk; state = record old.state { live = live; infos = infos; jobs = jobs } })
+        → Did g old BeginFlush (Flushing (record { number = jobs.begun; file = files.block; rows = rows })) (record old { disk = disk; state = record old.state { live = live; infos = infos; jobs = jobs } })
     did_begin empty made =
-        did_kept g old disk (record old.state { live = live; infos = infos; jobs = jobs }) BeginFlush (Flushing jobs.begun files.block rows) telling run_keeps refl refl
+        did_kept g old disk (record old.state { live = live; infos = infos; jobs = jobs }) BeginFlush (Flushing (record { number = jobs.begun; file = files.block; rows = rows })) telling run_keeps refl refl
         (λ m s.
         let step = its_step m s.has s.sound.fits.jobs in (
           with_state (after_begin_flush m.state) m,
@@ -324,7 +324,7 @@ module _ {D : Type 0} (g : Ghosts D) (old : Core D) (disk : D) (files : FlushFil
         ))
         (λ told m s hold is_open stays f among. stay told m s hold is_open f among)
         (λ told f among. one_begun files.block f (IsEmptied (g.held disk) (g.may_leave disk)) (empty told) among) (λ told. tt) (λ shows h. tt)
-        later (λ is. let bad : Flushing jobs.begun files.block rows ≡ Refused Fault = is in absurd cc) calls (omega (arith, reads), omega (arith, reads))
+        later (λ is. let bad : Flushing (record { number = jobs.begun; file = files.block; rows = rows }) ≡ Refused Fault = is in absurd cc) calls (omega (arith, reads), omega (arith, reads))
       where
         its_segment : IsTrue (g.tells old.disk) → HasFreshSegment (g.held disk) (g.may_leave disk) jobs
         its_segment told = subst (λ (k : Option OpenFlush). IfSome k (λ mine. ((first : ℕ) → SegmentHolds first [] 1 (bytes_of (g.held disk) mine.files.segment))
@@ -332,9 +332,9 @@ module _ {D : Type 0} (g : Ghosts D) (old : Core D) (disk : D) (files : FlushFil
 
     pub did_begin_as : (number : ℕ) → number ≡ jobs.begun → (IsTrue (g.tells old.disk) → IsEmptied (g.held disk) (g.may_leave disk) files.block)
         → (IsTrue (g.tells old.disk) → ((first : ℕ) → SegmentHolds first [] 1 (bytes_of (g.held disk) files.segment)) × OnlyBytes files.segment (bytes_of (g.held disk) files.segment) (g.may_leave disk))
-        → Did g old BeginFlush (Flushing number files.block rows) (record old { disk = disk; state = record old.state { live = live; infos = infos; jobs = jobs } })
+        → Did g old BeginFlush (Flushing (record { number = number; file = files.block; rows = rows })) (record old { disk = disk; state = record old.state { live = live; infos = infos; jobs = jobs } })
     did_begin_as number is empty made =
-        subst (λ (n : ℕ). Did g old BeginFlush (Flushing n files.block rows) (record old { disk = disk; state = record old.state { live = live; infos = infos; jobs = jobs } })) (sym is) (did_begin empty made)
+        subst (λ (n : ℕ). Did g old BeginFlush (Flushing (record { number = n; file = files.block; rows = rows })) (record old { disk = disk; state = record old.state { live = live; infos = infos; jobs = jobs } })) (sym is) (did_begin empty made)
 
   pub did_begin_fail : (live : LiveParts) (infos : Vec InfoParts Global) (jobs : Jobs) (faults : ℕ) → faults ≡ g.faults disk → Rose (g.faults old.disk) (g.faults disk)
       → KeepsRooms old.state.list old.state.infos infos old.state.jobs jobs
@@ -342,7 +342,7 @@ module _ {D : Type 0} (g : Ghosts D) (old : Core D) (disk : D) (files : FlushFil
       → Did g old BeginFlush (Refused Fault) (record old { disk = disk; state = record old.state { live = live; infos = infos; jobs = jobs; read_only = Some faults } })
   did_begin_fail live infos jobs faults counted rose kept rows =
       subst (λ (n : ℕ). Did g old BeginFlush (Refused Fault) (record old { disk = disk; state = record old.state { live = live; infos = infos; jobs = jobs; read_only = Some n } })) (sym counted)
-      (did_kept g old disk (record old.state { live = live; infos = infos; jobs = jobs; read_only = Some (g.faults disk) }) BeginFlush (Refused Fault) telling run_keeps refl refl
+      (did_kept g old disk (record old.state { live = live; infos = infos; jobs = jobs; read_only = Some (g.faults disk) }) BeginFlush (Refused Fault) telling run_keeps refl (adds_none BeginFlush refl (Refused Fault) _)
       (λ m s. (
         broken (g.faults disk) m,
         stands_kept (IsTrue (g.tells old.disk)) (IsTrue (g.tells disk)) (g.held old.disk) (g.held disk) (g.may_leave old.disk) (g.may_leave disk) old.state (record old.state { live = live; infos = infos; jobs = jobs; read_only = Some (g.faults disk) }) m (broken (g.faults disk) m)

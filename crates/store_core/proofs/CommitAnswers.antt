@@ -41,13 +41,13 @@ did_stopped {D} g old new target event why is same did =
     subst (λ (w : WriteError). Did g old event (Refused (write_refusal w)) new) (sym is) (subst (λ (s : Core D). Did g old event (Refused IsFault) s) (sym same) did)
 
 -- the flush that is given back is the one that every machine has open
-pub flush_here : (core : CoreState) (m0 m : Machine) (number file : ℕ) (rows : List Row) → HasState core m0 → IsOpenFlush m0 number file rows → HasState core m → IsOpenHere core m number file
+pub flush_here : (core : CoreState) (m0 m : Machine) (number file : ℕ) (rows : List Row) → HasState core m0 → IsOpenFlush m0 (record { number = number; file = file; rows = rows }) → HasState core m → IsOpenHere core m number file
 flush_here core m0 m number file rows its is has = open_here core m0 m number file is.job its is.is_open is.its_number is.its_file has
 
-pub rows_here : (core : CoreState) (m0 : Machine) (number file : ℕ) (rows : List Row) → HasState core m0 → IsOpenFlush m0 number file rows → core.live.flushing ≡ rows
+pub rows_here : (core : CoreState) (m0 : Machine) (number file : ℕ) (rows : List Row) → HasState core m0 → IsOpenFlush m0 (record { number = number; file = file; rows = rows }) → core.live.flushing ≡ rows
 rows_here core m0 number file rows its is = its.flushing ∙ ap flush_rows is.is_open ∙ is.its_rows
 
-module _ {D : Type 0} (g : Ghosts D) (old : Core D) (m0 : Machine) (s0 : CoreShows g old m0) (number file : ℕ) (rows : List Row) (is : IsOpenFlush m0 number file rows) (info : InfoParts)
+module _ {D : Type 0} (g : Ghosts D) (old : Core D) (m0 : Machine) (s0 : CoreShows g old m0) (number file : ℕ) (rows : List Row) (is : IsOpenFlush m0 (record { number = number; file = file; rows = rows })) (info : InfoParts)
     (writes : old.state.read_only ≡ None) (size : (1 ≤ info.rows) × (info.rows ≤ 1048576)) (block : IsBlockOf (IsTrue (g.tells old.disk)) (bytes_of (g.held old.disk) file) file 0 info rows) where
   abbrev here : IsOpenHere old.state m0 number file
   here = flush_here old.state m0 m0 number file rows s0.has is s0.has

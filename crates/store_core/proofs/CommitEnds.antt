@@ -2,13 +2,13 @@
 use Rattle.std.proofs.Common.{◌≡◌, ◌⊎◌, inl, inr, ℕ, ◌≤◌, List, Some, None, Option, IsTrue, Bool, true, false, refl, sym, ◌∙◌, ap, subst, arith}
 use Rattle.std.proofs.lemmas.Bool.{cases_lt}
 use Rattle.span_types.specs.Faults.{Rose}
-use Rattle.span_types.specs.declared.spans.Span.{Span}
 use Rattle.disk_model.specs.Images.{Image, bytes_of}
 use Rattle.disk_model.specs.Crash.{LeavesOnly}
 use Rattle.disk_model.specs.declared.disk.Device.{Ghosts}
 use Rattle.disk_model.proofs.Moments.{widened}
 use Rattle.block_info.specs.InfoParts.{InfoParts}
 use Rattle.block_list.specs.declared.body.ListBody.{ListBody}
+use Rattle.store_entries.specs.declared.entry.Entry.{Entry}
 use Rattle.store_model.specs.State.{State, is_among}
 use Rattle.store_model.specs.Event.{Event}
 use Rattle.store_model.specs.Event.Reply.{Fine, Refused}
@@ -87,8 +87,8 @@ module _ {D : Type 0} (g : Ghosts D) (only_now : OnlyNow g) (old : Core D) (mid 
     tidy_in : told → ((image : Image) → g.may_leave old.disk image → IsTidy image) → LeavesOnly g.moment g.left_since old.disk disk IsTidy
     tidy_in known = tidy_since g only_now old.disk mid disk file slot old.state.list list m.history synced ran (tells known) (before known) (l.images known)
 
-    sure : (u : Option (List Span)) → u ≡ unsure_of old.state → (image : Image) → ImageStandsFor image m.history → MayStandFor m.history u image
-    sure u is image stands = subst (λ (v : Option (List Span)). MayStandFor m.history v image) (sym (is ∙ s.sure free)) stands
+    sure : (u : Option Entry) → u ≡ unsure_of old.state → (image : Image) → ImageStandsFor image m.history → MayStandFor m.history u image
+    sure u is image stands = subst (λ (v : Option Entry). MayStandFor m.history v image) (sym (is ∙ s.sure free)) stands
 
     pub built_old : told → AreDescribed (g.held disk) old.state.infos.items m.state.blocks
     built_old known = described_same (g.held old.disk) (g.held disk) old.state.infos.items m.state.blocks s.has.infos

@@ -1,12 +1,12 @@
 -- A commit as an event of a core: what the events of commits have in common, and where one ends before the list is written.
 use Rattle.std.proofs.Common.{◌≡◌, ℕ, ◌≤◌, List, Some, None, Option, IsTrue, true, refl, ◌∙◌, ap, subst, sym, arith}
 use Rattle.span_types.specs.Faults.{Rose}
-use Rattle.span_types.specs.declared.spans.Span.{Span}
 use Rattle.disk_model.specs.Images.{SameBytes, bytes_of}
 use Rattle.disk_model.specs.Counts.{RoseBy}
 use Rattle.disk_model.specs.Crash.{Within, Elapses, Run}
 use Rattle.disk_model.specs.declared.disk.Device.{Ghosts}
 use Rattle.disk_model.proofs.Runs.{run_call}
+use Rattle.store_entries.specs.declared.entry.Entry.{Entry}
 use Rattle.store_model.specs.State.{State}
 use Rattle.store_model.specs.Event.{Event, Reply}
 use Rattle.store_model.specs.Event.Event.{CommitFlush, CommitCompact}
@@ -24,14 +24,14 @@ use Rattle.store_core.specs.Cores.{HasState}
 use Rattle.store_core.specs.Events.{Did, unsure_after}
 use Rattle.store_core.proofs.Kept.{stands_kept, did_kept, described_below}
 use Rattle.store_core.proofs.PushEvents.{OnlyNow, refused_is}
-use Rattle.store_core.proofs.Quiet.{quiet, none_begun}
+use Rattle.store_core.proofs.Quiet.{quiet, none_begun, adds_none}
 use Rattle.store_core.proofs.States.{has_stopped}
 
 -- It writes, answers no batch and no page, changes no file of what is open, and makes seven calls at most and none once the store is read-only.
 pub record IsCommit (event : Event) : Type 0 where
   pub early_is : (m : Machine) → early m event ≡ if_read_only m.read_only None
   pub writes_is : (u : State) → writes u event ≡ true
-  pub unsure_is : (reply : Reply) (unsure : Option (List Span)) → unsure_after event reply unsure ≡ unsure
+  pub unsure_is : (reply : Reply) (unsure : Option Entry) → unsure_after event reply unsure ≡ unsure
   pub files_are : (reply : Reply) (file : ℕ) (old new : List ℕ) → new ≡ old → Rewritten event reply file old new
   pub no_page : (reply : Reply) (shows : ℕ → List ℕ) → IsPageRead event reply shows
   pub calls_none : (faults n : ℕ) → MadeCalls event (Refused (ReadOnly faults)) n n
@@ -43,7 +43,7 @@ pub flush_commits : (number size : ℕ) → IsCommit (CommitFlush number size)
 flush_commits number size = record {
   early_is = λ m. refl;
   writes_is = λ u. refl;
-  unsure_is = λ reply unsure. refl;
+  unsure_is = λ reply unsure. adds_none (CommitFlush number size) refl reply unsure;
   files_are = λ reply file old new is. is;
   no_page = λ reply shows. tt;
   calls_none = λ faults n. refl;
@@ -56,7 +56,7 @@ pub compact_commits : (number size : ℕ) → IsCommit (CommitCompact number siz
 compact_commits number size = record {
   early_is = λ m. refl;
   writes_is = λ u. refl;
-  unsure_is = λ reply unsure. refl;
+  unsure_is = λ reply unsure. adds_none (CommitCompact number size) refl reply unsure;
   files_are = λ reply file old new is. is;
   no_page = λ reply shows. tt;
   calls_none = λ faults n. refl;

@@ -19,14 +19,14 @@ use Rattle.block_list.specs.declared.body.SegmentRef.{SegmentRef}
 use Rattle.block_list.specs.declared.body.ListBody.{ListBody}
 use Rattle.block_info.specs.InfoParts.{InfoParts}
 use Rattle.block_format.specs.Blocks.{BlockHolds, BlockHasInfo}
-use Rattle.store_model.specs.History.{History, entry_rows, count_of}
+use Rattle.store_images.proofs.Kept.{stands_with}
+use Rattle.store_model.specs.History.{History, record_rows, count_of}
 use Rattle.store_model.specs.Laws.{AgreesOn}
 use Rattle.store_model.specs.State.{Block, block_rows}
 use Rattle.store_model.proofs.RowSetLaws.{first_is_in}
 use Rattle.store_images.specs.Log.{LogHolds}
 use Rattle.store_images.specs.Committed.{CommitsFlush}
 use Rattle.store_images.specs.Stored.{BlockStands, StoreHolds, ImageStandsFor, IsTidy, first_number, stored_rows, ref_of, next_file_of, named_files}
-use Rattle.store_images.specs.Stored.ImageStores.{filled}
 use Rattle.store_images.specs.Settled.{Tail, IsSettled}
 use Rattle.store_images.proofs.Committed.{committed, left_logged}
 use Rattle.store_images.proofs.Keeping.{segment_named, block_named, rules_in, given_out, blocks_same, slots_same, one_list}
@@ -119,22 +119,18 @@ module _ (held : Image) (may_leave : Image → Type 0) (body new : ListBody) (bl
       counts = counted;
       agrees = s.agrees;
       rest = c.rest;
-      within = λ x inside. Contains-append_right (block_rows blocks) (entry_rows (first_number body) all) x (c.logged all s.holds.logged x inside);
+      within = λ x inside. Contains-append_right (block_rows blocks) (record_rows (first_number body) all) x (c.logged all s.holds.logged x inside);
       above = c.above;
     }
 
     old_list : ImageHoldsList image (Some body) → ImageStandsFor image h
-    old_list holds = record {
-      rows = stored_rows blocks (first_number body) all;
-      stores = filled body blocks all (record {
-        listed = holds;
-        its_blocks = s.holds.its_blocks;
-        built = blocks_same held image blocks block_same s.holds.built;
-        logged = logs;
-        floored = s.holds.floored;
-      }) refl counted;
-      agrees = s.agrees;
-    }
+    old_list holds = stands_with image body blocks all h (record {
+      listed = holds;
+      its_blocks = s.holds.its_blocks;
+      built = blocks_same held image blocks block_same s.holds.built;
+      logged = logs;
+      floored = s.holds.floored;
+    }) s.agrees counted
 
     either : ImageHoldsEither (Some body) new image → ImageStandsFor image h
     either holds = elim holds [ inl old ↦ old_list old | inr next ↦ committed image body new blocks block all waiting h (new_list next) ]
@@ -194,7 +190,7 @@ module _ (held : Image) (may_leave : Image → Type 0) (body new : ListBody) (bl
         let is : l.before ≡ batches = one_log later new.segments (first_number new) l.before batches l.store.logged holds in
         let low = (rules_in later new ready.stands).from_floor in
         let high = c.above x inside in
-        subst (λ (b : List (List Span)). Contains (entry_rows (first_number new) b) x) is
+        subst (λ (b : List (List Span)). Contains (record_rows (first_number new) b) x) is
         (l.later x (c.logged all s.holds.logged x (Contains-append_right block.rows waiting x inside)) (omega (arith, low, high)))
 
   -- ---- tidiness

@@ -34,7 +34,7 @@ Pins = Vec (Option (List ℕ)) Global
 
 -- ---- what is known where the list is made
 
-module _ {D : Type 0} (g : Ghosts D) (old : Core D) (m0 : Machine) (s0 : CoreShows g old m0) (number file level pin : ℕ) (infos : List InfoParts) (is : IsOpenCompact m0 number file level pin (info_files infos)) (info : InfoParts)
+module _ {D : Type 0} (g : Ghosts D) (old : Core D) (m0 : Machine) (s0 : CoreShows g old m0) (number file level pin : ℕ) (infos : List InfoParts) (is : IsOpenCompact m0 (record { number = number; file = file; level = level; pin = pin; files = info_files infos })) (info : InfoParts)
     (writes : old.state.read_only ≡ None) (size : (1 ≤ info.rows) × (info.rows ≤ 1048576)) (joined : IsJoinedBlock (IsTrue (g.tells old.disk)) (λ f. bytes_of (g.held old.disk) f) file level info infos) where
   abbrev pub here : IsCompactionHere old.state m0 number file level pin (info_files infos)
   here = compaction_here old.state m0 m0 number file level pin (info_files infos) s0.has is s0.has

@@ -1,5 +1,5 @@
 -- A compaction that begins, as an event of a core.
-use Rattle.std.proofs.Common.{◌≡◌, ◌≢◌, inl, inr, ℕ, ◌+◌, ◌-◌, ◌^◌, ◌<◌, ◌≤◌, ◌==◌, min, List, [], ◌∷◌, length, map, Some, None, Option, IsTrue, Bool, true, false, not, refl, sym, ◌∙◌, ap, subst, arith, if◌then◌else◌}
+use Rattle.std.proofs.Common.{◌≡◌, ◌≢◌, inl, inr, ℕ, ◌+◌, ◌-◌, ◌^◌, ◌<◌, ◌≤◌, ◌==◌, min, List, [], length, map, Some, None, Option, IsTrue, Bool, true, false, not, refl, sym, ◌∙◌, ap, subst, arith, if◌then◌else◌}
 use Rattle.std.specs.Prelude.{nat_le, Vec, ◌||◌, ◌&&◌}
 use Rattle.std.proofs.lemmas.Bool.{le-leb, lt-leb, cases_lt}
 use Rattle.std.specs.Vec.{vec_len, vec_capacity}
@@ -47,7 +47,7 @@ use Rattle.store_core.proofs.Logged.{logged_kept}
 use Rattle.store_core.proofs.OpenJobs.{fresh_moved, segment_of_known, held_low}
 use Rattle.store_core.proofs.PinNumbers.{among-more, files-more}
 use Rattle.store_core.proofs.PushEvents.{OnlyNow, refused_is}
-use Rattle.store_core.proofs.Quiet.{quiet, none_begun, one_begun}
+use Rattle.store_core.proofs.Quiet.{quiet, none_begun, one_begun, adds_none}
 use Rattle.store_core.proofs.States.{has_stopped}
 
 -- ---- what is tested first
@@ -282,37 +282,37 @@ module _ {D : Type 0} (g : Ghosts D) (old : Core D) (disk : D) (writes : old.sta
   module _ (infos : Vec InfoParts Global) (jobs : Jobs) (pins : Vec (Option (List ℕ)) Global) (level pin : ℕ) (files : List ℕ) (room : CommitRoom) (known : infos.items ≡ old.state.infos.items) (spare : vec_len infos + 2 ≤ vec_capacity infos)
       (begun : Begun old.state.jobs jobs level pin old.state.list room) (its_pin : Pins pin files old.state.pins.items pins.items) (choice_is : (m : Machine) → HasState old.state m → IsChoice level files m) where
     after : (told told' : Type 0) → (told' → told) → (told → IsTrue (g.tells old.disk)) → (m : Machine) → StandsFor told (g.held old.disk) (g.may_leave old.disk) old.state m
-        → Step (g.faults old.disk) (g.faults disk) m BeginCompact (Compacting jobs.begun file level pin files) (with_state (after_begin_compact pin m.state) m) → (told → CoreStandsFor g old m)
+        → Step (g.faults old.disk) (g.faults disk) m BeginCompact (Compacting (record { number = jobs.begun; file = file; level = level; pin = pin; files = files })) (with_state (after_begin_compact pin m.state) m) → (told → CoreStandsFor g old m)
         → StandsFor told' (g.held disk) (g.may_leave disk) (record old.state { infos = infos; jobs = jobs; pins = pins }) (with_state (after_begin_compact pin m.state) m)
     after told told' later_told tells m s step whole =
         stands_kept told told' (g.held old.disk) (g.held disk) (g.may_leave old.disk) (g.may_leave disk) old.state (record old.state { infos = infos; jobs = jobs; pins = pins }) m (with_state (after_begin_compact pin m.state) m)
-        (g.faults old.disk) (g.faults disk) BeginCompact (Compacting jobs.begun file level pin files) later_told s step refl
+        (g.faults old.disk) (g.faults disk) BeginCompact (Compacting (record { number = jobs.begun; file = file; level = level; pin = pin; files = files })) later_told s step refl
         (has_begun old.state infos jobs pins m level pin files room none below s.sound.fits.jobs known spare begun its_pin (choice_is m s.has) s.has) refl
         (λ t. (run_keeps (tells t) m (whole t)).now)
         (λ t. built_same (g.held disk) old.state infos m known (described_below (g.held old.disk) (g.held disk) old.state m s.has (same_held (tells t) m s.has) (s.built t)))
         (λ t free. settled_below (g.held old.disk) (g.may_leave old.disk) old.state.list (s.settled t writes).lies.ready (g.held disk) (g.may_leave disk) (same_held (tells t) m s.has) (run_below m s.has).now
         m.state.blocks (tail_of old.state.segment) m.history (s.settled t writes))
         (λ free. free) (λ t free. fresh_later (tells t) m (whole t) jobs begun.flush)
-        (λ t free. logged_kept (g.held old.disk) (g.held disk) old.state.list (g.faults old.disk) (g.faults disk) m (with_state (after_begin_compact pin m.state) m) BeginCompact (Compacting jobs.begun file level pin files)
+        (λ t free. logged_kept (g.held old.disk) (g.held disk) old.state.list (g.faults old.disk) (g.faults disk) m (with_state (after_begin_compact pin m.state) m) BeginCompact (Compacting (record { number = jobs.begun; file = file; level = level; pin = pin; files = files }))
         s.has.rules (same_held (tells t) m s.has) step refl (s.logged t writes))
 
-    its_step : (m : Machine) → HasState old.state m → m.state.begun + 3 ≤ m.state.next_file → Step (g.faults old.disk) (g.faults disk) m BeginCompact (Compacting jobs.begun file level pin files) (with_state (after_begin_compact pin m.state) m)
+    its_step : (m : Machine) → HasState old.state m → m.state.begun + 3 ≤ m.state.next_file → Step (g.faults old.disk) (g.faults disk) m BeginCompact (Compacting (record { number = jobs.begun; file = file; level = level; pin = pin; files = files })) (with_state (after_begin_compact pin m.state) m)
     its_step m has fits =
         let number : jobs.begun ≡ m.state.begun + 1 = (let was = has.begun in let next = has.next_file in let now = begun.number in omega (arith, was, next, now, fits, below)) in
         let its = choice_is m has in
         Succeeds (free m has) (
           pin,
           record { is_free = has.pins pin ∙ its_pin.free; least = λ other no_pin. its_pin.least other (sym (has.pins other) ∙ no_pin) },
-          ap (λ (n : ℕ). Compacting n file level pin files) number ∙ ap (λ (f : ℕ). Compacting (m.state.begun + 1) f level pin files) (sym has.next_file)
-              ∙ ap (λ (l : ℕ). Compacting (m.state.begun + 1) m.state.next_file l pin files) its.0
-              ∙ ap (λ (fs : List ℕ). Compacting (m.state.begun + 1) m.state.next_file (level_of (choice m.state.blocks) + 1) pin fs) its.1,
+          ap (λ (n : ℕ). Compacting (record { number = n; file = file; level = level; pin = pin; files = files })) number ∙ ap (λ (f : ℕ). Compacting (record { number = m.state.begun + 1; file = f; level = level; pin = pin; files = files })) (sym has.next_file)
+              ∙ ap (λ (l : ℕ). Compacting (record { number = m.state.begun + 1; file = m.state.next_file; level = l; pin = pin; files = files })) its.0
+              ∙ ap (λ (fs : List ℕ). Compacting (record { number = m.state.begun + 1; file = m.state.next_file; level = level_of (choice m.state.blocks) + 1; pin = pin; files = fs })) its.1,
           refl,
         )
 
     pub did_compact : (IsTrue (g.tells old.disk) → IsEmptied (g.held disk) (g.may_leave disk) file)
-        → Did g old BeginCompact (Compacting jobs.begun file level pin files) (record old { disk = disk; state = record old.state { infos = infos; jobs = jobs; pins = pins } })
+        → Did g old BeginCompact (Compacting (record { number = jobs.begun; file = file; level = level; pin = pin; files = files })) (record old { disk = disk; state = record old.state { infos = infos; jobs = jobs; pins = pins } })
     did_compact empty =
-        did_kept g old disk (record old.state { infos = infos; jobs = jobs; pins = pins }) BeginCompact (Compacting jobs.begun file level pin files) telling run_keeps refl refl
+        did_kept g old disk (record old.state { infos = infos; jobs = jobs; pins = pins }) BeginCompact (Compacting (record { number = jobs.begun; file = file; level = level; pin = pin; files = files })) telling run_keeps refl refl
         (λ m s.
         let step = its_step m s.has s.sound.fits.jobs in (
           with_state (after_begin_compact pin m.state) m,
@@ -328,14 +328,14 @@ module _ {D : Type 0} (g : Ghosts D) (old : Core D) (disk : D) (writes : old.sta
         ))
         (λ told m s hold is_open stays f among. stay told m s hold is_open f among)
         (λ told f among. one_begun file f (IsEmptied (g.held disk) (g.may_leave disk)) (empty told) among) (λ told. tt) (λ shows h. tt)
-        later (λ is. let bad : Compacting jobs.begun file level pin files ≡ Refused Fault = is in absurd cc) calls (omega (arith, reads), omega (arith, reads))
+        later (λ is. let bad : Compacting (record { number = jobs.begun; file = file; level = level; pin = pin; files = files }) ≡ Refused Fault = is in absurd cc) calls (omega (arith, reads), omega (arith, reads))
 
   pub did_compact_fail : (infos : Vec InfoParts Global) (jobs : Jobs) (pins : Vec (Option (List ℕ)) Global) (faults : ℕ) → faults ≡ g.faults disk → Rose (g.faults old.disk) (g.faults disk)
       → KeepsRooms old.state.list old.state.infos infos old.state.jobs jobs → SamePins old.state.pins.items pins.items
       → Did g old BeginCompact (Refused Fault) (record old { disk = disk; state = record old.state { infos = infos; jobs = jobs; pins = pins; read_only = Some faults } })
   did_compact_fail infos jobs pins faults counted rose kept same =
       subst (λ (n : ℕ). Did g old BeginCompact (Refused Fault) (record old { disk = disk; state = record old.state { infos = infos; jobs = jobs; pins = pins; read_only = Some n } })) (sym counted)
-      (did_kept g old disk (record old.state { infos = infos; jobs = jobs; pins = pins; read_only = Some (g.faults disk) }) BeginCompact (Refused Fault) telling run_keeps refl refl
+      (did_kept g old disk (record old.state { infos = infos; jobs = jobs; pins = pins; read_only = Some (g.faults disk) }) BeginCompact (Refused Fault) telling run_keeps refl (adds_none BeginCompact refl (Refused Fault) _)
       (λ m s. (
         broken (g.faults disk) m,
         stands_kept (IsTrue (g.tells old.disk)) (IsTrue (g.tells disk)) (g.held old.disk) (g.held disk) (g.may_leave old.disk) (g.may_leave disk) old.state (record old.state { infos = infos; jobs = jobs; pins = pins; read_only = Some (g.faults disk) }) m

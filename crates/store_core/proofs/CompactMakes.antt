@@ -118,11 +118,11 @@ module _ {D : Type 0} (g : Ghosts D) (old : Core D) (disk : D) (chosen : List �
   pub did_made : (jobs : Jobs) (number : ℕ) → number ≡ jobs.begun → jobs.begun ≡ min (mid.jobs.begun + 1) (2 ^ 64 - 1) → jobs.next_file ≡ mid.jobs.next_file + 1
       → jobs.compaction ≡ Some (record { number = jobs.begun; file = mid.jobs.next_file; level = level; pin = pin.number; room = Some room }) → (jobs.loose ≡ mid.jobs.loose) × (jobs.flush ≡ mid.jobs.flush)
       → Picks old.state.list.blocks chosen → ChoiceIsFew → (IsTrue (g.tells old.disk) → IsEmptied (g.held disk) (g.may_leave disk) mid.jobs.next_file)
-      → Did g old BeginCompact (Compacting number mid.jobs.next_file level pin.number (info_files pin.blocks)) (record old { disk = disk; state = record mid { jobs = jobs } })
+      → Did g old BeginCompact (Compacting (record { number = number; file = mid.jobs.next_file; level = level; pin = pin.number; files = info_files pin.blocks })) (record old { disk = disk; state = record mid { jobs = jobs } })
   did_made jobs number is now next compaction still picks few empty =
-      subst (λ (s : CoreState). Did g old BeginCompact (Compacting number mid.jobs.next_file level pin.number (info_files pin.blocks)) (record old { disk = disk; state = record s { jobs = jobs } })) (sym made.still.is)
-      (subst (λ (f : ℕ). Did g old BeginCompact (Compacting number f level pin.number (info_files pin.blocks)) (record old { disk = disk; state = record old.state { infos = mid.infos; jobs = jobs; pins = mid.pins } })) (sym same_file)
-      (subst (λ (n : ℕ). Did g old BeginCompact (Compacting n old.state.jobs.next_file level pin.number (info_files pin.blocks)) (record old { disk = disk; state = record old.state { infos = mid.infos; jobs = jobs; pins = mid.pins } })) (sym is)
+      subst (λ (s : CoreState). Did g old BeginCompact (Compacting (record { number = number; file = mid.jobs.next_file; level = level; pin = pin.number; files = info_files pin.blocks })) (record old { disk = disk; state = record s { jobs = jobs } })) (sym made.still.is)
+      (subst (λ (f : ℕ). Did g old BeginCompact (Compacting (record { number = number; file = f; level = level; pin = pin.number; files = info_files pin.blocks })) (record old { disk = disk; state = record old.state { infos = mid.infos; jobs = jobs; pins = mid.pins } })) (sym same_file)
+      (subst (λ (n : ℕ). Did g old BeginCompact (Compacting (record { number = n; file = old.state.jobs.next_file; level = level; pin = pin.number; files = info_files pin.blocks })) (record old { disk = disk; state = record old.state { infos = mid.infos; jobs = jobs; pins = mid.pins } })) (sym is)
       (did_compact g old disk may.writes may.none may.files free telling its_run its_others later calls reads mid.infos jobs mid.pins level pin.number (info_files pin.blocks) room made.still.keeps.infos made.has_room.infos
       (begun_after old.state.jobs mid.jobs jobs level pin.number old.state.list mid.infos room made.still.keeps.same made.has_room now next compaction still)
       (pins_made old.state mid chosen level pin room made)

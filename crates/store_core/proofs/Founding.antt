@@ -15,6 +15,7 @@ use Rattle.block_list.specs.Loading.{IsReady}
 use Rattle.block_list.proofs.ReadyLemmas.{ready_besides}
 use Rattle.block_list.specs.declared.body.SegmentRef.{SegmentRef}
 use Rattle.block_list.specs.declared.body.ListBody.{ListBody}
+use Rattle.store_images.proofs.Kept.{stands_with}
 use Rattle.store_model.specs.History.{History, count_of}
 use Rattle.store_images.specs.Log.LogHolds.{ended, goes_on}
 use Rattle.span_types.specs.declared.spans.Row.{Row}
@@ -52,7 +53,7 @@ empty_history image h none s = by_stores s.rows (count_of h) s.stores s.agrees r
   where
     by_stores : (rows : List Row) (count : ℕ) → ImageStores image rows count → AgreesOn rows h → count_of h ≡ count → IsEmptyHistory h
     by_stores rows count (vacant holds no_rows no_count) agrees is = record { no_rows = subst (λ (r : List Row). AgreesOn r h) no_rows agrees; no_entries = is ∙ no_count }
-    by_stores rows count (filled body blocks batches st rows_are counts) agrees is = absurd (let bad : None ≡ Some body = one_list image None (Some body) none st.listed in cc)
+    by_stores rows count (filled body blocks batches st one rows_are counts) agrees is = absurd (let bad : None ≡ Some body = one_list image None (Some body) none st.listed in cc)
 
 -- no list stands in the slots
 pub nothing_there : (image : Image) → ImageHoldsList image None → StoresNothing image
@@ -74,7 +75,7 @@ new_holds image listed empty = record {
 
 pub new_there : (image : Image) → ImageHoldsList image (Some new_list) → SegmentHolds 0 [] 1 (bytes_of image 2) → StoresNothing image
 new_there image listed empty = record {
-  stands = λ h none. record { rows = []; stores = filled new_list [] [] (new_holds image listed empty) refl none.no_entries; agrees = none.no_rows };
+  stands = λ h none. stands_with image new_list [] [] h (new_holds image listed empty) none.no_rows none.no_entries;
   only = λ h s. let f = found image new_list [] [] h refl listed (new_holds image listed empty).built (new_holds image listed empty).logged s in record { no_rows = f.agrees; no_entries = f.counts };
   tidy = record {
     list = Some new_list;

@@ -61,23 +61,23 @@ by_head file own files G among here there = at (own == file) refl
     at false e = there (let k : is_among file (own ∷ files) ≡ is_among file files = rw e refl in sym k ∙ among)
 
 pub held_apart : (m : Machine) (hold : Hold) → StateIsSound m.state → OpenIn m hold → (file : ℕ) → is_among file (files_of hold) ≡ true → times file (segment_files m.state.segments) ≡ 0
-held_apart m (OpenLook pin files as_of rows) sound is file among = pinned_apart m.state sound pin file files is.its_files among
-held_apart m (OpenFlush number own rows) sound is file among =
-    flush_apart m.state sound file (in_flush file m.state.flush is.job is.is_open (subst (λ (f : ℕ). 1 ≤ times file (f ∷ [])) (sym is.its_file) (one_of file own among)))
-held_apart m (OpenCompact number own level pin files) sound is file among =
-    by_head file own files (times file (segment_files m.state.segments) ≡ 0) among
-    (λ here. compact_apart m.state sound file (in_compaction file m.state.compaction is.job is.is_open (subst (λ (f : ℕ). 1 ≤ times file (f ∷ [])) (sym is.its_file) (one_of file own here))))
-    (λ there. pinned_apart m.state sound pin file files is.its_files there)
+held_apart m (OpenLook look) sound is file among = pinned_apart m.state sound look.pin file look.files is.its_files among
+held_apart m (OpenFlush job) sound is file among =
+    flush_apart m.state sound file (in_flush file m.state.flush is.job is.is_open (subst (λ (f : ℕ). 1 ≤ times file (f ∷ [])) (sym is.its_file) (one_of file job.file among)))
+held_apart m (OpenCompact job) sound is file among =
+    by_head file job.file job.files (times file (segment_files m.state.segments) ≡ 0) among
+    (λ here. compact_apart m.state sound file (in_compaction file m.state.compaction is.job is.is_open (subst (λ (f : ℕ). 1 ≤ times file (f ∷ [])) (sym is.its_file) (one_of file job.file here))))
+    (λ there. pinned_apart m.state sound job.pin file job.files is.its_files there)
 
 -- what is held is used
 pub held_used : (m : Machine) (hold : Hold) → StateIsSound m.state → OpenIn m hold → (file : ℕ) → is_among file (files_of hold) ≡ true → 1 ≤ uses file m.state
-held_used m (OpenLook pin files as_of rows) sound is file among = pinned_used m.state sound pin file files is.its_files among
-held_used m (OpenFlush number own rows) sound is file among =
-    let used = in_flush file m.state.flush is.job is.is_open (subst (λ (f : ℕ). 1 ≤ times file (f ∷ [])) (sym is.its_file) (one_of file own among)) in omega (arith, used)
-held_used m (OpenCompact number own level pin files) sound is file among =
-    by_head file own files (1 ≤ uses file m.state) among
-    (λ here. let used = in_compaction file m.state.compaction is.job is.is_open (subst (λ (f : ℕ). 1 ≤ times file (f ∷ [])) (sym is.its_file) (one_of file own here)) in omega (arith, used))
-    (λ there. pinned_used m.state sound pin file files is.its_files there)
+held_used m (OpenLook look) sound is file among = pinned_used m.state sound look.pin file look.files is.its_files among
+held_used m (OpenFlush job) sound is file among =
+    let used = in_flush file m.state.flush is.job is.is_open (subst (λ (f : ℕ). 1 ≤ times file (f ∷ [])) (sym is.its_file) (one_of file job.file among)) in omega (arith, used)
+held_used m (OpenCompact job) sound is file among =
+    by_head file job.file job.files (1 ≤ uses file m.state) among
+    (λ here. let used = in_compaction file m.state.compaction is.job is.is_open (subst (λ (f : ℕ). 1 ≤ times file (f ∷ [])) (sym is.its_file) (one_of file job.file here)) in omega (arith, used))
+    (λ there. pinned_used m.state sound job.pin file job.files is.its_files there)
 
 -- what a filter refuses is not among what it leaves
 pub none_left : (n : ℕ) (p : ℕ → Bool) (xs : List ℕ) → p n ≡ false → times n (filter p xs) ≡ 0
@@ -104,12 +104,12 @@ other_kept u sound file used =
 
 -- what is held isn't among the loose files that no pin names
 pub held_kept : (m : Machine) (hold : Hold) → StateIsSound m.state → OpenIn m hold → (file : ℕ) → is_among file (files_of hold) ≡ true → times file (free_files m.state) ≡ 0
-held_kept m (OpenLook pin files as_of rows) sound is file among = pinned_kept m.state pin file files is.its_files among
-held_kept m (OpenFlush number own rows) sound is file among =
-    let used = in_flush file m.state.flush is.job is.is_open (subst (λ (f : ℕ). 1 ≤ times file (f ∷ [])) (sym is.its_file) (one_of file own among)) in
+held_kept m (OpenLook look) sound is file among = pinned_kept m.state look.pin file look.files is.its_files among
+held_kept m (OpenFlush job) sound is file among =
+    let used = in_flush file m.state.flush is.job is.is_open (subst (λ (f : ℕ). 1 ≤ times file (f ∷ [])) (sym is.its_file) (one_of file job.file among)) in
     other_kept m.state sound file (omega (arith, used))
-held_kept m (OpenCompact number own level pin files) sound is file among =
-    by_head file own files (times file (free_files m.state) ≡ 0) among
-    (λ here. let used = in_compaction file m.state.compaction is.job is.is_open (subst (λ (f : ℕ). 1 ≤ times file (f ∷ [])) (sym is.its_file) (one_of file own here)) in
+held_kept m (OpenCompact job) sound is file among =
+    by_head file job.file job.files (times file (free_files m.state) ≡ 0) among
+    (λ here. let used = in_compaction file m.state.compaction is.job is.is_open (subst (λ (f : ℕ). 1 ≤ times file (f ∷ [])) (sym is.its_file) (one_of file job.file here)) in
     other_kept m.state sound file (omega (arith, used)))
-    (λ there. pinned_kept m.state pin file files is.its_files there)
+    (λ there. pinned_kept m.state job.pin file job.files is.its_files there)

@@ -1,12 +1,12 @@
 -- Events that write to a disk and leave the history as it is.
-use Rattle.std.proofs.Common.{◌≡◌, inl, inr, ℕ, ◌≤◌, List, [], Some, None, Option, IsTrue, true, false, sym, ◌∙◌, subst}
+use Rattle.std.proofs.Common.{◌≡◌, inl, inr, ℕ, ◌≤◌, List, [], ◌∷◌, Some, None, Option, IsTrue, true, false, sym, ◌∙◌, subst}
 use Rattle.span_types.specs.Faults.{Rose}
-use Rattle.span_types.specs.declared.spans.Span.{Span}
 use Rattle.disk_model.specs.Images.{Image, bytes_of}
 use Rattle.disk_model.specs.Crash.{Within, Reached, Run}
 use Rattle.disk_model.specs.declared.disk.Device.{Ghosts}
 use Rattle.disk_model.proofs.Moments.{widened}
-use Rattle.store_model.specs.History.{History, pushed}
+use Rattle.store_entries.specs.declared.entry.Entry.{Entry}
+use Rattle.store_model.specs.History.{History, grown}
 use Rattle.store_model.specs.State.{is_among}
 use Rattle.store_model.specs.Event.{Event, Reply}
 use Rattle.store_model.specs.Event.Reply.{Refused}
@@ -32,10 +32,10 @@ use Rattle.store_core.specs.Cores.{HasState, StandsFor, CoreStandsFor, CoreShows
 use Rattle.store_core.specs.Events.{Did, Between, unsure_after}
 use Rattle.store_core.proofs.Described.{described_same}
 
-pub may_kept : (h : History) (unsure : Option (List Span)) (origin image : Image) → KeepsStored origin image → MayStandFor h unsure origin → MayStandFor h unsure image
+pub may_kept : (h : History) (unsure : Option Entry) (origin image : Image) → KeepsStored origin image → MayStandFor h unsure origin → MayStandFor h unsure image
 may_kept h None origin image keeps s = keeps.stands h s
-may_kept h (Some spans) origin image keeps (inl s) = inl (keeps.stands h s)
-may_kept h (Some spans) origin image keeps (inr s) = inr (keeps.stands (pushed h spans) s)
+may_kept h (Some entry) origin image keeps (inl s) = inl (keeps.stands h s)
+may_kept h (Some entry) origin image keeps (inr s) = inr (keeps.stands (grown h (entry ∷ [])) s)
 
 -- what the core stands for afterwards
 pub stands_kept : (told told' : Type 0) (held held' : Image) (may_leave may_leave' : Image → Type 0) (core core' : CoreState) (m m' : Machine) (before faults : ℕ) (e : Event) (r : Reply)
@@ -54,7 +54,7 @@ stands_kept told told' held held' may_leave may_leave' core core' m m' before fa
   now = λ t image left.
       let from = within (known t) image left in
       subst (λ (h : History). MayStandFor h (unsure_of core') image) (sym history)
-      (subst (λ (u : Option (List Span)). MayStandFor m.history u image) (sym unsure) (may_kept m.history (unsure_of core) from.0 image from.2 (s.now (known t) from.0 from.1)));
+      (subst (λ (u : Option Entry). MayStandFor m.history u image) (sym unsure) (may_kept m.history (unsure_of core) from.0 image from.2 (s.now (known t) from.0 from.1)));
   settled = λ t free. settled (known t) free;
   sure = λ free. unsure ∙ s.sure (writes free);
   fresh = λ t free. fresh (known t) free;

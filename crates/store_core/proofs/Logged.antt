@@ -10,7 +10,7 @@ use Rattle.head_log.specs.Stands.{SegmentHolds}
 use Rattle.block_list.specs.Body.{MeetsRules}
 use Rattle.block_list.specs.declared.body.SegmentRef.{SegmentRef}
 use Rattle.block_list.specs.declared.body.ListBody.{ListBody}
-use Rattle.store_model.specs.History.{History, batch_rows, entry_rows, count_of, pushed}
+use Rattle.store_model.specs.History.{History, batch_rows, record_rows, count_of, pushed}
 use Rattle.store_model.specs.RowSets.{Within}
 use Rattle.store_model.specs.State.{State, LiveRow, Block, Flush, live_rows, flush_rows}
 use Rattle.store_model.specs.Choice.{most_rows}
@@ -175,10 +175,10 @@ module _ (held : Image) (may_leave : Image → Type 0) (body : ListBody) (blocks
   pub logged_push : (u : State) (moment : ℕ) → AreLogged held body (rows_outside u) → AreLogged later body (rows_outside (after_push (count_of h) spans moment u))
   logged_push u moment was = λ batches holds x c.
       let is : all ++ spans ∷ [] ≡ batches = one_log later body.segments first (all ++ spans ∷ []) batches new_log holds in
-      let rows : entry_rows first (all ++ spans ∷ []) ≡ entry_rows first all ++ batch_rows (first + length all) spans = stored_more [] first all spans in
-      subst (λ (b : List (List Span)). Contains (entry_rows first b) x) is
+      let rows : record_rows first (all ++ spans ∷ []) ≡ record_rows first all ++ batch_rows (first + length all) spans = stored_more [] first all spans in
+      subst (λ (b : List (List Span)). Contains (record_rows first b) x) is
       (subst (λ (r : List Row). Contains r x) (sym rows)
       (elim (Contains-append_cases (rows_outside u) (batch_rows (count_of h) spans) x (pushed_rows (count_of h) spans moment u x c)) [
-        | inl old ↦ Contains-append_left (entry_rows first all) (batch_rows (first + length all) spans) x (was all s.holds.logged x old)
-        | inr added ↦ Contains-append_right (entry_rows first all) (batch_rows (first + length all) spans) x (subst (λ (n : ℕ). Contains (batch_rows n spans) x) next added)
+        | inl old ↦ Contains-append_left (record_rows first all) (batch_rows (first + length all) spans) x (was all s.holds.logged x old)
+        | inr added ↦ Contains-append_right (record_rows first all) (batch_rows (first + length all) spans) x (subst (λ (n : ℕ). Contains (batch_rows n spans) x) next added)
       ]))

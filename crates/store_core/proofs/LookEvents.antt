@@ -43,9 +43,9 @@ pub did_looked : {D : Type 0} (g : Ghosts D) (only_now : OnlyNow g) (old : Core 
     → is_taken number old.state.pins.items ≡ false → ((other : ℕ) → is_taken other old.state.pins.items ≡ false → number ≤ other)
     → ((other : ℕ) → is_taken other pins.items ≡ (is_taken other old.state.pins.items || (number == other)))
     → ((other : ℕ) → files_at other pins.items ≡ (if number == other then files else files_at other old.state.pins.items))
-    → Did g old Look (Looked number files as_of rows) (record old { state = record old.state { pins = pins } })
+    → Did g old Look (Looked (record { pin = number; files = files; as_of = as_of; rows = rows })) (record old { state = record old.state { pins = pins } })
 did_looked {D} g only_now old pins number as_of files rows length_is sum listed is free least taken named =
-    quiet g only_now old (record old.state { pins = pins }) Look (Looked number files as_of rows) (λ file bytes. refl) (λ e. let bad : Looked number files as_of rows ≡ Refused Fault = e in cc) (λ n. refl) refl refl (λ shows. tt)
+    quiet g only_now old (record old.state { pins = pins }) Look (Looked (record { pin = number; files = files; as_of = as_of; rows = rows })) (λ file bytes. refl) (λ e. let bad : Looked (record { pin = number; files = files; as_of = as_of; rows = rows }) ≡ Refused Fault = e in cc) (λ n. refl) refl refl (λ shows. tt)
     (λ told m s.
     let few = s.has.few in
     let whole : as_of ≡ old.state.segment.first + old.state.segment.count = omega (arith, sum, few) in

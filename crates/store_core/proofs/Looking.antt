@@ -97,14 +97,14 @@ waiting_in core m rows has is =
 pub step_looked : (core : CoreState) (m : Machine) (before faults number as_of : ℕ) (files : List ℕ) (rows : List Row) → HasState core m → as_of ≡ count_of m.history → files ≡ block_files m.state.blocks
     → rows ≡ core.live.flushing ++ core.live.head ++ live_rows core.live.live
     → is_taken number core.pins.items ≡ false → ((other : ℕ) → is_taken other core.pins.items ≡ false → number ≤ other)
-    → Step before faults m Look (Looked number files as_of rows) (with_state (after_look number m.state) m)
+    → Step before faults m Look (Looked (record { pin = number; files = files; as_of = as_of; rows = rows })) (with_state (after_look number m.state) m)
 step_looked core m before faults number as_of files rows has length listed is free least =
     Succeeds refl (
       number,
       rows,
       record { is_free = has.pins number ∙ free; least = λ other no_pin. least other (sym (has.pins other) ∙ no_pin) },
       waiting_in core m rows has is,
-      ap (λ (f : List ℕ). Looked number f as_of rows) listed ∙ ap (λ (n : ℕ). Looked number (block_files m.state.blocks) n rows) length,
+      ap (λ (f : List ℕ). Looked (record { pin = number; files = f; as_of = as_of; rows = rows })) listed ∙ ap (λ (n : ℕ). Looked (record { pin = number; files = block_files m.state.blocks; as_of = n; rows = rows })) length,
       refl,
     )
 

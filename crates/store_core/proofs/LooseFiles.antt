@@ -19,9 +19,10 @@ use Rattle.block_list.proofs.SlotLemmas.{same_some}
 use Rattle.block_list.specs.declared.body.BlockRef.{BlockRef}
 use Rattle.block_list.specs.declared.body.SegmentRef.{SegmentRef}
 use Rattle.block_list.specs.declared.body.ListBody.{ListBody}
+use Rattle.store_model.specs.RowSets.{OnePlace}
 use Rattle.store_model.specs.History.{History, count_of}
 use Rattle.store_model.specs.State.{Block}
-use Rattle.store_images.specs.Stored.{StoreHolds, ImageStores, ImageStandsFor, KeepsStored, ref_of, named_files, next_file_of, stored_rows, first_number}
+use Rattle.store_images.specs.Stored.{StoreHolds, ImageStores, ImageStandsFor, KeepsStored, ref_of, named_files, next_file_of, stored_rows, first_number, kept_rows}
 use Rattle.store_images.specs.Stored.ImageStores.{vacant, filled}
 use Rattle.store_images.proofs.Lists.{in_cons, not_in_nil, in_map}
 use Rattle.store_images.proofs.Logs.{log_same}
@@ -87,10 +88,11 @@ module _ (a b : Image) (body : ListBody) (generation next_file : ℕ) (loose : L
     where
       moved : (rows : _) (count : ℕ) → ImageStores a rows count → ImageStores b rows count
       moved rows count (vacant holds no_rows no_count) = absurd (let bad : None ≡ Some body = one_list a None (Some body) holds there in cc)
-      moved rows count (filled other blocks batches s is counts) =
+      moved rows count (filled other blocks batches s one is counts) =
           let e : other ≡ body = same_some other body (one_list a (Some other) (Some body) s.listed there) in
           filled (record body { generation = generation; next_file = next_file; loose = loose }) blocks batches (store_moved blocks batches (subst (λ (o : ListBody). StoreHolds a o blocks batches) e s))
-          (is ∙ ap (λ (o : ListBody). stored_rows blocks (first_number o) batches) e) (counts ∙ ap (λ (o : ListBody). first_number o + length batches) e)
+          (subst (λ (o : ListBody). OnePlace (stored_rows blocks (first_number o) batches)) e one)
+          (is ∙ ap (λ (o : ListBody). kept_rows o blocks batches) e) (counts ∙ ap (λ (o : ListBody). first_number o + length batches) e)
 
 -- ---- one file is emptied
 

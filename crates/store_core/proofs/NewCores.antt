@@ -4,6 +4,7 @@ use Rattle.span_types.specs.declared.spans.Span.{Span}
 use Rattle.disk_model.specs.Images.{Image}
 use Rattle.block_list.specs.Body.{MeetsRules}
 use Rattle.block_list.specs.declared.body.ListBody.{ListBody}
+use Rattle.store_entries.specs.declared.entry.Entry.{Entry}
 use Rattle.store_model.specs.History.{History}
 use Rattle.store_model.specs.Sound.{StateIsSound}
 use Rattle.store_model.proofs.Numbers.{times_one, times_not}
@@ -67,7 +68,7 @@ new_stands told held may_leave core h new made empty = record {
   sound = new_sound h;
   above = record { waiting = λ row c. absurd (not_in_nil row c); next = omega arith };
   built = λ t. none_described held core.infos.items (new.has h empty).infos;
-  now = λ t image left. subst (λ (u : Option (List Span)). MayStandFor h u image) (sym new.sure) (settled_now held may_leave new_list [] new_tail h (made t h empty) image left);
+  now = λ t image left. subst (λ (u : Option Entry). MayStandFor h u image) (sym new.sure) (settled_now held may_leave new_list [] new_tail h (made t h empty) image left);
   settled = λ t free. subst (λ (l : ListBody). IsSettled held may_leave l [] (tail_of core.segment) h) (sym new.list) (subst (λ (x : Tail). IsSettled held may_leave new_list [] x h) (sym new.tail) (made t h empty));
   sure = λ free. new.sure;
   fresh = λ t free. no_segment held may_leave core.jobs new.jobs.flush;

@@ -42,7 +42,7 @@ pub shown_here : (core : CoreState) (m : Machine) (mine : OpenCompaction) → Ha
 shown_here core m mine has known = subst (λ (k : Option OpenCompaction). ShowsCompaction k m.state.compaction) known has.compaction
 
 -- A compaction that is open in one machine which the core's memory shows is open in each.
-pub compaction_here : (core : CoreState) (m0 m : Machine) (number file level pin : ℕ) (files : List ℕ) → HasState core m0 → IsOpenCompact m0 number file level pin files → HasState core m
+pub compaction_here : (core : CoreState) (m0 m : Machine) (number file level pin : ℕ) (files : List ℕ) → HasState core m0 → IsOpenCompact m0 (record { number = number; file = file; level = level; pin = pin; files = files }) → HasState core m
     → IsCompactionHere core m number file level pin files
 compaction_here core m0 m number file level pin files its is has =
     let there = shown_is core.jobs.compaction m0.state.compaction is.job its.compaction is.is_open in
@@ -60,7 +60,7 @@ compaction_here core m0 m number file level pin files its is has =
       named = sym (its.pinned pin) ∙ is.its_files;
     }
 
-pub open_there : (core : CoreState) (m : Machine) (number file level pin : ℕ) (files : List ℕ) → IsCompactionHere core m number file level pin files → IsOpenCompact m number file level pin files
+pub open_there : (core : CoreState) (m : Machine) (number file level pin : ℕ) (files : List ℕ) → IsCompactionHere core m number file level pin files → IsOpenCompact m (record { number = number; file = file; level = level; pin = pin; files = files })
 open_there core m number file level pin files here = record {
   job = model_of here.mine;
   is_open = here.is_open;

@@ -4,6 +4,7 @@ use Rattle.std.proofs.lemmas.Bool.{cases_lt}
 use Rattle.disk_model.specs.Images.{Image, bytes_of}
 use Rattle.disk_model.specs.Crash.{OnlyBytes}
 use Rattle.head_log.specs.Stands.{SegmentHolds}
+use Rattle.store_model.specs.Event.{CompactParts}
 use Rattle.store_model.specs.State.{Flush, flush_files, compaction_files, is_among}
 use Rattle.store_model.specs.Sound.{times, StateIsSound}
 use Rattle.store_model.specs.Holds.{Hold, OpenIn, IsOpenCompact, files_of}
@@ -129,17 +130,17 @@ compact_apart core m number file level pin files has sound here mine known same 
     let once = sound.files.once mine.files.segment in
     absurd (omega (arith, segment, compaction, once))
 
-compact_file : (core : CoreState) (m0 : Machine) (number file level pin : ℕ) (files : List ℕ) → HasState core m0 → IsOpenCompact m0 number file level pin files → IsJobFile core file
-compact_file core m0 number file level pin files its is =
-    let here0 = compaction_here core m0 m0 number file level pin files its is its in
+compact_file : (core : CoreState) (m0 : Machine) (mine : CompactParts) → HasState core m0 → IsOpenCompact m0 mine → IsJobFile core mine.file
+compact_file core m0 mine its is =
+    let here0 = compaction_here core m0 m0 mine.number mine.file mine.level mine.pin mine.files its is its in
     record {
       spare = subst (λ (f : ℕ). IsSpare core.list f) here0.its_file (spare_compaction core m0 here0.mine its here0.known);
-      apart = λ m has sound. compact_apart core m number file level pin files has sound (compaction_here core m0 m number file level pin files its is has);
+      apart = λ m has sound. compact_apart core m mine.number mine.file mine.level mine.pin mine.files has sound (compaction_here core m0 m mine.number mine.file mine.level mine.pin mine.files its is has);
     }
 
 pub job_file : (core : CoreState) (m0 : Machine) (out : JobFile) → HasState core m0 → IsJobOf out (OpenIn m0) → IsJobFile core out.file
-job_file core m0 out its (OfFlush rows is) = flush_file core m0 out.number out.file is.job its is.is_open is.its_number is.its_file
-job_file core m0 out its (OfCompact level pin files is) = compact_file core m0 out.number out.file level pin files its is
+job_file core m0 out its (OfFlush mine number file is) = flush_file core m0 out.number out.file is.job its is.is_open (is.its_number ∙ number) (is.its_file ∙ file)
+job_file core m0 out its (OfCompact mine number file is) = subst (λ (f : ℕ). IsJobFile core f) file (compact_file core m0 mine its is)
 
 -- ---- a file that is held was given out
 

@@ -14,7 +14,8 @@ use Rattle.block_info.specs.InfoParts.{InfoParts}
 use Rattle.block_list.specs.declared.body.BlockRef.{BlockRef}
 use Rattle.block_list.specs.declared.body.SegmentRef.{SegmentRef}
 use Rattle.block_list.specs.declared.body.ListBody.{ListBody}
-use Rattle.store_model.specs.History.{History, batch_rows, entry_rows, history_rows, count_of}
+use Rattle.store_entries.specs.declared.entry.Entry.{Entry}
+use Rattle.store_model.specs.History.{History, batch_rows, record_rows, history_rows, count_of}
 use Rattle.store_model.specs.State.{State, Block, Compaction, Segment as ModelSegment, segment_files, block_rows, block_files, is_among, live_rows}
 use Rattle.store_model.specs.After.{arrived}
 use Rattle.store_model.specs.RowSets.{OnePlace}
@@ -73,9 +74,9 @@ rules_after list rules (f ∷ fs) = rules_without list rules
 
 -- ---- rows of entries
 
-entry_numbers : (n : ℕ) (batches : List (List Span)) (x : Row) → Contains (entry_rows n batches) x → (n ≤ x.place.number) × (x.place.number < n + length batches)
+entry_numbers : (n : ℕ) (batches : List (List Span)) (x : Row) → Contains (record_rows n batches) x → (n ≤ x.place.number) × (x.place.number < n + length batches)
 entry_numbers n [] x c = absurd (not_in_nil x c)
-entry_numbers n (b ∷ bs) x c = elim (Contains-append_cases (batch_rows n b) (entry_rows (n + 1) bs) x c) [
+entry_numbers n (b ∷ bs) x c = elim (Contains-append_cases (batch_rows n b) (record_rows (n + 1) bs) x c) [
   | inl here ↦ let e = number_in n b x here in (omega (arith, e), omega (arith, e))
   | inr later ↦ let e = entry_numbers (n + 1) bs x later in (omega (arith, e.0), omega (arith, e.1))
 ]
@@ -93,48 +94,48 @@ one_in_batch n spans x y hx hy e =
     let i : hx.0 ≡ hy.0 = omega (arith, position_in n spans x hx, position_in n spans y hy, ap (λ p. p.position) e) in
     sym hx.2 ∙ ap (λ k. slice_index_or (batch_rows n spans) k x) i ∙ any_default (batch_rows n spans) hy.0 x y hy.1 ∙ hy.2
 
-pub entry_one : (n : ℕ) (batches : List (List Span)) → OnePlace (entry_rows n batches)
+pub entry_one : (n : ℕ) (batches : List (List Span)) → OnePlace (record_rows n batches)
 entry_one n [] = λ x y hx hy e. absurd (not_in_nil x hx)
-entry_one n (b ∷ bs) = λ x y hx hy e. by_case (entry_one (n + 1) bs) x y e (Contains-append_cases (batch_rows n b) (entry_rows (n + 1) bs) x hx) (Contains-append_cases (batch_rows n b) (entry_rows (n + 1) bs) y hy)
+entry_one n (b ∷ bs) = λ x y hx hy e. by_case (entry_one (n + 1) bs) x y e (Contains-append_cases (batch_rows n b) (record_rows (n + 1) bs) x hx) (Contains-append_cases (batch_rows n b) (record_rows (n + 1) bs) y hy)
   where
-    apart : (x y : Row) → x.place ≡ y.place → Contains (batch_rows n b) x → Contains (entry_rows (n + 1) bs) y → ⊥
+    apart : (x y : Row) → x.place ≡ y.place → Contains (batch_rows n b) x → Contains (record_rows (n + 1) bs) y → ⊥
     apart x y e hx hy = let first = number_in n b x hx in let later = (entry_numbers (n + 1) bs y hy).0 in let same = ap (λ p. p.number) e in omega (arith, first, later, same)
 
-    by_case : OnePlace (entry_rows (n + 1) bs) → (x y : Row) → x.place ≡ y.place → Contains (batch_rows n b) x ⊎ Contains (entry_rows (n + 1) bs) x → Contains (batch_rows n b) y ⊎ Contains (entry_rows (n + 1) bs) y → x ≡ y
+    by_case : OnePlace (record_rows (n + 1) bs) → (x y : Row) → x.place ≡ y.place → Contains (batch_rows n b) x ⊎ Contains (record_rows (n + 1) bs) x → Contains (batch_rows n b) y ⊎ Contains (record_rows (n + 1) bs) y → x ≡ y
     by_case later x y e (inl hx) (inl hy) = one_in_batch n b x y hx hy e
     by_case later x y e (inl hx) (inr hy) = absurd (apart x y e hx hy)
     by_case later x y e (inr hx) (inl hy) = absurd (apart y x (sym e) hy hx)
     by_case later x y e (inr hx) (inr hy) = later x y hx hy e
 
 -- the rows of later entries are among those of all
-later_in : (n k : ℕ) (batches : List (List Span)) (x : Row) → Contains (entry_rows (n + k) (drop k batches)) x → Contains (entry_rows n batches) x
+later_in : (n k : ℕ) (batches : List (List Span)) (x : Row) → Contains (record_rows (n + k) (drop k batches)) x → Contains (record_rows n batches) x
 later_in n zero [] x c = absurd (not_in_nil x c)
-later_in n zero (b ∷ bs) x c = subst (λ (m : ℕ). Contains (entry_rows m (b ∷ bs)) x) (let e : n + 0 ≡ n = omega arith in e) c
+later_in n zero (b ∷ bs) x c = subst (λ (m : ℕ). Contains (record_rows m (b ∷ bs)) x) (let e : n + 0 ≡ n = omega arith in e) c
 later_in n (suc k) [] x c = absurd (not_in_nil x c)
 later_in n (suc k) (b ∷ bs) x c =
-    Contains-append_right (batch_rows n b) (entry_rows (n + 1) bs) x
-    (later_in (n + 1) k bs x (subst (λ (m : ℕ). Contains (entry_rows m (drop k bs)) x) (let e : n + suc k ≡ n + 1 + k = omega arith in e) c))
+    Contains-append_right (batch_rows n b) (record_rows (n + 1) bs) x
+    (later_in (n + 1) k bs x (subst (λ (m : ℕ). Contains (record_rows m (drop k bs)) x) (let e : n + suc k ≡ n + 1 + k = omega arith in e) c))
 
 -- the rows that wait
 abbrev pub waiting_rows : ListBody → List (List Span) → List Row
-waiting_rows list batches = entry_rows list.floor (drop (list.floor - first_number list) batches)
+waiting_rows list batches = record_rows list.floor (drop (list.floor - first_number list) batches)
 
 -- the rows of the blocks, and those that wait
 abbrev pub kept_rows : ListBody → List Block → List (List Span) → List Row
 kept_rows list blocks batches = block_rows blocks ++ waiting_rows list batches
 
 module _ (list : ListBody) (rules : MeetsRules list) (batches : List (List Span)) where
-  waiting_in : (x : Row) → Contains (waiting_rows list batches) x → Contains (entry_rows (first_number list) batches) x
+  waiting_in : (x : Row) → Contains (waiting_rows list batches) x → Contains (record_rows (first_number list) batches) x
   waiting_in x c =
       let low = rules.from_floor in
       later_in (first_number list) (list.floor - first_number list) batches x
-      (subst (λ (m : ℕ). Contains (entry_rows m (drop (list.floor - first_number list) batches)) x) (let e : list.floor ≡ first_number list + (list.floor - first_number list) = omega (arith, low) in e) c)
+      (subst (λ (m : ℕ). Contains (record_rows m (drop (list.floor - first_number list) batches)) x) (let e : list.floor ≡ first_number list + (list.floor - first_number list) = omega (arith, low) in e) c)
 
   -- those of blocks are stored too
   stored_in : (blocks : List Block) (x : Row) → Contains (kept_rows list blocks batches) x → Contains (stored_rows blocks (first_number list) batches) x
   stored_in blocks x c = elim (Contains-append_cases (block_rows blocks) (waiting_rows list batches) x c) [
-    | inl built ↦ Contains-append_left (block_rows blocks) (entry_rows (first_number list) batches) x built
-    | inr waits ↦ Contains-append_right (block_rows blocks) (entry_rows (first_number list) batches) x (waiting_in x waits)
+    | inl built ↦ Contains-append_left (block_rows blocks) (record_rows (first_number list) batches) x built
+    | inr waits ↦ Contains-append_right (block_rows blocks) (record_rows (first_number list) batches) x (waiting_in x waits)
   ]
 
   pub agrees_kept : (blocks : List Block) (h : History) → AgreesOn (stored_rows blocks (first_number list) batches) h
@@ -167,7 +168,7 @@ module _ (list : ListBody) (blocks : List Block) (batches : List (List Span)) wh
   same_base : (k : Key) → first_at k (kept_rows list blocks batches) ≡ first_at k (history_rows (base_of list blocks batches))
   same_base k =
       let is = firsts_exist (kept_rows list blocks batches) in
-      sym (first_at-firsts (kept_rows list blocks batches) is.0 is.1 k) ∙ ap (first_at k) (sym (append-nil is.0))
+      sym (first_at-firsts (kept_rows list blocks batches) is.0 is.1 k)
 
   -- where the blocks have no rows
   pub agrees_base : first_number list ≤ list.floor → list.floor ≤ first_number list + length batches → block_rows blocks ≡ []
@@ -329,7 +330,7 @@ module _ (told : Type 0) (image : Image) (list : ListBody) (rules : MeetsRules l
         subst (λ (l : ListBody). AreLogged held l (rows_outside (opened_state list blocks batches moment))) (sym state.listing)
         (without_by list (λ (l : ListBody). AreLogged held l (rows_outside (opened_state list blocks batches moment)))
         (λ generation loose others holds x c.
-        subst (λ (b : List (List Span)). Contains (entry_rows (first_number list) b) x) (one_log held list.segments (first_number list) batches others logged holds)
+        subst (λ (b : List (List Span)). Contains (record_rows (first_number list) b) x) (one_log held list.segments (first_number list) batches others logged holds)
         (waiting_in list rules batches x (subst (λ (r : List Row). Contains r x) (live_of_arrived moment (waiting_rows list batches)) c))))
 
     pub opened_stands : (told' : Type 0) (held : Image) (may_leave : Image → Type 0) → (told' → IsSettled held may_leave core.list blocks (tail_of core.segment) h)
@@ -346,7 +347,7 @@ module _ (told : Type 0) (image : Image) (list : ListBody) (rules : MeetsRules l
             next = (let high = low_floor in omega (arith, high, counts));
           };
           built = described;
-          now = λ t image left. subst (λ (u : Option (List Span)). MayStandFor h u image) (sym state.sure) (settled_now held may_leave core.list blocks (tail_of core.segment) h (settled t) image left);
+          now = λ t image left. subst (λ (u : Option Entry). MayStandFor h u image) (sym state.sure) (settled_now held may_leave core.list blocks (tail_of core.segment) h (settled t) image left);
           settled = λ t free. settled t;
           sure = λ free. state.sure;
           fresh = λ t free. no_segment held may_leave core.jobs state.jobs.flush;

@@ -17,13 +17,14 @@ use Rattle.block_info.specs.InfoParts.{InfoParts}
 use Rattle.block_list.specs.declared.body.BlockRef.{BlockRef}
 use Rattle.block_list.specs.declared.body.SegmentRef.{SegmentRef}
 use Rattle.block_list.specs.declared.body.ListBody.{ListBody}
+use Rattle.store_images.proofs.Kept.{stands_with}
 use Rattle.store_model.specs.History.{History, count_of}
 use Rattle.store_model.specs.State.{State, Block}
 use Rattle.store_model.specs.Laws.{AgreesOn}
 use Rattle.store_model.specs.Step.{Machine}
 use Rattle.store_images.specs.Log.{LogHolds}
 use Rattle.store_images.specs.Stored.{BlocksStand, ImageStores, ImageStandsFor, IsSoundImage, KeepsStored, first_number, ref_of, stored_rows}
-use Rattle.store_images.specs.Stored.ImageStores.{vacant, filled}
+use Rattle.store_images.specs.Stored.ImageStores.{vacant}
 use Rattle.store_images.specs.Settled.{Tail, IsSettled}
 use Rattle.store_images.proofs.Logs.{log_same}
 use Rattle.store_images.proofs.Keeping.{blocks_same, one_list, loaded, keeps_then}
@@ -212,11 +213,8 @@ module _ {D : Type 0} (g : Ghosts D) where
     stored_first told sound =
         let blocks = (there_blocks told).blocks in
         let is : IsFound (g.held disk) list blocks batches sound.0 = its_history told sound.0 sound.1 in
-        record {
-          rows = stored_rows blocks (first_number list) batches;
-          stores = filled list blocks batches is.store refl (let count : count_of (base_of list blocks batches) ≡ first_number list + length batches = omega arith in count);
-          agrees = agrees_stored list blocks batches sound.0 is.agrees is.store.floored is.counts;
-        }
+        stands_with (g.held disk) list blocks batches (base_of list blocks batches) is.store (agrees_stored list blocks batches sound.0 is.agrees is.store.floored is.counts)
+        (let count : count_of (base_of list blocks batches) ≡ first_number list + length batches = omega arith in count)
 
     over : (blocks : List Block) → StandsFor ⊥ (g.held core.disk) (g.may_leave core.disk) core.state (opened_machine list blocks batches moment (base_of list blocks batches))
         → OpensOver g core (opened_machine list blocks batches moment (base_of list blocks batches))

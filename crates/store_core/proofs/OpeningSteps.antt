@@ -18,6 +18,7 @@ use Rattle.block_list.specs.declared.body.SegmentRef.{SegmentRef}
 use Rattle.block_list.specs.declared.body.ListBody.{ListBody}
 use Rattle.block_list.specs.declared.error.ListError.{ListError}
 use Rattle.block_list.specs.declared.error.ListError.TheVariants as list_errors
+use Rattle.store_images.proofs.Kept.{agrees_whole}
 use Rattle.store_model.specs.History.{History, count_of}
 use Rattle.store_model.specs.State.{Block}
 use Rattle.store_model.specs.Laws.{AgreesOn}
@@ -54,17 +55,19 @@ module _ (image : Image) (list : ListBody) (blocks : List Block) (batches : List
     (stand : BlocksStand image blocks) (logged : LogHolds image list.segments (first_number list) batches) where
   found_by : (rows : List Row) (count : ℕ) → ImageStores image rows count → AgreesOn rows h → count_of h ≡ count → IsFound image list blocks batches h
   found_by rows count (vacant holds no_rows no_count) agrees is = absurd (let bad : None ≡ Some list = one_list image None (Some list) holds there in cc)
-  found_by rows count (filled body others all st rows_are counts) agrees is =
+  found_by rows count (filled body others all st one rows_are counts) agrees is =
       let e : body ≡ list = same_some body list (one_list image (Some body) (Some list) st.listed there) in
       let st_list : StoreHolds image list others all = subst (λ (o : ListBody). StoreHolds image o others all) e st in
       let b : others ≡ blocks = one_blocks image others blocks (sym st_list.its_blocks ∙ its) st_list.built stand in
       let st_blocks : StoreHolds image list blocks all = subst (λ (l : List Block). StoreHolds image list l all) b st_list in
       let same : all ≡ batches = one_log image list.segments (first_number list) all batches st_blocks.logged logged in
-      let rows_here : rows ≡ stored_rows blocks (first_number list) batches =
-      rows_are ∙ ap (λ (o : ListBody). stored_rows others (first_number o) all) e ∙ ap (λ (l : List Block). stored_rows l (first_number list) all) b ∙ ap (stored_rows blocks (first_number list)) same in
+      let whole : AgreesOn (stored_rows others (first_number body) all) h =
+      agrees_whole body others all h (subst (λ (r : List Row). AgreesOn r h) rows_are agrees) st.floored one (is ∙ counts) in
+      let rows_here : stored_rows others (first_number body) all ≡ stored_rows blocks (first_number list) batches =
+      ap (λ (o : ListBody). stored_rows others (first_number o) all) e ∙ ap (λ (l : List Block). stored_rows l (first_number list) all) b ∙ ap (stored_rows blocks (first_number list)) same in
       record {
         store = subst (λ (l : List (List Span)). StoreHolds image list blocks l) same st_blocks;
-        agrees = subst (λ (r : List Row). AgreesOn r h) rows_here agrees;
+        agrees = subst (λ (r : List Row). AgreesOn r h) rows_here whole;
         counts = is ∙ counts ∙ ap (λ (o : ListBody). first_number o + length all) e ∙ ap (λ (l : List (List Span)). first_number list + length l) same;
       }
 
@@ -201,7 +204,7 @@ sound_unbroken image h file at s broken = by_stores s.rows (count_of h) s.stores
   where
     by_stores : (rows : List Row) (count : ℕ) → ImageStores image rows count → ⊥
     by_stores rows count (vacant holds no_rows no_count) = vacant_unbroken image file at (slots_again (bytes_of image 0) (bytes_of image 1) None holds) broken
-    by_stores rows count (filled body blocks all st rows_are counts) =
+    by_stores rows count (filled body blocks all st one rows_are counts) =
         store_unbroken image body all file at (slots_again (bytes_of image 0) (bytes_of image 1) (Some body) st.listed)
         (subst (λ (l : List BlockRef). AreWhole image l) (sym st.its_blocks) (stand_whole image blocks st.built)) st.logged broken
 

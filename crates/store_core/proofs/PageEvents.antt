@@ -29,7 +29,7 @@ use Rattle.store_core.proofs.Apart.{below_same, settled_below}
 use Rattle.store_core.proofs.Kept.{stands_kept, did_kept, described_below}
 use Rattle.store_core.proofs.Logged.{logged_kept}
 use Rattle.store_core.proofs.OpenJobs.{fresh_moved}
-use Rattle.store_core.proofs.Quiet.{none_begun}
+use Rattle.store_core.proofs.Quiet.{none_begun, adds_none}
 
 -- ---- the bytes
 
@@ -109,7 +109,7 @@ module _ {D : Type 0} (g : Ghosts D) (old : Core D) (disk : D) (pin block page :
 
   no_page : Rose (g.faults old.disk) (g.faults disk) → Did g old (ReadPage pin block page) (Refused Fault) (record old { disk = disk })
   no_page rose =
-      did_kept g old disk old.state (ReadPage pin block page) (Refused Fault) untouched.telling run_keeps refl refl
+      did_kept g old disk old.state (ReadPage pin block page) (Refused Fault) untouched.telling run_keeps refl (adds_none (ReadPage pin block page) refl (Refused Fault) _)
       (λ m s. (m, after (IsTrue (g.tells old.disk)) (IsTrue (g.tells disk)) (λ t. subst IsTrue untouched.telling t) (λ t. t) m (Refused Fault) s (Unread refl refl rose refl), refl, Unread refl refl rose refl))
       (λ m s. (m, after ⊥ ⊥ (λ bad. bad) (λ bad. absurd bad) m (Refused Fault) s (Unread refl refl rose refl), Unread refl refl rose refl))
       (λ told m s hold is_open stays f among. untouched.same_bytes told f)

@@ -1,21 +1,20 @@
 -- What was left since the opening, from event to event.
-use Rattle.std.proofs.Common.{◌≡◌, ◌⊎◌, inl, inr, ℕ, ◌+◌, ◌-◌, ◌≤◌, List, [], ◌∷◌, ◌++◌, length, take, None, Some, Option, IsTrue, refl, sym, ◌∙◌, ap, subst, arith}
+use Rattle.std.proofs.Common.{◌≡◌, ◌⊎◌, inl, inr, ℕ, ◌+◌, ◌-◌, ◌≤◌, List, [], ◌∷◌, length, None, Some, Option, IsTrue, refl, sym, ◌∙◌, ap, subst, arith}
 use Rattle.std.proofs.lemmas.List.{take_all}
-use Rattle.span_types.specs.declared.spans.Span.{Span}
 use Rattle.disk_model.specs.Images.{Image}
 use Rattle.disk_model.specs.declared.disk.Device.{Ghosts}
 use Rattle.disk_model.proofs.Moments.{joined, started, widened}
-use Rattle.store_model.specs.History.{History, count_of, pushed, up_to}
+use Rattle.store_model.proofs.HistoryLaws.{count_grown}
+use Rattle.store_entries.specs.declared.entry.Entry.{Entry}
+use Rattle.store_model.specs.History.{History, count_of, up_to, with_entry}
 use Rattle.store_model.specs.Event.{Event, Reply}
-use Rattle.store_model.specs.Event.Event.{Push}
-use Rattle.store_model.specs.Event.Reply.{Count, Refused}
+use Rattle.store_model.specs.Event.Reply.{Refused}
 use Rattle.store_model.specs.Event.Refusal.{Fault}
 use Rattle.store_model.specs.Step.{Machine}
-use Rattle.store_model.specs.Told.{history_after}
+use Rattle.store_model.specs.Told.{history_after, added_entry}
 use Rattle.store_model.proofs.KeepsHolds.{grown_up}
 use Rattle.store_model.proofs.TellsHistory.{step_tells}
 use Rattle.store_images.specs.Stored.{MayStandFor, ImageStandsFor}
-use Rattle.store_images.proofs.Growing.{count_of-pushed}
 use Rattle.store_core.specs.Cores.{CoreStandsFor, unsure_of}
 use Rattle.store_core.specs.Events.{Did, Between, unsure_after}
 use Rattle.store_core.specs.Past.{StandsSince, StoodFor}
@@ -23,25 +22,28 @@ use Rattle.store_core.proofs.PushEvents.{OnlyNow}
 use Rattle.store_core.specs.declared.store.Core.{Core}
 
 now_is : (h : History) → up_to (count_of h) h ≡ h
-now_is h = ap (λ (bs : List (List Span)). record { base = h.base; start = h.start; entries = bs }) (take_all (h.start + length h.entries - h.start) h.entries (omega arith))
+now_is h = ap (λ (es : List Entry). record { base = h.base; start = h.start; entries = es }) (take_all (h.start + length h.entries - h.start) h.entries (omega arith))
 
 -- a history that an event leaves has the one before it as its past
 past_in : (e : Event) (r : Reply) (h : History) (n : ℕ) → n ≤ count_of h → (up_to n (history_after e r h) ≡ up_to n h) × (n ≤ count_of (history_after e r h))
-past_in (Push spans moment) (Count number) h n low = (grown_up h spans n low, (let grown = count_of-pushed h spans in omega (arith, grown, low)))
-past_in _ _ h n low = (refl, low)
+past_in e r h n low = by_entry (added_entry e r)
+  where
+    by_entry : (added : Option Entry) → (up_to n (with_entry added h) ≡ up_to n h) × (n ≤ count_of (with_entry added h))
+    by_entry None = (refl, low)
+    by_entry (Some entry) = (grown_up h (entry ∷ []) n low, (let longer = count_grown h (entry ∷ []) in omega (arith, longer, low)))
 
--- a batch that isn't sure stays so
-stays_some : (e : Event) (r : Reply) (spans : List Span) → unsure_after e r (Some spans) ≡ Some spans
-stays_some (Push _ _) (Refused Fault) spans = refl
-stays_some _ _ spans = refl
+-- an entry that isn't sure stays so
+stays_some : (e : Event) (r : Reply) (entry : Entry) → unsure_after e r (Some entry) ≡ Some entry
+stays_some e (Refused Fault) entry = refl
+stays_some e _ entry = refl
 
-stays_unsure : (e : Event) (r : Reply) (h h' : History) (unsure unsure' : Option (List Span)) → unsure' ≡ unsure_after e r unsure → (unsure ≡ None) ⊎ (h' ≡ h)
+stays_unsure : (e : Event) (r : Reply) (h h' : History) (unsure unsure' : Option Entry) → unsure' ≡ unsure_after e r unsure → (unsure ≡ None) ⊎ (h' ≡ h)
     → (unsure ≡ None) ⊎ ((h' ≡ h) × (unsure' ≡ unsure))
 stays_unsure e r h h' None unsure' is ended = inl refl
-stays_unsure e r h h' (Some spans) unsure' is (inl none) = inl none
-stays_unsure e r h h' (Some spans) unsure' is (inr same) = inr (same, is ∙ stays_some e r spans)
+stays_unsure e r h h' (Some entry) unsure' is (inl none) = inl none
+stays_unsure e r h h' (Some entry) unsure' is (inr same) = inr (same, is ∙ stays_some e r entry)
 
-module _ (e : Event) (r : Reply) (h h' : History) (unsure unsure' : Option (List Span)) (least : ℕ) (after : h' ≡ history_after e r h) (low : least ≤ count_of h)
+module _ (e : Event) (r : Reply) (h h' : History) (unsure unsure' : Option Entry) (least : ℕ) (after : h' ≡ history_after e r h) (low : least ≤ count_of h)
     (unsure_is : unsure' ≡ unsure_after e r unsure) (ended : (unsure ≡ None) ⊎ (h' ≡ h)) where
   sure : (unsure ≡ None) ⊎ ((h' ≡ h) × (unsure' ≡ unsure))
   sure = stays_unsure e r h h' unsure unsure' unsure_is ended
@@ -53,8 +55,8 @@ module _ (e : Event) (r : Reply) (h h' : History) (unsure unsure' : Option (List
 
   before : (image : Image) → MayStandFor h unsure image → StoodFor least h' unsure' image
   before image stands = elim sure [
-    | inl none ↦ at_length (count_of h) image low (omega arith) (subst (λ (x : History). ImageStandsFor image x) (sym (now_is h)) (subst (λ (u : Option (List Span)). MayStandFor h u image) none stands))
-    | inr same ↦ inr (subst (λ (u : Option (List Span)). MayStandFor h' u image) (sym same.1) (subst (λ (x : History). MayStandFor x unsure image) (sym same.0) stands))
+    | inl none ↦ at_length (count_of h) image low (omega arith) (subst (λ (x : History). ImageStandsFor image x) (sym (now_is h)) (subst (λ (u : Option Entry). MayStandFor h u image) none stands))
+    | inr same ↦ inr (subst (λ (u : Option Entry). MayStandFor h' u image) (sym same.1) (subst (λ (x : History). MayStandFor x unsure image) (sym same.0) stands))
   ]
 
   stood : (image : Image) → StoodFor least h unsure image → StoodFor least h' unsure' image

@@ -23,7 +23,7 @@ use Rattle.store_core.specs.Events.{Did}
 use Rattle.store_core.proofs.Kept.{stands_kept, did_kept}
 use Rattle.store_core.proofs.OpenJobs.{IsJobFile, fresh_moved}
 use Rattle.store_core.proofs.PushEvents.{OnlyNow, refused_is}
-use Rattle.store_core.proofs.Quiet.{quiet, none_begun}
+use Rattle.store_core.proofs.Quiet.{quiet, none_begun, adds_none}
 use Rattle.store_core.proofs.Spare.{SameUsed, used_besides, keeps_spare, settled_spare, described_used, logged_used}
 use Rattle.store_core.proofs.States.{has_stopped}
 
@@ -97,7 +97,7 @@ module _ {D : Type 0} (g : Ghosts D) (only_now : OnlyNow g) (old : Core D) (disk
       → Did g old (WritePiece number file bytes) (Refused Fault) (record old { disk = disk; state = record old.state { read_only = Some faults } })
   did_piece_fail faults counted rose =
       subst (λ (n : ℕ). Did g old (WritePiece number file bytes) (Refused Fault) (record old { disk = disk; state = record old.state { read_only = Some n } })) (sym counted)
-      (did_kept g old disk (record old.state { read_only = Some (g.faults disk) }) (WritePiece number file bytes) (Refused Fault) telling run_keeps refl refl
+      (did_kept g old disk (record old.state { read_only = Some (g.faults disk) }) (WritePiece number file bytes) (Refused Fault) telling run_keeps refl (adds_none (WritePiece number file bytes) refl (Refused Fault) _)
       (λ m s. (
         broken (g.faults disk) m,
         stands_kept (IsTrue (g.tells old.disk)) (IsTrue (g.tells disk)) (g.held old.disk) (g.held disk) (g.may_leave old.disk) (g.may_leave disk) old.state (record old.state { read_only = Some (g.faults disk) }) m (broken (g.faults disk) m)

@@ -65,8 +65,8 @@ pub open_hold : {D : Type 0} (g : Ghosts D) (core : Core D) (hold : Hold) → Is
 open_hold g core hold (held, known, there) = (known.machine, known.shown, known.open_holds hold there)
 
 pub open_job : {D : Type 0} (g : Ghosts D) (core : Core D) (out : JobFile) → IsJobOf out (IsOpen (port_of g) core) → (m : Machine) × CoreShows g core m × IsJobOf out (OpenIn m)
-open_job g core out (OfFlush rows is) = let its = open_hold g core (OpenFlush out.number out.file rows) is in (its.0, its.1, OfFlush rows its.2)
-open_job g core out (OfCompact level pin files is) = let its = open_hold g core (OpenCompact out.number out.file level pin files) is in (its.0, its.1, OfCompact level pin files its.2)
+open_job g core out (OfFlush job number file is) = let its = open_hold g core (OpenFlush job) is in (its.0, its.1, OfFlush job number file its.2)
+open_job g core out (OfCompact job number file is) = let its = open_hold g core (OpenCompact job) is in (its.0, its.1, OfCompact job number file its.2)
 
 -- nothing is open in a core whose memory shows a machine
 pub holds_nothing : {D : Type 0} (g : Ghosts D) (core : Core D) (m : Machine) → CoreShows g core m → CoreHolds (shown_by g) core []

@@ -11,7 +11,8 @@ use Rattle.head_log.specs.declared.segment.Segment.{Segment}
 use Rattle.head_log.specs.Stands.{SegmentHolds, SegmentKeepsEither}
 use Rattle.live_traces.specs.Parts.{LiveParts}
 use Rattle.live_traces.specs.Rows.{ChunkParts}
-use Rattle.store_model.specs.History.{History, batch_rows, count_of, pushed}
+use Rattle.store_entries.specs.declared.entry.Entry.{Entry}
+use Rattle.store_model.specs.History.{History, batch_rows, count_of, pushed, push_of}
 use Rattle.store_model.specs.After.{arrived}
 use Rattle.store_model.specs.Event.{Reply, Refusal}
 use Rattle.store_model.specs.Event.Event.{Push}
@@ -96,25 +97,25 @@ module _ {D : Type 0} (g : Ghosts D) (old : Core D) (disk : D) (spans : List Spa
       (appends told).any_moment s.mine (only_tail (g.held old.disk) (g.may_leave old.disk) old.state.list m.state.blocks (tail_of old.state.segment) m.history s) s.written.current s.written.counted
 
   both_in : (told : IsTrue (g.tells old.disk)) (m : Machine) (stands : CoreStandsFor g old m)
-      → LeavesOnly g.moment g.left_since old.disk disk (MayStandFor m.history (Some spans)) × ((image : Image) → g.may_leave disk image → MayStandFor m.history (Some spans) image)
+      → LeavesOnly g.moment g.left_since old.disk disk (MayStandFor m.history (Some (push_of spans))) × ((image : Image) → g.may_leave disk image → MayStandFor m.history (Some (push_of spans)) image)
   both_in told m stands =
       pushing g.moment g.left_since g.may_leave (g.held old.disk) old.state.list m.state.blocks (tail_of old.state.segment) m.history old.disk disk (settled_in told m stands) spans (run_in told m stands)
 
   -- where the new core may stand for the history, or for it and the batch
-  images_in : (told : IsTrue (g.tells old.disk)) (m : Machine) → CoreStandsFor g old m → (after : History) (later_unsure : Option (List Span))
-      → ((image : Image) → MayStandFor m.history (Some spans) image → Between m.history (unsure_of old.state) after later_unsure image)
+  images_in : (told : IsTrue (g.tells old.disk)) (m : Machine) → CoreStandsFor g old m → (after : History) (later_unsure : Option Entry)
+      → ((image : Image) → MayStandFor m.history (Some (push_of spans)) image → Between m.history (unsure_of old.state) after later_unsure image)
       → LeavesOnly g.moment g.left_since old.disk disk (Between m.history (unsure_of old.state) after later_unsure)
   images_in told m stands after later_unsure between =
-      widened g.moment g.left_since old.disk disk (MayStandFor m.history (Some spans)) (Between m.history (unsure_of old.state) after later_unsure) (both_in told m stands).0 between
+      widened g.moment g.left_since old.disk disk (MayStandFor m.history (Some (push_of spans))) (Between m.history (unsure_of old.state) after later_unsure) (both_in told m stands).0 between
 
   tidy_in : IsTrue (g.tells old.disk) → (m : Machine) → CoreStandsFor g old m → ((image : Image) → g.may_leave old.disk image → IsTidy image) → LeavesOnly g.moment g.left_since old.disk disk IsTidy
   tidy_in told m stands tidy =
       tidy_push g.moment g.left_since g.may_leave (g.held old.disk) old.state.list m.state.blocks (tail_of old.state.segment) m.history old.disk disk (settled_in told m stands) _ _ (run_in told m stands) tidy
 
-  pushed_between : (h : History) (unsure : Option (List Span)) (image : Image) → unsure ≡ None → MayStandFor h (Some spans) image → Between h unsure (pushed h spans) unsure image
+  pushed_between : (h : History) (unsure : Option Entry) (image : Image) → unsure ≡ None → MayStandFor h (Some (push_of spans)) image → Between h unsure (pushed h spans) unsure image
   pushed_between h unsure image none either = elim either [
-    | inl before ↦ inl (subst (λ (u : Option (List Span)). MayStandFor h u image) (sym none) before)
-    | inr more ↦ inr (subst (λ (u : Option (List Span)). MayStandFor (pushed h spans) u image) (sym none) more)
+    | inl before ↦ inl (subst (λ (u : Option Entry). MayStandFor h u image) (sym none) before)
+    | inr more ↦ inr (subst (λ (u : Option Entry). MayStandFor (pushed h spans) u image) (sym none) more)
   ]
 
   pub did_pushed : (live : LiveParts) (segment : Segment) (number : ℕ)
@@ -180,11 +181,11 @@ module _ {D : Type 0} (g : Ghosts D) (old : Core D) (disk : D) (spans : List Spa
       machine = broken (g.faults disk) m;
       stands = stands_broken (IsTrue (g.tells old.disk)) (IsTrue (g.tells disk)) (g.held old.disk) (g.held disk) (g.may_leave old.disk) (g.may_leave disk) old.state live segment ready (g.faults disk) m same still stands
           (λ t. subst IsTrue telling t)
-          (λ told image left. subst (λ (s : List Span). MayStandFor m.history (Some s) image) (sym its) ((both_in told m stands).1 image left))
+          (λ told image left. subst (λ (s : List Span). MayStandFor m.history (Some (push_of s)) image) (sym its) ((both_in told m stands).1 image left))
           (λ told. blocks_stay old.state m (IsTrue (g.tells old.disk)) (g.held old.disk) (g.held disk) (g.may_leave old.disk) told writes stands (appends told).besides);
       step = Breaks (free m stands.has) refl refl rose refl;
-      images = λ told. images_in told m stands m.history (Some ready.spans) (λ image either. inr (subst (λ (s : List Span). MayStandFor m.history (Some s) image) (sym its) either));
-      unsure = ap (λ (s : List Span). Some s) its ∙ ap (unsure_after (Push spans moment) (Refused Fault)) (sym (stands.sure writes));
+      images = λ told. images_in told m stands m.history (Some (push_of ready.spans)) (λ image either. inr (subst (λ (s : List Span). MayStandFor m.history (Some (push_of s)) image) (sym its) either));
+      unsure = ap (λ (s : List Span). Some (push_of s)) its ∙ ap (unsure_after (Push spans moment) (Refused Fault)) (sym (stands.sure writes));
       ended = inl (stands.sure writes);
     };
     shown = λ m shows. (

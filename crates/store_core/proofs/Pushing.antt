@@ -9,7 +9,7 @@ use Rattle.disk_model.proofs.Moments.{widened}
 use Rattle.head_log.specs.Stands.{SegmentKeepsEither}
 use Rattle.block_list.specs.declared.body.SegmentRef.{SegmentRef}
 use Rattle.block_list.specs.declared.body.ListBody.{ListBody}
-use Rattle.store_model.specs.History.{History}
+use Rattle.store_model.specs.History.{History, push_of}
 use Rattle.store_model.specs.State.{Block, is_among, block_files, segment_files}
 use Rattle.store_model.specs.Sound.{times, StateIsSound}
 use Rattle.store_model.specs.Holds.{Hold, OpenIn, files_of}
@@ -32,10 +32,10 @@ module _ {D : Type 0} (moment : D → ℕ) (left_since : D → ℕ → Image →
   -- at every moment, and after it
   pub pushing : (spans : List Span)
       → RunInFile moment left_since may_leave tail.file (SegmentKeepsEither tail.first s.mine spans) (SegmentKeepsEither tail.first s.mine spans) old new
-      → LeavesOnly moment left_since old new (MayStandFor h (Some spans)) × ((image : Image) → may_leave new image → MayStandFor h (Some spans) image)
+      → LeavesOnly moment left_since old new (MayStandFor h (Some (push_of spans))) × ((image : Image) → may_leave new image → MayStandFor h (Some (push_of spans)) image)
   pushing spans run =
       let each = settled_either held (may_leave old) body blocks tail h s spans in
-      (widened moment left_since old new _ (MayStandFor h (Some spans)) run.since each, λ image left. each image (run.now image left))
+      (widened moment left_since old new _ (MayStandFor h (Some (push_of spans))) run.since each, λ image left. each image (run.now image left))
 
   pub tidy_push : (P Q : List ℕ → Type 0) → RunInFile moment left_since may_leave tail.file P Q old new → ((image : Image) → may_leave old image → IsTidy image)
       → LeavesOnly moment left_since old new IsTidy

@@ -1,12 +1,12 @@
 -- Events that make no device call.
 use Rattle.std.proofs.Common.{◌≡◌, ◌≢◌, inl, inr, ℕ, ◌==◌, List, [], ◌∷◌, None, Option, IsTrue, Bool, true, false, refl, sym, ◌∙◌, subst, arith}
-use Rattle.span_types.specs.declared.spans.Span.{Span}
 use Rattle.disk_model.specs.Images.{Image, bytes_of}
 use Rattle.disk_model.specs.declared.disk.Device.{Ghosts}
 use Rattle.disk_model.proofs.Moments.{started}
+use Rattle.store_model.specs.Told.{asked_entry}
+use Rattle.store_entries.specs.declared.entry.Entry.{Entry}
 use Rattle.store_model.specs.State.{is_among}
 use Rattle.store_model.specs.Event.{Event, Reply}
-use Rattle.store_model.specs.Event.Event.{Push}
 use Rattle.store_model.specs.Event.Reply.{Refused}
 use Rattle.store_model.specs.Event.Refusal.{Fault}
 use Rattle.store_model.specs.Step.{Machine, Step}
@@ -21,9 +21,15 @@ use Rattle.store_core.specs.Cores.{StandsFor, CoreStandsFor, unsure_of}
 use Rattle.store_state.specs.Calls.{MadeCalls}
 use Rattle.store_core.specs.Events.{Did, Between, unsure_after}
 
-no_new : (event : Event) (reply : Reply) (unsure : Option (List Span)) → reply ≢ Refused Fault → unsure_after event reply unsure ≡ unsure
-no_new (Push spans moment) (Refused Fault) None no_fault = absurd (no_fault refl)
-no_new _ _ unsure no_fault = refl
+-- no entry gets unsure where the reply is no fault
+no_new : (event : Event) (reply : Reply) (unsure : Option Entry) → reply ≢ Refused Fault → unsure_after event reply unsure ≡ unsure
+no_new event (Refused Fault) None no_fault = absurd (no_fault refl)
+no_new event _ unsure no_fault = refl
+
+-- nor is it where an event is to add none
+pub adds_none : (event : Event) → asked_entry event ≡ None → (reply : Reply) (unsure : Option Entry) → unsure_after event reply unsure ≡ unsure
+adds_none event none (Refused Fault) None = none
+adds_none event none _ unsure = refl
 
 pub none_begun : (reply : Reply) (file : ℕ) (G : Type 0) → own_files reply ≡ [] → is_among file (own_files reply) ≡ true → G
 none_begun reply file G none among = absurd (let bad : is_among file [] ≡ true = subst (λ (files : List ℕ). is_among file files ≡ true) none among in cc)

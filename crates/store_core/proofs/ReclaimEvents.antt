@@ -40,7 +40,7 @@ use Rattle.store_core.proofs.LooseFiles.{used_low}
 use Rattle.store_core.proofs.NextLists.{uses_are}
 use Rattle.store_core.proofs.OpenJobs.{fresh_moved, segment_of_known}
 use Rattle.store_core.proofs.PushEvents.{OnlyNow, refused_is}
-use Rattle.store_core.proofs.Quiet.{quiet, none_begun}
+use Rattle.store_core.proofs.Quiet.{quiet, none_begun, adds_none}
 use Rattle.store_core.proofs.PinnedFiles.{free_is, few_kept, uses_parted, all_kept}
 use Rattle.store_core.proofs.ReclaimStates.{emptied_state, next, names_emptied, rules_emptied, named_or_emptied, has_emptied}
 use Rattle.store_core.proofs.Spare.{SameUsed, described_used, logged_used, settled_renewed}
@@ -216,7 +216,7 @@ module _ {D : Type 0} (g : Ghosts D) (old : Core D) (disk : D) (writes : old.sta
 
   did_stopped : Rose (g.faults old.disk) (g.faults disk) → Did g old Reclaim (Refused Fault) (record old { disk = disk; state = stopped })
   did_stopped rose =
-      did_kept g old disk stopped Reclaim (Refused Fault) telling run_keeps refl refl
+      did_kept g old disk stopped Reclaim (Refused Fault) telling run_keeps refl (adds_none Reclaim refl (Refused Fault) _)
       (λ m s. (
         broken (g.faults disk) m,
         stands_kept (IsTrue (g.tells old.disk)) (IsTrue (g.tells disk)) (g.held old.disk) (g.held disk) (g.may_leave old.disk) (g.may_leave disk) old.state stopped m (broken (g.faults disk) m)

@@ -7,7 +7,7 @@ use Rattle.span_types.specs.declared.spans.Span.{Span}
 use Rattle.span_types.specs.declared.spans.Row.{Row}
 use Rattle.head_log.specs.Entries.{entries}
 use Rattle.head_log.specs.declared.numbered.NumberedBatch.{NumberedBatch}
-use Rattle.store_model.specs.History.{batch_rows, entry_rows}
+use Rattle.store_model.specs.History.{batch_rows, record_rows}
 use Rattle.store_model.specs.State.{LiveRow, live_rows}
 use Rattle.store_model.specs.After.{arrived}
 use Rattle.store_core.specs.Opening.{rows_from}
@@ -25,29 +25,29 @@ below_it : (a b : ℕ) → b < a → nat_le a b ≡ false
 below_it a b lt = elim (leb_tells a b) [ inl within ↦ absurd (let le = within.1 in omega (arith, le, lt)) | inr over ↦ over.0 ]
 
 -- all batches are above the floor
-all_above : (floor first : ℕ) (all : List (List Span)) → floor ≤ first → rows_from floor (entries first all) ≡ entry_rows first all
+all_above : (floor first : ℕ) (all : List (List Span)) → floor ≤ first → rows_from floor (entries first all) ≡ record_rows first all
 all_above floor first [] le = refl
 all_above floor first (spans ∷ all) le =
     ap (λ (t : Bool). (if t then batch_rows first spans else []) ++ rows_from floor (entries (first + 1) all)) (at_or_above floor first le)
     ∙ ap (λ (r : List Row). batch_rows first spans ++ r) (all_above floor (first + 1) all (omega (arith, le)))
 
-pub above_floor : (floor first : ℕ) (all : List (List Span)) → first ≤ floor → rows_from floor (entries first all) ≡ entry_rows floor (drop (floor - first) all)
+pub above_floor : (floor first : ℕ) (all : List (List Span)) → first ≤ floor → rows_from floor (entries first all) ≡ record_rows floor (drop (floor - first) all)
 above_floor floor first [] le = nothing (floor - first)
   where
-    nothing : (n : ℕ) → [] ≡ entry_rows floor (drop n [])
+    nothing : (n : ℕ) → [] ≡ record_rows floor (drop n [])
     nothing zero = refl
     nothing (suc n) = refl
 above_floor floor first (spans ∷ all) le = by_gap (floor - first) refl (λ low. above_floor floor (first + 1) all low)
   where
-    by_gap : (n : ℕ) → floor - first ≡ n → (first + 1 ≤ floor → rows_from floor (entries (first + 1) all) ≡ entry_rows floor (drop (floor - (first + 1)) all))
-        → rows_from floor (entries first (spans ∷ all)) ≡ entry_rows floor (drop n (spans ∷ all))
+    by_gap : (n : ℕ) → floor - first ≡ n → (first + 1 ≤ floor → rows_from floor (entries (first + 1) all) ≡ record_rows floor (drop (floor - (first + 1)) all))
+        → rows_from floor (entries first (spans ∷ all)) ≡ record_rows floor (drop n (spans ∷ all))
     by_gap zero e later =
         let is : first ≡ floor = omega (arith, e, le) in
-        all_above floor first (spans ∷ all) (omega (arith, is)) ∙ ap (λ (k : ℕ). entry_rows k (spans ∷ all)) is
+        all_above floor first (spans ∷ all) (omega (arith, is)) ∙ ap (λ (k : ℕ). record_rows k (spans ∷ all)) is
     by_gap (suc n) e later =
         let rest : floor - (first + 1) ≡ n = omega (arith, e, le) in
         ap (λ (t : Bool). (if t then batch_rows first spans else []) ++ rows_from floor (entries (first + 1) all)) (below_it floor first (omega (arith, e, le)))
-        ∙ later (omega (arith, e, le)) ∙ ap (λ (k : ℕ). entry_rows floor (drop k all)) rest
+        ∙ later (omega (arith, e, le)) ∙ ap (λ (k : ℕ). record_rows floor (drop k all)) rest
 
 -- ---- as live rows
 

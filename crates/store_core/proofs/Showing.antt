@@ -65,7 +65,7 @@ look_shows told held may_leave core m look s blocks length_is rows = record {
 -- and so do its rows, and those that the files of its blocks hold
 pub look_taken : (told : Type 0) (held : Image) (may_leave : Image → Type 0) (core : CoreState) (m : Machine) (number as_of : ℕ) (files : List ℕ) (rows : List Row) → told → StandsFor told held may_leave core m
     → files ≡ info_files core.infos.items → as_of ≡ core.segment.first + core.segment.count → rows ≡ core.live.flushing ++ core.live.head ++ live_rows core.live.live
-    → IsLookTaken (Looked number files as_of rows) (λ file. bytes_of held file) m.history
+    → IsLookTaken (Looked (record { pin = number; files = files; as_of = as_of; rows = rows })) (λ file. bytes_of held file) m.history
 look_taken told held may_leave core m number as_of files rows t s listed length_is are = (
   rows_by_block m.state.blocks,
   subst (λ (fs : List ℕ). HoldRows (λ file. bytes_of held file) fs (rows_by_block m.state.blocks)) (sym (listed ∙ s.has.infos))

@@ -6,7 +6,8 @@ use Rattle.head_log.specs.declared.segment.Segment.{Segment}
 use Rattle.block_list.specs.declared.body.SegmentRef.{SegmentRef}
 use Rattle.live_traces.specs.Parts.{LiveParts}
 use Rattle.live_traces.specs.Rows.{ChunkParts}
-use Rattle.store_model.specs.History.{batch_rows, count_of, pushed}
+use Rattle.store_entries.specs.declared.entry.Entry.{Entry}
+use Rattle.store_model.specs.History.{batch_rows, count_of, pushed, push_of}
 use Rattle.store_model.specs.State.{State, Block, LiveRow}
 use Rattle.store_model.specs.After.{arrived, after_push}
 use Rattle.store_model.specs.Event.{Event, Reply}
@@ -147,7 +148,7 @@ stands_pushed told told' held held' may_leave may_leave' core live segment m spa
   sound = keeps_sound before faults m _ _ _ s.sound step;
   above = keeps_floor before faults m _ _ _ s.above step;
   built = λ t. built (known t);
-  now = λ t image left. subst (λ (u : Option (List Span)). MayStandFor (pushed m.history spans) u image) (sym (s.sure writes))
+  now = λ t image left. subst (λ (u : Option Entry). MayStandFor (pushed m.history spans) u image) (sym (s.sure writes))
       (settled_now held' may_leave' core.list m.state.blocks (tail_of segment) (pushed m.history spans) (settles (known t) (s.settled (known t) writes)) image left);
   settled = λ t free. settles (known t) (s.settled (known t) writes);
   sure = s.sure;
@@ -187,7 +188,7 @@ has_broken core live segment ready faults m same still has = record {
 
 pub stands_broken : (told told' : Type 0) (held held' : Image) (may_leave may_leave' : Image → Type 0) (core : CoreState) (live : LiveParts) (segment : Segment) (ready : ChunkParts) (faults : ℕ) (m : Machine)
     → SameParts core.live live → segment ≡ core.segment → StandsFor told held may_leave core m → (told' → told)
-    → (told → (image : Image) → may_leave' image → MayStandFor m.history (Some ready.spans) image)
+    → (told → (image : Image) → may_leave' image → MayStandFor m.history (Some (push_of ready.spans)) image)
     → (told → AreDescribed held' core.infos.items m.state.blocks)
     → StandsFor told' held' may_leave' (record core { live = live; segment = segment; read_only = Some faults; unsure = Some ready }) (broken faults m)
 stands_broken told told' held held' may_leave may_leave' core live segment ready faults m same still s known now built = record {

@@ -1,7 +1,6 @@
 -- What a core stands for: a machine of the store's model, which its memory shows in part, and a history that its disk holds.
 use Rattle.std.specs.Prelude.{◌≡◌, ℕ, ◌+◌, ◌≤◌, List, [], ◌∷◌, ◌++◌, map, length, Option, None, IsTrue}
 use Rattle.std.specs.Option.{option_map}
-use Rattle.span_types.specs.declared.spans.Span.{Span}
 use Rattle.span_types.specs.declared.spans.Row.{Row}
 use Rattle.disk_model.specs.Images.{Image, bytes_of}
 use Rattle.disk_model.specs.declared.disk.Device.{Ghosts}
@@ -10,7 +9,8 @@ use Rattle.block_info.specs.InfoParts.{InfoParts}
 use Rattle.block_list.specs.Body.{MeetsRules}
 use Rattle.block_list.specs.declared.body.BlockRef.{BlockRef}
 use Rattle.block_list.specs.declared.body.SegmentRef.{SegmentRef}
-use Rattle.store_model.specs.History.{count_of}
+use Rattle.store_entries.specs.declared.entry.Entry.{Entry}
+use Rattle.store_model.specs.History.{count_of, push_of}
 use Rattle.store_model.specs.State.{Block, Segment as ModelSegment, pin_numbers, block_files, flush_rows, pinned_blocks, is_among}
 use Rattle.store_model.specs.Step.{Machine}
 use Rattle.store_model.specs.Laws.{Agrees}
@@ -30,9 +30,9 @@ use Rattle.store_core.specs.declared.store.Core.{Core}
 abbrev pub tail_of : Segment → Tail
 tail_of segment = record { file = segment.file; first = segment.first; count = segment.count; gate = segment.gate }
 
--- the batch whose push answered a fault
-abbrev pub unsure_of : CoreState → Option (List Span)
-unsure_of core = option_map (λ ready. ready.spans) core.unsure
+-- the entry whose call answered a fault
+abbrev pub unsure_of : CoreState → Option Entry
+unsure_of core = option_map (λ ready. push_of ready.spans) core.unsure
 
 abbrev pub segment_of : SegmentRef → ModelSegment
 segment_of ref = record { file = ref.file; first = ref.first }
@@ -80,7 +80,7 @@ pub record HasState (core : CoreState) (m : Machine) : Type 0 where
   pub read_only : m.read_only ≡ core.read_only
 
 -- A core with this memory, over a disk that holds this and may leave that, stands for the machine: what it keeps has the
--- history's first occurrences, and so has every image that a crash may leave now, or it has besides the batch whose push
+-- history's first occurrences, and so has every image that a crash may leave now, or it has besides the entry whose call
 -- failed. While the store writes, the disk is settled, an open flush has its segment, and what waits outside of blocks stands in the
 -- log. `told` says that the disk tells its bytes.
 pub record StandsFor (told : Type 0) (held : Image) (may_leave : Image → Type 0) (core : CoreState) (m : Machine) : Type 0 where

@@ -1,18 +1,18 @@
 -- What one event makes of a core and of its disk.
-use Rattle.std.specs.Prelude.{◌≡◌, ◌⊎◌, ◌≤◌, ℕ, List, [], Option, Some, None, IsTrue, true, false}
+use Rattle.std.specs.Prelude.{◌≡◌, ◌⊎◌, ◌≤◌, ℕ, Option, None, IsTrue, true, false}
 use Rattle.span_types.specs.Faults.{Rose}
-use Rattle.span_types.specs.declared.spans.Span.{Span}
 use Rattle.disk_model.specs.Images.{Image, bytes_of}
 use Rattle.disk_model.specs.Crash.{LeavesOnly}
 use Rattle.disk_model.specs.declared.disk.Device.{Ghosts}
+use Rattle.store_entries.specs.declared.entry.Entry.{Entry}
 use Rattle.store_model.specs.History.{History}
 use Rattle.store_model.specs.State.{is_among}
 use Rattle.store_model.specs.Event.{Event, Reply}
-use Rattle.store_model.specs.Event.Event.{Push}
 use Rattle.store_model.specs.Event.Reply.{Refused}
 use Rattle.store_model.specs.Event.Refusal.{Fault}
 use Rattle.store_model.specs.Holds.{Hold, OpenIn, ends, files_of, own_files}
 use Rattle.store_model.specs.Step.{Machine, Step}
+use Rattle.store_model.specs.Told.{asked_entry}
 use Rattle.store_state.specs.Meaning.{Rewritten, reads_of}
 use Rattle.store_state.specs.Calls.{MadeCalls, RoseAtMost}
 use Rattle.store_state.specs.Shown.{IsLookTaken}
@@ -24,13 +24,14 @@ use Rattle.store_core.specs.declared.store.Core.{Core}
 
 -- Whenever a crash comes in the event, what it leaves stands for what it might have stood for before, or for what it may stand
 -- for after it.
-abbrev pub Between : History → Option (List Span) → History → Option (List Span) → Image → Type 0
+abbrev pub Between : History → Option Entry → History → Option Entry → Image → Type 0
 Between before unsure after later_unsure image = MayStandFor before unsure image ⊎ MayStandFor after later_unsure image
 
--- The batch that isn't sure after an event: that of a push that answered a fault, where each batch was sure before it.
-abbrev pub unsure_after : Event → Reply → Option (List Span) → Option (List Span)
-unsure_after (Push spans moment) (Refused Fault) None = Some spans
-unsure_after _ _ unsure = unsure
+-- The entry that isn't sure after an event: the one that an event which answered a fault was to add, where each entry was sure
+-- before it.
+abbrev pub unsure_after : Event → Reply → Option Entry → Option Entry
+unsure_after event (Refused Fault) None = asked_entry event
+unsure_after event reply unsure = unsure
 
 -- A step of the machine for which the core stood: the core stands for what it leaves, and so do all images in between.
 pub record Stepped {D : Type 0} (g : Ghosts D) (old : Core D) (event : Event) (reply : Reply) (new : Core D) (m : Machine) : Type 0 where
@@ -40,7 +41,7 @@ pub record Stepped {D : Type 0} (g : Ghosts D) (old : Core D) (event : Event) (r
   pub images : IsTrue (g.tells old.disk) → LeavesOnly g.moment g.left_since old.disk new.disk
       (Between m.history (unsure_of old.state) machine.history (unsure_of new.state))
   pub unsure : unsure_of new.state ≡ unsure_after event reply (unsure_of old.state)
-  -- once a batch isn't sure nothing is pushed
+  -- once an entry isn't sure none is added
   pub ended : (unsure_of old.state ≡ None) ⊎ (machine.history ≡ m.history)
 
 -- One event of a core, with its reply.

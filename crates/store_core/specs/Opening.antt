@@ -13,7 +13,7 @@ use Rattle.block_list.specs.Loading.{KeepsList}
 use Rattle.block_list.specs.declared.body.ListBody.{ListBody}
 use Rattle.block_list.specs.declared.error.ListError.{ListError}
 use Rattle.block_list.specs.declared.error.ListError.TheVariants as list_errors
-use Rattle.store_model.specs.History.{History, batch_rows, entry_rows}
+use Rattle.store_model.specs.History.{History, batch_rows, record_rows}
 use Rattle.store_model.specs.State.{State, Block}
 use Rattle.store_model.specs.After.{arrived}
 use Rattle.store_model.specs.Step.{Machine}
@@ -57,7 +57,7 @@ rows_from floor (e ∷ es) = (if nat_le floor e.number then batch_rows e.number 
 -- of the opening. No file is loose, and no job or pin is open.
 abbrev pub opened_state : ListBody → List Block → List (List Span) → ℕ → State
 opened_state list blocks batches moment = record {
-  live = arrived moment (entry_rows list.floor (drop (list.floor - first_number list) batches));
+  live = arrived moment (record_rows list.floor (drop (list.floor - first_number list) batches));
   head = [];
   flush = None;
   compaction = None;
@@ -115,7 +115,7 @@ pub record Opened {D : Type 0} (g : Ghosts D) (disk : D) (moment : ℕ) (core : 
 -- What its memory has then.
 pub record IsOpenedState (list : ListBody) (batches : List (List Span)) (moment : ℕ) (state : CoreState) : Type 0 where
   pub listing : state.list ≡ without_loose list
-  pub live : state.live.live ≡ arrived moment (entry_rows list.floor (drop (list.floor - first_number list) batches))
+  pub live : state.live.live ≡ arrived moment (record_rows list.floor (drop (list.floor - first_number list) batches))
   pub head : state.live.head ≡ []
   pub flushing : state.live.flushing ≡ []
   pub infos : map listed_as state.infos.items ≡ list.blocks

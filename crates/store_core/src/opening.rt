@@ -13,7 +13,7 @@ ghost use Rattle.block_list.specs.declared.body.BlockRef.{BlockRef};
 ghost use Rattle.block_list.specs.declared.body.SegmentRef.{SegmentRef};
 ghost use Rattle.block_list.specs.declared.body.ListBody.{ListBody};
 ghost use Rattle.store_model.specs.After.{arrived};
-ghost use Rattle.store_model.specs.History.{History, entry_rows};
+ghost use Rattle.store_model.specs.History.{History, record_rows};
 ghost use Rattle.store_model.specs.State.{Block};
 ghost use Rattle.store_images.specs.Stored.{BlocksStand, ImageStandsFor, IsSoundImage, first_number, ref_of};
 ghost use Rattle.store_images.specs.Settled.{IsSettled};
@@ -154,7 +154,7 @@ fn read_listed<D: Device>(
     requires { MeetsRules list.now }
     ensures blocks { IfOk result (λ read. BlocksRead (IsTrue (D.tells disk.old)) (D.held disk.old) list.now.blocks read.0.items) }
     ensures log { IfOk result (λ read. (batches : List (List Span))
-        × (read.2.live ≡ arrived moment (entry_rows list.now.floor (drop (list.now.floor - first_number list.now) batches)))
+        × (read.2.live ≡ arrived moment (record_rows list.now.floor (drop (list.now.floor - first_number list.now) batches)))
         × LogRead (IsTrue (D.tells disk.old)) (D.held disk.old) list.now.segments (first_number list.now) batches (tail_of read.1)) }
     ensures others { IfOk result (λ read. (read.2.head ≡ []) × (read.2.flushing ≡ [])) }
     ensures few { IfOk result (λ read. read.1.first + read.1.count ≤ 4294967295) }
@@ -186,7 +186,7 @@ fn read_rows<D: Device>(
 ) -> Result<(Segment, Live), OpenError>
     requires { MeetsRules list.now }
     ensures read { IfOk result (λ read. (batches : List (List Span))
-        × (read.1.live ≡ arrived moment (entry_rows list.now.floor (drop (list.now.floor - first_number list.now) batches)))
+        × (read.1.live ≡ arrived moment (record_rows list.now.floor (drop (list.now.floor - first_number list.now) batches)))
         × LogRead (IsTrue (D.tells disk.old)) (D.held disk.old) list.now.segments (first_number list.now) batches (tail_of read.0)) }
     ensures others { IfOk result (λ read. (read.1.head ≡ []) × (read.1.flushing ≡ [])) }
     ensures few { IfOk result (λ read. read.0.first + read.0.count ≤ 4294967295) }

@@ -13,7 +13,7 @@ use Rattle.span_types.specs.declared.spans.Row.{Row}
 use Rattle.span_types.specs.Orders.{place_cmp}
 use Rattle.span_types.specs.First.{first_at, lesser}
 use Rattle.span_types.proofs.FirstLaws.{place_cmp_total, lesser-none, first_at-append}
-use Rattle.store_model.specs.History.{History, batch_rows, entry_rows}
+use Rattle.store_model.specs.History.{History, batch_rows, record_rows}
 use Rattle.store_model.specs.Laws.{AgreesOn}
 use Rattle.store_model.specs.RowSets.{OnePlace, Within}
 use Rattle.store_model.specs.State.{Block, block_rows}
@@ -67,21 +67,21 @@ between inner rows outer h low high from to = record {
 
 -- ---- the records of a log from a number on
 
-pub later_in : (n k : ℕ) (batches : List (List Span)) (x : Row) → Contains (entry_rows (n + k) (drop k batches)) x → Contains (entry_rows n batches) x
+pub later_in : (n k : ℕ) (batches : List (List Span)) (x : Row) → Contains (record_rows (n + k) (drop k batches)) x → Contains (record_rows n batches) x
 later_in n zero [] x c = absurd (not_in_nil x c)
-later_in n zero (b ∷ bs) x c = subst (λ (m : ℕ). Contains (entry_rows m (b ∷ bs)) x) (let e : n + 0 ≡ n = omega arith in e) c
+later_in n zero (b ∷ bs) x c = subst (λ (m : ℕ). Contains (record_rows m (b ∷ bs)) x) (let e : n + 0 ≡ n = omega arith in e) c
 later_in n (suc k) [] x c = absurd (not_in_nil x c)
 later_in n (suc k) (b ∷ bs) x c =
-    Contains-append_right (batch_rows n b) (entry_rows (n + 1) bs) x
-    (later_in (n + 1) k bs x (subst (λ (m : ℕ). Contains (entry_rows m (drop k bs)) x) (let e : n + suc k ≡ n + 1 + k = omega arith in e) c))
+    Contains-append_right (batch_rows n b) (record_rows (n + 1) bs) x
+    (later_in (n + 1) k bs x (subst (λ (m : ℕ). Contains (record_rows m (drop k bs)) x) (let e : n + suc k ≡ n + 1 + k = omega arith in e) c))
 
-pub in_later : (n k : ℕ) (batches : List (List Span)) (x : Row) → Contains (entry_rows n batches) x → n + k ≤ x.place.number → Contains (entry_rows (n + k) (drop k batches)) x
+pub in_later : (n k : ℕ) (batches : List (List Span)) (x : Row) → Contains (record_rows n batches) x → n + k ≤ x.place.number → Contains (record_rows (n + k) (drop k batches)) x
 in_later n zero [] x c high = absurd (not_in_nil x c)
-in_later n zero (b ∷ bs) x c high = subst (λ (m : ℕ). Contains (entry_rows m (b ∷ bs)) x) (let e : n ≡ n + 0 = omega arith in e) c
+in_later n zero (b ∷ bs) x c high = subst (λ (m : ℕ). Contains (record_rows m (b ∷ bs)) x) (let e : n ≡ n + 0 = omega arith in e) c
 in_later n (suc k) [] x c high = absurd (not_in_nil x c)
-in_later n (suc k) (b ∷ bs) x c high = elim (Contains-append_cases (batch_rows n b) (entry_rows (n + 1) bs) x c) [
+in_later n (suc k) (b ∷ bs) x c high = elim (Contains-append_cases (batch_rows n b) (record_rows (n + 1) bs) x c) [
   | inl here ↦ absurd (let own = number_in n b x here in omega (arith, own, high))
-  | inr there ↦ subst (λ (m : ℕ). Contains (entry_rows m (drop k bs)) x) (let e : n + 1 + k ≡ n + suc k = omega arith in e) (in_later (n + 1) k bs x there (omega (arith, high)))
+  | inr there ↦ subst (λ (m : ℕ). Contains (record_rows m (drop k bs)) x) (let e : n + 1 + k ≡ n + suc k = omega arith in e) (in_later (n + 1) k bs x there (omega (arith, high)))
 ]
 
 -- ---- a flush was committed
@@ -102,19 +102,19 @@ flushed blocks block first k batches waiting h high low kept above =
 
     from : Within (block_rows (blocks ++ block ∷ []) ++ waiting) (stored_rows (blocks ++ block ∷ []) (first + k) (drop k batches))
     from x c = elim (Contains-append_cases (block_rows (blocks ++ block ∷ [])) waiting x c) [
-      | inl built ↦ Contains-append_left (block_rows (blocks ++ block ∷ [])) (entry_rows (first + k) (drop k batches)) x built
-      | inr waits ↦ elim (Contains-append_cases (block_rows blocks) (entry_rows first batches) x (kept x (Contains-append_right block.rows waiting x waits))) [
-        | inl built ↦ Contains-append_left (block_rows (blocks ++ block ∷ [])) (entry_rows (first + k) (drop k batches)) x
+      | inl built ↦ Contains-append_left (block_rows (blocks ++ block ∷ [])) (record_rows (first + k) (drop k batches)) x built
+      | inr waits ↦ elim (Contains-append_cases (block_rows blocks) (record_rows first batches) x (kept x (Contains-append_right block.rows waiting x waits))) [
+        | inl built ↦ Contains-append_left (block_rows (blocks ++ block ∷ [])) (record_rows (first + k) (drop k batches)) x
             (subst (λ (r : List Row). Contains r x) (sym parts) (Contains-append_left (block_rows blocks) block.rows x built))
-        | inr logged ↦ Contains-append_right (block_rows (blocks ++ block ∷ [])) (entry_rows (first + k) (drop k batches)) x (in_later first k batches x logged (above x waits))
+        | inr logged ↦ Contains-append_right (block_rows (blocks ++ block ∷ [])) (record_rows (first + k) (drop k batches)) x (in_later first k batches x logged (above x waits))
       ]
     ]
 
     to : Within (stored_rows (blocks ++ block ∷ []) (first + k) (drop k batches)) (stored_rows blocks first batches)
-    to x c = elim (Contains-append_cases (block_rows (blocks ++ block ∷ [])) (entry_rows (first + k) (drop k batches)) x c) [
+    to x c = elim (Contains-append_cases (block_rows (blocks ++ block ∷ [])) (record_rows (first + k) (drop k batches)) x c) [
       | inl built ↦ elim (in_block x built) [
-        | inl old ↦ Contains-append_left (block_rows blocks) (entry_rows first batches) x old
+        | inl old ↦ Contains-append_left (block_rows blocks) (record_rows first batches) x old
         | inr new ↦ kept x (Contains-append_left block.rows waiting x new)
       ]
-      | inr logged ↦ Contains-append_right (block_rows blocks) (entry_rows first batches) x (later_in first k batches x logged)
+      | inr logged ↦ Contains-append_right (block_rows blocks) (record_rows first batches) x (later_in first k batches x logged)
     ]

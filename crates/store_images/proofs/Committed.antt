@@ -1,5 +1,5 @@
 -- What an image stands for whose list is that of a flush's commit.
-use Rattle.std.proofs.Common.{◌≡◌, ◌⊎◌, inl, inr, ℕ, ◌+◌, ◌-◌, ◌≤◌, zero, suc, List, [], ◌∷◌, ◌++◌, map, length, drop, refl, sym, ◌∙◌, ap, subst, arith, length-append, length-drop}
+use Rattle.std.proofs.Common.{◌≡◌, inl, inr, ℕ, ◌+◌, ◌-◌, ◌≤◌, zero, suc, List, [], ◌∷◌, ◌++◌, length, drop, refl, sym, ◌∙◌, ap, subst, arith, length-append, length-drop}
 use Rattle.std.specs.List.{Contains}
 use Rattle.std.proofs.Math.Seq.{drop-append-add}
 use Rattle.std.proofs.lemmas.List.{append-nil, map-append}
@@ -11,14 +11,14 @@ use Rattle.block_list.specs.Body.{MeetsRules}
 use Rattle.block_list.specs.declared.body.BlockRef.{BlockRef}
 use Rattle.block_list.specs.declared.body.SegmentRef.{SegmentRef}
 use Rattle.block_list.specs.declared.body.ListBody.{ListBody}
-use Rattle.store_model.specs.History.{History, count_of, entry_rows}
+use Rattle.store_images.proofs.Kept.{stands_with}
+use Rattle.store_model.specs.History.{History, count_of, record_rows}
 use Rattle.store_model.specs.Laws.{AgreesOn}
 use Rattle.store_model.specs.State.{Block}
 use Rattle.store_images.specs.Committed.{CommitsFlush}
 use Rattle.store_images.specs.Log.{LogHolds}
 use Rattle.store_images.specs.Log.LogHolds.{ended, goes_on}
 use Rattle.store_images.specs.Stored.{ImageStandsFor, BlockStands, StoreHolds, first_number, stored_rows, ref_of}
-use Rattle.store_images.specs.Stored.ImageStores.{filled}
 use Rattle.store_images.proofs.Lists.{not_in_nil, in_cons}
 use Rattle.store_images.proofs.Logs.{log_with}
 use Rattle.store_images.proofs.Keeping.{rules_in}
@@ -76,7 +76,7 @@ pub record LeftLogged (image : Image) (body new : ListBody) (kept : List Segment
   pub agrees : AgreesOn (stored_rows blocks (first_number new) before) h
   pub counts : count_of h ≡ first_number new + length before
   -- of the rows of the whole log those from the first number on
-  pub later : (x : Row) → Contains (entry_rows (first_number body) batches) x → first_number new ≤ x.place.number → Contains (entry_rows (first_number new) before) x
+  pub later : (x : Row) → Contains (record_rows (first_number body) batches) x → first_number new ≤ x.place.number → Contains (record_rows (first_number new) before) x
 
 module _ (image : Image) (body new : ListBody) (blocks : List Block) (block : Block) (batches : List (List Span)) (waiting : List Row) (h : History)
     (c : CommitsFlush image body new blocks block batches waiting h) where
@@ -125,7 +125,7 @@ module _ (image : Image) (body new : ListBody) (blocks : List Block) (block : Bl
         };
         agrees = agrees;
         counts = omega (arith, counts, is, size, few);
-        later = λ x inside high. subst (λ (n : ℕ). Contains (entry_rows n left) x) (sym is) (in_later first r.dropped batches x inside (omega (arith, high, is)));
+        later = λ x inside high. subst (λ (n : ℕ). Contains (record_rows n left) x) (sym is) (in_later first r.dropped batches x inside (omega (arith, high, is)));
       }
 
   pub left_logged : LeftLogged image body new c.kept c.segment (blocks ++ block ∷ []) batches h
@@ -134,8 +134,4 @@ module _ (image : Image) (body new : ListBody) (blocks : List Block) (block : Bl
   pub committed : ImageStandsFor image h
   committed =
       let l = left_logged in
-      record {
-        rows = stored_rows (blocks ++ block ∷ []) (first_number new) l.before;
-        stores = filled new (blocks ++ block ∷ []) l.before l.store refl l.counts;
-        agrees = l.agrees;
-      }
+      stands_with image new (blocks ++ block ∷ []) l.before h l.store l.agrees l.counts

@@ -1,5 +1,5 @@
 -- What a crash within a compaction's commit leaves, and the disk once it was made.
-use Rattle.std.proofs.Common.{◌≡◌, ◌⊎◌, inl, inr, ℕ, ◌+◌, ◌<◌, ◌≤◌, not, List, [], ◌++◌, length, Some, Option, refl, sym, ◌∙◌, ap, subst, arith, length-append}
+use Rattle.std.proofs.Common.{◌≡◌, ◌⊎◌, inl, inr, ℕ, ◌+◌, ◌<◌, ◌≤◌, not, List, [], ◌++◌, length, Some, Option, sym, ◌∙◌, ap, subst, arith, length-append}
 use Rattle.std.specs.List.{Contains}
 use Rattle.std.proofs.lemmas.Bool.{cases_eq, cases_lt}
 use Rattle.std.proofs.lemmas.List.Elements.{Contains-push_cases}
@@ -15,14 +15,14 @@ use Rattle.block_list.specs.Loading.{IsReady}
 use Rattle.block_list.specs.declared.body.SegmentRef.{SegmentRef}
 use Rattle.block_list.specs.declared.body.ListBody.{ListBody}
 use Rattle.block_format.specs.Blocks.{BlockHolds}
-use Rattle.store_model.specs.History.{History, entry_rows, count_of}
+use Rattle.store_images.proofs.Kept.{stands_with}
+use Rattle.store_model.specs.History.{History, record_rows, count_of}
 use Rattle.store_model.specs.RowSets.{Within as AreAmong}
 use Rattle.store_model.specs.State.{Block, is_among}
 use Rattle.store_model.specs.Choice.{outside_files}
 use Rattle.store_images.specs.Log.{LogHolds}
 use Rattle.store_images.specs.Committed.{CommitsCompaction, MayCompact, with_joined}
-use Rattle.store_images.specs.Stored.{ImageStandsFor, IsTidy, first_number, stored_rows, next_file_of, named_files}
-use Rattle.store_images.specs.Stored.ImageStores.{filled}
+use Rattle.store_images.specs.Stored.{ImageStandsFor, IsTidy, first_number, next_file_of, named_files}
 use Rattle.store_images.specs.Settled.{Tail, IsTail, IsSettled}
 use Rattle.store_images.proofs.Compacted.{compacted, store_compacted, agrees_compacted}
 use Rattle.store_images.proofs.Keeping.{segment_named, block_named, rules_in, given_out, blocks_same, slots_same, one_list}
@@ -121,17 +121,13 @@ module _ (held : Image) (may_leave : Image → Type 0) (body new : ListBody) (fi
     }
 
     old_list : ImageHoldsList image (Some body) → ImageStandsFor image h
-    old_list holds = record {
-      rows = stored_rows blocks (first_number body) all;
-      stores = filled body blocks all (record {
-        listed = holds;
-        its_blocks = s.holds.its_blocks;
-        built = blocks_same held image blocks block_same s.holds.built;
-        logged = logs;
-        floored = s.holds.floored;
-      }) refl counted;
-      agrees = s.agrees;
-    }
+    old_list holds = stands_with image body blocks all h (record {
+      listed = holds;
+      its_blocks = s.holds.its_blocks;
+      built = blocks_same held image blocks block_same s.holds.built;
+      logged = logs;
+      floored = s.holds.floored;
+    }) s.agrees counted
 
     either : ImageHoldsEither (Some body) new image → ImageStandsFor image h
     either holds = elim holds [ inl old ↦ old_list old | inr next ↦ compacted image body new files blocks block all h (new_list next) ]
@@ -201,10 +197,10 @@ module _ (held : Image) (may_leave : Image → Type 0) (body new : ListBody) (fi
     }
 
     -- what stood in the log stands in it still
-    pub logged_compacted : (rows : List Row) → ((batches : List (List Span)) → LogHolds held body.segments (first_number body) batches → AreAmong rows (entry_rows (first_number body) batches))
-        → (batches : List (List Span)) → LogHolds later new.segments (first_number new) batches → AreAmong rows (entry_rows (first_number new) batches)
+    pub logged_compacted : (rows : List Row) → ((batches : List (List Span)) → LogHolds held body.segments (first_number body) batches → AreAmong rows (record_rows (first_number body) batches))
+        → (batches : List (List Span)) → LogHolds later new.segments (first_number new) batches → AreAmong rows (record_rows (first_number new) batches)
     logged_compacted rows was batches holds x inside =
         let log : LogHolds later body.segments (first_number body) batches =
         subst (λ (n : ℕ). LogHolds later body.segments n batches) first_same (subst (λ (l : List SegmentRef). LogHolds later l (first_number new) batches) c.segments holds) in
-        subst (λ (n : ℕ). Contains (entry_rows n batches) x) (sym first_same)
+        subst (λ (n : ℕ). Contains (record_rows n batches) x) (sym first_same)
         (was batches (log_same later held body.segments (first_number body) batches (λ y d. sym (kept_segment y d)) log) x inside)

@@ -10,7 +10,8 @@ use Rattle.disk_model.specs.Images.{Image}
 use Rattle.block_list.specs.Body.{MeetsRules}
 use Rattle.block_list.specs.declared.body.SegmentRef.{SegmentRef}
 use Rattle.block_list.specs.declared.body.ListBody.{ListBody}
-use Rattle.store_model.specs.History.{History, entry_rows}
+use Rattle.store_images.proofs.Kept.{stands_with}
+use Rattle.store_model.specs.History.{History, record_rows}
 use Rattle.store_model.specs.Laws.{AgreesOn}
 use Rattle.store_model.specs.RowSets.{Within}
 use Rattle.store_model.specs.State.{State, Block, Compaction, block_rows, block_files}
@@ -24,7 +25,6 @@ use Rattle.store_model.proofs.KeepsFirsts.{step_keeps}
 use Rattle.store_images.specs.Committed.{CommitsCompaction, with_joined}
 use Rattle.store_images.specs.Log.{LogHolds}
 use Rattle.store_images.specs.Stored.{ImageStandsFor, BlockStands, StoreHolds, SameFirsts, first_number, stored_rows}
-use Rattle.store_images.specs.Stored.ImageStores.{filled}
 use Rattle.store_images.proofs.Between.{later_in}
 use Rattle.store_images.proofs.Keeping.{rules_in}
 
@@ -82,12 +82,12 @@ pub still_floored : (files : List ℕ) (blocks : List Block) (block : Block) (fi
     → AgreesOn (stored_rows blocks first batches) h → SameFirsts (stored_rows blocks first batches) (stored_rows blocks (first + gone) (drop gone batches))
     → SameFirsts (stored_rows (with_joined files blocks block) first batches) (stored_rows (with_joined files blocks block) (first + gone) (drop gone batches))
 still_floored files blocks block first gone batches h firsts agrees same =
-    λ k. (rejoined files blocks block (entry_rows first batches) h firsts agrees).firsts k ∙ sym ((rejoined files blocks block (entry_rows (first + gone) (drop gone batches)) h firsts above).firsts k)
+    λ k. (rejoined files blocks block (record_rows first batches) h firsts agrees).firsts k ∙ sym ((rejoined files blocks block (record_rows (first + gone) (drop gone batches)) h firsts above).firsts k)
   where
     fewer : Within (stored_rows blocks (first + gone) (drop gone batches)) (stored_rows blocks first batches)
-    fewer x inside = elim (Contains-append_cases (block_rows blocks) (entry_rows (first + gone) (drop gone batches)) x inside) [
-      | inl built ↦ Contains-append_left (block_rows blocks) (entry_rows first batches) x built
-      | inr logged ↦ Contains-append_right (block_rows blocks) (entry_rows first batches) x (later_in first gone batches x logged)
+    fewer x inside = elim (Contains-append_cases (block_rows blocks) (record_rows (first + gone) (drop gone batches)) x inside) [
+      | inl built ↦ Contains-append_left (block_rows blocks) (record_rows first batches) x built
+      | inr logged ↦ Contains-append_right (block_rows blocks) (record_rows first batches) x (later_in first gone batches x logged)
     ]
 
     above : AgreesOn (stored_rows blocks (first + gone) (drop gone batches)) h
@@ -136,11 +136,7 @@ module _ (image : Image) (body new : ListBody) (files : List ℕ) (blocks : List
 
   pub agrees_compacted : AgreesOn (stored_rows listed_blocks (first_number new) batches) h
   agrees_compacted =
-      subst (λ (n : ℕ). AgreesOn (stored_rows listed_blocks n batches) h) (sym first_stays) (rejoined files blocks block (entry_rows (first_number body) batches) h c.firsts c.agrees)
+      subst (λ (n : ℕ). AgreesOn (stored_rows listed_blocks n batches) h) (sym first_stays) (rejoined files blocks block (record_rows (first_number body) batches) h c.firsts c.agrees)
 
   pub compacted : ImageStandsFor image h
-  compacted = record {
-    rows = stored_rows listed_blocks (first_number new) batches;
-    stores = filled new listed_blocks batches store_compacted refl (let counts = c.counts in omega (arith, counts, first_stays));
-    agrees = agrees_compacted;
-  }
+  compacted = stands_with image new listed_blocks batches h store_compacted agrees_compacted (let counts = c.counts in omega (arith, counts, first_stays))

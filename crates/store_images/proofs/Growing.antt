@@ -1,17 +1,16 @@
 -- Rows with those of a further push.
-use Rattle.std.proofs.Common.{◌≡◌, ◌⊎◌, inl, inr, ℕ, ◌+◌, ◌-◌, ◌<◌, ◌≤◌, zero, suc, List, [], ◌∷◌, ◌++◌, length, drop, refl, sym, ◌∙◌, ap, subst, arith, append_assoc, length-append, length-drop, slice_index_or}
+use Rattle.std.proofs.Common.{◌≡◌, ◌⊎◌, inl, inr, ℕ, ◌+◌, ◌-◌, ◌<◌, ◌≤◌, zero, suc, List, [], ◌∷◌, ◌++◌, length, drop, refl, sym, ◌∙◌, ap, subst, arith, append_assoc, length-drop, slice_index_or}
 use Rattle.std.specs.List.{Contains}
 use Rattle.std.proofs.lemmas.List.{drop-append-le}
 use Rattle.std.proofs.lemmas.List.Elements.{Contains-append_cases}
-use Rattle.span_types.specs.declared.ids.Key.{Key}
 use Rattle.span_types.specs.declared.spans.Span.{Span}
 use Rattle.span_types.specs.declared.spans.Row.{Row}
 use Rattle.span_types.specs.First.{first_at, lesser}
 use Rattle.span_types.proofs.FirstLaws.{first_at-append}
-use Rattle.store_model.specs.History.{History, batch_rows, entry_rows, history_rows, count_of, pushed}
+use Rattle.store_model.specs.History.{History, batch_rows, record_rows, history_rows, count_of, pushed}
 use Rattle.store_model.specs.Laws.{AgreesOn}
 use Rattle.store_model.specs.State.{Block, block_rows}
-use Rattle.store_model.proofs.HistoryLaws.{entry_rows-more, grows, position_of}
+use Rattle.store_model.proofs.HistoryLaws.{count_pushed, record_rows-more, grows, position_of}
 use Rattle.store_model.proofs.KeepsFirsts.{number_in}
 use Rattle.store_images.specs.Stored.{SameFirsts, stored_rows}
 
@@ -31,7 +30,7 @@ one_in_batch n spans x y hx hy e =
     sym hx.2 ∙ ap (λ k. slice_index_or (batch_rows n spans) k x) i ∙ any_default (batch_rows n spans) hy.0 x y hy.1 ∙ hy.2
 
 pub count_of-pushed : (h : History) (spans : List Span) → count_of (pushed h spans) ≡ count_of h + 1
-count_of-pushed h spans = let e = length-append h.entries (spans ∷ []) in omega (arith, e)
+count_of-pushed h spans = count_pushed h spans
 
 pub agrees_grown : (rows : List Row) (h : History) (spans : List Span) → AgreesOn rows h → AgreesOn (rows ++ batch_rows (count_of h) spans) (pushed h spans)
 agrees_grown rows h spans is = record {
@@ -61,8 +60,8 @@ agrees_grown rows h spans is = record {
 pub stored_more : (blocks : List Block) (first : ℕ) (batches : List (List Span)) (spans : List Span)
     → stored_rows blocks first (batches ++ spans ∷ []) ≡ stored_rows blocks first batches ++ batch_rows (first + length batches) spans
 stored_more blocks first batches spans =
-    ap (λ (r : List Row). block_rows blocks ++ r) (entry_rows-more first batches spans)
-    ∙ sym (append_assoc (block_rows blocks) (entry_rows first batches) (batch_rows (first + length batches) spans))
+    ap (λ (r : List Row). block_rows blocks ++ r) (record_rows-more first batches spans)
+    ∙ sym (append_assoc (block_rows blocks) (record_rows first batches) (batch_rows (first + length batches) spans))
 
 same_joined : (a b c : List Row) → SameFirsts a b → SameFirsts (a ++ c) (b ++ c)
 same_joined a b c same = λ k. first_at-append k a c ∙ ap (λ o. lesser o (first_at k c)) (same k) ∙ sym (first_at-append k b c)

@@ -1,6 +1,6 @@
 -- Images that store the same.
-use Rattle.std.proofs.Common.{◌≡◌, ◌≢◌, ◌⊎◌, inl, inr, ℕ, ◌+◌, ◌<◌, ◌≤◌, List, [], ◌∷◌, ◌++◌, map, length, Some, None, Option, refl, sym, ◌∙◌, ap, subst, arith}
-use Rattle.std.specs.List.{Contains, All}
+use Rattle.std.proofs.Common.{◌≡◌, inl, inr, ℕ, ◌<◌, ◌≤◌, List, [], ◌∷◌, map, Some, None, Option, refl, sym, ◌∙◌, subst, arith}
+use Rattle.std.specs.List.{Contains}
 use Rattle.std.proofs.lemmas.List.Elements.{All-contains, Contains-append_left, Contains-append_right}
 use Rattle.span_types.specs.declared.spans.Span.{Span}
 use Rattle.disk_model.specs.Images.{Image, bytes_of}
@@ -17,7 +17,7 @@ use Rattle.block_list.specs.declared.body.ListBody.{ListBody}
 use Rattle.store_model.specs.History.{History}
 use Rattle.store_model.specs.State.{Block}
 use Rattle.block_format.specs.Blocks.{BlockHolds}
-use Rattle.store_images.specs.Stored.{BlocksStand, StoreHolds, ImageStores, ImageStandsFor, IsTidy, KeepsStored, ref_of, named_files, next_file_of}
+use Rattle.store_images.specs.Stored.{BlocksStand, StoreHolds, ImageStores, ImageStandsFor, KeepsStored, ref_of}
 use Rattle.store_images.specs.Stored.ImageStores.{vacant, filled}
 use Rattle.store_images.proofs.Lists.{in_map}
 use Rattle.store_images.proofs.Logs.{log_same}
@@ -80,8 +80,8 @@ module _ (a b : Image) (lists : (list : Option ListBody) → ImageHoldsList a li
     (files : (body : ListBody) → ImageHoldsList a (Some body) → (file : ℕ) → Contains (files_of body) file → bytes_of b file ≡ bytes_of a file) where
   stores_kept : (rows : _) (count : ℕ) → ImageStores a rows count → ImageStores b rows count
   stores_kept rows count (vacant holds none zero) = vacant (lists None holds) none zero
-  stores_kept rows count (filled body blocks batches s is counts) =
-      filled body blocks batches (store_same a b body blocks batches (lists (Some body) s.listed) (files body s.listed) s) is counts
+  stores_kept rows count (filled body blocks batches s one is counts) =
+      filled body blocks batches (store_same a b body blocks batches (lists (Some body) s.listed) (files body s.listed) s) one is counts
 
   pub stands_kept : (h : History) → ImageStandsFor a h → ImageStandsFor b h
   stands_kept = stands_by_stores a b stores_kept

@@ -1,5 +1,6 @@
 pub mod Lists
 pub mod Growing
+pub mod Kept
 pub mod Logs
 pub mod Keeping
 pub mod Storing

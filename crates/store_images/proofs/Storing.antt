@@ -1,5 +1,5 @@
 -- A store whose last segment has one record more.
-use Rattle.std.proofs.Common.{◌≡◌, ◌≢◌, ◌⊎◌, inl, inr, ℕ, ◌+◌, ◌-◌, ◌<◌, ◌≤◌, false, List, [], ◌∷◌, ◌++◌, map, length, drop, get_or, nat_eq, Some, refl, sym, ◌∙◌, ap, subst, arith, eq-eqb, append_assoc, length-append}
+use Rattle.std.proofs.Common.{◌≡◌, ◌≢◌, inl, inr, ℕ, ◌+◌, ◌-◌, ◌<◌, ◌≤◌, false, List, [], ◌∷◌, ◌++◌, map, length, drop, get_or, nat_eq, Some, refl, sym, ◌∙◌, ap, subst, arith, eq-eqb, append_assoc, length-append}
 use Rattle.std.specs.List.{Contains, IsDistinct}
 use Rattle.std.proofs.lemmas.List.{map-append, length-map}
 use Rattle.std.proofs.Math.Seq.{get_or-append_seam}
@@ -8,26 +8,26 @@ use Rattle.std.proofs.lemmas.List.Elements.{All-contains, All-from_recursion, Co
 use Rattle.span_types.specs.declared.spans.Span.{Span}
 use Rattle.span_types.specs.declared.spans.Row.{Row}
 use Rattle.disk_model.specs.Images.{Image, bytes_of, Besides}
-use Rattle.disk_model.specs.Crash.{OnlyBytes, Within, Follows, Reached, ButFor}
+use Rattle.disk_model.specs.Crash.{OnlyBytes, Within, ButFor}
 use Rattle.disk_model.proofs.Passing.{other_stays_run}
 use Rattle.head_log.specs.Stands.{SegmentHolds, SegmentKeeps, SegmentKeepsEither}
-use Rattle.block_list.specs.Body.{MeetsRules, files_of}
+use Rattle.block_list.specs.Body.{MeetsRules}
 use Rattle.block_list.specs.Slots.{ImageHoldsList}
 use Rattle.block_list.proofs.ReadyLemmas.{ready_besides}
 use Rattle.block_list.specs.declared.body.BlockRef.{BlockRef}
 use Rattle.block_list.specs.declared.body.SegmentRef.{SegmentRef}
 use Rattle.block_list.specs.declared.body.ListBody.{ListBody}
-use Rattle.store_model.specs.History.{History, count_of, pushed, batch_rows}
+use Rattle.store_images.proofs.Kept.{stands_with}
+use Rattle.store_model.specs.History.{History, count_of, pushed, batch_rows, push_of}
 use Rattle.store_model.specs.Laws.{AgreesOn}
 use Rattle.store_model.specs.State.{Block}
 use Rattle.store_images.specs.Log.{LogHolds}
-use Rattle.store_images.specs.Stored.{BlocksStand, StoreHolds, ImageStandsFor, MayStandFor, SameFirsts, IsTidy, stored_rows, first_number, ref_of, named_files}
-use Rattle.store_images.specs.Stored.ImageStores.{filled}
-use Rattle.store_images.specs.Settled.{Tail, IsTail, ListLies, IsSettled}
+use Rattle.store_images.specs.Stored.{StoreHolds, ImageStandsFor, MayStandFor, SameFirsts, IsTidy, stored_rows, first_number, ref_of, named_files}
+use Rattle.store_images.specs.Settled.{Tail, IsTail, IsSettled}
 use Rattle.store_images.proofs.Lists.{in_cons, not_in_nil, in_map, at_front}
 use Rattle.store_images.proofs.Growing.{agrees_grown, count_of-pushed, stored_more, floored_more}
 use Rattle.store_images.proofs.Logs.{log_same, log_with}
-use Rattle.store_images.proofs.Keeping.{slots_same, blocks_same, rules_in, given_out, segment_named, block_named, one_list}
+use Rattle.store_images.proofs.Keeping.{slots_same, blocks_same, rules_in, given_out, segment_named, one_list}
 
 -- ---- the tail's file is no other's
 
@@ -123,11 +123,7 @@ module _ (held image : Image) (body : ListBody) (blocks : List Block) (tail : Ta
     whole = let size = length-append before mine in omega (arith, size, written.follows, written.counted, counts)
 
     pub stands_as_before : SegmentKeeps tail.first mine (bytes_of image tail.file) → ImageStandsFor image h
-    stands_as_before keeps = record {
-      rows = stored_rows blocks (first_number body) (before ++ mine);
-      stores = filled body blocks (before ++ mine) (store_as_before keeps) refl whole;
-      agrees = agrees;
-    }
+    stands_as_before keeps = stands_with image body blocks (before ++ mine) h (store_as_before keeps) agrees whole
 
     pub agrees_more : (spans : List Span) → AgreesOn (stored_rows blocks (first_number body) (before ++ (mine ++ spans ∷ []))) (pushed h spans)
     agrees_more spans =
@@ -144,11 +140,7 @@ module _ (held image : Image) (body : ListBody) (blocks : List Block) (tail : Ta
         let own = length-append mine more in
         let old = length-append before mine in
         let grown = count_of-pushed h spans in
-        record {
-          rows = stored_rows blocks (first_number body) (before ++ (mine ++ spans ∷ []));
-          stores = filled body blocks (before ++ (mine ++ spans ∷ [])) (store_more spans keeps) refl (omega (arith, size, own, old, grown, whole));
-          agrees = agrees_more spans;
-        }
+        stands_with image body blocks (before ++ (mine ++ spans ∷ [])) (pushed h spans) (store_more spans keeps) (agrees_more spans) (omega (arith, size, own, old, grown, whole))
 
 -- ---- a settled disk
 
@@ -213,7 +205,7 @@ module _ (held : Image) (may_leave : Image → Type 0) (body : ListBody) (blocks
       (tail.gate, subst (λ (b : List ℕ). SegmentHolds tail.first s.mine tail.gate b) (sym (only_tail image left)) s.written.current)
 
   -- while a record is added
-  pub settled_either : (spans : List Span) (image : Image) → ButFor tail.file (SegmentKeepsEither tail.first s.mine spans) may_leave image → MayStandFor h (Some spans) image
+  pub settled_either : (spans : List Span) (image : Image) → ButFor tail.file (SegmentKeepsEither tail.first s.mine spans) may_leave image → MayStandFor h (Some (push_of spans)) image
   settled_either spans image b = elim b.here [
     | inl keeps ↦ inl (settled_as_before b.origin image b.possible b.besides keeps)
     | inr more ↦ inr (settled_more b.origin image b.possible b.besides spans more)

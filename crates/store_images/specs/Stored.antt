@@ -1,5 +1,5 @@
 -- What an image of the disk stores, when it is sound, and which history it stands for.
-use Rattle.std.specs.Prelude.{◌≡◌, ◌⊎◌, ℕ, ◌+◌, ◌-◌, ◌<◌, ◌≤◌, List, [], ◌++◌, length, map, drop, slice_index, Option, Some, None}
+use Rattle.std.specs.Prelude.{◌≡◌, ◌⊎◌, ℕ, ◌+◌, ◌-◌, ◌<◌, ◌≤◌, List, [], ◌∷◌, ◌++◌, length, map, drop, slice_index, Option, Some, None}
 use Rattle.std.specs.List.{Contains}
 use Rattle.span_types.specs.declared.ids.Key.{Key}
 use Rattle.span_types.specs.declared.spans.Span.{Span}
@@ -11,7 +11,9 @@ use Rattle.block_list.specs.Slots.{ImageHoldsList}
 use Rattle.block_list.specs.declared.body.BlockRef.{BlockRef}
 use Rattle.block_list.specs.declared.body.ListBody.{ListBody}
 use Rattle.block_format.specs.Blocks.{BlockHolds}
-use Rattle.store_model.specs.History.{History, entry_rows, count_of, pushed}
+use Rattle.store_model.specs.RowSets.{OnePlace}
+use Rattle.store_entries.specs.declared.entry.Entry.{Entry}
+use Rattle.store_model.specs.History.{History, record_rows, count_of, grown}
 use Rattle.store_model.specs.Laws.{AgreesOn}
 use Rattle.store_model.specs.State.{Block, block_rows}
 use Rattle.store_images.specs.Log.{LogHolds}
@@ -42,7 +44,11 @@ first_number body = slice_index (firsts_of body) 0
 
 -- the rows of the blocks, and behind them those of batches whose numbers count up from this one
 abbrev pub stored_rows : List Block → ℕ → List (List Span) → List Row
-stored_rows blocks first batches = block_rows blocks ++ entry_rows first batches
+stored_rows blocks first batches = block_rows blocks ++ record_rows first batches
+
+-- The rows that count: those of the blocks, and those of the batches from the floor on.
+abbrev pub kept_rows : ListBody → List Block → List (List Span) → List Row
+kept_rows body blocks batches = stored_rows blocks body.floor (drop (body.floor - first_number body) batches)
 
 -- The image's list names these blocks, and segments that stand for these batches. The records below the floor bring no first
 -- occurrence: the blocks and the records from the floor on have the same ones.
@@ -51,18 +57,19 @@ pub record StoreHolds (image : Image) (body : ListBody) (blocks : List Block) (b
   pub its_blocks : body.blocks ≡ map ref_of blocks
   pub built : BlocksStand image blocks
   pub logged : LogHolds image body.segments (first_number body) batches
-  pub floored : SameFirsts (stored_rows blocks (first_number body) batches)
-      (stored_rows blocks body.floor (drop (body.floor - first_number body) batches))
+  pub floored : SameFirsts (stored_rows blocks (first_number body) batches) (kept_rows body blocks batches)
 
--- The image stores these rows, and so many entries. Where both slots are vacant it stores none.
+-- The image stores these rows, and so many entries. Of all rows in its blocks and in its log two at one place are equal. If both
+-- slots are vacant it stores none.
 pub data ImageStores (image : Image) (rows : List Row) (count : ℕ) : Type 0 where
   vacant : ImageHoldsList image None → rows ≡ [] → count ≡ 0 → ImageStores image rows count
   filled : (body : ListBody) (blocks : List Block) (batches : List (List Span)) → StoreHolds image body blocks batches
-      → rows ≡ stored_rows blocks (first_number body) batches → count ≡ first_number body + length batches
+      → OnePlace (stored_rows blocks (first_number body) batches)
+      → rows ≡ kept_rows body blocks batches → count ≡ first_number body + length batches
       → ImageStores image rows count
 
--- The image stands for the history: it stores its first occurrences and its length. Of the rows that it stores two at one place
--- are equal, and none has a number from the length on.
+-- The image stands for the history: it stores its first occurrences and its length. None of the rows that it stores has a number
+-- from the length on.
 pub record ImageStandsFor (image : Image) (h : History) : Type 0 where
   pub rows : List Row
   pub stores : ImageStores image rows (count_of h)
@@ -72,10 +79,10 @@ pub record ImageStandsFor (image : Image) (h : History) : Type 0 where
 abbrev pub IsSoundImage : Image → Type 0
 IsSoundImage image = (h : History) × ImageStandsFor image h
 
--- it stands for the history, or for it and then the batch whose push failed
-abbrev pub MayStandFor : History → Option (List Span) → Image → Type 0
+-- it stands for the history, or for it and then the entry whose call failed
+abbrev pub MayStandFor : History → Option Entry → Image → Type 0
 MayStandFor h None image = ImageStandsFor image h
-MayStandFor h (Some spans) image = ImageStandsFor image h ⊎ ImageStandsFor image (pushed h spans)
+MayStandFor h (Some entry) image = ImageStandsFor image h ⊎ ImageStandsFor image (grown h (entry ∷ []))
 
 -- ---- files
 

@@ -142,20 +142,20 @@ only_among n x h = one_number n x (named n (x ∷ []) h)
 
 -- the pin and the job of what is open are open
 pin_is_open : (m : Machine) (hold : Hold) (n : ℕ) → OpenIn m hold → is_among n (pin_of hold) ≡ true → is_among n (pin_numbers m.state.pins) ≡ true
-pin_is_open m (OpenLook pin files as_of rows) n is h = ap (λ k. is_among k (pin_numbers m.state.pins)) (only_among n pin h) ∙ is.open_pin.is_open
-pin_is_open m (OpenFlush number file rows) n is h = none_among n _ h
-pin_is_open m (OpenCompact number file level pin files) n is h = ap (λ k. is_among k (pin_numbers m.state.pins)) (only_among n pin h) ∙ is.open_pin
+pin_is_open m (OpenLook look) n is h = ap (λ k. is_among k (pin_numbers m.state.pins)) (only_among n look.pin h) ∙ is.open_pin.is_open
+pin_is_open m (OpenFlush job) n is h = none_among n _ h
+pin_is_open m (OpenCompact job) n is h = ap (λ k. is_among k (pin_numbers m.state.pins)) (only_among n job.pin h) ∙ is.open_pin
 
 job_is_open : (m : Machine) (hold : Hold) (n : ℕ) → OpenIn m hold → is_among n (job_of hold) ≡ true → 1 ≤ jobs_with n m.state
-job_is_open m (OpenLook pin files as_of rows) n is h = none_among n _ h
-job_is_open m (OpenFlush number file rows) n is h =
-    let own : times n (flush_numbers m.state.flush) ≡ times n (number ∷ []) =
+job_is_open m (OpenLook look) n is h = none_among n _ h
+job_is_open m (OpenFlush job) n is h =
+    let own : times n (flush_numbers m.state.flush) ≡ times n (job.number ∷ []) =
     ap (λ o. times n (flush_numbers o)) is.is_open ∙ ap (λ k. times n (k ∷ [])) is.its_number in
-    omega (arith, own, named n (number ∷ []) h)
-job_is_open m (OpenCompact number file level pin files) n is h =
-    let own : times n (compaction_numbers m.state.compaction) ≡ times n (number ∷ []) =
+    omega (arith, own, named n (job.number ∷ []) h)
+job_is_open m (OpenCompact job) n is h =
+    let own : times n (compaction_numbers m.state.compaction) ≡ times n (job.number ∷ []) =
     ap (λ o. times n (compaction_numbers o)) is.is_open ∙ ap (λ k. times n (k ∷ [])) is.its_number in
-    omega (arith, own, named n (number ∷ []) h)
+    omega (arith, own, named n (job.number ∷ []) h)
 
 refuted : (t : Bool) → (t ≡ true → ⊥) → t ≡ false
 refuted true h = absurd (h refl)
@@ -182,10 +182,10 @@ happens_apart m m' (Cut moment) r new old sound is d h = opens_none r _ new (Are
 happens_apart m m' CutAll r new old sound is d h = opens_none r _ new (AreApart new old) d.2 refl h
 happens_apart m m' Held r new old sound is d h = opens_none r _ new (AreApart new old) d.0 refl h
 happens_apart m m' BeginFlush r new old sound is d h =
-    opens_this r _ (OpenFlush (m.state.begun + 1) m.state.next_file _) new old d.0 refl
+    opens_this r _ (OpenFlush (record { number = m.state.begun + 1; file = m.state.next_file; rows = _ })) new old d.0 refl
     (record { pins = λ n t. none_among n _ t; jobs = λ n t. new_job m n old sound is t }) h
 happens_apart m m' BeginCompact r new old sound is d h =
-    opens_this r _ (OpenCompact (m.state.begun + 1) m.state.next_file _ d.0 _) new old d.2 refl
+    opens_this r _ (OpenCompact (record { number = m.state.begun + 1; file = m.state.next_file; level = _; pin = d.0; files = _ })) new old d.2 refl
     (record { pins = λ n t. free_pin m d.0 n old d.1 is t; jobs = λ n t. new_job m n old sound is t }) h
 happens_apart m m' (WritePiece job file bytes) r new old sound is d h = opens_none r _ new (AreApart new old) d.0 refl h
 happens_apart m m' (CommitFlush number size) r new old sound is d h = opens_none r _ new (AreApart new old) d.5 refl h
@@ -193,7 +193,7 @@ happens_apart m m' (CommitCompact number size) r new old sound is d h = opens_no
 happens_apart m m' (DropFlush number) r new old sound is d h = opens_none r _ new (AreApart new old) d.3 refl h
 happens_apart m m' (DropCompact number) r new old sound is d h = opens_none r _ new (AreApart new old) d.3 refl h
 happens_apart m m' Look r new old sound is d h =
-    opens_this r _ (OpenLook d.0 _ _ _) new old d.4 refl
+    opens_this r _ (OpenLook (record { pin = d.0; files = _; as_of = _; rows = _ })) new old d.4 refl
     (record { pins = λ n t. free_pin m d.0 n old d.2 is t; jobs = λ n t. none_among n _ t }) h
 happens_apart m m' (ReadPage pin block page) r new old sound is d h = opens_none r _ new (AreApart new old) d.1 refl h
 happens_apart m m' (Done pin) r new old sound is d h = opens_none r _ new (AreApart new old) d.1 refl h

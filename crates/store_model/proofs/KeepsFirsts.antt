@@ -12,7 +12,7 @@ use Rattle.span_types.specs.declared.spans.Row.{Row}
 use Rattle.span_types.specs.First.{first_at, lesser, IsFirstOf}
 use Rattle.span_types.proofs.FirstLaws.{first_at-append, first_at-firsts}
 use Rattle.store_model.specs.History.{History, batch_rows, history_rows, count_of, pushed}
-use Rattle.store_model.proofs.HistoryLaws.{grows, number_of, position_of}
+use Rattle.store_model.proofs.HistoryLaws.{grows, number_of, position_of, count_pushed}
 use Rattle.store_model.specs.RowSets.{Within, SameRows}
 use Rattle.store_model.proofs.RowSetLaws.{any_order, first_is_in, in_head, in_tail}
 use Rattle.store_model.specs.State.{LiveRow, Block, Flush, Compaction, live_rows, block_rows, flush_rows, state_rows, is_among}
@@ -108,13 +108,9 @@ grown rows h spans is = record {
     new : List Row
     new = batch_rows (count_of h) spans
 
-    more : (n : ℕ) (bs : List (List Span)) (b : List Span) → n + length (bs ++ b ∷ []) ≡ n + length bs + 1
-    more n [] b = omega arith
-    more n (c ∷ bs) b = omega (arith, more n bs b)
-
     low : (x : Row) → Contains rows x ⊎ Contains new x → x.place.number < count_of (pushed h spans)
-    low x (inl l) = omega (arith, is.below x l, more h.start h.entries spans)
-    low x (inr r) = omega (arith, number_in (count_of h) spans x r, more h.start h.entries spans)
+    low x (inl l) = omega (arith, is.below x l, count_pushed h spans)
+    low x (inr r) = omega (arith, number_in (count_of h) spans x r, count_pushed h spans)
 
     apart : (x y : Row) → Contains rows x → Contains new y → x.place ≡ y.place → ⊥
     apart x y hx hy e = omega (arith, is.below x hx, number_in (count_of h) spans y hy, ap (λ p. p.number) e)

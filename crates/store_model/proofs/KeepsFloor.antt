@@ -1,5 +1,5 @@
 -- Each step keeps the rows that wait above the floor.
-use Rattle.std.proofs.Common.{◌≡◌, ℕ, ◌≤◌, zero, suc, List, [], ◌∷◌, ◌++◌, None, Some, Bool, not, sym, ◌∙◌, ap, subst, arith, length, filter, take, drop, inl, inr}
+use Rattle.std.proofs.Common.{◌≡◌, ℕ, ◌≤◌, zero, suc, List, [], ◌∷◌, ◌++◌, None, Some, Bool, not, sym, ◌∙◌, ap, subst, arith, filter, take, drop, inl, inr}
 use Rattle.std.specs.List.{Contains}
 use Rattle.std.proofs.lemmas.List.Elements.{Contains-append_left, Contains-append_right, Contains-append_cases}
 use Rattle.std.proofs.lemmas.List.Sorted.{Contains-permutation, IsPermutation-sym}
@@ -14,6 +14,7 @@ use Rattle.store_model.specs.Event.{Event, Reply}
 use Rattle.store_model.specs.Event.Event.{Push, Cut, CutAll, Held, BeginFlush, BeginCompact, WritePiece, CommitFlush, CommitCompact, DropFlush, DropCompact, Look, ReadPage, Done, Reclaim}
 use Rattle.store_model.specs.Step.{Machine, Step, Happens, early}
 use Rattle.store_model.specs.Told.{IsAboveFloor}
+use Rattle.store_model.proofs.HistoryLaws.{count_pushed}
 use Rattle.store_model.proofs.KeepsFirsts.{number_in, take_drop, was_live, live_of_arrived, map_append}
 use Rattle.store_model.proofs.Outcomes.{kept_by}
 
@@ -60,11 +61,7 @@ least_bounded count [] = omega arith
 least_bounded count (r ∷ rs) = omega (arith, least_bounded count rs)
 
 count_grows : (h : History) (spans : List Span) → count_of h ≤ count_of (pushed h spans)
-count_grows h spans = omega (arith, more h.entries spans)
-  where
-    more : (bs : List (List Span)) (b : List Span) → length bs ≤ length (bs ++ b ∷ [])
-    more [] b = omega arith
-    more (c ∷ bs) b = omega (arith, more bs b)
+count_grows h spans = omega (arith, count_pushed h spans)
 
 pushed_rows : (spans : List Span) (moment : ℕ) (m : Machine) → IsAboveFloor m → Parts m.state.floor (after_push (count_of m.history) spans moment m.state)
 pushed_rows spans moment m is = record {

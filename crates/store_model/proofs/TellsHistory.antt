@@ -5,7 +5,7 @@ use Rattle.span_types.specs.declared.spans.Row.{Row}
 use Rattle.span_types.specs.First.{first_at}
 use Rattle.std.specs.Prelude.{◌||◌}
 use Rattle.span_types.specs.declared.ids.Key.{Key}
-use Rattle.store_model.specs.History.{History, history_rows, up_to, count_of}
+use Rattle.store_model.specs.History.{History, first_in, up_to, count_of}
 use Rattle.store_model.specs.State.{State, Flush, Compaction, Pinned, block_rows, block_files, held_of, is_among, pin_numbers, compaction_pins, pinned_blocks, IsFreeNumber}
 use Rattle.store_model.specs.Choice.{choice, level_of, most_rows}
 use Rattle.store_model.specs.After.{after_look, taken, chosen_job}
@@ -187,13 +187,13 @@ whole h = ap (λ bs. record { base = h.base; start = h.start; entries = bs }) (a
     same a b = omega arith
 
 opens_look : (m : Machine) (pin : ℕ) (rows : List Row) → Agrees m → StateIsSound m.state → IsFreeNumber pin m.state.pins →
-    ((k : Key) → first_at k (rows ++ block_rows m.state.blocks) ≡ first_at k (history_rows m.history)) →
-    OpenIn (with_state (after_look pin m.state) m) (OpenLook pin (block_files m.state.blocks) (count_of m.history) rows)
+    ((k : Key) → first_at k (rows ++ block_rows m.state.blocks) ≡ first_in k m.history) →
+    OpenIn (with_state (after_look pin m.state) m) (OpenLook (record { pin = pin; files = block_files m.state.blocks; as_of = count_of m.history; rows = rows }))
 opens_look m pin rows is sound free firsts = record {
   open_pin = record { is_open = open-added m.state.pins new; no_job = free_apart pin m.state m.state.compaction refl sound free };
   its_files = ap block_files its;
   past = omega arith;
-  firsts = λ k. ap (λ bs. first_at k (rows ++ block_rows bs)) its ∙ firsts k ∙ ap (λ h. first_at k (history_rows h)) (sym (whole m.history));
+  firsts = λ k. ap (λ bs. first_at k (rows ++ block_rows bs)) its ∙ firsts k ∙ ap (λ h. first_in k h) (sym (whole m.history));
 }
   where
     new : Pinned
@@ -208,10 +208,10 @@ happens_opens m m' (Cut moment) r hold is sound d h = opens_nothing r _ hold (Op
 happens_opens m m' CutAll r hold is sound d h = opens_nothing r _ hold (OpenIn m' hold) d.2 refl h
 happens_opens m m' Held r hold is sound d h = opens_nothing r _ hold (OpenIn m' hold) d.0 refl h
 happens_opens m m' BeginFlush r hold is sound d h =
-    opens_one m' _ r _ hold (OpenFlush (m.state.begun + 1) m.state.next_file (take most_rows m.state.head)) d.0 d.1 refl
+    opens_one m' _ r _ hold (OpenFlush (record { number = m.state.begun + 1; file = m.state.next_file; rows = take most_rows m.state.head })) d.0 d.1 refl
     (record { job = taken m.state; is_open = refl; its_number = refl; its_file = refl; its_rows = refl }) h
 happens_opens m m' BeginCompact r hold is sound d h =
-    opens_one m' _ r _ hold (OpenCompact (m.state.begun + 1) m.state.next_file (level_of (choice m.state.blocks) + 1) d.0 (block_files (choice m.state.blocks))) d.2 d.3 refl
+    opens_one m' _ r _ hold (OpenCompact (record { number = m.state.begun + 1; file = m.state.next_file; level = level_of (choice m.state.blocks) + 1; pin = d.0; files = block_files (choice m.state.blocks) })) d.2 d.3 refl
     (record {
       job = chosen_job d.0 m.state;
       is_open = refl;
@@ -228,7 +228,7 @@ happens_opens m m' (CommitCompact job size) r hold is sound d h = opens_nothing 
 happens_opens m m' (DropFlush job) r hold is sound d h = opens_nothing r _ hold (OpenIn m' hold) d.3 refl h
 happens_opens m m' (DropCompact job) r hold is sound d h = opens_nothing r _ hold (OpenIn m' hold) d.3 refl h
 happens_opens m m' Look r hold is sound d h =
-    opens_one m' _ r _ hold (OpenLook d.0 (block_files m.state.blocks) (count_of m.history) d.1) d.4 d.5 refl
+    opens_one m' _ r _ hold (OpenLook (record { pin = d.0; files = block_files m.state.blocks; as_of = count_of m.history; rows = d.1 })) d.4 d.5 refl
     (opens_look m d.0 d.1 is sound d.2 (look_is m d.1 is d.3)) h
 happens_opens m m' (ReadPage pin block page) r hold is sound d h = opens_nothing r _ hold (OpenIn m' hold) d.1 refl h
 happens_opens m m' (Done pin) r hold is sound d h = opens_nothing r _ hold (OpenIn m' hold) d.1 refl h

@@ -41,6 +41,29 @@ pub data Refusal : Type 0 where
   Fault : Refusal
   Memory : Refusal
 
+-- ---- what is given out
+
+-- A look: its pin's number and the files of its blocks, the history's length, and the rows outside of blocks.
+pub record LookParts : Type 0 where
+  pub pin : ℕ
+  pub files : List ℕ
+  pub as_of : ℕ
+  pub rows : List Row
+
+-- A flush: its job's number, its file, and its rows.
+pub record FlushParts : Type 0 where
+  pub number : ℕ
+  pub file : ℕ
+  pub rows : List Row
+
+-- A compaction: its job's number, its file, its block's level, and its pin's number and the files of its blocks.
+pub record CompactParts : Type 0 where
+  pub number : ℕ
+  pub file : ℕ
+  pub level : ℕ
+  pub pin : ℕ
+  pub files : List ℕ
+
 pub data Reply : Type 0 where
   -- a push's number; rows moved or held; files emptied
   Count : ℕ → Reply
@@ -48,12 +71,11 @@ pub data Reply : Type 0 where
   Fine : Reply
   -- a begin that has no work
   Nothing : Reply
-  -- a job's number, its file, and its rows
-  Flushing : ℕ → ℕ → List Row → Reply
-  -- a job's number, its file, its block's level, its pin's number and files
-  Compacting : ℕ → ℕ → ℕ → ℕ → List ℕ → Reply
-  -- a pin's number and files, the history's length, and the rows outside of blocks
-  Looked : ℕ → List ℕ → ℕ → List Row → Reply
+  -- a job that begins
+  Flushing : FlushParts → Reply
+  Compacting : CompactParts → Reply
+  -- a look that is taken
+  Looked : LookParts → Reply
   -- the bytes of a page
   Page : List ℕ → Reply
   Refused : Refusal → Reply

@@ -21,15 +21,15 @@ pub record GivesNewFiles (u : State) (reply : Reply) (u' : State) : Type 0 where
 
 -- the number of a hold's pin, where it has one
 abbrev pub pin_of : Hold → List ℕ
-pin_of (OpenLook pin files as_of rows) = pin ∷ []
-pin_of (OpenFlush number file rows) = []
-pin_of (OpenCompact number file level pin files) = pin ∷ []
+pin_of (OpenLook look) = look.pin ∷ []
+pin_of (OpenFlush job) = []
+pin_of (OpenCompact job) = job.pin ∷ []
 
 -- the number of its job, where it is one
 abbrev pub job_of : Hold → List ℕ
-job_of (OpenLook pin files as_of rows) = []
-job_of (OpenFlush number file rows) = number ∷ []
-job_of (OpenCompact number file level pin files) = number ∷ []
+job_of (OpenLook look) = []
+job_of (OpenFlush job) = job.number ∷ []
+job_of (OpenCompact job) = job.number ∷ []
 
 -- the two share neither a pin's number nor a job's
 pub record AreApart (one other : Hold) : Type 0 where

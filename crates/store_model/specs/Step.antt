@@ -118,19 +118,33 @@ abbrev pub IsLook : Machine → Reply → Machine → Type 0
 IsLook m r m' =
     (pin : ℕ) × (rows : List Row) × IsFreeNumber pin m.state.pins
     × IsPermutation (flush_rows m.state.flush ++ m.state.head ++ live_rows m.state.live) rows
-    × (r ≡ Looked pin (block_files m.state.blocks) (count_of m.history) rows)
+    × (r ≡ Looked (record {
+      pin = pin;
+      files = block_files m.state.blocks;
+      as_of = count_of m.history;
+      rows = rows;
+    }))
     × (m' ≡ with_state (after_look pin m.state) m)
 
 abbrev pub IsBegunFlush : Machine → Reply → Machine → Type 0
 IsBegunFlush m r m' =
-    (r ≡ Flushing (m.state.begun + 1) m.state.next_file (take most_rows m.state.head))
+    (r ≡ Flushing (record {
+      number = m.state.begun + 1;
+      file = m.state.next_file;
+      rows = take most_rows m.state.head;
+    }))
     × (m' ≡ with_state (after_begin_flush m.state) m)
 
 abbrev pub IsBegunCompact : Machine → Reply → Machine → Type 0
 IsBegunCompact m r m' =
     (pin : ℕ) × IsFreeNumber pin m.state.pins
-    × (r ≡ Compacting (m.state.begun + 1) m.state.next_file (level_of (choice m.state.blocks) + 1) pin
-    (block_files (choice m.state.blocks)))
+    × (r ≡ Compacting (record {
+      number = m.state.begun + 1;
+      file = m.state.next_file;
+      level = level_of (choice m.state.blocks) + 1;
+      pin = pin;
+      files = block_files (choice m.state.blocks);
+    }))
     × (m' ≡ with_state (after_begin_compact pin m.state) m)
 
 -- The new block holds the first occurrences of the flush's rows.

@@ -1,9 +1,10 @@
 -- What a reply tells of the history, and of files and blocks.
-use Rattle.std.specs.Prelude.{◌≡◌, ◌≤◌, List, ◌++◌, length, Some}
+use Rattle.std.specs.Prelude.{◌≡◌, ◌≤◌, List, ◌++◌, length, Option, None, Some}
 use Rattle.std.specs.List.{AllByRecursion, Contains}
 use Rattle.span_types.specs.declared.spans.Row.{Row}
 use Rattle.span_types.specs.First.{IsFirstOf}
-use Rattle.store_model.specs.History.{History, count_of, pushed}
+use Rattle.store_entries.specs.declared.entry.Entry.{Entry}
+use Rattle.store_model.specs.History.{History, count_of, push_of, with_entry}
 use Rattle.store_model.specs.State.{State, Block, Flush, Compaction, block_rows, flush_rows, live_rows}
 use Rattle.store_model.specs.Choice.{in_files}
 use Rattle.store_model.specs.After.{job_files}
@@ -12,15 +13,23 @@ use Rattle.store_model.specs.Event.Event.{Push, CommitFlush, CommitCompact}
 use Rattle.store_model.specs.Event.Reply.{Count, Looked}
 use Rattle.store_model.specs.Step.{Machine}
 
--- the history after an event: a push that answered a number added its batch
+-- the entry that an event is to add to the history, if it is to add one
+abbrev pub asked_entry : Event → Option Entry
+asked_entry (Push spans moment) = Some (push_of spans)
+asked_entry _ = None
+
+-- the entry that it added by this reply: one that answers a number added what it was to add
+abbrev pub added_entry : Event → Reply → Option Entry
+added_entry event (Count n) = asked_entry event
+added_entry event _ = None
+
 abbrev pub history_after : Event → Reply → History → History
-history_after (Push spans moment) (Count n) h = pushed h spans
-history_after _ _ h = h
+history_after event reply h = with_entry (added_entry event reply) h
 
 -- the number of a push, and the length that a look is of, are the length of the history
 abbrev pub TellsLength : Event → Reply → History → Type 0
 TellsLength (Push spans moment) (Count n) h = n ≡ count_of h
-TellsLength _ (Looked pin files as_of rows) h = as_of ≡ count_of h
+TellsLength _ (Looked look) h = look.as_of ≡ count_of h
 TellsLength _ _ h = Unit {0}
 
 -- each block's information says how many rows it has

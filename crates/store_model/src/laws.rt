@@ -1,12 +1,13 @@
 //! Laws of the machine.
 
-ghost use Rattle.std.specs.Prelude.{true, false, ◌≡◌, ℕ, List, ◌++◌};
+ghost use Rattle.std.specs.Prelude.{true, false, ◌≡◌, ◌≤◌, ℕ, List, ◌++◌};
 ghost use Rattle.std.specs.List.Sorted.{IsPermutation};
 ghost use Rattle.span_types.specs.declared.ids.Key.{Key};
 ghost use Rattle.span_types.specs.declared.spans.Row.{Row};
 ghost use Rattle.span_types.specs.declared.spans.Span.{Span};
 ghost use Rattle.span_types.specs.First.{first_at, IsFirstOf};
-ghost use Rattle.store_model.specs.History.{History, history_rows, pushed, batch_rows, count_of};
+ghost use Rattle.store_entries.specs.declared.entry.Entry.{Entry};
+ghost use Rattle.store_model.specs.History.{History, history_rows, pushed, grown, up_to, batch_rows, after_entries, count_of, first_in};
 ghost use Rattle.store_model.specs.RowSets.{SameRows, OnePlace};
 ghost use Rattle.store_model.specs.State.{State, is_among, flush_rows, live_rows, block_rows};
 ghost use Rattle.store_model.specs.Event.{Event, Reply};
@@ -17,6 +18,18 @@ ghost use Rattle.store_model.specs.Told.{history_after, TellsLength, AreCounted,
 ghost use Rattle.store_model.specs.Laws.{Agrees};
 ghost use Rattle.store_model.specs.Sound.{StateIsSound, IsOutOfUse, emptied};
 ghost use Rattle.store_model.specs.Fresh.{GivesNewFiles, AreApart};
+
+/// Entries that are added make of the history's rows what they make of any: a push adds its own after them, and a forgetting
+/// takes those of its traces away.
+pub fn entries_follow()
+    ensures { (h : History) (more : List Entry) →
+        history_rows (grown h more) ≡ after_entries (count_of h) more (history_rows h) }
+{}
+
+/// What the history was at a length stays, whatever entries are added.
+pub fn the_past_stays()
+    ensures { (h : History) (more : List Entry) (n : ℕ) → n ≤ count_of h → up_to n (grown h more) ≡ up_to n h }
+{}
 
 /// A push adds its rows behind those of the history.
 pub fn history_grows()
@@ -39,7 +52,7 @@ pub fn step_keeps_firsts()
 pub fn look_is_the_history()
     ensures { (m : Machine) (rows : List Row) → Agrees m →
         IsPermutation (flush_rows m.state.flush ++ m.state.head ++ live_rows m.state.live) rows →
-        (k : Key) → first_at k (rows ++ block_rows m.state.blocks) ≡ first_at k (history_rows m.history) }
+        (k : Key) → first_at k (rows ++ block_rows m.state.blocks) ≡ first_in k m.history }
 {}
 
 /// Each step keeps files, pins and jobs apart, and their numbers within their types.
@@ -73,8 +86,8 @@ pub fn step_keeps_what_is_open()
         ends e r hold ≡ false → Step before faults m e r m' → OpenIn m' hold }
 {}
 
-/// A push that answers a number adds its batch under the history's length, and no other event changes the history. A look is of
-/// the history's length.
+/// An event that is to add an entry, and answers a number, adds it under the history's length, and nothing else changes the
+/// history. A look is of the history's length.
 pub fn step_tells_the_history()
     ensures { (before faults : ℕ) (m m' : Machine) (e : Event) (r : Reply) → Step before faults m e r m' →
         (m'.history ≡ history_after e r m.history) × TellsLength e r m.history }

@@ -7,8 +7,8 @@
 mod laws;
 
 pub use laws::{
-    files_are_given_out_once, first_occurrences_exist, history_grows, look_is_the_history,
-    one_order, step_keeps_above_the_floor, step_keeps_counts, step_keeps_firsts, step_keeps_sound,
-    step_keeps_what_is_open, step_opens_what_it_gives, step_tells_the_history,
-    used_files_are_not_emptied, what_opens_is_new,
+    entries_follow, files_are_given_out_once, first_occurrences_exist, history_grows,
+    look_is_the_history, one_order, step_keeps_above_the_floor, step_keeps_counts,
+    step_keeps_firsts, step_keeps_sound, step_keeps_what_is_open, step_opens_what_it_gives,
+    step_tells_the_history, the_past_stays, used_files_are_not_emptied, what_opens_is_new,
 };

@@ -1,10 +1,8 @@
 -- What a step tells of the history.
-use Rattle.std.proofs.Common.{◌≡◌, ℕ, [], ◌++◌, sym, subst, ◌∙◌, ap}
+use Rattle.std.proofs.Common.{◌≡◌, ℕ, [], sym, subst, ap}
 use Rattle.std.proofs.lemmas.List.{append-nil}
-use Rattle.store_model.specs.History.{History, count_of, pushed, grown}
+use Rattle.store_model.specs.History.{History, grown}
 use Rattle.store_model.specs.Event.{Event, Reply}
-use Rattle.store_model.specs.Event.Event.{Push}
-use Rattle.store_model.specs.Event.Reply.{Count, Looked}
 use Rattle.store_model.specs.Step.{Machine, Step}
 use Rattle.store_model.specs.Told.{history_after, TellsLength}
 use Rattle.store_model.proofs.TellsHistory.{step_tells}
@@ -14,9 +12,7 @@ alone : (h : History) → h ≡ grown h []
 alone h = ap (λ bs. record { base = h.base; start = h.start; entries = bs }) (sym (append-nil h.entries))
 
 learns : (e : Event) (r : Reply) (h : History) → TellsLength e r h → Learns e r h (history_after e r h)
-learns (Push spans moment) (Count n) h t = ([], ap (λ g. pushed g spans) (alone h), t ∙ ap count_of (alone h))
-learns _ (Looked pin files as_of rows) h t = ([], alone h, t)
-learns _ _ h t = ([], alone h)
+learns e r h t = ([], ap (λ g. history_after e r g) (alone h), subst (λ g. TellsLength e r g) (alone h) t)
 
 pub step_learns : (before faults : ℕ) (m m' : Machine) (e : Event) (r : Reply) → Step before faults m e r m' → Learns e r m.history m'.history
 step_learns before faults m m' e r step =

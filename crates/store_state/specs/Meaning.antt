@@ -2,12 +2,13 @@
 use Rattle.std.specs.Prelude.{◌≡◌, ℕ, ◌+◌, ◌≤◌, ◌==◌, List, [], ◌++◌, Bool, true, false, if◌then◌else◌, IsTrue}
 use Rattle.std.specs.List.{Contains}
 use Rattle.span_types.specs.Faults.{Rose}
-use Rattle.span_types.specs.declared.spans.Span.{Span}
-use Rattle.store_model.specs.History.{History, pushed, grown, count_of}
+use Rattle.store_entries.specs.declared.entry.Entry.{Entry}
+use Rattle.store_model.specs.History.{History, grown}
+use Rattle.store_model.specs.Told.{history_after, TellsLength}
 use Rattle.store_model.specs.State.{is_among}
 use Rattle.store_model.specs.Event.{Event, Reply}
-use Rattle.store_model.specs.Event.Event.{Push, WritePiece, ReadPage}
-use Rattle.store_model.specs.Event.Reply.{Count, Fine, Looked, Refused}
+use Rattle.store_model.specs.Event.Event.{WritePiece, ReadPage}
+use Rattle.store_model.specs.Event.Reply.{Fine, Refused}
 use Rattle.store_model.specs.Event.Refusal.{Fault}
 use Rattle.block_info.specs.InfoParts.{InfoParts}
 use Rattle.store_state.specs.Calls.{MadeCalls}
@@ -41,13 +42,11 @@ pub record Meaning (P : Type 0) : Type 1 where
 abbrev pub IsOpen : {P : Type 0} → Meaning P → P → Hold → Type 0
 IsOpen meaning port hold = (held : List Hold) × meaning.holds port held × Contains held hold
 
--- What a call tells of the history: others may have pushed before it, then comes its own batch.
+-- What a call tells of the history: others may have added entries before it, then comes its own, if it adds one.
 abbrev pub Learns : Event → Reply → History → History → Type 0
-Learns (Push spans moment) (Count n) h h' =
-    (others : List (List Span)) × (h' ≡ pushed (grown h others) spans) × (n ≡ count_of (grown h others))
-Learns _ (Looked pin files as_of rows) h h' =
-    (others : List (List Span)) × (h' ≡ grown h others) × (as_of ≡ count_of h')
-Learns _ _ h h' = (others : List (List Span)) × (h' ≡ grown h others)
+Learns event reply h h' =
+    (others : List Entry) × (h' ≡ history_after event reply (grown h others))
+    × TellsLength event reply (grown h others)
 
 -- What a call makes of a file that stays held: a piece goes behind the file's bytes. Nothing is said of the bytes of a file
 -- once a write of it failed; a piece that is refused for another cause leaves it as it is.

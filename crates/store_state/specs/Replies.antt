@@ -16,7 +16,7 @@ use Rattle.store_state.specs.declared.errors.ReclaimError.TheVariants.{ReadOnly 
 use Rattle.store_state.specs.declared.jobs.Look.{Look}
 use Rattle.store_state.specs.declared.jobs.FlushJob.{FlushJob}
 use Rattle.store_state.specs.declared.jobs.CompactJob.{CompactJob}
-use Rattle.store_state.specs.Given.{info_files}
+use Rattle.store_state.specs.Given.{look_parts, flush_parts, compact_parts}
 
 abbrev pub push_refusal : PushError → Refusal
 push_refusal (PushLiveFull held) = IsLiveFull held
@@ -51,13 +51,12 @@ count_reply (Err e) = Refused IsMemory
 
 abbrev pub begin_flush_reply : Result (Option FlushJob) BeginError → Reply
 begin_flush_reply (Ok None) = Nothing
-begin_flush_reply (Ok (Some job)) = Flushing job.out.number job.out.file job.rows
+begin_flush_reply (Ok (Some job)) = Flushing (flush_parts job)
 begin_flush_reply (Err e) = Refused (begin_refusal e)
 
 abbrev pub begin_compact_reply : Result (Option CompactJob) BeginError → Reply
 begin_compact_reply (Ok None) = Nothing
-begin_compact_reply (Ok (Some job)) =
-    Compacting job.out.number job.out.file job.level job.pin.number (info_files job.pin.blocks)
+begin_compact_reply (Ok (Some job)) = Compacting (compact_parts job)
 begin_compact_reply (Err e) = Refused (begin_refusal e)
 
 abbrev pub write_reply : {U : Type 0} → Result U WriteError → Reply
@@ -65,7 +64,7 @@ write_reply (Ok u) = Fine
 write_reply (Err e) = Refused (write_refusal e)
 
 abbrev pub look_reply : Result Look Memory → Reply
-look_reply (Ok look) = Looked look.pin.number (info_files look.pin.blocks) look.as_of look.rows
+look_reply (Ok look) = Looked (look_parts look)
 look_reply (Err e) = Refused IsMemory
 
 abbrev pub page_reply : {U : Type 0} → List ℕ → Result U Failed → Reply

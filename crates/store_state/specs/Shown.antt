@@ -5,7 +5,7 @@ use Rattle.span_types.specs.declared.ids.Key.{Key}
 use Rattle.span_types.specs.declared.spans.Row.{Row}
 use Rattle.span_types.specs.First.{first_at}
 use Rattle.block_info.specs.InfoParts.{InfoParts}
-use Rattle.store_model.specs.History.{History, history_rows, up_to}
+use Rattle.store_model.specs.History.{History, first_in, up_to}
 use Rattle.store_model.specs.State.{Block}
 use Rattle.store_model.specs.Choice.{choice, level_of, most_rows}
 use Rattle.store_state.specs.declared.jobs.Look.{Look}
@@ -20,14 +20,14 @@ pub record ShowsHistory (told : Type 0) (bytes : ℕ → List ℕ) (look : Look)
   pub one_each : length parts ≡ length look.pin.blocks
   pub their_rows : told → AreBlocksOf bytes look.pin.blocks parts
   pub firsts : (k : Key) → first_at k (look.rows ++ flat_map (λ rows. rows) parts)
-      ≡ first_at k (history_rows (up_to look.as_of h))
+      ≡ first_in k (up_to look.as_of h)
 
 -- The rows of a look that is taken, and the rows that the files of its blocks hold, have the first occurrences of the history as it
 -- was at the look's length.
 abbrev pub IsLookTaken : Reply → (ℕ → List ℕ) → History → Type 0
-IsLookTaken (Looked pin files as_of rows) shows h =
-    (parts : List (List Row)) × HoldRows shows files parts
-    × ((k : Key) → first_at k (rows ++ flat_map (λ rows. rows) parts) ≡ first_at k (history_rows (up_to as_of h)))
+IsLookTaken (Looked look) shows h =
+    (parts : List (List Row)) × HoldRows shows look.files parts
+    × ((k : Key) → first_at k (look.rows ++ flat_map (λ rows. rows) parts) ≡ first_in k (up_to look.as_of h))
 IsLookTaken _ shows h = Unit {0}
 
 -- Each of the blocks is one, of some rows, as its information describes it.

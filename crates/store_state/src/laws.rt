@@ -13,7 +13,7 @@ ghost use Rattle.store_model.specs.Step.{Machine, Step};
 ghost use Rattle.store_state.specs.Meaning.{Learns};
 ghost use Rattle.store_state.specs.Shown.{IsChoiceOf, AreFew};
 
-/// A step tells its caller of the history what a call of a port is to tell, where nobody else pushed.
+/// A step tells its caller of the history what a call of a port is to tell, where nobody else added an entry.
 pub fn a_step_tells_what_is_learnt()
     ensures { (before faults : ℕ) (m m' : Machine) (e : Event) (r : Reply) → Step before faults m e r m' →
         Learns e r m.history m'.history }

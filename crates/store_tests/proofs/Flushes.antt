@@ -5,7 +5,7 @@ use Rattle.store_model.specs.Event.{Event, Reply}
 use Rattle.store_model.specs.Event.Event.{BeginFlush}
 use Rattle.store_model.specs.Event.Reply.{Flushing}
 use Rattle.store_model.specs.Holds.{Hold, holds_after}
-use Rattle.store_state.specs.Given.{flush_of}
+use Rattle.store_state.specs.Given.{flush_of, flush_parts}
 use Rattle.store_state.specs.Made.{Call, AreMade}
 use Rattle.store_state.specs.Meaning.{Meaning, Called, IsOpen}
 use Rattle.store_state.specs.Replies.{begin_flush_reply}
@@ -27,5 +27,5 @@ goes_on_all meaning old new (c ∷ cs) made h = goes_on_all meaning made.0 new c
 pub begun_is_open : {P : Type 0} (meaning : Meaning P) (old new : P) (begun : Option FlushJob) (job : FlushJob) → begun ≡ Some job
     → Called meaning old BeginFlush (begin_flush_reply (Ok begun)) new → ((held : List Hold) × meaning.holds old held) → IsOpen meaning new (flush_of job)
 begun_is_open meaning old new begun job same called holds =
-    opens_new meaning old new BeginFlush (Flushing job.out.number job.out.file job.rows) (flush_of job)
+    opens_new meaning old new BeginFlush (Flushing (flush_parts job)) (flush_of job)
     (subst (λ (x : Option FlushJob). Called meaning old BeginFlush (begin_flush_reply (Ok x)) new) same called) holds (zero, omega arith, refl)

@@ -1,13 +1,13 @@
 -- What a run came to in a store that was opened, and what it left of it.
 use Rattle.std.proofs.Common.{Bool, ◌≡◌, inl, inr, ⊎_elim, ℕ, ◌≤◌, List, [], Option, Some, None, true, ◌++◌, IsTrue, refl, sym, ◌∙◌, ap, subst}
 use Rattle.std.specs.Prelude.{IfSome}
-use Rattle.span_types.specs.declared.spans.Span.{Span}
 use Rattle.command_words.specs.Commands.{Alone, Command, Ingest as ingest, Session as session}
 use Rattle.disk_model.specs.Images.{Image}
 use Rattle.io_edges.specs.Lines.{lines}
 use Rattle.disk_model.specs.declared.disk.Device.{Ghosts}
 use Rattle.session_text.specs.declared.reply.Reply.{Reply}
 use Rattle.session_text.specs.Items.{Item}
+use Rattle.store_entries.specs.declared.entry.Entry.{Entry}
 use Rattle.store_model.specs.History.{count_of}
 use Rattle.store_model.specs.Step.{Machine}
 use Rattle.store_state.specs.Cores.{CoreHolds}
@@ -27,7 +27,7 @@ use Rattle.session_meaning.specs.Answering.{at_core}
 use Rattle.session_meaning.specs.Ingest.{Duty, Ingests, duties}
 use Rattle.session_meaning.specs.Progress.{AreAnsweredOver, HasAnsweredOver, IngestsOver}
 use Rattle.session_meaning.proofs.IngestLaws.{ingest_is_session}
-use Rattle.session_meaning.specs.Pushes.{unsure_batch}
+use Rattle.session_meaning.specs.Pushes.{unsure_entry}
 use Rattle.session_meaning.specs.Runs.{Edges, HasCause, IsPastOpening, Outcome, told_bytes}
 use Rattle.session_meaning.specs.Session.{Session}
 use Rattle.session_meaning.specs.Stops.{Recovers}
@@ -151,8 +151,8 @@ module _ {D : Type 0} (g : Ghosts D) (disk : D) (moment : ℕ) (core later : Cor
     stands_first : CoreStandsFor g core first
     stands_first = founded.stands
 
-    -- the batch that isn't sure is the one that the replies tell
-    unsure_is : unsure_of later.state ≡ unsure_batch items replies
+    -- the entry that isn't sure is the one that the replies tell
+    unsure_is : unsure_of later.state ≡ unsure_entry items replies
     unsure_is =
         let none : unsure_of core.state ≡ None = stands_first.sure (sym stands_first.has.read_only ∙ opens.empty.writes) in
         unsure_stepped g core later over.calls over.made first stands_first
@@ -166,9 +166,9 @@ module _ {D : Type 0} (g : Ghosts D) (disk : D) (moment : ℕ) (core later : Cor
         let kept = keeps told in
         let stored = founded.stored told in record {
           begins = λ opened. record { stored = stored.0; once = opens.once; base_alone = opens.base_alone; begins = stored.1 };
-          returned = λ opened image left. subst (λ (u : Option (List Span)). MayStandFor last.history u image) unsure_is (since.stands.now told_later image left);
+          returned = λ opened image left. subst (λ (u : Option Entry). MayStandFor last.history u image) unsure_is (since.stands.now told_later image left);
           any_moment = λ image left.
               ⊎_elim (λ early. inl (kept.since.each image early))
-              (λ stood. inr (refl, subst (λ (u : Option (List Span)). StoodFor (count_of first.history) last.history u image) unsure_is stood))
+              (λ stood. inr (refl, subst (λ (u : Option Entry). StoodFor (count_of first.history) last.history u image) unsure_is stood))
               ((since.past told_later).before (g.moment disk) image kept.since.later left);
         }

@@ -2,7 +2,7 @@ use Rattle.std.proofs.Common.{◌≡◌, ◌+◌, ◌*◌, ◌^◌, ◌≤◌, l
 use Rattle.std.specs.Prelude.{IsTrue, ◌||◌, Option, Some, None, Ok, IfSome}
 use Rattle.store_model.specs.Event.Event.{BeginCompact}
 use Rattle.store_model.specs.Event.{Reply as reply}
-use Rattle.store_state.specs.Given.{compact_of, info_files}
+use Rattle.store_state.specs.Given.{compact_of, info_files, compact_parts}
 use Rattle.store_state.specs.Made.{call}
 use Rattle.store_state.specs.Meaning.{View, Meaning, Called}
 use Rattle.store_state.specs.Replies.{begin_compact_reply, begin_refusal}
@@ -47,7 +47,7 @@ returns-in-Ok-Some-clause-fits g c =
     known o j (λ (job : CompactJob). JoinsChoice (meaning.lists old) job.level job.pin.blocks) c.in-Ok-Some.field-0-is (c.in-Ok-Some.ensures.joins c.requires.0 c.requires.1) in
     subst (λ (t : Task). Fits meaning t new) (sym c.unread.ensures)
     (fits_first meaning j new
-    (opens_new meaning old new BeginCompact (reply.Compacting j.out.number j.out.file j.level j.pin.number (info_files j.pin.blocks)) (compact_of j) called c.requires (zero, omega arith, refl))
+    (opens_new meaning old new BeginCompact (reply.Compacting (compact_parts j)) (compact_of j) called c.requires (zero, omega arith, refl))
     (known o j (λ (job : CompactJob). job.out.written ≡ 0) c.in-Ok-Some.field-0-is c.in-Ok-Some.ensures.fresh)
     (c.a_choice_is_few.ensures joins.0 j.level j.pin.blocks joins.1 joins.2)
     (λ tells. called.empty (subst IsTrue called.telling tells) j.out.file (ap (λ (t : Bool). t || false) (itself j.out.file))))

@@ -1,8 +1,8 @@
-use Rattle.std.proofs.Common.{◌≡◌, ◌+◌, ℕ, length, drop, sym, subst}
+use Rattle.std.proofs.Common.{◌≡◌, ◌+◌, ℕ, length, drop, refl, sym, subst}
 use Rattle.store_model.specs.Event.Event.{ReadPage}
 use Rattle.store_model.specs.Event.{Reply as reply, Refusal as refusal}
 use Rattle.store_model.specs.Event.Reply.{Page}
-use Rattle.store_state.specs.Given.{IsPinOf}
+use Rattle.store_state.specs.Given.{IsPinOf, compact_parts}
 use Rattle.store_state.specs.Given.IsPinOf.{OfJob}
 use Rattle.store_state.specs.Meaning.{IsOpen, Called}
 use Rattle.store_state.specs.Written.{page_of}
@@ -20,7 +20,7 @@ read_page-requires g c =
     let is_open = c.requires.is_reading.is_open in
     record {
       «open» = subst (λ (f : ℕ). IsPinOf job.pin f (IsOpen g.P.LookPort.meaning c.args.port.now)) (sym c.file_of-file.ensures)
-          (OfJob job.out.number job.out.file job.level is_open
+          (OfJob (compact_parts job) refl refl is_open
           (among_blocks (length parts) job.pin.blocks c.current-block.result.now (drop (length parts + 1) job.pin.blocks) c.current-block.ensures));
     }
 

@@ -2,7 +2,7 @@ use Rattle.std.proofs.Common.{◌≡◌, ◌≤◌, ◌+◌, ℕ, List, length, 
 use Rattle.store_model.specs.Event.Event.{WritePiece}
 use Rattle.store_model.specs.Event.{Reply as reply}
 use Rattle.store_model.specs.Event.Reply.{Fine}
-use Rattle.store_state.specs.Given.{compact_of, info_files}
+use Rattle.store_state.specs.Given.{compact_of, info_files, compact_parts}
 use Rattle.store_state.specs.Given.IsJobOf.{OfCompact}
 use Rattle.store_state.specs.Made.{call}
 use Rattle.store_state.specs.Replies.{write_refusal}
@@ -17,7 +17,7 @@ use Rattle.compactor.proofs.WriteLaws.{goes_on, has_written, leads_on, leads_out
 use Rattle.compactor.proofs.task.write.Goals as goal
 
 pub write_piece-requires-clause-open : goal.write_piece-requires-clause-open
-write_piece-requires-clause-open g c = OfCompact c.args.job.level c.args.job.pin.number (info_files c.args.job.pin.blocks) c.requires.is_writing.is_open
+write_piece-requires-clause-open g c = OfCompact (compact_parts c.args.job) refl refl c.requires.is_writing.is_open
 
 pub write_piece-requires-clause-whole : goal.write_piece-requires-clause-whole
 write_piece-requires-clause-whole g c = λ tells.

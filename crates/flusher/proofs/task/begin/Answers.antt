@@ -2,7 +2,7 @@ use Rattle.std.proofs.Common.{◌≡◌, [], ◌∷◌, zero, refl, sym, subst, 
 use Rattle.std.specs.Prelude.{IsTrue, ◌||◌, Option, Some, None, Ok, IfSome, ◌≤◌, length}
 use Rattle.store_model.specs.Event.Event.{BeginFlush}
 use Rattle.store_model.specs.Event.{Reply as reply}
-use Rattle.store_state.specs.Given.{flush_of}
+use Rattle.store_state.specs.Given.{flush_of, flush_parts}
 use Rattle.store_state.specs.Made.{call}
 use Rattle.store_state.specs.Meaning.{Meaning, Called}
 use Rattle.store_state.specs.Replies.{begin_flush_reply, begin_refusal}
@@ -28,7 +28,7 @@ fresh_job o j same fresh = subst (λ (x : Option FlushJob). IfSome x IsFresh) sa
 
 pub returns-in-Ok-Some-clause-steps : goal.returns-in-Ok-Some-clause-steps
 returns-in-Ok-Some-clause-steps g c = record {
-  made = call BeginFlush (reply.Flushing c.in-Ok-Some.job.out.number c.in-Ok-Some.job.out.file c.in-Ok-Some.job.rows);
+  made = call BeginFlush (reply.Flushing (flush_parts c.in-Ok-Some.job));
   called = replied g.P.LookPort.meaning c.args.port.now c.begin_flush.new.self c.in-Ok-Some.field-0 (Some c.in-Ok-Some.job) c.in-Ok-Some.field-0-is c.in-Ok-Some.ensures.called;
   leads = λ calls round h. job c.in-Ok-Some.job.out.number c.in-Ok-Some.job.out.file c.in-Ok-Some.job.rows h;
 }
@@ -39,7 +39,7 @@ returns-in-Ok-Some-clause-fits g c =
     let fresh = fresh_job c.in-Ok-Some.field-0 c.in-Ok-Some.job c.in-Ok-Some.field-0-is c.in-Ok-Some.ensures.fresh in
     record {
       is_open = opens_new g.P.LookPort.meaning c.args.port.now c.begin_flush.new.self BeginFlush
-          (reply.Flushing c.in-Ok-Some.job.out.number c.in-Ok-Some.job.out.file c.in-Ok-Some.job.rows) (flush_of c.in-Ok-Some.job)
+          (reply.Flushing (flush_parts c.in-Ok-Some.job)) (flush_of c.in-Ok-Some.job)
           called c.requires (zero, omega arith, refl);
       at_start = fresh.0;
       some = fresh.1;

@@ -2,7 +2,7 @@ use Rattle.std.proofs.Common.{◌≡◌, ◌≤◌, ◌+◌, ℕ, List, length, 
 use Rattle.store_model.specs.Event.Event.{WritePiece}
 use Rattle.store_model.specs.Event.{Reply as reply}
 use Rattle.store_model.specs.Event.Reply.{Fine}
-use Rattle.store_state.specs.Given.{flush_of}
+use Rattle.store_state.specs.Given.{flush_of, flush_parts}
 use Rattle.store_state.specs.Given.IsJobOf.{OfFlush}
 use Rattle.store_state.specs.Made.{call}
 use Rattle.store_state.specs.Replies.{write_refusal}
@@ -13,7 +13,7 @@ use Rattle.flusher.proofs.TaskLaws.{goes_on, leads_on, leads_out, still_open}
 use Rattle.flusher.proofs.task.write.Goals as goal
 
 pub write_piece-requires-clause-open : goal.write_piece-requires-clause-open
-write_piece-requires-clause-open g c = OfFlush c.args.job.rows c.requires.is_writing.is_open
+write_piece-requires-clause-open g c = OfFlush (flush_parts c.args.job) refl refl c.requires.is_writing.is_open
 
 pub returns-in-Ok-clause-steps : goal.returns-in-Ok-clause-steps
 returns-in-Ok-clause-steps g c =

@@ -1,11 +1,12 @@
+use Rattle.std.proofs.Common.{refl}
 use Rattle.store_model.specs.Event.{Reply as reply, Refusal as cause}
-use Rattle.store_state.specs.Given.{look_of}
+use Rattle.store_state.specs.Given.{look_of, look_parts}
 use Rattle.store_state.specs.Given.IsPinOf.{OfLook}
 use Rattle.query_fanout.proofs.CallLaws.{read_stays}
 use Rattle.query_fanout.proofs.pages.add_page.Goals as goal
 
 pub read_page-requires : goal.read_page-requires
-read_page-requires g c = record { «open» = OfLook c.args.look.now.as_of c.args.look.now.rows c.requires.open c.requires.pinned }
+read_page-requires g c = record { «open» = OfLook (look_parts c.args.look.now) refl refl c.requires.open c.requires.pinned }
 
 pub returns-in-Ok-extend_from_slice-clause-stays : goal.returns-in-Ok-extend_from_slice-clause-stays
 returns-in-Ok-extend_from_slice-clause-stays g c =

@@ -1,5 +1,5 @@
 use Rattle.std.proofs.Common.{◌≡◌, ◌-◌, ◌++◌, ℕ, List, drop, ◌∙◌, ap}
-use Rattle.store_model.specs.History.{entry_rows}
+use Rattle.store_model.specs.History.{record_rows}
 use Rattle.store_model.specs.State.{LiveRow}
 use Rattle.store_model.specs.After.{arrived}
 use Rattle.store_images.specs.Stored.{first_number}
@@ -15,6 +15,6 @@ returns-in-Ok-revive-clause-read g c =
       r.0,
       c.in-Ok-revive.ensures.added
           ∙ ap (λ (l : List Row). c.new-live.result.live ++ arrived c.args.moment l) (ap (rows_from list.floor) r.1 ∙ above_floor list.floor (first_number list) r.0 c.requires.from_floor)
-          ∙ ap (λ (l : List LiveRow). l ++ arrived c.args.moment (entry_rows list.floor (drop (list.floor - first_number list) r.0))) c.new-live.ensures.0,
+          ∙ ap (λ (l : List LiveRow). l ++ arrived c.args.moment (record_rows list.floor (drop (list.floor - first_number list) r.0))) c.new-live.ensures.0,
       r.2,
     )

@@ -1,4 +1,4 @@
-use Rattle.std.proofs.Common.{◌∙◌, ◌++◌, ◌∷◌, [], ap, refl, map, arith}
+use Rattle.std.proofs.Common.{◌∙◌, ◌++◌, ◌∷◌, [], ap, map, arith}
 use Rattle.store_model.specs.After.{released}
 use Rattle.store_state.specs.Listed.{segment_of}
 use Rattle.store_state.proofs.Listings.{each_file}
