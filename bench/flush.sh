@@ -23,7 +23,7 @@ look() { # FOLDER: the same of a look-up
     grep -q '^ok trace as_of=[0-9]* spans=0 ' "$work/reply"
 }
 python3 "$here/lines.py" 8 "$((spans / 8))" > "$work/lines"
-for round in $(seq "$rounds"); do
+for _ in $(seq "$rounds"); do
     echo "session $(python3 "$here/flush/session.py" "$program" "$work/folder" "$spans" < "$work/lines")"
     echo "sqlite $(python3 "$here/flush/sqlite.py" "$work/base" < "$work/lines")"
     rm -rf "$work/folder" "$work"/base*
@@ -37,7 +37,7 @@ done | awk '
         printf "  SQLite takes %.2f times as long\n", least["sqlite"] / least["session"]
     }'
 python3 "$here/lines.py" 8 "$((total / 8))" | python3 "$here/flush/session.py" "$program" "$work/folder" "$spans" > "$work/flushes"
-for round in $(seq "$rounds"); do
+for _ in $(seq "$rounds"); do
     echo "restart $(look "$work/folder")"
     echo "empty $(look "$work/none")"
     echo "cat $(took /dev/null cat "$work"/folder/*.dat)"

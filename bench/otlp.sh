@@ -22,7 +22,8 @@ seconds() { # the least processor time of five runs of a command on an input
     done | sort -n | head -n 1
 }
 for size in "5 20000" "500 200" "16000 6"; do
-    set -- $size
+    read -r spans lines <<< "$size"
+    set -- "$spans" "$lines"
     python3 "$here/lines.py" "$1" "$2" > "$work/$1.txt"
     ours=$(seconds "$work/$1.txt" "$program" "$work/store" session)
     theirs=$(seconds "$work/$1.txt" "$work/target/release/parse")

@@ -17,9 +17,10 @@ opening() { # FOLDER: the seconds of a session without a request
     { TIMEFORMAT=%R; time "$program" "$1" session < /dev/null; } 2>&1
 }
 for size in "1 ${PUSHES:-2000}" "500 ${LARGE:-100}"; do
-    set -- $size
+    read -r spans lines <<< "$size"
+    set -- "$spans" "$lines"
     python3 "$here/lines.py" "$1" "$2" > "$work/lines"
-    for round in $(seq "${ROUNDS:-5}"); do
+    for _ in $(seq "${ROUNDS:-5}"); do
         session=$(python3 "$here/push/acks.py" "$program" "$work/folder" "$work/lines")
         echo "session $session"
         echo "floor $("$work/floor" "$work/file" "$2" "${session##* }")"

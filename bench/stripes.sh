@@ -18,7 +18,7 @@ sed -n 's/^block_stripes: /stripe_bench: block_stripes serde_json /p' "$here/../
 cmp -s "$here/stripes/program.txt" "$work/tree/crates/stripe_bench/src/main.rt" || cp "$here/stripes/program.txt" "$work/tree/crates/stripe_bench/src/main.rt"
 input() { # LETTER COUNT FILE: what the program reads
     printf '%s' "$1"
-    printf "$(printf '\\x%02x\\x%02x\\x%02x\\x%02x' $(($2 & 255)) $(($2 >> 8 & 255)) $(($2 >> 16 & 255)) $(($2 >> 24)))"
+    printf '%b' "$(printf '\\x%02x' $(($2 & 255)) $(($2 >> 8 & 255)) $(($2 >> 16 & 255)) $(($2 >> 24)))"
     cat "$3"
 }
 python3 "$here/stripes/rows.py" stripe > "$work/stripe"

@@ -34,6 +34,7 @@ create function take(line json) returns void language sql as $$
     on conflict do nothing
 $$;
 SQL
+# shellcheck disable=SC2016 # PostgreSQL's own quotes
 sed 's/.*/select take($line$&$line$);/' | "${ask[@]}" > /dev/null
 "${ask[@]}" -c 'select count(*) from span'
 "${as[@]}" pg_ctl -D "$1/data" stop -m fast > /dev/null

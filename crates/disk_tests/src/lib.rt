@@ -2,13 +2,9 @@
 #![tactic(auto)]
 
 #[cfg(test)]
-mod clock;
-#[cfg(test)]
 mod disk;
 #[cfg(test)]
 mod fields;
-#[cfg(test)]
-mod folder;
 #[cfg(test)]
 mod list;
 #[cfg(test)]

@@ -18,6 +18,6 @@ pub cut_follows : (file len : ℕ) → Follows (OnFile file (HalfCut len)) any_i
 cut_follows file len = any_follows file (HalfCut len) (cut_same len)
 
 -- a call that was counted has the cause that the trait asks for
-pub counted_cause : {R T E : Type 0} (old new : FolderDisk R) (result : Result T E) → faults_of old ≤ faults_of new → Counted old new result
+pub counted_cause : {R F T E : Type 0} (old new : FolderDisk R F) (result : Result T E) → faults_of old ≤ faults_of new → Counted old new result
     → HasCause (faults_of old) (faults_of new) result
 counted_cause old new result later counted = record { later = later; rose = λ failed. omega (arith, counted.one_fault failed) }

@@ -6,35 +6,34 @@ ghost use Rattle.disk_model.specs.Script.{raised};
 ghost use Rattle.folder_disk.specs.Folder.{calls_of, faults_of, reads_of, folder_of, Counted, refused};
 
 use crate::folder::Folder;
+use crate::system::System;
 use disk_model::{Device, Disk};
 use span_types::Failed;
 use std::alloc::Global;
-use std::fs::File;
 use std::io;
-use std::rt::Files;
 
 /// A disk whose files lie in one folder of the system: file n is `n.dat`, and a file that is missing is empty.
 ///
 /// It tells nothing of its bytes: what a folder holds, and what a crash leaves of it, is the system's. A call fails where
 /// the system's calls fail, where another program has the folder, or where memory runs out.
 #[derive(Drop)]
-pub struct FolderDisk<R> {
+pub struct FolderDisk<R: System> {
     folder: Folder<R>,
     faults: u64,
     reads: u64,
     calls: u64,
 }
 
-impl<R: Files<File = File> + Drop> FolderDisk<R> {
+impl<R: System + Drop> FolderDisk<R> {
     /// A disk in the folder of this path. Nothing is asked of the system before the first call, which makes the folder
     /// where it isn't there; the folder above it has to be there.
-    pub fn new(rt: R, alloc: Global, path: String) -> FolderDisk<R>
+    pub fn new(system: R, alloc: Global, path: String) -> FolderDisk<R>
         ensures calls { calls_of result ≡ 0 }
         ensures faults { faults_of result ≡ 0 }
         ensures reads { reads_of result ≡ 0 }
     {
         FolderDisk {
-            folder: Folder::new(rt, alloc, path),
+            folder: Folder::new(system, alloc, path),
             faults: 0,
             reads: 0,
             calls: 0,
@@ -42,7 +41,7 @@ impl<R: Files<File = File> + Drop> FolderDisk<R> {
     }
 }
 
-impl<R> FolderDisk<R> {
+impl<R: System> FolderDisk<R> {
     /// Counts a call of the device, and a fault where it failed.
     fn count<T: Drop>(&mut self, answer: io::Result<T>) -> Result<T, Failed>
         ensures same { IfOk answer (λ value. result ≡ Ok value) }
@@ -64,7 +63,7 @@ impl<R> FolderDisk<R> {
     }
 }
 
-impl<R: Files<File = File> + Drop> Device for FolderDisk<R> {
+impl<R: System + Drop> Device for FolderDisk<R> {
     ghost use Rattle.disk_model.specs.Images.{Image, bytes_of, Besides, SameBytes, OnFile};
     ghost use Rattle.disk_model.specs.Bytes.{overwritten, Torn, HalfCut};
     ghost use Rattle.disk_model.specs.Crash.{Follows, Within, OnlyBytes, Elapses, HasCause};

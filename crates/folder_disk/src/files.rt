@@ -1,17 +1,23 @@
-//! Single files and folders of the system.
+//! Single files and folders, by what the system tells of them.
 
 ghost use Rattle.std.specs.Prelude.{◌≡◌, ◌<◌, ◌≤◌, ◌+◌, ◌-◌, ◌^◌, ◌↔◌, min, length, IsTrue, IfOk};
 
-use std::fs::{File, OpenOptions};
+use crate::system::{Found, System, SystemFile};
+use std::alloc::Global;
+use std::io;
 use std::io::ErrorKind;
-use std::os::fd::AsRawFd;
-use std::os::unix::fs::FileExt;
 use std::path::Path;
-use std::rt::Files;
-use std::{fs, io};
 
 /// A file's length is below this.
 const LENGTHS: u64 = 1 << 63;
+
+/// The numbers of the errors that the whole system has no descriptor left, and that this program has none, on Linux.
+const ENFILE: i32 = 23;
+
+const EMFILE: i32 = 24;
+
+/// So many bytes of a file are written again at once.
+const PIECE: usize = 65_536;
 
 /// Whether a write of that many bytes ends where a file may.
 pub fn ends_in_file(at: u64, len: usize) -> bool
@@ -32,7 +38,7 @@ fn most_from(at: u64, len: usize) -> usize
 }
 
 /// Reads from the byte `at` on to the end of the buffer or of the file, and answers how many bytes.
-pub fn read_on(file: &File, at: u64, buf: &mut [u8]) -> io::Result<usize>
+pub fn read_on(file: &impl SystemFile, at: u64, buf: &mut [u8]) -> io::Result<usize>
     ensures { IfOk result (λ count. count ≤ length buf.new) }
 {
     let most = most_from(at, buf.len());
@@ -51,63 +57,94 @@ pub fn read_on(file: &File, at: u64, buf: &mut [u8]) -> io::Result<usize>
     Err(io::Error::from(ErrorKind::Interrupted))
 }
 
-/// Opens a file to be read and written. `None` is that it isn't there.
-pub fn open_if_there(files: &impl Files<File = File>, path: &str) -> io::Result<Option<File>> {
-    match OpenOptions::new().read(true).write(true).open(files, path) {
-        Ok(file) => Ok(Some(above_streams(file)?)),
+/// Writes a file's bytes over themselves, so that the next sync makes last what a read gives.
+pub fn write_again(alloc: Global, file: &impl SystemFile) -> io::Result<()> {
+    let mut buf = vec![in alloc; 0; PIECE]?;
+    let mut at: u64 = 0;
+    for _ in 0..u64::MAX {
+        let count = read_on(file, at, buf.as_mut_slice())?;
+        let Some(bytes) = buf.get(..count) else {
+            return Ok(());
+        };
+        if bytes.is_empty() {
+            return Ok(());
+        }
+        file.write_all_at(bytes, at)?;
+        at = at.saturating_add(count as u64);
+    }
+    Err(io::Error::from(ErrorKind::Interrupted))
+}
+
+/// What has this name, if anything has.
+pub fn look_for(system: &impl System, path: &str) -> io::Result<Option<Found>> {
+    match system.look(path) {
+        Ok(found) => Ok(Some(found)),
         Err(e) if e.kind() == ErrorKind::NotFound => Ok(None),
         Err(e) => Err(e),
     }
 }
 
-/// Makes a file that isn't there, open to be read and written.
-pub fn make(files: &impl Files<File = File>, path: &str) -> io::Result<File> {
-    above_streams(File::create_new(files, path)?)
+/// Opens a regular file. `None` is that nothing has its name. It fails where something else has it: a folder, a link, a
+/// pipe, a socket or a device, which is not opened.
+pub fn open_if_there<S: System>(system: &S, path: &str) -> io::Result<Option<S::File>> {
+    let Some(found) = look_for(system, path)? else {
+        return Ok(None);
+    };
+    expect_regular(found)?;
+    let file = system.open(path)?;
+    // Another may have taken the name meanwhile.
+    expect_same(found, file.found()?)?;
+    Ok(Some(file))
 }
 
-/// Locks a file, which is made where it isn't there, as long as the handle is open. It fails where another has the lock.
-pub fn lock(files: &impl Files<File = File>, path: &str) -> io::Result<File> {
-    let file = OpenOptions::new()
-        .write(true)
-        .create(true)
-        .open(files, path)?;
-    let file = above_streams(file)?;
-    file.try_lock()?;
+/// Locks a file, which is made where it isn't there, as long as it is open. It fails where another opening has the lock, and
+/// where the file that it locked hasn't the name any more.
+pub fn lock<S: System>(system: &S, path: &str) -> io::Result<S::File> {
+    let file = match open_if_there(system, path)? {
+        Some(file) => file,
+        None => system.make(path)?,
+    };
+    file.lock()?;
+    expect_named(system, path, &file)?;
     Ok(file)
 }
 
-/// The same file under a descriptor that is none of the three standard streams'. Where a program was started with one
-/// of these closed, the system gives its number to the next file, and what the program prints would go there.
-fn above_streams(file: File) -> io::Result<File> {
-    if file.as_raw_fd() > 2 {
-        Ok(file)
+/// Fails unless this is the regular file that has the name.
+pub fn expect_named<S: System>(system: &S, path: &str, file: &S::File) -> io::Result<()> {
+    expect_same(system.look(path)?, file.found()?)
+}
+
+fn expect_same(named: Found, opened: Found) -> io::Result<()> {
+    expect_regular(opened)?;
+    if named.place == opened.place {
+        Ok(())
     } else {
-        file.try_clone()
+        Err(io::Error::from(ErrorKind::NotFound))
     }
 }
 
-/// Makes a folder where it isn't there. The folder above it has to be there.
-pub fn make_folder(files: &impl Files<File = File>, path: &str) -> io::Result<()> {
-    match fs::create_dir(files, path) {
-        Ok(()) => Ok(()),
-        Err(e) => match fs::metadata(files, path) {
-            Ok(found) if found.is_dir() => Ok(()),
-            _ => Err(e),
-        },
+fn expect_regular(found: Found) -> io::Result<()> {
+    if found.is_regular {
+        Ok(())
+    } else {
+        Err(io::Error::from(ErrorKind::Unsupported))
     }
 }
 
-/// Makes last which names a folder has.
-pub fn sync_folder(files: &impl Files<File = File>, path: &str) -> io::Result<()> {
-    File::open(files, path)?.sync_all()
+/// Whether a call failed since no descriptor was left for this program, or for the whole system.
+pub fn wants_descriptor<T>(answer: &io::Result<T>) -> bool {
+    match answer {
+        Ok(_) => false,
+        Err(e) => matches!(e.raw_os_error(), Some(EMFILE | ENFILE)),
+    }
 }
 
 /// Makes last that a folder has its name. A folder above it that this program may not read, or that can't be synced, is
 /// passed over: whoever gave the program its folder there has seen to that.
-pub fn sync_name(files: &impl Files<File = File>, path: &str) -> io::Result<()> {
+pub fn sync_name(system: &impl System, path: &str) -> io::Result<()> {
     let synced = match Path::new(path).parent() {
-        Some(above) if !above.as_str().is_empty() => sync_folder(files, above.as_str()),
-        Some(_) => sync_folder(files, "."),
+        Some(above) if !above.as_str().is_empty() => system.sync_folder(above.as_str()),
+        Some(_) => system.sync_folder("."),
         None => Ok(()),
     };
     match synced {

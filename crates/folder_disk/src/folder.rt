@@ -2,26 +2,42 @@
 
 ghost use Rattle.std.specs.Prelude.{◌≡◌, ◌<◌, ◌≤◌, ◌+◌, ◌^◌, length, IfOk, OnOk};
 
+use crate::doubts::Doubts;
 use crate::files::{
-    ends_in_file, lock, make, make_folder, open_if_there, read_on, sync_folder, sync_name,
+    ends_in_file, expect_named, lock, look_for, open_if_there, read_on, sync_name,
+    wants_descriptor, write_again,
 };
+use crate::system::{System, SystemFile};
 use std::alloc::{AllocError, Global};
-use std::collections::BTreeMap;
-use std::fs::File;
+use std::collections::{BTreeMap, BTreeSet};
+use std::io;
 use std::io::ErrorKind;
-use std::os::unix::fs::FileExt;
-use std::rt::Files;
-use std::{fs, io};
 
 /// So many files more are opened before those without changes are closed: a quarter of the 1,024 descriptors that a
 /// process on Linux may have where nothing else is set, so that the program has the rest.
 const MOST_OPEN: usize = 256;
 
+/// The files of which one has bytes in each store, since its list is there.
+const SLOTS: [u32; 2] = [0, 1];
+
+/// The one other file that is made before the first list, and the most bytes that it has till then.
+const FIRST: u32 = 2;
+
+const BEFORE_SLOTS: u64 = 2;
+
 /// An open file, and whether it was changed since its last sync.
 #[derive(Drop)]
-struct Handle {
-    file: File,
+struct Handle<F> {
+    file: F,
     is_changed: bool,
+}
+
+/// The file that is locked for this program, its name, and the files that it says are in doubt.
+#[derive(Drop)]
+struct Lock<F> {
+    file: F,
+    path: String,
+    doubts: Doubts,
 }
 
 /// Which names a power cut may take or bring back.
@@ -36,37 +52,44 @@ enum Unsynced {
 
 /// A folder whose file n is `n.dat`, with those of its files that are open.
 #[derive(Drop)]
-pub struct Folder<R> {
-    rt: R,
+pub struct Folder<R: System> {
+    system: R,
     alloc: Global,
     path: String,
-    lock: Option<File>,
+    lock: Option<Lock<R::File>>,
     unsynced: Unsynced,
-    handles: BTreeMap<u32, Handle>,
-    close_at: usize,
+    handles: BTreeMap<u32, Handle<R::File>>,
+    /// The files of which the device has what a read gives, but for what was written to them since by calls that passed.
+    settled: BTreeSet<u32>,
+    /// Whether a write, a cut or a sync of this program has failed.
+    has_failed: bool,
+    /// So many files were opened since those without changes were closed.
+    opened: usize,
 }
 
-impl<R: Files<File = File> + Drop> Folder<R> {
+impl<R: System + Drop> Folder<R> {
     /// The folder of this path. The system isn't asked yet.
     ///
     /// An earlier program may have been killed between making a name and syncing it, the folder's own among them. So the
     /// first sync makes them all last.
-    pub fn new(rt: R, alloc: Global, path: String) -> Folder<R> {
+    pub fn new(system: R, alloc: Global, path: String) -> Folder<R> {
         Folder {
-            rt,
+            system,
             alloc,
             path,
             lock: None,
             unsynced: Unsynced::Folder,
             handles: BTreeMap::new(alloc),
-            close_at: MOST_OPEN,
+            settled: BTreeSet::new(alloc),
+            has_failed: false,
+            opened: 0,
         }
     }
 
     /// The length of a file.
     pub fn len(&mut self, number: u32) -> io::Result<u64> {
         match self.find(number)? {
-            Some(handle) => Ok(handle.file.metadata()?.len()),
+            Some(handle) => Ok(handle.file.found()?.len),
             None => Ok(0),
         }
     }
@@ -100,13 +123,12 @@ impl<R: Files<File = File> + Drop> Folder<R> {
         if self.find(number)?.is_none() {
             self.make(number)?;
         }
-        match self.find(number)? {
-            Some(handle) => {
-                handle.is_changed = true;
-                handle.file.write_all_at(bytes, at)
-            }
-            None => Err(io::Error::from(ErrorKind::NotFound)),
-        }
+        let Some(handle) = self.find(number)? else {
+            return Err(io::Error::from(ErrorKind::NotFound));
+        };
+        handle.is_changed = true;
+        let answer = handle.file.write_all_at(bytes, at);
+        self.doubt_failed(number, answer)
     }
 
     /// Cuts a file that is longer than this to this length.
@@ -114,24 +136,64 @@ impl<R: Files<File = File> + Drop> Folder<R> {
         let Some(handle) = self.find(number)? else {
             return Ok(());
         };
-        if handle.file.metadata()?.len() <= len {
+        if handle.file.found()?.len <= len {
             return Ok(());
         }
         handle.is_changed = true;
-        handle.file.set_len(len)
+        let answer = handle.file.set_len(len);
+        self.doubt_failed(number, answer)
     }
 
     /// Makes last what a file has, and its name. A file without bytes is removed.
     pub fn sync(&mut self, number: u32) -> io::Result<()> {
         if let Some(handle) = self.find(number)? {
-            if handle.file.metadata()?.len() == 0 {
+            if handle.file.found()?.len == 0 {
                 self.remove(number)?;
-            } else {
-                handle.file.sync_data()?;
-                handle.is_changed = false;
+            } else if handle.is_changed {
+                self.sync_bytes(number)?;
             }
         }
         self.sync_names()
+    }
+
+    /// Makes last what an open file has, as long as this program has the lock.
+    fn sync_bytes(&mut self, number: u32) -> io::Result<()> {
+        self.expect_lock()?;
+        let Some(handle) = self.handles.get_mut(&number) else {
+            return Ok(());
+        };
+        let answer = handle.file.sync();
+        handle.is_changed = answer.is_err();
+        self.doubt_failed(number, answer)
+    }
+
+    /// Hands on the answer of a write, a cut or a sync. If it failed, a read may give what the device doesn't have and never
+    /// will, so the next call settles the file, be it of this program or of a later one.
+    fn doubt_failed(&mut self, number: u32, answer: io::Result<()>) -> io::Result<()> {
+        if answer.is_err() {
+            self.has_failed = true;
+            self.settled.remove(&number);
+            if let Some(lock) = &mut self.lock {
+                // If this fails too, this program alone knows.
+                let _kept = lock.doubts.add(number, &lock.file);
+            }
+        }
+        answer
+    }
+
+    /// Whether a read of a file may give what the device never got.
+    fn is_doubted(&self, number: u32) -> bool {
+        match &self.lock {
+            Some(lock) => self.has_failed || lock.doubts.has(number),
+            None => self.has_failed,
+        }
+    }
+
+    /// A file is in doubt no more. A later program that isn't told so settles it once more.
+    fn trust(&mut self, number: u32) {
+        if let Some(lock) = &mut self.lock {
+            let _kept = lock.doubts.remove(number, &lock.file);
+        }
     }
 
     /// Makes the folder where it isn't there, and locks it for this program. Every call but one that fails at once
@@ -140,39 +202,107 @@ impl<R: Files<File = File> + Drop> Folder<R> {
         if self.lock.is_some() {
             return Ok(());
         }
-        make_folder(&self.rt, self.path.as_str())?;
+        self.system.make_folder(self.path.as_str())?;
+        self.expect_slots()?;
         let path = format!(in self.alloc; "{}/lock", self.path)?;
-        self.lock = Some(lock(&self.rt, path.as_str())?);
+        let file = lock(&self.system, path.as_str())?;
+        let doubts = Doubts::read(self.alloc, &file)?;
+        self.lock = Some(Lock { file, path, doubts });
         Ok(())
     }
 
-    /// The handle of a file. `None` is that the file isn't there.
-    fn find(&mut self, number: u32) -> io::Result<Option<&mut Handle>> {
+    /// Fails where the folder has files of a store, but nothing in either of its slots.
+    fn expect_slots(&self) -> io::Result<()> {
+        for slot in SLOTS {
+            match look_for(&self.system, self.path_of(slot)?.as_str())? {
+                Some(found) if !found.is_regular || found.len > 0 => return Ok(()),
+                _ => {}
+            }
+        }
+        let is_new = match self.system.last_number(self.path.as_str())? {
+            Some(FIRST) => self.system.look(self.path_of(FIRST)?.as_str())?.len <= BEFORE_SLOTS,
+            last => last < Some(FIRST),
+        };
+        if is_new {
+            Ok(())
+        } else {
+            Err(io::Error::from(ErrorKind::InvalidData))
+        }
+    }
+
+    /// Fails unless the file that this program locked still has its name, so that no other program can have locked another.
+    fn expect_lock(&self) -> io::Result<()> {
+        match &self.lock {
+            Some(lock) => expect_named(&self.system, lock.path.as_str(), &lock.file),
+            None => Err(io::Error::from(ErrorKind::NotFound)),
+        }
+    }
+
+    /// The handle of a file, which is settled. `None` is that the file isn't there.
+    fn find(&mut self, number: u32) -> io::Result<Option<&mut Handle<R::File>>> {
         self.claim()?;
         if !self.handles.contains_key(&number) {
-            let path = self.path_of(number)?;
-            if let Some(file) = open_if_there(&self.rt, path.as_str())? {
-                self.keep_open(number, file)?;
+            self.expect_lock()?;
+            match self.open(number)? {
+                Some(file) => self.keep_open(number, file)?,
+                None => return Ok(None),
             }
+        }
+        if !self.settled.contains(&number) {
+            self.settle(number)?;
         }
         Ok(self.handles.get_mut(&number))
     }
 
-    /// Makes a file that isn't there.
+    /// Makes sure that the device has what a read of an open file gives. The system may hold bytes of it that it couldn't write, and
+    /// tells so once: then they are written again, over themselves, since a second sync alone would write nothing.
+    fn settle(&mut self, number: u32) -> io::Result<()> {
+        let is_doubted = self.is_doubted(number);
+        let Some(handle) = self.handles.get_mut(&number) else {
+            return Ok(());
+        };
+        if is_doubted {
+            write_again(self.alloc, &handle.file)?;
+        }
+        let answer = handle.file.sync();
+        handle.is_changed = answer.is_err();
+        self.doubt_failed(number, answer)?;
+        self.settled.insert(number)?;
+        self.trust(number);
+        Ok(())
+    }
+
+    /// Opens a file that isn't open. Where no descriptor is left, files without changes are closed, and it is tried again.
+    fn open(&mut self, number: u32) -> io::Result<Option<R::File>> {
+        let path = self.path_of(number)?;
+        let answer = open_if_there(&self.system, path.as_str());
+        if wants_descriptor(&answer) {
+            self.close_unchanged();
+            return open_if_there(&self.system, path.as_str());
+        }
+        answer
+    }
+
+    /// Makes a file that isn't there. Where no descriptor is left, files without changes are closed, and it is tried again.
     fn make(&mut self, number: u32) -> io::Result<()> {
         let path = self.path_of(number)?;
         self.names_change();
-        let file = make(&self.rt, path.as_str())?;
-        self.keep_open(number, file)
+        let mut answer = self.system.make(path.as_str());
+        if wants_descriptor(&answer) {
+            self.close_unchanged();
+            answer = self.system.make(path.as_str());
+        }
+        self.keep_open(number, answer?)?;
+        self.settled.insert(number)?;
+        Ok(())
     }
 
-    /// Keeps a file open. Where many are, those without changes are closed first; of one with changes the system might
-    /// forget that it couldn't write them.
-    fn keep_open(&mut self, number: u32, file: File) -> io::Result<()> {
-        if self.handles.len() >= self.close_at {
-            self.handles.retain(|_, handle| handle.is_changed);
-            self.close_at = self.handles.len() + MOST_OPEN;
+    /// Keeps a file open. Where many are, those without changes are closed first.
+    fn keep_open(&mut self, number: u32, file: R::File) -> io::Result<()> {
+        if self.opened >= MOST_OPEN {
+            self.close_unchanged();
         }
+        self.opened = self.opened.saturating_add(1);
         let handle = Handle {
             file,
             is_changed: false,
@@ -181,11 +311,23 @@ impl<R: Files<File = File> + Drop> Folder<R> {
         Ok(())
     }
 
+    /// Closes the files without changes. Of one with changes the system might forget that it couldn't write them.
+    fn close_unchanged(&mut self) {
+        self.handles.retain(|_, handle| handle.is_changed);
+        self.opened = 0;
+    }
+
+    /// Removes a file that is open, if it still has its name.
     fn remove(&mut self, number: u32) -> io::Result<()> {
         let path = self.path_of(number)?;
-        self.names_change();
-        fs::remove_file(&self.rt, path.as_str())?;
+        if let Some(handle) = self.handles.get(&number) {
+            expect_named(&self.system, path.as_str(), &handle.file)?;
+            self.names_change();
+            self.system.remove(path.as_str())?;
+        }
         self.handles.remove(&number);
+        self.settled.remove(&number);
+        self.trust(number);
         Ok(())
     }
 
@@ -200,10 +342,20 @@ impl<R: Files<File = File> + Drop> Folder<R> {
         if self.unsynced == Unsynced::Nothing {
             return Ok(());
         }
-        if self.unsynced == Unsynced::Folder {
-            sync_name(&self.rt, self.path.as_str())?;
+        self.expect_lock()?;
+        let answer = self.try_sync_names();
+        if wants_descriptor(&answer) {
+            self.close_unchanged();
+            return self.try_sync_names();
         }
-        sync_folder(&self.rt, self.path.as_str())?;
+        answer
+    }
+
+    fn try_sync_names(&mut self) -> io::Result<()> {
+        if self.unsynced == Unsynced::Folder {
+            sync_name(&self.system, self.path.as_str())?;
+        }
+        self.system.sync_folder(self.path.as_str())?;
         self.unsynced = Unsynced::Nothing;
         Ok(())
     }

@@ -3,9 +3,12 @@
 #![tactic(auto)]
 
 mod disk;
+mod doubts;
 mod files;
 mod folder;
+mod system;
 mod system_clock;
 
 pub use disk::{FolderDisk, is_disk};
+pub use system::{Found, System, SystemFile};
 pub use system_clock::SystemClock;

@@ -1,7 +1,7 @@
 //! Queries over one look: its rows, and those of the blocks that it pins.
 //!
-//! The entry points are `find_trace` and `search`, whose promise is `HasAsked` of `specs/Queries.antt`: of the history that the
-//! port knows at the look, each answer tells by the first occurrences of all its rows. How blocks are read stands in
+//! The entry points are `find_trace` and `search`, whose promise is `HasAsked` of `specs/Queries.antt`: each answer tells the first
+//! occurrences of all rows of a history that begins with the one which the port knew before. How blocks are read stands in
 //! `specs/BlockReads.antt`.
 #![tactic(auto)]
 

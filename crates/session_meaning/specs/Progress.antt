@@ -1,4 +1,5 @@
--- Private mechanism of the loop over lines: how far a session came. No public clause cites it.
+-- The loop over lines: how far a session came. Of it the laws on cores cite `AreAnsweredOver` and `IngestsOver`; the rest is
+-- private mechanism.
 use Rattle.std.specs.Prelude.{◌≡◌, ◌⊎◌, ℕ, List, [], ◌∷◌, ◌++◌, Option, Ok, Err}
 use Rattle.disk_model.specs.declared.disk.Device.{Ghosts}
 use Rattle.io_edges.specs.Lines.{lines}

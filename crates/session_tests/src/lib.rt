@@ -1,19 +1,7 @@
-//! Tests of the session's layer: the words of the command line, lines and replies, and whole runs with their exact bytes.
+//! Tests of lines and replies: the words of the command line, each request and reply with its exact bytes, and whole runs.
 //! They show what no clause says.
 #![tactic(auto)]
 
-#[cfg(test)]
-mod compact_tests;
-#[cfg(test)]
-mod durable_tests;
-#[cfg(test)]
-mod event_model;
-#[cfg(test)]
-mod events_tests;
-#[cfg(test)]
-mod flush_tests;
-#[cfg(test)]
-mod ingest_tests;
 #[cfg(test)]
 mod run_tests;
 #[cfg(test)]

@@ -2,7 +2,8 @@
 
 use disk_model::MemDisk;
 use io_edges::{FixedClock, MemSink, MemSource, OpenGate, Sink, Source};
-use span_types::{Bytes, Calls, Failed, Memory, Moments};
+use run_support::{FINE, Failing, LOOK_A1, PUSH_X, PUSH_Y, TRACE_X, all_words, calls, play};
+use span_types::{Bytes, Failed, Memory, Moments};
 use std::alloc::Global;
 use std::io::{self, Read, Write};
 use std::process::Abort;
@@ -11,68 +12,22 @@ use std::thread::Threads;
 use trace_shell::{Ended, StdinSource, StdoutSink, run, run_alone};
 use traceql_types::RegexMaker;
 
-pub(crate) const PUSH_X: &str =
-    r#"push {"resourceSpans":[{"scopeSpans":[{"spans":[{"traceId":"000000000000000000000000000000a1","spanId":"00000000000000b1","parentSpanId":"","name":"x","startTimeUnixNano":"1","endTimeUnixNano":"2"}]}]}]}"#;
-
-pub(crate) const PUSH_Y: &str =
-    r#"push {"resourceSpans":[{"scopeSpans":[{"spans":[{"traceId":"000000000000000000000000000000a1","spanId":"00000000000000b1","parentSpanId":"","name":"y","startTimeUnixNano":"1","endTimeUnixNano":"2"}]}]}]}"#;
-
-pub(crate) const TRACE_X: &str =
-    r#"{"resourceSpans":[{"resource":{"attributes":[]},"scopeSpans":[{"scope":{"attributes":[],"name":"","version":""},"spans":[{"attributes":[],"endTimeUnixNano":"2","kind":0,"name":"x","parentSpanId":"","spanId":"00000000000000b1","startTimeUnixNano":"1","status":{"code":0,"message":""},"traceId":"000000000000000000000000000000a1"}]}]}]}"#;
-
-pub(crate) const LOOK_A1: &str = "trace 000000000000000000000000000000a1";
-
 const LOOK_A2: &str = "trace 000000000000000000000000000000A2";
 
-pub(crate) fn calls(alloc: Global, numbers: &[u64]) -> Result<Calls, Memory> {
-    Ok(Calls::of(Vec::from_slice(alloc, numbers)?))
-}
-
-pub(crate) fn all_words(alloc: Global, words: &[&str]) -> Result<Vec<String>, Memory> {
-    let mut all = Vec::new(alloc);
-    for word in words {
-        all.push(String::from_str(alloc, word)?)?;
-    }
-    Ok(all)
-}
-
-// A source of these bytes, no call of which fails.
-pub(crate) fn source_of(alloc: Global, input: &str) -> Result<MemSource, Memory> {
-    let bytes = Bytes::of(Vec::from_slice(alloc, input.as_bytes())?);
-    Ok(MemSource::new(bytes, calls(alloc, &[])?))
-}
-
-// Runs the words over an input on an empty disk, with a source and a sink that fail at the listed calls, and asserts what is
-// written and the status.
+// Runs the words over an input on an empty disk, and asserts what is written and the status.
 pub(crate) fn check<R: Threads + Wait + Sync + Abort>(
     rt: &R,
     alloc: Global,
     words: &[&str],
     input: &str,
-    failing: (&[u64], &[u64]),
+    failing: Failing<'_>,
     wanted: &str,
     wanted_status: u8,
 ) -> Result<(), Memory> {
-    let all = all_words(alloc, words)?;
-    let bytes = Bytes::of(Vec::from_slice(alloc, input.as_bytes())?);
-    let mut source = MemSource::new(bytes, calls(alloc, failing.0)?);
-    let mut sink = MemSink::new(alloc, calls(alloc, failing.1)?);
-    let mut clock = FixedClock::new(Moments::of(Vec::new(alloc)));
-    let Ended { status, disk } = run(
-        rt,
-        alloc,
-        all.as_slice(),
-        &mut source,
-        &mut sink,
-        MemDisk::empty(alloc),
-        &mut clock,
-        &mut RegexMaker::new(alloc),
-        &OpenGate,
-    );
-    assert!(rt; sink.taken() == wanted.as_bytes(), "at {input}");
-    assert_eq!(rt; status, wanted_status);
-    assert_eq!(rt; disk.starved(), 0);
-    assert_eq!(rt; sink.starved(), 0);
+    let played = play(rt, alloc, MemDisk::empty(alloc), words, input, failing, &[])?;
+    assert!(rt; played.text.as_slice() == wanted.as_bytes(), "at {input}");
+    assert_eq!(rt; played.status, wanted_status);
+    assert_eq!(rt; played.starved, 0);
     Ok(())
 }
 
@@ -90,13 +45,13 @@ fn whole_runs_write_their_exact_bytes(rt: HostRuntime) -> Result<(), Memory> {
     )?;
     let refusals =
         "ok push 0 accepted=0 rejected=0 skipped=0\nrefused bad-request at=0\nrefused bad-json\nrefused bad-otlp path=$.resourceSpans[0].scopeSpans\n";
-    check(&rt, alloc, &session, "", (&[], &[]), "", 0)?;
+    check(&rt, alloc, &session, "", FINE, "", 0)?;
     check(
         &rt,
         alloc,
         &session,
         first.as_str(),
-        (&[], &[]),
+        FINE,
         first_replies.as_str(),
         0,
     )?;
@@ -105,7 +60,7 @@ fn whole_runs_write_their_exact_bytes(rt: HostRuntime) -> Result<(), Memory> {
         alloc,
         &session,
         again.as_str(),
-        (&[], &[]),
+        FINE,
         again_replies.as_str(),
         0,
     )?;
@@ -114,17 +69,17 @@ fn whole_runs_write_their_exact_bytes(rt: HostRuntime) -> Result<(), Memory> {
         alloc,
         &session,
         "push {}\npull\npush {\"resourceSpans\":\npush {\"resourceSpans\":[{\"scopeSpans\":7}]}\n",
-        (&[], &[]),
+        FINE,
         refusals,
         7,
     )?;
-    check(&rt, alloc, &[], first.as_str(), (&[], &[]), "", 2)?;
+    check(&rt, alloc, &[], first.as_str(), FINE, "", 2)?;
     check(
         &rt,
         alloc,
         &["session", "session"],
         first.as_str(),
-        (&[], &[]),
+        FINE,
         "",
         2,
     )?;
@@ -160,7 +115,7 @@ fn spellings_of_one_span_are_answered_alike(rt: HostRuntime) -> Result<(), Memor
             alloc,
             &session,
             lines.as_str(),
-            (&[], &[]),
+            FINE,
             replies.as_str(),
             0,
         )?;
@@ -168,7 +123,7 @@ fn spellings_of_one_span_are_answered_alike(rt: HostRuntime) -> Result<(), Memor
     let lines = format!(in alloc; "{ONE_REJECTED}\npush {{}}\n")?;
     let counts =
         "ok push 0 accepted=1 rejected=1 skipped=0\nok push 1 accepted=0 rejected=0 skipped=0\n";
-    check(&rt, alloc, &session, lines.as_str(), (&[], &[]), counts, 0)?;
+    check(&rt, alloc, &session, lines.as_str(), FINE, counts, 0)?;
     Ok(())
 }
 
@@ -191,7 +146,7 @@ fn events_are_kept_and_told(rt: HostRuntime) -> Result<(), Memory> {
         alloc,
         &["session"],
         lines.as_str(),
-        (&[], &[]),
+        FINE,
         replies.as_str(),
         0,
     )
@@ -202,18 +157,40 @@ fn a_look_up_of_the_command_line_is_answered_alone(rt: HostRuntime) -> Result<()
     let alloc = rt.alloc();
     let a1 = "000000000000000000000000000000a1";
     let none = "ok trace as_of=0 spans=0 {\"resourceSpans\":[]}\n";
-    check(&rt, alloc, &["trace", a1], PUSH_X, (&[1], &[]), none, 0)?;
+    check(
+        &rt,
+        alloc,
+        &["trace", a1],
+        PUSH_X,
+        Failing {
+            source: &[1],
+            sink: &[],
+        },
+        none,
+        0,
+    )?;
     check(
         &rt,
         alloc,
         &["trace", "00"],
         "",
-        (&[], &[]),
+        FINE,
         "refused bad-request at=6\n",
         7,
     )?;
-    check(&rt, alloc, &["trace", a1], "", (&[], &[1]), "", 1)?;
-    check(&rt, alloc, &["trace"], "", (&[], &[]), "", 2)?;
+    check(
+        &rt,
+        alloc,
+        &["trace", a1],
+        "",
+        Failing {
+            source: &[],
+            sink: &[1],
+        },
+        "",
+        1,
+    )?;
+    check(&rt, alloc, &["trace"], "", FINE, "", 2)?;
     Ok(())
 }
 
@@ -229,7 +206,7 @@ fn a_line_over_the_limit_is_refused_with_its_length(rt: HostRuntime) -> Result<(
         alloc,
         &["session"],
         line.as_str(),
-        (&[], &[]),
+        FINE,
         "refused too-long length=16777217\n",
         7,
     )?;
@@ -242,8 +219,30 @@ fn a_failing_device_ends_the_run(rt: HostRuntime) -> Result<(), Memory> {
     let session = ["session"];
     let input = format!(in alloc; "{PUSH_X}\n{PUSH_X}\n{LOOK_A1}\n")?;
     let push = "ok push 0 accepted=1 rejected=0 skipped=0\n";
-    check(&rt, alloc, &session, input.as_str(), (&[], &[2]), push, 1)?;
-    check(&rt, alloc, &session, input.as_str(), (&[1], &[]), "", 3)?;
+    check(
+        &rt,
+        alloc,
+        &session,
+        input.as_str(),
+        Failing {
+            source: &[],
+            sink: &[2],
+        },
+        push,
+        1,
+    )?;
+    check(
+        &rt,
+        alloc,
+        &session,
+        input.as_str(),
+        Failing {
+            source: &[1],
+            sink: &[],
+        },
+        "",
+        3,
+    )?;
     let replies = format!(in alloc;
         "{push}ok push 1 accepted=1 rejected=0 skipped=0\nok trace as_of=2 spans=1 {TRACE_X}\n"
     )?;
@@ -252,7 +251,10 @@ fn a_failing_device_ends_the_run(rt: HostRuntime) -> Result<(), Memory> {
         alloc,
         &session,
         input.as_str(),
-        (&[2], &[]),
+        Failing {
+            source: &[2],
+            sink: &[],
+        },
         replies.as_str(),
         3,
     )?;

@@ -3,6 +3,7 @@
 use crate::run_tests::check;
 use disk_model::MemDisk;
 use io_edges::{FixedClock, MemSink, MemSource, OpenGate};
+use run_support::FINE;
 use span_types::{Bytes, Calls, Memory, Moments};
 use trace_shell::{Ended, run};
 use traceql_types::ScriptedMaker;
@@ -174,10 +175,10 @@ fn searches_are_answered(rt: HostRuntime) -> Result<(), Memory> {
     let alloc = rt.alloc();
     let session = ["session"];
     for (input, wanted) in [RANKED, MISSING, RINGS, SUMS, GROUPS, OPERATORS] {
-        check(&rt, alloc, &session, input, (&[], &[]), wanted, 0)?;
+        check(&rt, alloc, &session, input, FINE, wanted, 0)?;
     }
     for (input, wanted) in [AVERAGES, REFUSED] {
-        check(&rt, alloc, &session, input, (&[], &[]), wanted, 7)?;
+        check(&rt, alloc, &session, input, FINE, wanted, 7)?;
     }
     Ok(())
 }
@@ -190,37 +191,21 @@ fn a_long_query_is_refused(rt: HostRuntime) -> Result<(), Memory> {
         line.push(' ')?;
     }
     let wanted = "refused bad-query too-long length=8193\n";
-    check(
-        &rt,
-        alloc,
-        &["session"],
-        line.as_str(),
-        (&[], &[]),
-        wanted,
-        7,
-    )
+    check(&rt, alloc, &["session"], line.as_str(), FINE, wanted, 7)
 }
 
 #[test]
 fn words_make_the_line_of_a_search(rt: HostRuntime) -> Result<(), Memory> {
     let alloc = rt.alloc();
     let empty = "ok search as_of=0 traces=0 {\"traces\":[]}\n";
-    check(&rt, alloc, &["search", "{ }"], "", (&[], &[]), empty, 0)?;
+    check(&rt, alloc, &["search", "{ }"], "", FINE, empty, 0)?;
     let all = [
         "search", "--limit", "5", "--spss", "1", "--start", "1", "--end", "2", "{ }",
     ];
-    check(&rt, alloc, &all, "", (&[], &[]), empty, 0)?;
+    check(&rt, alloc, &all, "", FINE, empty, 0)?;
     let bad = ["search", "--limit", "0", "{ }"];
-    check(
-        &rt,
-        alloc,
-        &bad,
-        "",
-        (&[], &[]),
-        "refused bad-request at=7\n",
-        7,
-    )?;
-    check(&rt, alloc, &["search"], "", (&[], &[]), "", 2)
+    check(&rt, alloc, &bad, "", FINE, "refused bad-request at=7\n", 7)?;
+    check(&rt, alloc, &["search"], "", FINE, "", 2)
 }
 
 #[test]

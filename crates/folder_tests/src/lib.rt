@@ -1,0 +1,13 @@
+//! Tests of the disk in a folder and of the system's clock, by their public calls alone.
+#![tactic(auto)]
+
+#[cfg(test)]
+mod clock;
+#[cfg(test)]
+mod folder;
+#[cfg(test)]
+mod kinds;
+#[cfg(test)]
+mod machine;
+#[cfg(test)]
+mod settling;

@@ -1,0 +1,10 @@
+//! Tests of runs one after another on one disk: what is durable, what a disk whose calls fail or that stops leaves, and what cuts,
+//! flushes, compactions and the emptying of loose files print. They show what no clause says.
+#![tactic(auto)]
+
+#[cfg(test)]
+mod compact_tests;
+#[cfg(test)]
+mod durable_tests;
+#[cfg(test)]
+mod flush_tests;
