@@ -58,7 +58,7 @@ pub fn read_on(file: &impl SystemFile, at: u64, buf: &mut [u8]) -> io::Result<us
 }
 
 /// Writes a file's bytes over themselves, so that the next sync makes last what a read gives.
-pub fn write_again(alloc: Global, file: &impl SystemFile) -> io::Result<()> {
+fn write_again(alloc: Global, file: &impl SystemFile) -> io::Result<()> {
     let mut buf = vec![in alloc; 0; PIECE]?;
     let mut at: u64 = 0;
     for _ in 0..u64::MAX {
@@ -73,6 +73,14 @@ pub fn write_again(alloc: Global, file: &impl SystemFile) -> io::Result<()> {
         at = at.saturating_add(count as u64);
     }
     Err(io::Error::from(ErrorKind::Interrupted))
+}
+
+/// Makes last what a read of a file gives. If the file is in doubt, a sync alone would write nothing.
+pub fn make_last(alloc: Global, file: &impl SystemFile, is_doubted: bool) -> io::Result<()> {
+    if is_doubted {
+        write_again(alloc, file)?;
+    }
+    file.sync()
 }
 
 /// What has this name, if anything has.

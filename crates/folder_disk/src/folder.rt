@@ -4,8 +4,8 @@ ghost use Rattle.std.specs.Prelude.{◌≡◌, ◌<◌, ◌≤◌, ◌+◌, ◌^
 
 use crate::doubts::Doubts;
 use crate::files::{
-    ends_in_file, expect_named, lock, look_for, open_if_there, read_on, sync_name,
-    wants_descriptor, write_again,
+    ends_in_file, expect_named, lock, look_for, make_last, open_if_there, read_on, sync_name,
+    wants_descriptor,
 };
 use crate::system::{System, SystemFile};
 use std::alloc::{AllocError, Global};
@@ -257,14 +257,12 @@ impl<R: System + Drop> Folder<R> {
     /// Makes sure that the device has what a read of an open file gives. The system may hold bytes of it that it couldn't write, and
     /// tells so once: then they are written again, over themselves, since a second sync alone would write nothing.
     fn settle(&mut self, number: u32) -> io::Result<()> {
+        self.expect_lock()?;
         let is_doubted = self.is_doubted(number);
         let Some(handle) = self.handles.get_mut(&number) else {
             return Ok(());
         };
-        if is_doubted {
-            write_again(self.alloc, &handle.file)?;
-        }
-        let answer = handle.file.sync();
+        let answer = make_last(self.alloc, &handle.file, is_doubted);
         handle.is_changed = answer.is_err();
         self.doubt_failed(number, answer)?;
         self.settled.insert(number)?;
@@ -317,8 +315,9 @@ impl<R: System + Drop> Folder<R> {
         self.opened = 0;
     }
 
-    /// Removes a file that is open, if it still has its name.
+    /// Removes a file that is open, if it still has its name and this program the lock.
     fn remove(&mut self, number: u32) -> io::Result<()> {
+        self.expect_lock()?;
         let path = self.path_of(number)?;
         if let Some(handle) = self.handles.get(&number) {
             expect_named(&self.system, path.as_str(), &handle.file)?;
