@@ -301,6 +301,9 @@ fn write_next(alloc: Global, disk: &mut MemDisk, trouble: Trouble) -> Result<boo
 fn next_list_in(alloc: Global, trouble: Trouble) -> Result<(bool, [u32; 16]), Fail> {
     let mut disk = with_new_store(alloc)?;
     let written = write_next(alloc, &mut disk, trouble)?;
+    if disk.starved() > 0 {
+        return Err(Fail::from("no memory"));
+    }
     Ok((written, next_files(alloc, &disk)?))
 }
 

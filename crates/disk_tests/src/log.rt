@@ -585,6 +585,7 @@ fn a_fault_of_the_disk_is_told(rt: HostRuntime) -> Result<(), Fail> {
     disk.fail_at(Calls::of(vec![in rt.alloc(); 1]?));
     let told = scan(rt.alloc(), &mut disk, 2, 0).err();
     assert_eq!(rt; told, Some(LogError::Fault));
+    assert_eq!(rt; disk.starved(), 0);
     Ok(())
 }
 

@@ -232,7 +232,8 @@ fn ends(alloc: Global, what: Upset, end: End, reads: bool) -> Result<bool, Fail>
     let mut disk = MemDisk::empty(alloc);
     let ready = disk.upset(alloc, what);
     let (found, disk) = joined(alloc, disk);
-    Ok(ready && found == Some((end, reads)) && images_have_both(alloc, &disk)?)
+    let same = ready && found == Some((end, reads)) && disk.starved() == 0;
+    Ok(same && images_have_both(alloc, &disk)?)
 }
 
 // A new store is opened with fifteen calls. Each push makes four, each flush thirteen, and the look reads eight pages.

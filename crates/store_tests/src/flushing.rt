@@ -164,7 +164,8 @@ fn ends(alloc: Global, what: Upset, end: End, place: Place) -> Result<bool, Memo
     let mut disk = disk;
     let ready = disk.upset(alloc, what);
     let (found, disk) = flushed(alloc, disk);
-    Ok(pushed && ready && found == Some(end) && images_show(alloc, &disk, place)?)
+    let same = pushed && ready && found == Some(end) && disk.starved() == 0;
+    Ok(same && images_show(alloc, &disk, place)?)
 }
 
 // The opening makes nine calls: both slots are synced, measured and read, and the segment is synced and read in two.

@@ -187,6 +187,7 @@ fn an_opening_that_is_stopped_keeps_what_is_stored(rt: HostRuntime) -> Result<()
     let alloc = rt.alloc();
     for calls in 0..20 {
         let disk = stopped_opening(alloc, loose_file(alloc)?, calls);
+        assert_eq!(rt; disk.starved(), 0, "{calls} calls");
         for pick in 0..8 {
             assert!(rt; is_tidy(alloc, &disk, pick)?, "{calls} calls, pick {pick}");
             let pushes = pushes_in(alloc, &disk, pick)?;
@@ -201,6 +202,7 @@ fn a_new_store_that_is_stopped_is_empty(rt: HostRuntime) -> Result<(), Fail> {
     let alloc = rt.alloc();
     for calls in 0..16 {
         let disk = stopped_opening(alloc, MemDisk::empty(alloc), calls);
+        assert_eq!(rt; disk.starved(), 0, "{calls} calls");
         for pick in 0..8 {
             let pushes = pushes_in(alloc, &disk, pick)?;
             assert_eq!(rt; pushes, Some(0), "{calls} calls, pick {pick}");

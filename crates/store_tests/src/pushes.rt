@@ -54,8 +54,9 @@ fn answers_are(alloc: Global, what: Upset, answers: [Answer; 2], counts: [u64; 3
         Step::Pushes(counts[1]),
     ];
     let (same, disk) = played_upset(alloc, MemDisk::empty(alloc), what, &steps);
+    let had_room = disk.starved() == 0;
     let (found, _) = counted(alloc, disk);
-    same && found == Some(counts[2])
+    same && had_room && found == Some(counts[2])
 }
 
 #[test]
@@ -103,7 +104,7 @@ fn upset_push(alloc: Global, before: u64, what: Upset, answer: Answer) -> (bool,
     let count = before.min(1) as usize;
     let (begun, disk) = played(alloc, MemDisk::empty(alloc), &first[..count]);
     let (same, disk) = played_upset(alloc, disk, what, &[Step::Another(answer)]);
-    (begun && same, disk)
+    (begun && same && disk.starved() == 0, disk)
 }
 
 // Whether such a push is acknowledged or answers a fault, and the images have it so.
