@@ -120,6 +120,27 @@ fn a_file_in_doubt_is_written_again_once(rt: HostRuntime) -> Result<(), Fail> {
 }
 
 #[test]
+fn a_file_that_was_not_settled_is_settled_by_a_later_program(rt: HostRuntime) -> Result<(), Fail> {
+    let machine = Machine::new();
+    let mut first = disk_on(rt, &machine)?;
+    put(&mut first, 0, &[1])?;
+    put(&mut first, 1, &[2])?;
+    drop(first);
+    let mut second = disk_on(rt, &machine)?;
+    machine.failing_syncs.set(1);
+    assert!(rt; put(&mut second, 0, &[1]).is_err());
+    // After that failure the other file is written again too, which fails.
+    machine.failing_writes.set(1);
+    assert!(rt; second.len(1).is_err());
+    drop(second);
+    machine.writes.set(0);
+    let mut third = disk_on(rt, &machine)?;
+    assert!(rt; has(&mut third, 0, &[1])? && has(&mut third, 1, &[2])?);
+    assert_eq!(rt; machine.writes.get(), 2);
+    Ok(())
+}
+
+#[test]
 fn files_without_changes_are_closed_where_no_descriptor_is_left(
     rt: HostRuntime,
 ) -> Result<(), Fail> {
