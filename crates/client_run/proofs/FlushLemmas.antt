@@ -10,7 +10,7 @@ use Rattle.flusher.specs.Tasks.Task.{Fresh, Begun, Writing, Failing, Ended}
 use Rattle.store_model.specs.Event.{Event as event, Reply as reply}
 use Rattle.store_model.specs.Holds.{Hold, files_of, holds_after}
 use Rattle.store_model.specs.State.{is_among}
-use Rattle.store_state.specs.Given.{compact_of, info_files, flush_parts, compact_parts}
+use Rattle.store_state.specs.Given.{compact_of, flush_parts, compact_parts}
 use Rattle.store_state.specs.Made.{Call, call}
 use Rattle.store_state.specs.Meaning.{Meaning, IsOpen}
 use Rattle.store_state.specs.Replies.{write_refusal}

@@ -2,14 +2,13 @@
 use Rattle.std.proofs.Common.{◌≡◌, ℕ, ◌==◌, List, [], ◌∷◌, ◌++◌, Bool, true, false, Option, Some, None, map, refl, ◌∙◌, ap, append-nil, if◌then◌else◌}
 use Rattle.std.specs.Prelude.{◌||◌}
 use Rattle.std.proofs.lemmas.Bool.{eqb-true}
-use Rattle.span_types.specs.declared.spans.Row.{Row}
 use Rattle.store_model.specs.Event.{LookParts}
 use Rattle.store_model.specs.Event.Event.{WritePiece}
 use Rattle.store_model.specs.Event.Reply.{Fine, Refused}
 use Rattle.store_model.specs.Holds.{Hold, ends}
 use Rattle.store_model.specs.Holds.Hold.{OpenLook}
 use Rattle.store_model.specs.State.{is_among}
-use Rattle.store_state.specs.Given.{info_files, look_of, look_parts}
+use Rattle.store_state.specs.Given.{look_of, look_parts}
 use Rattle.store_state.specs.Made.{Call}
 use Rattle.store_state.specs.Replies.{write_refusal}
 use Rattle.store_state.specs.declared.errors.WriteError.{WriteError}

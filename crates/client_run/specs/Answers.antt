@@ -124,8 +124,8 @@ IsRequestAnswered request.Compact r calls = (round : Round) × (r ≡ compact_re
 IsRequestAnswered request.Reclaim r calls =
     (answer : Result ℕ ReclaimError) × (r ≡ reclaimed_reply answer) × (calls ≡ call event.Reclaim (reclaim_reply answer) ∷ [])
 
--- A query's answer is told of the history, before which others may have pushed to it. Neither a query nor a compaction finds that a
--- block is none.
+-- A query's answer is told of the history, to which others may have added entries before. Neither a query nor a compaction finds that
+-- a block is none.
 abbrev pub TellsHistory : History → Request → Reply → Type 0
 TellsHistory h (request.Trace id) r =
     (answer : Result TraceAnswer QueryError) × (r ≡ trace_reply answer) × Sound (TellsOf (IsTraceAnswer id) h) answer
