@@ -1,5 +1,5 @@
 -- Lists of rows with the same first occurrences, and histories that have them as their base.
-use Rattle.std.proofs.Common.{◌≡◌, ℕ, ◌+◌, ◌<◌, List, [], append-nil, arith, length, sym, ◌∙◌, ap, subst}
+use Rattle.std.proofs.Common.{◌≡◌, ℕ, ◌+◌, ◌<◌, List, [], arith, length, sym, ◌∙◌, subst}
 use Rattle.span_types.specs.declared.ids.TraceId.{TraceId}
 use Rattle.span_types.specs.declared.spans.Row.{Row}
 use Rattle.span_types.specs.First.{IsFirstOf, first_at}

@@ -1,7 +1,6 @@
 -- What the calls of a query make of the store's machine: nothing.
 use Rattle.std.proofs.Common.{◌≡◌, ℕ, ◌==◌, true, false, not, List, [], ◌∷◌, ◌++◌, refl, ◌∙◌, ap, if◌then◌else◌}
 use Rattle.std.specs.Prelude.{◌||◌}
-use Rattle.span_types.specs.declared.spans.Row.{Row}
 use Rattle.store_model.specs.Event.{LookParts}
 use Rattle.store_model.specs.State.{Block, Pinned, State, IsFreeNumber, is_among, pin_numbers, without_pin}
 use Rattle.store_model.specs.After.{after_done, after_look}

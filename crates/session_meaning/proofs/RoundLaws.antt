@@ -2,7 +2,6 @@
 use Rattle.std.proofs.Common.{◌≡◌, ◌⊎◌, inl, inr, ℕ, ◌≤◌, List, Option, Some, None, arith, option_map, refl, sym, ◌∙◌, ap, subst}
 use Rattle.std.specs.Prelude.{⊤, true}
 use Rattle.span_types.specs.Faults.{Rose}
-use Rattle.span_types.specs.declared.spans.Row.{Row}
 use Rattle.store_entries.specs.declared.entry.Entry.{Entry}
 use Rattle.store_model.specs.Choice.{choice}
 use Rattle.store_model.specs.Event.{Event as event, Reply as reply, Refusal as why, FlushParts, CompactParts}
@@ -106,7 +105,7 @@ pub asks_none : (e : event) → PushesNothing e → asked_entry e ≡ None
 asks_none (Push spans moment) none = absurd none
 asks_none _ none = refl
 
-no_push : (e : event) (r : reply) (h : History) → PushesNothing e → history_after e r h ≡ h
+pub no_push : (e : event) (r : reply) (h : History) → PushesNothing e → history_after e r h ≡ h
 no_push e (reply.Count n) h none = ap (λ (added : Option Entry). with_entry added h) (asks_none e none)
 no_push e _ h none = refl
 

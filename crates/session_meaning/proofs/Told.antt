@@ -7,7 +7,7 @@ use Rattle.session_text.specs.declared.reply.Reply.TheVariants.{Compacted, Cut, 
 use Rattle.session_text.specs.declared.request.Request.TheVariants as request
 use Rattle.session_text.specs.Items.{Item}
 use Rattle.store_entries.specs.declared.entry.Entry.{Entry}
-use Rattle.store_model.specs.Event.{Event as event}
+use Rattle.store_model.specs.Event.{Event as event, Reply as reply}
 use Rattle.store_model.specs.Event.Event.{BeginCompact, BeginFlush}
 use Rattle.store_model.specs.History.{History, count_of, grown}
 use Rattle.store_model.specs.Step.{Machine}
@@ -24,9 +24,9 @@ use Rattle.search_text.specs.Fields.{printed_fields}
 use Rattle.span_types.specs.declared.errors.Memory.{Memory}
 use Rattle.client_run.specs.Answers.{compact_reply, cut_reply, flush_reply, pushed_reply, reclaimed_reply, round_reply}
 use Rattle.session_meaning.specs.Pushes.{accepted_entry, accepted_entries, known_pushes}
-use Rattle.session_meaning.specs.At.{At, history_of}
+use Rattle.session_meaning.specs.At.{At, IsStep, history_of}
 use Rattle.session_meaning.specs.Session.{IsAnsweredOrRefused, Session}
-use Rattle.session_meaning.proofs.RoundLaws.{round_history}
+use Rattle.session_meaning.proofs.RoundLaws.{PushesNothing, no_push, round_history}
 use Rattle.session_meaning.proofs.RoundSteps.IsBegin.{OfCompaction, OfFlush}
 
 -- ---- the last history
@@ -48,6 +48,12 @@ history_grown before after more none same = same ∙ sym (same_grown (history_of
 still_grown : (before after : At) (more : List Entry) → more ≡ [] → after.machine ≡ before.machine → history_of after ≡ grown (history_of before) more
 still_grown before after more none same = history_grown before after more none (ap (λ (m : Machine). m.history) same)
 
+-- a call that pushes nothing
+called_grown : (before after : At) (e : event) (r : reply) (more : List Entry) → more ≡ [] → PushesNothing e → IsStep before e r after → history_of after ≡ grown (history_of before) more
+called_grown before after e r more none pushes step =
+    history_grown before after more none
+    ((step_tells before.faults after.faults before.machine after.machine e r step.1).0 ∙ no_push e r (history_of before) pushes)
+
 item_grows : (told : Bool) (item : Item) (before after : At) (r : Reply) → IsAnsweredOrRefused told item before r after
     → history_of after ≡ grown (history_of before) (accepted_entry item r)
 item_grows told (Ok (request.Push reading moment)) before after r (inl (answer, is, step)) =
@@ -60,12 +66,10 @@ item_grows told (Ok (request.Trace id)) before after r (inr (why, is, cause, sti
 item_grows told (Ok (request.Search s)) before after r (inl (results, found, is, still)) = still_grown before after (accepted_entry (Ok (request.Search s)) r) refl still.0
 item_grows told (Ok (request.Search s)) before after r (inr (why, is, cause, still)) = still_grown before after (accepted_entry (Ok (request.Search s)) r) refl still.0
 item_grows told (Ok (request.Cut moment)) before after r (inl (answer, is, step)) =
-    history_grown before after (accepted_entry (Ok (request.Cut moment)) r) refl
-    (step_tells before.faults after.faults before.machine after.machine (event.Cut moment) (count_reply answer) step.1).0
+    called_grown before after (event.Cut moment) (count_reply answer) (accepted_entry (Ok (request.Cut moment)) r) refl tt step
 item_grows told (Ok (request.Cut moment)) before after r (inr bad) = absurd bad
 item_grows told (Ok request.CutAll) before after r (inl (answer, is, step)) =
-    history_grown before after (accepted_entry (Ok request.CutAll) r) refl
-    (step_tells before.faults after.faults before.machine after.machine event.CutAll (count_reply answer) step.1).0
+    called_grown before after event.CutAll (count_reply answer) (accepted_entry (Ok request.CutAll) r) refl tt step
 item_grows told (Ok request.CutAll) before after r (inr bad) = absurd bad
 item_grows told (Ok request.Flush) before after r (inl (round, is, flushed)) =
     history_grown before after (accepted_entry (Ok request.Flush) r) refl (round_history BeginFlush OfFlush before round after flushed)
@@ -74,8 +78,7 @@ item_grows told (Ok request.Compact) before after r (inl (round, is, compacted))
     history_grown before after (accepted_entry (Ok request.Compact) r) refl (round_history BeginCompact OfCompaction before round after compacted.0)
 item_grows told (Ok request.Compact) before after r (inr bad) = absurd bad
 item_grows told (Ok request.Reclaim) before after r (inl (answer, is, step)) =
-    history_grown before after (accepted_entry (Ok request.Reclaim) r) refl
-    (step_tells before.faults after.faults before.machine after.machine event.Reclaim (reclaim_reply answer) step.1).0
+    called_grown before after event.Reclaim (reclaim_reply answer) (accepted_entry (Ok request.Reclaim) r) refl tt step
 item_grows told (Ok request.Reclaim) before after r (inr bad) = absurd bad
 item_grows told (Err why) before after r (inl (is, same)) = still_grown before after (accepted_entry (Err why) r) refl (ap (λ (at : At). at.machine) same)
 item_grows told (Err why) before after r (inr bad) = absurd bad

@@ -6,7 +6,6 @@ use Rattle.session_text.specs.declared.reply.Reply.{Reply}
 use Rattle.session_text.specs.declared.reply.Reply.TheVariants as told
 use Rattle.session_text.specs.declared.request.Request.TheVariants as request
 use Rattle.session_text.specs.Items.{Item}
-use Rattle.store_core.proofs.Quiet.{adds_none}
 use Rattle.store_entries.specs.declared.entry.Entry.{Entry}
 use Rattle.store_model.specs.Event.{Event, Reply as reply}
 use Rattle.store_model.specs.Event.Event.{Cut, CutAll, Push, Reclaim}
@@ -65,7 +64,8 @@ first_assoc None item r later = or_first item r later
 
 -- an event that pushes nothing leaves the entry as it was
 no_push_sure : (e : Event) (r : reply) (u : Unsure) → PushesNothing e → unsure_after e r u ≡ u
-no_push_sure e r u none = adds_none e (asks_none e none) r u
+no_push_sure e (Refused Fault) None none = asks_none e none
+no_push_sure e _ u none = refl
 
 -- `after` is what calls leave of the entry that isn't sure: one by one.
 module _ (after : List Call → Unsure → Unsure) (none : (u : Unsure) → after [] u ≡ u)

@@ -1,5 +1,5 @@
 -- What is stored, in what a run leaves and whenever it is stopped.
-use Rattle.std.specs.Prelude.{◌≡◌, ◌⊎◌, ℕ, List, [], Option, IsTrue}
+use Rattle.std.specs.Prelude.{◌≡◌, ◌⊎◌, ℕ, [], Option, IsTrue}
 use Rattle.span_types.specs.First.{IsFirstOf}
 use Rattle.disk_model.specs.Images.{Image}
 use Rattle.disk_model.specs.Crash.{Reached}
