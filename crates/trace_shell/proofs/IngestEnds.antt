@@ -1,6 +1,5 @@
 -- How an ingest ends, and what stands written then.
 use Rattle.std.proofs.Common.{◌≡◌, ◌⊎◌, inl, inr, ◌∙◌, ℕ, ◌<◌, Bool, true, false, List, [], ◌∷◌, ◌++◌, Option, Some, None, length, refl, sym, ap, subst, append_assoc, append-nil, if◌then◌else◌}
-use Rattle.std.specs.Prelude.{IfSome}
 use Rattle.std.specs.List.{list_any}
 use Rattle.disk_model.specs.declared.disk.Device.{Ghosts}
 use Rattle.io_edges.specs.Lines.{lines, taken_limit}
@@ -14,9 +13,9 @@ use Rattle.session_meaning.specs.Ingest.{Duty, at_the_end, duties, from_lines, k
 use Rattle.session_meaning.specs.Progress.{HasAnsweredOver, IngestsOver}
 use Rattle.session_meaning.specs.Runs.{IsLeft}
 use Rattle.session_meaning.proofs.SessionLaws.{over_then}
-use Rattle.session_meaning.specs.Session.{Ends, IsAllRead, IsCutOff, end_of, is_for_memory, is_refusal, reply_texts}
+use Rattle.session_meaning.specs.Session.{Ends, IsCutOff, is_for_memory, is_refusal, reply_texts}
 use Rattle.trace_shell.specs.Ingesting.{HasAsked, HasReadTo, HaveGiven, IsReadTo, IsStopped, Leaves, ended_by}
-use Rattle.trace_shell.specs.Turn.{CameByLines, HasGiven, ending_of, tally_with}
+use Rattle.trace_shell.specs.Turn.{CameByLines, HasGiven, tally_with}
 use Rattle.trace_shell.specs.declared.session.Tally.{Tally}
 use Rattle.trace_shell.proofs.AloneLemmas.{empty_tally}
 use Rattle.trace_shell.proofs.IngestLemmas.{asked_so, asked_then, leaves_so, leaves_then}

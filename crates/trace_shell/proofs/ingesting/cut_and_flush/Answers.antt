@@ -1,4 +1,4 @@
-use Rattle.std.proofs.Common.{◌++◌, ◌∷◌, sym}
+use Rattle.std.proofs.Common.{◌++◌, ◌∷◌}
 use Rattle.client_run.proofs.CallLemmas.{holds_kept}
 use Rattle.session_meaning.specs.Ingest.{ask as to_ask}
 use Rattle.session_text.specs.declared.request.Request.TheVariants.{CutAll, Flush}

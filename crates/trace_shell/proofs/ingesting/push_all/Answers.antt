@@ -1,4 +1,4 @@
-use Rattle.std.proofs.Common.{Some, arith, refl, subst}
+use Rattle.std.proofs.Common.{arith, subst}
 use Rattle.std.specs.Prelude.{◌≡◌, IfSome}
 use Rattle.client_run.proofs.CallLemmas.{holds_kept}
 use Rattle.io_edges.specs.Lines.{taken_limit}

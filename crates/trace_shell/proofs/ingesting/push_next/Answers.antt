@@ -1,4 +1,4 @@
-use Rattle.std.proofs.Common.{Err, Some, ap, inr, sym, subst, refl}
+use Rattle.std.proofs.Common.{Err, ap, inr, sym, subst, refl}
 use Rattle.std.specs.Prelude.{◌≡◌, IfSome}
 use Rattle.span_types.specs.Faults.{Rose}
 use Rattle.io_edges.specs.Lines.{taken_limit}
