@@ -226,7 +226,7 @@ fn is_free_beyond(alloc: Global, disk: &mut MemDisk) -> Result<bool, Fail> {
 fn left_by_a_failed_flush(alloc: Global, call: u64) -> Option<MemDisk> {
     let (pushed, disk) = with_push(alloc);
     let mut disk = disk;
-    let ready = disk.upset(alloc, Upset::Fails(OPENING + call));
+    let ready = disk.upset(alloc, Upset::Fails(OPENING.saturating_add(call)));
     let (found, disk) = flushed(alloc, disk);
     (pushed && ready && found == Some(FAILS)).then_some(disk)
 }
