@@ -1,5 +1,5 @@
 -- What calls that read a block answer.
-use Rattle.std.specs.Prelude.{◌≡◌, ℕ, Bool, IsTrue, List, Result, Ok, Err}
+use Rattle.std.specs.Prelude.{◌≡◌, ℕ, ◌+◌, ◌≤◌, Bool, true, false, IsTrue, List, Result, Ok, Err}
 use Rattle.span_types.specs.Faults.{Rose}
 use Rattle.block_read.specs.Files.{SameFiles}
 use Rattle.block_read.specs.declared.error.ReadError.{ReadError}
@@ -32,6 +32,18 @@ abbrev pub UnreadByFault : {X : Type 0} → ℕ → ℕ → Result X Unread → 
 UnreadByFault before now (Ok x) = Unit {0}
 UnreadByFault before now (Err unread.Fault) = Rose before now
 UnreadByFault before now (Err unread.Memory) = Unit {0}
+
+-- the count didn't fall, and rose by at most so much
+pub record RoseAtMost (count before now : ℕ) : Type 0 where
+  pub later : before ≤ now
+  pub at_most : now ≤ before + count
+
+-- a page could not be read
+abbrev pub is_fault : {X : Type 0} → Result X ReadError → Bool
+is_fault (Ok x) = false
+is_fault (Err Fault) = true
+is_fault (Err (NotBlock file at)) = false
+is_fault (Err Memory) = false
 
 -- Reads change nothing: it tells or it doesn't, as before, and where it tells, each file has the same bytes.
 pub record StaysSame {P : Type 0} (tells : P → Bool) (held : P → ℕ → List ℕ) (old new : P) : Type 0 where

@@ -3,3 +3,5 @@ pub mod Memory
 pub mod BlockReadings
 pub mod Answers
 pub mod Checks
+pub mod PageReads
+pub mod Lookups

@@ -1,4 +1,4 @@
-pub mod BlockReads
+pub mod Bounds
 pub mod Queries
 pub mod TraceAnswers
 pub mod Reading

@@ -1,16 +1,17 @@
 -- What a query makes of a port, and of which rows it tells.
-use Rattle.std.specs.Prelude.{◌≡◌, ◌⊎◌, ℕ, List, [], ◌∷◌, ◌++◌, Result, Ok, Err, IsTrue}
+use Rattle.std.specs.Prelude.{◌≡◌, ◌⊎◌, ℕ, Bool, true, false, List, [], ◌∷◌, ◌++◌, Result, Ok, Err, IsTrue}
 use Rattle.std.specs.List.{flat_map}
 use Rattle.span_types.specs.declared.spans.Row.{Row}
 use Rattle.block_info.specs.InfoParts.{InfoParts}
 use Rattle.store_entries.specs.declared.entry.Entry.{Entry}
 use Rattle.store_model.specs.Event.{LookParts}
+use Rattle.store_model.specs.Event.Event.{ReadPage}
 use Rattle.store_model.specs.Event.{Event as event, Reply as reply, Refusal as cause}
 use Rattle.store_model.specs.History.{History, count_of, grown, history_rows}
+use Rattle.store_model.specs.State.{is_among}
 use Rattle.store_state.specs.Given.{info_files}
 use Rattle.store_state.specs.Made.{Call, AreMade, call}
 use Rattle.store_state.specs.Meaning.{Meaning, View}
-use Rattle.query_fanout.specs.BlockReads.{ComesOf}
 use Rattle.query_fanout.specs.declared.error.QueryError.{QueryError}
 use Rattle.query_fanout.specs.declared.error.QueryError.TheVariants.{Fault, NotBlock, Memory}
 
@@ -37,14 +38,43 @@ parts_of look = record {
 abbrev pub look_call : Taken → Call
 look_call look = call event.Look (reply.Looked (parts_of look))
 
--- A query takes one look, reads the blocks that it pins, each page at most once, and gives the look back. It tells of the look's rows
--- and those of its blocks, as of the look's count, or why it can't. Where there is no memory for the look nothing else is done.
+-- a page that a query asked for could not be read
+abbrev pub is_fault : {A : Type 0} → Result A QueryError → Bool
+is_fault (Ok x) = false
+is_fault (Err Fault) = true
+is_fault (Err (NotBlock file at)) = false
+is_fault (Err Memory) = false
+
+-- Pages of these files were read through a pin, and each was given.
+abbrev pub AreReads : ℕ → List ℕ → List Call → Type 0
+AreReads pin files [] = Unit {0}
+AreReads pin files (c ∷ calls) =
+    ((file page : ℕ) × (bytes : List ℕ) × (is_among file files ≡ true) × (c ≡ call (ReadPage pin file page) (reply.Page bytes)))
+    × AreReads pin files calls
+
+-- The page reads of a query: each is given; or each but the last, which is refused.
+abbrev pub ReadsPages : ℕ → List ℕ → Bool → List Call → Type 0
+ReadsPages pin files false calls = AreReads pin files calls
+ReadsPages pin files true calls =
+    (reads : List Call) × (file page : ℕ) × AreReads pin files reads × (is_among file files ≡ true)
+    × (calls ≡ reads ++ call (ReadPage pin file page) (reply.Refused cause.Fault) ∷ [])
+
+-- What is told fits some rows more, of which there are none if no block is pinned; and a block that is found to be none is pinned.
+abbrev pub ComesOf : {A : Type 0} → (List Row → A → Type 0) → List InfoParts → Result A QueryError → Type 0
+ComesOf fits infos (Ok x) = (more : List Row) × (infos ≡ [] → more ≡ []) × fits more x
+ComesOf fits infos (Err Fault) = Unit {0}
+ComesOf fits infos (Err (NotBlock file at)) = is_among file (info_files infos) ≡ true
+ComesOf fits infos (Err Memory) = Unit {0}
+
+-- A query takes one look, reads pages of the blocks that it pins, and gives the look back. It tells of the look's rows and of some more,
+-- as of the look's count, or why it can't. If there is no memory for the look nothing else is done.
 abbrev pub IsAsked : {A : Type 0} → (ℕ → List Row → A → Type 0) → Result A QueryError → List Call → Type 0
 IsAsked tells r calls =
     ((calls ≡ call event.Look (reply.Refused cause.Memory) ∷ []) × (r ≡ Err Memory))
     ⊎ ((look : Taken) × (reads : List Call)
     × (calls ≡ look_call look ∷ (reads ++ call (event.Done look.pin) reply.Fine ∷ []))
-    × ComesOf (λ parts x. tells look.as_of (all_rows look.rows parts) x) look.pin look.blocks reads r)
+    × ReadsPages look.pin (info_files look.blocks) (is_fault r) reads
+    × ComesOf (λ more x. tells look.as_of (look.rows ++ more) x) look.blocks r)
 
 -- What is told fits, and no block is found to be none.
 abbrev pub Sound : {A : Type 0} → (A → Type 0) → Result A QueryError → Type 0

@@ -1,0 +1,12 @@
+-- How many pages a look-up may read.
+use Rattle.std.specs.Prelude.{ℕ, ◌+◌, List, [], ◌∷◌}
+use Rattle.span_types.specs.declared.ids.TraceId.{TraceId}
+use Rattle.span_types.specs.declared.spans.Row.{Row}
+use Rattle.block_info.specs.InfoParts.{InfoParts}
+use Rattle.block_read.specs.Lookups.{most_pages}
+
+-- what a look-up of a trace may read of blocks with these rows, one part for each block
+abbrev pub look_up_pages : TraceId → List InfoParts → List (List Row) → ℕ
+look_up_pages id [] parts = 0
+look_up_pages id (info ∷ infos) [] = 0
+look_up_pages id (info ∷ infos) (rows ∷ parts) = most_pages info id rows + look_up_pages id infos parts
