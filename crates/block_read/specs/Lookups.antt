@@ -31,3 +31,10 @@ Finds wanted (Ok x) = x ≡ wanted
 Finds wanted (Err Fault) = Unit {0}
 Finds wanted (Err (NotBlock file at)) = ⊥
 Finds wanted (Err Memory) = Unit {0}
+
+-- a block that is found to be none is the one in this file
+abbrev pub IsInFile : {A : Type 0} → ℕ → Result A ReadError → Type 0
+IsInFile block (Ok x) = Unit {0}
+IsInFile block (Err Fault) = Unit {0}
+IsInFile block (Err (NotBlock file at)) = file ≡ block
+IsInFile block (Err Memory) = Unit {0}

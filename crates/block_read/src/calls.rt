@@ -8,7 +8,9 @@ ghost use Rattle.span_fields.specs.Breaks.{Answers};
 ghost use Rattle.span_types.specs.declared.spans.Row.{Row};
 ghost use Rattle.block_format.specs.Blocks.{BlockHasInfo};
 ghost use Rattle.block_format.specs.Headers.{CanBeHeader};
-ghost use Rattle.block_read.specs.Answers.{AnswersOf, FailsByFault, StaysSame, made_of};
+ghost use Rattle.block_read.specs.Answers.{AnswersOf, FailsByFault, RoseAtMost, StaysSame, is_fault, made_of};
+ghost use Rattle.block_read.specs.Lookups.{Finds, IsInFile, most_pages};
+ghost use Rattle.block_read.specs.PageReads.{HasRead};
 ghost use Rattle.block_read.specs.BlockReadings.{block_at, info_read, listed_at};
 ghost use Rattle.block_read.specs.Files.{first_bytes};
 
@@ -50,7 +52,7 @@ fn read_block<P: Pages>(
     }
 }
 
-/// All rows of a block, in block order. It has as many pages as its information says, and as many reads are made.
+/// All rows of a block, in block order. It has as many pages as its information says, and each is read once.
 ///
 /// [`ReadError::NotBlock`] comes exactly where these pages are no block, at the first byte of the file where they are
 /// malformed.
@@ -60,20 +62,28 @@ pub fn all_rows<P: Pages>(
     block: u32,
     info: &BlockInfo,
 ) -> Result<Rows, ReadError>
+    requires { P.ready pages.old block }
     ensures answers { IsTrue (P.tells pages.old) → AnswersOf (λ x. x) block result
         (made_of (λ b. b.rows) (block_at (first_bytes (4096 * info.now.pages) (P.held pages.old block)))) }
+    ensures its_file { IsInFile block result }
+    ensures reads { RoseAtMost info.now.pages (P.reads pages.old) (P.reads pages.new) }
+    ensures read { HasRead P.went pages.old (is_fault result) pages.new }
+    ensures ready { (other : ℕ) → P.ready pages.old other → P.ready pages.new other }
+    ensures named { P.name pages.new ≡ P.name pages.old }
     ensures stays { StaysSame P.tells P.held pages.old pages.new }
     ensures later { P.faults pages.old ≤ P.faults pages.new }
     ensures cause { FailsByFault (P.faults pages.old) (P.faults pages.new) result }
-    ensures reads { MakesCalls info.now.pages (P.reads pages.old) (P.reads pages.new) result }
 {
     let found = read_block(alloc, pages, block, PAGE_BYTES * info.pages)?;
     Ok(found.rows)
 }
 
-/// The rows of a trace in a block, in block order. As many reads are made as it has pages.
+/// The rows of a trace in a block, in block order, by the block's filters, its index and the stripes that hold the trace.
 ///
-/// [`ReadError::NotBlock`] comes as in [`all_rows`].
+/// At most one page of the filters is read, as many of the index as the number of its pages has binary digits, and the
+/// pages of the stripes that hold the trace. [`ReadError::NotBlock`] comes only if the pages are no block that the
+/// information describes, at the first byte of the stripe's field that is malformed, or at 0 if the index names rows that
+/// no stripe has. Of pages that are no such block it may give any rows of the trace.
 pub fn trace_rows<P: Pages>(
     alloc: Global,
     pages: &mut P,
@@ -81,13 +91,20 @@ pub fn trace_rows<P: Pages>(
     info: &BlockInfo,
     id: TraceId,
 ) -> Result<Rows, ReadError>
-    ensures answers { IsTrue (P.tells pages.old) → AnswersOf (λ x. x) block result
-        (made_of (λ b. rows_of_trace id b.rows)
-        (block_at (first_bytes (4096 * info.now.pages) (P.held pages.old block)))) }
+    requires { P.ready pages.old block }
+    ensures answers { IsTrue (P.tells pages.old) → (rows : List Row)
+        → BlockHasInfo info.now (P.held pages.old block) rows → Finds (rows_of_trace id rows) result }
+    ensures of_trace { IfOk result (λ rows. rows_of_trace id rows ≡ rows) }
+    ensures reads { IsTrue (P.tells pages.old) → (rows : List Row)
+        → BlockHasInfo info.now (P.held pages.old block) rows
+        → RoseAtMost (most_pages info.now id rows) (P.reads pages.old) (P.reads pages.new) }
+    ensures its_file { IsInFile block result }
+    ensures read { HasRead P.went pages.old (is_fault result) pages.new }
+    ensures ready { (other : ℕ) → P.ready pages.old other → P.ready pages.new other }
+    ensures named { P.name pages.new ≡ P.name pages.old }
     ensures stays { StaysSame P.tells P.held pages.old pages.new }
     ensures later { P.faults pages.old ≤ P.faults pages.new }
     ensures cause { FailsByFault (P.faults pages.old) (P.faults pages.new) result }
-    ensures reads { MakesCalls info.now.pages (P.reads pages.old) (P.reads pages.new) result }
 {
     let found = read_block(alloc, pages, block, PAGE_BYTES * info.pages)?;
     match rows_of(alloc, found.rows.as_slice(), id) {

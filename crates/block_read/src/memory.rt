@@ -55,6 +55,12 @@ impl Pages for MemPages {
 
     ghost reads = { λ m. m.reads };
 
+    ghost ready = { λ m block. Unit {0} };
+
+    ghost went = { λ old read new. Unit {0} };
+
+    ghost name = { λ m. 0 };
+
     fn page(&mut self, block: u32, page: u64, buf: &mut [u8; 4096]) -> Result<(), Failed>
         ensures page { OnOk result (buf.new ≡ page_of (file_of self.old block) page) }
         ensures same_files { SameFiles (file_of self.old) (file_of self.new) }
