@@ -68,7 +68,7 @@ rtlib = types.SimpleNamespace(Crate=Crate, guarded=lambda: [], lock=lambda crate
 
 def main(verb, *words):
     if verb == "version":
-        print(os.environ.get("STUB_KIT", "rattle-kit-13f"))
+        print(os.environ.get("STUB_KIT", "rattle-kit-13b logic dac8208d650f15bf"))
     elif verb == "run":
         os.makedirs("out", exist_ok=True)
         with open("out/vurnda", "w", encoding="ascii") as file:

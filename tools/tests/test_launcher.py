@@ -139,16 +139,22 @@ class Launcher(unittest.TestCase):
         ran = self.run_it()
         self.assertEqual((ran.returncode, ran.stdout), (2, ""))
         self.assertTrue(ran.stderr.startswith("usage: "))
-        self.assertRegex(self.run_it("--version").stdout, r"^vurnda .+, proved with rattle-kit-13f\n$")
+        self.assertRegex(self.run_it("--version").stdout, r"^vurnda .+, proved with rattle-kit-13, logic [0-9a-f]{16}\n$")
         self.assertEqual(self.events(), [])
 
     def test_a_folder_may_be_named_like_an_option(self):
         self.assertEqual(self.run_it("./--help", "trace", "x").stdout, "./--help trace x\n")
 
     def test_another_kit_is_refused(self):
-        ran = self.run_it("store", "session", STUB_KIT="rattle-kit-9")
-        self.assertEqual((ran.returncode, self.events()), (126, []))
-        self.assertIn("rattle-kit-9", ran.stderr)
+        for other in ("rattle-kit-9 logic dac8208d650f15bf", "rattle-kit-13f logic 0000000000000000", "rattle-kit-13f"):
+            ran = self.run_it("store", "session", STUB_KIT=other)
+            self.assertEqual((ran.returncode, self.events()), (126, []))
+            self.assertIn(other, ran.stderr)
+
+    def test_kits_of_one_logic_are_one_kit(self):
+        for letter in "bf":
+            ran = self.run_it("store", "session", STUB_KIT=f"rattle-kit-13{letter} logic dac8208d650f15bf")
+            self.assertEqual(ran.returncode, 0)
 
     def test_without_a_kit(self):
         os.remove(f"{self.room}/bin/rt")
