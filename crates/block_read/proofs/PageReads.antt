@@ -5,7 +5,7 @@ use Rattle.std.specs.Prelude.{Bool, IsTrue}
 use Rattle.std.proofs.lemmas.List.{drop-drop}
 use Rattle.span_types.specs.Faults.{Rose}
 use Rattle.block_read.specs.Answers.{RoseAtMost, StaysSame}
-use Rattle.block_read.specs.Files.{first_bytes, page_of}
+use Rattle.block_read.specs.Files.{SameFiles, first_bytes, page_of}
 use Rattle.block_read.specs.PageReads.{AreRead, HasRead, OnlyReads, PageRead, page_read}
 use Rattle.block_read.proofs.PartLaws.{page_more}
 
@@ -56,15 +56,15 @@ same_then tells held a b c one two = record {
 
 are_read_then : {S : Type 0} (went : S → PageRead → S → Type 0) (reads more : List PageRead) (a b c : S) → AreRead went a reads b → AreRead went b more c → AreRead went a (reads ++ more) c
 are_read_then went [] more a b c one two = subst (λ s. AreRead went s more c) one two
-are_read_then went (r ∷ reads) more a b c one two = (one.0, (one.1, (one.2, (one.3, are_read_then went reads more one.0 b c one.4 two))))
+are_read_then went (r ∷ reads) more a b c one two = (one.0, one.1, one.2, one.3, are_read_then went reads more one.0 b c one.4 two)
 
 has_read_then : {S : Type 0} (went : S → PageRead → S → Type 0) (failed : Bool) (a b c : S) → HasRead went a false b → HasRead went b failed c → HasRead went a failed c
 has_read_then went false a b c one two = (one.0 ++ two.0, are_read_then went one.0 two.0 a b c one.1 two.1)
-has_read_then went true a b c one two = (one.0 ++ two.0, (two.1, (two.2, (are_read_then went one.0 two.0 a b two.2 one.1 two.3, (two.4, two.5)))))
+has_read_then went true a b c one two = (one.0 ++ two.0, two.1, two.2, are_read_then went one.0 two.0 a b two.2 one.1 two.3, two.4, two.5)
 
 module _ {S : Type 0} (tells : S → Bool) (held : S → ℕ → List ℕ) (faults : S → ℕ) (ready : S → ℕ → Type 0) (went : S → PageRead → S → Type 0) (name : S → ℕ) where
   pub none_read : (s : S) → OnlyReads tells held faults ready went name s false s
-  none_read s = record { read = ([], refl); still_ready = λ block is. is; named = refl; stays = same_first tells held s; later = omega arith; cause = λ failed. absurd failed }
+  none_read s = record { read = ([], refl); still_ready = λ block is. is; named = refl; stays = same_first tells held s; later = omega arith; cause = λ failed. cc }
 
   -- reads, and then others of which the last may fail
   pub read_then : (failed : Bool) (a b c : S) → OnlyReads tells held faults ready went name a false b → OnlyReads tells held faults ready went name b failed c → OnlyReads tells held faults ready went name a failed c
@@ -75,4 +75,26 @@ module _ {S : Type 0} (tells : S → Bool) (held : S → ℕ → List ℕ) (faul
     stays = same_then tells held a b c one.stays two.stays;
     later = let first = one.later in let second = two.later in omega (arith, first, second);
     cause = λ is. let first = one.later in let rose = two.cause is in omega (arith, first, rose);
+  }
+
+  pub one_given : (block page : ℕ) (bytes : List ℕ) (a b : S) → went a (record { block = block; page = page; bytes = Some bytes }) b → ((other : ℕ) → ready a other → ready b other) → name b ≡ name a → tells b ≡ tells a
+      → (IsTrue (tells a) → SameFiles (held a) (held b)) → faults a ≤ faults b → OnlyReads tells held faults ready went name a false b
+  one_given block page bytes a b goes still same telling files later = record {
+    read = (record { block = block; page = page; bytes = Some bytes } ∷ [], (b, bytes, refl, goes, refl));
+    still_ready = still;
+    named = same;
+    stays = record { telling = telling; same_files = files };
+    later = later;
+    cause = λ failed. cc;
+  }
+
+  pub one_failed : (block page : ℕ) (a b : S) → went a (record { block = block; page = page; bytes = None }) b → ((other : ℕ) → ready a other → ready b other) → name b ≡ name a → tells b ≡ tells a
+      → (IsTrue (tells a) → SameFiles (held a) (held b)) → faults a ≤ faults b → Rose (faults a) (faults b) → OnlyReads tells held faults ready went name a true b
+  one_failed block page a b goes still same telling files later rose = record {
+    read = ([], record { block = block; page = page; bytes = None }, a, refl, refl, goes);
+    still_ready = still;
+    named = same;
+    stays = record { telling = telling; same_files = files };
+    later = later;
+    cause = λ failed. rose;
   }
