@@ -1,12 +1,12 @@
 -- Pages that are read one after the other.
-use Rattle.std.proofs.Common.{◌≡◌, ℕ, ◌+◌, ◌-◌, ◌*◌, ◌<◌, ◌≤◌, min, List, [], ◌∷◌, ◌++◌, Result, Ok, Err, Some, None, true, false, take, drop, replicate, refl, sym, ap, subst, ◌∙◌, arith}
+use Rattle.std.proofs.Common.{◌≡◌, ℕ, ◌+◌, ◌-◌, ◌*◌, ◌<◌, ◌≤◌, min, List, [], ◌∷◌, ◌++◌, Some, None, true, false, take, drop, replicate, refl, sym, ap, subst, ◌∙◌, arith}
 use Rattle.std.specs.Int.{div_ceil}
 use Rattle.std.specs.Prelude.{Bool, IsTrue}
 use Rattle.std.proofs.lemmas.List.{drop-drop}
 use Rattle.span_types.specs.Faults.{Rose}
 use Rattle.block_read.specs.Answers.{RoseAtMost, StaysSame}
 use Rattle.block_read.specs.Files.{SameFiles, first_bytes, page_of}
-use Rattle.block_read.specs.PageReads.{AreRead, HasRead, OnlyReads, PageRead, page_read}
+use Rattle.block_read.specs.PageReads.{AreRead, HasRead, OnlyReads, PageRead}
 use Rattle.block_read.proofs.PartLaws.{page_more}
 
 -- ---- counts
