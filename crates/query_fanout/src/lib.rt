@@ -7,7 +7,7 @@
 
 mod blocks;
 mod error;
-mod pages;
+mod pinned;
 mod searching;
 mod trace;
 
