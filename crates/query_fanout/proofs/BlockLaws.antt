@@ -82,7 +82,7 @@ no_parts shows (p ∷ ps) are = absurd are
 
 -- ---- bounds
 
-add_low : (m n : ℕ) → m ≤ m + n
+add_low : (m n : ℕ) → 0 + m ≤ m + n
 add_low m n = omega arith
 
 add_both : (m a b c : ℕ) → a + b ≤ c → m + a + b ≤ m + c

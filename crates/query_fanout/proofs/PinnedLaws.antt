@@ -1,6 +1,9 @@
 -- What reads of pinned blocks make of a port.
 use Rattle.std.proofs.Common.{◌≡◌, ℕ, List, [], ◌∷◌, Bool, true, false, Option, Some, None, refl, sym, ◌∙◌, ap, subst, if◌then◌else◌}
 use Rattle.std.specs.Prelude.{IsTrue}
+use Rattle.span_types.specs.declared.spans.Row.{Row}
+use Rattle.block_info.specs.InfoParts.{InfoParts}
+use Rattle.block_format.specs.Blocks.{BlockHasInfo}
 use Rattle.block_read.specs.PageReads.{AreRead, HasRead, PageRead}
 use Rattle.store_model.specs.Event.{Reply as reply}
 use Rattle.store_model.specs.Event.Event.{ReadPage}
@@ -13,9 +16,15 @@ use Rattle.query_fanout.specs.Reading.{AsksPage, LookStays, PagesRead, given, sh
 use Rattle.query_fanout.proofs.CallLaws.{pages_none, pages_then, read_stays}
 
 -- a pinned block's file, as a source of pages shows it
-pub shown_here : {P : Type 0} (meaning : Meaning P) (look : Look) (port : P) (file : ℕ) → is_among file (info_files look.pin.blocks) ≡ true
+shown_here : {P : Type 0} (meaning : Meaning P) (look : Look) (port : P) (file : ℕ) → is_among file (info_files look.pin.blocks) ≡ true
     → shown meaning look port file ≡ meaning.shows port file
 shown_here meaning look port file among = ap (λ (b : Bool). if b then meaning.shows port file else []) among
+
+-- so what it holds is seen through that source
+pub holds_here : {P : Type 0} (meaning : Meaning P) (look : Look) (port : P) (info : InfoParts) (file : ℕ) (rows : List Row) → file ≡ info.file → is_among info.file (info_files look.pin.blocks) ≡ true
+    → BlockHasInfo info (meaning.shows port info.file) rows → BlockHasInfo info (shown meaning look port file) rows
+holds_here meaning look port info file rows its among has =
+    subst (λ (b : List ℕ). BlockHasInfo info b rows) (sym (ap (λ (f : ℕ). shown meaning look port f) its ∙ shown_here meaning look port info.file among)) has
 
 pub shown_stays : {P : Type 0} (meaning : Meaning P) (look : Look) (old new : P) → LookStays meaning (look_of look) old new → IsTrue (meaning.tells old)
     → (file : ℕ) → shown meaning look new file ≡ shown meaning look old file
