@@ -30,7 +30,7 @@ use Rattle.query_fanout.proofs.CallLaws.{pages_none, pages_then}
 
 -- ---- lists
 
-pub parted : (infos : List InfoParts) (n : ℕ) (info d : InfoParts) → n < length infos → info ≡ get_or infos n d → take n infos ++ info ∷ drop (n + 1) infos ≡ infos
+parted : (infos : List InfoParts) (n : ℕ) (info d : InfoParts) → n < length infos → info ≡ get_or infos n d → take n infos ++ info ∷ drop (n + 1) infos ≡ infos
 parted infos n info d low is =
     ap (λ (l : List InfoParts). take n infos ++ l) (ap (λ (i : InfoParts). i ∷ drop (n + 1) infos) is ∙ sym (drop_more infos n d low)) ∙ take-append-drop n infos
 
@@ -41,10 +41,25 @@ or_later : (b c : Bool) → c ≡ true → (b || c) ≡ true
 or_later true c e = refl
 or_later false c e = e
 
-pub among_at : (infos : List InfoParts) (n : ℕ) (d : InfoParts) → n < length infos → is_among (get_or infos n d).file (info_files infos) ≡ true
+among_at : (infos : List InfoParts) (n : ℕ) (d : InfoParts) → n < length infos → is_among (get_or infos n d).file (info_files infos) ≡ true
 among_at [] n d low = absurd (omega (arith, low))
 among_at (i ∷ is) zero d low = ap (λ (t : Bool). t || is_among i.file (info_files is)) (eq-eqb i.file i.file refl)
 among_at (i ∷ is) (suc n) d low = or_later (eqb i.file (get_or is n d).file) (is_among (get_or is n d).file (info_files is)) (among_at is n d (omega (arith, low)))
+
+-- the next block that a loop over them comes to
+pub record Next (infos : List InfoParts) (n : ℕ) (info : InfoParts) : Type 0 where
+  pub among : is_among info.file (info_files infos) ≡ true
+  pub front : take n infos ++ info ∷ [] ≡ take (n + 1) infos
+  pub whole : take n infos ++ info ∷ drop (n + 1) infos ≡ infos
+
+pub next_at : (infos seen : List InfoParts) (n : ℕ) (d info : InfoParts) → seen ≡ infos → d ≡ get_or seen n d → info ≡ d → n < length seen → Next infos n info
+next_at infos seen n d info same is got low =
+    let at : info ≡ get_or infos n d = got ∙ is ∙ ap (λ (l : List InfoParts). get_or l n d) same in
+    let below : n < length infos = subst (λ (l : List InfoParts). n < length l) same low in record {
+      among = ap (λ (i : InfoParts). is_among i.file (info_files infos)) at ∙ among_at infos n d below;
+      front = next_front infos n info d below at;
+      whole = parted infos n info d below at;
+    }
 
 not_none : (infos : List InfoParts) (file : ℕ) → is_among file (info_files infos) ≡ true → infos ≡ [] → ⊥
 not_none [] file among none = cc
