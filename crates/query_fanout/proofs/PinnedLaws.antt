@@ -5,7 +5,6 @@ use Rattle.span_types.specs.declared.spans.Row.{Row}
 use Rattle.block_info.specs.InfoParts.{InfoParts}
 use Rattle.block_format.specs.Blocks.{BlockHasInfo}
 use Rattle.block_read.specs.PageReads.{AreRead, HasRead, PageRead}
-use Rattle.store_model.specs.Event.{Reply as reply}
 use Rattle.store_model.specs.Event.Event.{ReadPage}
 use Rattle.store_model.specs.State.{is_among}
 use Rattle.store_state.specs.Given.{info_files, look_of}

@@ -1,5 +1,5 @@
 -- A search tells of the first occurrences of all rows.
-use Rattle.std.proofs.Common.{◌≡◌, List, ◌++◌, None, subst}
+use Rattle.std.proofs.Common.{List, ◌++◌, None, subst}
 use Rattle.span_types.specs.declared.spans.Row.{Row}
 use Rattle.span_types.proofs.FirstLaws.{firsts_alike}
 use Rattle.store_state.specs.declared.jobs.Look.{Look}

@@ -1,4 +1,4 @@
-use Rattle.std.proofs.Common.{◌≡◌, ℕ, List, [], ◌∷◌, Some, refl, rules, sym, ap, subst, ◌∙◌}
+use Rattle.std.proofs.Common.{◌≡◌, ℕ, [], ◌∷◌, Some, refl, rules, sym, ap, subst, ◌∙◌}
 use Rattle.span_types.specs.declared.ids.TraceId.{TraceId}
 use Rattle.block_read.specs.Answers.{RoseAtMost, is_fault}
 use Rattle.block_read.specs.Lookups.{IsInFile, most_pages}

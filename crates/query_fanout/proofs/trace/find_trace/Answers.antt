@@ -1,5 +1,4 @@
 use Rattle.std.proofs.Common.{Some}
-use Rattle.block_read.specs.Answers.{RoseAtMost}
 use Rattle.query_fanout.specs.Bounds.{look_up_pages}
 use Rattle.query_fanout.specs.TraceAnswers.{IsTraceAnswer}
 use Rattle.query_fanout.proofs.QueryLaws.{has_asked, is_open, not_looked, not_read, read_within, trace_tells_firsts}
