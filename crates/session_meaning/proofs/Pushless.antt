@@ -1,5 +1,5 @@
 -- Calls that push nothing.
-use Rattle.std.proofs.Common.{◌≡◌, List, [], ◌∷◌, ◌++◌, inl, inr, Result, ℕ, ◌+◌, Bool, true, false, sym, drop, subst}
+use Rattle.std.proofs.Common.{List, [], ◌∷◌, ◌++◌, inl, inr, Result, ℕ, ◌+◌, Bool, true, false, sym, drop, subst}
 use Rattle.std.specs.List.{AllByRecursion}
 use Rattle.span_types.specs.declared.spans.Row.{Row}
 use Rattle.compactor.specs.Rounds.{IsCompactRound, Leads as CompactLeads, Stage as CompactStage}
