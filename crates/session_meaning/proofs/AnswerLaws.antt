@@ -5,7 +5,7 @@ use Rattle.span_types.specs.declared.ids.TraceId.{TraceId}
 use Rattle.span_types.specs.declared.spans.Row.{Row}
 use Rattle.span_types.specs.declared.spans.Span.{Span}
 use Rattle.span_types.proofs.FirstLaws.{firsts_alike}
-use Rattle.query_fanout.specs.Queries.{Sound, TellsOf}
+use Rattle.query_fanout.specs.Queries.{Sound, TellsOf, is_fault}
 use Rattle.query_fanout.specs.SearchAnswers.{IsSearchAnswer}
 use Rattle.query_fanout.specs.TraceAnswers.{IsTraceAnswer}
 use Rattle.query_fanout.specs.declared.error.QueryError.{QueryError}
@@ -48,7 +48,7 @@ use Rattle.session_meaning.specs.Session.{IsAnswered, IsAnsweredOrRefused, IsSur
 use Rattle.session_meaning.specs.Upkeep.{IsClosed}
 use Rattle.session_meaning.proofs.CutLaws.{cut_closes, cuts_all, cuts_idle}
 use Rattle.session_meaning.proofs.Firsts.{trace_alike}
-use Rattle.session_meaning.proofs.QueryLaws.{Says, asked_says, told_exactly, unread_in}
+use Rattle.session_meaning.proofs.QueryLaws.{Says, asked_says, told_exactly}
 use Rattle.session_meaning.proofs.ReclaimLaws.{reclaim_closes}
 use Rattle.session_meaning.proofs.RoundLaws.{round_closes, round_keeps}
 use Rattle.session_meaning.proofs.RoundSteps.IsBegin.{OfCompaction, OfFlush}
@@ -85,7 +85,7 @@ refused : (told : Bool) (id : TraceId) (before after : At) (r : Reply) (why : Re
 refused told id before after r why is holds still = inr (why, is, holds, still)
 
 -- Whatever the blocks hold.
-trace_means : (id : TraceId) (before after : At) (r : Reply) (answer : Result TraceAnswer QueryError) → r ≡ trace_reply answer → IsUnchanged (unread_in answer) before after
+trace_means : (id : TraceId) (before after : At) (r : Reply) (answer : Result TraceAnswer QueryError) → r ≡ trace_reply answer → IsUnchanged (is_fault answer) before after
     → Says (IsTraceAnswer id) answer before after → IsAnsweredOrRefused false (Ok (request.Trace id)) before r after
 trace_means id before after r (Ok answer) is still (rows, same, tells) = traced false id before after r rows answer is still (unsure before same) tells
 trace_means id before after r (Err error.Fault) is still rose = refused false id before after r DiskFault is rose still
@@ -99,7 +99,7 @@ same_trace : (a b : TraceAnswer) → a.as_of ≡ b.as_of → a.rows ≡ b.rows �
 same_trace a b as_of rows = ap (λ (n : ℕ). record { as_of = n; rows = a.rows }) as_of ∙ ap (λ (rs : List Row). record { as_of = b.as_of; rows = rs }) rows
 
 -- Where what they hold is told.
-trace_told : (id : TraceId) (before after : At) (r : Reply) (answer other : Result TraceAnswer QueryError) → r ≡ trace_reply answer → IsUnchanged (unread_in answer) before after
+trace_told : (id : TraceId) (before after : At) (r : Reply) (answer other : Result TraceAnswer QueryError) → r ≡ trace_reply answer → IsUnchanged (is_fault answer) before after
     → Says (IsTraceAnswer id) answer before after → r ≡ trace_reply other → Sound (TellsOf (IsTraceAnswer id) (history_of before)) other
     → IsAnsweredOrRefused true (Ok (request.Trace id)) before r after
 trace_told id before after r (Ok answer) (Ok other) is still (rows, same, tells) also sound =
@@ -140,7 +140,7 @@ not_found : (told : Bool) (s : Search) (before after : At) (r : Reply) (why : Re
     → IsAnsweredOrRefused told (Ok (request.Search s)) before r after
 not_found told s before after r why is holds still = inr (why, is, holds, still)
 
-search_means : (s : Search) (before after : At) (r : Reply) (answer : Result SearchAnswer QueryError) → IsSearchTold (asked_of s) answer r → IsUnchanged (unread_in answer) before after
+search_means : (s : Search) (before after : At) (r : Reply) (answer : Result SearchAnswer QueryError) → IsSearchTold (asked_of s) answer r → IsUnchanged (is_fault answer) before after
     → Says (IsSearchAnswer (asked_of s)) answer before after → IsAnsweredOrRefused false (Ok (request.Search s)) before r after
 search_means s before after r (Ok answer) (inl is) still (rows, same, tells) = found false s before after r rows answer is still (unsure before same) tells
 search_means s before after r (Ok answer) (inr is) still says = not_found false s before after r Memory is tt still
@@ -157,7 +157,7 @@ same_search a b as_of results = ap (λ (n : ℕ). record { as_of = n; results = 
 not_refused : (as_of : ℕ) (fields : List (List ℕ)) (results : List TraceResult) (why : Refusal) → Searched as_of fields results ≡ Refused why → ⊥
 not_refused as_of fields results why e = cc
 
-search_told : (s : Search) (before after : At) (r : Reply) (answer other : Result SearchAnswer QueryError) → IsSearchTold (asked_of s) answer r → IsUnchanged (unread_in answer) before after
+search_told : (s : Search) (before after : At) (r : Reply) (answer other : Result SearchAnswer QueryError) → IsSearchTold (asked_of s) answer r → IsUnchanged (is_fault answer) before after
     → Says (IsSearchAnswer (asked_of s)) answer before after → IsSearchTold (asked_of s) other r → Sound (TellsOf (IsSearchAnswer (asked_of s)) (history_of before)) other
     → IsAnsweredOrRefused true (Ok (request.Search s)) before r after
 search_told s before after r (Ok answer) (Ok other) (inl is) still (rows, same, tells) (inl also) sound =

@@ -1,18 +1,17 @@
 -- Calls that push nothing.
-use Rattle.std.proofs.Common.{◌≡◌, List, [], ◌∷◌, ◌++◌, inl, inr, Result, Ok, Err, ℕ, ◌+◌, sym, drop, subst}
+use Rattle.std.proofs.Common.{List, [], ◌∷◌, ◌++◌, inl, inr, Result, ℕ, ◌+◌, Bool, true, false, sym, drop, subst}
 use Rattle.std.specs.List.{AllByRecursion}
 use Rattle.span_types.specs.declared.spans.Row.{Row}
-use Rattle.block_info.specs.InfoParts.{InfoParts}
 use Rattle.compactor.specs.Rounds.{IsCompactRound, Leads as CompactLeads, Stage as CompactStage}
 use Rattle.compactor.specs.Rounds.{Leads as joins, Stage as joining}
 use Rattle.flusher.specs.Rounds.{IsFlushRound, Leads, Stage}
 use Rattle.flusher.specs.Rounds.{Leads as leads, Stage as stage}
-use Rattle.query_fanout.specs.BlockReads.{AreRead, ComesOf, Stops, StopsAt, page_reads}
-use Rattle.query_fanout.specs.Queries.{IsAsked, all_rows}
+use Rattle.query_fanout.specs.Queries.{AreReads, IsAsked, ReadsPages, is_fault}
 use Rattle.query_fanout.specs.declared.error.QueryError.{QueryError}
-use Rattle.query_fanout.specs.declared.error.QueryError.TheVariants as error
-use Rattle.store_model.specs.Event.Event.{Done}
-use Rattle.store_model.specs.Event.Reply.{Fine}
+use Rattle.store_model.specs.Event.Event.{Done, ReadPage}
+use Rattle.store_model.specs.Event.Reply.{Fine, Refused}
+use Rattle.store_model.specs.Event.{Refusal as refusal}
+use Rattle.store_state.specs.Given.{info_files}
 use Rattle.store_state.specs.Made.{Call, call}
 use Rattle.store_state.specs.Rounds.{write_cause}
 use Rattle.store_state.specs.declared.rounds.Refusal.TheVariants.{Fault, Memory, NotBlock}
@@ -73,38 +72,17 @@ both : (front back : List Call) → AllPushNothing front → AllPushNothing back
 both [] back first second = second
 both (c ∷ front) back first second = (first.0, both front back first.1 second)
 
-these : (calls are : List Call) → calls ≡ are → AllPushNothing are → AllPushNothing calls
-these calls are is all = subst AllPushNothing (sym is) all
+reads_push_nothing : (pin : ℕ) (files : List ℕ) (calls : List Call) → AreReads pin files calls → AllPushNothing calls
+reads_push_nothing pin files [] none = tt
+reads_push_nothing pin files (c ∷ calls) ((file, page, bytes, among, is), rest) = (subst PushesNoBatch (sym is) tt, reads_push_nothing pin files calls rest)
 
-page_reads_push_nothing : (pin file from : ℕ) (pages : List (List ℕ)) → AllPushNothing (page_reads pin file from pages)
-page_reads_push_nothing pin file from [] = tt
-page_reads_push_nothing pin file from (page ∷ pages) = (tt, page_reads_push_nothing pin file (from + 1) pages)
-
-read_all : (pin : ℕ) (infos : List InfoParts) (parts : List (List Row)) (calls : List Call) → AreRead pin infos parts calls → AllPushNothing calls
-read_all pin [] [] calls none = these calls [] none tt
-read_all pin [] (rows ∷ parts) calls bad = absurd bad
-read_all pin (info ∷ infos) [] calls bad = absurd bad
-read_all pin (info ∷ infos) (rows ∷ parts) calls (now, later, one, rest, are) =
-    these calls (now ++ later) are (both now later (these now (page_reads pin info.file 0 one.pages) one.made (page_reads_push_nothing pin info.file 0 one.pages)) (read_all pin infos parts later rest))
-
-stops_last : (pin : ℕ) (info : InfoParts) (pages : List (List ℕ)) (last : List Call) (why : QueryError) → Stops pin info pages last why → AllPushNothing last
-stops_last pin info pages last error.Fault (less, are) = subst AllPushNothing (sym are) (tt, tt)
-stops_last pin info pages last (error.NotBlock file at) (its, whole, breaks, none) = these last [] none tt
-stops_last pin info pages last error.Memory none = these last [] none tt
-
-stops_at : (pin : ℕ) (infos : List InfoParts) (why : QueryError) (calls : List Call) → StopsAt pin infos why calls → AllPushNothing calls
-stops_at pin infos why calls is =
-    let w = is.stops in
-    these calls (is.before ++ is.last) is.made (both is.before is.last (read_all pin is.front is.parts is.before is.are_read)
-    (these is.last (page_reads pin is.at.file 0 w.pages ++ w.last) w.made
-    (both (page_reads pin is.at.file 0 w.pages) w.last (page_reads_push_nothing pin is.at.file 0 w.pages) (stops_last pin is.at w.pages w.last why w.stops))))
-
-comes : {A : Type 0} (fits : List (List Row) → A → Type 0) (pin : ℕ) (infos : List InfoParts) (calls : List Call) (r : Result A QueryError) → ComesOf fits pin infos calls r → AllPushNothing calls
-comes fits pin infos calls (Ok x) (parts, are, is) = read_all pin infos parts calls are
-comes fits pin infos calls (Err why) (inl stops) = stops_at pin infos why calls stops
-comes fits pin infos calls (Err why) (inr (parts, are, memory)) = read_all pin infos parts calls are
+pages_push_nothing : (pin : ℕ) (files : List ℕ) (failed : Bool) (calls : List Call) → ReadsPages pin files failed calls → AllPushNothing calls
+pages_push_nothing pin files false calls are = reads_push_nothing pin files calls are
+pages_push_nothing pin files true calls (reads, file, page, are, among, is) =
+    subst AllPushNothing (sym is) (both reads (call (ReadPage pin file page) (Refused refusal.Fault) ∷ []) (reads_push_nothing pin files reads are) (tt, tt))
 
 pub query_pushes_nothing : {A : Type 0} (tells : ℕ → List Row → A → Type 0) (r : Result A QueryError) (calls : List Call) → IsAsked tells r calls → AllPushNothing calls
 query_pushes_nothing tells r calls (inl (are, memory)) = subst AllPushNothing (sym are) (tt, tt)
-query_pushes_nothing tells r calls (inr (look, reads, are, how)) =
-    subst AllPushNothing (sym are) (tt, both reads (call (Done look.pin) Fine ∷ []) (comes (λ parts x. tells look.as_of (all_rows look.rows parts) x) look.pin look.blocks reads r how) (tt, tt))
+query_pushes_nothing tells r calls (inr (look, reads, are, pages, comes)) =
+    subst AllPushNothing (sym are)
+    (tt, both reads (call (Done look.pin) Fine ∷ []) (pages_push_nothing look.pin (info_files look.blocks) (is_fault r) reads pages) (tt, tt))
