@@ -9,7 +9,7 @@ use Rattle.disk_model.specs.Calls.{Counts}
 use Rattle.disk_model.specs.Images.{bytes_of}
 use Rattle.disk_model.specs.Crash.{Untouched, Run}
 use Rattle.disk_model.specs.declared.disk.Device.{Ghosts}
-use Rattle.disk_model.proofs.Runs.{run_untouched}
+use Rattle.disk_model.proofs.Runs.{run_untouched, untouched_same}
 use Rattle.store_model.specs.Event.{Reply}
 use Rattle.store_model.specs.Event.Event.{ReadPage}
 use Rattle.store_model.specs.Event.Reply.{Page, Refused}
@@ -28,10 +28,11 @@ use Rattle.store_core.proofs.Now.{FramesMoved, StandsNow}
 use Rattle.store_core.specs.Events.{Did}
 use Rattle.store_core.specs.Files.{read_over}
 use Rattle.store_core.proofs.Apart.{below_same, settled_below}
-use Rattle.store_core.proofs.Counted.{Counted, counted_fine, counted_fault, counted_rose}
+use Rattle.store_core.proofs.Counted.{Counted, counted_none, counted_fine, counted_fault, counted_rose}
 use Rattle.store_core.proofs.Kept.{stands_kept, did_kept, described_below}
 use Rattle.store_core.proofs.Logged.{logged_kept}
 use Rattle.store_core.proofs.OpenJobs.{fresh_moved}
+use Rattle.store_core.proofs.PushEvents.{OnlyNow}
 use Rattle.store_core.proofs.Quiet.{none_begun, adds_none}
 
 -- ---- the bytes
@@ -126,3 +127,10 @@ module _ {D : Type 0} (g : Ghosts D) (old : Core D) (disk : D) (pin block page :
       → Did g old (ReadPage pin block page) (page_reply bytes result) (record old { disk = disk; cache = frames })
   page_done (Ok u) bytes its run = did_page bytes its (counted_fine g old.disk disk 0 0 (λ low. low) _ _ run refl (Page bytes) (λ is. let bad : Page bytes ≡ Refused Fault = is in absurd cc))
   page_done (Err e) bytes its run = no_page (counted_fault g old.disk disk 0 0 (λ low. low) _ _ run refl)
+
+-- A page that is answered without a call of the disk.
+pub page_here : {D : Type 0} (g : Ghosts D) (only_now : OnlyNow g) (old : Core D) (pin block page : ℕ) (frames : List Frame) (moved : FramesMoved g old frames) (bytes : List ℕ)
+    → (IsTrue (g.tells old.disk) → bytes ≡ page_of (bytes_of (g.held old.disk) block) page) → Did g old (ReadPage pin block page) (Page bytes) (record old { cache = frames })
+page_here g only_now old pin block page frames moved bytes its =
+    did_page g old old.disk pin block page (untouched_same g.tells g.held g.may_leave g.moment g.left_since old.disk (only_now old.disk)) (omega arith, omega arith) (omega arith, omega arith)
+    frames moved bytes its (counted_none g 0 (Page bytes) old.disk (λ is. let bad : Page bytes ≡ Refused Fault = is in absurd cc))
