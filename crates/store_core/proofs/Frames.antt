@@ -1,5 +1,5 @@
 -- What an event, and a page read, make of the frames.
-use Rattle.std.proofs.Common.{◌≡◌, ℕ, List, [], ◌∷◌, ◌++◌, Option, None, Some, IfSome, true, sym, ◌∙◌, ap, subst}
+use Rattle.std.proofs.Common.{◌≡◌, ℕ, List, [], ◌∷◌, ◌++◌, None, Some, IfSome, sym, ◌∙◌, ap, subst}
 use Rattle.std.specs.Prelude.{replicate, zero, suc}
 use Rattle.std.specs.List.{AllByRecursion}
 use Rattle.disk_model.specs.Images.{Image, bytes_of}

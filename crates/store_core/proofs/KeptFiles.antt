@@ -1,8 +1,8 @@
 -- A file that is listed or pinned has its use as a block's or as a loose one, and no other.
-use Rattle.std.proofs.Common.{◌≡◌, inl, inr, ℕ, ◌+◌, ◌<◌, ◌≤◌, Bool, true, false, not, ap, sym, subst, arith}
+use Rattle.std.proofs.Common.{◌≡◌, inl, inr, ℕ, ◌+◌, ◌<◌, ◌≤◌, true, false, not, ap, sym, subst, arith}
 use Rattle.std.proofs.lemmas.Bool.{cases_lt}
 use Rattle.store_model.specs.State.{State, block_files, segment_files, flush_files, compaction_files, open_files, pinned_files, pinned_blocks, free_files, is_among}
-use Rattle.store_model.specs.Sound.{times, uses, StateIsSound}
+use Rattle.store_model.specs.Sound.{times, StateIsSound}
 use Rattle.store_model.specs.Step.{Machine}
 use Rattle.store_model.proofs.Numbers.{times-append, named, among as is_named, not_among, fewer_left}
 use Rattle.store_core.specs.Cores.{HasState}

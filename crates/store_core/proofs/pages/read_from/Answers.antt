@@ -1,4 +1,4 @@
-use Rattle.std.proofs.Common.{ℕ, List, refl, ◌∙◌}
+use Rattle.std.proofs.Common.{refl, ◌∙◌}
 use Rattle.disk_model.specs.Images.{bytes_of}
 use Rattle.store_core.proofs.Apart.{ok_then}
 use Rattle.store_core.proofs.PageEvents.{page_is}
