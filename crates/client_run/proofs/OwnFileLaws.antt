@@ -83,5 +83,5 @@ apart_in m flush file mine sound is_open its is =
 pub own_files : {D : Type 0} (g : Ghosts D) (core : Core D) → HaveOwnFiles (port_of g) core
 own_files g core mine other (held, holds, there) (others, shown, here) =
     let flush = holds.open_holds _ there in
-    let same = same_flush core.state.jobs.flush holds.machine.state.flush shown.machine.state.flush flush.job holds.shown.has.flush shown.shown.has.flush flush.is_open in
+    let same = same_flush core.state.jobs.flush holds.machine.state.flush shown.machine.state.flush flush.job holds.shown.state.has.flush shown.shown.state.has.flush flush.is_open in
     apart_in shown.machine same.0 mine.file other shown.sound same.1 (same.2 ∙ flush.its_file) (shown.open_holds _ here)

@@ -100,14 +100,14 @@ module _ {D : Type 0} (g : Ghosts D) where
   pub shown_means : (items : List Item) (replies : List Reply) (first last : Core D) (m : Machine) → CoreShows g first m → AreAnsweredOver (port_of g) first items replies last
       → (m' : Machine) × CoreShows g last m' × Session false (at_core g first m) items replies (at_core g last m')
   shown_means = over_means (CoreShows g) (shows_stepped g) false
-      (λ old new m item reply shows is h. item_means item (at_core g old m) (at_core g new h.machine) reply h.calls shows.agrees h.answered h.lead)
+      (λ old new m item reply shows is h. item_means item (at_core g old m) (at_core g new h.machine) reply h.calls shows.state.agrees h.answered h.lead)
 
   pub shown_ingests : (todo : List Duty) (moments : Option (List ℕ)) (items : List Item) (replies : List Reply) (first last : Core D) (m : Machine) (left : List Duty) (to_tell : Option (List ℕ))
       → CoreShows g first m → IngestsOver g todo moments first items replies last left to_tell
       → (m' : Machine) × CoreShows g last m' × Ingests false todo moments (at_core g first m) items replies (at_core g last m') left to_tell
   shown_ingests = ingest_means (CoreShows g) (shows_stepped g) false
-      (λ old new m item reply shows is h. item_means item (at_core g old m) (at_core g new h.machine) reply h.calls shows.agrees h.answered h.lead)
-      (λ core m shows. held_shown core m shows.has)
+      (λ old new m item reply shows is h. item_means item (at_core g old m) (at_core g new h.machine) reply h.calls shows.state.agrees h.answered h.lead)
+      (λ core m shows. held_shown core m shows.state.has)
 
   -- ---- where what the blocks hold is told
 

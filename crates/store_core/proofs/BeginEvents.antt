@@ -38,7 +38,7 @@ use Rattle.store_core.specs.declared.jobs.OpenFlush.{OpenFlush}
 use Rattle.store_core.specs.declared.room.CommitRoom.{CommitRoom}
 use Rattle.store_core.specs.declared.state.CoreState.{CoreState}
 use Rattle.store_core.specs.declared.store.Core.{Core}
-use Rattle.store_core.specs.Cores.{HasState, StandsFor, CoreShows, AreDescribed, listed_as, tail_of}
+use Rattle.store_core.specs.Cores.{HasState, StandsFor, StateShows, AreDescribed, listed_as, tail_of}
 use Rattle.store_core.proofs.Now.{StandsNow}
 use Rattle.store_core.specs.Events.{Did}
 use Rattle.store_core.specs.Beginning.{KeepsRooms, unless_rows}
@@ -49,6 +49,8 @@ use Rattle.store_core.proofs.InUse.{used_begun}
 use Rattle.store_core.proofs.Logged.{logged_kept}
 use Rattle.store_core.proofs.JobRooms.{RoomOfFlush, RoomOfCompaction, SpareFlush, rooms_fewer, two_at_most, flush_shown, compaction_shown, flush_none, spare_compaction_file, low_level}
 use Rattle.store_core.proofs.NoJobs.{no_segment}
+use Rattle.store_core.specs.Frames.{IsKept}
+use Rattle.store_core.proofs.KeptFiles.{kept_low}
 use Rattle.store_core.proofs.OpenJobs.{held_low}
 use Rattle.store_core.proofs.PushEvents.{OnlyNow, refused_is}
 use Rattle.store_core.proofs.Quiet.{quiet, none_begun, one_begun, adds_none}
@@ -275,9 +277,15 @@ module _ {D : Type 0} (g : Ghosts D) (old : Core D) (disk : D) (files : FlushFil
   same_held : IsTrue (g.tells old.disk) → (m : Machine) → HasState old.state m → SameBelow limit (g.held old.disk) (g.held disk)
   same_held told m has = λ f under. let given = has.jobs.given in others told f (λ is. omega (arith, is, given, block, under)) (λ is. omega (arith, is, given, segment, under))
 
-  stay : IsTrue (g.tells old.disk) → (m : Machine) → CoreShows g old m → (hold : Hold) → OpenIn m hold → (file : ℕ) → is_among file (files_of hold) ≡ true → bytes_of (g.held disk) file ≡ bytes_of (g.held old.disk) file
+  stay : IsTrue (g.tells old.disk) → (m : Machine) → StateShows g old m → (hold : Hold) → OpenIn m hold → (file : ℕ) → is_among file (files_of hold) ≡ true → bytes_of (g.held disk) file ≡ bytes_of (g.held old.disk) file
   stay told m s hold is_open file among =
       let under = held_low m hold s.sound is_open file among in
+      let next = s.has.next_file in
+      others told file (λ is. omega (arith, is, block, under, next)) (λ is. omega (arith, is, segment, under, next))
+
+  kept_stay : IsTrue (g.tells old.disk) → (m : Machine) → StateShows g old m → (file : ℕ) → IsKept file m.state → bytes_of (g.held disk) file ≡ bytes_of (g.held old.disk) file
+  kept_stay told m s file is =
+      let under = kept_low m.state s.sound file is in
       let next = s.has.next_file in
       others told file (λ is. omega (arith, is, block, under, next)) (λ is. omega (arith, is, segment, under, next))
 
@@ -313,7 +321,7 @@ module _ {D : Type 0} (g : Ghosts D) (old : Core D) (disk : D) (files : FlushFil
         → (IsTrue (g.tells old.disk) → ((first : ℕ) → SegmentHolds first [] 1 (bytes_of (g.held disk) files.segment)) × OnlyBytes files.segment (bytes_of (g.held disk) files.segment) (g.may_leave disk))
         → Did g old BeginFlush (Flushing (record { number = jobs.begun; file = files.block; rows = rows })) (record old { disk = disk; state = record old.state { live = live; infos = infos; jobs = jobs } })
     did_begin fine empty fresh =
-        did_kept g old disk (record old.state { live = live; infos = infos; jobs = jobs }) BeginFlush (Flushing (record { number = jobs.begun; file = files.block; rows = rows }))
+        did_kept g old disk old.cache (λ m s fits. fits) (record old.state { live = live; infos = infos; jobs = jobs }) BeginFlush (Flushing (record { number = jobs.begun; file = files.block; rows = rows }))
         (calls_fine g old.disk disk 5 2 0 (λ low. omega arith) result made fine (Flushing (record { number = jobs.begun; file = files.block; rows = rows })) (λ is. let bad : Flushing (record { number = jobs.begun; file = files.block; rows = rows }) ≡ Refused Fault = is in absurd cc))
         run_keeps refl refl
         (λ m s.
@@ -329,7 +337,7 @@ module _ {D : Type 0} (g : Ghosts D) (old : Core D) (disk : D) (files : FlushFil
           after ⊥ ⊥ (λ bad. bad) (λ bad. absurd bad) m s step (λ bad. absurd bad) (λ bad. absurd bad),
           step,
         ))
-        (λ told m s hold is_open stays f among. stay told m s hold is_open f among)
+        (λ told m s hold is_open stays f among. stay told m s hold is_open f among) kept_stay
         (λ told f among. one_begun files.block f (IsEmptied (g.held disk) (g.may_leave disk)) (empty told) among) (λ told. tt) (λ shows h. tt)
         (calls_exact g old.disk disk 5 2 0 (λ low. omega arith) result made fine) (calls_unread g old.disk disk 5 2 0 (λ low. omega arith) result made)
       where
@@ -350,7 +358,7 @@ module _ {D : Type 0} (g : Ghosts D) (old : Core D) (disk : D) (files : FlushFil
   did_begin_fail live infos jobs faults counted err kept rows =
       let rose = calls_rose g old.disk disk 5 2 0 (λ low. omega arith) result made err in
       subst (λ (n : ℕ). Did g old BeginFlush (Refused Fault) (record old { disk = disk; state = record old.state { live = live; infos = infos; jobs = jobs; read_only = Some n } })) (sym counted)
-      (did_kept g old disk (record old.state { live = live; infos = infos; jobs = jobs; read_only = Some (g.faults disk) }) BeginFlush (Refused Fault) (calls_fault g old.disk disk 5 2 0 (λ low. omega arith) result made err) run_keeps refl (adds_none BeginFlush refl (Refused Fault) _)
+      (did_kept g old disk old.cache (λ m s fits. fits) (record old.state { live = live; infos = infos; jobs = jobs; read_only = Some (g.faults disk) }) BeginFlush (Refused Fault) (calls_fault g old.disk disk 5 2 0 (λ low. omega arith) result made err) run_keeps refl (adds_none BeginFlush refl (Refused Fault) _)
       (λ m s. (
         broken (g.faults disk) m,
         stands_kept (IsTrue (g.tells old.disk)) (IsTrue (g.tells disk)) (g.held old.disk) (g.held disk) (g.may_leave old.disk) (g.may_leave disk) old.state (record old.state { live = live; infos = infos; jobs = jobs; read_only = Some (g.faults disk) }) m (broken (g.faults disk) m)
@@ -368,7 +376,7 @@ module _ {D : Type 0} (g : Ghosts D) (old : Core D) (disk : D) (files : FlushFil
             (λ bad. absurd bad) (λ bad. absurd bad) (λ bad. absurd bad) (λ is. absurd (let bad : Some (g.faults disk) ≡ None = is in cc)) (λ bad. absurd bad) (λ bad. absurd bad),
         Breaks (free m s.has) refl refl rose refl,
       ))
-      (λ told m s hold is_open stays f among. stay told m s hold is_open f among)
+      (λ told m s hold is_open stays f among. stay told m s hold is_open f among) kept_stay
       (λ told f among. none_begun (Refused Fault) f _ refl among) (λ told. tt) (λ shows h. tt)
       (calls_most g old.disk disk 5 2 0 (λ low. omega arith) result made) (calls_unread g old.disk disk 5 2 0 (λ low. omega arith) result made))
     where

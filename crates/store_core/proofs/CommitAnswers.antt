@@ -24,7 +24,7 @@ use Rattle.store_core.specs.NextList.{IsNextList, length_of, next_floor}
 use Rattle.store_core.specs.declared.jobs.OpenFlush.{OpenFlush}
 use Rattle.store_core.specs.declared.state.CoreState.{CoreState}
 use Rattle.store_core.specs.declared.store.Core.{Core}
-use Rattle.store_core.specs.Cores.{HasState, CoreShows, unsure_of}
+use Rattle.store_core.specs.Cores.{HasState, StateShows, unsure_of}
 use Rattle.store_core.specs.Events.{Did}
 use Rattle.store_model.proofs.FirstsExist.{firsts_exist}
 use Rattle.store_core.proofs.CommitEnds.{IsDecided, true_or_not}
@@ -58,7 +58,7 @@ flush_here core m0 m number file rows its is has = open_here core m0 m number fi
 pub rows_here : (core : CoreState) (m0 : Machine) (number file : ℕ) (rows : List Row) → HasState core m0 → IsOpenFlush m0 (record { number = number; file = file; rows = rows }) → core.live.flushing ≡ rows
 rows_here core m0 number file rows its is = its.flushing ∙ ap flush_rows is.is_open ∙ is.its_rows
 
-module _ {D : Type 0} (g : Ghosts D) (old : Core D) (m0 : Machine) (s0 : CoreShows g old m0) (number file : ℕ) (rows : List Row) (is : IsOpenFlush m0 (record { number = number; file = file; rows = rows })) (info : InfoParts)
+module _ {D : Type 0} (g : Ghosts D) (old : Core D) (m0 : Machine) (s0 : StateShows g old m0) (number file : ℕ) (rows : List Row) (is : IsOpenFlush m0 (record { number = number; file = file; rows = rows })) (info : InfoParts)
     (writes : old.state.read_only ≡ None) (size : (1 ≤ info.rows) × (info.rows ≤ 1048576)) (names : NamesJob file 0 info) (block : IsTrue (g.tells old.disk) → IsBlockOf (bytes_of (g.held old.disk) file) info rows) where
   abbrev found : FlushFirsts (IsTrue (g.tells old.disk)) (bytes_of (g.held old.disk) file) info rows
   found = flush_firsts (IsTrue (g.tells old.disk)) (bytes_of (g.held old.disk) file) info rows (true_or_not (g.tells old.disk)) block

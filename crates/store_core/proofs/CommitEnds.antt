@@ -30,7 +30,7 @@ use Rattle.store_core.specs.Jobs.{HasFreshSegment}
 use Rattle.store_core.specs.Waiting.{rows_outside, AreLogged}
 use Rattle.store_core.specs.declared.state.CoreState.{CoreState}
 use Rattle.store_core.specs.declared.store.Core.{Core}
-use Rattle.store_core.specs.Cores.{HasState, StandsFor, CoreShows, AreDescribed, tail_of, unsure_of}
+use Rattle.store_core.specs.Cores.{HasState, StandsFor, StateShows, AreDescribed, tail_of, unsure_of}
 use Rattle.store_core.specs.Events.{Did, Between, end_of}
 use Rattle.store_core.proofs.Counted.{counted_fine, counted_fault, counts_short, calls_exact, rose_then}
 use Rattle.store_core.proofs.Now.{did_since}
@@ -38,6 +38,7 @@ use Rattle.store_core.proofs.CommitEvents.{IsCommit}
 use Rattle.store_core.proofs.CommitRuns.{Synced, Ran, MayList, stands_since, stands_now, tidy_since}
 use Rattle.store_core.proofs.Described.{described_same}
 use Rattle.store_core.proofs.HeldFiles.{held_used}
+use Rattle.store_core.proofs.KeptFiles.{kept_high}
 use Rattle.store_core.proofs.PushEvents.{OnlyNow}
 use Rattle.store_core.proofs.Quiet.{none_begun}
 
@@ -135,7 +136,7 @@ module _ {D : Type 0} (g : Ghosts D) (only_now : OnlyNow g) (old : Core D) (mid 
   telling : g.tells disk ≡ g.tells old.disk
   telling = ran.telling ∙ synced.telling
 
-  held_same : IsTrue (g.tells old.disk) → (m : Machine) → CoreShows g old m → (hold : Hold) → OpenIn m hold → (f : ℕ) → is_among f (hold_files hold) ≡ true → bytes_of (g.held disk) f ≡ bytes_of (g.held old.disk) f
+  held_same : IsTrue (g.tells old.disk) → (m : Machine) → StateShows g old m → (hold : Hold) → OpenIn m hold → (f : ℕ) → is_among f (hold_files hold) ≡ true → bytes_of (g.held disk) f ≡ bytes_of (g.held old.disk) f
   held_same told m s hold is_open f among = elim (cases_lt f 2) [
     | inl low ↦ absurd (let used = held_used m hold s.sound is_open f among in let none = s.sound.files.slots f low in omega (arith, used, none))
     | inr least ↦ same_file told f least
@@ -154,7 +155,7 @@ module _ {D : Type 0} (g : Ghosts D) (only_now : OnlyNow g) (old : Core D) (mid 
   pub did_committed : IsOk result → (later : CoreState) → unsure_of later ≡ unsure_of old.state
       → ((told : Type 0) → (tells : told → IsTrue (g.tells old.disk)) → (decided : IsDecided told) → (m : Machine) → (s : StandsFor told (g.held old.disk) (g.may_leave old.disk) old.state m) → Takes told (g.held disk) (g.may_leave disk) later (with_state (lists told tells decided m s).after m))
       → Did g old event Fine (record old { disk = disk; state = later })
-  did_committed fine later unsure takes = did_since g old _ _ _ refl (record {
+  did_committed fine later unsure takes = did_since g old _ _ _ refl (λ m s fits. fits) (record {
     stepped = λ m s. record {
       machine = with_state (lists (IsTrue (g.tells old.disk)) (λ t. t) (true_or_not (g.tells old.disk)) m s).after m;
       stands = stands_after (IsTrue (g.tells old.disk)) (λ t. t) (true_or_not (g.tells old.disk)) m s later unsure (takes (IsTrue (g.tells old.disk)) (λ t. t) (true_or_not (g.tells old.disk)) m s) (IsTrue (g.tells disk)) (λ t. subst IsTrue telling t);
@@ -171,6 +172,7 @@ module _ {D : Type 0} (g : Ghosts D) (only_now : OnlyNow g) (old : Core D) (mid 
     );
     tidy = λ told m s tidy. tidy_in (IsTrue (g.tells old.disk)) (λ t. t) (true_or_not (g.tells old.disk)) m s told tidy;
     files = λ told m s hold is_open goes_on f among. is.files_are Fine f _ _ (held_same told m s hold is_open f among);
+    kept = λ told m s f is. same_file told f (kept_high m.state s.sound f is);
     empty = λ told f among. none_begun Fine f _ refl among;
     page = λ told. is.no_page Fine (λ f. bytes_of (g.held old.disk) f);
     look = λ told m s. tt;
@@ -181,7 +183,7 @@ module _ {D : Type 0} (g : Ghosts D) (only_now : OnlyNow g) (old : Core D) (mid 
 
   pub did_commit_fail : (later : CoreState) → ((m : Machine) → HasState old.state m → HasState later (broken (g.faults disk) m)) → later.infos.items ≡ old.state.infos.items → later.read_only ≡ Some (g.faults disk)
       → unsure_of later ≡ unsure_of old.state → IsErr result → Did g old event (Refused Fault) (record old { disk = disk; state = later })
-  did_commit_fail later has infos read_only unsure err = let rose = raised_rose (g.faults old.disk) (g.faults disk) (counts.fault err) in did_since g old _ _ _ refl (record {
+  did_commit_fail later has infos read_only unsure err = let rose = raised_rose (g.faults old.disk) (g.faults disk) (counts.fault err) in did_since g old _ _ _ refl (λ m s fits. fits) (record {
     stepped = λ m s. record {
       machine = broken (g.faults disk) m;
       stands = stands_broken (IsTrue (g.tells old.disk)) (λ t. t) (true_or_not (g.tells old.disk)) m s later (has m s.has) infos read_only unsure (IsTrue (g.tells disk)) (λ t. subst IsTrue telling t);
@@ -198,6 +200,7 @@ module _ {D : Type 0} (g : Ghosts D) (only_now : OnlyNow g) (old : Core D) (mid 
     );
     tidy = λ told m s tidy. tidy_in (IsTrue (g.tells old.disk)) (λ t. t) (true_or_not (g.tells old.disk)) m s told tidy;
     files = λ told m s hold is_open goes_on f among. is.files_are (Refused Fault) f _ _ (held_same told m s hold is_open f among);
+    kept = λ told m s f is. same_file told f (kept_high m.state s.sound f is);
     empty = λ told f among. none_begun (Refused Fault) f _ refl among;
     page = λ told. is.no_page (Refused Fault) (λ f. bytes_of (g.held old.disk) f);
     look = λ told m s. tt;

@@ -93,7 +93,7 @@ module _ {D : Type 0} (g : Ghosts D) (only_now : OnlyNow g) (old : Core D) (disk
       let rose = calls_rose g old.disk disk 1 0 (end_of old.state event) (λ low. omega arith) result made err in
       let most = calls_most g old.disk disk 1 0 (end_of old.state event) (λ low. omega arith) result made in
       subst (λ (n : ℕ). Did g old event (Refused Fault) (record old { disk = disk; state = record old.state { read_only = Some n } })) (sym counted)
-      (did_kept g old disk (record old.state { read_only = Some (g.faults disk) }) event (Refused Fault) (calls_fault g old.disk disk 1 0 (end_of old.state event) (λ low. omega arith) result made err) (λ told m s. run_keeps) refl (is.unsure_is (Refused Fault) _)
+      (did_kept g old disk old.cache (λ m s fits. fits) (record old.state { read_only = Some (g.faults disk) }) event (Refused Fault) (calls_fault g old.disk disk 1 0 (end_of old.state event) (λ low. omega arith) result made err) (λ told m s. run_keeps) refl (is.unsure_is (Refused Fault) _)
       (λ m s. (
         broken (g.faults disk) m,
         stands_kept (IsTrue (g.tells old.disk)) (IsTrue (g.tells disk)) (g.held old.disk) (g.held disk) (g.may_leave old.disk) (g.may_leave disk) old.state (record old.state { read_only = Some (g.faults disk) }) m (broken (g.faults disk) m)
@@ -113,5 +113,6 @@ module _ {D : Type 0} (g : Ghosts D) (only_now : OnlyNow g) (old : Core D) (disk
         Breaks (can m s.has) (is.writes_is m.state) refl rose refl,
       ))
       (λ told m s hold is_open stays f among. is.files_are (Refused Fault) f _ _ (same told f))
+      (λ told m s f kept. same told f)
       (λ told f among. none_begun (Refused Fault) f _ refl among) (λ told. is.no_page (Refused Fault) (λ f. bytes_of (g.held old.disk) f)) (λ shows h. tt)
       (is.calls_failed _ _ (most.0, omega (arith, most.1))) (is.reads_none _ _ (calls_unread g old.disk disk 1 0 (end_of old.state event) (λ low. omega arith) result made)))

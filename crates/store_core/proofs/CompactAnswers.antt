@@ -15,7 +15,7 @@ use Rattle.store_model.proofs.Numbers.{same_number}
 use Rattle.store_state.specs.Given.{info_files}
 use Rattle.store_state.specs.Parted.{inside}
 use Rattle.store_state.specs.Written.{NamesJob, IsJoinedBlock}
-use Rattle.store_core.specs.Cores.{HasState, CoreShows, unsure_of}
+use Rattle.store_core.specs.Cores.{HasState, StateShows, unsure_of}
 use Rattle.store_core.specs.Jobs.{ShowsCompaction, IsSpare, one_if, files_of_flush}
 use Rattle.store_core.specs.NextList.{IsJoinedList, infos_outside}
 use Rattle.store_core.specs.Pins.{is_taken, files_at}
@@ -34,7 +34,7 @@ Pins = Vec (Option (List ℕ)) Global
 
 -- ---- what is known where the list is made
 
-module _ {D : Type 0} (g : Ghosts D) (old : Core D) (m0 : Machine) (s0 : CoreShows g old m0) (number file level pin : ℕ) (infos : List InfoParts) (is : IsOpenCompact m0 (record { number = number; file = file; level = level; pin = pin; files = info_files infos })) (info : InfoParts)
+module _ {D : Type 0} (g : Ghosts D) (old : Core D) (m0 : Machine) (s0 : StateShows g old m0) (number file level pin : ℕ) (infos : List InfoParts) (is : IsOpenCompact m0 (record { number = number; file = file; level = level; pin = pin; files = info_files infos })) (info : InfoParts)
     (writes : old.state.read_only ≡ None) (size : (1 ≤ info.rows) × (info.rows ≤ 1048576)) (names : NamesJob file level info)
     (joined : IsTrue (g.tells old.disk) → IsJoinedBlock (λ f. bytes_of (g.held old.disk) f) (bytes_of (g.held old.disk) file) info infos) where
   abbrev pub here : IsCompactionHere old.state m0 number file level pin (info_files infos)

@@ -37,7 +37,7 @@ use Rattle.store_core.specs.declared.jobs.OpenCompaction.{OpenCompaction}
 use Rattle.store_core.specs.declared.room.CommitRoom.{CommitRoom}
 use Rattle.store_core.specs.declared.state.CoreState.{CoreState}
 use Rattle.store_core.specs.declared.store.Core.{Core}
-use Rattle.store_core.specs.Cores.{HasState, StandsFor, CoreShows, listed_as, tail_of}
+use Rattle.store_core.specs.Cores.{HasState, StandsFor, StateShows, listed_as, tail_of}
 use Rattle.store_core.proofs.Now.{StandsNow}
 use Rattle.store_core.specs.Events.{Did}
 use Rattle.store_core.proofs.Apart.{keeps_below, settled_below}
@@ -47,6 +47,8 @@ use Rattle.store_core.proofs.Counted.{calls_fine, calls_fault, calls_rose, calls
 use Rattle.store_core.proofs.Kept.{stands_kept, did_kept, described_below}
 use Rattle.store_core.proofs.InUse.{used_begun_compact}
 use Rattle.store_core.proofs.Logged.{logged_kept}
+use Rattle.store_core.specs.Frames.{IsKept}
+use Rattle.store_core.proofs.KeptFiles.{kept_low}
 use Rattle.store_core.proofs.OpenJobs.{fresh_moved, segment_of_known, held_low}
 use Rattle.store_core.proofs.PinNumbers.{among-more, files-more}
 use Rattle.store_core.proofs.PushEvents.{OnlyNow, refused_is}
@@ -260,9 +262,15 @@ module _ {D : Type 0} (g : Ghosts D) (old : Core D) (disk : D) (writes : old.sta
   same_held : IsTrue (g.tells old.disk) → (m : Machine) → HasState old.state m → SameBelow limit (g.held old.disk) (g.held disk)
   same_held told m has = λ f under. let given = has.jobs.given in others told f (λ is. omega (arith, is, given, under))
 
-  stay : IsTrue (g.tells old.disk) → (m : Machine) → CoreShows g old m → (hold : Hold) → OpenIn m hold → (f : ℕ) → is_among f (files_of hold) ≡ true → bytes_of (g.held disk) f ≡ bytes_of (g.held old.disk) f
+  stay : IsTrue (g.tells old.disk) → (m : Machine) → StateShows g old m → (hold : Hold) → OpenIn m hold → (f : ℕ) → is_among f (files_of hold) ≡ true → bytes_of (g.held disk) f ≡ bytes_of (g.held old.disk) f
   stay told m s hold is_open f among =
       let under = held_low m hold s.sound is_open f among in
+      let next = s.has.next_file in
+      others told f (λ is. omega (arith, is, under, next))
+
+  kept_stay : IsTrue (g.tells old.disk) → (m : Machine) → StateShows g old m → (f : ℕ) → IsKept f m.state → bytes_of (g.held disk) f ≡ bytes_of (g.held old.disk) f
+  kept_stay told m s f is =
+      let under = kept_low m.state s.sound f is in
       let next = s.has.next_file in
       others told f (λ is. omega (arith, is, under, next))
 
@@ -318,7 +326,7 @@ module _ {D : Type 0} (g : Ghosts D) (old : Core D) (disk : D) (writes : old.sta
     pub did_compact : IsOk result → (IsTrue (g.tells old.disk) → IsEmptied (g.held disk) (g.may_leave disk) file)
         → Did g old BeginCompact (Compacting (record { number = jobs.begun; file = file; level = level; pin = pin; files = files })) (record old { disk = disk; state = record old.state { infos = infos; jobs = jobs; pins = pins } })
     did_compact fine empty =
-        did_kept g old disk (record old.state { infos = infos; jobs = jobs; pins = pins }) BeginCompact (Compacting (record { number = jobs.begun; file = file; level = level; pin = pin; files = files }))
+        did_kept g old disk old.cache (λ m s fits. fits) (record old.state { infos = infos; jobs = jobs; pins = pins }) BeginCompact (Compacting (record { number = jobs.begun; file = file; level = level; pin = pin; files = files }))
         (calls_fine g old.disk disk 2 0 0 (λ low. low) result made fine (Compacting (record { number = jobs.begun; file = file; level = level; pin = pin; files = files })) (λ is. let bad : Compacting (record { number = jobs.begun; file = file; level = level; pin = pin; files = files }) ≡ Refused Fault = is in absurd cc))
         run_keeps refl refl
         (λ m s.
@@ -334,7 +342,7 @@ module _ {D : Type 0} (g : Ghosts D) (old : Core D) (disk : D) (writes : old.sta
           after ⊥ ⊥ (λ bad. bad) (λ bad. absurd bad) m s step (λ bad. absurd bad),
           step,
         ))
-        (λ told m s hold is_open stays f among. stay told m s hold is_open f among)
+        (λ told m s hold is_open stays f among. stay told m s hold is_open f among) kept_stay
         (λ told f among. one_begun file f (IsEmptied (g.held disk) (g.may_leave disk)) (empty told) among) (λ told. tt) (λ shows h. tt)
         (calls_exact g old.disk disk 2 0 0 (λ low. low) result made fine) (calls_unread g old.disk disk 2 0 0 (λ low. low) result made)
 
@@ -344,7 +352,7 @@ module _ {D : Type 0} (g : Ghosts D) (old : Core D) (disk : D) (writes : old.sta
   did_compact_fail infos jobs pins faults counted err kept same =
       let rose = calls_rose g old.disk disk 2 0 0 (λ low. low) result made err in
       subst (λ (n : ℕ). Did g old BeginCompact (Refused Fault) (record old { disk = disk; state = record old.state { infos = infos; jobs = jobs; pins = pins; read_only = Some n } })) (sym counted)
-      (did_kept g old disk (record old.state { infos = infos; jobs = jobs; pins = pins; read_only = Some (g.faults disk) }) BeginCompact (Refused Fault) (calls_fault g old.disk disk 2 0 0 (λ low. low) result made err) run_keeps refl (adds_none BeginCompact refl (Refused Fault) _)
+      (did_kept g old disk old.cache (λ m s fits. fits) (record old.state { infos = infos; jobs = jobs; pins = pins; read_only = Some (g.faults disk) }) BeginCompact (Refused Fault) (calls_fault g old.disk disk 2 0 0 (λ low. low) result made err) run_keeps refl (adds_none BeginCompact refl (Refused Fault) _)
       (λ m s. (
         broken (g.faults disk) m,
         stands_kept (IsTrue (g.tells old.disk)) (IsTrue (g.tells disk)) (g.held old.disk) (g.held disk) (g.may_leave old.disk) (g.may_leave disk) old.state (record old.state { infos = infos; jobs = jobs; pins = pins; read_only = Some (g.faults disk) }) m
@@ -362,7 +370,7 @@ module _ {D : Type 0} (g : Ghosts D) (old : Core D) (disk : D) (writes : old.sta
             (λ bad. absurd bad) (λ bad. absurd bad) (λ bad. absurd bad) (λ is. absurd (let bad : Some (g.faults disk) ≡ None = is in cc)) (λ bad. absurd bad) (λ bad. absurd bad),
         Breaks (free m s.has) refl refl rose refl,
       ))
-      (λ told m s hold is_open stays f among. stay told m s hold is_open f among)
+      (λ told m s hold is_open stays f among. stay told m s hold is_open f among) kept_stay
       (λ told f among. none_begun (Refused Fault) f _ refl among) (λ told. tt) (λ shows h. tt)
       (calls_most g old.disk disk 2 0 0 (λ low. low) result made) (calls_unread g old.disk disk 2 0 0 (λ low. low) result made))
     where

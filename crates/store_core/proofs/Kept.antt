@@ -25,9 +25,11 @@ use Rattle.store_core.specs.Jobs.{HasFreshSegment}
 use Rattle.store_core.specs.Waiting.{rows_outside, AreLogged}
 use Rattle.store_core.specs.declared.state.CoreState.{CoreState}
 use Rattle.store_core.specs.declared.store.Core.{Core}
-use Rattle.store_core.specs.Cores.{HasState, StandsFor, CoreShows, AreDescribed, tail_of, unsure_of}
+use Rattle.store_core.specs.Cores.{HasState, StandsFor, StateShows, AreDescribed, tail_of, unsure_of}
 use Rattle.store_core.proofs.Counted.{Counted}
-use Rattle.store_core.proofs.Now.{StandsNow, did_since}
+use Rattle.page_cache.specs.Frames.{Frame}
+use Rattle.store_core.specs.Frames.{IsKept}
+use Rattle.store_core.proofs.Now.{FramesMoved, StandsNow, did_since}
 use Rattle.store_core.specs.Events.{Did, Between, unsure_after, end_of}
 use Rattle.store_core.proofs.Described.{described_same}
 
@@ -60,20 +62,21 @@ stands_kept told told' held held' may_leave may_leave' core core' m m' before fa
   logged = λ t free. logged (known t) free;
 }
 
-pub did_kept : {D : Type 0} (g : Ghosts D) (old : Core D) (disk : D) (state : CoreState) (event : Event) (reply : Reply)
+pub did_kept : {D : Type 0} (g : Ghosts D) (old : Core D) (disk : D) (frames : List Frame) (moved : FramesMoved g old frames) (state : CoreState) (event : Event) (reply : Reply)
     → Counted g (end_of old.state event) reply old.disk disk
     → (IsTrue (g.tells old.disk) → (m : Machine) → StandsNow g old m → Run KeepsStored g.moment g.left_since g.may_leave old.disk disk)
     → unsure_of state ≡ unsure_of old.state → unsure_after event reply (unsure_of old.state) ≡ unsure_of old.state
-    → ((m : Machine) → StandsNow g old m → (m' : Machine) × StandsNow g (record old { disk = disk; state = state }) m' × (m'.history ≡ m.history) × Step (g.faults old.disk) (g.faults disk) m event reply m')
-    → ((m : Machine) → CoreShows g old m → (m' : Machine) × CoreShows g (record old { disk = disk; state = state }) m' × Step (g.faults old.disk) (g.faults disk) m event reply m')
-    → (IsTrue (g.tells old.disk) → (m : Machine) → CoreShows g old m → (hold : Hold) → OpenIn m hold → ends event reply hold ≡ false → (file : ℕ) → is_among file (files_of hold) ≡ true
+    → ((m : Machine) → StandsNow g old m → (m' : Machine) × StandsNow g (record old { disk = disk; state = state; cache = frames }) m' × (m'.history ≡ m.history) × Step (g.faults old.disk) (g.faults disk) m event reply m')
+    → ((m : Machine) → StateShows g old m → (m' : Machine) × StateShows g (record old { disk = disk; state = state; cache = frames }) m' × Step (g.faults old.disk) (g.faults disk) m event reply m')
+    → (IsTrue (g.tells old.disk) → (m : Machine) → StateShows g old m → (hold : Hold) → OpenIn m hold → ends event reply hold ≡ false → (file : ℕ) → is_among file (files_of hold) ≡ true
     → Rewritten event reply file (bytes_of (g.held old.disk) file) (bytes_of (g.held disk) file))
+    → (IsTrue (g.tells old.disk) → (m : Machine) → StateShows g old m → (file : ℕ) → IsKept file m.state → bytes_of (g.held disk) file ≡ bytes_of (g.held old.disk) file)
     → (IsTrue (g.tells old.disk) → (file : ℕ) → is_among file (own_files reply) ≡ true → IsEmptied (g.held disk) (g.may_leave disk) file)
     → (IsTrue (g.tells old.disk) → IsPageRead event reply (λ file. bytes_of (g.held old.disk) file)) → ((shows : ℕ → List ℕ) (h : History) → IsLookTaken reply shows h)
     → MadeCalls event reply (g.calls old.disk) (g.calls disk)
     → RoseAtMost (reads_of event) (g.reads old.disk) (g.reads disk)
-    → Did g old event reply (record old { disk = disk; state = state })
-did_kept {D} g old disk state event reply counts run unsure same stands shows files empty page look calls reads = did_since g old _ _ _ refl (record {
+    → Did g old event reply (record old { disk = disk; state = state; cache = frames })
+did_kept {D} g old disk frames moved state event reply counts run unsure same stands shows files kept empty page look calls reads = did_since g old _ _ _ refl moved (record {
   stepped = λ m s.
       let after = stands m s in record {
         machine = after.0;
@@ -87,6 +90,7 @@ did_kept {D} g old disk state event reply counts run unsure same stands shows fi
   shown = shows;
   tidy = λ told m s tidy. widened g.moment g.left_since old.disk disk (Reached KeepsStored (g.may_leave old.disk)) IsTidy (run told m s).since (λ image from. from.2.tidy (tidy from.0 from.1));
   files = files;
+  kept = kept;
   empty = empty;
   page = page;
   look = λ told m stands. look (λ file. bytes_of (g.held disk) file) m.history;

@@ -10,6 +10,8 @@ mod NextTaken
 mod States
 mod Logged
 mod HeldFiles
+mod KeptFiles
+mod Frames
 mod OpenCompactions
 mod OpenJobs
 mod Pushing

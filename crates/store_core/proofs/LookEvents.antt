@@ -82,7 +82,7 @@ pub did_done : {D : Type 0} (g : Ghosts D) (only_now : OnlyNow g) (old : Core D)
 did_done {D} g only_now old pins number is_open taken named =
     quiet g only_now old (record old.state { pins = pins }) (Done number) Fine (λ file bytes. refl) (λ e. let bad : Fine ≡ Refused Fault = e in cc) (λ n. refl) refl refl (λ shows. tt) (λ told m s. tt)
     (λ told m stands.
-    let step = step_done m (g.faults old.disk) (g.faults old.disk) number (look_open old.state is_open.0 m number is_open.1.has stands.has is_open.2) in (
+    let step = step_done m (g.faults old.disk) (g.faults old.disk) number (look_open old.state is_open.0 m number is_open.1.state.has stands.has is_open.2) in (
       with_state (after_done number m.state) m,
       stands_stepped told (g.held old.disk) (g.may_leave old.disk) old.state pins m (after_done number m.state) (g.faults old.disk) (g.faults old.disk) (Done number) Fine stands refl step
           (shown_less old.state m number pins.items stands.has taken named),

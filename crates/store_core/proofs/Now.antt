@@ -1,5 +1,5 @@
 -- An event by what a core stands for now, and from that by what a crash may have left since its opening ended.
-use Rattle.std.proofs.Common.{◌≡◌, ◌≢◌, ◌⊎◌, inl, inr, ℕ, ◌≤◌, None, IsTrue, true, false, sym, ap, subst, arith}
+use Rattle.std.proofs.Common.{◌≡◌, ◌≢◌, ◌⊎◌, inl, inr, ℕ, ◌≤◌, List, None, IsTrue, true, false, sym, ap, subst, arith}
 use Rattle.disk_model.specs.Calls.{Counts}
 use Rattle.disk_model.specs.Images.{Image, bytes_of}
 use Rattle.disk_model.specs.Crash.{LeavesOnly}
@@ -20,7 +20,10 @@ use Rattle.store_core.specs.Files.{IsEmptied}
 use Rattle.store_core.specs.declared.store.Core.{Core}
 use Rattle.store_model.proofs.TellsHistory.{step_tells}
 use Rattle.store_model.specs.Told.{history_after}
-use Rattle.store_core.specs.Cores.{CoreStandsFor, CoreShows, StandsFor, unsure_of}
+use Rattle.page_cache.specs.Frames.{Frame}
+use Rattle.store_core.specs.Cores.{CoreStandsFor, StateShows, StandsFor, unsure_of}
+use Rattle.store_core.specs.Frames.{FramesFit, IsKept}
+use Rattle.store_core.proofs.Frames.{frames_stay}
 use Rattle.store_core.specs.Events.{Between, Did, Stepped, end_of, unsure_after}
 use Rattle.store_core.specs.declared.since.Since.{Since}
 use Rattle.store_core.specs.Stood.{StoodFor}
@@ -44,13 +47,16 @@ pub record SteppedNow {D : Type 0} (g : Ghosts D) (old : Core D) (event : Event)
 -- an event, by the same
 pub record DidNow {D : Type 0} (g : Ghosts D) (old : Core D) (event : Event) (reply : Reply) (new : Core D) : Type 0 where
   pub stepped : (m : Machine) → StandsNow g old m → SteppedNow g old event reply new m
-  pub shown : (m : Machine) → CoreShows g old m → (m' : Machine) × CoreShows g new m' × Step (g.faults old.disk) (g.faults new.disk) m event reply m'
+  pub shown : (m : Machine) → StateShows g old m → (m' : Machine) × StateShows g new m' × Step (g.faults old.disk) (g.faults new.disk) m event reply m'
   pub tidy : IsTrue (g.tells old.disk) → (m : Machine) → StandsNow g old m
       → ((image : Image) → g.may_leave old.disk image → IsTidy image)
       → LeavesOnly g.moment g.left_since old.disk new.disk IsTidy
-  pub files : IsTrue (g.tells old.disk) → (m : Machine) → CoreShows g old m → (hold : Hold) → OpenIn m hold
+  pub files : IsTrue (g.tells old.disk) → (m : Machine) → StateShows g old m → (hold : Hold) → OpenIn m hold
       → ends event reply hold ≡ false → (file : ℕ) → is_among file (files_of hold) ≡ true
       → Rewritten event reply file (bytes_of (g.held old.disk) file) (bytes_of (g.held new.disk) file)
+  -- the files of listed and of pinned blocks hold what they held
+  pub kept : IsTrue (g.tells old.disk) → (m : Machine) → StateShows g old m → (file : ℕ) → IsKept file m.state
+      → bytes_of (g.held new.disk) file ≡ bytes_of (g.held old.disk) file
   pub empty : IsTrue (g.tells old.disk) → (file : ℕ) → is_among file (own_files reply) ≡ true
       → IsEmptied (g.held new.disk) (g.may_leave new.disk) file
   pub page : IsTrue (g.tells old.disk) → IsPageRead event reply (λ file. bytes_of (g.held old.disk) file)
@@ -60,7 +66,12 @@ pub record DidNow {D : Type 0} (g : Ghosts D) (old : Core D) (event : Event) (re
   pub calls : MadeCalls event reply (g.calls old.disk) (g.calls new.disk)
   pub reads : RoseAtMost (reads_of event) (g.reads old.disk) (g.reads new.disk)
 
-module _ {D : Type 0} (g : Ghosts D) (old new : Core D) (e : Event) (r : Reply) (since : new.since ≡ old.since) (did : DidNow g old e r new) where
+-- The new frames fit the old core's disk in each machine in which the old ones do.
+abbrev pub FramesMoved : {D : Type 0} (g : Ghosts D) (old : Core D) → List Frame → Type 0
+FramesMoved {D} g old frames = (m : Machine) → StateShows g old m → FramesFit (IsTrue (g.tells old.disk)) (g.held old.disk) m.state old.cache
+    → FramesFit (IsTrue (g.tells old.disk)) (g.held old.disk) m.state frames
+
+module _ {D : Type 0} (g : Ghosts D) (old new : Core D) (e : Event) (r : Reply) (since : new.since ≡ old.since) (frames : FramesMoved g old new.cache) (did : DidNow g old e r new) where
   stepped_since : (m : Machine) → CoreStandsFor g old m → Stepped g old e r new m
   stepped_since m s =
       let one = did.stepped m s.stands in
@@ -93,9 +104,18 @@ module _ {D : Type 0} (g : Ghosts D) (old new : Core D) (e : Event) (r : Reply) 
   pub did_since : Did g old e r new
   did_since = record {
     stepped = stepped_since;
-    shown = did.shown;
+    shown = λ m s.
+        let one = did.shown m s.state in (
+          one.0,
+          record {
+            state = one.1;
+            frames = frames_stay (IsTrue (g.tells old.disk)) (IsTrue (g.tells new.disk)) (g.held old.disk) (g.held new.disk) m one.0 (g.faults old.disk) (g.faults new.disk) e r new.cache
+                (λ t. subst IsTrue did.counts.telling t) (λ told file kept. did.kept told m s.state file kept) one.2 (frames m s.state s.frames);
+          },
+          one.2,
+        );
     tidy = λ told m s. did.tidy told m s.stands;
-    files = did.files;
+    files = λ told m s. did.files told m s.state;
     empty = did.empty;
     page = did.page;
     look = λ told m s. did.look told m s.stands;

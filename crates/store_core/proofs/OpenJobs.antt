@@ -1,5 +1,5 @@
 -- The open flush, as each machine has it that a core's memory shows.
-use Rattle.std.proofs.Common.{◌≡◌, ◌≢◌, inl, inr, ℕ, ◌<◌, ◌≤◌, List, [], ◌∷◌, Some, None, Option, IfSome, true, refl, sym, ◌∙◌, subst, arith}
+use Rattle.std.proofs.Common.{◌≡◌, ◌≢◌, inl, inr, ℕ, ◌+◌, ◌<◌, ◌≤◌, List, [], ◌∷◌, Some, None, Option, IfSome, true, refl, sym, ◌∙◌, ap, subst, arith}
 use Rattle.std.proofs.lemmas.Bool.{cases_lt}
 use Rattle.disk_model.specs.Images.{Image, bytes_of}
 use Rattle.disk_model.specs.Crash.{OnlyBytes}
@@ -111,6 +111,7 @@ segment_of_known core m mine has known =
 pub record IsJobFile (core : CoreState) (file : ℕ) : Type 0 where
   pub spare : IsSpare core.list file
   pub apart : (m : Machine) → HasState core m → StateIsSound m.state → (mine : OpenFlush) → core.jobs.flush ≡ Some mine → mine.files.segment ≢ file
+  pub used : (m : Machine) → HasState core m → 1 ≤ times file (flush_files m.state.flush) + times file (compaction_files m.state.compaction)
 
 flush_file : (core : CoreState) (m0 : Machine) (number file : ℕ) (job : Flush) → HasState core m0 → m0.state.flush ≡ Some job → job.number ≡ number → job.file ≡ file → IsJobFile core file
 flush_file core m0 number file job its is its_number its_file = record {
@@ -118,6 +119,12 @@ flush_file core m0 number file job its is its_number its_file = record {
   apart = λ m has sound mine known same.
       let here = open_here core m0 m number file job its is its_number its_file has in
       files_apart core m number file sound here (subst (λ (k : OpenFlush). k.files.segment ≡ file) (mine_is mine here.mine (sym known ∙ here.known)) same);
+  used = λ m has.
+      let here = open_here core m0 m number file job its is its_number its_file has in
+      let joined = times-append file (here.job.file ∷ []) (here.job.segment ∷ []) in
+      let one : times file (here.job.file ∷ []) ≡ 1 = ap (λ (n : ℕ). times file (n ∷ [])) here.its_file ∙ times_itself file in
+      let whole : times file (flush_files m.state.flush) ≡ times file (here.job.file ∷ here.job.segment ∷ []) = ap (λ (o : Option Flush). times file (flush_files o)) here.is_open in
+      omega (arith, joined, one, whole);
 }
 
 -- a compaction's file has no other use
@@ -135,6 +142,10 @@ compact_file core m0 mine its is =
     let here0 = compaction_here core m0 m0 mine.number mine.file mine.level mine.pin mine.files its is its in
     record {
       spare = subst (λ (f : ℕ). IsSpare core.list f) here0.its_file (spare_compaction core m0 here0.mine its here0.known);
+      used = λ m has.
+          let here = compaction_here core m0 m mine.number mine.file mine.level mine.pin mine.files its is has in
+          let own = subst (λ (f : ℕ). 1 ≤ times f (compaction_files m.state.compaction)) here.its_file (file_of_compaction core m here.mine has here.known) in
+          omega (arith, own);
       apart = λ m has sound. compact_apart core m mine.number mine.file mine.level mine.pin mine.files has sound (compaction_here core m0 m mine.number mine.file mine.level mine.pin mine.files its is has);
     }
 

@@ -1,6 +1,7 @@
 -- How an opening ends.
 use Rattle.std.proofs.Common.{◌≡◌, ℕ, ◌+◌, ◌≤◌, Bool, true, false, IsTrue, List, [], length, map, Some, None, Option, Result, Ok, Err, IfOk, IfErr, IfSome, refl, sym, ◌∙◌, ap, subst, arith}
 use Rattle.std.specs.List.{Contains}
+use Rattle.std.specs.Prelude.{replicate}
 use Rattle.span_types.specs.declared.spans.Span.{Span}
 use Rattle.span_types.specs.First.{IsFirstOf}
 use Rattle.disk_model.specs.Images.{Image, bytes_of}
@@ -33,6 +34,7 @@ use Rattle.store_core.specs.LogReading.{LogRead}
 use Rattle.store_core.specs.New.{IsEmptyHistory, StoresNothing}
 use Rattle.store_core.specs.NewCore.{new_machine}
 use Rattle.store_core.specs.Opening.{KeepsDisk, opened_state, BeginsAs, BeginsEmpty, Opened, OpensAs, OpensOver, IsOpenedState}
+use Rattle.store_core.proofs.Frames.{empty_fit}
 use Rattle.store_core.proofs.Now.{StandsNow, stands_now}
 use Rattle.store_core.proofs.Founding.{empty_history, nothing_keeps}
 use Rattle.store_core.proofs.NewCores.{no_history, no_history_is_empty}
@@ -96,8 +98,8 @@ module _ {D : Type 0} (g : Ghosts D) where
         }
 
   pub opened_new : (disk : D) (moment : ℕ) (core : Core D) → (IsTrue (g.tells disk) → ImageHoldsList (g.held disk) None) → ((h : History) → IsEmptyHistory h → CoreStandsFor g core (new_machine h))
-      → Opened g disk moment core
-  opened_new disk moment core none stands = record {
+      → core.cache ≡ replicate 256 None → Opened g disk moment core
+  opened_new disk moment core none stands empty = record {
     stands = λ told h s. (
       new_machine h,
       stands h (empty_history (g.held disk) h (none told) s),
@@ -127,7 +129,10 @@ module _ {D : Type 0} (g : Ghosts D) where
 
       new_over : OpensOver g core (new_machine no_history)
       new_over = record {
-        shows = tells_less _ ⊥ (g.held core.disk) (g.may_leave core.disk) core.state (new_machine no_history) (λ bad. absurd bad) (stands no_history no_history_is_empty).stands;
+        shows = record {
+          state = tells_less _ ⊥ (g.held core.disk) (g.may_leave core.disk) core.state (new_machine no_history) (λ bad. absurd bad) (stands no_history no_history_is_empty).stands;
+          frames = empty_fit (IsTrue (g.tells core.disk)) (g.held core.disk) (new_machine no_history).state core.cache empty;
+        };
         empty = new_is_empty no_history;
         base_alone = refl;
         once = none_once;
@@ -145,7 +150,7 @@ module _ {D : Type 0} (g : Ghosts D) where
       (blocks_still : IsTrue (g.tells mid) → (x : BlockRef) → Contains list.blocks x → bytes_of (g.held core.disk) x.file ≡ bytes_of (g.held mid) x.file)
       (settled : IsTrue (g.tells mid) → (blocks : List Block) → list.blocks ≡ map ref_of blocks → BlocksStand (g.held mid) blocks → (h : History) → ImageStandsFor (g.held mid) h
       → IsSettled (g.held core.disk) (g.may_leave core.disk) core.state.list blocks (tail_of core.state.segment) h)
-      (only_now : (disk : D) (image : Image) → g.left_since disk (g.moment disk) image → g.may_leave disk image) (ends : core.since.moment ≡ g.moment core.disk) where
+      (only_now : (disk : D) (image : Image) → g.left_since disk (g.moment disk) image → g.may_leave disk image) (ends : core.since.moment ≡ g.moment core.disk) (empty : core.cache ≡ replicate 256 None) where
     told_mid : IsTrue (g.tells disk) → IsTrue (g.tells mid)
     told_mid told = subst IsTrue (sym telling) told
 
@@ -218,7 +223,7 @@ module _ {D : Type 0} (g : Ghosts D) where
     over : (blocks : List Block) → StandsFor ⊥ (g.held core.disk) (g.may_leave core.disk) core.state (opened_machine list blocks batches moment (base_of list blocks batches))
         → OpensOver g core (opened_machine list blocks batches moment (base_of list blocks batches))
     over blocks shows = record {
-      shows = shows;
+      shows = record { state = shows; frames = empty_fit (IsTrue (g.tells core.disk)) (g.held core.disk) (opened_state list blocks batches moment) core.cache empty };
       empty = opened_is_empty list blocks batches moment (base_of list blocks batches);
       base_alone = refl;
       once = base_once list blocks batches;
@@ -275,6 +280,10 @@ module _ {D : Type 0} (g : Ghosts D) where
         by_telling false e sound = (opened_machine list unread batches moment (base_of list unread batches), unfounded (λ t. let bad : true ≡ false = sym t ∙ e in absurd cc))
 
 -- ---- answers that are handed on
+
+pub if_ok_both : {X E : Type 0} (r : Result X E) (P Q : X → Type 0) → IfOk r P → IfOk r Q → IfOk r (λ x. P x × Q x)
+if_ok_both (Ok x) P Q p q = (p, q)
+if_ok_both (Err e) P Q p q = tt
 
 pub if_ok_more : {X E : Type 0} (r : Result X E) (P Q : X → Type 0) → ((x : X) → P x → Q x) → IfOk r P → IfOk r Q
 if_ok_more (Ok x) P Q more p = more x p

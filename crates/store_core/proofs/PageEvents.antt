@@ -9,7 +9,7 @@ use Rattle.disk_model.specs.Calls.{Counts}
 use Rattle.disk_model.specs.Images.{bytes_of}
 use Rattle.disk_model.specs.Crash.{Untouched, Run}
 use Rattle.disk_model.specs.declared.disk.Device.{Ghosts}
-use Rattle.disk_model.proofs.Runs.{run_untouched}
+use Rattle.disk_model.proofs.Runs.{run_untouched, untouched_same}
 use Rattle.store_model.specs.Event.{Reply}
 use Rattle.store_model.specs.Event.Event.{ReadPage}
 use Rattle.store_model.specs.Event.Reply.{Page, Refused}
@@ -23,14 +23,16 @@ use Rattle.store_images.specs.Stored.{KeepsStored}
 use Rattle.store_images.proofs.Keeping.{keeps_same}
 use Rattle.store_core.specs.declared.store.Core.{Core}
 use Rattle.store_core.specs.Cores.{StandsFor, tail_of}
-use Rattle.store_core.proofs.Now.{StandsNow}
+use Rattle.page_cache.specs.Frames.{Frame}
+use Rattle.store_core.proofs.Now.{FramesMoved, StandsNow}
 use Rattle.store_core.specs.Events.{Did}
 use Rattle.store_core.specs.Files.{read_over}
 use Rattle.store_core.proofs.Apart.{below_same, settled_below}
-use Rattle.store_core.proofs.Counted.{Counted, counted_fine, counted_fault, counted_rose}
+use Rattle.store_core.proofs.Counted.{Counted, counted_none, counted_fine, counted_fault, counted_rose}
 use Rattle.store_core.proofs.Kept.{stands_kept, did_kept, described_below}
 use Rattle.store_core.proofs.Logged.{logged_kept}
 use Rattle.store_core.proofs.OpenJobs.{fresh_moved}
+use Rattle.store_core.proofs.PushEvents.{OnlyNow}
 use Rattle.store_core.proofs.Quiet.{none_begun, adds_none}
 
 -- ---- the bytes
@@ -77,13 +79,14 @@ past_is bytes at buf zeros past = zeros ∙ of_size 4096
     of_size : (n : ℕ) → replicate n 0 ≡ take n (drop at bytes ++ replicate n 0)
     of_size n = sym (ap (λ (l : List ℕ). take n (l ++ replicate n 0)) none ∙ take-replicate n n 0 (omega arith))
 
-pub past_end : (bytes : List ℕ) (at : ℕ) → length bytes < 2 ^ 63 → (at < 2 ^ 64 → ⊥) → length bytes ≤ at
-past_end bytes at near far = elim (cases_lt at (2 ^ 64)) [ inl low ↦ absurd (far low) | inr high ↦ omega (arith, near, high) ]
+pub past_end : (bytes : List ℕ) (at : ℕ) → length bytes < 2 ^ 63 → 2 ^ 64 ≤ at → length bytes ≤ at
+past_end bytes at near high = omega (arith, near, high)
 
 -- ---- the event
 
 module _ {D : Type 0} (g : Ghosts D) (old : Core D) (disk : D) (pin block page : ℕ) (untouched : Untouched g.tells g.held g.may_leave g.moment g.left_since old.disk disk)
-    (calls : RoseAtMost 1 (g.calls old.disk) (g.calls disk)) (reads : RoseAtMost 1 (g.reads old.disk) (g.reads disk)) where
+    (calls : RoseAtMost 1 (g.calls old.disk) (g.calls disk)) (reads : RoseAtMost 1 (g.reads old.disk) (g.reads disk))
+    (frames : List Frame) (moved : FramesMoved g old frames) where
   run_keeps : IsTrue (g.tells old.disk) → (m : Machine) → StandsNow g old m → Run KeepsStored g.moment g.left_since g.may_leave old.disk disk
   run_keeps told m s = run_untouched g.tells g.held g.may_leave g.moment g.left_since KeepsStored old.disk disk keeps_same untouched
 
@@ -100,27 +103,34 @@ module _ {D : Type 0} (g : Ghosts D) (old : Core D) (disk : D) (pin block page :
       (λ mine known b only image left. only image (untouched.crash image left)) (s.fresh t free))
       (λ t free. logged_kept (g.held old.disk) (g.held disk) old.state.list (g.faults old.disk) (g.faults disk) m m (ReadPage pin block page) reply s.has.rules (λ f below. untouched.same_bytes (tells t) f) step refl (s.logged t free))
 
-  did_page : (bytes : List ℕ) → (IsTrue (g.tells old.disk) → bytes ≡ page_of (bytes_of (g.held old.disk) block) page) → Counted g 0 (Page bytes) old.disk disk → Did g old (ReadPage pin block page) (Page bytes) (record old { disk = disk })
+  did_page : (bytes : List ℕ) → (IsTrue (g.tells old.disk) → bytes ≡ page_of (bytes_of (g.held old.disk) block) page) → Counted g 0 (Page bytes) old.disk disk → Did g old (ReadPage pin block page) (Page bytes) (record old { disk = disk; cache = frames })
   did_page bytes its counts =
-      did_kept g old disk old.state (ReadPage pin block page) (Page bytes) counts run_keeps refl refl
+      did_kept g old disk frames moved old.state (ReadPage pin block page) (Page bytes) counts run_keeps refl refl
       (λ m s. (m, after (IsTrue (g.tells old.disk)) (IsTrue (g.tells disk)) (λ t. subst IsTrue untouched.telling t) (λ t. t) m (Page bytes) s (Succeeds refl (bytes, refl, refl)), refl, Succeeds refl (bytes, refl, refl)))
       (λ m s. (m, after ⊥ ⊥ (λ bad. bad) (λ bad. absurd bad) m (Page bytes) s (Succeeds refl (bytes, refl, refl)), Succeeds refl (bytes, refl, refl)))
-      (λ told m s hold is_open stays f among. untouched.same_bytes told f)
+      (λ told m s hold is_open stays f among. untouched.same_bytes told f) (λ told m s f is. untouched.same_bytes told f)
       (λ told f among. none_begun (Page bytes) f _ refl among) its (λ shows h. tt)
       calls reads
 
-  no_page : Counted g 0 (Refused Fault) old.disk disk → Did g old (ReadPage pin block page) (Refused Fault) (record old { disk = disk })
+  no_page : Counted g 0 (Refused Fault) old.disk disk → Did g old (ReadPage pin block page) (Refused Fault) (record old { disk = disk; cache = frames })
   no_page counts =
       let rose = counted_rose g old.disk disk 0 counts in
-      did_kept g old disk old.state (ReadPage pin block page) (Refused Fault) counts run_keeps refl (adds_none (ReadPage pin block page) refl (Refused Fault) _)
+      did_kept g old disk frames moved old.state (ReadPage pin block page) (Refused Fault) counts run_keeps refl (adds_none (ReadPage pin block page) refl (Refused Fault) _)
       (λ m s. (m, after (IsTrue (g.tells old.disk)) (IsTrue (g.tells disk)) (λ t. subst IsTrue untouched.telling t) (λ t. t) m (Refused Fault) s (Unread refl refl rose refl), refl, Unread refl refl rose refl))
       (λ m s. (m, after ⊥ ⊥ (λ bad. bad) (λ bad. absurd bad) m (Refused Fault) s (Unread refl refl rose refl), Unread refl refl rose refl))
-      (λ told m s hold is_open stays f among. untouched.same_bytes told f)
+      (λ told m s hold is_open stays f among. untouched.same_bytes told f) (λ told m s f is. untouched.same_bytes told f)
       (λ told f among. none_begun (Refused Fault) f _ refl among) (λ told. tt) (λ shows h. tt)
       calls reads
 
   pub page_done : {U : Type 0} (result : Result U Failed) (bytes : List ℕ) → (IsTrue (g.tells old.disk) → OnOk result (bytes ≡ page_of (bytes_of (g.held old.disk) block) page))
       → Counts g 0 (IsOk result) (IsErr result) old.disk disk
-      → Did g old (ReadPage pin block page) (page_reply bytes result) (record old { disk = disk })
+      → Did g old (ReadPage pin block page) (page_reply bytes result) (record old { disk = disk; cache = frames })
   page_done (Ok u) bytes its run = did_page bytes its (counted_fine g old.disk disk 0 0 (λ low. low) _ _ run refl (Page bytes) (λ is. let bad : Page bytes ≡ Refused Fault = is in absurd cc))
   page_done (Err e) bytes its run = no_page (counted_fault g old.disk disk 0 0 (λ low. low) _ _ run refl)
+
+-- A page that is answered without a call of the disk.
+pub page_here : {D : Type 0} (g : Ghosts D) (only_now : OnlyNow g) (old : Core D) (pin block page : ℕ) (frames : List Frame) (moved : FramesMoved g old frames) (bytes : List ℕ)
+    → (IsTrue (g.tells old.disk) → bytes ≡ page_of (bytes_of (g.held old.disk) block) page) → Did g old (ReadPage pin block page) (Page bytes) (record old { cache = frames })
+page_here g only_now old pin block page frames moved bytes its =
+    did_page g old old.disk pin block page (untouched_same g.tells g.held g.may_leave g.moment g.left_since old.disk (only_now old.disk)) (omega arith, omega arith) (omega arith, omega arith)
+    frames moved bytes its (counted_none g 0 (Page bytes) old.disk (λ is. let bad : Page bytes ≡ Refused Fault = is in absurd cc))

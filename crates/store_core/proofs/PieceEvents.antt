@@ -12,17 +12,21 @@ use Rattle.disk_model.proofs.Runs.{run_more, run_change}
 use Rattle.store_model.specs.Event.Event.{WritePiece}
 use Rattle.store_model.specs.Event.Reply.{Fine, Refused}
 use Rattle.store_model.specs.Event.Refusal.{ReadOnly, Fault}
+use Rattle.store_model.specs.State.{flush_files, compaction_files}
+use Rattle.store_model.specs.Sound.{times}
 use Rattle.store_model.specs.Step.{Machine, early, broken, if_read_only}
 use Rattle.store_model.specs.Step.Step.{Sure, Succeeds, Breaks}
 use Rattle.store_model.proofs.Numbers.{same_number}
 use Rattle.store_images.specs.Stored.{KeepsStored}
 use Rattle.store_core.specs.Jobs.{HasFreshSegment}
 use Rattle.store_core.specs.declared.store.Core.{Core}
-use Rattle.store_core.specs.Cores.{HasState, tail_of}
+use Rattle.store_core.specs.Cores.{HasState, StateShows, tail_of}
 use Rattle.store_core.proofs.Now.{StandsNow}
 use Rattle.store_core.specs.Events.{Did}
 use Rattle.store_core.proofs.Counted.{calls_fine, calls_fault, calls_rose, calls_exact, calls_most, calls_unread}
 use Rattle.store_core.proofs.Kept.{stands_kept, did_kept}
+use Rattle.store_core.specs.Frames.{IsKept}
+use Rattle.store_core.proofs.KeptFiles.{kept_no_job}
 use Rattle.store_core.proofs.OpenJobs.{IsJobFile, fresh_moved}
 use Rattle.store_core.proofs.PushEvents.{OnlyNow, refused_is}
 use Rattle.store_core.proofs.Quiet.{quiet, none_begun, adds_none}
@@ -63,10 +67,18 @@ module _ {D : Type 0} (g : Ghosts D) (only_now : OnlyNow g) (old : Core D) (disk
       (λ mine known b only. other_stays file mine.files.segment (Torn at (length bytes)) b (g.may_leave old.disk) (g.may_leave disk) (differs mine known) only crash)
       (s.fresh told writes)
 
+  kept_same : IsTrue (g.tells old.disk) → (m : Machine) → StateShows g old m → (f : ℕ) → IsKept f m.state → bytes_of (g.held disk) f ≡ bytes_of (g.held old.disk) f
+  kept_same told m s f is = besides told f
+      (λ same.
+      let used = its.used m s.has in
+      let none : times file (flush_files m.state.flush) + times file (compaction_files m.state.compaction) ≡ 0 =
+      subst (λ (n : ℕ). times n (flush_files m.state.flush) + times n (compaction_files m.state.compaction) ≡ 0) same (kept_no_job m.state s.sound f is) in
+      absurd (omega (arith, used, none)))
+
   pub did_piece : (IsTrue (g.tells old.disk) → bytes_of (g.held disk) file ≡ overwritten (bytes_of (g.held old.disk) file) at bytes) → (IsTrue (g.tells old.disk) → at ≡ length (bytes_of (g.held old.disk) file))
       → IsOk result → Did g old (WritePiece number file bytes) Fine (record old { disk = disk })
   did_piece written whole fine =
-      did_kept g old disk old.state (WritePiece number file bytes) Fine (calls_fine g old.disk disk 1 (at + length bytes) (2 ^ 63) (λ low. omega (arith, low)) result made fine Fine (λ is. let bad : Fine ≡ Refused Fault = is in absurd cc)) run_keeps refl refl
+      did_kept g old disk old.cache (λ m s fits. fits) old.state (WritePiece number file bytes) Fine (calls_fine g old.disk disk 1 (at + length bytes) (2 ^ 63) (λ low. omega (arith, low)) result made fine Fine (λ is. let bad : Fine ≡ Refused Fault = is in absurd cc)) run_keeps refl refl
       (λ m s. (
         m,
         stands_kept (IsTrue (g.tells old.disk)) (IsTrue (g.tells disk)) (g.held old.disk) (g.held disk) (g.may_leave old.disk) (g.may_leave disk) old.state old.state m m (g.faults old.disk) (g.faults disk) (WritePiece number file bytes) Fine
@@ -87,7 +99,7 @@ module _ {D : Type 0} (g : Ghosts D) (only_now : OnlyNow g) (old : Core D) (disk
             (λ bad. bad) s (Succeeds (free m s.has) (refl, refl)) refl s.has refl (λ bad. absurd bad) (λ bad. absurd bad) (λ bad. absurd bad) (λ is. is) (λ bad. absurd bad) (λ bad. absurd bad),
         Succeeds (free m s.has) (refl, refl),
       ))
-      (λ told m s hold is_open stays f among. appended told f)
+      (λ told m s hold is_open stays f among. appended told f) kept_same
       (λ told f among. none_begun Fine f _ refl among) (λ told. tt) (λ shows h. tt)
       (calls_exact g old.disk disk 1 (at + length bytes) (2 ^ 63) (λ low. omega (arith, low)) result made fine) (calls_unread g old.disk disk 1 (at + length bytes) (2 ^ 63) (λ low. omega (arith, low)) result made)
     where
@@ -102,7 +114,7 @@ module _ {D : Type 0} (g : Ghosts D) (only_now : OnlyNow g) (old : Core D) (disk
   did_piece_fail faults counted err =
       let rose = calls_rose g old.disk disk 1 (at + length bytes) (2 ^ 63) (λ low. omega (arith, low)) result made err in
       subst (λ (n : ℕ). Did g old (WritePiece number file bytes) (Refused Fault) (record old { disk = disk; state = record old.state { read_only = Some n } })) (sym counted)
-      (did_kept g old disk (record old.state { read_only = Some (g.faults disk) }) (WritePiece number file bytes) (Refused Fault) (calls_fault g old.disk disk 1 (at + length bytes) (2 ^ 63) (λ low. omega (arith, low)) result made err) run_keeps refl (adds_none (WritePiece number file bytes) refl (Refused Fault) _)
+      (did_kept g old disk old.cache (λ m s fits. fits) (record old.state { read_only = Some (g.faults disk) }) (WritePiece number file bytes) (Refused Fault) (calls_fault g old.disk disk 1 (at + length bytes) (2 ^ 63) (λ low. omega (arith, low)) result made err) run_keeps refl (adds_none (WritePiece number file bytes) refl (Refused Fault) _)
       (λ m s. (
         broken (g.faults disk) m,
         stands_kept (IsTrue (g.tells old.disk)) (IsTrue (g.tells disk)) (g.held old.disk) (g.held disk) (g.may_leave old.disk) (g.may_leave disk) old.state (record old.state { read_only = Some (g.faults disk) }) m (broken (g.faults disk) m)
@@ -121,6 +133,6 @@ module _ {D : Type 0} (g : Ghosts D) (only_now : OnlyNow g) (old : Core D) (disk
             (λ bad. absurd bad) (λ bad. absurd bad) (λ bad. absurd bad) (λ none. absurd (let bad : Some (g.faults disk) ≡ None = none in cc)) (λ bad. absurd bad) (λ bad. absurd bad),
         Breaks (free m s.has) refl refl rose refl,
       ))
-      (λ told m s hold is_open stays f among differs. besides told f (λ is. let bad = eq-eqb file f (sym is) in absurd cc))
+      (λ told m s hold is_open stays f among differs. besides told f (λ is. let bad = eq-eqb file f (sym is) in absurd cc)) kept_same
       (λ told f among. none_begun (Refused Fault) f _ refl among) (λ told. tt) (λ shows h. tt)
       (calls_most g old.disk disk 1 (at + length bytes) (2 ^ 63) (λ low. omega (arith, low)) result made) (calls_unread g old.disk disk 1 (at + length bytes) (2 ^ 63) (λ low. omega (arith, low)) result made))

@@ -1,5 +1,5 @@
 -- An event of a core is a call of its port.
-use Rattle.std.proofs.Common.{[], sym, ◌∙◌}
+use Rattle.std.proofs.Common.{◌≡◌, ℕ, List, [], true, ap, sym, ◌∙◌}
 use Rattle.disk_model.specs.declared.disk.Device.{Ghosts}
 use Rattle.disk_model.proofs.CallRuns.{raised_rose}
 use Rattle.store_model.specs.Event.{Event, Reply}
@@ -7,11 +7,14 @@ use Rattle.store_model.specs.Step.{Machine, IsLookPin}
 use Rattle.store_state.specs.Meaning.{Called, IsOpen}
 use Rattle.store_state.specs.Cores.{CoreHolds, CoreSteps}
 use Rattle.store_model.specs.Holds.{Hold, OpenIn}
-use Rattle.store_model.specs.Holds.Hold.{OpenFlush, OpenCompact}
-use Rattle.store_state.specs.Given.{look_of, IsJobOf}
+use Rattle.store_model.specs.Holds.Hold.{OpenLook, OpenFlush, OpenCompact}
+use Rattle.store_model.specs.State.{Pinned, block_files, is_among, pinned_blocks}
+use Rattle.store_state.specs.Given.{info_files, look_of, IsJobOf, IsPinOf}
+use Rattle.store_state.specs.Given.IsPinOf.{OfLook, OfJob}
 use Rattle.store_state.specs.Given.IsJobOf.{OfFlush, OfCompact}
 use Rattle.store_state.specs.declared.jobs.JobFile.{JobFile}
 use Rattle.store_state.specs.declared.jobs.Look.{Look}
+use Rattle.store_state.specs.declared.jobs.Pin.{Pin}
 use Rattle.store_state.proofs.CallLaws.{step_is_called}
 use Rattle.store_images.proofs.Lists.{not_in_nil}
 use Rattle.store_core.specs.declared.store.Core.{Core}
@@ -29,7 +32,7 @@ steps g old event reply new did = record {
   telling = did.counts.telling;
   ended = λ m shown free.
       let after = did.shown m shown in
-      sym shown.has.read_only ∙ wrote (g.faults old.disk) (g.faults new.disk) m after.0 event reply after.2 (after.1.has.read_only ∙ free);
+      sym shown.state.has.read_only ∙ wrote (g.faults old.disk) (g.faults new.disk) m after.0 event reply after.2 (after.1.state.has.read_only ∙ free);
   bytes = did.files;
   page = did.page;
   look = did.look;
@@ -68,6 +71,12 @@ pub open_look : {D : Type 0} (g : Ghosts D) (core : Core D) (look : Look) → Is
     → (m : Machine) × CoreShows g core m × IsLookPin look.pin.number m.state
 open_look g core look (held, known, there) = (known.machine, known.shown, (known.open_holds (look_of look) there).open_pin)
 
+-- a pin's files, by another name of its number
+by_number : (pins : List Pinned) (mine number block : ℕ) (files known : List ℕ) → mine ≡ number → files ≡ known → block_files (pinned_blocks mine pins) ≡ files
+    → is_among block known ≡ true → is_among block (block_files (pinned_blocks number pins)) ≡ true
+by_number pins mine number block files known is same its named =
+    ap (λ (n : ℕ). is_among block (block_files (pinned_blocks n pins))) (sym is) ∙ ap (is_among block) (its ∙ same) ∙ named
+
 -- what the port holds open is open in a machine that the core's memory shows
 pub open_hold : {D : Type 0} (g : Ghosts D) (core : Core D) (hold : Hold) → IsOpen (port_of g) core hold → (m : Machine) × CoreShows g core m × OpenIn m hold
 open_hold g core hold (held, known, there) = (known.machine, known.shown, known.open_holds hold there)
@@ -76,12 +85,20 @@ pub open_job : {D : Type 0} (g : Ghosts D) (core : Core D) (out : JobFile) → I
 open_job g core out (OfFlush job number file is) = let its = open_hold g core (OpenFlush job) is in (its.0, its.1, OfFlush job number file its.2)
 open_job g core out (OfCompact job number file is) = let its = open_hold g core (OpenCompact job) is in (its.0, its.1, OfCompact job number file its.2)
 
+-- the pin of what the port holds open names the block in a machine that the core's memory shows
+pub open_pin : {D : Type 0} (g : Ghosts D) (core : Core D) (pin : Pin) (block : ℕ) → IsPinOf pin block (IsOpen (port_of g) core)
+    → (m : Machine) × CoreShows g core m × (is_among block (block_files (pinned_blocks pin.number m.state.pins)) ≡ true)
+open_pin g core pin block (OfLook look number files is named) = let its = open_hold g core (OpenLook look) is in
+    (its.0, its.1, by_number its.0.state.pins look.pin pin.number block look.files (info_files pin.blocks) number files its.2.its_files named)
+open_pin g core pin block (OfJob job number files is named) = let its = open_hold g core (OpenCompact job) is in
+    (its.0, its.1, by_number its.0.state.pins job.pin pin.number block job.files (info_files pin.blocks) number files its.2.its_files named)
+
 -- nothing is open in a core whose memory shows a machine
 pub holds_nothing : {D : Type 0} (g : Ghosts D) (core : Core D) (m : Machine) → CoreShows g core m → CoreHolds (shown_by g) core []
 holds_nothing g core m shown = record {
   machine = m;
   shown = shown;
-  agrees = shown.agrees;
-  sound = shown.sound;
+  agrees = shown.state.agrees;
+  sound = shown.state.sound;
   open_holds = λ hold inside. absurd (not_in_nil hold inside);
 }

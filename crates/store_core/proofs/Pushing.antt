@@ -24,7 +24,9 @@ use Rattle.store_core.specs.Cores.{HasState, StandsFor, AreDescribed, segment_of
 use Rattle.store_core.proofs.Described.{described_same}
 use Rattle.store_core.specs.Jobs.{HasFreshSegment}
 use Rattle.store_core.specs.declared.jobs.OpenFlush.{OpenFlush}
+use Rattle.store_core.specs.Frames.{IsKept}
 use Rattle.store_core.proofs.HeldFiles.{held_apart}
+use Rattle.store_core.proofs.KeptFiles.{kept_apart}
 use Rattle.store_core.proofs.OpenJobs.{fresh_moved, segment_of_known}
 
 module _ {D : Type 0} (moment : D → ℕ) (left_since : D → ℕ → Image → Type 0) (may_leave : D → Image → Type 0) (held : Image) (body : ListBody) (blocks : List Block) (tail : Tail) (h : History) (old new : D)
@@ -60,7 +62,11 @@ pub held_stays : (core : CoreState) (m : Machine) (held later : Image) → HasSt
     → (hold : Hold) → OpenIn m hold → (file : ℕ) → is_among file (files_of hold) ≡ true → bytes_of later file ≡ bytes_of held file
 held_stays core m held later has sound besides hold is_open file among = besides file (tail_apart core m has file (held_apart m hold sound is_open file among))
 
--- nor has a listed block
+-- nor has a listed or pinned block
+pub kept_stays : (core : CoreState) (m : Machine) (held later : Image) → HasState core m → StateIsSound m.state → Besides core.segment.file held later
+    → (file : ℕ) → IsKept file m.state → bytes_of later file ≡ bytes_of held file
+kept_stays core m held later has sound besides file kept = besides file (tail_apart core m has file (kept_apart m.state sound file kept))
+
 listed_once : (blocks : List Block) (b : Block) → Contains blocks b → 1 ≤ times b.file (block_files blocks)
 listed_once [] b inside = absurd (not_in_nil b inside)
 listed_once (x ∷ xs) b inside = elim (in_cons b x xs inside) [

@@ -54,7 +54,7 @@ pub quiet : {D : Type 0} (g : Ghosts D) (only_now : (disk : D) (image : Image) �
     → ((told : Type 0) (m : Machine) → StandsFor told (g.held old.disk) (g.may_leave old.disk) old.state m → (m' : Machine) × StandsFor told (g.held old.disk) (g.may_leave old.disk) state m' × (m'.history ≡ m.history)
     × Step (g.faults old.disk) (g.faults old.disk) m event reply m')
     → Did g old event reply (record old { state = state })
-quiet {D} g only_now old state event reply still no_fault no_call begins same page look step = did_since g old _ _ _ refl (record {
+quiet {D} g only_now old state event reply still no_fault no_call begins same page look step = did_since g old _ _ _ refl (λ m s fits. fits) (record {
   stepped = λ m stands. let done = step (IsTrue (g.tells old.disk)) m stands in record {
     machine = done.0;
     stands = done.1;
@@ -67,6 +67,7 @@ quiet {D} g only_now old state event reply still no_fault no_call begins same pa
   shown = λ m shows. let done = step ⊥ m shows in (done.0, done.1, done.3);
   tidy = λ told m stands tidy. started g.moment g.left_since old.disk _ (λ image left. tidy image (only_now old.disk image left));
   files = λ told m stands hold is_open stays file among. still file _;
+  kept = λ told m s file is. refl;
   empty = λ told file among. none_begun reply file _ begins among;
   page = λ told. page (λ file. bytes_of (g.held old.disk) file);
   look = look;

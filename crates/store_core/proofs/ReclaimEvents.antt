@@ -27,7 +27,9 @@ use Rattle.store_model.specs.Step.Step.{Sure, Succeeds, Lacks, Breaks}
 use Rattle.store_model.proofs.Numbers.{same_number}
 use Rattle.store_state.specs.Calls.{RoseAtMost, reclaim_calls}
 use Rattle.store_images.specs.Stored.{KeepsStored}
-use Rattle.store_core.specs.Cores.{HasState, CoreShows, tail_of}
+use Rattle.store_core.specs.Cores.{HasState, StateShows, tail_of}
+use Rattle.store_core.specs.Frames.{IsKept}
+use Rattle.store_core.proofs.KeptFiles.{kept_high, kept_full}
 use Rattle.store_core.proofs.Now.{StandsNow}
 use Rattle.store_core.specs.Events.{Did}
 use Rattle.store_core.specs.Jobs.{HasFreshSegment, files_of_flush, files_of_compaction}
@@ -204,7 +206,7 @@ module _ {D : Type 0} (g : Ghosts D) (old : Core D) (disk : D) (writes : old.sta
   written : (m : Machine) → HasState old.state m → StateIsSound m.state → writes_in m.state Reclaim ≡ true
   written m has sound = subst (λ (l : List ℕ). not (length l == 0) ≡ true) (free_is old.state m has sound kept free parts) (some_not free some)
 
-  held_same : IsTrue (g.tells old.disk) → (m : Machine) → CoreShows g old m → (hold : Hold) → OpenIn m hold → (f : ℕ) → is_among f (hold_files hold) ≡ true → bytes_of (g.held disk) f ≡ bytes_of (g.held old.disk) f
+  held_same : IsTrue (g.tells old.disk) → (m : Machine) → StateShows g old m → (hold : Hold) → OpenIn m hold → (f : ℕ) → is_among f (hold_files hold) ≡ true → bytes_of (g.held disk) f ≡ bytes_of (g.held old.disk) f
   held_same told m s hold is_open f among = still told f
       (elim (cases_lt f 2) [
         | inl low ↦ absurd (let used = held_used m hold s.sound is_open f among in let none = s.sound.files.slots f low in omega (arith, used, none))
@@ -212,6 +214,10 @@ module _ {D : Type 0} (g : Ghosts D) (old : Core D) (disk : D) (writes : old.sta
       ])
       (λ c. let once = free_once old.state m s.has s.sound kept free parts f c in
       let none = held_kept m hold s.sound is_open f among in omega (arith, once, none))
+
+  kept_same : IsTrue (g.tells old.disk) → (m : Machine) → StateShows g old m → (f : ℕ) → IsKept f m.state → bytes_of (g.held disk) f ≡ bytes_of (g.held old.disk) f
+  kept_same told m s f is = still told f (kept_high m.state s.sound f is)
+      (λ c. let once = free_once old.state m s.has s.sound kept free parts f c in let none = kept_full m.state s.sound f is in omega (arith, once, none))
 
   unread : RoseAtMost 0 (g.reads old.disk) (g.reads disk)
   unread = calls_unread g old.disk disk (2 * length free + 6) end 0 (λ low. short) result made
@@ -223,7 +229,7 @@ module _ {D : Type 0} (g : Ghosts D) (old : Core D) (disk : D) (writes : old.sta
 
   did_stopped : IsErr result → Did g old Reclaim (Refused Fault) (record old { disk = disk; state = stopped })
   did_stopped err =
-      did_kept g old disk stopped Reclaim (Refused Fault) (calls_fault g old.disk disk (2 * length free + 6) end 0 (λ low. short) result made err) run_keeps refl (adds_none Reclaim refl (Refused Fault) _)
+      did_kept g old disk old.cache (λ m s fits. fits) stopped Reclaim (Refused Fault) (calls_fault g old.disk disk (2 * length free + 6) end 0 (λ low. short) result made err) run_keeps refl (adds_none Reclaim refl (Refused Fault) _)
       (λ m s. (
         broken (g.faults disk) m,
         stands_kept (IsTrue (g.tells old.disk)) (IsTrue (g.tells disk)) (g.held old.disk) (g.held disk) (g.may_leave old.disk) (g.may_leave disk) old.state stopped m (broken (g.faults disk) m)
@@ -242,7 +248,7 @@ module _ {D : Type 0} (g : Ghosts D) (old : Core D) (disk : D) (writes : old.sta
             (λ bad. absurd bad) (λ bad. absurd bad) (λ bad. absurd bad) (λ none. absurd (let bad : Some (g.faults disk) ≡ None = none in cc)) (λ bad. absurd bad) (λ bad. absurd bad),
         breaks m s.has s.sound,
       ))
-      (λ told m s hold is_open stays f among. held_same told m s hold is_open f among)
+      (λ told m s hold is_open stays f among. held_same told m s hold is_open f among) kept_same
       (λ told f among. none_begun (Refused Fault) f _ refl among) (λ told. tt) (λ shows h. tt)
       made.calls.later unread
     where
@@ -297,7 +303,7 @@ module _ {D : Type 0} (g : Ghosts D) (old : Core D) (disk : D) (writes : old.sta
 
     did_emptied : Did g old Reclaim (Count count) (record old { disk = disk; state = after })
     did_emptied =
-        did_kept g old disk after Reclaim (Count count)
+        did_kept g old disk old.cache (λ m s fits. fits) after Reclaim (Count count)
         (calls_fine g old.disk disk (2 * length free + 6) end 0 (λ low. short) result made fine (Count count) (λ is. let bad : Count count ≡ Refused Fault = is in absurd cc))
         run_keeps refl refl
         (λ m s. (
@@ -321,7 +327,7 @@ module _ {D : Type 0} (g : Ghosts D) (old : Core D) (disk : D) (writes : old.sta
               (λ bad. bad) s (its_step m s.has s.sound) refl (has_after m s.has s.sound) refl (λ bad. absurd bad) (λ bad. absurd bad) (λ bad. absurd bad) (λ still. still) (λ bad. absurd bad) (λ bad. absurd bad),
           its_step m s.has s.sound,
         ))
-        (λ told m s hold is_open stays f among. held_same told m s hold is_open f among)
+        (λ told m s hold is_open stays f among. held_same told m s hold is_open f among) kept_same
         (λ told f among. none_begun (Count count) f _ refl among) (λ told. tt) (λ shows h. tt)
         (its_calls count (g.calls old.disk) (g.calls disk) (λ is. some (sym counted ∙ is)) (subst (λ (n : ℕ). RoseBy (2 * n + 6) (g.calls old.disk) (g.calls disk)) (sym counted) (calls_exact g old.disk disk (2 * length free + 6) end 0 (λ low. short) result made fine))) unread
 

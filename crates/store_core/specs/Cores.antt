@@ -25,6 +25,7 @@ use Rattle.store_core.specs.Jobs.{ShowsFlush, ShowsCompaction, JobsFit, HasCommi
 use Rattle.store_core.specs.Waiting.{rows_outside, AreLogged}
 use Rattle.store_core.specs.InUse.{AreInUse}
 use Rattle.store_core.specs.Stood.{StoodFor}
+use Rattle.store_core.specs.Frames.{FramesFit}
 use Rattle.store_core.specs.declared.state.CoreState.{CoreState}
 use Rattle.store_core.specs.declared.store.Core.{Core}
 
@@ -110,6 +111,11 @@ pub record CoreStandsFor {D : Type 0} (g : Ghosts D) (core : Core D) (m : Machin
   pub stands : StandsFor (IsTrue (g.tells core.disk)) (g.held core.disk) (g.may_leave core.disk) core.state m
   pub past : IsTrue (g.tells core.disk) → StoodSince g core m
 
--- the core's memory shows the machine, whatever its disk holds
-abbrev pub CoreShows : {D : Type 0} (g : Ghosts D) → Core D → Machine → Type 0
-CoreShows {D} g core m = StandsFor ⊥ (g.held core.disk) (g.may_leave core.disk) core.state m
+-- what the core keeps shows the machine, whatever its disk holds
+abbrev pub StateShows : {D : Type 0} (g : Ghosts D) → Core D → Machine → Type 0
+StateShows {D} g core m = StandsFor ⊥ (g.held core.disk) (g.may_leave core.disk) core.state m
+
+-- The core's memory shows the machine, whatever its disk holds: by what it keeps, and by the frames of its page cache.
+pub record CoreShows {D : Type 0} (g : Ghosts D) (core : Core D) (m : Machine) : Type 0 where
+  pub state : StateShows g core m
+  pub frames : FramesFit (IsTrue (g.tells core.disk)) (g.held core.disk) m.state core.cache

@@ -5,6 +5,7 @@ pub mod NextList
 pub mod Waiting
 pub mod InUse
 pub mod Stood
+pub mod Frames
 pub mod Cores
 pub mod Beginning
 pub mod Events

@@ -19,13 +19,19 @@ use block_list::{BlockList, FileList, ListBody, SegmentList, SegmentRef, commit,
 use disk_model::Device;
 use head_log::{Segment, create};
 use live_traces::Live;
+use page_cache::PageCache;
 use span_types::Memory;
 use std::alloc::Global;
 
-/// Opens a new store on a disk whose slots are vacant. At `Ok` the core stands for each history without rows and entries.
+/// Opens a new store on a disk whose slots are vacant, with these frames for its pages. At `Ok` the core stands for each history
+/// without rows and entries.
 ///
 /// Refused, it hands the disk back as far as it came.
-pub fn open_new<D: Device>(alloc: Global, disk: D) -> Result<Core<D>, (OpenError, D)>
+pub fn open_new<D: Device>(
+    alloc: Global,
+    disk: D,
+    cache: PageCache,
+) -> Result<Core<D>, (OpenError, D)>
     requires vacant { IsTrue (D.tells disk) → IsReady (D.held disk) (D.may_leave disk) None }
     ensures stands { IfOk result (λ core. (h : History) → IsEmptyHistory h → CoreStandsFor D.Device.own core (new_machine h)) }
     // Whenever a crash comes, nothing is stored, and what is left is tidy.
@@ -38,6 +44,7 @@ pub fn open_new<D: Device>(alloc: Global, disk: D) -> Result<Core<D>, (OpenError
     ensures a_store { IfErr result (λ e. (file at : ℕ) → e.0 ≢ NotStore file at) }
     ensures unchanged { IfErr result (λ e. e.0 ≢ Fault → e.1 ≡ disk) }
     ensures list { IfOk result (λ core. core.state.list ≡ new_list) }
+    ensures frames { IfOk result (λ core. core.cache ≡ cache) }
     ensures ends { IfOk result (λ core. core.since.moment ≡ D.moment core.disk) }
     ensures ready { IfOk result (λ core. IsTrue (D.tells disk) → IsReady (D.held core.disk) (D.may_leave core.disk) (Some core.state.list)) }
 {
@@ -50,6 +57,7 @@ pub fn open_new<D: Device>(alloc: Global, disk: D) -> Result<Core<D>, (OpenError
                 disk,
                 state: new_state(alloc, list),
                 since,
+                cache,
             })
         }
         Err(error) => Err((error, disk)),

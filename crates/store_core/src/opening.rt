@@ -1,6 +1,6 @@
 //! A store is opened.
 
-ghost use Rattle.std.specs.Prelude.{◌≡◌, ◌≢◌, ◌≤◌, ◌+◌, ◌-◌, ℕ, List, [], drop, map, Option, Some, Err, IsTrue, IfOk, IfErr, OnOk};
+ghost use Rattle.std.specs.Prelude.{◌≡◌, ◌≢◌, ◌≤◌, ◌+◌, ◌-◌, ℕ, List, [], drop, map, replicate, Option, None, Some, Err, IsTrue, IfOk, IfErr, OnOk};
 ghost use Rattle.std.specs.List.{Contains};
 ghost use Rattle.span_types.specs.declared.spans.Span.{Span};
 ghost use Rattle.disk_model.specs.Calls.{Counts, CountsFault};
@@ -39,6 +39,7 @@ use block_list::{ListBody, ListError, load};
 use disk_model::Device;
 use head_log::Segment;
 use live_traces::Live;
+use page_cache::PageCache;
 use std::alloc::Global;
 
 impl<D: Device> Core<D> {
@@ -70,17 +71,22 @@ impl<D: Device> Core<D> {
         ensures not_store { IfErr result (λ e. IsTrue (D.tells disk) → (file at : ℕ) → e.0 ≡ NotStore file at → StoreBreaks (D.held disk) file at) }
         ensures unbroken { IfOk result (λ core. IsTrue (D.tells disk) → (file at : ℕ) → StoreBreaks (D.held disk) file at → ⊥) }
         ensures sound { IfErr result (λ e. IsTrue (D.tells disk) → IsSoundImage (D.held disk) → (file at : ℕ) → e.0 ≢ NotStore file at) }
+        // All frames are empty. They are made first.
+        ensures frames { IfOk result (λ core. core.cache ≡ replicate 256 None) }
         // A fault is answered just where a call of the disk failed, and then it was the last one.
         ensures calls { IfOk result (λ core. Counts D.Device.own 0 (Unit {0}) ⊥ disk core.disk) }
         ensures calls_refused { IfErr result (λ e. Counts D.Device.own 0 (e.0 ≢ Fault) (e.0 ≡ Fault) disk e.1) }
     {
+        let Ok(cache) = PageCache::new(alloc) else {
+            return Err((OpenError::Memory, disk));
+        };
         let mut disk = disk;
         let found = match load(alloc, &mut disk) {
             Ok(found) => found,
             Err(error) => return Err((refusal(error), disk)),
         };
         match found {
-            None => open_new(alloc, disk),
+            None => open_new(alloc, disk, cache),
             Some(list) => match read_store(alloc, &mut disk, list, moment) {
                 Ok(state) => {
                     let since = Since::now(&disk);
@@ -89,6 +95,7 @@ impl<D: Device> Core<D> {
                         disk,
                         state,
                         since,
+                        cache,
                     })
                 }
                 Err(error) => Err((error, disk)),

@@ -5,6 +5,7 @@ ghost use Rattle.std.specs.Prelude.{◌≡◌};
 use crate::since::Since;
 use crate::state::CoreState;
 use disk_model::Device;
+use page_cache::PageCache;
 use std::alloc::Global;
 
 /// A store over a disk, whose calls are its events. It makes them one after another; each takes all memory that it needs before
@@ -19,6 +20,8 @@ pub struct Core<D: Device> {
     pub state: CoreState,
     /// Since when it is open.
     pub since: Since,
+    /// The pages that were read last.
+    pub(crate) cache: PageCache,
 }
 
 impl<D: Device> Core<D> {

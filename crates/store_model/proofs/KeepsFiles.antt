@@ -12,7 +12,7 @@ use Rattle.store_model.proofs.Numbers.{times-append, map_append, fewer_left, all
 use Rattle.store_model.proofs.Chosen.{split, choice_part, part_within}
 use Rattle.store_model.proofs.Outcomes.{kept_by, idle_flush, idle_compaction}
 
-block_files-more : (f : ℕ) (bs : List Block) (b : Block) → times f (block_files (bs ++ b ∷ [])) ≡ times f (block_files bs) + times f (b.file ∷ [])
+pub block_files-more : (f : ℕ) (bs : List Block) (b : Block) → times f (block_files (bs ++ b ∷ [])) ≡ times f (block_files bs) + times f (b.file ∷ [])
 block_files-more f bs b = ap (times f) (map_append (λ (b : Block). b.file) bs (b ∷ [])) ∙ times-append f (block_files bs) (b.file ∷ [])
 
 segment_files-more : (f : ℕ) (bs : List Segment) (b : Segment) → times f (segment_files (bs ++ b ∷ [])) ≡ times f (segment_files bs) + times f (b.file ∷ [])
@@ -30,14 +30,14 @@ parted f floor (a ∷ b ∷ rest) = by_test (nat_le b.first floor) (parted f flo
     by_test false ih = omega (arith, ih)
 
 -- pins
-pinned-more : (f : ℕ) (pins : List Pinned) (pin : Pinned) → times f (pinned_files (pins ++ pin ∷ [])) ≡ times f (pinned_files pins) + times f (block_files pin.blocks)
+pub pinned-more : (f : ℕ) (pins : List Pinned) (pin : Pinned) → times f (pinned_files (pins ++ pin ∷ [])) ≡ times f (pinned_files pins) + times f (block_files pin.blocks)
 pinned-more f [] pin = times-append f (block_files pin.blocks) [] ∙ swapped (times f (block_files pin.blocks))
   where
     swapped : (n : ℕ) → n + 0 ≡ 0 + n
     swapped n = omega arith
 pinned-more f (p ∷ pins) pin = omega (arith, times-append f (block_files p.blocks) (pinned_files (pins ++ pin ∷ [])), times-append f (block_files p.blocks) (pinned_files pins), pinned-more f pins pin)
 
-pinned_fewer : (f n : ℕ) (pins : List Pinned) → times f (pinned_files (without_pin n pins)) ≤ times f (pinned_files pins)
+pub pinned_fewer : (f n : ℕ) (pins : List Pinned) → times f (pinned_files (without_pin n pins)) ≤ times f (pinned_files pins)
 pinned_fewer f n [] = omega arith
 pinned_fewer f n (p ∷ pins) = by_test (p.number == n) (pinned_fewer f n pins)
   where

@@ -16,3 +16,4 @@ pub mod KeepsSizes
 pub mod KeepsFloor
 pub mod FirstsExist
 pub mod GivesFresh
+pub mod KeptFiles

@@ -12,4 +12,4 @@ pub shows_on : {D : Type 0} (g : Ghosts D) (old new : Core D) → ((m : Machine)
     → ((held : List Hold) × (port_of g).holds old held) → (held : List Hold) × (port_of g).holds new held
 shows_on g old new next (held, known) =
     let n : (m' : Machine) × CoreShows g new m' = next known.machine known.shown in
-    ([], record { machine = n.0; shown = n.1; agrees = n.1.agrees; sound = n.1.sound; open_holds = λ hold inside. absurd (omega (arith, inside.1)) })
+    ([], record { machine = n.0; shown = n.1; agrees = n.1.state.agrees; sound = n.1.state.sound; open_holds = λ hold inside. absurd (omega (arith, inside.1)) })

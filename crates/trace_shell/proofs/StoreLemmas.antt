@@ -40,8 +40,8 @@ pub holds_nothing : {D : Type 0} (g : Ghosts D) (core : Core D) (m : Machine) �
 holds_nothing g core m shown = record {
   machine = m;
   shown = shown;
-  agrees = shown.agrees;
-  sound = shown.sound;
+  agrees = shown.state.agrees;
+  sound = shown.state.sound;
   open_holds = λ hold inside. absurd (not_in_nil hold inside);
 }
 
@@ -131,8 +131,8 @@ module _ {D : Type 0} (g : Ghosts D) (disk : D) (moment : ℕ) (core later : Cor
       record {
         moment = next;
         begins = opens.empty;
-        agrees = opens.shows.agrees;
-        few = subst (λ (n : ℕ). n ≤ 4294967295) (sym opens.shows.has.count) opens.shows.has.few;
+        agrees = opens.shows.state.agrees;
+        few = subst (λ (n : ℕ). n ≤ 4294967295) (sym opens.shows.state.has.count) opens.shows.state.has.few;
         unbroken = subst (λ (o : Option Image). IfSome o (λ image. (file at : ℕ) → StoreBreaks image file at → ⊥)) (sym held)
             (if_told g disk (λ image. (file at : ℕ) → StoreBreaks image file at → ⊥) unbroken);
         first_faults = counted ∙ sym old_faults;

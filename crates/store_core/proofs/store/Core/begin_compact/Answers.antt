@@ -64,7 +64,7 @@ returns-in-Ok-cut_through-clause-joins g c = λ m s.
     joins_made core.state c.as_slice.result.now c.in-Ok.level c.in-Ok.pin.blocks made.blocks made.its_level
     (λ listed are. subst (λ (l : List ℕ). picked l listed ≡ choice listed) (sym c.as_slice.ensures.value)
     (of_some (λ (v : Vec ℕ Global). picked v.items listed ≡ choice listed) found.field-0 found.chosen found.field-0-is (found.ensures.chosen listed are)))
-    may c.a_choice_is_few.ensures m s.has
+    may c.a_choice_is_few.ensures m s.state.has
 
 pub returns-in-Ok-cut_through-clause-blocks : goal.returns-in-Ok-cut_through-clause-blocks
 returns-in-Ok-cut_through-clause-blocks g c = λ told m s.

@@ -33,8 +33,8 @@ joined_list-list-requires-clause-rules g c =
     let core = c.args.self.now in
     let known = c.requires.job in
     let job = c.args.job in
-    let mine = compaction_here core.state known.0 known.0 job.out.number job.out.file job.level job.pin.number (info_files job.pin.blocks) known.1.has known.2 known.1.has in
-    rules_joined g.D.Device core known.0 known.1 job.out.number job.out.file job.level job.pin.number job.pin.blocks known.2 c.args.info (none_of core.state.read_only c.in_default.not-Some) c.requires.size c.requires.names c.requires.block
+    let mine = compaction_here core.state known.0 known.0 job.out.number job.out.file job.level job.pin.number (info_files job.pin.blocks) known.1.state.has known.2 known.1.state.has in
+    rules_joined g.D.Device core known.0 known.1.state job.out.number job.out.file job.level job.pin.number job.pin.blocks known.2 c.args.info (none_of core.state.read_only c.in_default.not-Some) c.requires.size c.requires.names c.requires.block
     c.as_slice.result.now c.rows_in.result (c.as_slice.ensures ∙ c.take_files-joined.ensures.result ∙ mine.named) c.rows_in.ensures
 
 -- ---- where the list was made
@@ -44,7 +44,7 @@ take_over_joined-requires-clause-other g c =
     let core = c.args.self.now in
     let known = c.requires.job in
     let job = c.args.job in
-    let mine = compaction_here core.state known.0 known.0 job.out.number job.out.file job.level job.pin.number (info_files job.pin.blocks) known.1.has known.2 known.1.has in
+    let mine = compaction_here core.state known.0 known.0 job.out.number job.out.file job.level job.pin.number (info_files job.pin.blocks) known.1.state.has known.2 known.1.state.has in
     let s = c.joined_list-list.ensures in
     others_fit core.state c.joined_list-list.new.self mine.mine c.take_files-joined.new.pins c.as_slice.result.now c.rows_in.result c.joined_list-list.result.0 mine.known
     (spent_is core.state c.joined_list-list.new.self mine.mine c.take_files-joined.new.pins mine.known s.same s.compaction) s.list
@@ -54,7 +54,7 @@ give_back-requires g c =
     let core = c.args.self.now in
     let known = c.requires.job in
     let job = c.args.job in
-    let mine = compaction_here core.state known.0 known.0 job.out.number job.out.file job.level job.pin.number (info_files job.pin.blocks) known.1.has known.2 known.1.has in
+    let mine = compaction_here core.state known.0 known.0 job.out.number job.out.file job.level job.pin.number (info_files job.pin.blocks) known.1.state.has known.2 known.1.state.has in
     let s = c.joined_list-list.ensures in
     let same : length c.joined_list-list.new.self.pins.items ≡ length c.take_files-joined.new.pins.items = ap (λ (x : CoreState). length x.pins.items) s.same in
     let len = c.take_files-joined.ensures.len in
@@ -76,13 +76,13 @@ returns-in-Ok-commit g c =
     let o = c.in-Ok-commit.ensures in
     let t = c.take_over_joined.ensures in
     let writes = none_of core.state.read_only c.in_default.not-Some in
-    let mine = compaction_here core.state known.0 known.0 job.out.number job.out.file job.level job.pin.number (info_files job.pin.blocks) known.1.has known.2 known.1.has in
+    let mine = compaction_here core.state known.0 known.0 job.out.number job.out.file job.level job.pin.number (info_files job.pin.blocks) known.1.state.has known.2 known.1.state.has in
     let pins = c.take_files-joined.new.pins in
     let is = spent_is core.state c.joined_list-list.new.self mine.mine pins mine.known s.same s.compaction in
     let files = c.as_slice.ensures ∙ f.result ∙ mine.named in
     let follows = s.text.generation ∙ next_generation core.state mine.mine c.as_slice.result.now c.rows_in.result list mine.known s.list in
     did_compact_committed d g.met.D.Device.only_now core c.sync.new.self c.commit.new.disk job.out.number job.out.file job.level job.pin.number (slot_of text) job.pin.blocks c.args.info list
-    (joins d core known.0 known.1 job.out.number job.out.file job.level job.pin.number job.pin.blocks known.2 c.args.info writes c.requires.size c.requires.names c.requires.block list c.as_slice.result.now c.rows_in.result files c.rows_in.ensures s.list)
+    (joins d core known.0 known.1.state job.out.number job.out.file job.level job.pin.number job.pin.blocks known.2 c.args.info writes c.requires.size c.requires.names c.requires.block list c.as_slice.result.now c.rows_in.result files c.rows_in.ensures s.list)
     _ (record {
       telling = c.in-Ok.ensures.counted.telling;
       same = e.same_bytes;
@@ -106,8 +106,8 @@ returns-in-Ok-commit g c =
     (took_joined core.state c.joined_list-list.new.self c.take_over_joined.new.self list c.args.info c.as_slice-in-Ok-commit.result.now (info_files job.pin.blocks) mine.mine pins mine.known is (c.as_slice-in-Ok-commit.ensures ∙ f.result ∙ mine.named)
     s.few t.list t.infos t.jobs t.loose t.room t.same)
     (λ m has.
-    subst (λ (items : List (Option (List ℕ))). ShowsPins (without_pin (compaction_here core.state known.0 m job.out.number job.out.file job.level job.pin.number (info_files job.pin.blocks) known.1.has known.2 has).mine.pin m.state.pins) items) (sym (pins_after core.state c.joined_list-list.new.self c.take_over_joined.new.self mine.mine pins is t.same.2))
-    (pins_ended d core known.0 known.1 job.out.number job.out.file job.level job.pin.number job.pin.blocks known.2 c.args.info writes c.requires.size c.requires.names c.requires.block pins.items f.taken f.files m has))
+    subst (λ (items : List (Option (List ℕ))). ShowsPins (without_pin (compaction_here core.state known.0 m job.out.number job.out.file job.level job.pin.number (info_files job.pin.blocks) known.1.state.has known.2 has).mine.pin m.state.pins) items) (sym (pins_after core.state c.joined_list-list.new.self c.take_over_joined.new.self mine.mine pins is t.same.2))
+    (pins_ended d core known.0 known.1.state job.out.number job.out.file job.level job.pin.number job.pin.blocks known.2 c.args.info writes c.requires.size c.requires.names c.requires.block pins.items f.taken f.files m has))
     (g.met.D.Device.held_may_stay c.sync.new.self)
     (λ told ready. o.ready told (can_lay (d.held c.sync.new.self) (d.may_leave c.sync.new.self) (Some core.state.list) text ready follows) (Some core.state.list) list ready s.text)
 
@@ -125,14 +125,14 @@ returns g c =
     let b = c.give_back.ensures in
     let w = c.commit.ensures in
     let writes = none_of core.state.read_only c.in_default.not-Some in
-    let mine = compaction_here core.state known.0 known.0 job.out.number job.out.file job.level job.pin.number (info_files job.pin.blocks) known.1.has known.2 known.1.has in
+    let mine = compaction_here core.state known.0 known.0 job.out.number job.out.file job.level job.pin.number (info_files job.pin.blocks) known.1.state.has known.2 known.1.state.has in
     let pins = c.take_files-joined.new.pins in
     let is = spent_is core.state c.joined_list-list.new.self mine.mine pins mine.known s.same s.compaction in
     let between = ap (λ (x : CoreState). x.pins.items) is in
     let follows = s.text.generation ∙ next_generation core.state mine.mine c.as_slice.result.now c.rows_in.result list mine.known s.list in
     did_stopped d core c.stop_writing-in-Err.new.self _ _ c.stop_writing-in-Err.ensures
     (did_compact_fail d g.met.D.Device.only_now core c.sync.new.self c.commit.new.disk job.out.number job.out.file job.level job.pin.number (slot_of text) job.pin.blocks c.args.info list
-    (joins d core known.0 known.1 job.out.number job.out.file job.level job.pin.number job.pin.blocks known.2 c.args.info writes c.requires.size c.requires.names c.requires.block list c.as_slice.result.now c.rows_in.result (c.as_slice.ensures ∙ f.result ∙ mine.named) c.rows_in.ensures s.list)
+    (joins d core known.0 known.1.state job.out.number job.out.file job.level job.pin.number job.pin.blocks known.2 c.args.info writes c.requires.size c.requires.names c.requires.block list c.as_slice.result.now c.rows_in.result (c.as_slice.ensures ∙ f.result ∙ mine.named) c.rows_in.ensures s.list)
     _ (record {
       telling = c.in-Ok.ensures.counted.telling;
       same = e.same_bytes;

@@ -24,7 +24,7 @@ pub next_list-list-requires-clause-rules : goal.next_list-list-requires-clause-r
 next_list-list-requires-clause-rules g c =
     let core = c.args.self.now in
     let known = c.requires.job in
-    rules_known g.D.Device core known.0 known.1 c.args.job.out.number c.args.job.out.file c.args.job.rows known.2 c.args.info (none_of core.state.read_only c.in_default.not-Some) c.requires.size c.requires.names c.requires.block
+    rules_known g.D.Device core known.0 known.1.state c.args.job.out.number c.args.job.out.file c.args.job.rows known.2 c.args.info (none_of core.state.read_only c.in_default.not-Some) c.requires.size c.requires.names c.requires.block
     c.rows_in.result c.rows_in.ensures
 
 pub take_over-requires-clause-other : goal.take_over-requires-clause-other
@@ -32,7 +32,7 @@ take_over-requires-clause-other g c =
     let core = c.args.self.now in
     let known = c.requires.job in
     let s = c.next_list-list.ensures in
-    let mine = flush_here core.state known.0 known.0 c.args.job.out.number c.args.job.out.file c.args.job.rows known.1.has known.2 known.1.has in
+    let mine = flush_here core.state known.0 known.0 c.args.job.out.number c.args.job.out.file c.args.job.rows known.1.state.has known.2 known.1.state.has in
     other_named core.state c.next_list-list.new.self mine.mine c.rows_in.result c.next_list-list.result.0 mine.known (spent_is core.state c.next_list-list.new.self mine.mine mine.known s.same s.flush) s.list
 
 -- ---- where the list was made
@@ -50,11 +50,11 @@ returns-in-Ok-commit g c =
     let o = c.in-Ok-commit.ensures in
     let t = c.take_over.ensures in
     let writes = none_of core.state.read_only c.in_default.not-Some in
-    let mine = flush_here core.state known.0 known.0 c.args.job.out.number c.args.job.out.file c.args.job.rows known.1.has known.2 known.1.has in
+    let mine = flush_here core.state known.0 known.0 c.args.job.out.number c.args.job.out.file c.args.job.rows known.1.state.has known.2 known.1.state.has in
     let follows = s.text.generation ∙ next_generation core.state mine.mine c.rows_in.result list mine.known s.list in
     did_flush_committed d g.met.D.Device.only_now core c.sync.new.self c.commit.new.disk c.args.job.out.number c.args.job.out.file c.args.info.rows (slot_of text) c.args.job.rows
-    (firsts d core known.0 known.1 c.args.job.out.number c.args.job.out.file c.args.job.rows known.2 c.args.info writes c.requires.size c.requires.names c.requires.block) c.args.info list
-    (commits d core known.0 known.1 c.args.job.out.number c.args.job.out.file c.args.job.rows known.2 c.args.info writes c.requires.size c.requires.names c.requires.block list c.rows_in.result c.rows_in.ensures s.list)
+    (firsts d core known.0 known.1.state c.args.job.out.number c.args.job.out.file c.args.job.rows known.2 c.args.info writes c.requires.size c.requires.names c.requires.block) c.args.info list
+    (commits d core known.0 known.1.state c.args.job.out.number c.args.job.out.file c.args.job.rows known.2 c.args.info writes c.requires.size c.requires.names c.requires.block list c.rows_in.result c.rows_in.ensures s.list)
     _ (record {
       telling = c.in-Ok.ensures.counted.telling;
       same = e.same_bytes;
@@ -76,7 +76,7 @@ returns-in-Ok-commit g c =
     })
     refl c.take_over.new.self (unsure_after_spent core.state c.next_list-list.new.self c.take_over.new.self mine.mine (spent_is core.state c.next_list-list.new.self mine.mine mine.known s.same s.flush) t.same.2)
     (λ m has.
-    let here = flush_here core.state known.0 m c.args.job.out.number c.args.job.out.file c.args.job.rows known.1.has known.2 has in
+    let here = flush_here core.state known.0 m c.args.job.out.number c.args.job.out.file c.args.job.rows known.1.state.has known.2 has in
     took_over core.state c.next_list-list.new.self c.take_over.new.self list c.args.info m here.mine has here.known (spent_is core.state c.next_list-list.new.self here.mine here.known s.same s.flush)
     s.few t.list t.infos t.segment t.empty t.jobs t.loose t.room t.rows t.same)
     (g.met.D.Device.held_may_stay c.sync.new.self)
@@ -93,13 +93,13 @@ returns g c =
     let s = c.next_list-list.ensures in
     let w = c.commit.ensures in
     let writes = none_of core.state.read_only c.in_default.not-Some in
-    let mine = flush_here core.state known.0 known.0 c.args.job.out.number c.args.job.out.file c.args.job.rows known.1.has known.2 known.1.has in
+    let mine = flush_here core.state known.0 known.0 c.args.job.out.number c.args.job.out.file c.args.job.rows known.1.state.has known.2 known.1.state.has in
     let follows = s.text.generation ∙ next_generation core.state mine.mine c.rows_in.result list mine.known s.list in
     let is = spent_is core.state c.next_list-list.new.self mine.mine mine.known s.same s.flush in
     did_stopped d core c.stop_writing-in-Err.new.self _ _ c.stop_writing-in-Err.ensures
     (did_flush_fail d g.met.D.Device.only_now core c.sync.new.self c.commit.new.disk c.args.job.out.number c.args.job.out.file c.args.info.rows (slot_of text) c.args.job.rows
-    (firsts d core known.0 known.1 c.args.job.out.number c.args.job.out.file c.args.job.rows known.2 c.args.info writes c.requires.size c.requires.names c.requires.block) c.args.info list
-    (commits d core known.0 known.1 c.args.job.out.number c.args.job.out.file c.args.job.rows known.2 c.args.info writes c.requires.size c.requires.names c.requires.block list c.rows_in.result c.rows_in.ensures s.list)
+    (firsts d core known.0 known.1.state c.args.job.out.number c.args.job.out.file c.args.job.rows known.2 c.args.info writes c.requires.size c.requires.names c.requires.block) c.args.info list
+    (commits d core known.0 known.1.state c.args.job.out.number c.args.job.out.file c.args.job.rows known.2 c.args.info writes c.requires.size c.requires.names c.requires.block list c.rows_in.result c.rows_in.ensures s.list)
     _ (record {
       telling = c.in-Ok.ensures.counted.telling;
       same = e.same_bytes;
@@ -121,6 +121,6 @@ returns g c =
     })
     _
     (λ m has.
-    let here = flush_here core.state known.0 m c.args.job.out.number c.args.job.out.file c.args.job.rows known.1.has known.2 has in
+    let here = flush_here core.state known.0 m c.args.job.out.number c.args.job.out.file c.args.job.rows known.1.state.has known.2 has in
     has_stopped_spent core.state c.next_list-list.new.self here.mine (d.faults c.commit.new.disk) m here.known (spent_is core.state c.next_list-list.new.self here.mine here.known s.same s.flush) has)
     (infos_spent core.state c.next_list-list.new.self mine.mine is) refl (unsure_spent core.state c.next_list-list.new.self mine.mine is) refl)
