@@ -1,5 +1,5 @@
 //! Tests of runs one after another on one disk: what is durable, what a disk whose calls fail or that stops leaves, and what cuts,
-//! flushes, compactions and the emptying of loose files print. They show what no clause says.
+//! flushes, compactions and the emptying of loose files print, and how many pages a look-up reads. They show what no clause says.
 #![tactic(auto)]
 
 #[cfg(test)]
@@ -8,3 +8,5 @@ mod compact_tests;
 mod durable_tests;
 #[cfg(test)]
 mod flush_tests;
+#[cfg(test)]
+mod page_tests;

@@ -1,0 +1,69 @@
+//! How many pages of the disk a look-up reads in whole runs: few for a trace, fewer for one that isn't there, and none twice.
+
+use disk_model::MemDisk;
+use run_support::{LOOK_A1, PUSH_X, PUSH_Y, PUSHED_0, TRACE_X, writes};
+use span_types::Memory;
+use std::alloc::Global;
+use std::sync::Wait;
+use std::thread::Threads;
+
+const LOOK_A2: &str = "trace 000000000000000000000000000000a2";
+
+// How many more reads of the disk a session over the input makes than one that only opens the store; none if it doesn't write just that text.
+fn reads_for<R: Threads + Wait + Sync>(
+    rt: &R,
+    alloc: Global,
+    disk: &mut MemDisk,
+    input: &str,
+    wanted: &str,
+) -> Result<Option<u64>, Memory> {
+    let begun = disk.reads();
+    let is_open = writes(rt, alloc, disk, "", ("", 0))?;
+    let opened = disk.reads();
+    let is_told = writes(rt, alloc, disk, input, (wanted, 0))?;
+    let opening = opened.saturating_sub(begun);
+    let all = disk.reads().saturating_sub(opened);
+    Ok((is_open && is_told).then_some(all.saturating_sub(opening)))
+}
+
+// A look-up in a block of one span reads a page of the filters, one of the index and one of the stripe. The pages are asked for again
+// without a read, also after a push, a flush and a compaction. A trace that isn't there costs two at most.
+#[test]
+fn a_look_up_reads_few_pages_and_none_twice(rt: HostRuntime) -> Result<(), Memory> {
+    let alloc = rt.alloc();
+    let mut disk = MemDisk::empty(alloc);
+    let stored = format!(in alloc; "{PUSH_X}\ncutall\nflush\nreclaim\n")?;
+    let told = format!(in alloc; "{PUSHED_0}ok cutall moved=1\nok flush rows=1\nok reclaim files=1\n")?;
+    assert!(rt; writes(&rt, alloc, &mut disk, stored.as_str(), (told.as_str(), 0))?);
+
+    let nothing = "ok trace as_of=1 spans=0 {\"resourceSpans\":[]}\n";
+    let absent = reads_for(&rt, alloc, &mut disk, LOOK_A2, nothing)?;
+    assert!(rt; matches!(absent, Some(1 | 2)), "{absent:?}");
+
+    let found = format!(in alloc; "ok trace as_of=1 spans=1 {TRACE_X}\n")?;
+    let twice = format!(in alloc; "{LOOK_A1}\n{LOOK_A1}\n{LOOK_A1}\n")?;
+    let told_twice = format!(in alloc; "{found}{found}{found}")?;
+    for (input, wanted) in [(LOOK_A1, found.as_str()), (twice.as_str(), told_twice.as_str())] {
+        let reads = reads_for(&rt, alloc, &mut disk, input, wanted)?;
+        assert_eq!(rt; reads, Some(3), "{input}");
+    }
+    Ok(())
+}
+
+// After a compaction the pages of the blocks that it joined aren't told any more, and those of the new block are read.
+#[test]
+fn pages_of_joined_blocks_are_not_told(rt: HostRuntime) -> Result<(), Memory> {
+    let alloc = rt.alloc();
+    let mut disk = MemDisk::empty(alloc);
+    let input = format!(in alloc;
+        "{PUSH_X}\ncutall\nflush\n{LOOK_A1}\n{PUSH_Y}\ncutall\nflush\n{LOOK_A1}\ncompact\nreclaim\n{LOOK_A1}\n{PUSH_Y}\ncutall\nflush\n{LOOK_A1}\n"
+    )?;
+    let wanted = format!(in alloc;
+        "{PUSHED_0}ok cutall moved=1\nok flush rows=1\nok trace as_of=1 spans=1 {TRACE_X}\n\
+         ok push 1 accepted=1 rejected=0 skipped=0\nok cutall moved=1\nok flush rows=1\nok trace as_of=2 spans=1 {TRACE_X}\n\
+         ok compact blocks=2 rows=1\nok reclaim files=4\nok trace as_of=2 spans=1 {TRACE_X}\n\
+         ok push 2 accepted=1 rejected=0 skipped=0\nok cutall moved=1\nok flush rows=1\nok trace as_of=3 spans=1 {TRACE_X}\n"
+    )?;
+    assert!(rt; writes(&rt, alloc, &mut disk, input.as_str(), (wanted.as_str(), 0))?);
+    Ok(())
+}
