@@ -4,7 +4,10 @@
 ghost use Rattle.std.specs.Prelude.{List};
 ghost use Rattle.store_core.specs.Port.{port_of};
 ghost use Rattle.store_model.specs.Holds.{Hold};
+ghost use Rattle.store_state.specs.Given.{look_of};
+ghost use Rattle.store_state.specs.Meaning.{IsOpen};
 
+use crate::frames::add_page;
 use crate::live::{another, are_at, has_rows};
 use crate::store::{Upset, Upsets};
 use block_list::{ListBody, load};
@@ -16,7 +19,7 @@ use span_types::{Rows, Seq};
 use std::alloc::Global;
 use std::test::Fail;
 use store_core::{Core, a_shown_core_is_a_port};
-use store_state::{FlushPort, LookPort, Pin, Port, ReclaimError, Refusal, Round};
+use store_state::{FlushPort, Look, LookPort, Port, ReclaimError, Refusal, Round};
 
 // Pushes a span, the same one each time.
 fn pushes<P: LookPort>(alloc: Global, port: &mut P) -> bool
@@ -45,68 +48,45 @@ type End = (Round, Result<u64, ReclaimError>);
 
 fn joins<P: Port>(alloc: Global, port: &mut P) -> End
     requires { (held : List Hold) × P.meaning.holds port.old held }
+    ensures { (look : Look) → IsOpen P.meaning port.old (look_of look) → IsOpen P.meaning port.new (look_of look) }
 {
     let round = compact_round(alloc, port);
     (round, port.reclaim())
 }
 
-// The pages of the first two blocks, by the block's file.
-const PAGES: [(u32, u64); 8] = [
-    (3, 0),
-    (3, 1),
-    (3, 2),
-    (3, 3),
-    (5, 0),
-    (5, 1),
-    (5, 2),
-    (5, 3),
-];
+// The pages of the first block, whose file is 3.
+const PAGES: [(u32, u64); 4] = [(3, 0), (3, 1), (3, 2), (3, 3)];
 
-fn add_page<D: Device>(
-    store: &mut Core<D>,
-    pin: &Pin,
-    page: (u32, u64),
-    bytes: &mut Vec<u8>,
-) -> bool
-    ensures { ((held : List Hold) × (port_of D.Device.own).holds store.old held) →
-        (held : List Hold) × (port_of D.Device.own).holds store.new held }
-{
-    let mut buf = [0; 4096];
-    match store.read_page(pin, page.0, page.1, &mut buf) {
-        Ok(()) => bytes.extend_from_slice(&buf).is_ok(),
-        Err(_) => false,
-    }
-}
-
-// Adds the bytes of the first two blocks.
-fn add_pages<D: Device>(store: &mut Core<D>, pin: &Pin, bytes: &mut Vec<u8>) -> bool
-    ensures { ((held : List Hold) × (port_of D.Device.own).holds store.old held) →
-        (held : List Hold) × (port_of D.Device.own).holds store.new held }
+// Adds the bytes of the first block.
+fn add_pages<P: FlushPort>(port: &mut P, look: &Look, bytes: &mut Vec<u8>) -> bool
+    requires { IsOpen P.meaning port.old (look_of look.now) }
+    ensures { IsOpen P.meaning port.new (look_of look.now) }
 {
     let mut read = true;
     for page in PAGES {
-        read &= add_page(store, pin, page, bytes);
+        read &= add_page(port, look, page, bytes);
     }
     read
 }
 
-// How a compaction ends beside a look, and whether the look's blocks have the same bytes before and after it.
-fn joins_beside<D: Device>(alloc: Global, store: &mut Core<D>, pin: &Pin) -> (End, bool)
-    requires { (held : List Hold) × (port_of D.Device.own).holds store.old held }
+// How a compaction ends beside a look, and whether the look's first block has the same bytes before and after it. The compaction reads
+// that block's pages from the frames of the page cache, and so does the look after it, whatever the disk answers.
+fn joins_beside<P: Port>(alloc: Global, port: &mut P, look: &Look) -> (End, bool)
+    requires { IsOpen P.meaning port.old (look_of look.now) }
 {
     let mut before = Vec::new(alloc);
     let mut after = Vec::new(alloc);
-    let read = add_pages(store, pin, &mut before);
-    let end = joins(alloc, store);
-    let again = add_pages(store, pin, &mut after);
+    let read = add_pages(port, look, &mut before);
+    let end = joins(alloc, port);
+    let again = add_pages(port, look, &mut after);
     (end, read && again && before.as_slice() == after.as_slice())
 }
 
-fn looks_and_joins<D: Device>(alloc: Global, store: &mut Core<D>) -> Option<(End, bool)>
-    requires { (held : List Hold) × (port_of D.Device.own).holds store.old held }
+fn looks_and_joins<P: Port>(alloc: Global, port: &mut P) -> Option<(End, bool)>
+    requires { (held : List Hold) × P.meaning.holds port.old held }
 {
-    match store.look() {
-        Ok(look) => Some(joins_beside(alloc, store, &look.pin)),
+    match port.look() {
+        Ok(look) => Some(joins_beside(alloc, port, &look)),
         Err(_) => None,
     }
 }
@@ -226,24 +206,23 @@ fn images_have_both(alloc: Global, disk: &MemDisk) -> Result<bool, Fail> {
     Ok(same)
 }
 
-// Whether a compaction that is upset ends so, the look's bytes are the same where they can be read, and both entries are in all that
-// it leaves.
-fn ends(alloc: Global, what: Upset, end: End, reads: bool) -> Result<bool, Fail> {
+// Whether a compaction that is upset ends so, the look's bytes are the same, and both entries are in all that it leaves.
+fn ends(alloc: Global, what: Upset, end: End) -> Result<bool, Fail> {
     let mut disk = MemDisk::empty(alloc);
     let ready = disk.upset(alloc, what);
     let (found, disk) = joined(alloc, disk);
-    let same = ready && found == Some((end, reads)) && disk.starved() == 0;
+    let same = ready && found == Some((end, true)) && disk.starved() == 0;
     Ok(same && images_have_both(alloc, &disk)?)
 }
 
-// The calls before the compaction begins: those of the opening of a new store, four of each push, thirteen of each flush, and eight
-// of the look, which reads so many pages.
+// The calls before the compaction begins: those of the opening of a new store, four of each push, thirteen of each flush, and four of
+// the look, which reads so many pages.
 fn calls_before(alloc: Global) -> u64 {
     let disk = match Core::open_store(alloc, MemDisk::empty(alloc), 7) {
         Ok(core) => core.close(),
         Err((_, disk)) => disk,
     };
-    disk.calls().saturating_add(42)
+    disk.calls().saturating_add(38)
 }
 
 const JOINED: Round = Round::Did { blocks: 2, rows: 1 };
@@ -252,15 +231,15 @@ const FAULT: Round = Round::Refused(Refusal::Fault);
 
 const READ_ONLY: Result<u64, ReclaimError> = Err(ReclaimError::ReadOnly { faults: 1 });
 
-// The compaction makes two calls for its file, reads eight pages and writes one piece. One call makes the block last, and six write
+// The compaction makes two calls for its file, reads the four pages that no frame holds and writes one piece. One call makes the block last, and six write
 // the list. Its files are emptied with two calls each, and six write the list again.
 fn stopped_end(calls: u64) -> End {
     match calls {
         0..=1 => (FAULT, READ_ONLY),
         // A read that fails leaves the store as it is.
-        2..=9 => (FAULT, Err(ReclaimError::Fault)),
-        10..=17 => (FAULT, READ_ONLY),
-        18..=27 => (JOINED, Err(ReclaimError::Fault)),
+        2..=5 => (FAULT, Err(ReclaimError::Fault)),
+        6..=13 => (FAULT, READ_ONLY),
+        14..=23 => (JOINED, Err(ReclaimError::Fault)),
         _ => (JOINED, Ok(2)),
     }
 }
@@ -269,25 +248,25 @@ fn failed_end(call: u64) -> End {
     match call {
         1..=2 => (FAULT, READ_ONLY),
         // The job's file is emptied too.
-        3..=10 => (FAULT, Ok(3)),
-        11..=18 => (FAULT, READ_ONLY),
+        3..=6 => (FAULT, Ok(3)),
+        7..=14 => (FAULT, READ_ONLY),
         _ => (JOINED, Err(ReclaimError::Fault)),
     }
 }
 
 #[test]
 fn a_look_keeps_the_blocks_that_are_joined(rt: HostRuntime) -> Result<(), Fail> {
-    assert!(rt; ends(rt.alloc(), Upset::Nothing, (JOINED, Ok(2)), true)?);
+    assert!(rt; ends(rt.alloc(), Upset::Nothing, (JOINED, Ok(2)))?);
     Ok(())
 }
 
 #[test]
 fn a_compaction_that_is_stopped_keeps_both_entries(rt: HostRuntime) -> Result<(), Fail> {
     let alloc = rt.alloc();
-    for calls in 0u64..18 {
+    for calls in 0u64..14 {
         let what = Upset::Stops(calls_before(alloc).saturating_add(calls));
         assert!(rt;
-            ends(alloc, what, stopped_end(calls), false)?,
+            ends(alloc, what, stopped_end(calls))?,
             "{calls} calls"
         );
     }
@@ -297,10 +276,10 @@ fn a_compaction_that_is_stopped_keeps_both_entries(rt: HostRuntime) -> Result<()
 #[test]
 fn emptying_that_is_stopped_keeps_both_entries(rt: HostRuntime) -> Result<(), Fail> {
     let alloc = rt.alloc();
-    for calls in 18u64..29 {
+    for calls in 14u64..25 {
         let what = Upset::Stops(calls_before(alloc).saturating_add(calls));
         assert!(rt;
-            ends(alloc, what, stopped_end(calls), false)?,
+            ends(alloc, what, stopped_end(calls))?,
             "{calls} calls"
         );
     }
@@ -310,9 +289,9 @@ fn emptying_that_is_stopped_keeps_both_entries(rt: HostRuntime) -> Result<(), Fa
 #[test]
 fn a_compaction_with_a_failed_call_keeps_both_entries(rt: HostRuntime) -> Result<(), Fail> {
     let alloc = rt.alloc();
-    for call in 1u64..19 {
+    for call in 1u64..15 {
         let what = Upset::Fails(calls_before(alloc).saturating_add(call));
-        assert!(rt; ends(alloc, what, failed_end(call), true)?, "call {call}");
+        assert!(rt; ends(alloc, what, failed_end(call))?, "call {call}");
     }
     Ok(())
 }
@@ -320,9 +299,9 @@ fn a_compaction_with_a_failed_call_keeps_both_entries(rt: HostRuntime) -> Result
 #[test]
 fn emptying_with_a_failed_call_keeps_both_entries(rt: HostRuntime) -> Result<(), Fail> {
     let alloc = rt.alloc();
-    for call in 19u64..29 {
+    for call in 15u64..25 {
         let what = Upset::Fails(calls_before(alloc).saturating_add(call));
-        assert!(rt; ends(alloc, what, failed_end(call), true)?, "call {call}");
+        assert!(rt; ends(alloc, what, failed_end(call))?, "call {call}");
     }
     Ok(())
 }

@@ -107,6 +107,13 @@ fn flushed<D: Device>(alloc: Global, disk: D) -> (Option<End>, D) {
     }
 }
 
+// The disk of a store whose first push is in a block, whose file is 3. None where the flush ends otherwise.
+pub(crate) fn flushed_one(alloc: Global) -> Option<MemDisk> {
+    let (pushed, disk) = with_push(alloc);
+    let (end, disk) = flushed(alloc, disk);
+    (pushed && end.is_some()).then_some(disk)
+}
+
 // Where the rows of the push are.
 #[derive(Clone, Copy)]
 enum Place {

@@ -10,6 +10,8 @@ mod events;
 #[cfg(test)]
 mod flushing;
 #[cfg(test)]
+mod frames;
+#[cfg(test)]
 mod live;
 #[cfg(test)]
 mod opening;

@@ -131,6 +131,17 @@ impl Upsets for MemDisk {
     }
 }
 
+// A disk that counts its reads.
+pub(crate) trait CountsReads: Device {
+    fn reads_made(&self) -> u64;
+}
+
+impl CountsReads for MemDisk {
+    fn reads_made(&self) -> u64 {
+        self.reads()
+    }
+}
+
 // Opens a disk, upsets it, plays the steps and closes the store again: whether each step is answered so, and the disk.
 pub(crate) fn played_upset<D: Upsets>(
     alloc: Global,
