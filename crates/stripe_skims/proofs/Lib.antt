@@ -1,0 +1,3 @@
+mod SkipLaws
+mod ColumnLaws
+mod ItemLaws

@@ -1,0 +1,8 @@
+//! Passing over a stripe without making its rows, where it is sure that it can be read.
+#![tactic(auto)]
+
+mod attributes;
+mod columns;
+mod items;
+mod kinds;
+mod passes;
