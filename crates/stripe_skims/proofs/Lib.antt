@@ -1,3 +1,4 @@
-mod SkipLaws
+mod CellLaws
 mod ColumnLaws
 mod ItemLaws
+mod SkipLaws

@@ -2,7 +2,11 @@
 #![tactic(auto)]
 
 mod attributes;
+mod cells;
 mod columns;
 mod items;
 mod kinds;
 mod passes;
+mod sketches;
+
+pub use sketches::Sketch;

@@ -30,31 +30,30 @@ impl<'t, T: Drop> Pass for References<'t, T> {
     }
 }
 
-/// Lists of attributes. Each text has the number of the last list that has it as a key.
+/// A stamp for each of these texts, before any list.
+pub fn stamps_of(alloc: Global, texts: &[Text]) -> Option<Vec<u32>>
+    requires { AreApart texts.now }
+    ensures { IfSome result (λ stamps. AreReady texts.now stamps.items 1) }
+{
+    let mut stamps = Vec::new(alloc);
+    let Ok(()) = stamps.resize(texts.len(), 0) else {
+        return None;
+    };
+    Some(stamps)
+}
+
+/// Lists of attributes.
 #[derive(Drop)]
 pub struct AttrLists<'t> {
-    texts: &'t [Text],
-    stamps: Vec<u32>,
-    list: u32,
+    /// The texts.
+    pub texts: &'t [Text],
+    /// For each text the number of the last list that has it as a key, or 0.
+    pub stamps: Vec<u32>,
+    /// The number of the next list, from 1 on.
+    pub list: u32,
 }
 
 impl<'t> AttrLists<'t> {
-    /// Before any list.
-    pub fn of(alloc: Global, texts: &'t [Text]) -> Option<AttrLists<'t>>
-        requires { AreApart texts.now }
-        ensures { IfSome result (λ lists. (lists.texts.now ≡ texts.now) × AreReady lists.texts.now lists.stamps.items lists.list) }
-    {
-        let mut stamps = Vec::new(alloc);
-        let Ok(()) = stamps.resize(texts.len(), 0) else {
-            return None;
-        };
-        Some(AttrLists {
-            texts,
-            stamps,
-            list: 1,
-        })
-    }
-
     /// Passes over the next list. False says nothing.
     fn pass_next(&mut self, fields: &mut Fields) -> bool
         requires { AreReady self.old.texts.now self.old.stamps.items self.old.list }
