@@ -1,4 +1,6 @@
 mod CellLaws
 mod ColumnLaws
 mod ItemLaws
+mod OrderLaws
 mod SkipLaws
+mod StripeLaws

@@ -1,6 +1,9 @@
 -- What is told of a stripe whose rows aren't made.
 use Rattle.std.specs.Prelude.{◌≡◌, ℕ, ◌==◌, ◌||◌, Bool, not, List, length, map, Result, Ok}
 use Rattle.std.specs.List.{list_any}
+use Rattle.std.specs.Ordering.{is_lt, nat_cmp, ordering_then}
+use Rattle.span_types.specs.Orders.{span_cmp, trace_cmp}
+use Rattle.stripe_skims.specs.declared.order.RowKey.{RowKey}
 use Rattle.span_types.specs.declared.ids.SpanId.{SpanId}
 use Rattle.span_types.specs.declared.ids.TraceId.{TraceId}
 use Rattle.span_types.specs.declared.spans.Row.{Row}
@@ -25,3 +28,11 @@ Sketches read sketch new = (rows : List Row) × (read ≡ Ok (rows, new)) × IsS
 -- The same of a whole stripe.
 abbrev pub SketchesAll : Result (List Row) ℕ → Sketch → Type 0
 SketchesAll read sketch = (rows : List Row) × (read ≡ Ok rows) × IsSketch rows sketch
+
+-- what block order looks at in a row
+abbrev pub key_of : Row → RowKey
+key_of row = record { trace = row.span.trace; start = row.span.start; span = row.span.id }
+
+-- the order of rows by their keys
+abbrev pub is_before : RowKey → RowKey → Bool
+is_before a b = is_lt (ordering_then (trace_cmp a.trace b.trace) (ordering_then (nat_cmp a.start b.start) (span_cmp a.span b.span)))

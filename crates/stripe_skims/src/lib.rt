@@ -6,7 +6,9 @@ mod cells;
 mod columns;
 mod items;
 mod kinds;
+mod order;
 mod passes;
 mod sketches;
 
-pub use sketches::Sketch;
+pub use order::{RowKey, is_before, key};
+pub use sketches::{Sketch, skim};

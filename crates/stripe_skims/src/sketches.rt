@@ -8,6 +8,7 @@ ghost use Rattle.stripe_skims.specs.Sure.{AreApart};
 
 use crate::cells::{Listed, cells};
 use crate::kinds::{Resources, Scopes, WholeTexts};
+use crate::order::ascends;
 use block_columns::{Fields, table};
 use block_stripes::unfilled;
 use byte_fields::Reader;
@@ -71,4 +72,57 @@ fn scoped_rows(
         return None;
     }
     cells(alloc, fields, texts, extended, resources, scopes, count)
+}
+
+/// The texts, and the rows, which use each of them.
+fn content(alloc: Global, fields: &mut Fields, extended: bool) -> Option<Sketch>
+    ensures { IfSome result (λ sketch. Sketches (content_at extended fields.old) sketch fields.new) }
+{
+    let Ok(texts) = table(alloc, fields, &WholeTexts) else {
+        return None;
+    };
+    let values = texts.as_slice();
+    let sketch = owned_rows(alloc, fields, values, extended)?;
+    if fields.used() != values.len() {
+        return None;
+    }
+    Some(sketch)
+}
+
+/// The rows of a content of so many bytes, which begins at offset 8.
+fn content_of(alloc: Global, bytes: &[u8], size: u64, extended: bool) -> Option<Sketch>
+    requires { 8 ≤ length bytes.now }
+    ensures told { IfSome result (λ sketch. SketchesAll (content_of extended bytes.now size) sketch) }
+    ensures whole { IfSome result (λ _. 8 + size ≤ length bytes.now) }
+{
+    if size > bytes.len() as u64 - 8 {
+        return None;
+    }
+    let end = 8 + size as usize;
+    let mut fields = Fields::of(Reader::starting_at(alloc, &bytes[..end], 8), true);
+    let sketch = content(alloc, &mut fields, extended)?;
+    if fields.at() != end as u64 {
+        return None;
+    }
+    Some(sketch)
+}
+
+/// What is told of a stripe, in form 1, or in form 2, which has events and links. None says nothing: the stripe is malformed, or
+/// memory was wanted. Memory is taken for texts, resources and scopes, and for each row's ids and its start.
+pub fn skim(alloc: Global, bytes: &[u8], extended: bool) -> Option<Sketch>
+    ensures { IfSome result (λ sketch. SketchesAll (stripe_at extended bytes.now) sketch) }
+{
+    let mut reader = Reader::new(alloc, bytes);
+    let Ok(size) = fixed64(&mut reader, false) else {
+        return None;
+    };
+    let sketch = content_of(alloc, bytes, size, extended)?;
+    let end = 8 + size as usize;
+    let None = unfilled(end, &bytes[end..]) else {
+        return None;
+    };
+    if !ascends(&sketch) {
+        return None;
+    }
+    Some(sketch)
 }
