@@ -7,3 +7,4 @@ mod Parts
 mod PageReads
 mod ChecksWalk
 mod Listed
+mod SketchWalk

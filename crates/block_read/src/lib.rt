@@ -14,6 +14,7 @@ mod indexed;
 mod laws;
 mod memory;
 mod pages;
+mod sketches;
 mod stripes;
 
 pub use block::{Block, block_of};
