@@ -38,7 +38,7 @@ loop-entry-preserved c =
     let kept = far.kept in
     let one = c.in_ok-sketch.ensures far.last far.keyed_is in
     let part = part_of entry.page entry.pages c.args.bytes.now in
-    let read = placed_told (4096 * entry.page) part c.part.result.now c.args.header.now.form entry far.last one.rows c.part.ensures.part one.read in
+    let read = placed_told (4096 * entry.page) part c.part-part.result.now c.args.header.now.form entry far.last one.rows c.part-part.ensures.part one.read in
     let ids : c.in_ok-found.found.ids ≡ c.loop-entry.found.ids ++ ids_of one.rows = c.in_ok-found.ensures.ids ∙ ap (λ (l : List TraceId). c.loop-entry.found.ids ++ l) one.told.traces in
     let form = form_told c.loop-entry.found.form c.in_ok-found.found.form one.rows c.in_ok-sketch.sketch one.told c.in_ok-found.ensures.form in
     let few = one.few in
@@ -46,7 +46,7 @@ loop-entry-preserved c =
     record {
       kept = record {
         last = last_of one.rows;
-        keyed_is = c.in_ok-last.ensures one.rows one.told;
+        keyed_is = c.in_ok-last_key.ensures one.rows one.told;
         kept = record {
           rows = kept.rows ++ one.rows;
           told = walk_more c.args.header.now.form stripes i no_stripe entry far.last c.args.bytes.now kept.rows one.rows (kept.rows ++ one.rows) (last_of one.rows) _ low same read refl refl kept.told;
