@@ -14,3 +14,4 @@ mod DescribedLaws
 mod TogetherLaws
 mod TraceWalk
 mod FilterLaws
+mod SketchWalk

@@ -5,3 +5,4 @@ pub mod Answers
 pub mod Checks
 pub mod PageReads
 pub mod Lookups
+pub mod Sketched

@@ -1,4 +1,5 @@
-//! Checking a whole block. Of its rows the trace ids and the form are kept, stripe by stripe, and the rows are let go.
+//! Checking a whole block. Of its rows the trace ids and the form are kept, stripe by stripe. Rows are made only of a block
+//! that may be malformed, since the first malformed offset is told.
 
 ghost use Rattle.std.specs.Prelude.{◌≡◌, ◌++◌, ◌&&◌, ◌==◌, ◌*◌, ◌≤◌, IfOk, None, OnOk, length, max};
 ghost use Rattle.std.specs.List.{All};
@@ -11,6 +12,7 @@ ghost use Rattle.block_read.specs.Checks.{outline};
 
 use crate::header::header;
 use crate::indexed::indexed;
+use crate::sketches::sketched;
 use crate::stripes::{last_of, placed_stripe};
 use block_format::Header;
 use block_info::BlockInfo;
@@ -53,8 +55,21 @@ fn is_listed(header: &Header, outline: &Outline, rows: u32) -> bool
     header.form == outline.form && outline.ids.len() == rows as usize
 }
 
-/// What a check keeps of the rows of all stripes.
+/// What a check keeps of the rows of all stripes. Rows are made only where it isn't sure without them.
 fn outline_of(alloc: Global, bytes: &[u8], header: &Header) -> Result<Outline, Break>
+    requires { CanBeHeader header.now }
+    ensures answers { Answers (λ x. x) result (made_of outline (stripes_of header.now.form header.now.stripes None bytes.now)) }
+    ensures few { IfOk result (λ found. length found.ids ≤ 256 * length header.now.stripes) }
+    ensures long { IfOk result (λ found. All (λ id. length id.0 ≡ 16) found.ids) }
+{
+    match sketched(alloc, bytes, header) {
+        Some(found) => Ok(found),
+        None => read_outline(alloc, bytes, header),
+    }
+}
+
+/// What a check keeps of the rows of all stripes, each of which is made.
+fn read_outline(alloc: Global, bytes: &[u8], header: &Header) -> Result<Outline, Break>
     requires { CanBeHeader header.now }
     ensures answers { Answers (λ x. x) result (made_of outline (stripes_of header.now.form header.now.stripes None bytes.now)) }
     ensures few { IfOk result (λ found. length found.ids ≤ 256 * length header.now.stripes) }

@@ -2,7 +2,8 @@
 //!
 //! Pages come from a [`Pages`] (`pages`, `memory`), and `calls` has the calls on it.
 //!
-//! - Reading a whole block: `file`, `header`, `stripes`, `indexed`, `block`, and `checking`, which keeps no rows.
+//! - Reading a whole block: `file`, `header`, `stripes`, `indexed`, `block`, and `checking`, which keeps no rows, and by
+//!   `sketches` makes none where it is sure without them.
 //! - Looking up a trace: `lookup` asks the filters and the index where it is, `parts` reads one stripe, `traces`
 //!   walks over the stripes that hold it.
 //! - `laws` says that what a block stands for is read, and nothing else.
@@ -23,6 +24,7 @@ mod lookup;
 mod memory;
 mod pages;
 mod parts;
+mod sketches;
 mod stripes;
 mod traces;
 

@@ -110,14 +110,14 @@ pub fn stripe(
 
 /// Whether a stripe can agree with an entry: its earliest start isn't after its latest, and of one row it is the
 /// latest.
-fn can_agree(entry: &StripeInfo) -> bool
+pub fn can_agree(entry: &StripeInfo) -> bool
     ensures { result ≡ can_agree entry.now }
 {
     entry.earliest <= entry.latest && (entry.rows != 1 || entry.earliest == entry.latest)
 }
 
 /// Whether a content of so many bytes has, with its length, so many pages.
-fn has_pages(size: u64, pages: u64) -> bool
+pub fn has_pages(size: u64, pages: u64) -> bool
     ensures { result ≡ (div_ceil (8 + size) 4096 == pages) }
 {
     (8 + u128::from(size)).div_ceil(4096) == u128::from(pages)
@@ -211,7 +211,7 @@ fn starts(alloc: Global, rows: &[Row]) -> Result<Vec<u64>, Memory>
 }
 
 /// Whether rows that start so are as many as the entry says, with the first and the last moment that it says.
-fn agrees(entry: &StripeInfo, moments: &[u64]) -> bool
+pub fn agrees(entry: &StripeInfo, moments: &[u64]) -> bool
     ensures { result ≡ agrees entry.now moments.now }
 {
     moments.len() == entry.rows as usize

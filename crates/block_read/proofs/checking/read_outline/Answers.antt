@@ -13,7 +13,7 @@ use Rattle.block_read.specs.BlockReadings.{last_of}
 use Rattle.block_read.specs.Checks.{outline}
 use Rattle.block_read.proofs.ChecksWalk.{kept_more, nothing_kept, outline_fails, still_long}
 use Rattle.block_read.proofs.StripesWalk.{near_page, walk_begins, walk_ends, walk_fails, walk_more}
-use Rattle.block_read.proofs.checking.outline_of.Goals as goal
+use Rattle.block_read.proofs.checking.read_outline.Goals as goal
 
 abbrev no_stripe : StripeInfo
 no_stripe = record { page = 0; pages = 0; rows = 0; earliest = 0; latest = 0 }

@@ -4,7 +4,7 @@ use Rattle.std.specs.List.{All}
 use Rattle.span_types.specs.declared.ids.TraceId.{TraceId}
 use Rattle.block_read.specs.BlockReadings.{stripes_of}
 use Rattle.block_read.proofs.ChecksWalk.{KeptSoFar}
-use Rattle.block_read.proofs.checking.outline_of.Given as goal
+use Rattle.block_read.proofs.checking.read_outline.Given as goal
 
 abbrev pub invariant-loop-entry : goal.invariant-loop-entry
 invariant-loop-entry l =

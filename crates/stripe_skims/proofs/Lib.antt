@@ -1,0 +1,6 @@
+mod CellLaws
+mod ColumnLaws
+mod ItemLaws
+mod OrderLaws
+mod SkipLaws
+mod StripeLaws

@@ -1,0 +1,155 @@
+//! All columns of a stripe.
+
+ghost use Rattle.std.specs.Prelude.{◌≡◌, IfSome, List, Ok, true};
+ghost use Rattle.block_stripes.specs.StripeReadings.{cells_at, rows_of};
+ghost use Rattle.block_stripes.specs.StripeRows.{Cells};
+ghost use Rattle.stripe_skims.specs.Sketches.{IsSketch};
+ghost use Rattle.stripe_skims.specs.Sure.{AreApart};
+
+use crate::columns::{BothSkims, EventLists, Kept, LinkLists, Owned, Passed, Skim};
+use crate::items::Dropped;
+use crate::kinds::{
+    Moments, Numbers, Parents, Positions, Resources, Scopes, SpanIds, SpanKinds, Statuses, TraceIds,
+};
+use crate::passes::{AttrLists, Events, Links, References, stamps_of};
+use crate::sketches::Sketch;
+use block_columns::Fields;
+use span_types::{Resource, Scope, Text};
+use std::alloc::Global;
+
+/// A table, and where it stands.
+#[derive(Drop)]
+pub struct Listed<'t, T> {
+    /// Where it stands.
+    pub list: Fields<'t>,
+    /// Its values.
+    pub values: &'t [T],
+}
+
+/// Passes over the cells of so many rows.
+pub fn cells(
+    alloc: Global,
+    fields: &mut Fields,
+    texts: &[Text],
+    extended: bool,
+    resources: Listed<Resource>,
+    scopes: Listed<Scope>,
+    count: u64,
+) -> Option<Sketch>
+    requires { AreApart texts.now }
+    ensures { IfSome result (λ sketch. (cells : List Cells)
+        × (cells_at true extended texts.now (record { list = resources.entry.list; values = resources.entry.values.now })
+        (record { list = scopes.entry.list; values = scopes.entry.values.now }) count fields.old ≡ Ok (cells, fields.new)) × IsSketch (rows_of cells) sketch) }
+{
+    let attrs = AttrLists {
+        texts,
+        stamps: stamps_of(alloc, texts)?,
+        list: 1,
+    };
+    let event_attrs = AttrLists {
+        texts,
+        stamps: stamps_of(alloc, texts)?,
+        list: 1,
+    };
+    let link_attrs = AttrLists {
+        texts,
+        stamps: stamps_of(alloc, texts)?,
+        list: 1,
+    };
+    let events = EventLists {
+        events: Events { lists: event_attrs },
+        extended,
+    };
+    let links = LinkLists {
+        links: Links { lists: link_attrs },
+        extended,
+    };
+    let lists = BothSkims {
+        left: Passed { kind: attrs },
+        right: BothSkims {
+            left: events,
+            right: links,
+        },
+    };
+    let resource_column = Owned {
+        table: resources.values,
+        list: resources.list,
+        kind: Resources { alloc, texts },
+    };
+    let scope_column = Owned {
+        table: scopes.values,
+        list: scopes.list,
+        kind: Scopes { alloc, texts },
+    };
+    let owners = BothSkims {
+        left: resource_column,
+        right: BothSkims {
+            left: scope_column,
+            right: lists,
+        },
+    };
+    let messages = Passed {
+        kind: References { table: texts },
+    };
+    let times = BothSkims {
+        left: Kept { kind: Moments },
+        right: BothSkims {
+            left: Passed {
+                kind: Dropped { kind: Moments },
+            },
+            right: BothSkims {
+                left: Passed {
+                    kind: Dropped { kind: Statuses },
+                },
+                right: BothSkims {
+                    left: messages,
+                    right: owners,
+                },
+            },
+        },
+    };
+    let names = Passed {
+        kind: References { table: texts },
+    };
+    let places = BothSkims {
+        left: Passed {
+            kind: Dropped { kind: Numbers },
+        },
+        right: BothSkims {
+            left: Passed {
+                kind: Dropped { kind: Positions },
+            },
+            right: BothSkims {
+                left: names,
+                right: BothSkims {
+                    left: Passed {
+                        kind: Dropped { kind: SpanKinds },
+                    },
+                    right: times,
+                },
+            },
+        },
+    };
+    let mut columns = BothSkims {
+        left: Kept { kind: TraceIds },
+        right: BothSkims {
+            left: Kept { kind: SpanIds },
+            right: BothSkims {
+                left: Passed {
+                    kind: Dropped { kind: Parents },
+                },
+                right: places,
+            },
+        },
+    };
+    let (traces, (spans, (_, names))) = columns.skim(alloc, fields, count)?;
+    let (_, (_, (_, (_, times)))) = names;
+    let (starts, (_, (_, (_, owners)))) = times;
+    let (_, (_, (_, (events, links)))) = owners;
+    Some(Sketch {
+        traces,
+        spans,
+        starts,
+        rich: events | links,
+    })
+}
