@@ -3,7 +3,7 @@ mod StripesBoth
 pub mod BlockBoth
 pub mod BlockFiles
 mod StripesWalk
-mod Parts
+mod PartLaws
 mod PageReads
 mod ChecksWalk
 mod Listed

@@ -1,5 +1,5 @@
-pub mod CallLaws
-mod PageLaws
+mod CallLaws
+mod PinnedLaws
 mod BlockLaws
-pub mod QueryLaws
+mod QueryLaws
 mod SearchLaws

@@ -1,7 +1,6 @@
 -- What a query that was asked over a port tells of the history.
-use Rattle.std.proofs.Common.{◌≡◌, inl, inr, ℕ, ◌+◌, ◌-◌, ◌≤◌, List, [], ◌∷◌, ◌++◌, length, Some, Result, Ok, Err, refl, sym, ap, subst, ◌∙◌, arith}
+use Rattle.std.proofs.Common.{◌≡◌, inl, inr, ℕ, ◌+◌, ◌-◌, ◌≤◌, List, [], ◌∷◌, ◌++◌, length, Option, Some, Result, Ok, Err, refl, sym, ap, subst, ◌∙◌, arith}
 use Rattle.std.specs.Prelude.{IsTrue}
-use Rattle.std.specs.List.{flat_map}
 use Rattle.std.proofs.lemmas.List.{take_all}
 use Rattle.std.proofs.lemmas.List.Elements.{filter-append}
 use Rattle.span_types.specs.declared.ids.Key.{Key}
@@ -20,17 +19,20 @@ use Rattle.store_model.proofs.FirstsExist.{firsts_exist}
 use Rattle.store_state.specs.Given.{look_of, look_parts}
 use Rattle.store_state.specs.Made.{call}
 use Rattle.store_state.specs.Meaning.{Meaning, Called, IsOpen, View}
+use Rattle.store_state.specs.Kept.{HasKept, Kept}
 use Rattle.store_state.specs.Shown.{ShowsHistory}
 use Rattle.store_state.specs.declared.jobs.Look.{Look}
 use Rattle.store_state.proofs.HoldLaws.{opens_new}
+use Rattle.block_read.specs.Answers.{RoseAtMost}
+use Rattle.query_fanout.specs.Bounds.{look_up_pages}
 use Rattle.query_fanout.specs.TraceAnswers.{IsTraceAnswer}
 use Rattle.query_fanout.specs.Queries.{HasAsked, Sound, TellsOf, all_rows}
-use Rattle.query_fanout.specs.Reading.{BlocksRead, wanted_rows}
+use Rattle.query_fanout.specs.Reading.{AreWanted, BlocksRead}
 use Rattle.query_fanout.specs.declared.error.QueryError.{QueryError}
 use Rattle.query_fanout.specs.declared.error.QueryError.TheVariants.{Memory}
 use Rattle.query_fanout.specs.declared.trace.TraceAnswer.{TraceAnswer}
-use Rattle.query_fanout.proofs.CallLaws.{made_behind}
-use Rattle.query_fanout.proofs.PageLaws.{sound_error}
+use Rattle.query_fanout.proofs.CallLaws.{made_after}
+use Rattle.query_fanout.proofs.BlockLaws.{sound_error}
 
 -- the same first occurrences
 abbrev pub AreAlike : List Row → List Row → Type 0
@@ -62,49 +64,12 @@ pub is_open : {P : Type 0} (meaning : Meaning P) (old new : P) (look : Look) →
     → IsOpen meaning new (look_of look)
 is_open meaning old new look called holds = opens_new meaning old new event.Look (given look) (look_of look) called holds (0, omega arith, refl)
 
--- what is made of the rows fits the parts as well
-pub read_told : {P A B : Type 0} {fits : List (List Row) → A → Type 0} {other : List (List Row) → B → Type 0} (meaning : Meaning P) (look : Look) (infos : List InfoParts) (old new : P) (x : A) (y : B)
-    → BlocksRead meaning look infos fits old (Ok x) new → ((parts : List (List Row)) → fits parts x → other parts y) → BlocksRead meaning look infos other old (Ok y) new
-read_told meaning look infos old new x y h makes = record {
-  calls = h.calls;
-  made = h.made;
-  stays = h.stays;
-  comes = (h.comes.0, h.comes.1, makes h.comes.0 h.comes.2);
-  told = λ told parts are. makes parts (h.told told parts are);
-}
-
--- there is no memory for what is to be made of the rows
-pub read_starved : {P A B : Type 0} {fits : List (List Row) → A → Type 0} {other : List (List Row) → B → Type 0} (meaning : Meaning P) (look : Look) (infos : List InfoParts) (old new : P) (x : A)
-    → BlocksRead meaning look infos fits old (Ok x) new → BlocksRead meaning look infos other old (Err Memory) new
-read_starved meaning look infos old new x h = record {
-  calls = h.calls;
-  made = h.made;
-  stays = h.stays;
-  comes = inr (h.comes.0, h.comes.1, refl);
-  told = λ told parts are. tt;
-}
-
-pub read_failed : {P A B : Type 0} {fits : List (List Row) → A → Type 0} {other : List (List Row) → B → Type 0} (meaning : Meaning P) (look : Look) (infos : List InfoParts) (old new : P) (why : QueryError)
-    → BlocksRead meaning look infos fits old (Err why) new → BlocksRead meaning look infos other old (Err why) new
-read_failed {fits = fits} {other = other} meaning look infos old new why h = record {
-  calls = h.calls;
-  made = h.made;
-  stays = h.stays;
-  comes = h.comes;
-  told = λ told parts are. sound_error (fits parts) (other parts) why (h.told told parts are);
-}
-
--- the rows of a trace, part by part
-trace_parts : (id : TraceId) (parts : List (List Row)) → flat_map (λ (part : List Row). wanted_rows (Some id) part) parts ≡ rows_of_trace id (flat_map (λ (part : List Row). part) parts)
-trace_parts id [] = refl
-trace_parts id (p ∷ ps) = ap (λ (l : List Row). rows_of_trace id p ++ l) (trace_parts id ps) ∙ sym (filter-append (is_of_trace id) p (flat_map (λ (part : List Row). part) ps))
-
 pub trace_answers : (id : TraceId) (look : Look) (found : List Row) (x : TraceAnswer) → IsFirstOf (rows_of_trace id look.rows ++ found) x.rows → x.as_of ≡ look.as_of
-    → (parts : List (List Row)) → found ≡ flat_map (λ part. wanted_rows (Some id) part) parts → IsTraceAnswer id look.as_of (all_rows look.rows parts) x
-trace_answers id look found x firsts count parts are = record {
+    → (rows : List Row) → AreWanted (Some id) rows found → IsTraceAnswer id look.as_of (look.rows ++ rows) x
+trace_answers id look found x firsts count rows are = record {
   count = count;
   firsts = subst (λ (l : List Row). IsFirstOf l x.rows)
-      (ap (λ (l : List Row). rows_of_trace id look.rows ++ l) (are ∙ trace_parts id parts) ∙ sym (filter-append (is_of_trace id) look.rows (flat_map (λ (part : List Row). part) parts))) firsts;
+      (ap (λ (l : List Row). rows_of_trace id look.rows ++ l) are ∙ sym (filter-append (is_of_trace id) look.rows rows)) firsts;
 }
 
 -- ---- what is asked over a port
@@ -127,14 +92,14 @@ module _ {P A : Type 0} (meaning : Meaning P) (old : P) (tells : ℕ → List Ro
     told = λ told v known. tt;
   }
 
-  pub has_asked : (mid late new : P) (look : Look) (r : Result A QueryError) → TellsFirsts tells → Called meaning old event.Look (given look) mid
+  pub has_asked : (mid late new : P) (look : Look) (wanted : Option TraceId) (r : Result A QueryError) → TellsFirsts tells → Called meaning old event.Look (given look) mid
       → ((v : View) → meaning.knows mid v → ShowsHistory (IsTrue (meaning.tells mid)) (meaning.shows mid) look v.history)
-      → BlocksRead meaning look look.pin.blocks (λ parts x. tells look.as_of (all_rows look.rows parts) x) mid r late
+      → BlocksRead meaning look wanted look.pin.blocks (λ rows x. tells look.as_of (look.rows ++ rows) x) mid r late
       → Called meaning late (event.Done look.pin.number) reply.Fine new → HasAsked meaning old tells r new
-  has_asked mid late new look r respects looked shown read ended = record {
-    calls = call event.Look (given look) ∷ (read.calls ++ call (event.Done look.pin.number) reply.Fine ∷ []);
-    made = (mid, looked, made_behind meaning mid late new read.calls (call (event.Done look.pin.number) reply.Fine ∷ []) read.made (new, ended, refl));
-    asked = inr (record { pin = look.pin.number; blocks = look.pin.blocks; as_of = look.as_of; rows = look.rows }, read.calls, refl, read.comes);
+  has_asked mid late new look wanted r respects looked shown read ended = record {
+    calls = call event.Look (given look) ∷ (read.pages.calls ++ call (event.Done look.pin.number) reply.Fine ∷ []);
+    made = (mid, looked, made_after meaning mid late new read.pages.calls (call (event.Done look.pin.number) reply.Fine ∷ []) read.pages.made (new, ended, refl));
+    asked = inr (record { pin = look.pin.number; blocks = look.pin.blocks; as_of = look.as_of; rows = look.rows }, read.pages.calls, refl, read.pages.are, read.comes);
     told = λ told v known.
         let later = looked.learns v known in
         of_history v later.0 later.2 (shown later.0 later.1) (subst IsTrue (sym looked.telling) told);
@@ -153,3 +118,23 @@ module _ {P A : Type 0} (meaning : Meaning P) (old : P) (tells : ℕ → List Ro
                 (subst (λ (n : ℕ). tells n (history_rows v'.history) x) count (respects x look.as_of (all_rows look.rows shows.parts) (history_rows v'.history) alike h)),
           ))
           (read.told told shows.parts (shows.their_rows told))
+
+-- ---- how much is read
+
+module _ {P : Type 0} (meaning : Meaning P) (old : P) where
+  pub not_read : (count : ℕ) (new : P) → Called meaning old event.Look (reply.Refused cause.Memory) new → RoseAtMost count (meaning.reads old) (meaning.reads new)
+  not_read count new called =
+      let low = called.reads_bound in
+      record { later = called.reads_rise; at_most = omega (arith, low) }
+
+  pub read_within : {A : Type 0} {fits : List Row → A → Type 0} (mid late new : P) (look : Look) (id : TraceId) (r : Result A QueryError) (kept : Kept) → Called meaning old event.Look (given look) mid
+      → HasKept (meaning.shows mid) look kept → BlocksRead meaning look (Some id) look.pin.blocks fits mid r late → Called meaning late (event.Done look.pin.number) reply.Fine new
+      → IsTrue (meaning.tells old) → RoseAtMost (look_up_pages id kept.infos kept.parts) (meaning.reads old) (meaning.reads new)
+  read_within mid late new look id r kept looked has read ended told =
+      let rose = read.bounded id refl (subst IsTrue (sym looked.telling) told) kept.parts has.blocks in
+      let same : look_up_pages id look.pin.blocks kept.parts ≡ look_up_pages id kept.infos kept.parts = ap (λ (infos : List InfoParts). look_up_pages id infos kept.parts) has.pinned in
+      steps (meaning.reads old) (meaning.reads mid) (meaning.reads late) (meaning.reads new) (look_up_pages id look.pin.blocks kept.parts) (look_up_pages id kept.infos kept.parts)
+      looked.reads_rise looked.reads_bound rose.later rose.at_most ended.reads_rise ended.reads_bound same
+    where
+      steps : (a b c d m n : ℕ) → a ≤ b → b ≤ a + 0 → b ≤ c → c ≤ b + m → c ≤ d → d ≤ c + 0 → m ≡ n → RoseAtMost n a d
+      steps a b c d m n e f g h i j k = record { later = omega (arith, e, g, i); at_most = omega (arith, f, h, j, k) }

@@ -1,76 +1,109 @@
 //! The rows of all blocks that a look pins.
 
-ghost use Rattle.std.specs.Prelude.{◌≡◌, ◌++◌, List, OnOk, true};
-ghost use Rattle.std.specs.List.{flat_map};
-ghost use Rattle.span_types.specs.declared.spans.Row.{Row};
+ghost use Rattle.std.specs.Prelude.{◌≡◌, ◌∷◌, [], None, Some, true};
 ghost use Rattle.store_model.specs.State.{is_among};
 ghost use Rattle.store_state.specs.Given.{info_files, look_of};
 ghost use Rattle.store_state.specs.Meaning.{IsOpen};
-ghost use Rattle.query_fanout.specs.Reading.{BlockRead, BlocksRead, wanted_rows};
+ghost use Rattle.query_fanout.specs.Reading.{AreWanted, BlocksRead, of_read};
 
 use crate::QueryError;
-use crate::pages::read_block;
+use crate::pinned::Pinned;
 use block_info::BlockInfo;
-use rows_by_trace::rows_of;
-use span_types::{Memory, Row, Rows, TraceId};
+use block_read::{ReadError, all_rows, described_block_is_read, trace_rows};
+use span_types::{Rows, TraceId};
 use std::alloc::Global;
 use store_state::{FlushPort, Look};
 
-// The rows of all blocks, or those of a trace, one block's behind those of the one before it. Of a trace's blocks no other rows
-// are kept.
+// The rows of all blocks, or those of a trace, one block's after those of the one before it. Of a trace no more is read of a
+// block than a look-up needs.
 pub(crate) fn block_rows<P: FlushPort>(
     alloc: Global,
     port: &mut P,
     look: &Look,
     wanted: Option<TraceId>,
-) -> Result<Vec<Row>, QueryError>
+) -> Result<Rows, QueryError>
     requires { IsOpen P.meaning port.old (look_of look.now) }
-    ensures { BlocksRead P.meaning look.now look.now.pin.blocks
-        (λ parts found. found.items ≡ flat_map (λ part. wanted_rows wanted part) parts) port.old result port.new }
+    ensures { BlocksRead P.meaning look.now wanted look.now.pin.blocks (AreWanted wanted) port.old result port.new }
 {
     let mut found = Vec::new(alloc);
     for info in look.pin.blocks.as_slice() {
-        add_block(alloc, port, look, info.get(), wanted, &mut found)?;
+        let part = part_rows(alloc, port, look, info.get(), wanted)?;
+        if found.append(&mut part.into_vec()).is_err() {
+            return Err(QueryError::Memory);
+        }
     }
-    Ok(found)
+    Ok(Rows::of(found))
 }
 
-// Adds the rows of a block.
-fn add_block<P: FlushPort>(
+// The rows of a block, or those of a trace in it.
+fn part_rows<P: FlushPort>(
     alloc: Global,
     port: &mut P,
     look: &Look,
     info: &BlockInfo,
     wanted: Option<TraceId>,
-    found: &mut Vec<Row>,
-) -> Result<(), QueryError>
+) -> Result<Rows, QueryError>
     requires open { IsOpen P.meaning port.old (look_of look.now) }
     requires pinned { is_among info.now.file (info_files look.now.pin.blocks) ≡ true }
-    ensures { BlockRead P.meaning look.now info.now
-        (λ rows u. found.new.items ≡ found.old.items ++ wanted_rows wanted rows) port.old result port.new }
+    ensures { BlocksRead P.meaning look.now wanted (info.now ∷ []) (AreWanted wanted) port.old result port.new }
 {
-    match read_block(alloc, port, look, info) {
-        Ok(rows) => match add_rows(alloc, rows, wanted, found) {
-            Ok(()) => Ok(()),
-            Err(Memory) => Err(QueryError::Memory),
-        },
-        Err(error) => Err(error),
+    match wanted {
+        Some(id) => trace_part(alloc, port, look, info, id),
+        None => whole_part(alloc, port, look, info),
     }
 }
 
-// Adds the rows of a trace, which are copied, or all rows, which are moved.
-fn add_rows(
+// The rows of a trace in a block.
+fn trace_part<P: FlushPort>(
     alloc: Global,
-    rows: Rows,
-    wanted: Option<TraceId>,
-    found: &mut Vec<Row>,
-) -> Result<(), Memory>
-    ensures { OnOk result (found.new.items ≡ found.old.items ++ wanted_rows wanted rows) }
+    port: &mut P,
+    look: &Look,
+    info: &BlockInfo,
+    id: TraceId,
+) -> Result<Rows, QueryError>
+    requires open { IsOpen P.meaning port.old (look_of look.now) }
+    requires pinned { is_among info.now.file (info_files look.now.pin.blocks) ≡ true }
+    ensures { BlocksRead P.meaning look.now (Some id) (info.now ∷ []) (AreWanted (Some id)) port.old result port.new }
 {
-    let mut more = match wanted {
-        Some(id) => rows_of(alloc, rows.as_slice(), id)?,
-        None => rows.into_vec(),
-    };
-    found.append(&mut more)?;
-    Ok(())
+    let file = file_of(info);
+    let mut pages = Pinned { port, look };
+    let read = trace_rows(alloc, &mut pages, file, info, id);
+    query_result(read)
+}
+
+// All rows of a block.
+fn whole_part<P: FlushPort>(
+    alloc: Global,
+    port: &mut P,
+    look: &Look,
+    info: &BlockInfo,
+) -> Result<Rows, QueryError>
+    requires open { IsOpen P.meaning port.old (look_of look.now) }
+    requires pinned { is_among info.now.file (info_files look.now.pin.blocks) ≡ true }
+    ensures { BlocksRead P.meaning look.now None (info.now ∷ []) (AreWanted None) port.old result port.new }
+{
+    described_block_is_read();
+    let file = file_of(info);
+    let mut pages = Pinned { port, look };
+    let read = all_rows(alloc, &mut pages, file, info);
+    query_result(read)
+}
+
+// A block's file.
+fn file_of(info: &BlockInfo) -> u32
+    ensures { result ≡ info.now.file }
+{
+    info.file
+}
+
+// What a query answers of a block that is read so.
+fn query_result(read: Result<Rows, ReadError>) -> Result<Rows, QueryError>
+    ensures { result ≡ of_read read }
+{
+    match read {
+        Ok(rows) => Ok(rows),
+        Err(ReadError::Fault) => Err(QueryError::Fault),
+        Err(ReadError::NotBlock { file, at }) => Err(QueryError::NotBlock { file, at }),
+        Err(ReadError::Memory) => Err(QueryError::Memory),
+    }
 }

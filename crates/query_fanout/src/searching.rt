@@ -5,7 +5,7 @@ ghost use Rattle.store_model.specs.Holds.{Hold};
 ghost use Rattle.store_state.specs.Given.{look_of};
 ghost use Rattle.store_state.specs.Meaning.{IsOpen};
 ghost use Rattle.query_fanout.specs.SearchAnswers.{IsSearchAnswer};
-ghost use Rattle.query_fanout.specs.Queries.{HasAsked, all_rows};
+ghost use Rattle.query_fanout.specs.Queries.{HasAsked};
 ghost use Rattle.query_fanout.specs.Reading.{BlocksRead};
 
 use crate::QueryError;
@@ -13,7 +13,7 @@ use crate::blocks::block_rows;
 use crate::trace::joined_firsts;
 use column_scan::Range;
 use search_answer::{Bounds, answer};
-use span_types::{Memory, Row};
+use span_types::{Memory, Rows};
 use spanset_eval::Results;
 use std::alloc::Global;
 use store_state::{FlushPort, Look};
@@ -72,8 +72,8 @@ fn search_of_look<P: FlushPort>(
     asked: &Asked,
 ) -> Result<SearchAnswer, QueryError>
     requires { IsOpen P.meaning port.old (look_of look.now) }
-    ensures { BlocksRead P.meaning look.now look.now.pin.blocks
-        (λ parts found. IsSearchAnswer asked.now look.now.as_of (all_rows look.now.rows parts) found)
+    ensures { BlocksRead P.meaning look.now None look.now.pin.blocks
+        (λ rows found. IsSearchAnswer asked.now look.now.as_of (look.now.rows ++ rows) found)
         port.old result port.new }
 {
     match block_rows(alloc, port, look, None) {
@@ -90,9 +90,9 @@ fn search_rows(
     alloc: Global,
     look: &Look,
     asked: &Asked,
-    found: Vec<Row>,
+    found: Rows,
 ) -> Result<SearchAnswer, Memory>
-    ensures { IfOk result (IsSearchAnswer asked.now look.now.as_of (look.now.rows ++ found.items)) }
+    ensures { IfOk result (IsSearchAnswer asked.now look.now.as_of (look.now.rows ++ found)) }
 {
     let rows = look.rows.copy_rows()?;
     let firsts = joined_firsts(alloc, rows, found)?;

@@ -1,18 +1,21 @@
 //! Looking a trace up.
 
-ghost use Rattle.std.specs.Prelude.{◌≡◌, ◌++◌, IfOk, List};
+ghost use Rattle.std.specs.Prelude.{◌≡◌, ◌++◌, IfOk, IsTrue, List};
 ghost use Rattle.span_types.specs.First.{IsFirstOf};
 ghost use Rattle.store_model.specs.Holds.{Hold};
 ghost use Rattle.store_state.specs.Given.{look_of};
+ghost use Rattle.store_state.specs.Kept.{Kept};
 ghost use Rattle.store_state.specs.Meaning.{IsOpen};
 ghost use Rattle.rows_by_trace.specs.Traces.{rows_of_trace};
+ghost use Rattle.block_read.specs.Answers.{RoseAtMost};
 ghost use Rattle.query_fanout.specs.TraceAnswers.{IsTraceAnswer};
-ghost use Rattle.query_fanout.specs.Queries.{HasAsked, all_rows};
+ghost use Rattle.query_fanout.specs.Bounds.{look_up_pages};
+ghost use Rattle.query_fanout.specs.Queries.{HasAsked};
 ghost use Rattle.query_fanout.specs.Reading.{BlocksRead};
 
 use crate::QueryError;
 use crate::blocks::block_rows;
-use span_types::{Memory, Row, Rows, TraceId, first_rows};
+use span_types::{Memory, Rows, TraceId, first_rows};
 use std::alloc::Global;
 use store_state::{FlushPort, Look};
 
@@ -27,15 +30,17 @@ pub struct TraceAnswer {
 
 /// The first occurrences of a trace's spans, wherever they lie: in the rows of one look and in the blocks that it pins.
 ///
-/// The blocks are read whole, one after another, and of each no other rows are kept than the trace's. So at a time the bytes of
-/// one block are in memory. The look is given back in every case.
+/// Of each block its filters and its index are asked, and those stripes are read that hold the trace; `bounded` says how many
+/// pages that is at most. No other rows are kept than the trace's. The look is given back in every case.
 pub fn find_trace<P: FlushPort>(
     alloc: Global,
     port: &mut P,
     id: TraceId,
 ) -> Result<TraceAnswer, QueryError>
     requires { (held : List Hold) × P.meaning.holds port.old held }
-    ensures { HasAsked P.meaning port.old (IsTraceAnswer id) result port.new }
+    ensures asked { HasAsked P.meaning port.old (IsTraceAnswer id) result port.new }
+    ensures bounded { IsTrue (P.meaning.tells port.old) → (kept : Kept) → P.meaning.keeps port.old kept
+        → RoseAtMost (look_up_pages id kept.infos kept.parts) (P.meaning.reads port.old) (P.meaning.reads port.new) }
 {
     let look = match port.look() {
         Ok(look) => look,
@@ -54,8 +59,8 @@ fn trace_of_look<P: FlushPort>(
     id: TraceId,
 ) -> Result<TraceAnswer, QueryError>
     requires { IsOpen P.meaning port.old (look_of look.now) }
-    ensures { BlocksRead P.meaning look.now look.now.pin.blocks
-        (λ parts found. IsTraceAnswer id look.now.as_of (all_rows look.now.rows parts) found) port.old result port.new }
+    ensures { BlocksRead P.meaning look.now (Some id) look.now.pin.blocks
+        (λ rows found. IsTraceAnswer id look.now.as_of (look.now.rows ++ rows) found) port.old result port.new }
 {
     match block_rows(alloc, port, look, Some(id)) {
         Ok(found) => match trace_firsts(alloc, look, id, found) {
@@ -71,9 +76,9 @@ fn trace_firsts(
     alloc: Global,
     look: &Look,
     id: TraceId,
-    found: Vec<Row>,
+    found: Rows,
 ) -> Result<TraceAnswer, Memory>
-    ensures firsts { IfOk result (λ answer. IsFirstOf (rows_of_trace id look.now.rows ++ found.items) answer.rows) }
+    ensures firsts { IfOk result (λ answer. IsFirstOf (rows_of_trace id look.now.rows ++ found) answer.rows) }
     ensures count { IfOk result (λ answer. answer.as_of ≡ look.now.as_of) }
 {
     let rows = look.rows.rows_of(id)?;
@@ -85,11 +90,10 @@ fn trace_firsts(
 }
 
 // The first occurrences among rows and more rows, all of which are moved.
-pub(crate) fn joined_firsts(alloc: Global, rows: Rows, found: Vec<Row>) -> Result<Rows, Memory>
-    ensures { IfOk result (λ firsts. IsFirstOf (rows ++ found.items) firsts) }
+pub(crate) fn joined_firsts(alloc: Global, rows: Rows, found: Rows) -> Result<Rows, Memory>
+    ensures { IfOk result (λ firsts. IsFirstOf (rows ++ found) firsts) }
 {
     let mut rows = rows.into_vec();
-    let mut found = found;
-    rows.append(&mut found)?;
+    rows.append(&mut found.into_vec())?;
     first_rows(alloc, Rows::of(rows))
 }
