@@ -7,3 +7,10 @@ mod PartLaws
 mod PageReads
 mod ChecksWalk
 mod Listed
+mod Halving
+mod EntryLaws
+mod Narrowing
+mod DescribedLaws
+mod TogetherLaws
+mod TraceWalk
+mod FilterLaws

@@ -1,6 +1,6 @@
 //! The calls that read a block.
 
-ghost use Rattle.std.specs.Prelude.{◌≡◌, ◌*◌, ◌≤◌, IfOk, IsTrue, List};
+ghost use Rattle.std.specs.Prelude.{◌≡◌, ◌*◌, ◌≤◌, ℕ, IfOk, IsTrue, List};
 ghost use Rattle.std.specs.Int.{div_ceil};
 ghost use Rattle.rows_by_trace.specs.Traces.{rows_of_trace};
 ghost use Rattle.span_fields.specs.Breaks.{Answers};

@@ -1,5 +1,5 @@
 -- What is read of the blocks of a look, one after another.
-use Rattle.std.proofs.Common.{◌≡◌, ℕ, zero, suc, ◌+◌, ◌<◌, ◌≤◌, Bool, true, false, ◌||◌, eqb, List, [], ◌∷◌, ◌++◌, length, take, drop, get_or, Option, Some, None, Result, Ok, Err, append-nil, refl, sym, ap, subst, ◌∙◌, arith}
+use Rattle.std.proofs.Common.{◌≡◌, ℕ, zero, suc, ◌+◌, ◌<◌, ◌≤◌, Bool, true, false, not, ◌||◌, eqb, List, [], ◌∷◌, ◌++◌, length, take, drop, get_or, Option, Some, None, Result, Ok, Err, append-nil, refl, sym, ap, subst, ◌∙◌, arith, if◌then◌else◌}
 use Rattle.std.specs.Prelude.{IfOk, IsTrue}
 use Rattle.std.specs.List.{flat_map}
 use Rattle.std.proofs.lemmas.Bool.{eq-eqb}
@@ -94,6 +94,10 @@ split_at shows (i ∷ is) info back (p ∷ ps) are =
 no_parts : (shows : ℕ → List ℕ) (parts : List (List Row)) → AreBlocksOf shows [] parts → parts ≡ []
 no_parts shows [] are = refl
 no_parts shows (p ∷ ps) are = absurd are
+
+-- rows that were moved stand after those that were there
+pub moved : (found more after : List Row) (ok err : Bool) → after ≡ (if ok then found ++ more else found) → ok ≡ not err → err ≡ false → after ≡ found ++ more
+moved found more after ok err is not_err none = is ∙ ap (λ (b : Bool). if b then found ++ more else found) (not_err ∙ ap not none)
 
 -- ---- bounds
 

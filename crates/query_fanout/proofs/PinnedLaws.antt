@@ -79,4 +79,4 @@ module _ {S P : Type 0} (meaning : Meaning P) (look : Look) (went : S → PageRe
   pages_read true old new same is_open (reads, last, between, are, none, one) =
       let first = walked reads old between same is_open are in
       pages_then meaning look true (port old) (port between) (port new) first.0
-          (page_refused meaning look (port between) (port new) last (asks between new last first.1 one) none)
+      (page_refused meaning look (port between) (port new) last (asks between new last first.1 one) none)

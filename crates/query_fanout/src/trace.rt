@@ -72,12 +72,7 @@ fn trace_of_look<P: FlushPort>(
 }
 
 // The first occurrences among a look's rows of the trace, and more rows.
-fn trace_firsts(
-    alloc: Global,
-    look: &Look,
-    id: TraceId,
-    found: Rows,
-) -> Result<TraceAnswer, Memory>
+fn trace_firsts(alloc: Global, look: &Look, id: TraceId, found: Rows) -> Result<TraceAnswer, Memory>
     ensures firsts { IfOk result (λ answer. IsFirstOf (rows_of_trace id look.now.rows ++ found) answer.rows) }
     ensures count { IfOk result (λ answer. answer.as_of ≡ look.now.as_of) }
 {

@@ -1,10 +1,10 @@
-use Rattle.std.proofs.Common.{◌≡◌, ◌+◌, List, ◌∷◌, [], ◌++◌, Bool, not, Ok, Err, drop, take, sym, ap, subst, ◌∙◌, if◌then◌else◌}
+use Rattle.std.proofs.Common.{◌≡◌, ◌+◌, List, ◌∷◌, [], ◌++◌, Ok, Err, drop, take, sym, ap, subst, ◌∙◌}
 use Rattle.std.proofs.lemmas.Result.{err_from_is_err_and}
 use Rattle.span_types.specs.declared.spans.Row.{Row}
 use Rattle.block_info.specs.InfoParts.{InfoParts}
 use Rattle.query_fanout.specs.Reading.{AreWanted, BlocksRead}
 use Rattle.query_fanout.specs.declared.error.QueryError.TheVariants.{Memory}
-use Rattle.query_fanout.proofs.BlockLaws.{next_at, part_starved, read_ends, read_next, read_none}
+use Rattle.query_fanout.proofs.BlockLaws.{moved, next_at, part_starved, read_ends, read_next, read_none}
 use Rattle.query_fanout.proofs.blocks.block_rows.Goals as goal
 
 pub loop-info-init : goal.loop-info-init
@@ -45,7 +45,7 @@ loop-info-preserved g c =
     c.get.ensures c.loop-info-test.true in
     let found : List Row = c.loop-info.found.items in
     let added : c.append.new.self.items ≡ found ++ c.in_ok-part.part =
-    c.append.ensures.items ∙ ap (λ (b : Bool). if b then found ++ c.into_vec.result.items else found) (c.is_err.ensures.negation ∙ ap not c.if-is_err.false)
+    moved found c.into_vec.result.items c.append.new.self.items _ c.is_err.result c.append.ensures.items c.is_err.ensures.negation c.if-is_err.false
     ∙ ap (λ (rows : List Row). found ++ rows) c.into_vec.ensures in
     subst (λ (infos : List InfoParts). BlocksRead g.P.LookPort.meaning c.args.look.now c.args.wanted infos (AreWanted c.args.wanted) c.args.port.now (Ok c.append.new.self.items) c.part_rows.new.port)
     next.front

@@ -28,8 +28,8 @@ returns g c =
     let pages = pages_read meaning look _ (λ s. s.port.now) (λ s. s.look.now) (λ a b read went. went) (is_fault r) _ c.all_rows-read.new.pages refl c.requires.open h.read in
     let part = part_read meaning look None info old new r c.requires.pinned (subst (λ (f : ℕ). IsInFile f r) c.file_of-file.ensures h.its_file) pages (all_fit r)
     (λ told rows has.
-        let seen = holds_here meaning look old info file rows c.file_of-file.ensures c.requires.pinned has in
-        finds_read file rows r _ (h.answers told) (c.described_block_is_read.ensures.rows _ rows info seen))
+    let seen = holds_here meaning look old info file rows c.file_of-file.ensures c.requires.pinned has in
+    finds_read file rows r _ (h.answers told) (c.described_block_is_read.ensures.rows _ rows info seen))
     (λ id is told rows has. absurd (differ id is)) in
     subst (BlocksRead meaning look None (info ∷ []) (AreWanted None) old c.query_result.result) (search rules)
     (subst (λ q. BlocksRead meaning look None (info ∷ []) (AreWanted None) old q new) (sym c.query_result.ensures) part)
@@ -37,5 +37,6 @@ returns g c =
     all_fit : (read : Result (List Row) ReadError) → IfOk read (λ rows. rows ≡ rows)
     all_fit (Ok x) = refl
     all_fit (Err e) = tt
+
     differ : (id : TraceId) → None ≡ Some id → ⊥
     differ id e = cc
