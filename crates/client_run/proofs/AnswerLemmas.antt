@@ -7,7 +7,8 @@ use Rattle.flusher.specs.Rounds.{IsFlushRound}
 use Rattle.span_types.specs.declared.errors.Memory.{Memory}
 use Rattle.otlp_spans.specs.declared.read.Reading.{Reading}
 use Rattle.span_types.specs.declared.ids.TraceId.{TraceId}
-use Rattle.query_fanout.specs.Queries.{HasAsked}
+use Rattle.query_fanout.proofs.Later.{knows_later, made_grows}
+use Rattle.query_fanout.specs.Queries.{HasAsked, KnowsLater}
 use Rattle.query_fanout.specs.SearchAnswers.{IsSearchAnswer}
 use Rattle.query_fanout.specs.TraceAnswers.{IsTraceAnswer}
 use Rattle.query_fanout.specs.declared.error.QueryError.{QueryError}
@@ -19,13 +20,17 @@ use Rattle.session_text.specs.declared.reply.Reply.TheVariants.{Cut, CutAll}
 use Rattle.session_text.specs.declared.request.Request.TheVariants as request
 use Rattle.session_text.specs.declared.request.Search.{Search}
 use Rattle.store_model.specs.Event.{Event as event}
-use Rattle.store_state.specs.Meaning.{Meaning, Called}
+use Rattle.store_state.specs.Meaning.{Meaning, Called, View}
 use Rattle.store_state.specs.Replies.{count_reply, push_reply, reclaim_reply}
 use Rattle.store_state.specs.declared.errors.PushError.{PushError}
 use Rattle.store_state.specs.declared.errors.ReclaimError.{ReclaimError}
 use Rattle.store_state.specs.declared.rounds.Round.{Round}
 use Rattle.client_run.specs.Answers.{HasReplied, IsSearchTold, asked_of, compact_reply, cut_reply, flush_reply, pushed_reply, reclaimed_reply, trace_reply}
 use Rattle.store_state.specs.Made.{AreMade, Call, call}
+
+-- of a request whose reply tells nothing of the history
+nothing_told : {P : Type 0} (meaning : Meaning P) (old new : P) (calls : List Call) → AreMade meaning old calls new → (v : View) → meaning.knows old v → KnowsLater meaning new v (λ later. Unit {0})
+nothing_told meaning old new calls made v known = knows_later meaning old new calls v (λ later. Unit {0}) made known (λ later. tt)
 
 pub push_replied : {P : Type 0} (meaning : Meaning P) (old new : P) (reading : Reading) (moment : ℕ) (answer : Result ℕ PushError) (r : Reply)
     → Called meaning old (event.Push reading.batch.spans moment) (push_reply answer) new → r ≡ pushed_reply reading answer
@@ -34,7 +39,7 @@ push_replied meaning old new reading moment answer r called is = record {
   calls = call (event.Push reading.batch.spans moment) (push_reply answer) ∷ [];
   made = (new, called, refl);
   answered = (answer, is, refl);
-  told = λ told v known. tt;
+  told = λ told v known. nothing_told meaning old new (call (event.Push reading.batch.spans moment) (push_reply answer) ∷ []) (new, called, refl) v known;
 }
 
 pub cut_replied : {P : Type 0} (meaning : Meaning P) (old new : P) (moment : ℕ) (answer : Result ℕ Memory) (r : Reply)
@@ -43,7 +48,7 @@ cut_replied meaning old new moment answer r called is = record {
   calls = call (event.Cut moment) (count_reply answer) ∷ [];
   made = (new, called, refl);
   answered = (answer, is, refl);
-  told = λ told v known. tt;
+  told = λ told v known. nothing_told meaning old new (call (event.Cut moment) (count_reply answer) ∷ []) (new, called, refl) v known;
 }
 
 pub cut_all_replied : {P : Type 0} (meaning : Meaning P) (old new : P) (answer : Result ℕ Memory) (r : Reply)
@@ -52,7 +57,7 @@ cut_all_replied meaning old new answer r called is = record {
   calls = call event.CutAll (count_reply answer) ∷ [];
   made = (new, called, refl);
   answered = (answer, is, refl);
-  told = λ told v known. tt;
+  told = λ told v known. nothing_told meaning old new (call event.CutAll (count_reply answer) ∷ []) (new, called, refl) v known;
 }
 
 pub flush_replied : {P : Type 0} (meaning : Meaning P) (old new : P) (round : Round) (r : Reply)
@@ -61,7 +66,7 @@ flush_replied meaning old new round r made is = record {
   calls = made.0;
   made = made.1;
   answered = (round, is, made.2);
-  told = λ told v known. tt;
+  told = λ told v known. nothing_told meaning old new made.0 made.1 v known;
 }
 
 pub compact_replied : {P : Type 0} (meaning : Meaning P) (old new : P) (round : Round) (r : Reply)
@@ -71,7 +76,7 @@ compact_replied meaning old new round r made found is = record {
   calls = made.0;
   made = made.1;
   answered = (round, is, made.2);
-  told = λ told v known. (round, is, found told (v, known));
+  told = λ told v known. let last = made_grows meaning old new made.0 made.1 v known in (last.0, last.1, last.2, (round, is, found told (v, known)));
 }
 
 pub reclaim_replied : {P : Type 0} (meaning : Meaning P) (old new : P) (answer : Result ℕ ReclaimError) (r : Reply) → Called meaning old event.Reclaim (reclaim_reply answer) new
@@ -80,7 +85,7 @@ reclaim_replied meaning old new answer r called is = record {
   calls = call event.Reclaim (reclaim_reply answer) ∷ [];
   made = (new, called, refl);
   answered = (answer, is, refl);
-  told = λ told v known. tt;
+  told = λ told v known. nothing_told meaning old new (call event.Reclaim (reclaim_reply answer) ∷ []) (new, called, refl) v known;
 }
 
 pub trace_replied : {P : Type 0} (meaning : Meaning P) (old new : P) (id : TraceId) (answer : Result TraceAnswer QueryError) (r : Reply) → HasAsked meaning old (IsTraceAnswer id) answer new
@@ -89,7 +94,7 @@ trace_replied meaning old new id answer r asked is = record {
   calls = asked.calls;
   made = asked.made;
   answered = (answer, is, asked.asked);
-  told = λ told v known. (answer, is, asked.told told v known);
+  told = λ told v known. let last = asked.told told v known in (last.0, last.1, last.2, (answer, is, last.3));
 }
 
 pub search_replied : {P : Type 0} (meaning : Meaning P) (old new : P) (s : Search) (asked : Asked) (answer : Result SearchAnswer QueryError) (r : Reply) → asked ≡ asked_of s
@@ -100,5 +105,5 @@ search_replied {P} meaning old new s asked answer r same has is =
       calls = one.calls;
       made = one.made;
       answered = (answer, told, one.asked);
-      told = λ tells v known. (answer, told, one.told tells v known);
+      told = λ tells v known. let last = one.told tells v known in (last.0, last.1, last.2, (answer, told, last.3));
     }

@@ -4,7 +4,7 @@ use Rattle.compactor.specs.Rounds.{FoundBlocks, IsCompactRound}
 use Rattle.flusher.specs.Rounds.{IsFlushRound}
 use Rattle.span_types.specs.declared.errors.Memory.{Memory}
 use Rattle.otlp_spans.specs.declared.read.Reading.{Reading}
-use Rattle.query_fanout.specs.Queries.{IsAsked, Sound, TellsOf}
+use Rattle.query_fanout.specs.Queries.{IsAsked, KnowsLater, Sound, TellsOf}
 use Rattle.query_fanout.specs.SearchAnswers.{IsSearchAnswer}
 use Rattle.query_fanout.specs.TraceAnswers.{IsTraceAnswer}
 use Rattle.query_fanout.specs.declared.error.QueryError.{QueryError}
@@ -124,20 +124,22 @@ IsRequestAnswered request.Compact r calls = (round : Round) × (r ≡ compact_re
 IsRequestAnswered request.Reclaim r calls =
     (answer : Result ℕ ReclaimError) × (r ≡ reclaimed_reply answer) × (calls ≡ call event.Reclaim (reclaim_reply answer) ∷ [])
 
--- A query's answer is told of the history, to which others may have added entries before. Neither a query nor a compaction finds that
--- a block is none.
-abbrev pub TellsHistory : History → Request → Reply → Type 0
-TellsHistory h (request.Trace id) r =
-    (answer : Result TraceAnswer QueryError) × (r ≡ trace_reply answer) × Sound (TellsOf (IsTraceAnswer id) h) answer
-TellsHistory h (request.Search s) r =
-    (answer : Result SearchAnswer QueryError) × IsSearchTold (asked_of s) answer r × Sound (TellsOf (IsSearchAnswer (asked_of s)) h) answer
-TellsHistory h request.Compact r = (round : Round) × (r ≡ compact_reply round) × FoundBlocks round
-TellsHistory h _ r = Unit {0}
+-- A query's answer is told of a later history, as it was at some length from that on which this one has. Neither a query nor a
+-- compaction finds that a block is none.
+abbrev pub TellsHistory : History → History → Request → Reply → Type 0
+TellsHistory h later (request.Trace id) r =
+    (answer : Result TraceAnswer QueryError) × (r ≡ trace_reply answer) × Sound (TellsOf (IsTraceAnswer id) h later) answer
+TellsHistory h later (request.Search s) r =
+    (answer : Result SearchAnswer QueryError) × IsSearchTold (asked_of s) answer r × Sound (TellsOf (IsSearchAnswer (asked_of s)) h later) answer
+TellsHistory h later request.Compact r = (round : Round) × (r ≡ compact_reply round) × FoundBlocks round
+TellsHistory h later _ r = Unit {0}
 
 -- A request was answered over a port: the port's calls are just those that the request makes. Where the port tells its bytes, a
--- query's answer is that of each history that is known, and each block that was read is one.
+-- query's answer is that of the history that is known afterwards, as it was at some length from that on which was known before; and
+-- each block that was read is one.
 pub record HasReplied {P : Type 0} (meaning : Meaning P) (old : P) (asked : Request) (r : Reply) (new : P) : Type 0 where
   pub calls : List Call
   pub made : AreMade meaning old calls new
   pub answered : IsRequestAnswered asked r calls
-  pub told : IsTrue (meaning.tells old) → (v : View) → meaning.knows old v → TellsHistory v.history asked r
+  pub told : IsTrue (meaning.tells old) → (v : View) → meaning.knows old v
+      → KnowsLater meaning new v (λ later. TellsHistory v.history later asked r)

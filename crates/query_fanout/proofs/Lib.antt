@@ -1,4 +1,5 @@
 mod CallLaws
+pub mod Later
 mod PinnedLaws
 mod BlockLaws
 mod QueryLaws

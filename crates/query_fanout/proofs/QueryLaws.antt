@@ -1,19 +1,17 @@
 -- What a query that was asked over a port tells of the history.
-use Rattle.std.proofs.Common.{◌≡◌, inl, inr, ℕ, ◌+◌, ◌-◌, ◌≤◌, List, [], ◌∷◌, ◌++◌, length, Option, Some, Result, Ok, Err, refl, sym, ap, subst, ◌∙◌, arith}
+use Rattle.std.proofs.Common.{◌≡◌, inl, inr, ℕ, ◌+◌, ◌≤◌, List, [], ◌∷◌, ◌++◌, Option, Some, Result, Ok, Err, refl, sym, ap, subst, ◌∙◌, arith}
 use Rattle.std.specs.Prelude.{IsTrue}
-use Rattle.std.proofs.lemmas.List.{take_all}
 use Rattle.std.proofs.lemmas.List.Elements.{filter-append}
 use Rattle.span_types.specs.declared.ids.Key.{Key}
 use Rattle.span_types.specs.declared.ids.TraceId.{TraceId}
 use Rattle.span_types.specs.declared.spans.Row.{Row}
-use Rattle.store_entries.specs.declared.entry.Entry.{Entry}
 use Rattle.span_types.specs.First.{IsFirstOf, first_at}
 use Rattle.span_types.proofs.FirstLaws.{first_at-firsts, firsts_alike}
 use Rattle.rows_by_trace.specs.Traces.{is_of_trace, rows_of_trace}
 use Rattle.rows_by_trace.proofs.TraceLaws.{trace_of_firsts}
 use Rattle.block_info.specs.InfoParts.{InfoParts}
 use Rattle.store_model.specs.Event.{Event as event, Reply as reply, Refusal as cause}
-use Rattle.store_model.specs.History.{History, count_of, grown, history_rows, up_to}
+use Rattle.store_model.specs.History.{History, count_of, history_rows, up_to}
 use Rattle.store_model.specs.Holds.{Hold}
 use Rattle.store_model.proofs.FirstsExist.{firsts_exist}
 use Rattle.store_state.specs.Given.{look_of, look_parts}
@@ -26,13 +24,13 @@ use Rattle.store_state.proofs.HoldLaws.{opens_new}
 use Rattle.block_read.specs.Answers.{RoseAtMost}
 use Rattle.query_fanout.specs.Bounds.{look_up_pages}
 use Rattle.query_fanout.specs.TraceAnswers.{IsTraceAnswer}
-use Rattle.query_fanout.specs.Queries.{HasAsked, Sound, TellsOf, all_rows}
+use Rattle.query_fanout.specs.Queries.{HasAsked, Sound, all_rows}
 use Rattle.query_fanout.specs.Reading.{AreWanted, BlocksRead}
 use Rattle.query_fanout.specs.declared.error.QueryError.{QueryError}
 use Rattle.query_fanout.specs.declared.error.QueryError.TheVariants.{Memory}
 use Rattle.query_fanout.specs.declared.trace.TraceAnswer.{TraceAnswer}
 use Rattle.query_fanout.proofs.CallLaws.{made_after}
-use Rattle.query_fanout.proofs.BlockLaws.{sound_error}
+use Rattle.query_fanout.proofs.Later.{knows_later, sound_map, told_later, whole_history}
 
 -- the same first occurrences
 abbrev pub AreAlike : List Row → List Row → Type 0
@@ -74,22 +72,14 @@ trace_answers id look found x firsts count rows are = record {
 
 -- ---- what is asked over a port
 
-sound_map : {A : Type 0} (one other : A → Type 0) (r : Result A QueryError) → ((x : A) → one x → other x) → Sound one r → Sound other r
-sound_map one other (Ok x) f h = f x h
-sound_map one other (Err why) f h = sound_error one other why h
-
-whole_history : (h : History) → up_to (count_of h) h ≡ h
-whole_history h =
-    let size : length h.entries ≤ h.start + length h.entries - h.start = omega arith in
-    ap (λ (entries : List Entry). record { base = h.base; start = h.start; entries = entries }) (take_all (h.start + length h.entries - h.start) h.entries size)
-
 module _ {P A : Type 0} (meaning : Meaning P) (old : P) (tells : ℕ → List Row → A → Type 0) where
   pub not_looked : (new : P) → Called meaning old event.Look (reply.Refused cause.Memory) new → HasAsked meaning old tells (Err Memory) new
   not_looked new called = record {
     calls = call event.Look (reply.Refused cause.Memory) ∷ [];
     made = (new, called, refl);
     asked = inl (refl, refl);
-    told = λ told v known. tt;
+    told = λ told v known.
+        knows_later meaning old new (call event.Look (reply.Refused cause.Memory) ∷ []) v (λ later. Unit {0}) (new, called, refl) known (λ later. tt);
   }
 
   pub has_asked : (mid late new : P) (look : Look) (wanted : Option TraceId) (r : Result A QueryError) → TellsFirsts tells → Called meaning old event.Look (given look) mid
@@ -101,22 +91,18 @@ module _ {P A : Type 0} (meaning : Meaning P) (old : P) (tells : ℕ → List Ro
     made = (mid, looked, made_after meaning mid late new read.pages.calls (call (event.Done look.pin.number) reply.Fine ∷ []) read.pages.made (new, ended, refl));
     asked = inr (record { pin = look.pin.number; blocks = look.pin.blocks; as_of = look.as_of; rows = look.rows }, read.pages.calls, refl, read.pages.are, read.comes);
     told = λ told v known.
-        let later = looked.learns v known in
-        of_history v later.0 later.2 (shown later.0 later.1) (subst IsTrue (sym looked.telling) told);
+        told_later meaning tells old mid new (look_parts look) (read.pages.calls ++ call (event.Done look.pin.number) reply.Fine ∷ []) r looked
+        (made_after meaning mid late new read.pages.calls (call (event.Done look.pin.number) reply.Fine ∷ []) read.pages.made (new, ended, refl)) v known
+        (λ now knows count. of_history now.history count (shown now knows) (subst IsTrue (sym looked.telling) told));
   }
     where
-      of_history : (v v' : View) → (others : List Entry) × (v'.history ≡ grown v.history others) × (look.as_of ≡ count_of (grown v.history others))
-          → ShowsHistory (IsTrue (meaning.tells mid)) (meaning.shows mid) look v'.history → IsTrue (meaning.tells mid) → Sound (TellsOf tells v.history) r
-      of_history v v' (others, is, tells_length) shows told =
-          let count : look.as_of ≡ count_of v'.history = tells_length ∙ ap count_of (sym is) in
-          let alike : AreAlike (all_rows look.rows shows.parts) (history_rows v'.history) =
-          λ k. shows.firsts k ∙ ap (λ (n : ℕ). first_at k (history_rows (up_to n v'.history))) count ∙ ap (λ (h : History). first_at k (history_rows h)) (whole_history v'.history) in
-          sound_map (λ (x : A). tells look.as_of (all_rows look.rows shows.parts) x) (TellsOf tells v.history) r
-          (λ x h. (
-            others,
-            subst (λ (g : History). tells (count_of g) (history_rows g) x) is
-                (subst (λ (n : ℕ). tells n (history_rows v'.history) x) count (respects x look.as_of (all_rows look.rows shows.parts) (history_rows v'.history) alike h)),
-          ))
+      of_history : (h : History) → look.as_of ≡ count_of h → ShowsHistory (IsTrue (meaning.tells mid)) (meaning.shows mid) look h → IsTrue (meaning.tells mid)
+          → Sound (λ (x : A). tells look.as_of (history_rows h) x) r
+      of_history h count shows told =
+          let alike : AreAlike (all_rows look.rows shows.parts) (history_rows h) =
+          λ k. shows.firsts k ∙ ap (λ (n : ℕ). first_at k (history_rows (up_to n h))) count ∙ ap (λ (g : History). first_at k (history_rows g)) (whole_history h) in
+          sound_map (λ (x : A). tells look.as_of (all_rows look.rows shows.parts) x) (λ (x : A). tells look.as_of (history_rows h) x) r
+          (λ x h'. respects x look.as_of (all_rows look.rows shows.parts) (history_rows h) alike h')
           (read.told told shows.parts (shows.their_rows told))
 
 -- ---- how much is read

@@ -1,5 +1,5 @@
 -- What a query makes of a port, and of which rows it tells.
-use Rattle.std.specs.Prelude.{◌≡◌, ◌⊎◌, ℕ, Bool, true, false, List, [], ◌∷◌, ◌++◌, Result, Ok, Err, IsTrue}
+use Rattle.std.specs.Prelude.{◌≡◌, ◌⊎◌, ℕ, ◌≤◌, Bool, true, false, List, [], ◌∷◌, ◌++◌, Result, Ok, Err, IsTrue}
 use Rattle.std.specs.List.{flat_map}
 use Rattle.span_types.specs.declared.spans.Row.{Row}
 use Rattle.block_info.specs.InfoParts.{InfoParts}
@@ -7,7 +7,7 @@ use Rattle.store_entries.specs.declared.entry.Entry.{Entry}
 use Rattle.store_model.specs.Event.{LookParts}
 use Rattle.store_model.specs.Event.Event.{ReadPage}
 use Rattle.store_model.specs.Event.{Event as event, Reply as reply, Refusal as cause}
-use Rattle.store_model.specs.History.{History, count_of, grown, history_rows}
+use Rattle.store_model.specs.History.{History, count_of, grown, history_rows, up_to}
 use Rattle.store_model.specs.State.{is_among}
 use Rattle.store_state.specs.Given.{info_files}
 use Rattle.store_state.specs.Made.{Call, AreMade, call}
@@ -83,14 +83,25 @@ Sound fits (Err Fault) = Unit {0}
 Sound fits (Err (NotBlock file at)) = ⊥
 Sound fits (Err Memory) = Unit {0}
 
--- It is told of the rows of a history, as of its length, that others may have made of this one.
-abbrev pub TellsOf : {A : Type 0} → (ℕ → List Row → A → Type 0) → History → A → Type 0
-TellsOf tells h x = (others : List Entry) × tells (count_of (grown h others)) (history_rows (grown h others)) x
+-- the history with what was added to it since
+abbrev pub IsGrown : History → History → Type 0
+IsGrown h later = (others : List Entry) × (later ≡ grown h others)
 
--- A query was asked over a port: these calls are all that it made. Where the port tells its bytes, what it tells is told of each
--- history that is known, and each block is found to be one.
+-- It is told of a later history, as it was at some length from that on which this one has.
+abbrev pub TellsOf : {A : Type 0} → (ℕ → List Row → A → Type 0) → History → History → A → Type 0
+TellsOf tells h later x =
+    (n : ℕ) × (count_of h ≤ n) × (n ≤ count_of later) × tells n (history_rows (up_to n later)) x
+
+-- A history is known afterwards that begins with the one that was known, and that holds of it.
+abbrev pub KnowsLater : {P : Type 0} → Meaning P → P → View → (History → Type 0) → Type 0
+KnowsLater meaning new v holds =
+    (later : View) × meaning.knows new later × IsGrown v.history later.history × holds later.history
+
+-- A query was asked over a port: these calls are all that it made. Where the port tells its bytes, what it tells is told of the
+-- history that is known afterwards, as it was at some length from that on which was known before; and each block is found to be one.
 pub record HasAsked {P A : Type 0} (meaning : Meaning P) (old : P) (tells : ℕ → List Row → A → Type 0) (r : Result A QueryError) (new : P) : Type 0 where
   pub calls : List Call
   pub made : AreMade meaning old calls new
   pub asked : IsAsked tells r calls
-  pub told : IsTrue (meaning.tells old) → (v : View) → meaning.knows old v → Sound (TellsOf tells v.history) r
+  pub told : IsTrue (meaning.tells old) → (v : View) → meaning.knows old v
+      → KnowsLater meaning new v (λ later. Sound (TellsOf tells v.history later) r)

@@ -1,8 +1,8 @@
 //! Queries over one look: its rows, and those of the blocks that it pins.
 //!
 //! The entry points are `find_trace` and `search`, whose promise is `HasAsked` of `specs/Queries.antt`: each answer tells the first
-//! occurrences of all rows of a history that begins with the one which the port knew before. `specs/Bounds.antt` says how many pages a
-//! look-up may read.
+//! occurrences of all rows of the history that the port knows afterwards, as it was at the answer's count. `specs/Bounds.antt` says how
+//! many pages a look-up may read.
 #![tactic(auto)]
 
 mod blocks;

@@ -5,7 +5,7 @@ use Rattle.span_types.specs.declared.ids.TraceId.{TraceId}
 use Rattle.span_types.specs.declared.spans.Row.{Row}
 use Rattle.span_types.specs.declared.spans.Span.{Span}
 use Rattle.span_types.proofs.FirstLaws.{firsts_alike}
-use Rattle.query_fanout.specs.Queries.{Sound, TellsOf, is_fault}
+use Rattle.query_fanout.specs.Queries.{IsGrown, Sound, TellsOf, is_fault}
 use Rattle.query_fanout.specs.SearchAnswers.{IsSearchAnswer}
 use Rattle.query_fanout.specs.TraceAnswers.{IsTraceAnswer}
 use Rattle.query_fanout.specs.declared.error.QueryError.{QueryError}
@@ -99,22 +99,22 @@ same_trace : (a b : TraceAnswer) → a.as_of ≡ b.as_of → a.rows ≡ b.rows �
 same_trace a b as_of rows = ap (λ (n : ℕ). record { as_of = n; rows = a.rows }) as_of ∙ ap (λ (rs : List Row). record { as_of = b.as_of; rows = rs }) rows
 
 -- Where what they hold is told.
-trace_told : (id : TraceId) (before after : At) (r : Reply) (answer other : Result TraceAnswer QueryError) → r ≡ trace_reply answer → IsUnchanged (is_fault answer) before after
-    → Says (IsTraceAnswer id) answer before after → r ≡ trace_reply other → Sound (TellsOf (IsTraceAnswer id) (history_of before)) other
+trace_told : (id : TraceId) (before after : At) (later : History) (grows : IsGrown (history_of before) later) (r : Reply) (answer other : Result TraceAnswer QueryError) → r ≡ trace_reply answer → IsUnchanged (is_fault answer) before after
+    → Says (IsTraceAnswer id) answer before after → r ≡ trace_reply other → Sound (TellsOf (IsTraceAnswer id) (history_of before) later) other
     → IsAnsweredOrRefused true (Ok (request.Trace id)) before r after
-trace_told id before after r (Ok answer) (Ok other) is still (rows, same, tells) also sound =
+trace_told id before after later grows r (Ok answer) (Ok other) is still (rows, same, tells) also sound =
     let equal = same_traced answer.as_of other.as_of answer.rows other.rows (sym is ∙ also) in
-    let own : TellsOf (IsTraceAnswer id) (history_of before) answer =
-    subst (λ (x : TraceAnswer). TellsOf (IsTraceAnswer id) (history_of before) x) (sym (same_trace answer other equal.0 equal.1)) sound in
+    let own : TellsOf (IsTraceAnswer id) (history_of before) later answer =
+    subst (λ (x : TraceAnswer). TellsOf (IsTraceAnswer id) (history_of before) later x) (sym (same_trace answer other equal.0 equal.1)) sound in
     traced true id before after r (history_rows (history_of before)) answer is still (λ sure k. refl)
-    (told_exactly (IsTraceAnswer id) (λ (x : TraceAnswer). x.as_of) (λ n rs x t. t.count) (history_of before) rows answer tells own)
-trace_told id before after r (Ok answer) (Err why) is still says also sound = let bad : ⊥ = (let e = sym is ∙ also in cc) in absurd bad
-trace_told id before after r (Err error.Fault) other is still rose also sound = refused true id before after r DiskFault is rose still
-trace_told id before after r (Err (error.NotBlock file at)) (Ok other) is still among also sound = let bad : ⊥ = (let e = sym is ∙ also in cc) in absurd bad
-trace_told id before after r (Err (error.NotBlock file at)) (Err error.Fault) is still among also sound = let bad : ⊥ = (let e = sym is ∙ also in cc) in absurd bad
-trace_told id before after r (Err (error.NotBlock file at)) (Err (error.NotBlock f a)) is still among also sound = absurd sound
-trace_told id before after r (Err (error.NotBlock file at)) (Err error.Memory) is still among also sound = let bad : ⊥ = (let e = sym is ∙ also in cc) in absurd bad
-trace_told id before after r (Err error.Memory) other is still any also sound = refused true id before after r Memory is tt still
+    (told_exactly (IsTraceAnswer id) (λ (x : TraceAnswer). x.as_of) (λ n rs x t. t.count) (history_of before) later rows answer grows tells own)
+trace_told id before after later grows r (Ok answer) (Err why) is still says also sound = let bad : ⊥ = (let e = sym is ∙ also in cc) in absurd bad
+trace_told id before after later grows r (Err error.Fault) other is still rose also sound = refused true id before after r DiskFault is rose still
+trace_told id before after later grows r (Err (error.NotBlock file at)) (Ok other) is still among also sound = let bad : ⊥ = (let e = sym is ∙ also in cc) in absurd bad
+trace_told id before after later grows r (Err (error.NotBlock file at)) (Err error.Fault) is still among also sound = let bad : ⊥ = (let e = sym is ∙ also in cc) in absurd bad
+trace_told id before after later grows r (Err (error.NotBlock file at)) (Err (error.NotBlock f a)) is still among also sound = absurd sound
+trace_told id before after later grows r (Err (error.NotBlock file at)) (Err error.Memory) is still among also sound = let bad : ⊥ = (let e = sym is ∙ also in cc) in absurd bad
+trace_told id before after later grows r (Err error.Memory) other is still any also sound = refused true id before after r Memory is tt still
 
 -- ---- a search
 
@@ -157,28 +157,28 @@ same_search a b as_of results = ap (λ (n : ℕ). record { as_of = n; results = 
 not_refused : (as_of : ℕ) (fields : List (List ℕ)) (results : List TraceResult) (why : Refusal) → Searched as_of fields results ≡ Refused why → ⊥
 not_refused as_of fields results why e = cc
 
-search_told : (s : Search) (before after : At) (r : Reply) (answer other : Result SearchAnswer QueryError) → IsSearchTold (asked_of s) answer r → IsUnchanged (is_fault answer) before after
-    → Says (IsSearchAnswer (asked_of s)) answer before after → IsSearchTold (asked_of s) other r → Sound (TellsOf (IsSearchAnswer (asked_of s)) (history_of before)) other
+search_told : (s : Search) (before after : At) (later : History) (grows : IsGrown (history_of before) later) (r : Reply) (answer other : Result SearchAnswer QueryError) → IsSearchTold (asked_of s) answer r → IsUnchanged (is_fault answer) before after
+    → Says (IsSearchAnswer (asked_of s)) answer before after → IsSearchTold (asked_of s) other r → Sound (TellsOf (IsSearchAnswer (asked_of s)) (history_of before) later) other
     → IsAnsweredOrRefused true (Ok (request.Search s)) before r after
-search_told s before after r (Ok answer) (Ok other) (inl is) still (rows, same, tells) (inl also) sound =
+search_told s before after later grows r (Ok answer) (Ok other) (inl is) still (rows, same, tells) (inl also) sound =
     let equal = same_searched answer.as_of other.as_of (fields_of s) answer.results other.results (sym is ∙ also) in
-    let own : TellsOf (IsSearchAnswer (asked_of s)) (history_of before) answer =
-    subst (λ (x : SearchAnswer). TellsOf (IsSearchAnswer (asked_of s)) (history_of before) x) (sym (same_search answer other equal.0 equal.1)) sound in
+    let own : TellsOf (IsSearchAnswer (asked_of s)) (history_of before) later answer =
+    subst (λ (x : SearchAnswer). TellsOf (IsSearchAnswer (asked_of s)) (history_of before) later x) (sym (same_search answer other equal.0 equal.1)) sound in
     found true s before after r (history_rows (history_of before)) answer is still (λ sure k. refl)
-    (told_exactly (IsSearchAnswer (asked_of s)) (λ (x : SearchAnswer). x.as_of) (λ n rs x t. t.count) (history_of before) rows answer tells own)
-search_told s before after r (Ok answer) (Ok other) (inl is) still says (inr also) sound =
+    (told_exactly (IsSearchAnswer (asked_of s)) (λ (x : SearchAnswer). x.as_of) (λ n rs x t. t.count) (history_of before) later rows answer grows tells own)
+search_told s before after later grows r (Ok answer) (Ok other) (inl is) still says (inr also) sound =
     absurd (not_refused answer.as_of (fields_of s) answer.results Memory (sym is ∙ also))
-search_told s before after r (Ok answer) (Err why) (inl is) still says also sound =
+search_told s before after later grows r (Ok answer) (Err why) (inl is) still says also sound =
     absurd (not_refused answer.as_of (fields_of s) answer.results (query_refusal why) (sym is ∙ also))
-search_told s before after r (Ok answer) other (inr is) still says also sound = not_found true s before after r Memory is tt still
-search_told s before after r (Err error.Fault) other is still rose also sound = not_found true s before after r DiskFault is rose still
-search_told s before after r (Err (error.NotBlock file at)) (Ok other) is still among (inl also) sound =
+search_told s before after later grows r (Ok answer) other (inr is) still says also sound = not_found true s before after r Memory is tt still
+search_told s before after later grows r (Err error.Fault) other is still rose also sound = not_found true s before after r DiskFault is rose still
+search_told s before after later grows r (Err (error.NotBlock file at)) (Ok other) is still among (inl also) sound =
     absurd (not_refused other.as_of (fields_of s) other.results (query_refusal (error.NotBlock file at)) (sym also ∙ is))
-search_told s before after r (Err (error.NotBlock file at)) (Ok other) is still among (inr also) sound = let bad : ⊥ = (let e = sym is ∙ also in cc) in absurd bad
-search_told s before after r (Err (error.NotBlock file at)) (Err error.Fault) is still among also sound = let bad : ⊥ = (let e = sym is ∙ also in cc) in absurd bad
-search_told s before after r (Err (error.NotBlock file at)) (Err (error.NotBlock f a)) is still among also sound = absurd sound
-search_told s before after r (Err (error.NotBlock file at)) (Err error.Memory) is still among also sound = let bad : ⊥ = (let e = sym is ∙ also in cc) in absurd bad
-search_told s before after r (Err error.Memory) other is still any also sound = not_found true s before after r Memory is tt still
+search_told s before after later grows r (Err (error.NotBlock file at)) (Ok other) is still among (inr also) sound = let bad : ⊥ = (let e = sym is ∙ also in cc) in absurd bad
+search_told s before after later grows r (Err (error.NotBlock file at)) (Err error.Fault) is still among also sound = let bad : ⊥ = (let e = sym is ∙ also in cc) in absurd bad
+search_told s before after later grows r (Err (error.NotBlock file at)) (Err (error.NotBlock f a)) is still among also sound = absurd sound
+search_told s before after later grows r (Err (error.NotBlock file at)) (Err error.Memory) is still among also sound = let bad : ⊥ = (let e = sym is ∙ also in cc) in absurd bad
+search_told s before after later grows r (Err error.Memory) other is still any also sound = not_found true s before after r Memory is tt still
 
 -- ---- any item
 
@@ -190,7 +190,7 @@ by_call e r before after calls are lead = one_step before after e r (subst (λ (
 
 -- What is told of the history, and of blocks that are read.
 abbrev pub IsItemTold : History → Item → Reply → Type 0
-IsItemTold h (Ok asked) r = TellsHistory h asked r
+IsItemTold h (Ok asked) r = (later : History) × IsGrown h later × TellsHistory h later asked r
 IsItemTold h (Err why) r = ⊤
 
 -- Where what the blocks hold is told: that, and how many rows the listed blocks have afterwards.
@@ -221,7 +221,7 @@ is_told (round_is.Refused cause.Memory) after found are = tt
 compaction_told : (told : Bool) (h : History) (r : Reply) (round : RoundEnd) (after : At) → r ≡ compact_reply round → TellsBlocks told h (Ok request.Compact) r after → told ≡ true → IsTold round after
 compaction_told told h r round after is tells sure =
     let all = tells sure in
-    let other = all.0 in
+    let other = all.0.2 in
     is_told round after (subst FoundBlocks (sym (same_round round other.0 (sym is ∙ other.1))) other.2) all.1
 
 untold : (h : History) (item : Item) (r : Reply) (after : At) → TellsBlocks false h item r after
@@ -268,10 +268,10 @@ item_means (Err why) before after r calls agrees a lead = inl (line_means false 
 pub item_means_told : (item : Item) (before after : At) (r : Reply) (calls : List Call) → Agrees before.machine → IsItemAnswered item r calls → CallsLead before calls after
     → IsItemTold (history_of before) item r → AreCounted after.machine.state.blocks → IsAnsweredOrRefused true item before r after
 item_means_told (Ok (request.Push reading moment)) before after r calls agrees a lead t are = inl (line_means true (Ok (request.Push reading moment)) before after r calls (λ q. q) (λ sure. (t, are)) a lead)
-item_means_told (Ok (request.Trace id)) before after r calls agrees (answer, is, asked) lead (other, also, sound) are =
-    let says = asked_says (IsTraceAnswer id) answer before after calls agrees asked lead in trace_told id before after r answer other is says.0 says.1 also sound
-item_means_told (Ok (request.Search s)) before after r calls agrees (answer, is, asked) lead (other, also, sound) are =
-    let says = asked_says (IsSearchAnswer (asked_of s)) answer before after calls agrees asked lead in search_told s before after r answer other is says.0 says.1 also sound
+item_means_told (Ok (request.Trace id)) before after r calls agrees (answer, is, asked) lead (later, grows, (other, also, sound)) are =
+    let says = asked_says (IsTraceAnswer id) answer before after calls agrees asked lead in trace_told id before after later grows r answer other is says.0 says.1 also sound
+item_means_told (Ok (request.Search s)) before after r calls agrees (answer, is, asked) lead (later, grows, (other, also, sound)) are =
+    let says = asked_says (IsSearchAnswer (asked_of s)) answer before after calls agrees asked lead in search_told s before after later grows r answer other is says.0 says.1 also sound
 item_means_told (Ok (request.Cut moment)) before after r calls agrees a lead t are = inl (line_means true (Ok (request.Cut moment)) before after r calls (λ q. q) (λ sure. (t, are)) a lead)
 item_means_told (Ok request.CutAll) before after r calls agrees a lead t are = inl (line_means true (Ok request.CutAll) before after r calls (λ q. q) (λ sure. (t, are)) a lead)
 item_means_told (Ok request.Flush) before after r calls agrees a lead t are = inl (line_means true (Ok request.Flush) before after r calls (λ q. q) (λ sure. (t, are)) a lead)

@@ -136,7 +136,8 @@ module _ {D : Type 0} (g : Ghosts D) where
         }
 
     item_told : (old new : Core D) (item : Item) (reply : Reply) (m : Machine) → TellsSince old m → IsAnsweredOver (port_of g) old item reply new → IsItemTold m.history item reply
-    item_told old new (Ok asked) reply m (since, tells) is = is.told tells (record { history = m.history; holds = [] }) (knows_all old m since.stands)
+    item_told old new (Ok asked) reply m (since, tells) is =
+        let last = is.told tells (record { history = m.history; holds = [] }) (knows_all old m since.stands) in (last.0.history, last.2, last.3)
     item_told old new (Err why) reply m (since, tells) is = tt
 
     -- All that was pushed is told of, wherever it lies.

@@ -1,6 +1,6 @@
 -- What the calls of a query make of the store's machine: nothing. And of which rows it tells.
 use Rattle.std.specs.Prelude.{⊤}
-use Rattle.std.proofs.Common.{◌≡◌, inl, inr, ℕ, ◌+◌, Bool, true, false, List, [], ◌∷◌, ◌++◌, Result, Ok, Err, append-nil, arith, length, length-append, refl, sym, ◌∙◌, ap, subst}
+use Rattle.std.proofs.Common.{◌≡◌, inl, inr, ℕ, Bool, true, false, List, [], ◌∷◌, ◌++◌, Result, Ok, Err, arith, refl, sym, ◌∙◌, ap, subst}
 use Rattle.std.specs.List.Sorted.{IsPermutation}
 use Rattle.disk_model.proofs.CallRuns.{raised_rose}
 use Rattle.span_types.specs.Faults.{Rose}
@@ -8,17 +8,17 @@ use Rattle.span_types.specs.First.{first_at}
 use Rattle.span_types.specs.declared.ids.Key.{Key}
 use Rattle.span_types.specs.declared.spans.Row.{Row}
 use Rattle.block_info.specs.InfoParts.{InfoParts}
-use Rattle.query_fanout.specs.Queries.{AreReads, ComesOf, IsAsked, ReadsPages, Sound, TellsOf, is_fault, parts_of}
+use Rattle.query_fanout.proofs.Later.{as_it_was}
+use Rattle.query_fanout.specs.Queries.{AreReads, ComesOf, IsAsked, IsGrown, ReadsPages, TellsOf, is_fault, parts_of}
 use Rattle.query_fanout.specs.declared.error.QueryError.{QueryError}
 use Rattle.query_fanout.specs.declared.error.QueryError.TheVariants as error
-use Rattle.store_entries.specs.declared.entry.Entry.{Entry}
 use Rattle.store_images.specs.Stored.{SameFirsts}
 use Rattle.store_model.specs.After.{after_done}
 use Rattle.store_model.specs.Event.{Reply as reply, LookParts}
 use Rattle.store_model.specs.Event.Event.{Done, Look, ReadPage}
 use Rattle.store_model.specs.Event.Reply.{Fine, Page, Refused}
 use Rattle.store_model.specs.Event.Refusal.{Fault, Memory}
-use Rattle.store_model.specs.History.{History, count_of, grown, history_rows}
+use Rattle.store_model.specs.History.{History, count_of, history_rows, up_to}
 use Rattle.store_model.specs.Laws.{Agrees}
 use Rattle.store_model.specs.State.{Block, block_files, block_rows, flush_rows, is_among, live_rows}
 use Rattle.store_model.specs.Step.{IsLook, Machine, with_state}
@@ -151,33 +151,10 @@ asked_says {A} tells r before after calls agrees (inr (look, reads, are, pages, 
 
 -- ---- what is told of the history
 
-none_left : (xs : List Entry) → length xs ≡ 0 → xs ≡ []
-none_left [] none = refl
-none_left (x ∷ xs) none = absurd (let bad : ⊥ = omega (arith, none) in bad)
-
-nothing_grown : (h : History) → grown h [] ≡ h
-nothing_grown h = ap (λ (bs : List Entry). record { base = h.base; start = h.start; entries = bs }) (append-nil h.entries)
-
--- What is told of a history before which nobody else pushed, since it is told as of its length.
+-- What is told of a later history is told of this one, if it is told as of its length.
 pub told_exactly : {A : Type 0} (tells : ℕ → List Row → A → Type 0) (as_of : A → ℕ) → ((n : ℕ) (rows : List Row) (x : A) → tells n rows x → as_of x ≡ n)
-    → (h : History) (rows : List Row) (x : A) → tells (count_of h) rows x → TellsOf tells h x → tells (count_of h) (history_rows h) x
-told_exactly tells as_of counts h rows x own (others, its) =
-    let first : as_of x ≡ h.start + length h.entries = counts (count_of h) rows x own in
-    let second : as_of x ≡ h.start + length (h.entries ++ others) = counts (count_of (grown h others)) (history_rows (grown h others)) x its in
-    let both = length-append h.entries others in
-    let none : others ≡ [] = none_left others (omega (arith, first, second, both)) in
-    subst (λ (g : History). tells (count_of g) (history_rows g) x) (ap (grown h) none ∙ nothing_grown h) its
-
--- What a query tells or why it can't, where what the blocks hold is told.
-abbrev pub SaysTold : {A : Type 0} → (ℕ → List Row → A → Type 0) → Result A QueryError → At → At → Type 0
-SaysTold tells (Ok x) before after = tells (count_of (history_of before)) (history_rows (history_of before)) x
-SaysTold tells (Err error.Fault) before after = Rose before.faults after.faults
-SaysTold tells (Err (error.NotBlock file at)) before after = ⊥
-SaysTold tells (Err error.Memory) before after = ⊤
-
-pub says_told : {A : Type 0} (tells : ℕ → List Row → A → Type 0) (as_of : A → ℕ) → ((n : ℕ) (rows : List Row) (x : A) → tells n rows x → as_of x ≡ n) → (r : Result A QueryError) (before after : At)
-    → Says tells r before after → Sound (TellsOf tells (history_of before)) r → SaysTold tells r before after
-says_told tells as_of counts (Ok x) before after says sound = told_exactly tells as_of counts (history_of before) says.0 x says.2 sound
-says_told tells as_of counts (Err error.Fault) before after says sound = says
-says_told tells as_of counts (Err (error.NotBlock file at)) before after says sound = sound
-says_told tells as_of counts (Err error.Memory) before after says sound = tt
+    → (h later : History) (rows : List Row) (x : A) → IsGrown h later → tells (count_of h) rows x → TellsOf tells h later x → tells (count_of h) (history_rows h) x
+told_exactly tells as_of counts h later rows x grows own (n, low, high, its) =
+    let same : n ≡ count_of h = sym (counts n (history_rows (up_to n later)) x its) ∙ counts (count_of h) rows x own in
+    subst (λ (g : History). tells (count_of h) (history_rows g) x) (as_it_was h later n grows same)
+    (subst (λ (k : ℕ). tells k (history_rows (up_to n later)) x) same its)
