@@ -1,2 +1,3 @@
 pub mod Flushes
 pub mod OpenCores
+mod Looks

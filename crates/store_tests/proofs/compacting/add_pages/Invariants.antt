@@ -1,8 +1,7 @@
-use Rattle.std.specs.Prelude.{List}
-use Rattle.store_core.specs.Port.{port_of}
-use Rattle.store_model.specs.Holds.{Hold}
+use Rattle.store_state.specs.Given.{look_of}
+use Rattle.store_state.specs.Meaning.{IsOpen}
 use Rattle.store_tests.proofs.compacting.add_pages.Given as goal
 
--- the store says what is open in it if it did so before
+-- the look is open
 abbrev pub invariant-loop-page : goal.invariant-loop-page
-invariant-loop-page g l = ((held : List Hold) × (port_of g.D.Device).holds l.fn.store held) → (held : List Hold) × (port_of g.D.Device).holds l.store held
+invariant-loop-page g l = IsOpen g.P.LookPort.meaning l.port (look_of l.fn.look.now)

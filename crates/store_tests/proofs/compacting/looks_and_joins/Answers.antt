@@ -1,6 +1,7 @@
-use Rattle.store_core.specs.Port.{port_of}
-use Rattle.store_tests.proofs.Flushes.{goes_on}
+use Rattle.std.proofs.Common.{zero, refl, arith}
+use Rattle.store_state.specs.Given.{look_of}
+use Rattle.store_state.proofs.HoldLaws.{opens_new}
 use Rattle.store_tests.proofs.compacting.looks_and_joins.Goals as goal
 
 pub joins_beside-requires : goal.joins_beside-requires
-joins_beside-requires g c = goes_on (port_of g.D.Device) c.args.store.now c.look.new.self _ _ c.in-Ok.ensures.called c.requires
+joins_beside-requires g c = opens_new g.P.LookPort.meaning c.args.port.now c.look.new.self _ _ (look_of c.in-Ok.look) c.in-Ok.ensures.called c.requires (zero, omega arith, refl)
