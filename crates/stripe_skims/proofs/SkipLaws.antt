@@ -1,15 +1,14 @@
 -- What passing over a part comes to.
-use Rattle.std.proofs.Common.{◌≡◌, ◌≢◌, ℕ, zero, suc, ◌+◌, ◌-◌, ◌<◌, ◌≤◌, ◌==◌, ◌||◌, max, Bool, true, false, List, [], ◌∷◌, ◌++◌, length, Option, None, Some, Result, Ok, Err, refl, sym, ◌∙◌, ap, subst, arith, if◌then◌else◌}
-use Rattle.std.specs.Prelude.{IfSome, IsTrue, is_some, is_ok, slice_get}
+use Rattle.std.proofs.Common.{◌≡◌, ℕ, zero, suc, ◌+◌, ◌-◌, ◌<◌, ◌≤◌, ◌==◌, ◌||◌, Bool, true, false, List, [], ◌∷◌, ◌++◌, length, Option, None, Some, Result, Ok, Err, refl, sym, ◌∙◌, ap, arith}
+use Rattle.std.specs.Prelude.{IfSome, is_some, is_ok, slice_get}
 use Rattle.std.specs.Prelude.{slice_index, slice_set}
-use Rattle.std.specs.List.{list_any}
 use Rattle.std.specs.Str.{bytes_eq}
 use Rattle.std.proofs.lemmas.Bool.{eq-eqb, eqb-true}
 use Rattle.std.proofs.lemmas.List.{get_or-set_other, get_or-set_same}
 use Rattle.std.proofs.lemmas.List.Folds.{list_any-append}
 use Rattle.std.proofs.lemmas.Slice.Eq.{bytes_eq-Decides}
 use Rattle.std.proofs.Math.Bool.{or-false}
-use Rattle.byte_fields.specs.Reading.{◌>>=◌, byte_at}
+use Rattle.byte_fields.specs.Reading.{byte_at}
 use Rattle.span_fields.specs.Breaks.{in_part}
 use Rattle.span_fields.specs.Decodings.{value_at}
 use Rattle.span_fields.specs.declared.breaks.Break.{Break}
@@ -21,7 +20,7 @@ use Rattle.block_columns.specs.ColumnReadings.{Spot, field, items_at, made_at, p
 use Rattle.block_columns.specs.Outcomes.{Finds}
 use Rattle.block_columns.proofs.ReadingSteps.{items_done, items_go_on, reference_found}
 use Rattle.block_columns.specs.ColumnLaws.{read_to}
-use Rattle.block_parts.specs.PartReadings.{as_attr, attr_with, value_with}
+use Rattle.block_parts.specs.PartReadings.{attr_with, value_with}
 use Rattle.stripe_skims.specs.Sure.{AreApart, AreBefore, AreStamped, Passes, PassesAttr, Refers}
 
 record There {T : Type 0} (table : List T) (n : ℕ) : Type 0 where
