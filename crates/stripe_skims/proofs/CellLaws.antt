@@ -18,6 +18,7 @@ use Rattle.block_stripes.specs.StripeRows.{Cells, OwnerCells, TimeCells}
 use Rattle.stripe_skims.specs.Sketches.{IsSketch, Sketches, is_rich}
 use Rattle.stripe_skims.specs.Sure.{some_filled}
 use Rattle.stripe_skims.specs.declared.sketches.Sketch.{Sketch}
+use Rattle.stripe_skims.proofs.SkipLaws.{differ}
 
 abbrev pub firsts : {A B : Type 0} → List (A × B) → List A
 firsts rows = map (λ r. r.0) rows
@@ -67,9 +68,6 @@ sketched cells sketch events links traces spans starts some_events some_links ri
 }
 
 -- ---- the parts before the columns
-
-differ : (a b : ℕ) → (a ≡ b → ⊥) → (a == b) ≡ false
-differ a b apart = (elim (a == b) as (λ t. (a == b) ≡ t → (a == b) ≡ false) [ true ↦ λ e. absurd (apart (eqb-true a b e)) | false ↦ λ e. e ]) refl
 
 is_size : (n : ℕ) → (n ≡ 0 → ⊥) → n ≤ 256 → is_no_size n ≡ false
 is_size n some few = rw (differ n 0 some, le-ltb 256 n few) refl

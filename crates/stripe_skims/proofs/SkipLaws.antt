@@ -53,20 +53,16 @@ text_passed table s t u tag texts None read zero_tag size refers some = cc
 text_passed table s t u tag texts (Some n) read zero_tag size refers some =
     let low = refers.0 in text_passes table s t u n (read ∙ ap (λ (k : ℕ). read_to k t) zero_tag) (omega (arith, low, size)) refers.1
 
-other_tag : (tag : ℕ) → (tag ≡ 0 → ⊥) → (tag == 0) ≡ false
-other_tag zero some = absurd (some refl)
-other_tag (suc n) some = (elim (suc n == 0) as (λ b. (suc n == 0) ≡ b → (suc n == 0) ≡ false) [ true ↦ λ e. absurd (some (eqb-true (suc n) 0 e)) | false ↦ λ e. e ]) refl
+pub differ : (a b : ℕ) → (a ≡ b → ⊥) → (a == b) ≡ false
+differ a b apart = (elim (a == b) as (λ t. (a == b) ≡ t → (a == b) ≡ false) [ true ↦ λ e. absurd (apart (eqb-true a b e)) | false ↦ λ e. e ]) refl
 
 pub value_passed : (table : List (List ℕ)) (s t u : Spot) (tag : ℕ) (r : Result AttrValue Break) → field (λ within. in_part within byte_at) s ≡ read_to tag t → (tag ≡ 0 → ⊥)
     → Finds (λ x. x) r u (field value_at s) → is_ok r ≡ true → Passes (value_with table s) u
 unfolding value_with
-value_passed table s t u tag (Ok x) read some finds ok = (x, rw (read, other_tag tag some) finds)
+value_passed table s t u tag (Ok x) read some finds ok = (x, rw (read, differ tag 0 some) finds)
 value_passed table s t u tag (Err e) read some finds ok = cc
 
 -- ---- an attribute
-
-differ : (a b : ℕ) → (a ≡ b → ⊥) → (a == b) ≡ false
-differ a b apart = (elim (a == b) as (λ t. (a == b) ≡ t → (a == b) ≡ false) [ true ↦ λ e. absurd (apart (eqb-true a b e)) | false ↦ λ e. e ]) refl
 
 attr_read : (table : List (List ℕ)) (before : List Attr) (s t u : Spot) (text : List ℕ) (value : AttrValue) → reference_at table s ≡ read_to text t → has_key text before ≡ false
     → value_with table t ≡ read_to value u → attr_with table before s ≡ read_to (record { key = text; value = value }) u
