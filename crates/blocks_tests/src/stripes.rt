@@ -5,6 +5,7 @@ use block_stripes::{FormatError, can_be_stripe, read_stripe, write_stripe};
 use span_types::{Attr, AttrValue, Memory, Row, Rows, Span, SpanId, SpanKind, StatusCode, TraceId};
 use std::alloc::Global;
 use std::test::Fail;
+use stripe_skims::skim;
 
 /// Two rows in form 2, up to the fill.
 pub(crate) const STRIPE: &str = "
@@ -163,11 +164,19 @@ fn are_written(alloc: Global, rows: &Rows, form: u8, bytes: &[u8]) -> Result<boo
     Ok(written.as_slice() == bytes)
 }
 
-/// The offset at which the bytes are malformed, or that they are sound: their rows have these bytes again.
+/// Whether a skim is sure of these bytes, which have these rows.
+fn is_skimmed(alloc: Global, rows: &Rows, form: u8, bytes: &[u8]) -> bool {
+    match skim(alloc, bytes, form == 2) {
+        Some(sketch) => sketch.starts.as_slice().len() == rows.len(),
+        None => false,
+    }
+}
+
+/// The offset at which the bytes are malformed, or that they are sound: their rows have these bytes again, and are skimmed.
 pub(crate) fn told(alloc: Global, bytes: &[u8], form: u8) -> Result<u64, Memory> {
     match rows_of(alloc, bytes, form)? {
         Ok(rows) => {
-            if are_written(alloc, &rows, form, bytes)? {
+            if are_written(alloc, &rows, form, bytes)? && is_skimmed(alloc, &rows, form, bytes) {
                 Ok(SOUND)
             } else {
                 Ok(0)

@@ -1,5 +1,5 @@
 -- What is told of the rows of cells.
-use Rattle.std.proofs.Common.{◌≡◌, ℕ, ◌==◌, ◌≤◌, ◌||◌, Bool, true, false, not, List, [], ◌∷◌, length, map, Option, None, Some, Result, Ok, Err, refl, sym, ◌∙◌, ap, subst}
+use Rattle.std.proofs.Common.{◌≡◌, ℕ, ◌==◌, ◌≤◌, ◌||◌, Bool, true, false, not, List, [], ◌∷◌, length, map, Option, None, Some, Result, Ok, refl, sym, ◌∙◌, ap}
 use Rattle.std.specs.Prelude.{IfSome}
 use Rattle.std.specs.List.{list_any}
 use Rattle.std.specs.Str.{bytes_eq}
@@ -7,18 +7,18 @@ use Rattle.std.proofs.lemmas.Bool.{eq-eqb, eqb-true, le-ltb}
 use Rattle.span_types.specs.declared.attrs.Resource.{Resource}
 use Rattle.span_types.specs.declared.attrs.Scope.{Scope}
 use Rattle.span_types.specs.Equal.{same_resource, same_scope}
-use Rattle.byte_fields.specs.Reading.{◌>>=◌}
 use Rattle.block_columns.specs.ColumnLaws.{read_to}
-use Rattle.block_columns.specs.ColumnReadings.{Spot, all_used, made_at, number_at, table_at}
+use Rattle.block_columns.specs.ColumnReadings.{Spot, made_at, number_at, table_at}
 use Rattle.block_parts.specs.PartReadings.{resource_with, scope_with}
 use Rattle.span_types.specs.declared.spans.Row.{Row}
 use Rattle.span_types.specs.declared.spans.SpanEvent.{SpanEvent}
 use Rattle.span_types.specs.declared.spans.SpanLink.{SpanLink}
-use Rattle.block_stripes.specs.StripeReadings.{Listed, cells_at, content_at, counted_rows_at, is_no_size, owned_rows_at, rows_of, scoped_rows_at, size_at, texts_first, whole_text_at}
-use Rattle.block_stripes.specs.StripeRows.{Cells, OwnerCells, TimeCells, NameCells, IdCells}
+use Rattle.block_stripes.specs.StripeReadings.{Listed, cells_at, content_at, counted_rows_at, is_no_size, owned_rows_at, rows_of, scoped_rows_at, size_at, whole_text_at}
+use Rattle.block_stripes.specs.StripeRows.{Cells, OwnerCells, TimeCells}
 use Rattle.stripe_skims.specs.Sketches.{IsSketch, Sketches, is_rich}
 use Rattle.stripe_skims.specs.Sure.{some_filled}
 use Rattle.stripe_skims.specs.declared.sketches.Sketch.{Sketch}
+use Rattle.stripe_skims.proofs.SkipLaws.{differ}
 
 abbrev pub firsts : {A B : Type 0} → List (A × B) → List A
 firsts rows = map (λ r. r.0) rows
@@ -68,9 +68,6 @@ sketched cells sketch events links traces spans starts some_events some_links ri
 }
 
 -- ---- the parts before the columns
-
-differ : (a b : ℕ) → (a ≡ b → ⊥) → (a == b) ≡ false
-differ a b apart = (elim (a == b) as (λ t. (a == b) ≡ t → (a == b) ≡ false) [ true ↦ λ e. absurd (apart (eqb-true a b e)) | false ↦ λ e. e ]) refl
 
 is_size : (n : ℕ) → (n ≡ 0 → ⊥) → n ≤ 256 → is_no_size n ≡ false
 is_size n some few = rw (differ n 0 some, le-ltb 256 n few) refl

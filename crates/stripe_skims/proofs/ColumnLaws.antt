@@ -1,15 +1,8 @@
 -- What skimmed columns come to.
-use Rattle.std.proofs.Common.{◌≡◌, ◌≢◌, ℕ, zero, suc, ◌+◌, ◌<◌, ◌==◌, Bool, true, false, List, [], ◌∷◌, ◌++◌, length, map, Option, None, Some, Result, Ok, Err, refl, sym, ◌∙◌, ap, subst, arith}
-use Rattle.std.specs.Prelude.{slice_get}
-use Rattle.std.specs.List.{position_or_len}
-use Rattle.std.specs.Str.{bytes_eq}
+use Rattle.std.proofs.Common.{◌≡◌, ℕ, ◌<◌, List, [], length, Some, refl, sym, ◌∙◌, ap, subst, arith}
 use Rattle.std.proofs.lemmas.Bool.{eq-eqb}
 use Rattle.std.proofs.lemmas.List.{length-map}
-use Rattle.std.proofs.lemmas.Slice.Eq.{bytes_eq-Decides}
-use Rattle.byte_fields.specs.Reading.{◌>>=◌}
-use Rattle.span_fields.proofs.Meant.{Bound, bound}
-use Rattle.block_columns.specs.Tables.{IsNew}
-use Rattle.block_columns.specs.ColumnReadings.{Spot, Read, all_used, beside, both_at, column_at, field, made_at, owners_at, pair_at, reference_at, table_at}
+use Rattle.block_columns.specs.ColumnReadings.{Spot, Read, beside, both_at, column_at, field, made_at, owners_at, pair_at, reference_at}
 use Rattle.block_columns.specs.ColumnLaws.{read_to}
 use Rattle.block_columns.proofs.Basics.{beside_lefts, beside_rights}
 use Rattle.span_types.specs.declared.ids.SpanId.{SpanId}

@@ -1,12 +1,11 @@
 -- What passing over values, one after another, comes to.
-use Rattle.std.proofs.Common.{◌≡◌, ℕ, zero, suc, ◌+◌, ◌-◌, ◌<◌, ◌≤◌, ◌==◌, ◌||◌, Bool, true, false, not, List, [], ◌∷◌, ◌++◌, length, Option, None, Some, Result, Ok, Err, refl, sym, ◌∙◌, ap, subst, arith, append_assoc}
-use Rattle.std.specs.Prelude.{IfSome, IsTrue, is_ok}
-use Rattle.std.specs.List.{list_any}
+use Rattle.std.proofs.Common.{◌≡◌, ℕ, zero, suc, ◌+◌, ◌-◌, ◌<◌, ◌≤◌, ◌==◌, ◌||◌, Bool, true, false, not, List, [], ◌∷◌, ◌++◌, length, Result, Ok, Err, refl, sym, ◌∙◌, ap, arith}
+use Rattle.std.specs.Prelude.{IsTrue, is_ok}
 use Rattle.std.proofs.lemmas.List.{length-append}
 use Rattle.std.proofs.lemmas.List.Folds.{list_any-append}
 use Rattle.std.proofs.Math.Bool.{or-false}
 use Rattle.span_fields.specs.declared.breaks.Break.{Break}
-use Rattle.span_fields.proofs.Meant.{Bound, bound}
+use Rattle.span_fields.proofs.Meant.{bound}
 use Rattle.byte_fields.specs.Reading.{◌>>=◌}
 use Rattle.block_columns.specs.ColumnReadings.{Spot, Read, column_at, counted_at, items_at, number_at, only_if_at}
 use Rattle.block_columns.specs.ColumnLaws.{read_to}

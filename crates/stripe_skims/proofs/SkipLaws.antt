@@ -1,15 +1,14 @@
 -- What passing over a part comes to.
-use Rattle.std.proofs.Common.{◌≡◌, ◌≢◌, ℕ, zero, suc, ◌+◌, ◌-◌, ◌<◌, ◌≤◌, ◌==◌, ◌||◌, max, Bool, true, false, List, [], ◌∷◌, ◌++◌, length, Option, None, Some, Result, Ok, Err, refl, sym, ◌∙◌, ap, subst, arith, if◌then◌else◌}
-use Rattle.std.specs.Prelude.{IfSome, IsTrue, is_some, is_ok, slice_get}
+use Rattle.std.proofs.Common.{◌≡◌, ℕ, zero, suc, ◌+◌, ◌-◌, ◌<◌, ◌≤◌, ◌==◌, ◌||◌, Bool, true, false, List, [], ◌∷◌, ◌++◌, length, Option, None, Some, Result, Ok, Err, refl, sym, ◌∙◌, ap, arith}
+use Rattle.std.specs.Prelude.{IfSome, is_some, is_ok, slice_get}
 use Rattle.std.specs.Prelude.{slice_index, slice_set}
-use Rattle.std.specs.List.{list_any}
 use Rattle.std.specs.Str.{bytes_eq}
 use Rattle.std.proofs.lemmas.Bool.{eq-eqb, eqb-true}
 use Rattle.std.proofs.lemmas.List.{get_or-set_other, get_or-set_same}
 use Rattle.std.proofs.lemmas.List.Folds.{list_any-append}
 use Rattle.std.proofs.lemmas.Slice.Eq.{bytes_eq-Decides}
 use Rattle.std.proofs.Math.Bool.{or-false}
-use Rattle.byte_fields.specs.Reading.{◌>>=◌, byte_at}
+use Rattle.byte_fields.specs.Reading.{byte_at}
 use Rattle.span_fields.specs.Breaks.{in_part}
 use Rattle.span_fields.specs.Decodings.{value_at}
 use Rattle.span_fields.specs.declared.breaks.Break.{Break}
@@ -21,7 +20,7 @@ use Rattle.block_columns.specs.ColumnReadings.{Spot, field, items_at, made_at, p
 use Rattle.block_columns.specs.Outcomes.{Finds}
 use Rattle.block_columns.proofs.ReadingSteps.{items_done, items_go_on, reference_found}
 use Rattle.block_columns.specs.ColumnLaws.{read_to}
-use Rattle.block_parts.specs.PartReadings.{as_attr, attr_with, value_with}
+use Rattle.block_parts.specs.PartReadings.{attr_with, value_with}
 use Rattle.stripe_skims.specs.Sure.{AreApart, AreBefore, AreStamped, Passes, PassesAttr, Refers}
 
 record There {T : Type 0} (table : List T) (n : ℕ) : Type 0 where
@@ -54,20 +53,16 @@ text_passed table s t u tag texts None read zero_tag size refers some = cc
 text_passed table s t u tag texts (Some n) read zero_tag size refers some =
     let low = refers.0 in text_passes table s t u n (read ∙ ap (λ (k : ℕ). read_to k t) zero_tag) (omega (arith, low, size)) refers.1
 
-other_tag : (tag : ℕ) → (tag ≡ 0 → ⊥) → (tag == 0) ≡ false
-other_tag zero some = absurd (some refl)
-other_tag (suc n) some = (elim (suc n == 0) as (λ b. (suc n == 0) ≡ b → (suc n == 0) ≡ false) [ true ↦ λ e. absurd (some (eqb-true (suc n) 0 e)) | false ↦ λ e. e ]) refl
+pub differ : (a b : ℕ) → (a ≡ b → ⊥) → (a == b) ≡ false
+differ a b apart = (elim (a == b) as (λ t. (a == b) ≡ t → (a == b) ≡ false) [ true ↦ λ e. absurd (apart (eqb-true a b e)) | false ↦ λ e. e ]) refl
 
 pub value_passed : (table : List (List ℕ)) (s t u : Spot) (tag : ℕ) (r : Result AttrValue Break) → field (λ within. in_part within byte_at) s ≡ read_to tag t → (tag ≡ 0 → ⊥)
     → Finds (λ x. x) r u (field value_at s) → is_ok r ≡ true → Passes (value_with table s) u
 unfolding value_with
-value_passed table s t u tag (Ok x) read some finds ok = (x, rw (read, other_tag tag some) finds)
+value_passed table s t u tag (Ok x) read some finds ok = (x, rw (read, differ tag 0 some) finds)
 value_passed table s t u tag (Err e) read some finds ok = cc
 
 -- ---- an attribute
-
-differ : (a b : ℕ) → (a ≡ b → ⊥) → (a == b) ≡ false
-differ a b apart = (elim (a == b) as (λ t. (a == b) ≡ t → (a == b) ≡ false) [ true ↦ λ e. absurd (apart (eqb-true a b e)) | false ↦ λ e. e ]) refl
 
 attr_read : (table : List (List ℕ)) (before : List Attr) (s t u : Spot) (text : List ℕ) (value : AttrValue) → reference_at table s ≡ read_to text t → has_key text before ≡ false
     → value_with table t ≡ read_to value u → attr_with table before s ≡ read_to (record { key = text; value = value }) u

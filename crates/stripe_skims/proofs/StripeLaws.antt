@@ -1,22 +1,21 @@
 -- What is told of a whole stripe.
-use Rattle.std.proofs.Common.{◌≡◌, ◌≢◌, ℕ, zero, suc, ◌+◌, ◌-◌, ◌<◌, ◌≤◌, ◌==◌, ◌&&◌, Bool, true, false, cond, List, [], ◌∷◌, ◌++◌, length, take, drop, Option, None, Some, Result, Ok, Err, refl, sym, ◌∙◌, ap, subst, arith}
-use Rattle.std.specs.Prelude.{IfSome, nat_le, slice_get}
+use Rattle.std.proofs.Common.{◌≡◌, ℕ, ◌+◌, ◌-◌, ◌≤◌, Bool, true, false, cond, List, [], length, take, drop, Option, None, Ok, Err, refl, sym, ◌∙◌, ap, subst, arith}
 use Rattle.std.specs.List.{list_any, position_or_len}
 use Rattle.std.specs.Str.{bytes_eq}
 use Rattle.std.proofs.lemmas.Bool.{eq-eqb, le-leb}
 use Rattle.std.proofs.lemmas.List.{length-drop, take_all}
 use Rattle.std.proofs.lemmas.Slice.Eq.{bytes_eq-Decides}
 use Rattle.span_types.specs.declared.spans.Row.{Row}
-use Rattle.byte_fields.specs.Reading.{Stand, ◌>>=◌, fixed64_at}
+use Rattle.byte_fields.specs.Reading.{Stand, fixed64_at}
 use Rattle.span_fields.specs.Breaks.{in_part}
-use Rattle.span_fields.proofs.Meant.{Bound, bound, kept_else}
+use Rattle.span_fields.proofs.Meant.{bound, kept_else}
 use Rattle.block_columns.specs.Tables.{AllAfter, IsNew}
 use Rattle.block_columns.specs.ColumnLaws.{read_to}
 use Rattle.block_columns.specs.ColumnReadings.{Spot, Read, counted_at, items_at, new_at, number_at, table_at, unless_at}
 use Rattle.block_columns.proofs.Basics.{same_read}
 use Rattle.block_columns.proofs.Numbering.{new_is_table}
 use Rattle.block_columns.proofs.ReadingSteps.{items_good}
-use Rattle.block_stripes.specs.StripeReadings.{ascend, content_at, content_of, content_part, stripe_at, unfilled, unless_some, whole_text_at}
+use Rattle.block_stripes.specs.StripeReadings.{ascend, content_at, content_of, content_part, stripe_at, unfilled}
 use Rattle.stripe_skims.specs.Sketches.{IsSketch, Sketches, SketchesAll}
 use Rattle.stripe_skims.specs.Sure.{AreApart}
 use Rattle.stripe_skims.specs.declared.sketches.Sketch.{Sketch}

@@ -4,8 +4,6 @@ use Rattle.std.specs.List.{list_any}
 use Rattle.std.specs.Ordering.{is_lt, nat_cmp, ordering_then}
 use Rattle.span_types.specs.Orders.{span_cmp, trace_cmp}
 use Rattle.stripe_skims.specs.declared.order.RowKey.{RowKey}
-use Rattle.span_types.specs.declared.ids.SpanId.{SpanId}
-use Rattle.span_types.specs.declared.ids.TraceId.{TraceId}
 use Rattle.span_types.specs.declared.spans.Row.{Row}
 use Rattle.block_columns.specs.ColumnReadings.{Spot}
 use Rattle.stripe_skims.specs.declared.sketches.Sketch.{Sketch}

@@ -1,5 +1,5 @@
 -- What is passed over: reading gives something there.
-use Rattle.std.specs.Prelude.{◌≡◌, ◌≢◌, ℕ, ◌+◌, max, ◌<◌, ◌≤◌, ◌==◌, Bool, List, false, not, map, [], ◌∷◌, ◌++◌, Option, Some, None, Result, Ok, length, slice_get, slice_index}
+use Rattle.std.specs.Prelude.{◌≡◌, ◌≢◌, ℕ, ◌+◌, max, ◌<◌, ◌≤◌, ◌==◌, Bool, List, false, not, map, [], ◌∷◌, ◌++◌, Some, Result, Ok, length, slice_get, slice_index}
 use Rattle.std.specs.List.{list_any}
 use Rattle.std.specs.Str.{bytes_eq}
 use Rattle.span_types.specs.declared.attrs.Attr.{Attr}

@@ -1,6 +1,4 @@
-use Rattle.std.proofs.Common.{◌≡◌, [], sym, ◌∙◌, refl}
-use Rattle.block_columns.specs.ColumnReadings.{items_at}
-use Rattle.block_parts.specs.PartReadings.{attr_with}
+use Rattle.std.proofs.Common.{sym, ◌∙◌, refl}
 use Rattle.stripe_skims.proofs.SkipLaws.{far_done, far_more}
 use Rattle.stripe_skims.proofs.attributes.pass_each.Goals as goal
 

@@ -1,4 +1,4 @@
-use Rattle.std.proofs.Common.{◌≡◌, ◌+◌, max, ◌∙◌, ap, arith}
+use Rattle.std.proofs.Common.{◌+◌, max, ◌∙◌, ap, arith}
 use Rattle.block_columns.proofs.ReadingSteps.{number_kept}
 use Rattle.stripe_skims.proofs.attributes.pass_reference.Goals as goal
 

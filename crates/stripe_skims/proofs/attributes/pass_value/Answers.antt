@@ -1,4 +1,4 @@
-use Rattle.std.proofs.Common.{sym, ◌∙◌, ap}
+use Rattle.std.proofs.Common.{sym, ◌∙◌}
 use Rattle.stripe_skims.proofs.SkipLaws.{text_passed, value_passed}
 use Rattle.stripe_skims.proofs.attributes.pass_value.Goals as goal
 

@@ -1,4 +1,4 @@
-use Rattle.std.proofs.Common.{◌≡◌, ◌∙◌, refl}
+use Rattle.std.proofs.Common.{◌∙◌, refl}
 use Rattle.stripe_skims.proofs.ItemLaws.{going_done, going_more}
 use Rattle.stripe_skims.proofs.items.pass_items.Goals as goal
 

@@ -1,4 +1,4 @@
-use Rattle.std.proofs.Common.{◌≡◌, refl}
+use Rattle.std.proofs.Common.{refl}
 use Rattle.stripe_skims.proofs.ItemLaws.{list_not_there, list_there}
 use Rattle.stripe_skims.proofs.items.pass_list.Goals as goal
 

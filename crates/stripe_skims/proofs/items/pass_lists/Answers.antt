@@ -1,4 +1,4 @@
-use Rattle.std.proofs.Common.{◌≡◌, ◌∙◌, refl}
+use Rattle.std.proofs.Common.{◌∙◌}
 use Rattle.stripe_skims.proofs.ItemLaws.{list_at, lists_done, lists_more}
 use Rattle.stripe_skims.proofs.items.pass_lists.Goals as goal
 

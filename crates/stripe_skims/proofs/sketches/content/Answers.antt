@@ -1,4 +1,4 @@
-use Rattle.std.proofs.Common.{◌≡◌, sym, subst}
+use Rattle.std.proofs.Common.{sym, subst}
 use Rattle.stripe_skims.specs.Sure.{AreApart}
 use Rattle.block_stripes.specs.StripeReadings.{whole_text_at}
 use Rattle.stripe_skims.proofs.CellLaws.{content_told}

@@ -1,6 +1,4 @@
-use Rattle.std.proofs.Common.{◌≡◌, refl, sym, ◌∙◌, ap, arith, take}
-use Rattle.std.proofs.lemmas.Bool.{le-leb}
-use Rattle.block_columns.specs.ColumnReadings.{Spot}
+use Rattle.std.proofs.Common.{sym, ◌∙◌, arith}
 use Rattle.stripe_skims.proofs.StripeLaws.{content_is, whole_told}
 use Rattle.stripe_skims.proofs.sketches.content_of.Goals as goal
 

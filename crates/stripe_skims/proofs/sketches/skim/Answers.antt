@@ -1,4 +1,4 @@
-use Rattle.std.proofs.Common.{◌≡◌, refl, sym, ◌∙◌}
+use Rattle.std.proofs.Common.{refl}
 use Rattle.block_stripes.proofs.ReadSteps.{eight_of}
 use Rattle.stripe_skims.proofs.StripeLaws.{filled, stripe_told}
 use Rattle.stripe_skims.proofs.sketches.skim.Goals as goal

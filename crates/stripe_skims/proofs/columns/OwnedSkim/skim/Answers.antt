@@ -1,4 +1,4 @@
-use Rattle.std.proofs.Common.{refl, ap, subst}
+use Rattle.std.proofs.Common.{refl, subst}
 use Rattle.block_columns.specs.ColumnReadings.{Spot, column_at, reference_at}
 use Rattle.stripe_skims.specs.Sure.{Passes}
 use Rattle.stripe_skims.proofs.ColumnLaws.{owned_skims}
