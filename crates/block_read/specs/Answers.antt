@@ -27,12 +27,6 @@ FailsByFault before now (Err Fault) = Rose before now
 FailsByFault before now (Err (NotBlock file at)) = Unit {0}
 FailsByFault before now (Err Memory) = Unit {0}
 
--- the same of a call that reads a file's bytes alone
-abbrev pub UnreadByFault : {X : Type 0} → ℕ → ℕ → Result X Unread → Type 0
-UnreadByFault before now (Ok x) = Unit {0}
-UnreadByFault before now (Err unread.Fault) = Rose before now
-UnreadByFault before now (Err unread.Memory) = Unit {0}
-
 -- the count didn't fall, and rose by at most so much
 pub record RoseAtMost (count before now : ℕ) : Type 0 where
   pub later : before ≤ now

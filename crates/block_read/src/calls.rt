@@ -61,10 +61,9 @@ pub fn all_rows<P: Pages>(
 
 /// The rows of a trace in a block, in block order, by the block's filters, its index and the stripes that hold the trace.
 ///
-/// At most one page of the filters is read, as many of the index as the number of its pages has binary digits, and the
-/// pages of the stripes that hold the trace. [`ReadError::NotBlock`] comes only if the pages are no block that the
-/// information describes, at the first byte of the stripe's field that is malformed, or at 0 if the index names rows that
-/// no stripe has. Of pages that are no such block it may give any rows of the trace.
+/// Of a block that the information describes no more pages are read in all than one of the filters, as many of the index
+/// as the number of its pages has binary digits, and those of the stripes that hold the trace. Of other pages it may give
+/// any rows of the trace, or answer [`ReadError::NotBlock`]; no clause says at which offset.
 pub fn trace_rows<P: Pages>(
     alloc: Global,
     pages: &mut P,
@@ -110,10 +109,14 @@ pub fn check_block<P: Pages>(
     requires { P.ready pages.old block }
     ensures answers { IsTrue (P.tells pages.old) → AnswersOf (λ x. x) block result
         (made_of (info_read block level) (listed_at rows (first_bytes length (P.held pages.old block)))) }
+    ensures its_file { IsInFile block result }
+    ensures reads { RoseAtMost (div_ceil length 4096) (P.reads pages.old) (P.reads pages.new) }
+    ensures read { HasRead P.went pages.old (is_fault result) pages.new }
+    ensures ready { (other : ℕ) → P.ready pages.old other → P.ready pages.new other }
+    ensures named { P.name pages.new ≡ P.name pages.old }
     ensures stays { StaysSame P.tells P.held pages.old pages.new }
     ensures later { P.faults pages.old ≤ P.faults pages.new }
     ensures cause { FailsByFault (P.faults pages.old) (P.faults pages.new) result }
-    ensures reads { RoseAtMost (div_ceil length 4096) (P.reads pages.old) (P.reads pages.new) }
 {
     match bytes_from(alloc, pages, block, 0, length) {
         Ok(bytes) => match check_bytes(alloc, block, level, rows, bytes.as_slice()) {

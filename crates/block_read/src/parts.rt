@@ -22,8 +22,7 @@ const PAGE_BYTES: u64 = 4096;
 
 /// The rows of a stripe of a block.
 ///
-/// [`ReadError::NotBlock`] comes only if the pages are no such stripe, at the first byte of the file where they are
-/// malformed.
+/// [`ReadError::NotBlock`] comes only if the pages are no such stripe.
 pub fn rows_of_stripe<P: Pages>(
     alloc: Global,
     pages: &mut P,

@@ -26,8 +26,8 @@ fn reads_for<R: Threads + Wait + Sync>(
     Ok((is_open && is_told).then_some(all.saturating_sub(opening)))
 }
 
-// A look-up in a block of one span reads a page of the filters, one of the index and one of the stripe. The pages are asked for again
-// without a read, also after a push, a flush and a compaction. A trace that isn't there costs two at most.
+// A look-up in a block of one span reads a page of the filters, one of the index and one of the stripe, and then no page again. A trace that
+// isn't there costs two at most.
 #[test]
 fn a_look_up_reads_few_pages_and_none_twice(rt: HostRuntime) -> Result<(), Memory> {
     let alloc = rt.alloc();
