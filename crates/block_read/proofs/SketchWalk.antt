@@ -1,21 +1,21 @@
 -- Stripe by stripe, what is told of their rows.
-use Rattle.std.proofs.Common.{◌≡◌, ℕ, zero, suc, ◌+◌, ◌-◌, ◌<◌, ◌≤◌, ◌==◌, max, Bool, true, false, cond, List, [], ◌∷◌, ◌++◌, length, map, Option, None, Some, Result, Ok, Err, refl, sym, ap, subst, ◌∙◌, arith}
+use Rattle.std.proofs.Common.{◌≡◌, ℕ, zero, suc, ◌+◌, ◌-◌, ◌==◌, max, Bool, true, false, cond, List, [], ◌∷◌, length, map, Option, None, Some, Result, Ok, refl, sym, ap, ◌∙◌, arith}
 use Rattle.std.specs.Int.{div_ceil}
-use Rattle.std.specs.List.{All, AllByRecursion, list_any, slice_get}
+use Rattle.std.specs.List.{All, AllByRecursion, slice_get}
 use Rattle.std.proofs.lemmas.List.Elements.{All-cons, All-nil}
 use Rattle.span_types.specs.declared.ids.TraceId.{TraceId}
 use Rattle.span_types.specs.declared.spans.Row.{Row}
-use Rattle.byte_fields.specs.Reading.{Stand, ◌>>=◌, fixed64_at}
+use Rattle.byte_fields.specs.Reading.{Stand, fixed64_at}
 use Rattle.span_fields.specs.Breaks.{in_part}
 use Rattle.block_info.specs.declared.info.StripeInfo.{StripeInfo}
-use Rattle.block_format.specs.Blocks.{form_of_rows, ids_of, is_rich}
+use Rattle.block_format.specs.Blocks.{form_of_rows, ids_of}
 use Rattle.block_stripes.specs.StripeReadings.{stripe_at}
 use Rattle.block_stripes.specs.Stripes.{IsKeptRow, StripeHolds, is_extended}
 use Rattle.stripe_skims.specs.Sketches.{IsSketch, SketchesAll, is_before, key_of}
 use Rattle.stripe_skims.specs.declared.order.RowKey.{RowKey}
 use Rattle.stripe_skims.specs.declared.sketches.Sketch.{Sketch}
 use Rattle.block_read.specs.declared.checking.Outline.{Outline}
-use Rattle.block_read.specs.BlockReadings.{agreeing, agrees, can_agree, follow, in_file, last_of, starts, stripe_of, unless_not, within}
+use Rattle.block_read.specs.BlockReadings.{agrees, can_agree, follow, in_file, last_of, starts, stripe_of}
 use Rattle.block_read.specs.Sketched.{IsStripe, keyed}
 use Rattle.block_read.proofs.ChecksWalk.{KeptSoFar}
 

@@ -1,5 +1,5 @@
 -- What is told of the stripes of a block whose rows aren't made.
-use Rattle.std.specs.Prelude.{◌≡◌, ℕ, ◌≤◌, List, length, map, Option, Some, None, Result, Ok}
+use Rattle.std.specs.Prelude.{◌≡◌, ℕ, ◌≤◌, List, length, Option, Some, None, Ok}
 use Rattle.std.specs.List.{All}
 use Rattle.span_types.specs.declared.spans.Row.{Row}
 use Rattle.block_info.specs.declared.info.StripeInfo.{StripeInfo}

@@ -83,8 +83,8 @@ unfolding scoped_rows_at counted_rows_at size_at made_at
 scoped_told extended texts resources list s t u v scopes values count None table number some few list_is values_are told = tt
 scoped_told extended texts resources list s t u v scopes values count (Some k) table number some few list_is values_are told =
     let here : cells_at true extended texts resources (record { list = s; values = scopes }) count u ≡ read_to told.0 v =
-        ap (λ (l : Spot). cells_at true extended texts resources (record { list = l; values = scopes }) count u) (sym list_is)
-        ∙ ap (λ (l : List Scope). cells_at true extended texts resources (record { list = list; values = l }) count u) (sym values_are) ∙ told.1 in
+    ap (λ (l : Spot). cells_at true extended texts resources (record { list = l; values = scopes }) count u) (sym list_is)
+    ∙ ap (λ (l : List Scope). cells_at true extended texts resources (record { list = list; values = l }) count u) (sym values_are) ∙ told.1 in
     (rows_of told.0, rw (table, number, is_size count some few, here) refl, told.2)
 
 pub owned_told : (extended : Bool) (texts : List (List ℕ)) (list s t v : Spot) (resources values : List Resource) (o : Option Sketch)
@@ -94,8 +94,8 @@ unfolding owned_rows_at
 owned_told extended texts list s t v resources values None table list_is values_are told = tt
 owned_told extended texts list s t v resources values (Some k) table list_is values_are told =
     let here : scoped_rows_at true extended texts (record { list = s; values = resources }) t ≡ read_to told.0 v =
-        ap (λ (l : Spot). scoped_rows_at true extended texts (record { list = l; values = resources }) t) (sym list_is)
-        ∙ ap (λ (l : List Resource). scoped_rows_at true extended texts (record { list = list; values = l }) t) (sym values_are) ∙ told.1 in
+    ap (λ (l : Spot). scoped_rows_at true extended texts (record { list = l; values = resources }) t) (sym list_is)
+    ∙ ap (λ (l : List Resource). scoped_rows_at true extended texts (record { list = list; values = l }) t) (sym values_are) ∙ told.1 in
     (told.0, rw (table, here) refl, told.2)
 
 pub content_told : (extended : Bool) (s t v : Spot) (texts values : List (List ℕ)) (used : ℕ) (k : Sketch) → table_at bytes_eq whole_text_at s ≡ read_to texts t → values ≡ texts

@@ -106,7 +106,12 @@ impl<L: Skim, R: Skim> Skim for BothSkims<L, R> {
     ghost shows = { λ c. TellsBoth (L.shows c.left) (R.shows c.right) };
 
     #[tactic(auto, using(crate::proofs::ColumnLaws::both_skimmed))]
-    fn skim(&mut self, alloc: Global, fields: &mut Fields, count: u64) -> Option<(L::Seen, R::Seen)> {
+    fn skim(
+        &mut self,
+        alloc: Global,
+        fields: &mut Fields,
+        count: u64,
+    ) -> Option<(L::Seen, R::Seen)> {
         let left = self.left.skim(alloc, fields, count)?;
         let right = self.right.skim(alloc, fields, count)?;
         Some((left, right))

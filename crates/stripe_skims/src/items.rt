@@ -81,7 +81,12 @@ pub fn pass_list<P: Pass>(fields: &mut Fields, kind: &mut P, there: bool) -> Opt
 }
 
 /// Passes over so many such lists: whether one of them has items.
-pub fn pass_lists<P: Pass>(fields: &mut Fields, kind: &mut P, there: bool, count: u64) -> Option<bool>
+pub fn pass_lists<P: Pass>(
+    fields: &mut Fields,
+    kind: &mut P,
+    there: bool,
+    count: u64,
+) -> Option<bool>
     requires { P.ready kind.old }
     ensures { IfSome result (λ some. Skims TellsFilled count (column_at (only_if_at there (counted_at (λ _. P.reading kind.old))) count fields.old) some fields.new) }
 {

@@ -1,4 +1,4 @@
-use Rattle.std.proofs.Common.{◌≡◌, refl, sym, ◌∙◌}
+use Rattle.std.proofs.Common.{refl, sym, ◌∙◌}
 use Rattle.block_read.proofs.SketchWalk.{stripe_told}
 use Rattle.block_read.proofs.sketches.stripe.Goals as goal
 
