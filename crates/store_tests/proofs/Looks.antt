@@ -1,5 +1,5 @@
 -- A look that is open, from one call of its port to the next.
-use Rattle.std.proofs.Common.{◌≡◌, ℕ, ◌==◌, Bool, true, false, not, List, [], ◌∷◌, refl, sym, ◌∙◌, ap, subst}
+use Rattle.std.proofs.Common.{◌≡◌, ℕ, ◌==◌, Bool, true, false, List, [], ◌∷◌, refl, sym, ◌∙◌, ap, subst}
 use Rattle.std.specs.Prelude.{◌||◌}
 use Rattle.std.specs.List.{list_any}
 use Rattle.block_info.specs.InfoParts.{InfoParts}
@@ -20,15 +20,11 @@ any_among : (file : ℕ) (infos : List InfoParts) → list_any (λ (info : InfoP
 any_among file [] = refl
 any_among file (info ∷ infos) = ap (λ (t : Bool). (info.file == file) || t) (any_among file infos)
 
-not_false : (b : Bool) → not b ≡ false → b ≡ true
-not_false true is = refl
-not_false false is = absurd (let bad : true ≡ false = is in cc)
-
 -- a look whose pin names the file pins it
-pub pins_file : {P : Type 0} (meaning : Meaning P) (port : P) (look : Look) (file : ℕ) (names : Bool) → names ≡ list_any (λ (info : InfoParts). info.file == file) look.pin.blocks → not names ≡ false
+pub pins_file : {P : Type 0} (meaning : Meaning P) (port : P) (look : Look) (file : ℕ) (names : Bool) → names ≡ list_any (λ (info : InfoParts). info.file == file) look.pin.blocks → names ≡ true
     → IsOpen meaning port (look_of look) → IsPinOf look.pin file (IsOpen meaning port)
 pins_file meaning port look file names is said is_open =
-    OfLook (look_parts look) refl refl is_open (sym (any_among file look.pin.blocks) ∙ sym is ∙ not_false names said)
+    OfLook (look_parts look) refl refl is_open (sym (any_among file look.pin.blocks) ∙ sym is ∙ said)
 
 -- none of the calls gives it back
 abbrev KeepsLook : Look → List Call → Type 0

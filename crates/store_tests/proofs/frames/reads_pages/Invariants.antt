@@ -4,4 +4,4 @@ use Rattle.store_tests.proofs.frames.reads_pages.Given as goal
 
 -- the look is open
 abbrev pub invariant-loop-page : goal.invariant-loop-page
-invariant-loop-page g l = IsOpen g.P.LookPort.meaning l.port (look_of l.fn.look.now)
+invariant-loop-page g l = IsOpen g.P.LookPort.meaning l.port (look_of l.fn.look)
