@@ -321,7 +321,7 @@ module _ {D : Type 0} (g : Ghosts D) (old : Core D) (disk : D) (files : FlushFil
         → (IsTrue (g.tells old.disk) → ((first : ℕ) → SegmentHolds first [] 1 (bytes_of (g.held disk) files.segment)) × OnlyBytes files.segment (bytes_of (g.held disk) files.segment) (g.may_leave disk))
         → Did g old BeginFlush (Flushing (record { number = jobs.begun; file = files.block; rows = rows })) (record old { disk = disk; state = record old.state { live = live; infos = infos; jobs = jobs } })
     did_begin fine empty fresh =
-        did_kept g old disk old.cache (λ m s fits. fits) (record old.state { live = live; infos = infos; jobs = jobs }) BeginFlush (Flushing (record { number = jobs.begun; file = files.block; rows = rows }))
+        did_kept g old disk old.cache (λ m s fits. fits) (record old.state { live = live; infos = infos; jobs = jobs }) BeginFlush refl (Flushing (record { number = jobs.begun; file = files.block; rows = rows }))
         (calls_fine g old.disk disk 5 2 0 (λ low. omega arith) result made fine (Flushing (record { number = jobs.begun; file = files.block; rows = rows })) (λ is. let bad : Flushing (record { number = jobs.begun; file = files.block; rows = rows }) ≡ Refused Fault = is in absurd cc))
         run_keeps refl refl
         (λ m s.
@@ -358,7 +358,7 @@ module _ {D : Type 0} (g : Ghosts D) (old : Core D) (disk : D) (files : FlushFil
   did_begin_fail live infos jobs faults counted err kept rows =
       let rose = calls_rose g old.disk disk 5 2 0 (λ low. omega arith) result made err in
       subst (λ (n : ℕ). Did g old BeginFlush (Refused Fault) (record old { disk = disk; state = record old.state { live = live; infos = infos; jobs = jobs; read_only = Some n } })) (sym counted)
-      (did_kept g old disk old.cache (λ m s fits. fits) (record old.state { live = live; infos = infos; jobs = jobs; read_only = Some (g.faults disk) }) BeginFlush (Refused Fault) (calls_fault g old.disk disk 5 2 0 (λ low. omega arith) result made err) run_keeps refl (adds_none BeginFlush refl (Refused Fault) _)
+      (did_kept g old disk old.cache (λ m s fits. fits) (record old.state { live = live; infos = infos; jobs = jobs; read_only = Some (g.faults disk) }) BeginFlush refl (Refused Fault) (calls_fault g old.disk disk 5 2 0 (λ low. omega arith) result made err) run_keeps refl (adds_none BeginFlush refl (Refused Fault) _)
       (λ m s. (
         broken (g.faults disk) m,
         stands_kept (IsTrue (g.tells old.disk)) (IsTrue (g.tells disk)) (g.held old.disk) (g.held disk) (g.may_leave old.disk) (g.may_leave disk) old.state (record old.state { live = live; infos = infos; jobs = jobs; read_only = Some (g.faults disk) }) m (broken (g.faults disk) m)

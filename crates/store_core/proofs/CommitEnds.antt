@@ -33,7 +33,7 @@ use Rattle.store_core.specs.declared.store.Core.{Core}
 use Rattle.store_core.specs.Cores.{HasState, StandsFor, StateShows, AreDescribed, tail_of, unsure_of}
 use Rattle.store_core.specs.Events.{Did, Between, end_of}
 use Rattle.store_core.proofs.Counted.{counted_fine, counted_fault, counts_short, calls_exact, rose_then}
-use Rattle.store_core.proofs.Now.{did_since}
+use Rattle.store_core.proofs.Now.{did_since, frames_same}
 use Rattle.store_core.proofs.CommitEvents.{IsCommit}
 use Rattle.store_core.proofs.CommitRuns.{Synced, Ran, MayList, stands_since, stands_now, tidy_since}
 use Rattle.store_core.proofs.Described.{described_same}
@@ -155,7 +155,7 @@ module _ {D : Type 0} (g : Ghosts D) (only_now : OnlyNow g) (old : Core D) (mid 
   pub did_committed : IsOk result → (later : CoreState) → unsure_of later ≡ unsure_of old.state
       → ((told : Type 0) → (tells : told → IsTrue (g.tells old.disk)) → (decided : IsDecided told) → (m : Machine) → (s : StandsFor told (g.held old.disk) (g.may_leave old.disk) old.state m) → Takes told (g.held disk) (g.may_leave disk) later (with_state (lists told tells decided m s).after m))
       → Did g old event Fine (record old { disk = disk; state = later })
-  did_committed fine later unsure takes = did_since g old _ _ _ refl (λ m s fits. fits) (record {
+  did_committed fine later unsure takes = did_since g old _ _ _ refl (λ m s fits. fits) (frames_same event old.cache) (record {
     stepped = λ m s. record {
       machine = with_state (lists (IsTrue (g.tells old.disk)) (λ t. t) (true_or_not (g.tells old.disk)) m s).after m;
       stands = stands_after (IsTrue (g.tells old.disk)) (λ t. t) (true_or_not (g.tells old.disk)) m s later unsure (takes (IsTrue (g.tells old.disk)) (λ t. t) (true_or_not (g.tells old.disk)) m s) (IsTrue (g.tells disk)) (λ t. subst IsTrue telling t);
@@ -183,7 +183,7 @@ module _ {D : Type 0} (g : Ghosts D) (only_now : OnlyNow g) (old : Core D) (mid 
 
   pub did_commit_fail : (later : CoreState) → ((m : Machine) → HasState old.state m → HasState later (broken (g.faults disk) m)) → later.infos.items ≡ old.state.infos.items → later.read_only ≡ Some (g.faults disk)
       → unsure_of later ≡ unsure_of old.state → IsErr result → Did g old event (Refused Fault) (record old { disk = disk; state = later })
-  did_commit_fail later has infos read_only unsure err = let rose = raised_rose (g.faults old.disk) (g.faults disk) (counts.fault err) in did_since g old _ _ _ refl (λ m s fits. fits) (record {
+  did_commit_fail later has infos read_only unsure err = let rose = raised_rose (g.faults old.disk) (g.faults disk) (counts.fault err) in did_since g old _ _ _ refl (λ m s fits. fits) (frames_same event old.cache) (record {
     stepped = λ m s. record {
       machine = broken (g.faults disk) m;
       stands = stands_broken (IsTrue (g.tells old.disk)) (λ t. t) (true_or_not (g.tells old.disk)) m s later (has m s.has) infos read_only unsure (IsTrue (g.tells disk)) (λ t. subst IsTrue telling t);

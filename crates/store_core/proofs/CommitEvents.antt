@@ -25,6 +25,7 @@ use Rattle.store_core.specs.Cores.{HasState}
 use Rattle.store_core.specs.Events.{Did, unsure_after, end_of}
 use Rattle.store_core.proofs.Counted.{calls_fault, calls_rose, calls_most, calls_unread}
 use Rattle.store_core.proofs.Kept.{stands_kept, did_kept, described_below}
+use Rattle.store_core.proofs.Now.{frames_same}
 use Rattle.store_core.proofs.PushEvents.{OnlyNow, refused_is}
 use Rattle.store_core.proofs.Quiet.{quiet, none_begun, adds_none}
 use Rattle.store_core.proofs.States.{has_stopped}
@@ -93,7 +94,7 @@ module _ {D : Type 0} (g : Ghosts D) (only_now : OnlyNow g) (old : Core D) (disk
       let rose = calls_rose g old.disk disk 1 0 (end_of old.state event) (λ low. omega arith) result made err in
       let most = calls_most g old.disk disk 1 0 (end_of old.state event) (λ low. omega arith) result made in
       subst (λ (n : ℕ). Did g old event (Refused Fault) (record old { disk = disk; state = record old.state { read_only = Some n } })) (sym counted)
-      (did_kept g old disk old.cache (λ m s fits. fits) (record old.state { read_only = Some (g.faults disk) }) event (Refused Fault) (calls_fault g old.disk disk 1 0 (end_of old.state event) (λ low. omega arith) result made err) (λ told m s. run_keeps) refl (is.unsure_is (Refused Fault) _)
+      (did_kept g old disk old.cache (λ m s fits. fits) (record old.state { read_only = Some (g.faults disk) }) event (frames_same event old.cache) (Refused Fault) (calls_fault g old.disk disk 1 0 (end_of old.state event) (λ low. omega arith) result made err) (λ told m s. run_keeps) refl (is.unsure_is (Refused Fault) _)
       (λ m s. (
         broken (g.faults disk) m,
         stands_kept (IsTrue (g.tells old.disk)) (IsTrue (g.tells disk)) (g.held old.disk) (g.held disk) (g.may_leave old.disk) (g.may_leave disk) old.state (record old.state { read_only = Some (g.faults disk) }) m (broken (g.faults disk) m)

@@ -326,7 +326,7 @@ module _ {D : Type 0} (g : Ghosts D) (old : Core D) (disk : D) (writes : old.sta
     pub did_compact : IsOk result → (IsTrue (g.tells old.disk) → IsEmptied (g.held disk) (g.may_leave disk) file)
         → Did g old BeginCompact (Compacting (record { number = jobs.begun; file = file; level = level; pin = pin; files = files })) (record old { disk = disk; state = record old.state { infos = infos; jobs = jobs; pins = pins } })
     did_compact fine empty =
-        did_kept g old disk old.cache (λ m s fits. fits) (record old.state { infos = infos; jobs = jobs; pins = pins }) BeginCompact (Compacting (record { number = jobs.begun; file = file; level = level; pin = pin; files = files }))
+        did_kept g old disk old.cache (λ m s fits. fits) (record old.state { infos = infos; jobs = jobs; pins = pins }) BeginCompact refl (Compacting (record { number = jobs.begun; file = file; level = level; pin = pin; files = files }))
         (calls_fine g old.disk disk 2 0 0 (λ low. low) result made fine (Compacting (record { number = jobs.begun; file = file; level = level; pin = pin; files = files })) (λ is. let bad : Compacting (record { number = jobs.begun; file = file; level = level; pin = pin; files = files }) ≡ Refused Fault = is in absurd cc))
         run_keeps refl refl
         (λ m s.
@@ -352,7 +352,7 @@ module _ {D : Type 0} (g : Ghosts D) (old : Core D) (disk : D) (writes : old.sta
   did_compact_fail infos jobs pins faults counted err kept same =
       let rose = calls_rose g old.disk disk 2 0 0 (λ low. low) result made err in
       subst (λ (n : ℕ). Did g old BeginCompact (Refused Fault) (record old { disk = disk; state = record old.state { infos = infos; jobs = jobs; pins = pins; read_only = Some n } })) (sym counted)
-      (did_kept g old disk old.cache (λ m s fits. fits) (record old.state { infos = infos; jobs = jobs; pins = pins; read_only = Some (g.faults disk) }) BeginCompact (Refused Fault) (calls_fault g old.disk disk 2 0 0 (λ low. low) result made err) run_keeps refl (adds_none BeginCompact refl (Refused Fault) _)
+      (did_kept g old disk old.cache (λ m s fits. fits) (record old.state { infos = infos; jobs = jobs; pins = pins; read_only = Some (g.faults disk) }) BeginCompact refl (Refused Fault) (calls_fault g old.disk disk 2 0 0 (λ low. low) result made err) run_keeps refl (adds_none BeginCompact refl (Refused Fault) _)
       (λ m s. (
         broken (g.faults disk) m,
         stands_kept (IsTrue (g.tells old.disk)) (IsTrue (g.tells disk)) (g.held old.disk) (g.held disk) (g.may_leave old.disk) (g.may_leave disk) old.state (record old.state { infos = infos; jobs = jobs; pins = pins; read_only = Some (g.faults disk) }) m

@@ -39,19 +39,19 @@ frames_stay told told' held held' m m' before faults e r frames known same step 
 
 -- ---- a page read
 
-taken_out : (P : Frame → Type 0) (x : Frame) (front behind : List Frame) → AllByRecursion P (front ++ x ∷ behind) → P x × AllByRecursion P (front ++ behind)
-taken_out P x [] behind all = all
-taken_out P x (f ∷ front) behind all = let rest = taken_out P x front behind all.1 in (rest.0, (all.0, rest.1))
+taken_out : (P : Frame → Type 0) (x : Frame) (front after : List Frame) → AllByRecursion P (front ++ x ∷ after) → P x × AllByRecursion P (front ++ after)
+taken_out P x [] after all = all
+taken_out P x (f ∷ front) after all = let rest = taken_out P x front after all.1 in (rest.0, (all.0, rest.1))
 
-firsts_of : (P : Frame → Type 0) (front behind : List Frame) → AllByRecursion P (front ++ behind) → AllByRecursion P front
-firsts_of P [] behind all = tt
-firsts_of P (f ∷ front) behind all = (all.0, firsts_of P front behind all.1)
+firsts_of : (P : Frame → Type 0) (front after : List Frame) → AllByRecursion P (front ++ after) → AllByRecursion P front
+firsts_of P [] after all = tt
+firsts_of P (f ∷ front) after all = (all.0, firsts_of P front after all.1)
 
 module _ (told : Type 0) (held : Image) (u : State) (file page : ℕ) (bytes : List ℕ) (old new : List Frame) where
   -- a page that stood in a frame, and was brought to the front
   brought_out : (is : IsBrought file page bytes old new) → FramesFit told held u old
-      → FrameFits told held u (record { file = file; page = page; bytes = bytes }) × FramesFit told held u (is.front ++ is.behind)
-  brought_out is fits = taken_out (λ frame. IfSome frame (FrameFits told held u)) (full file page bytes) is.front is.behind (subst (FramesFit told held u) is.was fits)
+      → FrameFits told held u (record { file = file; page = page; bytes = bytes }) × FramesFit told held u (is.front ++ is.after)
+  brought_out is fits = taken_out (λ frame. IfSome frame (FrameFits told held u)) (full file page bytes) is.front is.after (subst (FramesFit told held u) is.was fits)
 
   pub found_fits : IsBrought file page bytes old new → FramesFit told held u old → FramesFit told held u new
   found_fits is fits = subst (FramesFit told held u) (sym is.is) (brought_out is fits)

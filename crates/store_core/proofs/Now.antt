@@ -1,5 +1,5 @@
 -- An event by what a core stands for now, and from that by what a crash may have left since its opening ended.
-use Rattle.std.proofs.Common.{◌≡◌, ◌≢◌, ◌⊎◌, inl, inr, ℕ, ◌≤◌, List, None, IsTrue, true, false, sym, ap, subst, arith}
+use Rattle.std.proofs.Common.{◌≡◌, ◌≢◌, ◌⊎◌, inl, inr, ℕ, ◌≤◌, List, None, IsTrue, true, false, refl, sym, ap, subst, arith}
 use Rattle.disk_model.specs.Calls.{Counts}
 use Rattle.disk_model.specs.Images.{Image, bytes_of}
 use Rattle.disk_model.specs.Crash.{LeavesOnly}
@@ -7,6 +7,7 @@ use Rattle.disk_model.specs.declared.disk.Device.{Ghosts}
 use Rattle.store_model.specs.History.{count_of}
 use Rattle.store_model.specs.State.{is_among}
 use Rattle.store_model.specs.Event.{Event, Reply}
+use Rattle.store_model.specs.Event.Event.{ReadPage}
 use Rattle.store_model.specs.Event.Reply.{Refused}
 use Rattle.store_model.specs.Event.Refusal.{Fault}
 use Rattle.store_model.specs.Holds.{Hold, OpenIn, ends, files_of, own_files}
@@ -24,7 +25,7 @@ use Rattle.page_cache.specs.Frames.{Frame}
 use Rattle.store_core.specs.Cores.{CoreStandsFor, StateShows, StandsFor, unsure_of}
 use Rattle.store_core.specs.Frames.{FramesFit, IsKept}
 use Rattle.store_core.proofs.Frames.{frames_stay}
-use Rattle.store_core.specs.Events.{Between, Did, Stepped, end_of, unsure_after}
+use Rattle.store_core.specs.Events.{Between, Did, KeepsFrames, Stepped, end_of, unsure_after}
 use Rattle.store_core.specs.declared.since.Since.{Since}
 use Rattle.store_core.specs.Stood.{StoodFor}
 use Rattle.store_core.proofs.Past.{between, stood, same_start}
@@ -71,7 +72,11 @@ abbrev pub FramesMoved : {D : Type 0} (g : Ghosts D) (old : Core D) → List Fra
 FramesMoved {D} g old frames = (m : Machine) → StateShows g old m → FramesFit (IsTrue (g.tells old.disk)) (g.held old.disk) m.state old.cache
     → FramesFit (IsTrue (g.tells old.disk)) (g.held old.disk) m.state frames
 
-module _ {D : Type 0} (g : Ghosts D) (old new : Core D) (e : Event) (r : Reply) (since : new.since ≡ old.since) (frames : FramesMoved g old new.cache) (did : DidNow g old e r new) where
+pub frames_same : (event : Event) (frames : List Frame) → KeepsFrames event frames frames
+frames_same (ReadPage pin block page) frames = tt
+frames_same _ frames = refl
+
+module _ {D : Type 0} (g : Ghosts D) (old new : Core D) (e : Event) (r : Reply) (since : new.since ≡ old.since) (frames : FramesMoved g old new.cache) (left : KeepsFrames e old.cache new.cache) (did : DidNow g old e r new) where
   stepped_since : (m : Machine) → CoreStandsFor g old m → Stepped g old e r new m
   stepped_since m s =
       let one = did.stepped m s.stands in
@@ -120,6 +125,7 @@ module _ {D : Type 0} (g : Ghosts D) (old new : Core D) (e : Event) (r : Reply) 
     page = did.page;
     look = λ told m s. did.look told m s.stands;
     since = since;
+    frames = left;
     counts = did.counts;
     calls = did.calls;
     reads = did.reads;

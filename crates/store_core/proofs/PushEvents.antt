@@ -133,7 +133,7 @@ module _ {D : Type 0} (g : Ghosts D) (old : Core D) (disk : D) (spans : List Spa
       → SegmentHolds old.state.segment.first (batches ++ spans ∷ []) segment.gate (bytes_of (g.held disk) old.state.segment.file)
       × OnlyBytes old.state.segment.file (bytes_of (g.held disk) old.state.segment.file) (g.may_leave disk))
       → Did g old (Push spans moment) (Count number) (record old { disk = disk; state = record old.state { live = live; segment = segment } })
-  did_pushed fine live segment number length_is below is added head flushing file first count stays acknowledged = did_since g old _ _ _ refl (λ m s fits. fits) (record {
+  did_pushed fine live segment number length_is below is added head flushing file first count stays acknowledged = did_since g old _ _ _ refl (λ m s fits. fits) refl (record {
     stepped = λ m stands.
         let taken = step_pushed (g.faults old.disk) (g.faults disk) m spans moment number (length_is m stands.has) (free m stands.has) in
         let has = has_pushed old.state live segment m spans moment number stands.has added head flushing is below file first count in
@@ -179,7 +179,7 @@ module _ {D : Type 0} (g : Ghosts D) (old : Core D) (disk : D) (spans : List Spa
   broken_at : (live : LiveParts) (segment : Segment) (ready : ChunkParts) → SameParts old.state.live live → segment ≡ old.state.segment → ready.spans ≡ spans
       → IsErr result
       → Did g old (Push spans moment) (Refused Fault) (record old { disk = disk; state = record old.state { live = live; segment = segment; read_only = Some (g.faults disk); unsure = Some ready } })
-  broken_at live segment ready same still its err = let rose = calls_rose g old.disk disk 4 (end_of old.state (Push spans moment)) (end_of old.state (Push spans moment)) (λ low. low) result made err in did_since g old _ _ _ refl (λ m s fits. fits) (record {
+  broken_at live segment ready same still its err = let rose = calls_rose g old.disk disk 4 (end_of old.state (Push spans moment)) (end_of old.state (Push spans moment)) (λ low. low) result made err in did_since g old _ _ _ refl (λ m s fits. fits) refl (record {
     stepped = λ m stands. record {
       machine = broken (g.faults disk) m;
       stands = stands_broken (IsTrue (g.tells old.disk)) (IsTrue (g.tells disk)) (g.held old.disk) (g.held disk) (g.may_leave old.disk) (g.may_leave disk) old.state live segment ready (g.faults disk) m same still stands

@@ -19,7 +19,7 @@ use Rattle.store_core.specs.declared.state.CoreState.{CoreState}
 use Rattle.store_core.specs.declared.store.Core.{Core}
 use Rattle.store_core.specs.Cores.{StandsFor, unsure_of}
 use Rattle.store_core.proofs.Counted.{counted_none}
-use Rattle.store_core.proofs.Now.{StandsNow, did_since}
+use Rattle.store_core.proofs.Now.{StandsNow, did_since, frames_same}
 use Rattle.store_state.specs.Calls.{MadeCalls}
 use Rattle.store_core.specs.Events.{Did, Between, unsure_after, end_of}
 
@@ -54,7 +54,7 @@ pub quiet : {D : Type 0} (g : Ghosts D) (only_now : (disk : D) (image : Image) �
     → ((told : Type 0) (m : Machine) → StandsFor told (g.held old.disk) (g.may_leave old.disk) old.state m → (m' : Machine) × StandsFor told (g.held old.disk) (g.may_leave old.disk) state m' × (m'.history ≡ m.history)
     × Step (g.faults old.disk) (g.faults old.disk) m event reply m')
     → Did g old event reply (record old { state = state })
-quiet {D} g only_now old state event reply still no_fault no_call begins same page look step = did_since g old _ _ _ refl (λ m s fits. fits) (record {
+quiet {D} g only_now old state event reply still no_fault no_call begins same page look step = did_since g old _ _ _ refl (λ m s fits. fits) (frames_same event old.cache) (record {
   stepped = λ m stands. let done = step (IsTrue (g.tells old.disk)) m stands in record {
     machine = done.0;
     stands = done.1;

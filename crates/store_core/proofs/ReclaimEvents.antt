@@ -229,7 +229,7 @@ module _ {D : Type 0} (g : Ghosts D) (old : Core D) (disk : D) (writes : old.sta
 
   did_stopped : IsErr result → Did g old Reclaim (Refused Fault) (record old { disk = disk; state = stopped })
   did_stopped err =
-      did_kept g old disk old.cache (λ m s fits. fits) stopped Reclaim (Refused Fault) (calls_fault g old.disk disk (2 * length free + 6) end 0 (λ low. short) result made err) run_keeps refl (adds_none Reclaim refl (Refused Fault) _)
+      did_kept g old disk old.cache (λ m s fits. fits) stopped Reclaim refl (Refused Fault) (calls_fault g old.disk disk (2 * length free + 6) end 0 (λ low. short) result made err) run_keeps refl (adds_none Reclaim refl (Refused Fault) _)
       (λ m s. (
         broken (g.faults disk) m,
         stands_kept (IsTrue (g.tells old.disk)) (IsTrue (g.tells disk)) (g.held old.disk) (g.held disk) (g.may_leave old.disk) (g.may_leave disk) old.state stopped m (broken (g.faults disk) m)
@@ -303,7 +303,7 @@ module _ {D : Type 0} (g : Ghosts D) (old : Core D) (disk : D) (writes : old.sta
 
     did_emptied : Did g old Reclaim (Count count) (record old { disk = disk; state = after })
     did_emptied =
-        did_kept g old disk old.cache (λ m s fits. fits) after Reclaim (Count count)
+        did_kept g old disk old.cache (λ m s fits. fits) after Reclaim refl (Count count)
         (calls_fine g old.disk disk (2 * length free + 6) end 0 (λ low. short) result made fine (Count count) (λ is. let bad : Count count ≡ Refused Fault = is in absurd cc))
         run_keeps refl refl
         (λ m s. (

@@ -1,15 +1,16 @@
 -- What one event makes of a core and of its disk.
-use Rattle.std.specs.Prelude.{◌≡◌, ◌≢◌, ◌⊎◌, ◌+◌, ◌^◌, ℕ, length, Option, None, IsTrue, true, false}
+use Rattle.std.specs.Prelude.{◌≡◌, ◌≢◌, ◌⊎◌, ◌+◌, ◌^◌, ℕ, List, length, Option, None, IsTrue, true, false}
 use Rattle.disk_model.specs.Calls.{Counts}
 use Rattle.disk_model.specs.Images.{Image, bytes_of}
 use Rattle.disk_model.specs.Crash.{LeavesOnly}
 use Rattle.disk_model.specs.declared.disk.Device.{Ghosts}
 use Rattle.head_log.specs.Bodies.{body_bytes}
+use Rattle.page_cache.specs.Frames.{Frame}
 use Rattle.store_entries.specs.declared.entry.Entry.{Entry}
 use Rattle.store_model.specs.History.{History}
 use Rattle.store_model.specs.State.{is_among}
 use Rattle.store_model.specs.Event.{Event, Reply}
-use Rattle.store_model.specs.Event.Event.{Push, WritePiece}
+use Rattle.store_model.specs.Event.Event.{Push, ReadPage, WritePiece}
 use Rattle.store_model.specs.Event.Reply.{Refused}
 use Rattle.store_model.specs.Event.Refusal.{Fault}
 use Rattle.store_model.specs.Holds.{Hold, OpenIn, ends, files_of, own_files}
@@ -56,6 +57,11 @@ end_of core (Push spans moment) =
 end_of core (WritePiece job file bytes) = 2 ^ 63
 end_of core event = 0
 
+-- Each event but a page's read leaves the frames of the page cache.
+abbrev pub KeepsFrames : Event → (old new : List Frame) → Type 0
+KeepsFrames (ReadPage pin block page) old new = Unit {0}
+KeepsFrames event old new = new ≡ old
+
 -- One event of a core, with its reply.
 pub record Did {D : Type 0} (g : Ghosts D) (old : Core D) (event : Event) (reply : Reply) (new : Core D) : Type 0 where
   pub stepped : (m : Machine) → CoreStandsFor g old m → Stepped g old event reply new m
@@ -78,6 +84,8 @@ pub record Did {D : Type 0} (g : Ghosts D) (old : Core D) (event : Event) (reply
       → IsLookTaken reply (λ file. bytes_of (g.held new.disk) file) m.history
   -- its opening ended when it did
   pub since : new.since ≡ old.since
+  -- what a page's read makes of the frames `read_page` says
+  pub frames : KeepsFrames event old.cache new.cache
   -- a fault is answered just where a call of the disk failed, and then it was the last one
   pub counts : Counts g (end_of old.state event) (reply ≢ Refused Fault) (reply ≡ Refused Fault) old.disk new.disk
   pub calls : MadeCalls event reply (g.calls old.disk) (g.calls new.disk)

@@ -22,11 +22,11 @@ use span_types::Failed;
 use store_state::Pin;
 
 impl<D: Device> Core<D> {
-    /// Reads a page of 4,096 bytes of a pinned block. Behind the file's end it has zeros. It makes one device call at most, takes no memory,
+    /// Reads a page of 4,096 bytes of a pinned block. Past the file's end it has zeros. It makes one device call at most, takes no memory,
     /// and goes on in a store that is read-only.
     ///
     /// A page that stands in a frame of the page cache is answered from it. Another one is read, and takes the last frame. Either is then in
-    /// the first frame. A page whose place passes 64 bits is behind the end of every file, and isn't kept.
+    /// the first frame. A page whose place passes 64 bits is past the end of every file: it costs no call, and isn't kept.
     pub fn read_page(
         &mut self,
         pin: &Pin,
@@ -42,10 +42,10 @@ impl<D: Device> Core<D> {
         ensures left { IsLeft D.Device.own self.old self.new }
         ensures through { page * 4096 < 2 ^ 64 → IsReadThrough block page buf.new result self.old.cache self.new.cache
             (D.reads self.old.disk) (D.reads self.new.disk) (D.calls self.old.disk) (D.calls self.new.disk) }
-        ensures far { 2 ^ 64 ≤ page * 4096 → self.new.cache ≡ self.old.cache }
+        ensures far { 2 ^ 64 ≤ page * 4096 → (self.new.cache ≡ self.old.cache) × (self.new.disk ≡ self.old.disk) }
     {
         let Some(at) = page.checked_mul(4096) else {
-            read_behind(&self.disk, block, page, buf);
+            read_past_end(&self.disk, block, page, buf);
             return Ok(());
         };
         if self.cache.find(block, page, buf) {
@@ -61,8 +61,8 @@ impl<D: Device> Core<D> {
     }
 }
 
-// A page behind the end of its file, as no file is so long that the place of its page passes 64 bits.
-fn read_behind<D: Device>(disk: &D, file: u32, page: u64, buf: &mut [u8; 4096])
+// A page past the end of its file, as no file is so long that the place of its page passes 64 bits.
+fn read_past_end<D: Device>(disk: &D, file: u32, page: u64, buf: &mut [u8; 4096])
     requires { 2 ^ 64 ≤ page * 4096 }
     ensures { IsTrue (D.tells disk.now) → buf.new ≡ page_of (bytes_of (D.held disk.now) file) page }
 {
@@ -70,7 +70,7 @@ fn read_behind<D: Device>(disk: &D, file: u32, page: u64, buf: &mut [u8; 4096])
     disk.is_short(file);
 }
 
-// 4,096 bytes of a file from there on, and zeros behind its end.
+// 4,096 bytes of a file from there on, and zeros past its end.
 fn read_from<D: Device>(
     disk: &mut D,
     file: u32,

@@ -1,11 +1,17 @@
 //! A core as a port.
 
-ghost use Rattle.std.specs.Prelude.{[], IsTrue};
+ghost use Rattle.std.specs.Prelude.{◌≡◌, ◌*◌, ◌^◌, ◌<◌, ◌≤◌, [], IsTrue, OnOk};
 ghost use Rattle.store_model.specs.Event.{Event, Reply};
-ghost use Rattle.store_state.specs.Meaning.{Called};
+ghost use Rattle.store_model.specs.Event.Event.{ReadPage};
+ghost use Rattle.store_state.specs.Given.{IsPinOf};
+ghost use Rattle.store_state.specs.Meaning.{Called, IsOpen, LeavesKept};
+ghost use Rattle.store_state.specs.Replies.{page_reply};
+ghost use Rattle.store_state.specs.Written.{page_of};
+ghost use Rattle.disk_model.specs.Images.{bytes_of};
 ghost use Rattle.store_model.specs.Step.{Machine};
 ghost use Rattle.store_core.specs.Cores.{CoreStandsFor, CoreShows};
 ghost use Rattle.store_core.specs.Events.{Did};
+ghost use Rattle.store_core.specs.Frames.{IsReadThrough};
 ghost use Rattle.store_core.specs.Kept.{kept_in};
 ghost use Rattle.store_core.specs.Port.{port_of};
 
@@ -69,7 +75,18 @@ impl<D: Device> FlushPort for Core<D> {
         block: u32,
         page: u64,
         buf: &mut [u8; 4096],
-    ) -> Result<(), Failed> {
+    ) -> Result<(), Failed>
+        requires open { IsPinOf pin.now block (IsOpen (port_of D.Device.own) self.now) }
+        ensures called { Called (port_of D.Device.own) self.old (ReadPage pin.now.number block page)
+            (page_reply buf.new result) self.new }
+        ensures bytes { IsTrue (D.tells self.old.disk) →
+            OnOk result (buf.new ≡ page_of (bytes_of (D.held self.old.disk) block) page) }
+        ensures left { LeavesKept (port_of D.Device.own) self.old self.new }
+        // The page goes through the page cache, as that of `Core::read_page`.
+        ensures through { page * 4096 < 2 ^ 64 → IsReadThrough block page buf.new result self.old.cache self.new.cache
+            (D.reads self.old.disk) (D.reads self.new.disk) (D.calls self.old.disk) (D.calls self.new.disk) }
+        ensures far { 2 ^ 64 ≤ page * 4096 → (self.new.cache ≡ self.old.cache) × (self.new.disk ≡ self.old.disk) }
+    {
         self.read_page(pin, block, page, buf)
     }
 }

@@ -21,7 +21,7 @@ pub struct Core<D: Device> {
     /// Since when it is open.
     pub since: Since,
     /// The pages that were read last.
-    pub(crate) cache: PageCache,
+    pub cache: PageCache,
 }
 
 impl<D: Device> Core<D> {

@@ -9,11 +9,11 @@ use Rattle.store_core.proofs.KeptFiles.{named_kept}
 use Rattle.store_core.proofs.PageEvents.{page_done, page_here}
 use Rattle.store_core.proofs.store.Core.read_page.Goals as goal
 
--- ---- behind the end of every file
+-- ---- past the end of every file
 
 pub returns-in_default-clause-did : goal.returns-in_default-clause-did
 returns-in_default-clause-did g c =
-    page_here g.D.Device g.met.D.Device.only_now c.args.self.now c.args.pin.now.number c.args.block c.args.page c.args.self.now.cache (λ m s fits. fits) c.read_behind.new.buf c.read_behind.ensures
+    page_here g.D.Device g.met.D.Device.only_now c.args.self.now c.args.pin.now.number c.args.block c.args.page c.args.self.now.cache (λ m s fits. fits) c.read_past_end.new.buf c.read_past_end.ensures
 
 -- ---- the page stood in a frame
 

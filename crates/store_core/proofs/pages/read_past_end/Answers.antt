@@ -1,7 +1,7 @@
 use Rattle.std.proofs.Common.{◌*◌, ℕ, List, refl}
 use Rattle.disk_model.specs.Images.{bytes_of}
 use Rattle.store_core.proofs.PageEvents.{past_is, past_end}
-use Rattle.store_core.proofs.pages.read_behind.Goals as goal
+use Rattle.store_core.proofs.pages.read_past_end.Goals as goal
 
 pub returns : goal.returns
 returns g c = λ told.
