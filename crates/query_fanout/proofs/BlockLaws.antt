@@ -21,7 +21,7 @@ use Rattle.store_state.specs.Given.{info_files, look_of}
 use Rattle.store_state.specs.Meaning.{Meaning, IsOpen}
 use Rattle.store_state.specs.Written.{AreBlocksOf}
 use Rattle.store_state.specs.declared.jobs.Look.{Look}
-use Rattle.query_fanout.specs.Bounds.{look_up_pages}
+use Rattle.query_fanout.specs.Bounds.{all_pages, look_up_pages}
 use Rattle.query_fanout.specs.Queries.{ComesOf, Sound, is_fault}
 use Rattle.query_fanout.specs.Reading.{AreWanted, BlocksRead, PagesRead, of_read, wanted_rows}
 use Rattle.query_fanout.specs.declared.error.QueryError.{QueryError}
@@ -117,6 +117,13 @@ front_and_next shows id (i ∷ is) info back (p ∷ ps) after rows are =
     add_both (most_pages i id p) (look_up_pages id is ps) (most_pages info id rows) (look_up_pages id (is ++ info ∷ back) (ps ++ rows ∷ after))
     (front_and_next shows id is info back ps after rows are.1)
 
+one_only : (info : InfoParts) → all_pages (info ∷ []) ≡ info.pages
+one_only info = omega arith
+
+all_front_and_next : (front : List InfoParts) (info : InfoParts) (back : List InfoParts) → all_pages front + info.pages ≤ all_pages (front ++ info ∷ back)
+all_front_and_next [] info back = add_low info.pages (all_pages back)
+all_front_and_next (i ∷ is) info back = add_both i.pages (all_pages is) info.pages (all_pages (is ++ info ∷ back)) (all_front_and_next is info back)
+
 rose_twice : (m n count a b c : ℕ) → RoseAtMost m a b → RoseAtMost n b c → m + n ≤ count → RoseAtMost count a c
 rose_twice m n count a b c one two low =
     let o = one.later in
@@ -179,8 +186,9 @@ module _ {P : Type 0} (meaning : Meaning P) (look : Look) (wanted : Option Trace
       → (IsTrue (meaning.tells old) → (rows : List Row) → BlockHasInfo info (meaning.shows old info.file) rows → Finds (wanted_rows wanted rows) r)
       → ((id : TraceId) → wanted ≡ Some id → IsTrue (meaning.tells old) → (rows : List Row) → BlockHasInfo info (meaning.shows old info.file) rows
       → RoseAtMost (most_pages info id rows) (meaning.reads old) (meaning.reads new))
+      → (wanted ≡ None → RoseAtMost info.pages (meaning.reads old) (meaning.reads new))
       → BlocksRead meaning look wanted (info ∷ []) (AreWanted wanted) old (of_read r) new
-  part_read info old new r among its pages some finds rose = record {
+  part_read info old new r among its pages some finds rose whole = record {
     pages = subst (λ (b : Bool). PagesRead meaning look b old new) (same_fault r) pages;
     comes = part_comes wanted look.pin.blocks info.file r among its some;
     told = λ told parts are.
@@ -195,6 +203,7 @@ module _ {P : Type 0} (meaning : Meaning P) (look : Look) (wanted : Option Trace
         rose_twice 0 (most_pages info id split.rows) (look_up_pages id (info ∷ []) parts) (meaning.reads old) (meaning.reads old) (meaning.reads new)
         (record { later = omega arith; at_most = omega arith }) one
         (subst (λ (l : List (List Row)). 0 + most_pages info id split.rows ≤ look_up_pages id (info ∷ []) l) (sym (one_part parts split)) low);
+    whole = λ none. subst (λ (n : ℕ). RoseAtMost n (meaning.reads old) (meaning.reads new)) (sym (one_only info)) (whole none);
   }
     where
       one_part : (parts : List (List Row)) (split : Split (meaning.shows old) [] info [] parts) → parts ≡ split.rows ∷ []
@@ -204,7 +213,7 @@ module _ {P : Type 0} (meaning : Meaning P) (look : Look) (wanted : Option Trace
   -- there is no memory for its rows
   pub part_starved : (info : InfoParts) (old new : P) (rows : List Row) → BlocksRead meaning look wanted (info ∷ []) (AreWanted wanted) old (Ok rows) new
       → BlocksRead {A = List Row} meaning look wanted (info ∷ []) (AreWanted wanted) old (Err Memory) new
-  part_starved info old new rows h = record { pages = h.pages; comes = tt; told = λ told parts are. tt; bounded = h.bounded }
+  part_starved info old new rows h = record { pages = h.pages; comes = tt; told = λ told parts are. tt; bounded = h.bounded; whole = h.whole }
 
   -- ---- so far
 
@@ -215,6 +224,7 @@ module _ {P : Type 0} (meaning : Meaning P) (look : Look) (wanted : Option Trace
     told = λ told parts are.
         none ∙ sym (ap (λ (l : List (List Row)). wanted_rows wanted (flat_map (λ part. part) l)) (no_parts (meaning.shows port) parts are) ∙ wanted_none wanted);
     bounded = λ id is told parts are. record { later = omega arith; at_most = omega arith };
+    whole = λ none. record { later = omega arith; at_most = omega arith };
   }
 
   module _ (old mid new : P) (front : List InfoParts) (info : InfoParts) (before : List Row) (among : is_among info.file (info_files look.pin.blocks) ≡ true)
@@ -238,6 +248,12 @@ module _ {P : Type 0} (meaning : Meaning P) (look : Look) (wanted : Option Trace
         (h.bounded id is told split.before split.front_are)
         (subst (λ (n : ℕ). RoseAtMost n (meaning.reads mid) (meaning.reads new)) only (one.bounded id is (mid_told told) (split.rows ∷ []) (here told split.rows split.has))) low
 
+    bound_all : {A : Type 0} (fits : List Row → A → Type 0) (r : Result A QueryError) (back : List InfoParts) → BlocksRead meaning look wanted (info ∷ []) fits mid r new
+        → wanted ≡ None → RoseAtMost (all_pages (front ++ info ∷ back)) (meaning.reads old) (meaning.reads new)
+    bound_all fits r back one none =
+        rose_twice (all_pages front) info.pages (all_pages (front ++ info ∷ back)) (meaning.reads old) (meaning.reads mid) (meaning.reads new) (h.whole none)
+        (subst (λ (n : ℕ). RoseAtMost n (meaning.reads mid) (meaning.reads new)) (one_only info) (one.whole none)) (all_front_and_next front info back)
+
     -- one block more is read
     pub read_next : (rows : List Row) → BlocksRead meaning look wanted (info ∷ []) (AreWanted wanted) mid (Ok rows) new
         → BlocksRead meaning look wanted (front ++ info ∷ []) (AreWanted wanted) old (Ok (before ++ rows)) new
@@ -258,6 +274,7 @@ module _ {P : Type 0} (meaning : Meaning P) (look : Look) (wanted : Option Trace
           ∙ ap (λ (l : List (List Row)). flat_map (λ part. part) (split.before ++ split.rows ∷ l)) (sym (no_parts (meaning.shows old) split.after split.back_are))
           ∙ ap (λ (l : List (List Row)). flat_map (λ part. part) l) (sym split.is));
       bounded = bound (AreWanted wanted) (Ok rows) [] one;
+      whole = bound_all (AreWanted wanted) (Ok rows) [] one;
     }
       where
         both : (a b : List Row) → before ≡ wanted_rows wanted a → rows ≡ wanted_rows wanted b → before ++ rows ≡ wanted_rows wanted (a ++ b)
@@ -275,6 +292,7 @@ module _ {P : Type 0} (meaning : Meaning P) (look : Look) (wanted : Option Trace
           sound_error (λ (x : List Row). x ≡ wanted_rows wanted (flat_map (λ part. part) (split.rows ∷ []))) (λ (x : List Row). x ≡ wanted_rows wanted (flat_map (λ part. part) all)) why
           (one.told (mid_told told) (split.rows ∷ []) (here told split.rows split.has));
       bounded = bound {A = List Row} (AreWanted wanted) (Err why) back one;
+      whole = bound_all {A = List Row} (AreWanted wanted) (Err why) back one;
     }
 
 -- ---- what is made of the rows
@@ -287,12 +305,13 @@ read_told meaning look wanted infos old new x y h makes = record {
   comes = (h.comes.0, h.comes.1, makes h.comes.0 h.comes.2);
   told = λ told parts are. makes (flat_map (λ part. part) parts) (h.told told parts are);
   bounded = h.bounded;
+  whole = h.whole;
 }
 
 -- there is no memory for it
 pub read_starved : {P A B : Type 0} {fits : List Row → A → Type 0} {other : List Row → B → Type 0} (meaning : Meaning P) (look : Look) (wanted : Option TraceId) (infos : List InfoParts) (old new : P) (x : A)
     → BlocksRead meaning look wanted infos fits old (Ok x) new → BlocksRead meaning look wanted infos other old (Err Memory) new
-read_starved meaning look wanted infos old new x h = record { pages = h.pages; comes = tt; told = λ told parts are. tt; bounded = h.bounded }
+read_starved meaning look wanted infos old new x h = record { pages = h.pages; comes = tt; told = λ told parts are. tt; bounded = h.bounded; whole = h.whole }
 
 -- or nothing is made
 pub read_failed : {P A B : Type 0} {fits : List Row → A → Type 0} {other : List Row → B → Type 0} (meaning : Meaning P) (look : Look) (wanted : Option TraceId) (infos : List InfoParts) (old new : P) (why : QueryError)
@@ -302,4 +321,5 @@ read_failed {fits = fits} {other = other} meaning look wanted infos old new why 
   comes = comes_error fits other look.pin.blocks why h.comes;
   told = λ told parts are. sound_error (fits (flat_map (λ part. part) parts)) (other (flat_map (λ part. part) parts)) why (h.told told parts are);
   bounded = h.bounded;
+  whole = h.whole;
 }

@@ -1,5 +1,5 @@
 -- What a query that was asked over a port tells of the history.
-use Rattle.std.proofs.Common.{◌≡◌, inl, inr, ℕ, ◌+◌, ◌≤◌, List, [], ◌∷◌, ◌++◌, Option, Some, Result, Ok, Err, refl, sym, ap, subst, ◌∙◌, arith}
+use Rattle.std.proofs.Common.{◌≡◌, inl, inr, ℕ, ◌+◌, ◌≤◌, List, [], ◌∷◌, ◌++◌, Option, None, Some, Result, Ok, Err, refl, sym, ap, subst, ◌∙◌, arith}
 use Rattle.std.specs.Prelude.{IsTrue}
 use Rattle.std.proofs.lemmas.List.Elements.{filter-append}
 use Rattle.span_types.specs.declared.ids.Key.{Key}
@@ -22,10 +22,10 @@ use Rattle.store_state.specs.Shown.{ShowsHistory}
 use Rattle.store_state.specs.declared.jobs.Look.{Look}
 use Rattle.store_state.proofs.HoldLaws.{opens_new}
 use Rattle.block_read.specs.Answers.{RoseAtMost}
-use Rattle.query_fanout.specs.Bounds.{look_up_pages}
+use Rattle.query_fanout.specs.Bounds.{all_pages, look_up_pages}
 use Rattle.query_fanout.specs.TraceAnswers.{IsTraceAnswer}
-use Rattle.query_fanout.specs.Queries.{HasAsked, Sound, all_rows}
-use Rattle.query_fanout.specs.Reading.{AreWanted, BlocksRead}
+use Rattle.query_fanout.specs.Queries.{HasAsked, Sound}
+use Rattle.query_fanout.specs.Reading.{AreWanted, BlocksRead, all_rows}
 use Rattle.query_fanout.specs.declared.error.QueryError.{QueryError}
 use Rattle.query_fanout.specs.declared.error.QueryError.TheVariants.{Memory}
 use Rattle.query_fanout.specs.declared.trace.TraceAnswer.{TraceAnswer}
@@ -113,14 +113,26 @@ module _ {P : Type 0} (meaning : Meaning P) (old : P) where
       let low = called.reads_bound in
       record { later = called.reads_rise; at_most = omega (arith, low) }
 
-  pub read_within : {A : Type 0} {fits : List Row → A → Type 0} (mid late new : P) (look : Look) (id : TraceId) (r : Result A QueryError) (kept : Kept) → Called meaning old event.Look (given look) mid
-      → HasKept (meaning.shows mid) look kept → BlocksRead meaning look (Some id) look.pin.blocks fits mid r late → Called meaning late (event.Done look.pin.number) reply.Fine new
-      → IsTrue (meaning.tells old) → RoseAtMost (look_up_pages id kept.infos kept.parts) (meaning.reads old) (meaning.reads new)
-  read_within mid late new look id r kept looked has read ended told =
-      let rose = read.bounded id refl (subst IsTrue (sym looked.telling) told) kept.parts has.blocks in
-      let same : look_up_pages id look.pin.blocks kept.parts ≡ look_up_pages id kept.infos kept.parts = ap (λ (infos : List InfoParts). look_up_pages id infos kept.parts) has.pinned in
-      steps (meaning.reads old) (meaning.reads mid) (meaning.reads late) (meaning.reads new) (look_up_pages id look.pin.blocks kept.parts) (look_up_pages id kept.infos kept.parts)
+  -- neither a look nor its end reads
+  within : (mid late new : P) (look : Look) (m n : ℕ) → Called meaning old event.Look (given look) mid → RoseAtMost m (meaning.reads mid) (meaning.reads late)
+      → Called meaning late (event.Done look.pin.number) reply.Fine new → m ≡ n → RoseAtMost n (meaning.reads old) (meaning.reads new)
+  within mid late new look m n looked rose ended same =
+      steps (meaning.reads old) (meaning.reads mid) (meaning.reads late) (meaning.reads new) m n
       looked.reads_rise looked.reads_bound rose.later rose.at_most ended.reads_rise ended.reads_bound same
     where
       steps : (a b c d m n : ℕ) → a ≤ b → b ≤ a + 0 → b ≤ c → c ≤ b + m → c ≤ d → d ≤ c + 0 → m ≡ n → RoseAtMost n a d
       steps a b c d m n e f g h i j k = record { later = omega (arith, e, g, i); at_most = omega (arith, f, h, j, k) }
+
+  pub read_within : {A : Type 0} {fits : List Row → A → Type 0} (mid late new : P) (look : Look) (id : TraceId) (r : Result A QueryError) (kept : Kept) → Called meaning old event.Look (given look) mid
+      → HasKept (meaning.shows mid) look kept → BlocksRead meaning look (Some id) look.pin.blocks fits mid r late → Called meaning late (event.Done look.pin.number) reply.Fine new
+      → IsTrue (meaning.tells old) → RoseAtMost (look_up_pages id kept.infos kept.parts) (meaning.reads old) (meaning.reads new)
+  read_within mid late new look id r kept looked has read ended told =
+      within mid late new look (look_up_pages id look.pin.blocks kept.parts) (look_up_pages id kept.infos kept.parts) looked
+      (read.bounded id refl (subst IsTrue (sym looked.telling) told) kept.parts has.blocks) ended
+      (ap (λ (infos : List InfoParts). look_up_pages id infos kept.parts) has.pinned)
+
+  pub all_within : {A : Type 0} {fits : List Row → A → Type 0} (mid late new : P) (look : Look) (r : Result A QueryError) (infos : List InfoParts) → Called meaning old event.Look (given look) mid
+      → look.pin.blocks ≡ infos → BlocksRead meaning look None look.pin.blocks fits mid r late → Called meaning late (event.Done look.pin.number) reply.Fine new
+      → RoseAtMost (all_pages infos) (meaning.reads old) (meaning.reads new)
+  all_within mid late new look r infos looked pinned read ended =
+      within mid late new look (all_pages look.pin.blocks) (all_pages infos) looked (read.whole refl) ended (ap all_pages pinned)

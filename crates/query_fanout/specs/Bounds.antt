@@ -1,4 +1,4 @@
--- How many pages a look-up may read.
+-- How many pages a look-up and a search may read.
 use Rattle.std.specs.Prelude.{ℕ, ◌+◌, List, [], ◌∷◌}
 use Rattle.span_types.specs.declared.ids.TraceId.{TraceId}
 use Rattle.span_types.specs.declared.spans.Row.{Row}
@@ -10,3 +10,8 @@ abbrev pub look_up_pages : TraceId → List InfoParts → List (List Row) → �
 look_up_pages id [] parts = 0
 look_up_pages id (info ∷ infos) [] = 0
 look_up_pages id (info ∷ infos) (rows ∷ parts) = most_pages info id rows + look_up_pages id infos parts
+
+-- what a search may read of blocks: as many pages as they have
+abbrev pub all_pages : List InfoParts → ℕ
+all_pages [] = 0
+all_pages (info ∷ infos) = info.pages + all_pages infos

@@ -1,6 +1,5 @@
 -- What a query makes of a port, and of which rows it tells.
 use Rattle.std.specs.Prelude.{◌≡◌, ◌⊎◌, ℕ, ◌≤◌, Bool, true, false, List, [], ◌∷◌, ◌++◌, Result, Ok, Err, IsTrue}
-use Rattle.std.specs.List.{flat_map}
 use Rattle.span_types.specs.declared.spans.Row.{Row}
 use Rattle.block_info.specs.InfoParts.{InfoParts}
 use Rattle.store_entries.specs.declared.entry.Entry.{Entry}
@@ -14,10 +13,6 @@ use Rattle.store_state.specs.Made.{Call, AreMade, call}
 use Rattle.store_state.specs.Meaning.{Meaning, View}
 use Rattle.query_fanout.specs.declared.error.QueryError.{QueryError}
 use Rattle.query_fanout.specs.declared.error.QueryError.TheVariants.{Fault, NotBlock, Memory}
-
--- all rows that a look sees: its own, and those of the parts that its blocks are read to
-abbrev pub all_rows : List Row → List (List Row) → List Row
-all_rows rows parts = rows ++ flat_map (λ part. part) parts
 
 -- A look as it was answered, with the information of the blocks that it pins.
 pub record Taken : Type 0 where

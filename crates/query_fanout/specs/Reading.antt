@@ -1,5 +1,5 @@
 -- Private mechanism: what reading the blocks of a look makes of a port. No public clause cites these.
-use Rattle.std.specs.Prelude.{◌≡◌, ℕ, List, [], Result, Ok, Err, IsTrue, Bool, true, Option, None, Some, if◌then◌else◌}
+use Rattle.std.specs.Prelude.{◌≡◌, ℕ, List, [], ◌++◌, Result, Ok, Err, IsTrue, Bool, true, Option, None, Some, if◌then◌else◌}
 use Rattle.std.specs.List.{flat_map}
 use Rattle.span_types.specs.declared.ids.TraceId.{TraceId}
 use Rattle.span_types.specs.declared.spans.Row.{Row}
@@ -18,7 +18,7 @@ use Rattle.store_state.specs.Made.{Call, AreMade}
 use Rattle.store_state.specs.Meaning.{Meaning, Called, IsOpen}
 use Rattle.store_state.specs.Written.{AreBlocksOf}
 use Rattle.store_state.specs.declared.jobs.Look.{Look}
-use Rattle.query_fanout.specs.Bounds.{look_up_pages}
+use Rattle.query_fanout.specs.Bounds.{all_pages, look_up_pages}
 use Rattle.query_fanout.specs.Queries.{ComesOf, ReadsPages, Sound, is_fault}
 use Rattle.query_fanout.specs.declared.error.QueryError.{QueryError}
 use Rattle.query_fanout.specs.declared.error.QueryError.TheVariants.{Fault, NotBlock, Memory}
@@ -67,6 +67,10 @@ pub record PagesRead {P : Type 0} (meaning : Meaning P) (look : Look) (failed : 
 
 -- ---- blocks
 
+-- all rows that a look sees: its own, and those of the parts that its blocks are read to
+abbrev pub all_rows : List Row → List (List Row) → List Row
+all_rows rows parts = rows ++ flat_map (λ part. part) parts
+
 -- the rows that are wanted of a block: all, or those of a trace
 abbrev pub wanted_rows : Option TraceId → List Row → List Row
 wanted_rows None rows = rows
@@ -75,8 +79,8 @@ wanted_rows (Some id) rows = rows_of_trace id rows
 abbrev pub AreWanted : Option TraceId → List Row → List Row → Type 0
 AreWanted wanted rows found = found ≡ wanted_rows wanted rows
 
--- What comes of reading some of the look's blocks. What fits their rows is made of them, and of a trace no more is read than a look-up
--- may read.
+-- What comes of reading some of the look's blocks. What fits their rows is made of them. For a trace no more is read than a look-up may
+-- read, and for all rows no more pages than the blocks have.
 pub record BlocksRead {P A : Type 0} (meaning : Meaning P) (look : Look) (wanted : Option TraceId) (infos : List InfoParts) (fits : List Row → A → Type 0) (old : P) (r : Result A QueryError) (new : P) : Type 0 where
   pub pages : PagesRead meaning look (is_fault r) old new
   pub comes : ComesOf fits look.pin.blocks r
@@ -84,3 +88,4 @@ pub record BlocksRead {P A : Type 0} (meaning : Meaning P) (look : Look) (wanted
       → Sound (fits (flat_map (λ part. part) parts)) r
   pub bounded : (id : TraceId) → wanted ≡ Some id → IsTrue (meaning.tells old) → (parts : List (List Row)) → AreBlocksOf (meaning.shows old) infos parts
       → RoseAtMost (look_up_pages id infos parts) (meaning.reads old) (meaning.reads new)
+  pub whole : wanted ≡ None → RoseAtMost (all_pages infos) (meaning.reads old) (meaning.reads new)

@@ -2,7 +2,7 @@
 //!
 //! The entry points are `find_trace` and `search`, whose promise is `HasAsked` of `specs/Queries.antt`: each answer tells the first
 //! occurrences of all rows of the history that the port knows afterwards, as it was at the answer's count. `specs/Bounds.antt` says how
-//! many pages a look-up may read.
+//! many pages a look-up and a search may read.
 #![tactic(auto)]
 
 mod blocks;

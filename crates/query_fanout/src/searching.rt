@@ -1,9 +1,12 @@
 //! Searching.
 
 ghost use Rattle.std.specs.Prelude.{◌++◌, IfOk, List};
+ghost use Rattle.block_info.specs.InfoParts.{InfoParts};
 ghost use Rattle.store_model.specs.Holds.{Hold};
 ghost use Rattle.store_state.specs.Given.{look_of};
 ghost use Rattle.store_state.specs.Meaning.{IsOpen};
+ghost use Rattle.block_read.specs.Answers.{RoseAtMost};
+ghost use Rattle.query_fanout.specs.Bounds.{all_pages};
 ghost use Rattle.query_fanout.specs.SearchAnswers.{IsSearchAnswer};
 ghost use Rattle.query_fanout.specs.Queries.{HasAsked};
 ghost use Rattle.query_fanout.specs.Reading.{BlocksRead};
@@ -44,16 +47,18 @@ pub struct SearchAnswer {
 /// What a search finds among the first occurrences of all spans, wherever they lie: in the rows of one look and in the
 /// blocks that it pins.
 ///
-/// The blocks are read whole, one after another, and their rows are moved, those of the look copied; so at a time the
-/// bytes of one block are in memory beside all rows. First occurrences are taken once, of all rows, before any trace is
-/// evaluated. The look is given back in every case.
+/// The blocks are read whole, one after another; `bounded` says that no more pages are read than they have. Their rows are
+/// moved, those of the look copied; so at a time the bytes of one block are in memory beside all rows. First occurrences
+/// are taken once, of all rows, before any trace is evaluated. The look is given back in every case.
 pub fn search<P: FlushPort>(
     alloc: Global,
     port: &mut P,
     asked: &Asked,
 ) -> Result<SearchAnswer, QueryError>
     requires { (held : List Hold) × P.meaning.holds port.old held }
-    ensures { HasAsked P.meaning port.old (IsSearchAnswer asked.now) result port.new }
+    ensures asked { HasAsked P.meaning port.old (IsSearchAnswer asked.now) result port.new }
+    ensures bounded { (infos : List InfoParts) → P.meaning.lists port.old infos
+        → RoseAtMost (all_pages infos) (P.meaning.reads port.old) (P.meaning.reads port.new) }
 {
     let look = match port.look() {
         Ok(look) => look,

@@ -1,4 +1,4 @@
-use Rattle.std.proofs.Common.{◌≡◌, ℕ, [], ◌∷◌, Some, refl, rules, sym, ap, subst, ◌∙◌}
+use Rattle.std.proofs.Common.{◌≡◌, ℕ, [], ◌∷◌, None, Some, refl, rules, sym, ap, subst, ◌∙◌}
 use Rattle.span_types.specs.declared.ids.TraceId.{TraceId}
 use Rattle.block_read.specs.Answers.{RoseAtMost, is_fault}
 use Rattle.block_read.specs.Lookups.{IsInFile, most_pages}
@@ -26,9 +26,13 @@ returns g c =
     let part = part_read meaning look (Some c.args.id) info old new r c.requires.pinned (subst (λ (f : ℕ). IsInFile f r) c.file_of-file.ensures h.its_file) pages h.of_trace
     (λ told rows has. h.answers told rows (holds_here meaning look old info file rows c.file_of-file.ensures c.requires.pinned has))
     (λ id is told rows has. subst (λ (i : TraceId). RoseAtMost (most_pages info i rows) (meaning.reads old) (meaning.reads new)) (the_same c.args.id id is)
-    (h.reads told rows (holds_here meaning look old info file rows c.file_of-file.ensures c.requires.pinned has))) in
+    (h.reads told rows (holds_here meaning look old info file rows c.file_of-file.ensures c.requires.pinned has)))
+    (λ none. absurd (differ c.args.id none)) in
     subst (BlocksRead meaning look (Some c.args.id) (info ∷ []) (AreWanted (Some c.args.id)) old c.query_result.result) (search rules)
     (subst (λ q. BlocksRead meaning look (Some c.args.id) (info ∷ []) (AreWanted (Some c.args.id)) old q new) (sym c.query_result.ensures) part)
   where
     the_same : (a b : TraceId) → Some a ≡ Some b → a ≡ b
     the_same a b e = cc
+
+    differ : (id : TraceId) → Some id ≡ None → ⊥
+    differ id e = cc

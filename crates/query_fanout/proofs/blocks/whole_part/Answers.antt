@@ -30,7 +30,7 @@ returns g c =
     (λ told rows has.
     let seen = holds_here meaning look old info file rows c.file_of-file.ensures c.requires.pinned has in
     finds_read file rows r _ (h.answers told) (c.described_block_is_read.ensures.rows _ rows info seen))
-    (λ id is told rows has. absurd (differ id is)) in
+    (λ id is told rows has. absurd (differ id is)) (λ none. h.reads) in
     subst (BlocksRead meaning look None (info ∷ []) (AreWanted None) old c.query_result.result) (search rules)
     (subst (λ q. BlocksRead meaning look None (info ∷ []) (AreWanted None) old q new) (sym c.query_result.ensures) part)
   where
