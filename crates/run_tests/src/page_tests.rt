@@ -33,7 +33,9 @@ fn a_look_up_reads_few_pages_and_none_twice(rt: HostRuntime) -> Result<(), Memor
     let alloc = rt.alloc();
     let mut disk = MemDisk::empty(alloc);
     let stored = format!(in alloc; "{PUSH_X}\ncutall\nflush\nreclaim\n")?;
-    let told = format!(in alloc; "{PUSHED_0}ok cutall moved=1\nok flush rows=1\nok reclaim files=1\n")?;
+    let told = format!(in alloc;
+        "{PUSHED_0}ok cutall moved=1\nok flush rows=1\nok reclaim files=1\n"
+    )?;
     assert!(rt; writes(&rt, alloc, &mut disk, stored.as_str(), (told.as_str(), 0))?);
 
     let nothing = "ok trace as_of=1 spans=0 {\"resourceSpans\":[]}\n";
@@ -43,7 +45,10 @@ fn a_look_up_reads_few_pages_and_none_twice(rt: HostRuntime) -> Result<(), Memor
     let found = format!(in alloc; "ok trace as_of=1 spans=1 {TRACE_X}\n")?;
     let twice = format!(in alloc; "{LOOK_A1}\n{LOOK_A1}\n{LOOK_A1}\n")?;
     let told_twice = format!(in alloc; "{found}{found}{found}")?;
-    for (input, wanted) in [(LOOK_A1, found.as_str()), (twice.as_str(), told_twice.as_str())] {
+    for (input, wanted) in [
+        (LOOK_A1, found.as_str()),
+        (twice.as_str(), told_twice.as_str()),
+    ] {
         let reads = reads_for(&rt, alloc, &mut disk, input, wanted)?;
         assert_eq!(rt; reads, Some(3), "{input}");
     }

@@ -265,10 +265,7 @@ fn a_compaction_that_is_stopped_keeps_both_entries(rt: HostRuntime) -> Result<()
     let alloc = rt.alloc();
     for calls in 0u64..14 {
         let what = Upset::Stops(calls_before(alloc).saturating_add(calls));
-        assert!(rt;
-            ends(alloc, what, stopped_end(calls))?,
-            "{calls} calls"
-        );
+        assert!(rt; ends(alloc, what, stopped_end(calls))?, "{calls} calls");
     }
     Ok(())
 }
@@ -278,10 +275,7 @@ fn emptying_that_is_stopped_keeps_both_entries(rt: HostRuntime) -> Result<(), Fa
     let alloc = rt.alloc();
     for calls in 14u64..25 {
         let what = Upset::Stops(calls_before(alloc).saturating_add(calls));
-        assert!(rt;
-            ends(alloc, what, stopped_end(calls))?,
-            "{calls} calls"
-        );
+        assert!(rt; ends(alloc, what, stopped_end(calls))?, "{calls} calls");
     }
     Ok(())
 }
