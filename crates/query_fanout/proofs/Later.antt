@@ -22,7 +22,7 @@ grown_twice : (a b c : History) → IsGrown a b → IsGrown b c → IsGrown a c
 grown_twice a b c (more, first) (last, second) = (
   more ++ last,
   second ∙ ap (λ (h : History). grown h last) first
-  ∙ ap (λ (es : List Entry). record { base = a.base; start = a.start; entries = es }) (append_assoc a.entries more last),
+      ∙ ap (λ (es : List Entry). record { base = a.base; start = a.start; entries = es }) (append_assoc a.entries more last),
 )
 
 grown_longer : (h later : History) → IsGrown h later → count_of h ≤ count_of later
