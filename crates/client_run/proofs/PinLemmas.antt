@@ -90,7 +90,7 @@ looks_kept g old new [] looks made m stands h = (m, h)
 looks_kept g old new (c ∷ cs) looks made m stands h =
     let one = made.1.did.shown m stands in
     looks_kept g made.0 new cs (after_call c looks) made.2 one.0 one.1
-    (looks_after (g.faults old.disk) (g.faults made.0.disk) m one.0 c.event stands.agrees stands.sound c.reply looks one.2 h)
+    (looks_after (g.faults old.disk) (g.faults made.0.disk) m one.0 c.event stands.state.agrees stands.state.sound c.reply looks one.2 h)
 
 apart_at : (looks : Looks) (later : ℕ) (one other : Hold) → ApartFrom one looks → look_at later looks ≡ Some other → AreApart other one
 apart_at [] later one other h e = let bad : ⊥ = cc in absurd bad
