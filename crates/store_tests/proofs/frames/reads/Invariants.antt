@@ -4,5 +4,5 @@ use Rattle.store_model.specs.Holds.{Hold}
 use Rattle.store_tests.proofs.frames.reads.Given as goal
 
 -- the store says what is open in it
-abbrev pub invariant-loop-made : goal.invariant-loop-made
-invariant-loop-made g l = (held : List Hold) × (port_of g.D.Device).holds l.store held
+abbrev pub invariant-loop-pages : goal.invariant-loop-pages
+invariant-loop-pages g l = (held : List Hold) × (port_of g.D.Device).holds l.store held
