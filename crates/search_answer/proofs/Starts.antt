@@ -7,7 +7,7 @@ use Rattle.std.proofs.lemmas.Cmp.{ranked, tied_itself}
 use Rattle.std.proofs.lemmas.List.{get_or-take, length-take}
 use Rattle.std.proofs.lemmas.List.Elements.{All-tail}
 use Rattle.std.proofs.lemmas.Option.{same_Some}
-use Rattle.column_scan.specs.declared.range.Range.{Range}
+use Rattle.moment_range.specs.declared.range.Range.{Range}
 use Rattle.span_types.specs.declared.spans.Row.{Row}
 use Rattle.span_types.specs.Orders.{block_order, trace_cmp, trace_order}
 use Rattle.traceql_value.specs.Spans.{earliest, latest, start_of}

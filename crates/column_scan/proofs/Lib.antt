@@ -1,0 +1,3 @@
+pub mod HintLaws
+mod PickLaws
+pub mod Latest
