@@ -1,6 +1,6 @@
 //! The traces that have hinted spans.
 
-ghost use Rattle.std.specs.Prelude.{◌≡◌, ◌++◌, [], ◌∷◌, All, IfOk, OnOk, map};
+ghost use Rattle.std.specs.Prelude.{◌≡◌, ◌++◌, [], ◌∷◌, All, IfOk, OnOk, map, true};
 ghost use Rattle.std.specs.List.Sorted.{IsPermutation, IsSorted};
 ghost use Rattle.column_scan.specs.Candidates.{ArePicks, Ascend, HaveLatest, hinted_picks, pick_of};
 ghost use Rattle.column_scan.specs.Picking.{is_not_after, later_of, pick_cmp};
@@ -27,7 +27,8 @@ pub fn picks_of_spans(alloc: Global, hint: &Hint, spans: &[&Span]) -> Result<Vec
     for span in spans {
         add_hinted(hint, span, &mut picks)?;
     }
-    in_order(alloc, picks)
+    let all = in_order(alloc, picks)?;
+    Ok(all)
 }
 
 // Adds the trace of a span that is hinted.

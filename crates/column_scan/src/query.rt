@@ -25,7 +25,7 @@ pub fn hint(checked: &Checked, range: Range) -> Result<Hint, Memory>
 
 // A copy of a text, if there is one.
 fn copy_of(text: Option<&Text>) -> Result<Option<Text>, Memory>
-    ensures { IfOk result (λ copy. copy ≡ option_map (λ t. t.now) text) }
+    ensures { IfOk result (λ copy. copy ≡ option_map (λ t. t.now) text.entry) }
 {
     match text {
         None => Ok(None),
