@@ -1,6 +1,6 @@
 mod Searching
 mod EntryLemmas
 mod BloomLaws
-mod PageLaws
+pub mod PageLaws
 mod FoundLaws
 mod RowLaws

@@ -45,6 +45,15 @@ is_fault (Err Fault) = true
 is_fault (Err (NotBlock file at)) = false
 is_fault (Err Memory) = false
 
+abbrev pub is_of_a_page : Unread → Bool
+is_of_a_page unread.Fault = true
+is_of_a_page unread.Memory = false
+
+-- the same of a call that reads a file's bytes alone
+abbrev pub is_unread : {X : Type 0} → Result X Unread → Bool
+is_unread (Ok x) = false
+is_unread (Err e) = is_of_a_page e
+
 -- Reads change nothing: it tells or it doesn't, as before, and where it tells, each file has the same bytes.
 pub record StaysSame {P : Type 0} (tells : P → Bool) (held : P → ℕ → List ℕ) (old new : P) : Type 0 where
   pub telling : tells new ≡ tells old

@@ -1,6 +1,8 @@
 -- Reads of pages, one after another.
-use Rattle.std.specs.Prelude.{◌≡◌, ℕ, Bool, true, false, List, [], ◌∷◌, Option, None, Some, Result, Ok, Err}
+use Rattle.std.specs.Prelude.{◌≡◌, ◌≤◌, ℕ, Bool, true, false, IsTrue, List, [], ◌∷◌, Option, None, Some, Result, Ok, Err}
+use Rattle.span_types.specs.Faults.{Rose}
 use Rattle.span_types.specs.declared.errors.Failed.{Failed}
+use Rattle.block_read.specs.Answers.{StaysSame}
 
 -- a page that was asked for, and its bytes if it was given
 pub record PageRead : Type 0 where
@@ -21,3 +23,14 @@ AreRead {S} went old (r ∷ rs) new = (between : S) × (bytes : List ℕ) × (r.
 abbrev pub HasRead : {S : Type 0} → (S → PageRead → S → Type 0) → S → Bool → S → Type 0
 HasRead went old false new = (reads : List PageRead) × AreRead went old reads new
 HasRead {S} went old true new = (reads : List PageRead) × (last : PageRead) × (between : S) × AreRead went old reads between × (last.bytes ≡ None) × went between last new
+
+-- A call that reads pages, of which the last may fail, leaves all else as it was: the files, of which blocks pages may be asked for,
+-- and what tells it from others.
+pub record OnlyReads {S : Type 0} (tells : S → Bool) (held : S → ℕ → List ℕ) (faults : S → ℕ) (ready : S → ℕ → Type 0)
+    (went : S → PageRead → S → Type 0) (name : S → ℕ) (old : S) (failed : Bool) (new : S) : Type 0 where
+  pub read : HasRead went old failed new
+  pub still_ready : (block : ℕ) → ready old block → ready new block
+  pub named : name new ≡ name old
+  pub stays : StaysSame tells held old new
+  pub later : faults old ≤ faults new
+  pub cause : IsTrue failed → Rose (faults old) (faults new)

@@ -1,8 +1,7 @@
 //! The calls that read a block.
 
-ghost use Rattle.std.specs.Prelude.{◌≡◌, ◌*◌, ◌≤◌, IfOk, IsTrue, List};
+ghost use Rattle.std.specs.Prelude.{◌≡◌, ◌*◌, ◌≤◌, ℕ, IfOk, IsTrue, List};
 ghost use Rattle.std.specs.Int.{div_ceil};
-ghost use Rattle.disk_model.specs.Counts.{MakesCalls};
 ghost use Rattle.rows_by_trace.specs.Traces.{rows_of_trace};
 ghost use Rattle.span_fields.specs.Breaks.{Answers};
 ghost use Rattle.span_types.specs.declared.spans.Row.{Row};
@@ -14,43 +13,18 @@ ghost use Rattle.block_read.specs.PageReads.{HasRead};
 ghost use Rattle.block_read.specs.BlockReadings.{block_at, info_read, listed_at};
 ghost use Rattle.block_read.specs.Files.{first_bytes};
 
-use crate::block::{Block, block_of};
+use crate::block::block_of;
 use crate::checking::listed_info;
-use crate::file::{Unread, file_bytes};
+use crate::file::{Unread, bytes_from};
+use crate::lookup::find_trace;
+use crate::traces::rows_at;
 use crate::{Pages, ReadError};
 use block_info::BlockInfo;
-use rows_by_trace::rows_of;
 use span_fields::Break;
 use span_types::{Rows, TraceId};
 use std::alloc::Global;
 
 const PAGE_BYTES: u64 = 4096;
-
-/// The block that the first `length` bytes of a file are.
-fn read_block<P: Pages>(
-    alloc: Global,
-    pages: &mut P,
-    block: u32,
-    length: u64,
-) -> Result<Block, ReadError>
-    ensures answers { IsTrue (P.tells pages.old) → AnswersOf (λ x. x) block result
-        (block_at (first_bytes length (P.held pages.old block))) }
-    ensures rules { IfOk result (λ found. CanBeHeader found.header) }
-    ensures stays { StaysSame P.tells P.held pages.old pages.new }
-    ensures later { P.faults pages.old ≤ P.faults pages.new }
-    ensures cause { FailsByFault (P.faults pages.old) (P.faults pages.new) result }
-    ensures reads { MakesCalls (div_ceil length 4096) (P.reads pages.old) (P.reads pages.new) result }
-{
-    match file_bytes(alloc, pages, block, length) {
-        Ok(bytes) => match block_of(alloc, bytes.as_slice()) {
-            Ok(found) => Ok(found),
-            Err(Break::At(at)) => Err(ReadError::NotBlock { file: block, at }),
-            Err(Break::Memory) => Err(ReadError::Memory),
-        },
-        Err(Unread::Fault) => Err(ReadError::Fault),
-        Err(Unread::Memory) => Err(ReadError::Memory),
-    }
-}
 
 /// All rows of a block, in block order. It has as many pages as its information says, and each is read once.
 ///
@@ -74,8 +48,15 @@ pub fn all_rows<P: Pages>(
     ensures later { P.faults pages.old ≤ P.faults pages.new }
     ensures cause { FailsByFault (P.faults pages.old) (P.faults pages.new) result }
 {
-    let found = read_block(alloc, pages, block, PAGE_BYTES * info.pages)?;
-    Ok(found.rows)
+    match bytes_from(alloc, pages, block, 0, PAGE_BYTES * info.pages) {
+        Ok(bytes) => match block_of(alloc, bytes.as_slice()) {
+            Ok(found) => Ok(found.rows),
+            Err(Break::At(at)) => Err(ReadError::NotBlock { file: block, at }),
+            Err(Break::Memory) => Err(ReadError::Memory),
+        },
+        Err(Unread::Fault) => Err(ReadError::Fault),
+        Err(Unread::Memory) => Err(ReadError::Memory),
+    }
 }
 
 /// The rows of a trace in a block, in block order, by the block's filters, its index and the stripes that hold the trace.
@@ -106,15 +87,15 @@ pub fn trace_rows<P: Pages>(
     ensures later { P.faults pages.old ≤ P.faults pages.new }
     ensures cause { FailsByFault (P.faults pages.old) (P.faults pages.new) result }
 {
-    let found = read_block(alloc, pages, block, PAGE_BYTES * info.pages)?;
-    match rows_of(alloc, found.rows.as_slice(), id) {
-        Ok(rows) => Ok(Rows::of(rows)),
-        Err(_) => Err(ReadError::Memory),
+    match find_trace(pages, block, info, id) {
+        Ok(Some((first, count))) => rows_at(alloc, pages, block, info, id, first, count),
+        Ok(None) => Ok(Rows::none(alloc)),
+        Err(_) => Err(ReadError::Fault),
     }
 }
 
 /// The information of the block that the first `length` bytes of a file are, by its level, where its list entry says so
-/// many rows. As many reads are made as these bytes have pages.
+/// many rows. Each of the pages of these bytes is read once.
 ///
 /// [`ReadError::NotBlock`] comes exactly where these bytes are no such block, at the first byte where they are
 /// malformed.
@@ -126,14 +107,15 @@ pub fn check_block<P: Pages>(
     rows: u32,
     length: u64,
 ) -> Result<BlockInfo, ReadError>
+    requires { P.ready pages.old block }
     ensures answers { IsTrue (P.tells pages.old) → AnswersOf (λ x. x) block result
         (made_of (info_read block level) (listed_at rows (first_bytes length (P.held pages.old block)))) }
     ensures stays { StaysSame P.tells P.held pages.old pages.new }
     ensures later { P.faults pages.old ≤ P.faults pages.new }
     ensures cause { FailsByFault (P.faults pages.old) (P.faults pages.new) result }
-    ensures reads { MakesCalls (div_ceil length 4096) (P.reads pages.old) (P.reads pages.new) result }
+    ensures reads { RoseAtMost (div_ceil length 4096) (P.reads pages.old) (P.reads pages.new) }
 {
-    match file_bytes(alloc, pages, block, length) {
+    match bytes_from(alloc, pages, block, 0, length) {
         Ok(bytes) => match check_bytes(alloc, block, level, rows, bytes.as_slice()) {
             Ok(info) => Ok(info),
             Err(Break::At(at)) => Err(ReadError::NotBlock { file: block, at }),

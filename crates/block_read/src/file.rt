@@ -1,13 +1,14 @@
 //! The bytes of a block's file.
 
-ghost use Rattle.std.specs.Prelude.{◌≡◌, ◌-◌, ◌*◌, ◌≤◌, ◌++◌, IfOk, IsTrue, OnOk, length, take};
+ghost use Rattle.std.specs.Prelude.{◌≡◌, ◌-◌, ◌*◌, ◌≤◌, ◌^◌, ◌++◌, IfOk, IsTrue, OnOk, drop, is_err, length, take};
 ghost use Rattle.std.specs.Int.{div_ceil};
 ghost use Rattle.byte_fields.specs.Reading.{AreBytes};
-ghost use Rattle.disk_model.specs.Counts.{MakesCalls, RoseBy};
-ghost use Rattle.block_read.specs.Answers.{StaysSame, UnreadByFault};
+ghost use Rattle.block_read.specs.Answers.{RoseAtMost, is_unread};
 ghost use Rattle.block_read.specs.Files.{first_bytes, page_of, part_of};
+ghost use Rattle.block_read.specs.PageReads.{OnlyReads};
 
 use crate::Pages;
+use span_types::Failed;
 use std::alloc::Global;
 
 const PAGE_BYTES: u64 = 4096;
@@ -21,24 +22,25 @@ pub enum Unread {
     Memory,
 }
 
-/// The first `length` bytes of a file, page by page: no more memory is taken than pages were read.
-pub fn file_bytes<P: Pages>(
+/// So many bytes of a file from that page on, page by page: no more memory is taken than pages were read.
+pub fn bytes_from<P: Pages>(
     alloc: Global,
     pages: &mut P,
     block: u32,
+    first: u64,
     length: u64,
 ) -> Result<Vec<u8>, Unread>
+    requires ready { P.ready pages.old block }
+    requires near { first ≤ 2 ^ 52 }
     ensures bytes { IsTrue (P.tells pages.old)
-        → IfOk result (λ bytes. bytes.items ≡ first_bytes length (P.held pages.old block)) }
-    ensures stays { StaysSame P.tells P.held pages.old pages.new }
-    ensures later { P.faults pages.old ≤ P.faults pages.new }
-    ensures cause { UnreadByFault (P.faults pages.old) (P.faults pages.new) result }
-    ensures reads { MakesCalls (div_ceil length 4096) (P.reads pages.old) (P.reads pages.new) result }
+        → IfOk result (λ bytes. bytes.items ≡ first_bytes length (drop (4096 * first) (P.held pages.old block))) }
+    ensures reads { RoseAtMost (div_ceil length 4096) (P.reads pages.old) (P.reads pages.new) }
+    ensures only { OnlyReads P.tells P.held P.faults P.ready P.went P.name pages.old (is_unread result) pages.new }
 {
     let mut bytes = Vec::new(alloc);
     for page in 0..length.div_ceil(PAGE_BYTES) {
         let wanted = (length - page * PAGE_BYTES).min(PAGE_BYTES);
-        add_page(pages, block, page, wanted, &mut bytes)?;
+        add_page(pages, block, first + page, wanted, &mut bytes)?;
     }
     Ok(bytes)
 }
@@ -51,21 +53,34 @@ fn add_page<P: Pages>(
     wanted: u64,
     bytes: &mut Vec<u8>,
 ) -> Result<(), Unread>
-    requires { wanted ≤ 4096 }
+    requires ready { P.ready pages.old block }
+    requires within { wanted ≤ 4096 }
     ensures bytes { IsTrue (P.tells pages.old)
         → OnOk result (bytes.new.items ≡ bytes.old.items ++ take wanted (page_of (P.held pages.old block) page)) }
-    ensures stays { StaysSame P.tells P.held pages.old pages.new }
-    ensures later { P.faults pages.old ≤ P.faults pages.new }
-    ensures cause { UnreadByFault (P.faults pages.old) (P.faults pages.new) result }
-    ensures one_read { RoseBy 1 (P.reads pages.old) (P.reads pages.new) }
+    ensures reads { RoseAtMost 1 (P.reads pages.old) (P.reads pages.new) }
+    ensures only { OnlyReads P.tells P.held P.faults P.ready P.went P.name pages.old (is_unread result) pages.new }
 {
-    let mut buf = [0; 4096];
-    match pages.page(block, page, &mut buf) {
-        Ok(()) => match bytes.extend_from_slice(&buf[..wanted as usize]) {
+    match page_bytes(pages, block, page) {
+        Ok(page) => match bytes.extend_from_slice(&page[..wanted as usize]) {
             Ok(()) => Ok(()),
             Err(_) => Err(Unread::Memory),
         },
         Err(_) => Err(Unread::Fault),
+    }
+}
+
+/// A page of a block.
+pub fn page_bytes<P: Pages>(pages: &mut P, block: u32, page: u64) -> Result<[u8; 4096], Failed>
+    requires { P.ready pages.old block }
+    ensures page { IsTrue (P.tells pages.old)
+        → IfOk result (λ bytes. bytes ≡ page_of (P.held pages.old block) page) }
+    ensures reads { RoseAtMost 1 (P.reads pages.old) (P.reads pages.new) }
+    ensures only { OnlyReads P.tells P.held P.faults P.ready P.went P.name pages.old (is_err result) pages.new }
+{
+    let mut buf = [0; 4096];
+    match pages.page(block, page, &mut buf) {
+        Ok(()) => Ok(buf),
+        Err(e) => Err(e),
     }
 }
 

@@ -12,9 +12,12 @@ mod file;
 mod header;
 mod indexed;
 mod laws;
+mod lookup;
 mod memory;
 mod pages;
+mod parts;
 mod stripes;
+mod traces;
 
 pub use block::{Block, block_of};
 pub use calls::{all_rows, check_block, check_bytes, trace_rows};

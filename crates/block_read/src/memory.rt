@@ -42,6 +42,13 @@ impl MemPages {
             reads: 0,
         }
     }
+
+    /// How many pages were read.
+    pub fn reads(&self) -> u64
+        ensures { result ≡ self.now.reads }
+    {
+        self.reads
+    }
 }
 
 impl Pages for MemPages {

@@ -83,7 +83,7 @@ pub fn placed_stripe(
 
 /// The rows of the stripe that this part of a file is. Offsets are counted from the part's first byte.
 #[tactic(auto, unfolding(crate::specs::BlockReadings::stripe_of))]
-fn stripe(
+pub fn stripe(
     alloc: Global,
     part: &[u8],
     form: u8,

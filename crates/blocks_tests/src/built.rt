@@ -23,6 +23,11 @@ fn no_text(alloc: Global) -> Text {
 
 /// A row of the trace, of which nothing is said but its number.
 fn row(alloc: Global, number: u32) -> Result<Row, Memory> {
+    row_of(alloc, TRACE, number)
+}
+
+/// The same of any trace.
+pub(crate) fn row_of(alloc: Global, trace: TraceId, number: u32) -> Result<Row, Memory> {
     let [a, b, c, d] = number.to_be_bytes();
     let resource = Resource {
         attrs: Attrs::none(alloc),
@@ -33,7 +38,7 @@ fn row(alloc: Global, number: u32) -> Result<Row, Memory> {
         attrs: Attrs::none(alloc),
     };
     let span = Span {
-        trace: TRACE,
+        trace,
         id: SpanId([1, 0, 0, 0, a, b, c, d]),
         parent: None,
         name: no_text(alloc),

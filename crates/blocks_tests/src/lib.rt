@@ -10,6 +10,8 @@ mod headers;
 #[cfg(test)]
 mod indexed;
 #[cfg(test)]
+mod lookups;
+#[cfg(test)]
 mod malformed;
 #[cfg(test)]
 mod stripes;

@@ -1,6 +1,6 @@
 use Rattle.std.proofs.Common.{◌*◌, ℕ, length, drop, ap, arith}
 use Rattle.std.proofs.lemmas.List.{length-replicate, length-take}
-use Rattle.block_read.proofs.Parts.{page_is}
+use Rattle.block_read.proofs.PartLaws.{page_is}
 use Rattle.block_read.proofs.memory.copy_page.Goals as goal
 
 pub copy_front-requires : goal.copy_front-requires

@@ -1,0 +1,83 @@
+//! The stripes of a block, each read by itself.
+
+ghost use Rattle.std.specs.Prelude.{◌≡◌, ◌+◌, ◌*◌, ◌^◌, ◌<◌, IfOk, IsTrue, List, None, drop};
+ghost use Rattle.span_types.specs.declared.spans.Row.{Row};
+ghost use Rattle.span_fields.specs.Breaks.{Answers};
+ghost use Rattle.block_format.specs.Blocks.{StripeHasEntry};
+ghost use Rattle.block_read.specs.Answers.{RoseAtMost, is_fault, is_unread};
+ghost use Rattle.block_read.specs.BlockReadings.{stripe_of};
+ghost use Rattle.block_read.specs.Files.{first_bytes, part_of};
+ghost use Rattle.block_read.specs.Lookups.{Finds, IsInFile};
+ghost use Rattle.block_read.specs.PageReads.{OnlyReads};
+
+use crate::file::{Unread, bytes_from};
+use crate::stripes::stripe;
+use crate::{Pages, ReadError};
+use block_info::StripeInfo;
+use span_fields::Break;
+use span_types::{Row, Rows};
+use std::alloc::Global;
+
+const PAGE_BYTES: u64 = 4096;
+
+/// The rows of a stripe of a block.
+///
+/// [`ReadError::NotBlock`] comes only if the pages are no such stripe, at the first byte of the file where they are
+/// malformed.
+pub fn rows_of_stripe<P: Pages>(
+    alloc: Global,
+    pages: &mut P,
+    block: u32,
+    form: u8,
+    entry: &StripeInfo,
+) -> Result<Rows, ReadError>
+    requires ready { P.ready pages.old block }
+    requires near { entry.now.page + entry.now.pages < 2 ^ 52 }
+    ensures answers { IsTrue (P.tells pages.old) → (rows : List Row)
+        → StripeHasEntry form entry.now (part_of entry.now.page entry.now.pages (P.held pages.old block)) rows → Finds rows result }
+    ensures its_file { IsInFile block result }
+    ensures reads { RoseAtMost entry.now.pages (P.reads pages.old) (P.reads pages.new) }
+    ensures only { OnlyReads P.tells P.held P.faults P.ready P.went P.name pages.old (is_fault result) pages.new }
+{
+    match stripe_bytes(alloc, pages, block, entry) {
+        Ok(bytes) => match stripe_rows(alloc, form, entry, bytes.as_slice()) {
+            Ok(rows) => Ok(Rows::of(rows)),
+            Err(Break::At(at)) => Err(ReadError::NotBlock {
+                file: block,
+                at: (entry.page * PAGE_BYTES).saturating_add(at.min(bytes.len() as u64)),
+            }),
+            Err(Break::Memory) => Err(ReadError::Memory),
+        },
+        Err(Unread::Fault) => Err(ReadError::Fault),
+        Err(Unread::Memory) => Err(ReadError::Memory),
+    }
+}
+
+/// The bytes of a stripe's pages, each of which is read once.
+pub fn stripe_bytes<P: Pages>(
+    alloc: Global,
+    pages: &mut P,
+    block: u32,
+    entry: &StripeInfo,
+) -> Result<Vec<u8>, Unread>
+    requires ready { P.ready pages.old block }
+    requires near { entry.now.page + entry.now.pages < 2 ^ 52 }
+    ensures bytes { IsTrue (P.tells pages.old) → IfOk result (λ bytes. bytes.items
+        ≡ first_bytes (4096 * entry.now.pages) (drop (4096 * entry.now.page) (P.held pages.old block))) }
+    ensures reads { RoseAtMost entry.now.pages (P.reads pages.old) (P.reads pages.new) }
+    ensures only { OnlyReads P.tells P.held P.faults P.ready P.went P.name pages.old (is_unread result) pages.new }
+{
+    bytes_from(alloc, pages, block, entry.page, PAGE_BYTES * entry.pages)
+}
+
+/// The rows that the bytes of a stripe stand for by its entry. Offsets are counted from the first of these bytes.
+pub fn stripe_rows(
+    alloc: Global,
+    form: u8,
+    entry: &StripeInfo,
+    part: &[u8],
+) -> Result<Vec<Row>, Break>
+    ensures { Answers (λ x. x.items) result (stripe_of form entry.now None part.now) }
+{
+    stripe(alloc, part, form, entry, &None)
+}
