@@ -4,13 +4,13 @@ pub mod BlockBoth
 pub mod BlockFiles
 mod StripesWalk
 mod PartLaws
-mod PageReads
+pub mod PageReads
 mod ChecksWalk
 mod Listed
 mod Halving
 mod EntryLaws
 mod Narrowing
-mod DescribedLaws
+pub mod DescribedLaws
 mod TogetherLaws
-mod TraceWalk
+pub mod TraceWalk
 mod FilterLaws

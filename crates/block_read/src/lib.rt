@@ -25,3 +25,4 @@ pub use error::ReadError;
 pub use laws::{described_block_is_read, held_block_is_read, read_block_is_held};
 pub use memory::MemPages;
 pub use pages::Pages;
+pub use parts::rows_of_stripe;

@@ -215,10 +215,15 @@ pub sorted_step : (sorted picks new : List Pick) (i : ℕ) (d : Pick) → i < le
 sorted_step sorted picks new i d h have step =
     subst (λ l. HaveLatest l new) (sym (take_more sorted i d h)) (and_more (take i sorted) (slice_index_or sorted i d ∷ []) picks new have step)
 
-pub hinted_step : {X : Type 0} (f : X → Span) (hint : Hint) (xs : List X) (picks new : List Pick) (i : ℕ) (d : X) → i < length xs
-    → HaveLatest (hinted_picks hint (map f (take i xs))) picks
-    → HaveLatest (picks ++ hinted_picks hint (f (slice_index_or xs i d) ∷ [])) new → HaveLatest (hinted_picks hint (map f (take (i + 1) xs))) new
-hinted_step f hint xs picks new i d h have step =
+pub hinted_step : {X : Type 0} (f : X → Span) (hint : Hint) (xs : List X) (old picks new : List Pick) (i : ℕ) (d : X) → i < length xs
+    → HaveLatest (old ++ hinted_picks hint (map f (take i xs))) picks
+    → HaveLatest (picks ++ hinted_picks hint (f (slice_index_or xs i d) ∷ [])) new → HaveLatest (old ++ hinted_picks hint (map f (take (i + 1) xs))) new
+hinted_step f hint xs old picks new i d h have step =
+    let one = hinted_picks hint (f (slice_index_or xs i d) ∷ []) in
     let more = ap (hinted_picks hint) (map_more f xs i d h) ∙ hinted_append hint (map f (take i xs)) (f (slice_index_or xs i d) ∷ []) in
-    subst (λ l. HaveLatest l new) (sym more)
-    (and_more (hinted_picks hint (map f (take i xs))) (hinted_picks hint (f (slice_index_or xs i d) ∷ [])) picks new have step)
+    let whole = ap (λ l. old ++ l) more ∙ sym (append_assoc old (hinted_picks hint (map f (take i xs))) one) in
+    subst (λ l. HaveLatest l new) (sym whole) (and_more (old ++ hinted_picks hint (map f (take i xs))) one picks new have step)
+
+-- what was found of no spans more
+pub none_more : (hint : Hint) (picks : List Pick) → HaveLatest (picks ++ hinted_picks hint []) picks
+none_more hint picks = subst (λ l. HaveLatest l picks) (sym (append-nil picks)) (itself picks)

@@ -1,3 +1,4 @@
 pub mod HintLaws
 mod PickLaws
 pub mod Latest
+mod Stripes

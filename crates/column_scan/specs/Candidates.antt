@@ -61,6 +61,10 @@ pub record ArePicks (hint : Hint) (spans : List Span) (picks : List Pick) : Type
   pub latest : HaveLatest (hinted_picks hint spans) picks
   pub ascending : Ascend picks
 
+-- the ids of exactly those traces, each once, in ascending order
+abbrev pub AreCandidates : Hint → List Span → List TraceId → Type 0
+AreCandidates hint spans ids = (picks : List Pick) × ArePicks hint spans picks × (ids ≡ map (λ p. p.trace) picks)
+
 -- ---- the law that a search rests on
 
 -- Whatever a query answers of first occurrences, its trace is picked among all rows, and doesn't start after the pick's moment.

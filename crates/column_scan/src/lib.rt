@@ -5,11 +5,13 @@
 //! itself, and no others are looked at.
 #![tactic(auto)]
 
+mod blocks;
 mod hints;
 mod laws;
 mod picks;
 mod query;
 
+pub use blocks::{candidates, picks_of_block};
 pub use hints::Hint;
 pub use laws::{answered_is_picked, answers_hold_the_text};
 pub use picks::{Pick, in_order, picks_of_spans};

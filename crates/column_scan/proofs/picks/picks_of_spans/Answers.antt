@@ -6,7 +6,7 @@ use Rattle.column_scan.proofs.picks.picks_of_spans.Goals as goal
 
 pub loop-span-preserved : goal.loop-span-preserved
 loop-span-preserved c =
-    hinted_step (λ s. s.now) c.args.hint.now c.args.spans.now c.loop-span.picks.items c.add_hinted.new.picks.items c.loop-span.span-index _ (omega arith)
+    hinted_step (λ s. s.now) c.args.hint.now c.args.spans.now [] c.loop-span.picks.items c.add_hinted.new.picks.items c.loop-span.span-index _ (omega arith)
     c.loop-span.invariant (subst (λ s. HaveLatest (c.loop-span.picks.items ++ hinted_picks c.args.hint.now (s.now ∷ [])) c.add_hinted.new.picks.items) c.span-item.is c.in_ok-add_hinted.ensures)
 
 pub returns : goal.returns
