@@ -56,7 +56,7 @@ sized extended part rows are is =
     let whole : length part ≡ length text + fill_size (length text) = ap length is ∙ length-append text fill ∙ ap (λ (k : ℕ). length text + k) (length-replicate {A = ℕ} (fill_size (length text)) 0) in
     record { size = (n, ahead (length (fixed64_bytes n)) start); read = first; pages = omega (arith, whole, long) }
 
-stripe_again : (form : ℕ) (entry : StripeInfo) (last : Option Row) (part : List ℕ) (rows : List Row) → StripeHasEntry form entry part rows → follow last rows ≡ true → stripe_of form entry last part ≡ Ok rows
+pub stripe_again : (form : ℕ) (entry : StripeInfo) (last : Option Row) (part : List ℕ) (rows : List Row) → StripeHasEntry form entry part rows → follow last rows ≡ true → stripe_of form entry last part ≡ Ok rows
 unfolding stripe_of
 stripe_again form entry last part rows has behind =
     let extended = is_extended form in

@@ -167,6 +167,15 @@ ends_within id (x ∷ rows) = (elim (is_same id x.span.trace) as (λ b. is_same 
       omega (arith, place, count_other id x rows t, ends_within id rows)
 ]) refl
 
+-- a trace that is there has a row
+pub some_there : (id : TraceId) (rows : List Row) → list_any (is_same id) (ids_of rows) ≡ true → 0 < count_by (is_same id) (ids_of rows)
+unfolding how_many
+some_there id [] some = cc
+some_there id (x ∷ rows) some = (elim (is_same id x.span.trace) as (λ b. is_same id x.span.trace ≡ b → 0 < count_by (is_same id) (ids_of (x ∷ rows))) [
+  | true ↦ λ t. omega (arith, count_same id x rows t)
+  | false ↦ λ t. omega (arith, count_other id x rows t, some_there id rows (sym (ap (λ (b : Bool). b || list_any (is_same id) (ids_of rows)) t) ∙ some))
+]) refl
+
 -- no row of the trace is there
 pub none_there : (id : TraceId) (rows : List Row) → list_any (is_same id) (ids_of rows) ≡ false → rows_of_trace id rows ≡ []
 none_there id [] none = refl
@@ -183,6 +192,24 @@ any_there id (x ∷ rows) some = (elim (is_of_trace id x) as (λ b. is_of_trace 
       let same : length (rows_of_trace id (x ∷ rows)) ≡ length (rows_of_trace id rows) = rw t refl in
       ap (λ (b : Bool). b || list_any (is_of_trace id) rows) t ∙ any_there id rows (omega (arith, some, same))
 ]) refl
+
+again : (id : TraceId) (rows : List Row) → rows_of_trace id (rows_of_trace id rows) ≡ rows_of_trace id rows
+again id [] = refl
+again id (x ∷ rows) = (elim (is_of_trace id x) as (λ b. is_of_trace id x ≡ b → rows_of_trace id (rows_of_trace id (x ∷ rows)) ≡ rows_of_trace id (x ∷ rows)) [
+  | true ↦ λ t.
+      let one : rows_of_trace id (x ∷ rows) ≡ x ∷ rows_of_trace id rows = rw t refl in
+      let two : rows_of_trace id (x ∷ rows_of_trace id rows) ≡ x ∷ rows_of_trace id (rows_of_trace id rows) = rw t refl in
+      ap (rows_of_trace id) one ∙ two ∙ ap (λ (l : List Row). x ∷ l) (again id rows) ∙ sym one
+  | false ↦ λ t.
+      let one : rows_of_trace id (x ∷ rows) ≡ rows_of_trace id rows = rw t refl in
+      ap (rows_of_trace id) one ∙ again id rows ∙ sym one
+]) refl
+
+-- rows of the trace, and more of them
+pub more_of_trace : (id : TraceId) (old more new : List Row) → new ≡ old ++ rows_of_trace id more → rows_of_trace id old ≡ old → rows_of_trace id new ≡ new
+more_of_trace id old more new is all =
+    ap (rows_of_trace id) is ∙ filter-append (is_of_trace id) old (rows_of_trace id more) ∙ ap (λ (l : List Row). l ++ rows_of_trace id (rows_of_trace id more)) all
+    ∙ ap (λ (l : List Row). old ++ l) (again id more) ∙ sym is
 
 -- ---- parts of the rows
 
@@ -204,13 +231,13 @@ module _ (id : TraceId) (rows : List Row) (up : AreAscending (ids_of rows)) wher
       ∙ take_all (n - position_or_len (is_same id) (ids_of rows)) (rows_of_trace id rows) (omega (arith, high, counted id rows))
 
   -- a part that begins before its last row and ends after its first one has one of its rows
-  pub some_within : (m n : ℕ) → m < position_or_len (is_same id) (ids_of rows) + count_by (is_same id) (ids_of rows) → position_or_len (is_same id) (ids_of rows) < m + n → 0 < n → list_any (is_of_trace id) (take n (drop m rows)) ≡ true
+  pub some_within : (m n : ℕ) → m < position_or_len (is_same id) (ids_of rows) + count_by (is_same id) (ids_of rows) → position_or_len (is_same id) (ids_of rows) < m + n → 0 < count_by (is_same id) (ids_of rows) → 0 < n → list_any (is_of_trace id) (take n (drop m rows)) ≡ true
   unfolding how_many
-  some_within m n low high wide =
+  some_within m n low high some wide =
       let all = rows_of_trace id rows in
       let place = position_or_len (is_same id) (ids_of rows) in
       let one : length (rows_of_trace id (take m rows)) ≡ min (m - place) (length all) = ap length (cut id m rows (up_from rows up)) ∙ length-take (m - place) all in
       let two : length (rows_of_trace id (take (m + n) rows)) ≡ min (m + n - place) (length all) = ap length (cut id (m + n) rows (up_from rows up)) ∙ length-take (m + n - place) all in
       let sum : length (rows_of_trace id (take (m + n) rows)) ≡ length (rows_of_trace id (take m rows)) + length (rows_of_trace id (take n (drop m rows))) =
       ap length (one_part id m n rows) ∙ length-append (rows_of_trace id (take m rows)) (rows_of_trace id (take n (drop m rows))) in
-      any_there id (take n (drop m rows)) (omega (arith, one, two, sum, low, high, wide, counted id rows))
+      any_there id (take n (drop m rows)) (omega (arith, one, two, sum, low, high, some, wide, counted id rows))

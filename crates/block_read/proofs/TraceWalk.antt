@@ -1,10 +1,10 @@
 -- Stripe by stripe, the rows of a trace are found.
-use Rattle.std.proofs.Common.{◌≡◌, ◌⊎◌, inl, inr, ℕ, zero, suc, ◌+◌, ◌*◌, ◌/◌, ◌<◌, ◌≤◌, Bool, true, false, List, [], ◌∷◌, ◌++◌, length, take, drop, get_or, Option, None, Some, refl, sym, ◌∙◌, ap, subst, arith, if◌then◌else◌}
+use Rattle.std.proofs.Common.{◌≡◌, ◌⊎◌, inl, inr, ℕ, zero, suc, ◌+◌, ◌*◌, ◌/◌, ◌<◌, ◌≤◌, Bool, true, false, List, [], ◌∷◌, ◌++◌, length, take, drop, get_or, replicate, Result, Ok, Err, Option, None, Some, refl, sym, ◌∙◌, ap, subst, arith, if◌then◌else◌}
 use Rattle.std.specs.Prelude.{slice_get}
 use Rattle.std.specs.Int.{div_ceil}
-use Rattle.std.specs.List.{AllByRecursion, count_by, list_any, position_or_len}
+use Rattle.std.specs.List.{count_by, list_any, position_or_len}
 use Rattle.std.proofs.lemmas.Bool.{cases_lt}
-use Rattle.std.proofs.lemmas.List.{drop_all, drop_more}
+use Rattle.std.proofs.lemmas.List.{drop_all, drop_more, length-take, take-append-le}
 use Rattle.std.proofs.lemmas.Option.{slice_get-get_or}
 use Rattle.span_types.specs.declared.ids.TraceId.{TraceId}
 use Rattle.span_types.specs.declared.spans.Row.{Row}
@@ -13,33 +13,65 @@ use Rattle.block_info.specs.declared.info.StripeInfo.{StripeInfo}
 use Rattle.block_info.specs.InfoParts.{InfoParts}
 use Rattle.block_format.specs.Blocks.{StripeHasEntry, ids_of}
 use Rattle.block_index.specs.Index.{AreAscending, is_same}
-use Rattle.block_read.specs.Answers.{RoseAtMost}
-use Rattle.block_read.specs.Files.{part_of}
-use Rattle.block_read.specs.Lookups.{HasTrace, pages_with, place_of}
+use Rattle.block_read.specs.Answers.{is_fault}
+use Rattle.block_read.specs.BlockReadings.{stripe_of}
+use Rattle.block_read.specs.Files.{first_bytes, part_of}
+use Rattle.block_read.specs.Lookups.{Adds, Finds, HasTrace, pages_with, place_of}
+use Rattle.block_read.specs.declared.error.ReadError.{ReadError}
+use Rattle.block_read.specs.declared.error.ReadError.TheVariants.{Fault, NotBlock, Memory}
+use Rattle.block_read.proofs.StripesBoth.{stripe_again}
 use Rattle.block_read.proofs.DescribedLaws.{few_rows, index_stands, stripe_share, stripes_stand}
-use Rattle.block_read.proofs.TogetherLaws.{all_within, ends_within, none_before, one_part, some_within}
+use Rattle.block_read.proofs.TogetherLaws.{all_within, ends_within, none_before, one_part, some_there, some_within}
 
--- a stripe that the information names is near enough
-pub near_stripe : (stripes : List StripeInfo) (i : ℕ) (d : StripeInfo) → AllByRecursion (λ (s : StripeInfo). s.page + s.pages < 2 ^ 52) stripes → i < length stripes → (get_or stripes i d).page + (get_or stripes i d).pages < 2 ^ 52
-near_stripe [] i d all low = absurd (omega (arith, low))
-near_stripe (s ∷ stripes) zero d all low = all.0
-near_stripe (s ∷ stripes) (suc i) d all low = near_stripe stripes i d all.1 (omega (arith, low))
+-- ---- one stripe
 
-record IsPlace (id : TraceId) (ids : List TraceId) (first count : ℕ) : Type 0 where
-  first_is : first ≡ position_or_len (is_same id) ids
-  count_is : count ≡ count_by (is_same id) ids
+part_whole : (held : List ℕ) (page pages : ℕ) → length (part_of page pages held) ≡ 4096 * pages → first_bytes (4096 * pages) (drop (4096 * page) held) ≡ part_of page pages held
+part_whole held page pages size =
+    take-append-le (4096 * pages) (drop (4096 * page) held) (replicate (4096 * pages) 0) (omega (arith, size, length-take (4096 * pages) (drop (4096 * page) held)))
 
-same_first : (a b c d : ℕ) → (let p : Option (ℕ × ℕ) = Some (a, b) in let q : Option (ℕ × ℕ) = Some (c, d) in p ≡ q) → a ≡ c
-same_first a b c d e = cc
+-- a stripe's pages are read as its rows
+pub stripe_told : (form : ℕ) (entry : StripeInfo) (held bytes : List ℕ) (rows : List Row) → StripeHasEntry form entry (part_of entry.page entry.pages held) rows → bytes ≡ first_bytes (4096 * entry.pages) (drop (4096 * entry.page) held)
+    → stripe_of form entry None bytes ≡ Ok rows
+stripe_told form entry held bytes rows has is =
+    ap (stripe_of form entry None) (is ∙ part_whole held entry.page entry.pages has.pages) ∙ stripe_again form entry None (part_of entry.page entry.pages held) rows has refl
 
-same_second : (a b c d : ℕ) → (let p : Option (ℕ × ℕ) = Some (a, b) in let q : Option (ℕ × ℕ) = Some (c, d) in p ≡ q) → b ≡ d
-same_second a b c d e = cc
+-- ---- what is answered of an error
 
-place_parts : (id : TraceId) (ids : List TraceId) (first count : ℕ) → Some (first, count) ≡ place_of id ids → IsPlace id ids first count
-place_parts id ids first count is = (elim (list_any (is_same id) ids) as (λ b. list_any (is_same id) ids ≡ b → IsPlace id ids first count) [
+fault_same : (A B : Type 0) (e : ReadError) → (let one : Result A ReadError = Err e in let two : Result B ReadError = Err e in is_fault one ≡ is_fault two)
+fault_same A B Fault = refl
+fault_same A B (NotBlock file at) = refl
+fault_same A B Memory = refl
+
+-- an error that is passed on
+pub fault_passed : {A B : Type 0} (one : Result A ReadError) (two : Result B ReadError) (e : ReadError) → one ≡ Err e → two ≡ Err e → is_fault one ≡ is_fault two
+fault_passed {A} {B} one two e one_is two_is = ap is_fault one_is ∙ fault_same A B e ∙ sym (ap is_fault two_is)
+
+adds_finds : (A B : Type 0) (wanted : B) (more old new : List Row) (e : ReadError) → (let one : Result A ReadError = Err e in let two : Result B ReadError = Err e in Adds more old new one → Finds wanted two)
+adds_finds A B wanted more old new Fault adds = tt
+adds_finds A B wanted more old new (NotBlock file at) adds = adds
+adds_finds A B wanted more old new Memory adds = tt
+
+pub found_passed : {A B : Type 0} (wanted : B) (more old new : List Row) (one : Result A ReadError) (two : Result B ReadError) (e : ReadError) → one ≡ Err e → two ≡ Err e → Adds more old new one → Finds wanted two
+found_passed {A} {B} wanted more old new one two e one_is two_is adds =
+    subst (Finds wanted) (sym two_is) (adds_finds A B wanted more old new e (subst (Adds more old new) one_is adds))
+
+-- ---- the place of a trace
+
+record IsPlace (id : TraceId) (rows : List Row) (first count : ℕ) : Type 0 where
+  first_is : first ≡ position_or_len (is_same id) (ids_of rows)
+  count_is : count ≡ count_by (is_same id) (ids_of rows)
+  some : 0 < count_by (is_same id) (ids_of rows)
+
+one_of : Option (ℕ × ℕ) → ℕ × ℕ
+one_of None = (0, 0)
+one_of (Some place) = place
+
+place_parts : (id : TraceId) (rows : List Row) (first count : ℕ) → Some (first, count) ≡ place_of id (ids_of rows) → IsPlace id rows first count
+unfolding one_of
+place_parts id rows first count is = (elim (list_any (is_same id) (ids_of rows)) as (λ b. list_any (is_same id) (ids_of rows) ≡ b → IsPlace id rows first count) [
   | true ↦ λ t.
-      let same = rw t at is in
-      record { first_is = same_first first count (position_or_len (is_same id) ids) (count_by (is_same id) ids) same; count_is = same_second first count (position_or_len (is_same id) ids) (count_by (is_same id) ids) same }
+      let both : Some (first, count) ≡ Some (position_or_len (is_same id) (ids_of rows), count_by (is_same id) (ids_of rows)) = rw t at is in
+      record { first_is = ap (λ (o : Option (ℕ × ℕ)). (one_of o).0) both; count_is = ap (λ (o : Option (ℕ × ℕ)). (one_of o).1) both; some = some_there id rows t }
   | false ↦ λ t. let bad = rw t at is in cc
 ]) refl
 
@@ -47,8 +79,8 @@ module _ (info : InfoParts) (bytes : List ℕ) (id : TraceId) (first count : ℕ
   ascending : AreAscending (ids_of rows)
   ascending = (index_stands info bytes rows has.described).ascending
 
-  placed : IsPlace id (ids_of rows) first count
-  placed = place_parts id (ids_of rows) first count has.placed
+  placed : IsPlace id rows first count
+  placed = place_parts id rows first count has.placed
 
   -- all stripes that are named are there
   pub stripes_there : (to : ℕ) → to ≡ div_ceil (first + count) 256 → to ≤ length info.stripes
@@ -85,6 +117,14 @@ module _ (info : InfoParts) (bytes : List ℕ) (id : TraceId) (first count : ℕ
     has_entry = subst (StripeHasEntry info.form stripe (part_of stripe.page stripe.pages bytes)) (stripe_share info bytes rows has.described i stripe there).here
         (stripes_stand info bytes rows has.described i stripe there)
 
+    -- the same of stripes and bytes that are these
+    pub entry_there : (form : ℕ) (stripes : List StripeInfo) (now : List ℕ) → form ≡ info.form → stripes ≡ info.stripes → now ≡ bytes
+        → StripeHasEntry form (get_or stripes i d) (part_of (get_or stripes i d).page (get_or stripes i d).pages now) (take 256 (drop (256 * i) rows))
+    entry_there form stripes now form_is same bytes_same =
+        subst (λ (f : ℕ). StripeHasEntry f (get_or stripes i d) (part_of (get_or stripes i d).page (get_or stripes i d).pages now) (take 256 (drop (256 * i) rows))) (sym form_is)
+        (subst (λ (l : List StripeInfo). StripeHasEntry info.form (get_or l i d) (part_of (get_or l i d).page (get_or l i d).pages now) (take 256 (drop (256 * i) rows))) (sym same)
+        (subst (λ (b : List ℕ). StripeHasEntry info.form stripe (part_of stripe.page stripe.pages b) (take 256 (drop (256 * i) rows))) (sym bytes_same) has_entry))
+
     -- its pages count if it has a row of the trace
     one_stripe : pages_with id (drop i info.stripes) (drop (256 * i) rows) ≡ (if list_any (is_of_trace id) (take 256 (drop (256 * i) rows)) then stripe.pages else 0) + pages_with id (drop (i + 1) info.stripes) (drop (256 * (i + 1)) rows)
     one_stripe =
@@ -100,7 +140,7 @@ module _ (info : InfoParts) (bytes : List ℕ) (id : TraceId) (first count : ℕ
     pages_more from to from_is to_is begun left =
         let one = placed.first_is in
         let two = placed.count_is in
-        let held = some_within id rows ascending (256 * i) 256 (omega (arith, one, two, to_is, left)) (omega (arith, one, from_is, begun)) (omega arith) in
+        let held = some_within id rows ascending (256 * i) 256 (omega (arith, one, two, to_is, left)) (omega (arith, one, from_is, begun)) placed.some (omega arith) in
         one_stripe ∙ ap (λ (b : Bool). (if b then stripe.pages else 0) + pages_with id (drop (i + 1) info.stripes) (drop (256 * (i + 1)) rows)) held
 
   abbrev no_stripe : StripeInfo
