@@ -1,10 +1,11 @@
 -- The stripes of a block that are read, and their rows.
-use Rattle.std.proofs.Common.{◌≡◌, ℕ, zero, suc, ◌+◌, ◌*◌, ◌<◌, ◌≤◌, Bool, true, false, not, ◌&&◌, List, [], ◌∷◌, ◌++◌, length, map, take, drop, filter, Option, None, Some, refl, sym, ◌∙◌, ap, subst, arith, if◌then◌else◌, nat_le, nat_lt, slice_index_or, get_or}
+use Rattle.std.proofs.Common.{◌≡◌, ℕ, zero, suc, ◌+◌, ◌*◌, ◌<◌, ◌≤◌, Bool, true, false, not, ◌&&◌, List, [], ◌∷◌, ◌++◌, length, map, take, drop, filter, Option, None, Some, refl, sym, ◌∙◌, ap, subst, arith, if◌then◌else◌, nat_le, nat_lt, slice_index_or, get_or, Result, Ok, Err}
 use Rattle.std.specs.Prelude.{slice_get, sum_by}
 use Rattle.std.specs.List.{AllByRecursion}
 use Rattle.std.proofs.lemmas.Bool.{leb-false, leb-true, ltb-false, ltb-true}
 use Rattle.std.proofs.lemmas.List.{append-nil, map-append, take_all}
 use Rattle.std.proofs.Math.Seq.{take-add}
+use Rattle.std.proofs.lemmas.List.Sums.{sum_by-cons, sum_by_more}
 use Rattle.std.proofs.lemmas.Option.{slice_get-get_or}
 use Rattle.moment_range.specs.declared.range.Range.{Range}
 use Rattle.moment_range.specs.Ranges.{is_before, is_within}
@@ -14,11 +15,13 @@ use Rattle.block_info.specs.declared.info.StripeInfo.{StripeInfo}
 use Rattle.block_info.specs.InfoParts.{InfoParts}
 use Rattle.block_format.specs.Blocks.{BlockHasInfo, StripeHasEntry}
 use Rattle.block_read.specs.Files.{part_of}
+use Rattle.block_read.specs.declared.error.ReadError.{ReadError}
+use Rattle.block_read.specs.declared.error.ReadError.TheVariants.{Fault, NotBlock, Memory}
 use Rattle.block_read.proofs.DescribedLaws.{few_rows, stripe_share, stripes_stand}
 use Rattle.column_scan.specs.declared.hints.Hint.{Hint}
 use Rattle.column_scan.specs.declared.picks.Pick.{Pick}
 use Rattle.column_scan.specs.Candidates.{HaveLatest, hinted_by, hinted_picks, is_hinted, pick_of, spans_of}
-use Rattle.column_scan.specs.Scans.{may_scan, meets, scanned_by}
+use Rattle.column_scan.specs.Scans.{FindsFit, may_scan, meets, scanned_by, scanned_pages}
 use Rattle.column_scan.proofs.Latest.{and_more, hinted_append, itself}
 
 -- ---- a stripe that is left out
@@ -96,3 +99,34 @@ pub all_stripes : (hint : Hint) (info : InfoParts) (bytes : List ℕ) (rows : Li
 all_stripes hint info bytes rows picks i has ended have =
     let few = few_rows info bytes rows has in
     subst (λ l. HaveLatest (hinted_picks hint (spans_of l)) picks) (take_all (256 * i) rows (omega (arith, few, ended))) have
+
+-- the same of the bytes, the stripes and the form as the code has them
+pub entry_there : (info : InfoParts) (bytes : List ℕ) (rows : List Row) → BlockHasInfo info bytes rows → (i : ℕ) (d : StripeInfo) → i < length info.stripes
+    → (form : ℕ) (stripes : List StripeInfo) (now : List ℕ) → form ≡ info.form → stripes ≡ info.stripes → now ≡ bytes
+    → StripeHasEntry form (get_or stripes i d) (part_of (get_or stripes i d).page (get_or stripes i d).pages now) (take 256 (drop (256 * i) rows))
+entry_there info bytes rows has i d low form stripes now form_is same bytes_same =
+    subst (λ f. StripeHasEntry f (get_or stripes i d) (part_of (get_or stripes i d).page (get_or stripes i d).pages now) (take 256 (drop (256 * i) rows))) (sym form_is)
+    (subst (λ l. StripeHasEntry info.form (get_or l i d) (part_of (get_or l i d).page (get_or l i d).pages now) (take 256 (drop (256 * i) rows))) (sym same)
+    (subst (λ b. StripeHasEntry info.form (get_or info.stripes i d) (part_of (get_or info.stripes i d).page (get_or info.stripes i d).pages b) (take 256 (drop (256 * i) rows))) (sym bytes_same)
+    (has_entry info bytes rows has i d low)))
+
+-- ---- pages
+
+pub pages_more : (hint : Hint) (stripes items : List StripeInfo) (i : ℕ) (d : StripeInfo) → i < length stripes → items ≡ stripes
+    → scanned_pages hint (take (i + 1) stripes) ≡ scanned_pages hint (take i stripes) + scanned_pages hint (get_or items i d ∷ [])
+pages_more hint stripes items i d low same =
+    let pages = λ (stripe : StripeInfo). if may_scan hint stripe then stripe.pages else 0 in
+    let one = sum_by-cons pages (get_or stripes i d) [] in
+    let more : scanned_pages hint (take (i + 1) stripes) ≡ scanned_pages hint (take i stripes) + scanned_pages hint (get_or stripes i d ∷ []) = omega (arith, sum_by_more pages stripes i d low, one) in
+    subst (λ l. scanned_pages hint (take (i + 1) stripes) ≡ scanned_pages hint (take i stripes) + scanned_pages hint (get_or l i d ∷ [])) (sym same) more
+
+-- ---- errors
+
+fits_of_error : (A B : Type 0) (fits : A → Type 0) (other : B → Type 0) (e : ReadError) → (let one : Result A ReadError = Err e in let two : Result B ReadError = Err e in FindsFit fits one → FindsFit other two)
+fits_of_error A B fits other Fault found = tt
+fits_of_error A B fits other (NotBlock file at) found = found
+fits_of_error A B fits other Memory found = tt
+
+pub fits_passed : {A B : Type 0} (fits : A → Type 0) (other : B → Type 0) (one : Result A ReadError) (two : Result B ReadError) (e : ReadError) → one ≡ Err e → two ≡ Err e → FindsFit fits one → FindsFit other two
+fits_passed {A} {B} fits other one two e one_is two_is found =
+    subst (FindsFit other) (sym two_is) (fits_of_error A B fits other e (subst (FindsFit fits) one_is found))
