@@ -75,12 +75,12 @@ insert_same before x (y ∷ ys) = elim (before y x) as (λ b. IsPermutation (x �
 ]
 
 -- A list with the same elements that is sorted.
-record Sorted {A : Type 0} (before : A → A → Bool) (xs : List A) : Type 0 where
-  all : List A
-  same : IsPermutation xs all
-  pairs : Pairs (NotBefore before) all
+pub record Sorted {A : Type 0} (before : A → A → Bool) (xs : List A) : Type 0 where
+  pub all : List A
+  pub same : IsPermutation xs all
+  pub pairs : Pairs (NotBefore before) all
 
-sorted_of : {A : Type 0} (before : A → A → Bool) → IsStrictWeakOrder before → (xs : List A) → Sorted before xs
+pub sorted_of : {A : Type 0} (before : A → A → Bool) → IsStrictWeakOrder before → (xs : List A) → Sorted before xs
 sorted_of before order [] = record { all = []; same = IsPermutation-refl []; pairs = tt }
 sorted_of before order (x ∷ xs) =
     let rest = sorted_of before order xs in

@@ -1,4 +1,5 @@
 pub mod Answers
+pub mod Best
 pub mod InRange
 pub mod Parts
 pub mod Threads

@@ -14,7 +14,9 @@ mod threads;
 mod traces;
 
 pub use bounds::Bounds;
-pub use laws::{first_of_parts, one_answer_each, parts_answer_the_whole};
+pub use laws::{
+    first_of_parts, first_stays, one_answer_each, parts_answer_the_whole, picked_answer_the_whole,
+};
 pub use ranking::rank_traces;
 pub use results::first_results;
 pub use search::answer;
