@@ -1,15 +1,21 @@
 -- The best results stay.
-use Rattle.std.proofs.Common.{◌≡◌, ℕ, ◌+◌, ◌<◌, List, ◌++◌, Bool, false, sym, ◌∙◌, ap, subst, arith, All, length, take, drop, slice_index_or, append_assoc}
+use Rattle.std.proofs.Common.{◌≡◌, ◌⊎◌, inl, inr, ℕ, ◌+◌, ◌-◌, ◌<◌, ◌≤◌, ◌==◌, List, [], ◌∷◌, ◌++◌, Bool, true, false, Option, Some, nat_lt, refl, sym, ◌∙◌, ap, subst, arith, All, length, take, drop, slice_index_or, append_assoc}
 use Rattle.std.specs.Cmp.{IsStrictWeakOrder}
 use Rattle.std.specs.List.{AllByRecursion}
-use Rattle.std.specs.List.Sorted.{IsPermutation}
+use Rattle.std.specs.List.Sorted.{IsPermutation, IsSorted}
+use Rattle.std.specs.Prelude.{slice_get}
 use Rattle.std.specs.Ordering.{is_lt}
+use Rattle.std.proofs.lemmas.Bool.{and_parts, cases_lt, eq-eqb, eqb-true, le-ltb, lt-ltb, ltb-true}
+use Rattle.std.proofs.lemmas.Option.{slice_get-get_or}
 use Rattle.std.proofs.lemmas.List.{get_or-drop, get_or-take, get_or_default, length-drop, length-take, take-append-drop, take-append-le, take_all}
 use Rattle.std.proofs.lemmas.List.Elements.{All-append, All-from_recursion, recursion_from_All}
 use Rattle.std.proofs.lemmas.List.Sorted.{All-permutation, IsPermutation-append_left, IsPermutation-append_right, IsPermutation-trans, ranks_by, sorted_far}
 use Rattle.spanset_eval.specs.declared.results.TraceResult.{TraceResult}
 use Rattle.spanset_eval.specs.Ranking.{AreFirst, rank_cmp}
+use Rattle.span_types.specs.Orders.{trace_cmp}
+use Rattle.span_types.specs.declared.ids.TraceId.{TraceId}
 use Rattle.search_answer.specs.Best.{FirstStays, NoneGoesBefore}
+use Rattle.search_answer.specs.Keeping.{stands_before}
 use Rattle.search_answer.proofs.RankLaws.{rank_total}
 use Rattle.search_answer.proofs.Sorting.{NotBefore, Pairs, pairs_append, pairs_at, sorted_of, sorted_pairs}
 
@@ -70,3 +76,47 @@ stays limit results others best are full after_best =
       sorted = λ k d low high. pairs_at (NotBefore before) (best ++ others_in_order.all) pairs k (k + 1) d (omega arith) high;
       first_are = sym (take-append-le limit best others_in_order.all (omega (arith, full)) ∙ take_all limit best (omega (arith, full)));
     }
+
+-- ---- what is kept out
+
+less_by_start : (r last : TraceResult) → r.start < last.start → is_lt (rank_cmp last r) ≡ true
+less_by_start r last low = rw (lt-ltb r.start last.start low) refl
+
+less_by_trace : (r last : TraceResult) → r.start ≡ last.start → is_lt (trace_cmp last.trace r.trace) ≡ true → is_lt (rank_cmp last r) ≡ true
+less_by_trace r last same low =
+    let none : nat_lt r.start last.start ≡ false = le-ltb r.start last.start (omega (arith, same)) in
+    let equal : (r.start == last.start) ≡ true = eq-eqb r.start last.start same in
+    rw (none, equal) low
+
+ranks_before : (trace : TraceId) (latest : ℕ) (last r : TraceResult) → stands_before trace latest last ≡ true → r.trace ≡ trace → r.start ≤ latest → is_lt (rank_cmp last r) ≡ true
+ranks_before trace latest last r stands same early = (elim (nat_lt latest last.start) as (λ b. nat_lt latest last.start ≡ b → is_lt (rank_cmp last r) ≡ true) [
+  | true ↦ λ t. less_by_start r last (omega (arith, early, ltb-true latest last.start t))
+  | false ↦ λ t.
+      let both = and_parts (last.start == latest) (is_lt (trace_cmp last.trace trace)) (rw t at stands) in
+      let equal : last.start ≡ latest = eqb-true last.start latest both.0 in
+      let low : is_lt (trace_cmp last.trace r.trace) ≡ true = subst (λ z. is_lt (trace_cmp last.trace z) ≡ true) (sym same) both.1 in
+      elim (cases_lt r.start last.start) [
+        | inl below ↦ less_by_start r last below
+        | inr above ↦ less_by_trace r last (omega (arith, early, equal, above)) low
+      ]
+]) refl
+
+some_there : (xs : List TraceResult) (i : ℕ) (x : TraceResult) → slice_get xs i ≡ Some x → 0 < length xs
+some_there [] i x is = cc
+some_there (y ∷ ys) i x is = omega arith
+
+-- the last of the best stands before the result, so each does
+pub kept_out : (kept : List TraceResult) (trace : TraceId) (latest : ℕ) (last r : TraceResult) → IsSorted rank_cmp kept → slice_get kept (length kept - 1) ≡ Some last
+    → stands_before trace latest last ≡ true → r.trace ≡ trace → r.start ≤ latest → NoneGoesBefore kept (r ∷ [])
+kept_out kept trace latest last r sorted is stands same early =
+    let some = some_there kept (length kept - 1) last is in
+    let before = λ (a b : TraceResult). is_lt (rank_cmp a b) in
+    let order = ranks_by rank_total (λ (a : TraceResult). a) in
+    let later : is_lt (rank_cmp r last) ≡ false = order.one_way last r (ranks_before trace latest last r stands same early) in
+    recursion_from_All (λ x. AllByRecursion (λ s. is_lt (rank_cmp s x) ≡ false) (r ∷ [])) kept (λ k d low.
+    let there : slice_index_or kept (length kept - 1) d ≡ last = inside (slice_index_or kept (length kept - 1) d) last (sym (slice_get-get_or kept (length kept - 1) d (omega (arith, some))) ∙ is) in
+    let far : is_lt (rank_cmp (slice_index_or kept (length kept - 1) d) (slice_index_or kept k d)) ≡ false = sorted_far before order kept sorted k (length kept - 1) d (omega (arith, low)) (omega (arith, some)) in
+    (order.chain r last (slice_index_or kept k d) later (subst (λ z. is_lt (rank_cmp z (slice_index_or kept k d)) ≡ false) there far), tt))
+  where
+    inside : (a b : TraceResult) → Some a ≡ Some b → a ≡ b
+    inside a b e = cc

@@ -5,6 +5,7 @@
 //! ones; `laws` says how the parts' answers are joined.
 #![tactic(auto)]
 
+mod best;
 mod bounds;
 mod laws;
 mod ranking;
@@ -13,6 +14,7 @@ mod search;
 mod threads;
 mod traces;
 
+pub use best::Best;
 pub use bounds::Bounds;
 pub use laws::{
     first_of_parts, first_stays, one_answer_each, parts_answer_the_whole, picked_answer_the_whole,
