@@ -1,8 +1,9 @@
 //! The hint of a query.
 
-ghost use Rattle.std.specs.Prelude.{◌≡◌, IfOk, IfSome, map};
-ghost use Rattle.std.specs.Option.{option_map};
+ghost use Rattle.std.specs.Prelude.{◌≡◌, ◌<◌, IfOk, MatchOption};
+ghost use Rattle.std.specs.Option.{option_map, option_or};
 ghost use Rattle.traceql_syntax.specs.Trees.{placed_option, query_tree, set_tree, tree};
+ghost use Rattle.traceql_value.specs.Chains.{tree_size};
 ghost use Rattle.column_scan.specs.Candidates.{hint_of};
 ghost use Rattle.column_scan.specs.Hints.{asked_text, both_text, chain_text, field_in, filter_text, is_conjunction, is_equality, literal_in, member_text, set_text, tells_text, text_of};
 
@@ -53,18 +54,41 @@ fn filter_text(condition: &Option<Operand>) -> Option<&Text>
     }
 }
 
-// The first text among the members of a chain of `&&`, which groups from the left.
+// The first text among the members of a chain of `&&`, which groups from the left. It needs no stack.
 fn chain_text(expr: &FieldExpr) -> Option<&Text>
     ensures { option_map (λ t. t.now) result ≡ chain_text (tree expr.now) }
+{
+    let mut first = expr;
+    let mut found = None;
+    'down: while let Some((left, right)) = sides(first) {
+        found = first_of(member_text(right), found);
+        first = left;
+    }
+    first_of(member_text(first), found)
+}
+
+// The two sides of a `&&`: a chain up to it, and the member after it.
+fn sides(expr: &FieldExpr) -> Option<(&FieldExpr, &FieldExpr)>
+    ensures { MatchOption result (chain_text (tree expr.now) ≡ member_text (tree expr.now))
+        (λ p. (chain_text (tree expr.now) ≡ option_or (chain_text (tree p.0.now)) (member_text (tree p.1.now)))
+        × (tree_size (tree p.0.now) < tree_size (tree expr.now))) }
 {
     match expr {
         FieldExpr::Binary {
             op, left, right, ..
-        } if is_conjunction(*op) => match chain_text(&left.expr) {
-            Some(text) => Some(text),
-            None => member_text(&right.expr),
-        },
-        _ => member_text(expr),
+        } if is_conjunction(*op) => Some((&left.expr, &right.expr)),
+        _ => None,
+    }
+}
+
+// The first of two texts that is there.
+fn first_of<'q>(text: Option<&'q Text>, other: Option<&'q Text>) -> Option<&'q Text>
+    ensures { option_map (λ t. t.now) result
+        ≡ option_or (option_map (λ t. t.now) text.entry) (option_map (λ t. t.now) other.entry) }
+{
+    match text {
+        Some(_) => text,
+        None => other,
     }
 }
 
