@@ -1,16 +1,15 @@
 -- Where the parts of a described block stand.
-use Rattle.std.proofs.Common.{◌≡◌, ℕ, zero, suc, ◌+◌, ◌-◌, ◌*◌, ◌<◌, ◌≤◌, ◌==◌, ◌&&◌, Bool, true, false, List, [], ◌∷◌, ◌++◌, length, map, take, drop, replicate, Option, None, Some, refl, sym, ◌∙◌, ap, ap₂, subst, arith}
+use Rattle.std.proofs.Common.{◌≡◌, ℕ, zero, suc, ◌+◌, ◌-◌, ◌*◌, ◌<◌, ◌≤◌, ◌==◌, Bool, true, false, List, [], ◌∷◌, ◌++◌, length, take, drop, replicate, Some, refl, sym, ◌∙◌, ap, subst, arith}
 use Rattle.std.specs.Prelude.{slice_get, sum_by}
 use Rattle.std.specs.Int.{div_ceil}
-use Rattle.std.specs.List.{AllByRecursion, AllPairs}
+use Rattle.std.specs.List.{AllByRecursion}
 use Rattle.std.specs.Ordering.{is_gt, is_lt, ordering_then}
 use Rattle.std.specs.declared.cmp.Ordering.{Ordering}
 use Rattle.std.specs.declared.cmp.Ordering.TheVariants.{Less, Equal, Greater}
 use Rattle.std.proofs.lemmas.Bool.{and_parts, eqb-true}
-use Rattle.std.proofs.lemmas.List.{drop-append-le, drop-drop, drop_all, drop_at, length-append, length-drop, length-map, length-replicate, length-take, take_all, take-append-drop, take-append-le}
+use Rattle.std.proofs.lemmas.List.{drop-append-le, drop-drop, drop_all, drop_at, length-append, length-drop, length-map, length-take, take_all, take-append-le}
 use Rattle.std.proofs.lemmas.List.Elements.{All-from_recursion}
 use Rattle.std.proofs.lemmas.List.Kept.{AllPairs-cons}
-use Rattle.std.proofs.lemmas.List.Sums.{sum_by-cons}
 use Rattle.span_types.specs.Orders.{block_order, trace_cmp, trace_order}
 use Rattle.span_types.specs.Promises.{all_zero}
 use Rattle.span_types.specs.declared.ids.TraceId.{TraceId}
@@ -22,7 +21,7 @@ use Rattle.block_index.specs.Bloom.{bloom_bytes, filter_pages}
 use Rattle.block_index.specs.Index.{AreAscending, AreIds, entries, index_bytes, traces}
 use Rattle.block_index.specs.Pages.{page_at}
 use Rattle.block_format.specs.Blocks.{BlockHasHeader, BlockHasInfo, StripeHasEntry, StripesHaveEntries, ids_of, index_page_of}
-use Rattle.block_format.specs.Headers.{AreFromPage, HasRows, HeaderHolds}
+use Rattle.block_format.specs.Headers.{AreFromPage, HasRows}
 use Rattle.block_format.specs.declared.header.Header.{Header}
 use Rattle.block_format.proofs.HeaderLaws.{header_size}
 use Rattle.block_rows.proofs.IndexSizes.{IsLong, index_size}

@@ -1,8 +1,7 @@
 -- The pages that are left while an index is searched.
-use Rattle.std.proofs.Common.{◌≡◌, ◌⊎◌, inl, inr, ℕ, zero, suc, ◌+◌, ◌-◌, ◌/◌, ◌<◌, ◌≤◌, ◌==◌, eqb-true, Bool, true, false, nat_lt, List, [], ◌∷◌, length, Option, None, Some, refl, sym, ◌∙◌, ap, ap₂, subst, arith, if◌then◌else◌, Contains}
+use Rattle.std.proofs.Common.{◌≡◌, inl, inr, ℕ, zero, suc, ◌+◌, ◌-◌, ◌/◌, ◌<◌, ◌≤◌, ◌==◌, eqb-true, Bool, true, false, nat_lt, List, [], ◌∷◌, length, None, Some, refl, sym, ◌∙◌, ap, ap₂, subst, arith, Contains}
 use Rattle.std.proofs.lemmas.Bool.{cases_lt, eq-eqb, le-ltb, lt-ltb}
 use Rattle.std.specs.Prelude.{IsTrue, slice_get}
-use Rattle.std.specs.Int.{div_ceil}
 use Rattle.std.specs.List.{count_by, list_any, position_or_len}
 use Rattle.span_types.specs.declared.ids.TraceId.{TraceId}
 use Rattle.block_index.specs.declared.entries.IndexEntry.{IndexEntry}

@@ -1,12 +1,12 @@
 -- Pages that are read one after the other.
-use Rattle.std.proofs.Common.{◌≡◌, ℕ, ◌+◌, ◌-◌, ◌*◌, ◌<◌, ◌≤◌, min, List, [], ◌∷◌, ◌++◌, Result, Ok, Err, Some, None, true, false, take, drop, replicate, refl, sym, ap, subst, ◌∙◌, arith}
+use Rattle.std.proofs.Common.{◌≡◌, ℕ, ◌+◌, ◌-◌, ◌*◌, ◌<◌, ◌≤◌, min, List, [], ◌∷◌, ◌++◌, Some, None, true, false, take, drop, replicate, refl, sym, ap, subst, ◌∙◌, arith}
 use Rattle.std.specs.Int.{div_ceil}
 use Rattle.std.specs.Prelude.{Bool, IsTrue}
 use Rattle.std.proofs.lemmas.List.{drop-drop}
 use Rattle.span_types.specs.Faults.{Rose}
 use Rattle.block_read.specs.Answers.{RoseAtMost, StaysSame}
 use Rattle.block_read.specs.Files.{SameFiles, first_bytes, page_of}
-use Rattle.block_read.specs.PageReads.{AreRead, HasRead, OnlyReads, PageRead, page_read}
+use Rattle.block_read.specs.PageReads.{AreRead, HasRead, OnlyReads, PageRead}
 use Rattle.block_read.proofs.PartLaws.{page_more}
 
 -- ---- counts
@@ -58,7 +58,7 @@ are_read_then : {S : Type 0} (went : S → PageRead → S → Type 0) (reads mor
 are_read_then went [] more a b c one two = subst (λ s. AreRead went s more c) one two
 are_read_then went (r ∷ reads) more a b c one two = (one.0, one.1, one.2, one.3, are_read_then went reads more one.0 b c one.4 two)
 
-has_read_then : {S : Type 0} (went : S → PageRead → S → Type 0) (failed : Bool) (a b c : S) → HasRead went a false b → HasRead went b failed c → HasRead went a failed c
+pub has_read_then : {S : Type 0} (went : S → PageRead → S → Type 0) (failed : Bool) (a b c : S) → HasRead went a false b → HasRead went b failed c → HasRead went a failed c
 has_read_then went false a b c one two = (one.0 ++ two.0, are_read_then went one.0 two.0 a b c one.1 two.1)
 has_read_then went true a b c one two = (one.0 ++ two.0, two.1, two.2, are_read_then went one.0 two.0 a b two.2 one.1 two.3, two.4, two.5)
 

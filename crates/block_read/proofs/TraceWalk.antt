@@ -1,5 +1,5 @@
 -- Stripe by stripe, the rows of a trace are found.
-use Rattle.std.proofs.Common.{◌≡◌, ◌⊎◌, inl, inr, ℕ, zero, suc, ◌+◌, ◌*◌, ◌/◌, ◌<◌, ◌≤◌, Bool, true, false, List, [], ◌∷◌, ◌++◌, length, take, drop, get_or, replicate, Result, Ok, Err, Option, None, Some, refl, sym, ◌∙◌, ap, subst, arith, if◌then◌else◌}
+use Rattle.std.proofs.Common.{◌≡◌, inl, inr, ℕ, zero, suc, ◌+◌, ◌*◌, ◌/◌, ◌<◌, ◌≤◌, Bool, true, false, List, [], ◌++◌, length, take, drop, get_or, replicate, Result, Ok, Err, Option, None, Some, refl, sym, ◌∙◌, ap, subst, arith, if◌then◌else◌}
 use Rattle.std.specs.Prelude.{slice_get}
 use Rattle.std.specs.Int.{div_ceil}
 use Rattle.std.specs.List.{count_by, list_any, position_or_len}
@@ -21,7 +21,7 @@ use Rattle.block_read.specs.declared.error.ReadError.{ReadError}
 use Rattle.block_read.specs.declared.error.ReadError.TheVariants.{Fault, NotBlock, Memory}
 use Rattle.block_read.proofs.StripesBoth.{stripe_again}
 use Rattle.block_read.proofs.DescribedLaws.{few_rows, index_stands, stripe_share, stripes_stand}
-use Rattle.block_read.proofs.TogetherLaws.{all_within, ends_within, none_before, one_part, some_there, some_within}
+use Rattle.block_read.proofs.TogetherLaws.{all_within, ends_within, none_before, none_there, one_part, some_there, some_within}
 
 -- ---- one stripe
 
@@ -73,6 +73,13 @@ place_parts id rows first count is = (elim (list_any (is_same id) (ids_of rows))
       let both : Some (first, count) ≡ Some (position_or_len (is_same id) (ids_of rows), count_by (is_same id) (ids_of rows)) = rw t at is in
       record { first_is = ap (λ (o : Option (ℕ × ℕ)). (one_of o).0) both; count_is = ap (λ (o : Option (ℕ × ℕ)). (one_of o).1) both; some = some_there id rows t }
   | false ↦ λ t. let bad = rw t at is in cc
+]) refl
+
+-- a trace that has no place has no rows
+pub nowhere : (id : TraceId) (rows : List Row) → None ≡ place_of id (ids_of rows) → rows_of_trace id rows ≡ []
+nowhere id rows is = (elim (list_any (is_same id) (ids_of rows)) as (λ b. list_any (is_same id) (ids_of rows) ≡ b → rows_of_trace id rows ≡ []) [
+  | true ↦ λ t. let bad = rw t at is in cc
+  | false ↦ λ t. none_there id rows t
 ]) refl
 
 module _ (info : InfoParts) (bytes : List ℕ) (id : TraceId) (first count : ℕ) (rows : List Row) (has : HasTrace info bytes id first count rows) where

@@ -22,7 +22,8 @@ pub enum Unread {
     Memory,
 }
 
-/// So many bytes of a file from that page on, page by page: no more memory is taken than pages were read.
+/// So many bytes of a file from that page on, page by page: no more memory is taken than pages were read. Past the
+/// file's end there are zeros.
 pub fn bytes_from<P: Pages>(
     alloc: Global,
     pages: &mut P,

@@ -1,7 +1,14 @@
-//! Reading a whole block from the pages of its file: its rows, those of one trace, or whether it is one.
+//! Reading a block from the pages of its file: its rows, those of one trace, or whether it is one.
+//!
+//! Pages come from a [`Pages`] (`pages`, `memory`), and `calls` has the calls on it.
+//!
+//! - Reading a whole block: `file`, `header`, `stripes`, `indexed`, `block`, and `checking`, which keeps no rows.
+//! - Looking up a trace: `lookup` asks the filters and the index where it is, `parts` reads one stripe, `traces`
+//!   walks over the stripes that hold it.
+//! - `laws` says that what a block stands for is read, and nothing else.
 //!
 //! `docs/BLOCK-FORMAT.md` has the bytes and where they are malformed; the definition of reading is in
-//! `specs/BlockReadings.antt`.
+//! `specs/BlockReadings.antt`, that of a look-up in `specs/Lookups.antt`.
 #![tactic(auto)]
 
 mod block;

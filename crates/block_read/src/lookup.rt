@@ -31,8 +31,8 @@ pub fn find_trace<P: Pages>(
     id: TraceId,
 ) -> Result<Option<(u32, u32)>, Failed>
     requires { P.ready pages.old block }
-    ensures place { IsTrue (P.tells pages.old) → (rows : List Row) → BlockHasInfo info.now (P.held pages.old block) rows
-        → IfOk result (λ found. found ≡ place_of id (ids_of rows)) }
+    ensures place { IsTrue (P.tells pages.old) → (rows : List Row)
+        → BlockHasInfo info.now (P.held pages.old block) rows → IfOk result (λ found. found ≡ place_of id (ids_of rows)) }
     ensures reads { RoseAtMost (1 + bits info.now.index_pages) (P.reads pages.old) (P.reads pages.new) }
     ensures only { OnlyReads P.tells P.held P.faults P.ready P.went P.name pages.old (is_err result) pages.new }
 {
@@ -52,8 +52,8 @@ fn may_have<P: Pages>(
 ) -> Result<bool, Failed>
     requires { P.ready pages.old block }
     // No trace of the block is missed.
-    ensures sure { IsTrue (P.tells pages.old) → (rows : List Row) → BlockHasInfo info.now (P.held pages.old block) rows
-        → list_any (is_same id) (ids_of rows) ≡ true → IfOk result (λ may. may ≡ true) }
+    ensures sure { IsTrue (P.tells pages.old) → (rows : List Row)
+        → BlockHasInfo info.now (P.held pages.old block) rows → list_any (is_same id) (ids_of rows) ≡ true → IfOk result (λ may. may ≡ true) }
     ensures reads { RoseAtMost 1 (P.reads pages.old) (P.reads pages.new) }
     ensures only { OnlyReads P.tells P.held P.faults P.ready P.went P.name pages.old (is_err result) pages.new }
 {
@@ -90,8 +90,8 @@ fn find_entry<P: Pages>(
     id: TraceId,
 ) -> Result<Option<(u32, u32)>, Failed>
     requires { P.ready pages.old block }
-    ensures place { IsTrue (P.tells pages.old) → (ids : List Trace) → HasIndex info.now (P.held pages.old block) ids
-        → IfOk result (λ found. found ≡ place_of id ids) }
+    ensures place { IsTrue (P.tells pages.old) → (ids : List Trace)
+        → HasIndex info.now (P.held pages.old block) ids → IfOk result (λ found. found ≡ place_of id ids) }
     ensures reads { RoseAtMost (bits info.now.index_pages) (P.reads pages.old) (P.reads pages.new) }
     ensures only { OnlyReads P.tells P.held P.faults P.ready P.went P.name pages.old (is_err result) pages.new }
 {

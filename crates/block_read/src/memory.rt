@@ -72,7 +72,7 @@ impl Pages for MemPages {
         ensures page { OnOk result (buf.new ≡ page_of (file_of self.old block) page) }
         ensures same_files { SameFiles (file_of self.old) (file_of self.new) }
         ensures cause { HasCause self.old.faults self.new.faults result }
-        ensures one_read { RoseBy 1 self.old.reads self.new.reads }
+        ensures reads { RoseBy 1 self.old.reads self.new.reads }
 
         // It fails exactly where the read's number is listed, and the list and the file stay the same.
         ensures listed { IsErr result ↔ Contains self.old.failing self.new.reads }

@@ -34,7 +34,8 @@ pub fn rows_of_stripe<P: Pages>(
     requires ready { P.ready pages.old block }
     requires near { entry.now.page + entry.now.pages < 2 ^ 52 }
     ensures answers { IsTrue (P.tells pages.old) → (rows : List Row)
-        → StripeHasEntry form entry.now (part_of entry.now.page entry.now.pages (P.held pages.old block)) rows → Finds rows result }
+        → StripeHasEntry form entry.now (part_of entry.now.page entry.now.pages (P.held pages.old block)) rows
+        → Finds rows result }
     ensures its_file { IsInFile block result }
     ensures reads { RoseAtMost entry.now.pages (P.reads pages.old) (P.reads pages.new) }
     ensures only { OnlyReads P.tells P.held P.faults P.ready P.went P.name pages.old (is_fault result) pages.new }

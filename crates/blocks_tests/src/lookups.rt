@@ -90,7 +90,10 @@ fn a_trace_over_two_stripes(rt: HostRuntime) -> Result<(), Fail> {
     let alloc = rt.alloc();
     let built = block(alloc, 1, 257)?;
     let stripes = built.info.index_page.saturating_sub(1);
-    assert_eq!(rt; found(alloc, &built, trace(2))?, (Gave::Rows(257), stripes.saturating_add(2)));
+    assert_eq!(rt;
+        found(alloc, &built, trace(2))?,
+        (Gave::Rows(257), stripes.saturating_add(2))
+    );
     // An absent id, of which the filters have not all bits.
     assert_eq!(rt; found(alloc, &built, trace(3))?, (Gave::Rows(0), 1));
     Ok(())
@@ -137,7 +140,9 @@ fn among_many_traces(rt: HostRuntime) -> Result<(), Fail> {
     let many = block(alloc, 30_000, 1)?;
     assert_eq!(rt; many.info.index_pages, 177);
     let most = largest(&many.info).saturating_add(1 + 8);
-    let numbers = [1, 2, 3, 340, 341, 342, 511, 512, 513, 514, 29_999, 30_000, 59_998, 59_999, 60_000];
+    let numbers = [
+        1, 2, 3, 340, 341, 342, 511, 512, 513, 514, 29_999, 30_000, 59_998, 59_999, 60_000,
+    ];
     assert!(rt; are_found(alloc, &many, &numbers, 1, most)?);
     assert!(rt; are_found(alloc, &many, &[60_001, 60_003, u32::MAX], 1, most)?);
     Ok(())
@@ -166,17 +171,29 @@ fn filters_that_err(rt: HostRuntime) -> Result<(), Fail> {
     let alloc = rt.alloc();
     let built = block(alloc, 171, 3)?;
     for (byte, number, rows) in [(0, 2, 0), (0, 3, 0), (255, 2, 3), (255, 3, 0)] {
-        assert_eq!(rt; by_filters(alloc, &built, byte, trace(number))?, Gave::Rows(rows));
+        assert_eq!(rt;
+            by_filters(alloc, &built, byte, trace(number))?,
+            Gave::Rows(rows)
+        );
     }
     Ok(())
 }
 
 /// What a look-up of a block's first trace gives once the first entry of the index names these rows.
 fn by_entry(alloc: Global, built: &BuiltBlock, first: u32, rows: u32) -> Result<Gave, Memory> {
-    let place = built.info.index_page.saturating_mul(4096).saturating_add(16);
+    let place = built
+        .info
+        .index_page
+        .saturating_mul(4096)
+        .saturating_add(16);
     let [a, b, c, d] = first.to_le_bytes();
     let [e, f, g, h] = rows.to_le_bytes();
-    let bytes = changed(alloc, built.bytes.as_slice(), place, &[a, b, c, d, e, f, g, h])?;
+    let bytes = changed(
+        alloc,
+        built.bytes.as_slice(),
+        place,
+        &[a, b, c, d, e, f, g, h],
+    )?;
     let (gave, _) = looked_up(alloc, bytes.as_slice(), &built.info, trace(2), &[])?;
     Ok(gave)
 }
@@ -199,7 +216,11 @@ fn an_index_that_lies(rt: HostRuntime) -> Result<(), Fail> {
         (0, u32::MAX, Gave::NotBlock(0)),
         (u32::MAX, u32::MAX, Gave::NotBlock(0)),
     ] {
-        assert_eq!(rt; by_entry(alloc, &built, first, rows)?, gave, "{first} {rows}");
+        assert_eq!(rt;
+            by_entry(alloc, &built, first, rows)?,
+            gave,
+            "{first} {rows}"
+        );
     }
     Ok(())
 }

@@ -1,9 +1,7 @@
 use Rattle.std.proofs.Common.{◌≡◌, ◌+◌, ◌*◌, ◌++◌, ℕ, List, take, drop, sym, subst, ◌∙◌, ap, arith}
 use Rattle.std.specs.Prelude.{IsTrue}
 use Rattle.std.proofs.lemmas.Result.{err_from_is_err_and}
-use Rattle.block_read.specs.Answers.{is_unread}
 use Rattle.block_read.specs.Files.{page_of}
-use Rattle.block_read.specs.PageReads.{OnlyReads}
 use Rattle.block_read.proofs.PageReads.{page_later, read_then, rose_more, told_more}
 use Rattle.block_read.proofs.file.bytes_from.Goals as goal
 

@@ -1,4 +1,4 @@
-use Rattle.std.proofs.Common.{◌≡◌, List, Result, Ok, Err, sym, subst, ◌∙◌, ℕ}
+use Rattle.std.proofs.Common.{◌≡◌, List, Result, Ok, sym, subst, ◌∙◌, ℕ}
 use Rattle.span_types.specs.declared.spans.Row.{Row}
 use Rattle.span_fields.specs.Breaks.{Fails}
 use Rattle.span_fields.specs.declared.breaks.Break.{Break}
