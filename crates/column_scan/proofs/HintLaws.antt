@@ -1,10 +1,8 @@
 -- A trace of which a query answers something has a span that holds the query's text.
-use Rattle.std.proofs.Common.{◌≡◌, ℕ, zero, suc, ◌||◌, ◌&&◌, Bool, true, false, List, [], ◌∷◌, length, Option, None, Some, find, map, filter, flat_map, refl, sym, ◌∙◌, ap, subst, arith}
-use Rattle.std.specs.Prelude.{slice_get, Contains, if◌then◌else◌}
+use Rattle.std.proofs.Common.{◌≡◌, ℕ, zero, suc, ◌||◌, ◌&&◌, Bool, true, false, List, [], ◌∷◌, length, Option, None, Some, find, filter, refl, sym, ◌∙◌, ap, subst, arith}
+use Rattle.std.specs.Prelude.{slice_get, Contains}
 use Rattle.std.specs.List.{list_any}
 use Rattle.std.specs.Option.{option_or, option_map, option_map_or}
-use Rattle.std.specs.Ordering.{nat_cmp, is_eq}
-use Rattle.std.specs.Cmp.Lexicographic.{slice_cmp}
 use Rattle.std.specs.Str.{bytes_eq}
 use Rattle.std.proofs.lemmas.Map.Text.{is_eq-slice_cmp}
 use Rattle.span_types.specs.declared.attrs.Attr.{Attr}
@@ -17,7 +15,6 @@ use Rattle.traceql_tokens.specs.declared.fixed.Intrinsic.{Intrinsic}
 use Rattle.traceql_tokens.specs.declared.fixed.Intrinsic.TheVariants as intrinsic
 use Rattle.traceql_syntax.specs.declared.field.BinaryOp.{BinaryOp}
 use Rattle.traceql_syntax.specs.declared.field.BinaryOp.TheVariants as binary
-use Rattle.traceql_syntax.specs.declared.field.Comparison.{Comparison}
 use Rattle.traceql_syntax.specs.declared.field.Comparison.TheVariants as comparison
 use Rattle.traceql_syntax.specs.declared.field.Field.{Field}
 use Rattle.traceql_syntax.specs.declared.field.Field.TheVariants as field
@@ -27,13 +24,12 @@ use Rattle.traceql_syntax.specs.Trees.{Placed, Tree, Literally, Asks, Unary, Bin
 use Rattle.traceql_types.specs.declared.pattern.Pattern.{Pattern}
 use Rattle.traceql_value.specs.declared.value.Value.{Value}
 use Rattle.traceql_value.specs.declared.value.Value.TheVariants as value
-use Rattle.traceql_value.specs.Meaning.{is_literal_nil, is_so, literal_value, value_of}
-use Rattle.traceql_value.specs.Spans.{attr_named, attribute_of, field_of_span, or_else, value_named}
-use Rattle.traceql_value.specs.Values.{attr_value, compares, is_true}
+use Rattle.traceql_value.specs.Meaning.{is_so, value_of}
+use Rattle.traceql_value.specs.Spans.{attr_named, field_of_span, or_else, value_named}
+use Rattle.traceql_value.specs.Values.{attr_value, compares}
 use Rattle.spanset_eval.specs.Outcomes.{IsOutcome, shown}
-use Rattle.spanset_eval.specs.Sets.{PassesFilter, Selects, filter_span}
+use Rattle.spanset_eval.specs.Sets.{PassesFilter, Selects}
 use Rattle.spanset_eval.specs.Stages.{after_stage, after_stages, coalesced, drop_empty, is_in_some, positions_from, remaining, selected_fields}
-use Rattle.spanset_eval.specs.declared.groups.Group.{Group}
 use Rattle.spanset_eval.specs.declared.results.TraceResult.{TraceResult}
 use Rattle.column_scan.specs.Hints.{asked_text, both_text, chain_text, field_in, filter_text, has_text, holds_text, is_conjunction, is_equality, is_text, literal_in, member_text, query_text, set_text, tells_text, text_of}
 

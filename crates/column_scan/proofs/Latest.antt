@@ -1,5 +1,5 @@
 -- Picks that are joined, and lists that are kept in part.
-use Rattle.std.proofs.Common.{◌≡◌, ◌⊎◌, inl, inr, ℕ, zero, suc, ◌+◌, ◌<◌, ◌≤◌, Bool, true, false, List, [], ◌∷◌, ◌++◌, length, map, take, filter, refl, sym, ◌∙◌, ap, subst, arith, All, Contains, slice_index_or, append_assoc, not, nat_lt, if◌then◌else◌}
+use Rattle.std.proofs.Common.{◌≡◌, ℕ, zero, suc, ◌+◌, ◌<◌, ◌≤◌, Bool, true, false, List, [], ◌∷◌, ◌++◌, length, map, take, filter, refl, sym, ◌∙◌, ap, subst, arith, All, Contains, slice_index_or, append_assoc, not, nat_lt, if◌then◌else◌}
 use Rattle.std.proofs.lemmas.List.{take_more, map_more, get_or_default, get_or-take, get_or_append_left, length-take, get_or-append-add, length-append, append-nil, map-append}
 use Rattle.std.proofs.lemmas.Bool.{ltb-false, ltb-true}
 use Rattle.std.proofs.lemmas.List.Quantifiers.{all_pairs_push}

@@ -1,16 +1,15 @@
 -- What is answered is picked.
-use Rattle.std.proofs.Common.{◌≡◌, ℕ, zero, suc, ◌<◌, ◌≤◌, min, Bool, true, false, List, [], ◌∷◌, length, Option, None, Some, filter, refl, sym, ◌∙◌, ap, subst, arith, slice_index_or, Contains}
+use Rattle.std.proofs.Common.{◌≡◌, ℕ, zero, suc, ◌<◌, ◌≤◌, Bool, true, false, List, [], ◌∷◌, length, Option, None, Some, filter, refl, sym, ◌∙◌, ap, arith, slice_index_or, Contains}
 use Rattle.std.specs.List.{list_any}
 use Rattle.std.specs.Ordering.{is_eq}
 use Rattle.std.proofs.lemmas.List.Elements.{All-contains}
 use Rattle.moment_range.specs.declared.range.Range.{Range}
 use Rattle.rows_by_trace.specs.Traces.{is_of_trace, rows_of_trace}
-use Rattle.span_types.specs.First.{IsFirstOf, first_at, lesser, row_at}
+use Rattle.span_types.specs.First.{first_at, lesser, row_at}
 use Rattle.span_types.specs.Keys.{row_key}
-use Rattle.span_types.specs.Orders.{key_cmp, place_cmp, trace_cmp}
+use Rattle.span_types.specs.Orders.{key_cmp, place_cmp}
 use Rattle.std.specs.Ordering.{is_lt}
 use Rattle.span_types.specs.declared.ids.Key.{Key}
-use Rattle.span_types.specs.declared.ids.TraceId.{TraceId}
 use Rattle.span_types.specs.declared.spans.Row.{Row}
 use Rattle.spanset_eval.specs.Outcomes.{IsOutcome, shown}
 use Rattle.spanset_eval.specs.Stages.{remaining, selected_fields}
@@ -22,7 +21,7 @@ use Rattle.traceql_value.specs.Spans.{earliest, latest, start_of}
 use Rattle.search_answer.proofs.Fronts.{same_trace}
 use Rattle.search_answer.specs.Answers.{IsResult}
 use Rattle.column_scan.proofs.HintLaws.{answer_holds}
-use Rattle.column_scan.specs.Hints.{holds_text, query_text}
+use Rattle.column_scan.specs.Hints.{query_text}
 use Rattle.column_scan.specs.Candidates.{AnsweredIsPicked, IsCovered, hint_of, hinted_by, hinted_picks, is_hinted, pick_of, spans_of}
 use Rattle.column_scan.proofs.Latest.{contains_filter, contains_map}
 

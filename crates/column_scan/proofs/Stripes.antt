@@ -1,6 +1,6 @@
 -- The stripes of a block that are read, and their rows.
-use Rattle.std.proofs.Common.{◌≡◌, ℕ, zero, suc, ◌+◌, ◌*◌, ◌<◌, ◌≤◌, Bool, true, false, not, ◌&&◌, List, [], ◌∷◌, ◌++◌, length, map, take, drop, filter, Option, None, Some, refl, sym, ◌∙◌, ap, subst, arith, if◌then◌else◌, nat_le, nat_lt, slice_index_or, get_or, Result, Ok, Err}
-use Rattle.std.specs.Prelude.{slice_get, sum_by}
+use Rattle.std.proofs.Common.{◌≡◌, ℕ, ◌+◌, ◌*◌, ◌<◌, ◌≤◌, Bool, true, false, ◌&&◌, List, [], ◌∷◌, ◌++◌, length, map, take, drop, filter, Option, None, Some, refl, sym, ◌∙◌, ap, subst, arith, if◌then◌else◌, nat_le, nat_lt, get_or, Result, Err}
+use Rattle.std.specs.Prelude.{slice_get}
 use Rattle.std.specs.List.{AllByRecursion}
 use Rattle.std.proofs.lemmas.Bool.{leb-false, leb-true, ltb-false, ltb-true}
 use Rattle.std.proofs.lemmas.List.{append-nil, map-append, take_all}

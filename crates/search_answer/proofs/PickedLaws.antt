@@ -1,7 +1,7 @@
 -- The first occurrences of picked traces answer as those of all rows do.
-use Rattle.std.proofs.Common.{◌≡◌, ◌⊎◌, inl, inr, ℕ, zero, suc, ◌+◌, ◌<◌, List, [], ◌∷◌, Bool, true, false, Option, None, Some, filter, length, refl, sym, ◌∙◌, ap, subst, arith, All, Contains, slice_index_or}
+use Rattle.std.proofs.Common.{◌≡◌, ◌⊎◌, inl, inr, zero, suc, List, [], ◌∷◌, Bool, true, false, Some, refl, sym, ◌∙◌, ap, subst, arith, Contains, slice_index_or}
 use Rattle.std.specs.List.{AllByRecursion, AllPairs}
-use Rattle.std.specs.Ordering.{is_eq, ordering_reverse}
+use Rattle.std.specs.Ordering.{ordering_reverse}
 use Rattle.std.specs.declared.cmp.Ordering.TheVariants.{Less, Greater}
 use Rattle.std.proofs.lemmas.List.Elements.{All-contains, All-from_recursion, All-nil, recursion_from_All}
 use Rattle.moment_range.specs.declared.range.Range.{Range}
@@ -16,7 +16,7 @@ use Rattle.span_types.proofs.FirstLaws.{block_order_total}
 use Rattle.spanset_eval.specs.declared.results.TraceResult.{TraceResult}
 use Rattle.traceql_syntax.specs.Trees.{QueryTree}
 use Rattle.traceql_types.specs.declared.pattern.Pattern.{Pattern}
-use Rattle.search_answer.specs.Answers.{AreResults, IsAnswer, IsResult, is_in_range}
+use Rattle.search_answer.specs.Answers.{AreResults, IsResult, is_in_range}
 use Rattle.search_answer.specs.Best.{PickedAnswerTheWhole, rows_of_picked}
 use Rattle.search_answer.proofs.Fronts.{same_trace}
 

@@ -1,5 +1,5 @@
 -- The best results so far.
-use Rattle.std.specs.Prelude.{◌≡◌, ℕ, ◌-◌, ◌==◌, List, Bool, true, false, not, ◌||◌, ◌&&◌, Option, None, Some, length, nat_lt, slice_get}
+use Rattle.std.specs.Prelude.{ℕ, ◌-◌, ◌==◌, List, Bool, false, not, ◌||◌, ◌&&◌, Option, None, Some, length, nat_lt, slice_get}
 use Rattle.std.specs.Ordering.{is_lt}
 use Rattle.span_types.specs.Orders.{trace_cmp}
 use Rattle.span_types.specs.declared.ids.TraceId.{TraceId}

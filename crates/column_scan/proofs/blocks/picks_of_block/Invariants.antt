@@ -1,5 +1,5 @@
 -- The hinted rows of the stripes so far are picked, and only those that may have some are read.
-use Rattle.std.proofs.Common.{ℕ, ◌+◌, ◌≤◌, List, take, false}
+use Rattle.std.proofs.Common.{◌+◌, ◌≤◌, List, take, false}
 use Rattle.std.specs.Prelude.{IsTrue}
 use Rattle.span_types.specs.declared.spans.Row.{Row}
 use Rattle.block_format.specs.Blocks.{BlockHasInfo}
