@@ -94,13 +94,13 @@ with_before front all some have = record {
 latest_of_two : (p q : Pick) → p.trace ≡ q.trace → HaveLatest (p ∷ q ∷ []) (later_of p q ∷ [])
 latest_of_two p q same = (elim (nat_lt p.latest q.latest) as (λ b. nat_lt p.latest q.latest ≡ b → HaveLatest (p ∷ q ∷ []) (later_of p q ∷ [])) [
   | true ↦ λ t. rw t (record {
-      whole = two (IsCovered (q ∷ [])) p q (q, (0, omega arith, refl), sym same, below t) (q, (0, omega arith, refl), refl, omega arith);
-      only = one (Contains (p ∷ q ∷ [])) q (1, omega arith, refl);
-    })
+    whole = two (IsCovered (q ∷ [])) p q (q, (0, omega arith, refl), sym same, below t) (q, (0, omega arith, refl), refl, omega arith);
+    only = one (Contains (p ∷ q ∷ [])) q (1, omega arith, refl);
+  })
   | false ↦ λ t. rw t (record {
-      whole = two (IsCovered (p ∷ [])) p q (p, (0, omega arith, refl), refl, omega arith) (p, (0, omega arith, refl), same, above t);
-      only = one (Contains (p ∷ q ∷ [])) p (0, omega arith, refl);
-    })
+    whole = two (IsCovered (p ∷ [])) p q (p, (0, omega arith, refl), refl, omega arith) (p, (0, omega arith, refl), same, above t);
+    only = one (Contains (p ∷ q ∷ [])) p (0, omega arith, refl);
+  })
 ]) refl
   where
     one : (P : Pick → Type 0) (x : Pick) → P x → All P (x ∷ [])
@@ -195,7 +195,7 @@ none_after sorted picks i d up h have = All-weaker (Contains (take i sorted)) (�
         let size = length-take i sorted in
         let at : slice_index_or sorted k d ≡ z = get_or_default sorted k d z (omega (arith, low, size, h)) ∙ sym (get_or-take i sorted k z (omega (arith, low, size))) ∙ is in
         let far : is_lt (pick_cmp (slice_index_or sorted i d) (slice_index_or sorted k d)) ≡ false =
-            sorted_far (λ p q. is_lt (pick_cmp p q)) (ranks_by pick_total (λ p. p)) sorted up k i d (omega (arith, low, size)) h in
+        sorted_far (λ p q. is_lt (pick_cmp p q)) (ranks_by pick_total (λ p. p)) sorted up k i d (omega (arith, low, size)) h in
         let one : is_lt (pick_cmp (slice_index_or sorted i d) z) ≡ false = subst (λ x. is_lt (pick_cmp (slice_index_or sorted i d) x) ≡ false) at far in
         subst (λ o. not (is_gt o) ≡ true) (sym (pick_total.antisymm z (slice_index_or sorted i d))) (not_after (pick_cmp (slice_index_or sorted i d) z) one)
 

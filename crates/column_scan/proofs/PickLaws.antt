@@ -122,7 +122,7 @@ picked ps q range rows firsts picks id r first are is =
     let k = kept (is_of_trace id) firsts t.row t.member.0 t.member.1 t.member.2 in
     let whole = first_is_row (row_key t.row) rows t.row (All-contains (λ x. first_at (row_key x) rows ≡ Some x) firsts t.row first.only k.member) in
     let among = contains_map pick_of (filter (is_hinted (hint_of q range)) (spans_of rows)) t.row.span
-        (contains_filter (is_hinted (hint_of q range)) (spans_of rows) t.row.span (contains_map (λ (row : Row). row.span) rows t.row whole) t.passes) in
+    (contains_filter (is_hinted (hint_of q range)) (spans_of rows) t.row.span (contains_map (λ (row : Row). row.span) rows t.row whole) t.passes) in
     let p = All-contains (IsCovered picks) (hinted_picks (hint_of q range) (spans_of rows)) (pick_of t.row.span) are.whole among in
     let early = earliest_bounds (latest (rows_of_trace id firsts)) (rows_of_trace id firsts) t.row t.member.0 t.member.1 t.member.2 in
     let starts = result_starts ps q (rows_of_trace id firsts) r is.outcome in

@@ -90,7 +90,7 @@ pub next_stripe : (hint : Hint) (rows : List Row) (picks new : List Pick) (i : �
 next_stripe hint rows picks new i have step =
     let next : 256 * i + 256 ≡ 256 * (i + 1) = omega arith in
     let parts : so_far (i + 1) rows ≡ so_far i rows ++ spans_of (take 256 (drop (256 * i) rows)) =
-        ap (λ k. spans_of (take k rows)) (sym next) ∙ ap spans_of (take-add (256 * i) 256 rows) ∙ map-append (λ (row : Row). row.span) (take (256 * i) rows) (take 256 (drop (256 * i) rows)) in
+    ap (λ k. spans_of (take k rows)) (sym next) ∙ ap spans_of (take-add (256 * i) 256 rows) ∙ map-append (λ (row : Row). row.span) (take (256 * i) rows) (take 256 (drop (256 * i) rows)) in
     let whole = ap (hinted_picks hint) parts ∙ hinted_append hint (so_far i rows) (spans_of (take 256 (drop (256 * i) rows))) in
     subst (λ l. HaveLatest l new) (sym whole) (and_more (hinted_picks hint (so_far i rows)) (hinted_picks hint (spans_of (take 256 (drop (256 * i) rows)))) picks new have step)
 

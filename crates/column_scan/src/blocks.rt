@@ -29,10 +29,13 @@ pub fn candidates<P: Pages>(
 ) -> Result<Ids, ReadError>
     requires { P.ready pages.old block }
     ensures answers { IsTrue (P.tells pages.old) → (rows : List Row)
-        → BlockHasInfo info.now (P.held pages.old block) rows → FindsFit (AreCandidates hint.now (spans_of rows)) result }
+        → BlockHasInfo info.now (P.held pages.old block) rows
+        → FindsFit (AreCandidates hint.now (spans_of rows)) result }
     ensures its_file { IsInFile block result }
-    ensures reads { RoseAtMost (scanned_pages hint.now info.now.stripes) (P.reads pages.old) (P.reads pages.new) }
-    ensures only { OnlyReads P.tells P.held P.faults P.ready P.went P.name pages.old (is_fault result) pages.new }
+    ensures reads { RoseAtMost (scanned_pages hint.now info.now.stripes)
+        (P.reads pages.old) (P.reads pages.new) }
+    ensures only { OnlyReads P.tells P.held P.faults P.ready P.went P.name
+        pages.old (is_fault result) pages.new }
 {
     match picks_of_block(alloc, pages, block, info, hint) {
         Ok(picks) => match traces_of(alloc, picks.as_slice()) {
@@ -71,8 +74,10 @@ pub fn picks_of_block<P: Pages>(
         → BlockHasInfo info.now (P.held pages.old block) rows
         → FindsFit (λ picks. ArePicks hint.now (spans_of rows) picks.items) result }
     ensures its_file { IsInFile block result }
-    ensures reads { RoseAtMost (scanned_pages hint.now info.now.stripes) (P.reads pages.old) (P.reads pages.new) }
-    ensures only { OnlyReads P.tells P.held P.faults P.ready P.went P.name pages.old (is_fault result) pages.new }
+    ensures reads { RoseAtMost (scanned_pages hint.now info.now.stripes)
+        (P.reads pages.old) (P.reads pages.new) }
+    ensures only { OnlyReads P.tells P.held P.faults P.ready P.went P.name
+        pages.old (is_fault result) pages.new }
 {
     let mut picks = Vec::new(alloc);
     for stripe in info.stripes.as_slice() {
@@ -97,11 +102,15 @@ fn add_stripe<P: Pages>(
     requires ready { P.ready pages.old block }
     requires near { entry.now.page + entry.now.pages < 2 ^ 52 }
     ensures answers { IsTrue (P.tells pages.old) → (rows : List Row)
-        → StripeHasEntry form entry.now (part_of entry.now.page entry.now.pages (P.held pages.old block)) rows
-        → FindsFit (λ _. HaveLatest (picks.old.items ++ hinted_picks hint.now (spans_of rows)) picks.new.items) result }
+        → StripeHasEntry form entry.now
+        (part_of entry.now.page entry.now.pages (P.held pages.old block)) rows
+        → FindsFit (λ _. HaveLatest (picks.old.items ++ hinted_picks hint.now (spans_of rows))
+        picks.new.items) result }
     ensures its_file { IsInFile block result }
-    ensures reads { RoseAtMost (scanned_pages hint.now (entry.now ∷ [])) (P.reads pages.old) (P.reads pages.new) }
-    ensures only { OnlyReads P.tells P.held P.faults P.ready P.went P.name pages.old (is_fault result) pages.new }
+    ensures reads { RoseAtMost (scanned_pages hint.now (entry.now ∷ []))
+        (P.reads pages.old) (P.reads pages.new) }
+    ensures only { OnlyReads P.tells P.held P.faults P.ready P.went P.name
+        pages.old (is_fault result) pages.new }
 {
     if !may_scan(hint, entry) {
         return Ok(());
@@ -117,7 +126,8 @@ fn add_stripe<P: Pages>(
 
 // Adds the traces of the rows that are hinted.
 fn add_rows(hint: &Hint, rows: &[Row], picks: &mut Vec<Pick>) -> Result<(), Memory>
-    ensures { OnOk result (HaveLatest (picks.old.items ++ hinted_picks hint.now (spans_of rows.now)) picks.new.items) }
+    ensures { OnOk result (HaveLatest
+        (picks.old.items ++ hinted_picks hint.now (spans_of rows.now)) picks.new.items) }
 {
     for row in rows {
         add_hinted(hint, &row.span, picks)?;

@@ -42,7 +42,10 @@ fn holds_text(text: &Text, span: &Span) -> bool
 fn has_text(text: &Text, attrs: &Attrs) -> bool
     ensures { result ≡ has_text text.now attrs.now }
 {
-    attrs.as_slice().iter().any(|attr| is_text(text, &attr.value))
+    attrs
+        .as_slice()
+        .iter()
+        .any(|attr| is_text(text, &attr.value))
 }
 
 // Whether a value is this text.

@@ -21,7 +21,8 @@ pub struct Pick {
 
 /// The traces that have a hinted span, each once, in ascending order. The one error is want of memory.
 pub fn picks_of_spans(alloc: Global, hint: &Hint, spans: &[&Span]) -> Result<Vec<Pick>, Memory>
-    ensures { IfOk result (λ picks. ArePicks hint.now (map (λ s. s.now) spans.now) picks.items) }
+    ensures { IfOk result (λ picks.
+        ArePicks hint.now (map (λ s. s.now) spans.now) picks.items) }
 {
     let mut picks = Vec::new(alloc);
     for span in spans {
@@ -33,7 +34,8 @@ pub fn picks_of_spans(alloc: Global, hint: &Hint, spans: &[&Span]) -> Result<Vec
 
 // Adds the trace of a span that is hinted.
 pub(crate) fn add_hinted(hint: &Hint, span: &Span, picks: &mut Vec<Pick>) -> Result<(), Memory>
-    ensures { OnOk result (HaveLatest (picks.old.items ++ hinted_picks hint.now (span.now ∷ [])) picks.new.items) }
+    ensures { OnOk result (HaveLatest
+        (picks.old.items ++ hinted_picks hint.now (span.now ∷ [])) picks.new.items) }
 {
     if hint.holds(span) {
         add(picks, pick_of(span))?;

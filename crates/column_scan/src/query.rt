@@ -70,12 +70,16 @@ fn chain_text(expr: &FieldExpr) -> Option<&Text>
 // The two sides of a `&&`: a chain up to it, and the member after it.
 fn sides(expr: &FieldExpr) -> Option<(&FieldExpr, &FieldExpr)>
     ensures { MatchOption result (chain_text (tree expr.now) ≡ member_text (tree expr.now))
-        (λ p. (chain_text (tree expr.now) ≡ option_or (chain_text (tree p.0.now)) (member_text (tree p.1.now)))
+        (λ p. (chain_text (tree expr.now)
+        ≡ option_or (chain_text (tree p.0.now)) (member_text (tree p.1.now)))
         × (tree_size (tree p.0.now) < tree_size (tree expr.now))) }
 {
     match expr {
         FieldExpr::Binary {
-            op, left, right, ..
+            op,
+            left,
+            right,
+            ..
         } if is_conjunction(*op) => Some((&left.expr, &right.expr)),
         _ => None,
     }
@@ -98,7 +102,10 @@ fn member_text(expr: &FieldExpr) -> Option<&Text>
 {
     match expr {
         FieldExpr::Binary {
-            op, left, right, ..
+            op,
+            left,
+            right,
+            ..
         } if is_equality(*op) => both_text(&left.expr, &right.expr),
         _ => None,
     }
@@ -106,7 +113,8 @@ fn member_text(expr: &FieldExpr) -> Option<&Text>
 
 // The text that a field is asked to be equal to, if the sides are a field and a literal.
 fn both_text<'q>(left: &FieldExpr, right: &'q FieldExpr) -> Option<&'q Text>
-    ensures { option_map (λ t. t.now) result ≡ both_text (field_in (tree left.now)) (literal_in (tree right.now)) }
+    ensures { option_map (λ t. t.now) result
+        ≡ both_text (field_in (tree left.now)) (literal_in (tree right.now)) }
 {
     match (left, right) {
         (FieldExpr::Field { field, .. }, FieldExpr::Literal { literal, .. }) => {

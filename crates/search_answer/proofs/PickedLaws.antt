@@ -94,18 +94,18 @@ module _ (is_picked : TraceId → Bool) (id : TraceId) where
   picked_rows (row ∷ rows) held = (elim (is_of_trace id row) as (λ b. is_of_trace id row ≡ b → rows_of_trace id (rows_of_picked is_picked (row ∷ rows)) ≡ rows_of_trace id (row ∷ rows)) [
     | true ↦ λ t. let kept : is_picked row.span.trace ≡ true = ap is_picked (same_trace row.span.trace id t) ∙ held in rw (kept, t) (ap (λ l. row ∷ l) (picked_rows rows held))
     | false ↦ λ t. (elim (is_picked row.span.trace) as (λ b. is_picked row.span.trace ≡ b → rows_of_trace id (rows_of_picked is_picked (row ∷ rows)) ≡ rows_of_trace id (row ∷ rows)) [
-        | true ↦ λ p. rw (p, t) (picked_rows rows held)
-        | false ↦ λ p. rw (p, t) (picked_rows rows held)
-      ]) refl
+      | true ↦ λ p. rw (p, t) (picked_rows rows held)
+      | false ↦ λ p. rw (p, t) (picked_rows rows held)
+    ]) refl
   ]) refl
 
   other_rows : (rows : List Row) → is_picked id ≡ false → rows_of_trace id (rows_of_picked is_picked rows) ≡ []
   other_rows [] fails = refl
   other_rows (row ∷ rows) fails = (elim (is_picked row.span.trace) as (λ b. is_picked row.span.trace ≡ b → rows_of_trace id (rows_of_picked is_picked (row ∷ rows)) ≡ []) [
     | true ↦ λ p. (elim (is_of_trace id row) as (λ b. is_of_trace id row ≡ b → rows_of_trace id (rows_of_picked is_picked (row ∷ rows)) ≡ []) [
-        | true ↦ λ t. let bad : true ≡ false = sym p ∙ ap is_picked (same_trace row.span.trace id t) ∙ fails in cc
-        | false ↦ λ t. rw (p, t) (other_rows rows fails)
-      ]) refl
+      | true ↦ λ t. let bad : true ≡ false = sym p ∙ ap is_picked (same_trace row.span.trace id t) ∙ fails in cc
+      | false ↦ λ t. rw (p, t) (other_rows rows fails)
+    ]) refl
     | false ↦ λ p. rw p (other_rows rows fails)
   ]) refl
 

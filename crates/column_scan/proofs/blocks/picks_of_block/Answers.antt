@@ -24,7 +24,7 @@ returns-in_err-add_stripe-clause-answers g c = λ told rows has.
     let same = c.as_slice-stripe-items.ensures ∙ ap (λ (n : InfoParts). n.stripes) c.info.view_is in
     let low : i < length c.args.info.now.stripes = omega (arith, c.loop-stripe-test.true, ap length same) in
     let entry = entry_there c.args.info.now (P.held c.args.pages.now c.args.block) rows has i no_stripe low c.info.inside.form c.as_slice-stripe-items.result.now (P.held c.loop-stripe.pages c.args.block)
-        (ap (λ (n : InfoParts). n.form) c.info.view_is) same (h.only.stays.same_files told c.args.block) in
+    (ap (λ (n : InfoParts). n.form) c.info.view_is) same (h.only.stays.same_files told c.args.block) in
     let there : IsTrue (P.tells c.loop-stripe.pages) = subst IsTrue (sym h.only.stays.telling) told in
     fits_passed (λ _. HaveLatest (c.loop-stripe.picks.items ++ hinted_picks c.args.hint.now (spans_of (take 256 (drop (256 * i) rows)))) c.add_stripe.new.picks.items)
     (λ picks. ArePicks c.args.hint.now (spans_of rows) picks.items) c.add_stripe.result c.from_residual.result c.in_err-add_stripe.field-0.0
@@ -53,7 +53,7 @@ loop-stripe-preserved g c =
     record {
       told = λ told rows has.
           let entry = entry_there c.args.info.now (P.held c.args.pages.now c.args.block) rows has i no_stripe low c.info.inside.form c.as_slice-stripe-items.result.now (P.held c.loop-stripe.pages c.args.block)
-              (ap (λ (n : InfoParts). n.form) c.info.view_is) same (h.only.stays.same_files told c.args.block) in
+          (ap (λ (n : InfoParts). n.form) c.info.view_is) same (h.only.stays.same_files told c.args.block) in
           let there : IsTrue (P.tells c.loop-stripe.pages) = subst IsTrue (sym h.only.stays.telling) told in
           next_stripe c.args.hint.now rows c.loop-stripe.picks.items c.add_stripe.new.picks.items i (h.told told rows has) (e.answers there (take 256 (drop (256 * i) rows)) entry);
       reads = omega (arith, few, most, pages_more c.args.hint.now c.args.info.now.stripes c.as_slice-stripe-items.result.now i no_stripe low same);
@@ -65,7 +65,7 @@ pub returns-in-Ok-clause-answers : goal.returns-in-Ok-clause-answers
 returns-in-Ok-clause-answers g c = λ told rows has.
     let same = c.as_slice-stripe-items.ensures ∙ ap (λ (n : InfoParts). n.stripes) c.info.view_is in
     let whole = all_stripes c.args.hint.now c.args.info.now (g.P.Pages.held c.args.pages.now c.args.block) rows c.loop-stripe.picks.items c.loop-stripe.stripe-index has
-        (omega (arith, c.loop-stripe-test.false, ap length same)) (c.loop-stripe.invariant.told told rows has) in
+    (omega (arith, c.loop-stripe-test.false, ap length same)) (c.loop-stripe.invariant.told told rows has) in
     record {
       latest = of_latest (hinted_picks c.args.hint.now (spans_of rows)) c.loop-stripe.picks.items c.in-Ok.all.items whole c.in-Ok.ensures.latest;
       ascending = c.in-Ok.ensures.ascending;

@@ -13,7 +13,7 @@ pub returns : goal.returns
 returns c =
     let spans = map (λ s. s.now) c.args.spans.now in
     let whole : HaveLatest (hinted_picks c.args.hint.now spans) c.loop-span.picks.items =
-        subst (λ l. HaveLatest (hinted_picks c.args.hint.now (map (λ s. s.now) l)) c.loop-span.picks.items) (take_all c.loop-span.span-index c.args.spans.now (omega arith)) c.loop-span.invariant in
+    subst (λ l. HaveLatest (hinted_picks c.args.hint.now (map (λ s. s.now) l)) c.loop-span.picks.items) (take_all c.loop-span.span-index c.args.spans.now (omega arith)) c.loop-span.invariant in
     record {
       latest = of_latest (hinted_picks c.args.hint.now spans) c.loop-span.picks.items c.in_ok-all.all.items whole c.in_ok-all.ensures.latest;
       ascending = c.in_ok-all.ensures.ascending;
