@@ -230,7 +230,7 @@ stripe_stands form page (suc i) (s ∷ stripes) bytes more rows stripe from have
     let later : drop (256 * i) (drop s.rows rows) ≡ drop (256 * suc i) rows = drop-drop (256 * i) s.rows rows ∙ ap (λ (k : ℕ). drop k rows) count in (
       omega (arith, low),
       subst (λ (l : List Row). StripeHasEntry form stripe (take (4096 * stripe.pages) (drop (4096 * (stripe.page - page)) (bytes ++ more))) (take stripe.rows l)) later
-      (subst (λ (b : List ℕ). StripeHasEntry form stripe (take (4096 * stripe.pages) b) (take stripe.rows (drop (256 * i) (drop s.rows rows)))) part rest.1),
+          (subst (λ (b : List ℕ). StripeHasEntry form stripe (take (4096 * stripe.pages) b) (take stripe.rows (drop (256 * i) (drop s.rows rows)))) part rest.1),
     )
 
 -- The pages of each stripe that the information names stand for the stripe's rows: the rows before it are 256 for each stripe before it.

@@ -1,5 +1,8 @@
 //! Blocks of one trace over several stripes, built and read again.
 
+ghost use Rattle.std.specs.Prelude.{◌≡◌, false};
+ghost use Rattle.span_types.specs.Promises.{all_zero};
+
 use block_build::{BuiltBlock, build};
 use block_info::{BlockInfo, StripeInfo};
 use block_read::{MemPages, ReadError, all_rows, check_block, trace_rows};
@@ -27,7 +30,9 @@ fn row(alloc: Global, number: u32) -> Result<Row, Memory> {
 }
 
 /// The same of any trace.
-pub(crate) fn row_of(alloc: Global, trace: TraceId, number: u32) -> Result<Row, Memory> {
+pub(crate) fn row_of(alloc: Global, trace: TraceId, number: u32) -> Result<Row, Memory>
+    requires { all_zero trace.0 ≡ false }
+{
     let [a, b, c, d] = number.to_be_bytes();
     let resource = Resource {
         attrs: Attrs::none(alloc),

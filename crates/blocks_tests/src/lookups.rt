@@ -1,5 +1,8 @@
 //! Looking up a trace in a block: what is found, and how many pages are read.
 
+ghost use Rattle.std.specs.Prelude.{◌≡◌, false};
+ghost use Rattle.span_types.specs.Promises.{all_zero};
+
 use crate::built::row_of;
 use block_build::{BuiltBlock, build};
 use block_info::BlockInfo;
@@ -12,7 +15,9 @@ use std::test::Fail;
 const FILE: u32 = 7;
 
 /// The trace with this number.
-fn trace(number: u32) -> TraceId {
+fn trace(number: u32) -> TraceId
+    ensures { all_zero result.0 ≡ false }
+{
     let [a, b, c, d] = number.to_be_bytes();
     TraceId([1, 0, 0, 0, 0, 0, 0, 0, 0, 0, 0, 0, a, b, c, d])
 }

@@ -37,8 +37,8 @@ pub loop-low-preserved-in-Before : goal.loop-low-preserved-in-Before
 loop-low-preserved-in-Before g c =
     let P = g.P.Pages in record {
       narrowed = to_front P.tells P.held P.reads c.args.info.now c.args.id c.args.block c.args.pages.now c.loop-low.pages c.said_by.new.pages c.loop-low.low c.loop-low.high
-    c.loop-low.invariant.narrowed c.loop-low-test.true c.said_by.ensures.reads c.said_by.ensures.only.stays
-      c.pages_find_their_traces.ensures (λ told. sym c.in-Before.is ∙ c.in_ok-first_row.ensures.said told ∙ ap (λ (n : ℕ). found c.args.id (entries_on (page_of (P.held c.loop-low.pages c.args.block) n))) (page c.index_of-first.result.0 c.args.info.now.index_page _ _ c.index_of-first.ensures.page c.from.ensures));
+          c.loop-low.invariant.narrowed c.loop-low-test.true c.said_by.ensures.reads c.said_by.ensures.only.stays
+          c.pages_find_their_traces.ensures (λ told. sym c.in-Before.is ∙ c.in_ok-first_row.ensures.said told ∙ ap (λ (n : ℕ). found c.args.id (entries_on (page_of (P.held c.loop-low.pages c.args.block) n))) (page c.index_of-first.result.0 c.args.info.now.index_page _ _ c.index_of-first.ensures.page c.from.ensures));
       only = read_then P.tells P.held P.faults P.ready P.went P.name false c.args.pages.now c.loop-low.pages c.said_by.new.pages c.loop-low.invariant.only c.in_ok-first_row.ensures.only;
       first = c.index_of-first.ensures.page;
       info = refl;
@@ -49,8 +49,8 @@ pub loop-low-preserved : goal.loop-low-preserved
 loop-low-preserved g c =
     let P = g.P.Pages in record {
       narrowed = to_back P.tells P.held P.reads c.args.info.now c.args.id c.args.block c.args.pages.now c.loop-low.pages c.said_by.new.pages c.loop-low.low c.loop-low.high
-    c.loop-low.invariant.narrowed c.loop-low-test.true c.said_by.ensures.reads c.said_by.ensures.only.stays
-      c.pages_find_their_traces.ensures (λ told. sym c.in-After.is ∙ c.in_ok-first_row.ensures.said told ∙ ap (λ (n : ℕ). found c.args.id (entries_on (page_of (P.held c.loop-low.pages c.args.block) n))) (page c.index_of-first.result.0 c.args.info.now.index_page _ _ c.index_of-first.ensures.page c.from.ensures));
+          c.loop-low.invariant.narrowed c.loop-low-test.true c.said_by.ensures.reads c.said_by.ensures.only.stays
+          c.pages_find_their_traces.ensures (λ told. sym c.in-After.is ∙ c.in_ok-first_row.ensures.said told ∙ ap (λ (n : ℕ). found c.args.id (entries_on (page_of (P.held c.loop-low.pages c.args.block) n))) (page c.index_of-first.result.0 c.args.info.now.index_page _ _ c.index_of-first.ensures.page c.from.ensures));
       only = read_then P.tells P.held P.faults P.ready P.went P.name false c.args.pages.now c.loop-low.pages c.said_by.new.pages c.loop-low.invariant.only c.in_ok-first_row.ensures.only;
       first = c.index_of-first.ensures.page;
       info = refl;
