@@ -4,14 +4,14 @@ pub mod BlockBoth
 pub mod BlockFiles
 mod StripesWalk
 mod PartLaws
-mod PageReads
+pub mod PageReads
 mod ChecksWalk
 mod Listed
 mod Halving
 mod EntryLaws
 mod Narrowing
-mod DescribedLaws
-mod TogetherLaws
-mod TraceWalk
+pub mod DescribedLaws
+pub mod TogetherLaws
+pub mod TraceWalk
 mod FilterLaws
 mod SketchWalk

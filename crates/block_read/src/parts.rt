@@ -1,6 +1,6 @@
 //! The stripes of a block, each read by itself.
 
-ghost use Rattle.std.specs.Prelude.{◌≡◌, ◌+◌, ◌*◌, ◌^◌, ◌<◌, IfOk, IsTrue, List, None, drop};
+ghost use Rattle.std.specs.Prelude.{◌≡◌, ◌+◌, ◌*◌, ◌^◌, ◌<◌, IfOk, IsTrue, List, None, Ok, drop, false};
 ghost use Rattle.span_types.specs.declared.spans.Row.{Row};
 ghost use Rattle.span_fields.specs.Breaks.{Answers};
 ghost use Rattle.block_format.specs.Blocks.{StripeHasEntry};
@@ -40,16 +40,34 @@ pub fn rows_of_stripe<P: Pages>(
     ensures only { OnlyReads P.tells P.held P.faults P.ready P.went P.name pages.old (is_fault result) pages.new }
 {
     match stripe_bytes(alloc, pages, block, entry) {
-        Ok(bytes) => match stripe_rows(alloc, form, entry, bytes.as_slice()) {
-            Ok(rows) => Ok(Rows::of(rows)),
-            Err(Break::At(at)) => Err(ReadError::NotBlock {
-                file: block,
-                at: (entry.page * PAGE_BYTES).saturating_add(at.min(bytes.len() as u64)),
-            }),
-            Err(Break::Memory) => Err(ReadError::Memory),
-        },
+        Ok(bytes) => rows_of_bytes(alloc, block, form, entry, bytes.as_slice()),
         Err(Unread::Fault) => Err(ReadError::Fault),
         Err(Unread::Memory) => Err(ReadError::Memory),
+    }
+}
+
+/// The rows that the bytes of a stripe's pages stand for by its entry.
+///
+/// [`ReadError::NotBlock`] comes only if they are no such stripe.
+pub fn rows_of_bytes(
+    alloc: Global,
+    block: u32,
+    form: u8,
+    entry: &StripeInfo,
+    bytes: &[u8],
+) -> Result<Rows, ReadError>
+    requires near { entry.now.page + entry.now.pages < 2 ^ 52 }
+    ensures answers { (rows : List Row) → stripe_of form entry.now None bytes.now ≡ Ok rows → Finds rows result }
+    ensures its_file { IsInFile block result }
+    ensures no_fault { is_fault result ≡ false }
+{
+    match stripe_rows(alloc, form, entry, bytes) {
+        Ok(rows) => Ok(Rows::of(rows)),
+        Err(Break::At(at)) => Err(ReadError::NotBlock {
+            file: block,
+            at: (entry.page * PAGE_BYTES).saturating_add(at.min(bytes.len() as u64)),
+        }),
+        Err(Break::Memory) => Err(ReadError::Memory),
     }
 }
 

@@ -3,3 +3,4 @@ pub mod Queries
 pub mod TraceAnswers
 pub mod Reading
 pub mod SearchAnswers
+pub mod Taking

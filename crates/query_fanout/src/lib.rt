@@ -7,10 +7,12 @@
 
 mod blocks;
 mod error;
+mod laws;
 mod pinned;
 mod searching;
 mod trace;
 
 pub use error::QueryError;
+pub use laws::{taken_answer_the_whole, takes_more};
 pub use searching::{Asked, SearchAnswer, search};
 pub use trace::{TraceAnswer, find_trace};

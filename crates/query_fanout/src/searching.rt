@@ -14,7 +14,7 @@ ghost use Rattle.query_fanout.specs.Reading.{BlocksRead};
 use crate::QueryError;
 use crate::blocks::block_rows;
 use crate::trace::joined_firsts;
-use column_scan::Range;
+use moment_range::Range;
 use search_answer::{Bounds, answer};
 use span_types::{Memory, Rows};
 use spanset_eval::Results;

@@ -1,5 +1,5 @@
 -- Of each trace a query answers something or nothing: which spans an expression selects is decided.
-use Rattle.std.proofs.Common.{◌≡◌, ◌≢◌, ◌⊎◌, inl, inr, ℕ, zero, suc, ◌+◌, ◌<◌, ◌≤◌, List, [], ◌∷◌, ◌++◌, Bool, true, false, Option, Some, None, refl, sym, ◌∙◌, ap, subst, arith, All, Contains, length, map, set, replicate, slice_index_or}
+use Rattle.std.proofs.Common.{◌≡◌, ◌≢◌, ◌⊎◌, inl, inr, ℕ, zero, suc, ◌+◌, ◌<◌, ◌≤◌, List, [], ◌∷◌, ◌++◌, Bool, true, false, Option, Some, None, refl, sym, ◌∙◌, ap, subst, arith, Contains, length, map, set, replicate, slice_index_or}
 use Rattle.std.specs.List.{AllByRecursion, range_with_len}
 use Rattle.std.specs.Prelude.{slice_get}
 use Rattle.std.specs.Option.{option_to_list}
@@ -9,9 +9,8 @@ use Rattle.std.proofs.lemmas.List.Elements.{Contains-get_or, Contains-push}
 use Rattle.std.proofs.lemmas.List.FromFn.{get_or-map-range_with_len, length-map-range_with_len}
 use Rattle.std.proofs.lemmas.Option.{none-some, same_Some, slice_get_within}
 use Rattle.span_tree.specs.declared.node.Node.{Node}
-use Rattle.span_tree.specs.Marking.{IsMarked}
 use Rattle.span_tree.specs.Nodes.{IsOneTrace, id_at, nodes_of, parent_at}
-use Rattle.span_tree.specs.Reach.{LeadsWithin, Reaches}
+use Rattle.span_tree.specs.Reach.{Reaches}
 use Rattle.span_tree.specs.Reach.Reaches.{start, along, aside}
 use Rattle.span_tree.specs.Relations.{IsAncestor, IsParent, IsSibling}
 use Rattle.span_tree.specs.Relations.IsAncestor.{one, more}
@@ -23,7 +22,7 @@ use Rattle.span_tree.proofs.RelationLaws.{nowhere, parents_within}
 use Rattle.span_types.specs.declared.ids.SpanId.{SpanId}
 use Rattle.span_types.specs.declared.spans.Row.{Row}
 use Rattle.spanset_eval.specs.declared.results.TraceResult.{TraceResult}
-use Rattle.spanset_eval.specs.Outcomes.{IsListOf, IsOutcome, shown}
+use Rattle.spanset_eval.specs.Outcomes.{IsListOf, shown}
 use Rattle.spanset_eval.specs.Sets.{IsReached, IsSome, Joined, PassesFilter, Relates, Selects, Structural, filter_span}
 use Rattle.spanset_eval.specs.Stages.{remaining, selected_fields}
 use Rattle.traceql_syntax.specs.declared.query.Relation.{Relation}

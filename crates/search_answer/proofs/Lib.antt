@@ -8,3 +8,5 @@ pub mod RankLaws
 pub mod Sorting
 mod Shown
 mod Starts
+mod BestLaws
+mod PickedLaws

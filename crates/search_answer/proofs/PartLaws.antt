@@ -1,5 +1,5 @@
 -- What a query answers of several traces: parts are joined, and the traces in a range answer what a search answers.
-use Rattle.std.proofs.Common.{◌≡◌, ◌⊎◌, inl, inr, ℕ, zero, suc, ◌<◌, ◌≤◌, ◌+◌, List, [], ◌∷◌, ◌++◌, Bool, true, false, if◌then◌else◌, Option, Some, None, refl, sym, ◌∙◌, ap, subst, arith, All, Contains, length, map, take, drop, slice_index_or, append_assoc}
+use Rattle.std.proofs.Common.{◌≡◌, ℕ, zero, suc, ◌<◌, ◌+◌, List, [], ◌∷◌, ◌++◌, true, false, if◌then◌else◌, Option, Some, None, refl, sym, ◌∙◌, ap, subst, arith, Contains, length, take, slice_index_or, append_assoc}
 use Rattle.std.specs.List.{AllByRecursion, IsDistinct}
 use Rattle.std.specs.List.Sorted.{IsSorted}
 use Rattle.std.specs.Option.{option_to_list}
@@ -10,7 +10,7 @@ use Rattle.std.proofs.lemmas.Cmp.{tied_itself}
 use Rattle.std.proofs.lemmas.List.Elements.{All-from_recursion, Contains-append_right, recursion_from_All}
 use Rattle.std.proofs.lemmas.List.Sorted.{IsPermutation-refl, ranks_by, sorted_far}
 use Rattle.std.proofs.lemmas.Map.Keys.{IsDistinct-head, IsDistinct-tail}
-use Rattle.column_scan.specs.declared.range.Range.{Range}
+use Rattle.moment_range.specs.declared.range.Range.{Range}
 use Rattle.rows_by_trace.specs.Traces.{is_of_trace, rows_of_trace}
 use Rattle.span_types.specs.declared.ids.TraceId.{TraceId}
 use Rattle.span_types.specs.declared.spans.Row.{Row}
@@ -18,7 +18,7 @@ use Rattle.span_types.specs.Orders.{trace_cmp}
 use Rattle.spanset_eval.specs.declared.results.TraceResult.{TraceResult}
 use Rattle.spanset_eval.specs.declared.groups.Group.{Group}
 use Rattle.spanset_eval.specs.Outcomes.{IsOutcome, shown}
-use Rattle.spanset_eval.specs.Ranking.{AreFirst, rank_cmp}
+use Rattle.spanset_eval.specs.Ranking.{rank_cmp}
 use Rattle.spanset_eval.specs.Stages.{remaining, selected_fields}
 use Rattle.traceql_syntax.specs.declared.field.Field.{Field}
 use Rattle.traceql_syntax.specs.Trees.{QueryTree}

@@ -14,7 +14,7 @@ use Rattle.search_answer.proofs.Sorting.{FirstBy, first_of_firsts}
 pub trace_rank_total : IsTotalOrder trace_rank_cmp
 trace_rank_total = then_total (back_total (on_total (λ (t : TraceInRange). t.start) nat_cmp_total)) (on_total (λ (t : TraceInRange). t.trace.0) nat_list_cmp_total)
 
-rank_total : IsTotalOrder rank_cmp
+pub rank_total : IsTotalOrder rank_cmp
 rank_total = then_total (back_total (on_total (λ (r : TraceResult). r.start) nat_cmp_total)) (on_total (λ (r : TraceResult). r.trace.0) nat_list_cmp_total)
 
 pub first_joined : FirstOfFirsts

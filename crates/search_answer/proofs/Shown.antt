@@ -1,11 +1,9 @@
 -- What is shown of the first traces, as they are gone over one by one.
 use Rattle.std.proofs.Common.{◌≡◌, ℕ, ◌+◌, ◌<◌, ◌≤◌, List, [], ◌∷◌, ◌++◌, Option, Some, None, refl, sym, ◌∙◌, ap, subst, arith, All, length, map, take, drop, slice_index_or, append-nil, length-append}
-use Rattle.std.specs.List.{AllByRecursion}
 use Rattle.std.specs.Option.{option_map, option_to_list}
 use Rattle.std.proofs.lemmas.List.{length-map, take-append-drop, take-append-le, take_all, take_more}
 use Rattle.std.proofs.lemmas.List.Elements.{All-drop, All-map, recursion_from_All}
 use Rattle.span_tree.specs.Nodes.{IsOneTrace}
-use Rattle.span_types.specs.declared.spans.Row.{Row}
 use Rattle.spanset_eval.specs.declared.results.TraceResult.{TraceResult}
 use Rattle.spanset_eval.specs.Outcomes.{IsCutOutcome, cut}
 use Rattle.traceql_syntax.specs.Trees.{QueryTree}

@@ -1,10 +1,10 @@
 -- Sorted lists: each element is no later one's follower. And the first of two lists' first elements.
-use Rattle.std.proofs.Common.{◌≡◌, ◌⊎◌, inl, inr, ℕ, zero, suc, ◌+◌, ◌-◌, ◌<◌, ◌≤◌, min, List, [], ◌∷◌, ◌++◌, Bool, true, false, cond, if◌then◌else◌, refl, sym, ◌∙◌, ap, ap₂, subst, arith, All, length, take, drop, slice_index_or, append-nil, append_assoc, length-append}
+use Rattle.std.proofs.Common.{◌≡◌, ◌⊎◌, inl, inr, ℕ, zero, suc, ◌+◌, ◌<◌, ◌≤◌, List, [], ◌∷◌, ◌++◌, Bool, true, false, cond, if◌then◌else◌, refl, sym, ◌∙◌, ap, ap₂, subst, arith, All, length, take, drop, slice_index_or, append-nil, append_assoc, length-append}
 use Rattle.std.specs.Cmp.{IsStrictWeakOrder}
 use Rattle.std.specs.List.{AllByRecursion, count_by}
 use Rattle.std.specs.List.Sorted.{IsPermutation, IsSortedBy}
 use Rattle.std.proofs.lemmas.Bool.{cases_Bool, cases_lt, cond-false, cond-true, true≢false}
-use Rattle.std.proofs.lemmas.List.{drop_all, get_or-drop, get_or-take, get_or_default, length-drop, length-take, take-append-drop, take-append-le, take_all}
+use Rattle.std.proofs.lemmas.List.{get_or-drop, get_or-take, get_or_default, length-drop, length-take, take-append-drop, take-append-le, take_all}
 use Rattle.std.proofs.lemmas.List.Elements.{All-append, All-from_recursion, recursion_from_All}
 use Rattle.std.proofs.lemmas.List.Sorted.{All-permutation, IsPermutation-append, IsPermutation-append_comm, IsPermutation-append_left, IsPermutation-append_right, IsPermutation-cons, IsPermutation-middle, IsPermutation-refl, IsPermutation-sym, IsPermutation-trans, length_permutation, sorted_far, sum_by-IsPermutation}
 use Rattle.std.proofs.lemmas.List.Sums.{count_by-le-length, sum_by-append, sum_by-cons, sum_by-take-drop}
@@ -75,12 +75,12 @@ insert_same before x (y ∷ ys) = elim (before y x) as (λ b. IsPermutation (x �
 ]
 
 -- A list with the same elements that is sorted.
-record Sorted {A : Type 0} (before : A → A → Bool) (xs : List A) : Type 0 where
-  all : List A
-  same : IsPermutation xs all
-  pairs : Pairs (NotBefore before) all
+pub record Sorted {A : Type 0} (before : A → A → Bool) (xs : List A) : Type 0 where
+  pub all : List A
+  pub same : IsPermutation xs all
+  pub pairs : Pairs (NotBefore before) all
 
-sorted_of : {A : Type 0} (before : A → A → Bool) → IsStrictWeakOrder before → (xs : List A) → Sorted before xs
+pub sorted_of : {A : Type 0} (before : A → A → Bool) → IsStrictWeakOrder before → (xs : List A) → Sorted before xs
 sorted_of before order [] = record { all = []; same = IsPermutation-refl []; pairs = tt }
 sorted_of before order (x ∷ xs) =
     let rest = sorted_of before order xs in

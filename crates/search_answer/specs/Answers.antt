@@ -1,8 +1,8 @@
 -- What a search answers, over the first occurrences of all spans.
 use Rattle.std.specs.Prelude.{◌≡◌, ◌≢◌, ℕ, List, [], ◌∷◌, Bool, true, Some, All, Contains, map}
 use Rattle.std.specs.List.{list_any}
-use Rattle.column_scan.specs.declared.range.Range.{Range}
-use Rattle.column_scan.specs.Ranges.{is_within}
+use Rattle.moment_range.specs.declared.range.Range.{Range}
+use Rattle.moment_range.specs.Ranges.{is_within}
 use Rattle.span_types.specs.declared.ids.TraceId.{TraceId}
 use Rattle.span_types.specs.declared.spans.Row.{Row}
 use Rattle.spanset_eval.specs.declared.results.TraceResult.{TraceResult}

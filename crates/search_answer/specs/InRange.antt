@@ -3,7 +3,7 @@ use Rattle.std.specs.Prelude.{◌≡◌, List, Bool, true, All, Contains, map}
 use Rattle.std.specs.List.{IsDistinct}
 use Rattle.std.specs.Ordering.{is_eq, nat_cmp, ordering_then}
 use Rattle.std.specs.declared.cmp.Ordering.{Ordering}
-use Rattle.column_scan.specs.declared.range.Range.{Range}
+use Rattle.moment_range.specs.declared.range.Range.{Range}
 use Rattle.rows_by_trace.specs.Traces.{rows_of_trace}
 use Rattle.span_types.specs.declared.ids.TraceId.{TraceId}
 use Rattle.span_types.specs.declared.spans.Row.{Row}

@@ -3,7 +3,7 @@ use Rattle.std.specs.Prelude.{◌≡◌, ◌≢◌, ℕ, ◌<◌, ◌≤◌, Lis
 use Rattle.std.specs.List.{AllPairs}
 use Rattle.std.specs.Ordering.{is_eq}
 use Rattle.std.specs.declared.cmp.Ordering.TheVariants.{Less}
-use Rattle.column_scan.specs.declared.range.Range.{Range}
+use Rattle.moment_range.specs.declared.range.Range.{Range}
 use Rattle.span_types.specs.declared.spans.Row.{Row}
 use Rattle.span_types.specs.Keys.{row_key}
 use Rattle.span_types.specs.Orders.{block_order, trace_cmp}

@@ -1,5 +1,6 @@
 //! Laws of answers: of several traces, and of parts of them that are looked at by themselves, as in several threads.
 
+ghost use Rattle.search_answer.specs.Best.{FirstStays, PickedAnswerTheWhole};
 ghost use Rattle.search_answer.specs.Parts.{EachIsAnswered, FirstOfFirsts, JoinedAnswers, OneAnswer, PartedAnswers};
 
 /// Of each trace a query answers something or nothing, and only one thing.
@@ -18,4 +19,15 @@ pub fn parts_answer_the_whole()
 /// by itself.
 pub fn first_of_parts()
     ensures { FirstOfFirsts }
+{}
+
+/// If as many results are kept as are asked for, others that rank after the kept ones change nothing.
+pub fn first_stays()
+    ensures { FirstStays }
+{}
+
+/// If each trace of which a query answers something is picked, the first occurrences of the picked traces' rows have the
+/// answer that those of all rows have.
+pub fn picked_answer_the_whole()
+    ensures { PickedAnswerTheWhole }
 {}

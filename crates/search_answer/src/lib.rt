@@ -5,6 +5,7 @@
 //! ones; `laws` says how the parts' answers are joined.
 #![tactic(auto)]
 
+mod best;
 mod bounds;
 mod laws;
 mod ranking;
@@ -13,8 +14,11 @@ mod search;
 mod threads;
 mod traces;
 
+pub use best::Best;
 pub use bounds::Bounds;
-pub use laws::{first_of_parts, one_answer_each, parts_answer_the_whole};
+pub use laws::{
+    first_of_parts, first_stays, one_answer_each, parts_answer_the_whole, picked_answer_the_whole,
+};
 pub use ranking::rank_traces;
 pub use results::first_results;
 pub use search::answer;

@@ -6,7 +6,7 @@ ghost use Rattle.span_types.specs.declared.spans.Row.{Row};
 ghost use Rattle.search_answer.specs.Answers.{IsAnswerTo};
 
 use crate::{Bounds, first_results, rank_traces, traces_in_range};
-use column_scan::Range;
+use moment_range::Range;
 use span_types::{Memory, Row};
 use spanset_eval::Results;
 use std::alloc::Global;

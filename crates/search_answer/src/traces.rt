@@ -8,7 +8,7 @@ ghost use Rattle.search_answer.specs.Answers.{is_in_range};
 ghost use Rattle.search_answer.specs.InRange.{AreInRange};
 ghost use Rattle.search_answer.specs.Walking.{FirstStarts, IsFront, IsPart, of_one_trace};
 
-use column_scan::Range;
+use moment_range::Range;
 use span_types::{Memory, Row, TraceId};
 use std::alloc::Global;
 

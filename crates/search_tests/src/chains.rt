@@ -1,7 +1,7 @@
 //! Long chains of operators on a small stack.
 
 use crate::lines::{Failure, firsts_of, query_of, rows_of};
-use column_scan::Range;
+use moment_range::Range;
 use search_answer::{Bounds, answer};
 use std::alloc::{AllocError, Global};
 use std::test::Fail;

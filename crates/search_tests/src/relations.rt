@@ -6,7 +6,7 @@ ghost use Rattle.span_types.specs.First.{IsFirstOf};
 ghost use Rattle.span_types.specs.declared.spans.Row.{Row};
 
 use crate::lines::{firsts_of, query_of, rows_of};
-use column_scan::Range;
+use moment_range::Range;
 use search_answer::{Bounds, answer};
 use span_types::Rows;
 use spanset_eval::{Results, TraceResult};

@@ -2,7 +2,7 @@
 use Rattle.std.specs.Prelude.{ℕ, ◌^◌, ◌-◌, ◌&&◌, ◌==◌, List, [], ◌∷◌, length, codes, nat_le, nat_lt, if◌then◌else◌, Option, Some, None, option_and_then, unwrap_or, Result, Ok, Err, ℤ, pos, negsuc}
 use Rattle.std.specs.Option.{option_or}
 use Rattle.jiff.specs.Words.{parse_timestamp, Error}
-use Rattle.column_scan.specs.declared.range.Range.{Range}
+use Rattle.moment_range.specs.declared.range.Range.{Range}
 use Rattle.otlp_spans.specs.Fields.{moment_of}
 use Rattle.session_text.specs.Lines.{first_part, other_parts}
 

@@ -8,8 +8,8 @@ ghost use Rattle.session_text.specs.Lines.{first_part, other_parts};
 ghost use Rattle.session_text.specs.Options.{behind, count_of, if_count, option_first, search_parts, time_of, timestamp_of};
 ghost use Rattle.session_text.specs.Parsed.{left_parsed, line_parsed, option_parsed};
 
-use column_scan::Range;
 use jiff::Timestamp;
+use moment_range::Range;
 
 /// How many traces, and how many spans of a spanset, an option may ask for at most.
 const MOST: u64 = 1000;

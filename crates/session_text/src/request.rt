@@ -1,6 +1,6 @@
 //! What a line may ask.
 
-use column_scan::Range;
+use moment_range::Range;
 use otlp_spans::Reading;
 use span_types::TraceId;
 use traceql_types::Checked;

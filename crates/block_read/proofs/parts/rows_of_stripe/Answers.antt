@@ -1,24 +1,8 @@
-use Rattle.std.proofs.Common.{◌≡◌, List, Result, Ok, sym, subst, ◌∙◌, ℕ}
-use Rattle.span_types.specs.declared.spans.Row.{Row}
-use Rattle.span_fields.specs.Breaks.{Fails}
-use Rattle.span_fields.specs.declared.breaks.Break.{Break}
-use Rattle.span_fields.specs.declared.breaks.Break.TheVariants as breaks
+use Rattle.std.proofs.Common.{◌∙◌}
 use Rattle.block_read.proofs.TraceWalk.{stripe_told}
 use Rattle.block_read.proofs.parts.rows_of_stripe.Goals as goal
 
-same_rows : (xs ys : List Row) → (let r : Result (List Row) ℕ = Ok xs in let q : Result (List Row) ℕ = Ok ys in r ≡ q) → xs ≡ ys
-same_rows xs ys e = cc
-
-never : (b : Break) (at : ℕ) (rows : List Row) → b ≡ breaks.At at → (let r : Result (List Row) ℕ = Ok rows in Fails b r) → ⊥
-never breaks.Memory at rows is fails = cc
-never (breaks.At place) at rows is fails = cc
-
-pub returns-in-Ok-stripe_rows-clause-answers : goal.returns-in-Ok-stripe_rows-clause-answers
-returns-in-Ok-stripe_rows-clause-answers g c = λ told rows has.
-    let read = stripe_told c.args.form c.args.entry.now (g.P.Pages.held c.args.pages.now c.args.block) c.as_slice.result.now rows has (c.as_slice.ensures.value ∙ c.in-Ok.ensures.bytes told) in
-    c.of.ensures ∙ same_rows c.in-Ok-stripe_rows.rows.items rows (sym c.in-Ok-stripe_rows.ensures ∙ read)
-
-pub returns-in-Err-At-clause-answers : goal.returns-in-Err-At-clause-answers
-returns-in-Err-At-clause-answers g c = λ told rows has.
-    let read = stripe_told c.args.form c.args.entry.now (g.P.Pages.held c.args.pages.now c.args.block) c.as_slice.result.now rows has (c.as_slice.ensures.value ∙ c.in-Ok.ensures.bytes told) in
-    never c.in-Err-At.field-0 c.in-Err-At.at rows c.in-Err-At.field-0-is (subst (λ (r : Result (List Row) ℕ). Fails c.in-Err-At.field-0 r) read c.in-Err-At.ensures)
+pub returns-in-Ok-clause-answers : goal.returns-in-Ok-clause-answers
+returns-in-Ok-clause-answers g c = λ told rows has.
+    c.rows_of_bytes.ensures.answers rows
+    (stripe_told c.args.form c.args.entry.now (g.P.Pages.held c.args.pages.now c.args.block) c.as_slice.result.now rows has (c.as_slice.ensures.value ∙ c.in-Ok.ensures.bytes told))

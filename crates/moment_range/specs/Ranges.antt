@@ -1,6 +1,6 @@
 -- Ranges of moments.
 use Rattle.std.specs.Prelude.{ℕ, Bool, true, ◌&&◌, nat_le, nat_lt, Option, Some, None}
-use Rattle.column_scan.specs.declared.range.Range.{Range}
+use Rattle.moment_range.specs.declared.range.Range.{Range}
 
 -- the moment is before the end, where there is one
 abbrev pub is_before : Option ℕ → ℕ → Bool

@@ -1,7 +1,7 @@
 //! Ranges of moments.
 
 ghost use Rattle.std.specs.Prelude.{◌≡◌};
-ghost use Rattle.column_scan.specs.Ranges.{is_within};
+ghost use Rattle.moment_range.specs.Ranges.{is_within};
 
 /// The moments from one on, and before another where there is one. Moments are nanoseconds since 1970.
 #[derive(Clone, Copy, Debug, PartialEq, Eq)]

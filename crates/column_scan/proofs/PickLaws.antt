@@ -1,0 +1,130 @@
+-- What is answered is picked.
+use Rattle.std.proofs.Common.{◌≡◌, ℕ, zero, suc, ◌<◌, ◌≤◌, Bool, true, false, List, [], ◌∷◌, length, Option, None, Some, filter, refl, sym, ◌∙◌, ap, arith, slice_index_or, Contains}
+use Rattle.std.specs.List.{list_any}
+use Rattle.std.specs.Ordering.{is_eq}
+use Rattle.std.proofs.lemmas.List.Elements.{All-contains}
+use Rattle.moment_range.specs.declared.range.Range.{Range}
+use Rattle.rows_by_trace.specs.Traces.{is_of_trace, rows_of_trace}
+use Rattle.span_types.specs.First.{first_at, lesser, row_at}
+use Rattle.span_types.specs.Keys.{row_key}
+use Rattle.span_types.specs.Orders.{key_cmp, place_cmp}
+use Rattle.std.specs.Ordering.{is_lt}
+use Rattle.span_types.specs.declared.ids.Key.{Key}
+use Rattle.span_types.specs.declared.spans.Row.{Row}
+use Rattle.spanset_eval.specs.Outcomes.{IsOutcome, shown}
+use Rattle.spanset_eval.specs.Stages.{remaining, selected_fields}
+use Rattle.spanset_eval.specs.declared.groups.Group.{Group}
+use Rattle.spanset_eval.specs.declared.results.TraceResult.{TraceResult}
+use Rattle.traceql_syntax.specs.Trees.{QueryTree}
+use Rattle.traceql_types.specs.declared.pattern.Pattern.{Pattern}
+use Rattle.traceql_value.specs.Spans.{earliest, latest, start_of}
+use Rattle.search_answer.proofs.Fronts.{same_trace}
+use Rattle.search_answer.specs.Answers.{IsResult}
+use Rattle.column_scan.proofs.HintLaws.{answer_holds}
+use Rattle.column_scan.specs.Hints.{query_text}
+use Rattle.column_scan.specs.Candidates.{AnsweredIsPicked, IsCovered, hint_of, hinted_by, hinted_picks, is_hinted, pick_of, spans_of}
+use Rattle.column_scan.proofs.Latest.{contains_filter, contains_map}
+
+-- ---- lists
+
+record There (p : Row → Bool) (rows : List Row) : Type 0 where
+  row : Row
+  member : Contains rows row
+  passes : p row ≡ true
+
+later_there : (p : Row → Bool) (x : Row) (rows : List Row) → There p rows → There p (x ∷ rows)
+later_there p x rows t = record { row = t.row; member = (suc t.member.0, omega (arith, t.member.1), t.member.2); passes = t.passes }
+
+there : (p : Row → Bool) (rows : List Row) → list_any p rows ≡ true → There p rows
+there p [] is = cc
+there p (x ∷ rows) is = (elim (p x) as (λ b. p x ≡ b → There p (x ∷ rows)) [
+  | true ↦ λ t. record { row = x; member = (0, omega arith, refl); passes = t }
+  | false ↦ λ t. later_there p x rows (there p rows (rw t at is))
+]) refl
+
+-- what a filter kept
+record Kept (p : Row → Bool) (rows : List Row) (row : Row) : Type 0 where
+  member : Contains rows row
+  passes : p row ≡ true
+
+later_kept : (p : Row → Bool) (x : Row) (rows : List Row) (row : Row) → Kept p rows row → Kept p (x ∷ rows) row
+later_kept p x rows row k = record { member = (suc k.member.0, omega (arith, k.member.1), k.member.2); passes = k.passes }
+
+kept : (p : Row → Bool) (rows : List Row) (row : Row) (k : ℕ) → k < length (filter p rows) → slice_index_or (filter p rows) k row ≡ row → Kept p rows row
+kept p [] row k low is = absurd (omega (arith, low))
+kept p (x ∷ rows) row k low is = (elim (p x) as (λ b. p x ≡ b → Kept p (x ∷ rows) row) [
+  | true ↦ λ t. here t k (λ j low is. kept p rows row j low is) (rw t at low) (rw t at is)
+  | false ↦ λ t. later_kept p x rows row (kept p rows row k (rw t at low) (rw t at is))
+]) refl
+  where
+    here : p x ≡ true → (k : ℕ) → ((j : ℕ) → j < length (filter p rows) → slice_index_or (filter p rows) j row ≡ row → Kept p rows row)
+        → k < length (x ∷ filter p rows) → slice_index_or (x ∷ filter p rows) k row ≡ row → Kept p (x ∷ rows) row
+    here t zero rest low is = record { member = (0, omega arith, is); passes = ap p (sym is) ∙ t }
+    here t (suc k) rest low is = later_kept p x rows row (rest k (omega (arith, low)) is)
+
+-- ---- first occurrences are rows
+
+at_is : (k : Key) (x r : Row) → row_at k x ≡ Some r → x ≡ r
+at_is k x r is = (elim (is_eq (key_cmp (row_key x) k)) as (λ b. is_eq (key_cmp (row_key x) k) ≡ b → x ≡ r) [
+  | true ↦ λ t. let one : Some x ≡ Some r = rw t at is in cc
+  | false ↦ λ t. let none : None ≡ Some r = rw t at is in cc
+]) refl
+
+either : (a b : Option Row) (r : Row) → lesser a b ≡ Some r → (P : Type 0) → (a ≡ Some r → P) → (b ≡ Some r → P) → P
+either None b r is P one two = two is
+either (Some a) None r is P one two = one is
+either (Some a) (Some b) r is P one two = (elim (is_lt (place_cmp b.place a.place)) as (λ t. is_lt (place_cmp b.place a.place) ≡ t → P) [
+  | true ↦ λ t. two (rw t at is)
+  | false ↦ λ t. one (rw t at is)
+]) refl
+
+first_is_row : (k : Key) (rows : List Row) (r : Row) → first_at k rows ≡ Some r → Contains rows r
+first_is_row k [] r is = cc
+first_is_row k (x ∷ rows) r is = either (row_at k x) (first_at k rows) r is (Contains (x ∷ rows) r)
+    (λ one. (0, omega arith, at_is k x r one))
+    (λ two. let m = first_is_row k rows r two in (suc m.0, omega (arith, m.1), m.2))
+
+-- ---- when a trace starts
+
+known_bounds : (known : ℕ) (rows : List Row) → earliest known rows ≤ known
+known_bounds known [] = omega arith
+known_bounds known (x ∷ rows) = let rest = known_bounds known rows in omega (arith, rest)
+
+earliest_bounds : (known : ℕ) (rows : List Row) (row : Row) (k : ℕ) → k < length rows → slice_index_or rows k row ≡ row → earliest known rows ≤ row.span.start
+earliest_bounds known [] row k low is = absurd (omega (arith, low))
+earliest_bounds known (x ∷ rows) row zero low is = let same : x.span.start ≡ row.span.start = ap (λ (r : Row). r.span.start) is in omega (arith, same)
+earliest_bounds known (x ∷ rows) row (suc k) low is = let rest = earliest_bounds known rows row k (omega (arith, low)) is in omega (arith, rest)
+
+result_starts : (ps : List Pattern) (q : QueryTree) (rows : List Row) (r : TraceResult) → IsOutcome ps rows q (Some r) → r.start ≡ start_of rows
+result_starts ps q [] r outcome = let bad : Some r ≡ None = outcome.is in cc
+result_starts ps q (x ∷ rows) r outcome = at (remaining ps (x ∷ rows) q.stages outcome.selected) outcome.is
+  where
+    at : (groups : List Group) → Some r ≡ shown (selected_fields q.stages) (x ∷ rows) groups → r.start ≡ start_of (x ∷ rows)
+    at [] is = cc
+    at (g ∷ groups) is = let same = unwrapped r _ is in ap (λ (s : TraceResult). s.start) same
+      where
+        unwrapped : (a b : TraceResult) → Some a ≡ Some b → a ≡ b
+        unwrapped a b h = cc
+
+-- ---- the law
+
+hinted : (ps : List Pattern) (q : QueryTree) (range : Range) (rows : List Row) (r : TraceResult) → IsResult ps q range rows r
+    → list_any (λ row. hinted_by (query_text q) range row.span) rows ≡ true
+hinted ps q range rows r is = at (query_text q) refl
+  where
+    at : (text : Option (List ℕ)) → query_text q ≡ text → list_any (λ row. hinted_by (query_text q) range row.span) rows ≡ true
+    at None e = ap (λ (t : Option (List ℕ)). list_any (λ row. hinted_by t range row.span) rows) e ∙ is.within
+    at (Some text) e = ap (λ (t : Option (List ℕ)). list_any (λ row. hinted_by t range row.span) rows) e ∙ answer_holds ps rows q text r e is.outcome
+
+pub picked : AnsweredIsPicked
+picked ps q range rows firsts picks id r first are is =
+    let t = there (λ row. hinted_by (query_text q) range row.span) (rows_of_trace id firsts) (hinted ps q range (rows_of_trace id firsts) r is) in
+    let k = kept (is_of_trace id) firsts t.row t.member.0 t.member.1 t.member.2 in
+    let whole = first_is_row (row_key t.row) rows t.row (All-contains (λ x. first_at (row_key x) rows ≡ Some x) firsts t.row first.only k.member) in
+    let among = contains_map pick_of (filter (is_hinted (hint_of q range)) (spans_of rows)) t.row.span
+    (contains_filter (is_hinted (hint_of q range)) (spans_of rows) t.row.span (contains_map (λ (row : Row). row.span) rows t.row whole) t.passes) in
+    let p = All-contains (IsCovered picks) (hinted_picks (hint_of q range) (spans_of rows)) (pick_of t.row.span) are.whole among in
+    let early = earliest_bounds (latest (rows_of_trace id firsts)) (rows_of_trace id firsts) t.row t.member.0 t.member.1 t.member.2 in
+    let starts = result_starts ps q (rows_of_trace id firsts) r is.outcome in
+    let late = p.3 in
+    (p.0, p.1, p.2 ∙ same_trace t.row.span.trace id k.passes, omega (arith, early, starts, late))

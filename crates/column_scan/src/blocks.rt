@@ -1,0 +1,157 @@
+//! The traces of a block that have hinted spans.
+
+ghost use Rattle.std.specs.Prelude.{◌≡◌, ◌+◌, ◌^◌, ◌<◌, ◌++◌, [], ◌∷◌, IfOk, IsTrue, List, OnOk, map};
+ghost use Rattle.span_types.specs.declared.spans.Row.{Row};
+ghost use Rattle.block_format.specs.Blocks.{BlockHasInfo, StripeHasEntry};
+ghost use Rattle.block_read.specs.Answers.{RoseAtMost, is_fault};
+ghost use Rattle.block_read.specs.Files.{part_of};
+ghost use Rattle.block_read.specs.Lookups.{IsInFile};
+ghost use Rattle.block_read.specs.PageReads.{OnlyReads};
+ghost use Rattle.column_scan.specs.Candidates.{AreCandidates, ArePicks, HaveLatest, hinted_picks, spans_of};
+ghost use Rattle.column_scan.specs.Scans.{FindsFit, may_scan, meets, scanned_pages};
+
+use crate::picks::add_hinted;
+use crate::{Hint, Pick, in_order};
+use block_info::{BlockInfo, StripeInfo};
+use block_read::{Pages, ReadError, rows_of_stripe};
+use moment_range::Range;
+use span_types::{Ids, Memory, Row, TraceId};
+use std::alloc::Global;
+
+/// The ids of the traces that have a hinted row in a block, each once, in ascending order. It reads as
+/// [`picks_of_block`] does, with the same errors.
+pub fn candidates<P: Pages>(
+    alloc: Global,
+    pages: &mut P,
+    block: u32,
+    info: &BlockInfo,
+    hint: &Hint,
+) -> Result<Ids, ReadError>
+    requires { P.ready pages.old block }
+    ensures answers { IsTrue (P.tells pages.old) → (rows : List Row)
+        → BlockHasInfo info.now (P.held pages.old block) rows
+        → FindsFit (AreCandidates hint.now (spans_of rows)) result }
+    ensures its_file { IsInFile block result }
+    ensures reads { RoseAtMost (scanned_pages hint.now info.now.stripes)
+        (P.reads pages.old) (P.reads pages.new) }
+    ensures only { OnlyReads P.tells P.held P.faults P.ready P.went P.name
+        pages.old (is_fault result) pages.new }
+{
+    match picks_of_block(alloc, pages, block, info, hint) {
+        Ok(picks) => match traces_of(alloc, picks.as_slice()) {
+            Ok(traces) => Ok(Ids::of(traces)),
+            Err(_) => Err(ReadError::Memory),
+        },
+        Err(e) => Err(e),
+    }
+}
+
+// The traces of picks, in their order.
+fn traces_of(alloc: Global, picks: &[Pick]) -> Result<Vec<TraceId>, Memory>
+    ensures { IfOk result (λ traces. traces.items ≡ map (λ p. p.trace) picks.now) }
+{
+    let mut traces = Vec::new(alloc);
+    for pick in picks {
+        traces.push(pick.trace)?;
+    }
+    Ok(traces)
+}
+
+/// The traces that have a hinted row in a block, each once, in ascending order.
+///
+/// With a text each stripe is read, without one those of which a moment can be in the range, each page once.
+/// [`ReadError::NotBlock`] comes only if the pages are no block that the information describes, at the first byte of the
+/// file where a stripe is malformed.
+pub fn picks_of_block<P: Pages>(
+    alloc: Global,
+    pages: &mut P,
+    block: u32,
+    info: &BlockInfo,
+    hint: &Hint,
+) -> Result<Vec<Pick>, ReadError>
+    requires { P.ready pages.old block }
+    ensures answers { IsTrue (P.tells pages.old) → (rows : List Row)
+        → BlockHasInfo info.now (P.held pages.old block) rows
+        → FindsFit (λ picks. ArePicks hint.now (spans_of rows) picks.items) result }
+    ensures its_file { IsInFile block result }
+    ensures reads { RoseAtMost (scanned_pages hint.now info.now.stripes)
+        (P.reads pages.old) (P.reads pages.new) }
+    ensures only { OnlyReads P.tells P.held P.faults P.ready P.went P.name
+        pages.old (is_fault result) pages.new }
+{
+    let mut picks = Vec::new(alloc);
+    for stripe in info.stripes.as_slice() {
+        add_stripe(alloc, pages, block, info.form, stripe, hint, &mut picks)?;
+    }
+    match in_order(alloc, picks) {
+        Ok(all) => Ok(all),
+        Err(_) => Err(ReadError::Memory),
+    }
+}
+
+// Adds the traces that have a hinted row in a stripe, which is read only if it may have one.
+fn add_stripe<P: Pages>(
+    alloc: Global,
+    pages: &mut P,
+    block: u32,
+    form: u8,
+    entry: &StripeInfo,
+    hint: &Hint,
+    picks: &mut Vec<Pick>,
+) -> Result<(), ReadError>
+    requires ready { P.ready pages.old block }
+    requires near { entry.now.page + entry.now.pages < 2 ^ 52 }
+    ensures answers { IsTrue (P.tells pages.old) → (rows : List Row)
+        → StripeHasEntry form entry.now
+        (part_of entry.now.page entry.now.pages (P.held pages.old block)) rows
+        → FindsFit (λ _. HaveLatest (picks.old.items ++ hinted_picks hint.now (spans_of rows))
+        picks.new.items) result }
+    ensures its_file { IsInFile block result }
+    ensures reads { RoseAtMost (scanned_pages hint.now (entry.now ∷ []))
+        (P.reads pages.old) (P.reads pages.new) }
+    ensures only { OnlyReads P.tells P.held P.faults P.ready P.went P.name
+        pages.old (is_fault result) pages.new }
+{
+    if !may_scan(hint, entry) {
+        return Ok(());
+    }
+    match rows_of_stripe(alloc, pages, block, form, entry) {
+        Ok(rows) => match add_rows(hint, rows.as_slice(), picks) {
+            Ok(()) => Ok(()),
+            Err(_) => Err(ReadError::Memory),
+        },
+        Err(e) => Err(e),
+    }
+}
+
+// Adds the traces of the rows that are hinted.
+fn add_rows(hint: &Hint, rows: &[Row], picks: &mut Vec<Pick>) -> Result<(), Memory>
+    ensures { OnOk result (HaveLatest
+        (picks.old.items ++ hinted_picks hint.now (spans_of rows.now)) picks.new.items) }
+{
+    for row in rows {
+        add_hinted(hint, &row.span, picks)?;
+    }
+    Ok(())
+}
+
+// Whether a stripe may have hinted rows.
+fn may_scan(hint: &Hint, stripe: &StripeInfo) -> bool
+    ensures { result ≡ may_scan hint.now stripe.now }
+{
+    match &hint.text {
+        None => meets(hint.range, stripe),
+        Some(_) => true,
+    }
+}
+
+// Whether some moment of the stripe can be in the range.
+fn meets(range: Range, stripe: &StripeInfo) -> bool
+    ensures { result ≡ meets range stripe.now }
+{
+    let begins = range.from <= stripe.latest;
+    match range.until {
+        None => begins,
+        Some(until) => begins && stripe.earliest < until,
+    }
+}

@@ -1,0 +1,15 @@
+//! Laws of searches that take a few traces at a time. Each is a theorem: its contract is the statement.
+
+ghost use Rattle.query_fanout.specs.Taking.{TakenAnswerTheWhole, TakesMore, TakesMoreRead};
+
+/// If the hinted rows are covered by the picks that were taken, what is kept in the end is what the search answers over all
+/// rows.
+pub fn taken_answer_the_whole()
+    ensures { TakenAnswerTheWhole }
+{}
+
+/// One more few are taken after those that were: over the same rows, or over rows in memory and what was read for each.
+pub fn takes_more()
+    ensures same { TakesMore }
+    ensures read { TakesMoreRead }
+{}
