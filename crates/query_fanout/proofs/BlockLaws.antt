@@ -1,29 +1,28 @@
 -- What is read of the blocks of a look, one after another.
-use Rattle.std.proofs.Common.{◌≡◌, ℕ, zero, suc, ◌+◌, ◌<◌, ◌≤◌, Bool, true, false, not, ◌||◌, eqb, List, [], ◌∷◌, ◌++◌, length, take, drop, get_or, Option, Some, None, Result, Ok, Err, append-nil, refl, sym, ap, subst, ◌∙◌, arith, if◌then◌else◌}
+use Rattle.std.proofs.Common.{◌≡◌, ℕ, zero, suc, ◌+◌, ◌<◌, ◌≤◌, Bool, true, false, not, ◌||◌, eqb, List, [], ◌∷◌, ◌++◌, length, take, drop, get_or, Result, Ok, Err, append-nil, refl, sym, ap, subst, ◌∙◌, arith, if◌then◌else◌}
 use Rattle.std.specs.Prelude.{IfOk, IsTrue}
 use Rattle.std.specs.List.{flat_map}
 use Rattle.std.proofs.lemmas.Bool.{eq-eqb}
 use Rattle.std.proofs.lemmas.Grind.{flat_map-append}
 use Rattle.std.proofs.lemmas.List.{drop_more, take_more, take-append-drop}
-use Rattle.std.proofs.lemmas.List.Elements.{filter-append}
 use Rattle.span_types.specs.declared.ids.TraceId.{TraceId}
 use Rattle.span_types.specs.declared.spans.Row.{Row}
 use Rattle.block_info.specs.InfoParts.{InfoParts}
 use Rattle.block_format.specs.Blocks.{BlockHasInfo}
-use Rattle.block_read.specs.Answers.{AnswersOf, RoseAtMost}
+use Rattle.block_read.specs.Answers.{RoseAtMost}
 use Rattle.block_read.specs.Answers as answers
-use Rattle.block_read.specs.Lookups.{Finds, IsInFile, most_pages}
+use Rattle.block_read.specs.Lookups.{IsInFile, most_pages}
 use Rattle.block_read.specs.declared.error.ReadError.{ReadError}
 use Rattle.block_read.specs.declared.error.ReadError.TheVariants as unread
-use Rattle.rows_by_trace.specs.Traces.{is_of_trace}
+use Rattle.column_scan.specs.Scans.{FindsFit}
 use Rattle.store_model.specs.State.{is_among}
 use Rattle.store_state.specs.Given.{info_files, look_of}
 use Rattle.store_state.specs.Meaning.{Meaning, IsOpen}
 use Rattle.store_state.specs.Written.{AreBlocksOf}
 use Rattle.store_state.specs.declared.jobs.Look.{Look}
-use Rattle.query_fanout.specs.Bounds.{all_pages, look_up_pages}
+use Rattle.query_fanout.specs.Bounds.{look_up_pages}
 use Rattle.query_fanout.specs.Queries.{ComesOf, Sound, is_fault}
-use Rattle.query_fanout.specs.Reading.{AreWanted, BlocksRead, PagesRead, of_read, wanted_rows}
+use Rattle.query_fanout.specs.Reading.{AtMost, BlocksRead, PagesRead, most_of, of_read}
 use Rattle.query_fanout.specs.declared.error.QueryError.{QueryError}
 use Rattle.query_fanout.specs.declared.error.QueryError.TheVariants.{Fault, NotBlock, Memory}
 use Rattle.query_fanout.proofs.CallLaws.{pages_none, pages_then}
@@ -108,23 +107,25 @@ add_both : (m a b c : ℕ) → a + b ≤ c → m + a + b ≤ m + c
 add_both m a b c low = omega (arith, low)
 
 -- what may be read of the front and of the block after it
-front_and_next : (shows : ℕ → List ℕ) (id : TraceId) (front : List InfoParts) (info : InfoParts) (back : List InfoParts) (before after : List (List Row)) (rows : List Row)
-    → AreBlocksOf shows front before → look_up_pages id front before + most_pages info id rows ≤ look_up_pages id (front ++ info ∷ back) (before ++ rows ∷ after)
-front_and_next shows id [] info back [] after rows are = add_low (most_pages info id rows) (look_up_pages id back after)
-front_and_next shows id [] info back (p ∷ ps) after rows are = absurd are
-front_and_next shows id (i ∷ is) info back [] after rows are = absurd are
-front_and_next shows id (i ∷ is) info back (p ∷ ps) after rows are =
-    add_both (most_pages i id p) (look_up_pages id is ps) (most_pages info id rows) (look_up_pages id (is ++ info ∷ back) (ps ++ rows ∷ after))
-    (front_and_next shows id is info back ps after rows are.1)
+front_and_next : (most : InfoParts → List Row → ℕ) (shows : ℕ → List ℕ) (front : List InfoParts) (info : InfoParts) (back : List InfoParts) (before after : List (List Row)) (rows : List Row)
+    → AreBlocksOf shows front before → most_of most front before + most info rows ≤ most_of most (front ++ info ∷ back) (before ++ rows ∷ after)
+front_and_next most shows [] info back [] after rows are = add_low (most info rows) (most_of most back after)
+front_and_next most shows [] info back (p ∷ ps) after rows are = absurd are
+front_and_next most shows (i ∷ is) info back [] after rows are = absurd are
+front_and_next most shows (i ∷ is) info back (p ∷ ps) after rows are =
+    add_both (most i p) (most_of most is ps) (most info rows) (most_of most (is ++ info ∷ back) (ps ++ rows ∷ after)) (front_and_next most shows is info back ps after rows are.1)
 
-one_only : (info : InfoParts) → all_pages (info ∷ []) ≡ info.pages
-one_only info = omega arith
+-- for one trace that is what a look-up may read
+pub look_up_is : (id : TraceId) (infos : List InfoParts) (parts : List (List Row)) → most_of (λ info rows. most_pages info id rows) infos parts ≡ look_up_pages id infos parts
+look_up_is id [] parts = refl
+look_up_is id (i ∷ is) [] = refl
+look_up_is id (i ∷ is) (p ∷ ps) = ap (λ (n : ℕ). most_pages i id p + n) (look_up_is id is ps)
 
-all_front_and_next : (front : List InfoParts) (info : InfoParts) (back : List InfoParts) → all_pages front + info.pages ≤ all_pages (front ++ info ∷ back)
-all_front_and_next [] info back = add_low info.pages (all_pages back)
-all_front_and_next (i ∷ is) info back = add_both i.pages (all_pages is) info.pages (all_pages (is ++ info ∷ back)) (all_front_and_next is info back)
+pub look_up_widens : (id : TraceId) (infos : List InfoParts) (parts : List (List Row)) (a b : ℕ)
+    → AtMost (most_of (λ info rows. most_pages info id rows) infos) parts a b → AtMost (look_up_pages id infos) parts a b
+look_up_widens id infos parts a b rose = subst (λ (n : ℕ). RoseAtMost n a b) (look_up_is id infos parts) rose
 
-rose_twice : (m n count a b c : ℕ) → RoseAtMost m a b → RoseAtMost n b c → m + n ≤ count → RoseAtMost count a c
+pub rose_twice : (m n count a b c : ℕ) → RoseAtMost m a b → RoseAtMost n b c → m + n ≤ count → RoseAtMost count a c
 rose_twice m n count a b c one two low =
     let o = one.later in
     let p = one.at_most in
@@ -132,7 +133,10 @@ rose_twice m n count a b c one two low =
     let r = two.at_most in
     record { later = omega (arith, o, q); at_most = omega (arith, p, r, low) }
 
--- ---- what is wanted
+pub rose_none : (m n : ℕ) → RoseAtMost m n n
+rose_none m n = record { later = omega arith; at_most = omega arith }
+
+-- ---- what comes of it
 
 pub sound_error : {A B : Type 0} (one : A → Type 0) (other : B → Type 0) (why : QueryError) → Sound one (Err why) → Sound other (Err why)
 sound_error one other Fault h = tt
@@ -144,91 +148,68 @@ comes_error one other infos Fault h = tt
 comes_error one other infos (NotBlock file at) h = h
 comes_error one other infos Memory h = tt
 
-wanted_none : (wanted : Option TraceId) → wanted_rows wanted [] ≡ []
-wanted_none None = refl
-wanted_none (Some id) = refl
+found_sound : {A : Type 0} (fits other : A → Type 0) (r : Result A ReadError) → ((x : A) → fits x → other x) → FindsFit fits r → Sound other (of_read r)
+found_sound fits other (Ok x) to h = to x h
+found_sound fits other (Err unread.Fault) to h = tt
+found_sound fits other (Err (unread.NotBlock file at)) to h = h
+found_sound fits other (Err unread.Memory) to h = tt
 
-wanted_append : (wanted : Option TraceId) (a b : List Row) → wanted_rows wanted (a ++ b) ≡ wanted_rows wanted a ++ wanted_rows wanted b
-wanted_append None a b = refl
-wanted_append (Some id) a b = filter-append (is_of_trace id) a b
-
--- where reading gives rows, a call that answers what reading gives finds them
-pub finds_read : (file : ℕ) (rows : List Row) (r : Result (List Row) ReadError) (read : Result (List Row) ℕ) → AnswersOf (λ x. x) file r read → read ≡ Ok rows → Finds rows r
-finds_read file rows (Ok x) read a is = cc
-finds_read file rows (Err unread.Fault) read a is = tt
-finds_read file rows (Err (unread.NotBlock other at)) read a is = (let b = a.1 in cc)
-finds_read file rows (Err unread.Memory) read a is = tt
-
-found_sound : (found wanted : List Row) (r : Result (List Row) ReadError) → found ≡ wanted → Finds found r → Sound (λ x. x ≡ wanted) (of_read r)
-found_sound found wanted (Ok x) same h = h ∙ same
-found_sound found wanted (Err unread.Fault) same h = tt
-found_sound found wanted (Err (unread.NotBlock file at)) same h = h
-found_sound found wanted (Err unread.Memory) same h = tt
-
-same_fault : (r : Result (List Row) ReadError) → answers.is_fault r ≡ is_fault (of_read r)
+same_fault : {A : Type 0} (r : Result A ReadError) → answers.is_fault r ≡ is_fault (of_read r)
 same_fault (Ok x) = refl
 same_fault (Err unread.Fault) = refl
 same_fault (Err (unread.NotBlock file at)) = refl
 same_fault (Err unread.Memory) = refl
 
-part_comes : (wanted : Option TraceId) (infos : List InfoParts) (file : ℕ) (r : Result (List Row) ReadError) → is_among file (info_files infos) ≡ true → IsInFile file r
-    → IfOk r (λ rows. wanted_rows wanted rows ≡ rows) → ComesOf (AreWanted wanted) infos (of_read r)
-part_comes wanted infos file (Ok x) among its some = (x, λ none. absurd (not_none infos file among none), sym some)
-part_comes wanted infos file (Err unread.Fault) among its some = tt
-part_comes wanted infos file (Err (unread.NotBlock other at)) among its some = ap (λ (f : ℕ). is_among f (info_files infos)) its ∙ among
-part_comes wanted infos file (Err unread.Memory) among its some = tt
+part_comes : {A : Type 0} (some : List Row → A → Type 0) (infos : List InfoParts) (file : ℕ) (r : Result A ReadError) → is_among file (info_files infos) ≡ true → IsInFile file r
+    → IfOk r (λ found. (rows : List Row) × some rows found) → ComesOf some infos (of_read r)
+part_comes some infos file (Ok x) among its of = (of.0, λ none. absurd (not_none infos file among none), of.1)
+part_comes some infos file (Err unread.Fault) among its of = tt
+part_comes some infos file (Err (unread.NotBlock other at)) among its of = ap (λ (f : ℕ). is_among f (info_files infos)) its ∙ among
+part_comes some infos file (Err unread.Memory) among its of = tt
 
-module _ {P : Type 0} (meaning : Meaning P) (look : Look) (wanted : Option TraceId) where
-  -- ---- one block
+-- ---- block by block
 
-  pub part_read : (info : InfoParts) (old new : P) (r : Result (List Row) ReadError) → is_among info.file (info_files look.pin.blocks) ≡ true → IsInFile info.file r
-      → PagesRead meaning look (answers.is_fault r) old new → IfOk r (λ rows. wanted_rows wanted rows ≡ rows)
-      → (IsTrue (meaning.tells old) → (rows : List Row) → BlockHasInfo info (meaning.shows old info.file) rows → Finds (wanted_rows wanted rows) r)
-      → ((id : TraceId) → wanted ≡ Some id → IsTrue (meaning.tells old) → (rows : List Row) → BlockHasInfo info (meaning.shows old info.file) rows
-      → RoseAtMost (most_pages info id rows) (meaning.reads old) (meaning.reads new))
-      → (wanted ≡ None → RoseAtMost info.pages (meaning.reads old) (meaning.reads new))
-      → BlocksRead meaning look wanted (info ∷ []) (AreWanted wanted) old (of_read r) new
-  part_read info old new r among its pages some finds rose whole = record {
+module _ {P A : Type 0} (meaning : Meaning P) (look : Look) (some fits : List Row → A → Type 0) (most : InfoParts → List Row → ℕ) where
+  -- one block
+  pub part_read : (info : InfoParts) (old new : P) (r : Result A ReadError) → is_among info.file (info_files look.pin.blocks) ≡ true → IsInFile info.file r
+      → PagesRead meaning look (answers.is_fault r) old new → IfOk r (λ found. (rows : List Row) × some rows found)
+      → (IsTrue (meaning.tells old) → (rows : List Row) → BlockHasInfo info (meaning.shows old info.file) rows → FindsFit (fits rows) r)
+      → (IsTrue (meaning.tells old) → (rows : List Row) → BlockHasInfo info (meaning.shows old info.file) rows → RoseAtMost (most info rows) (meaning.reads old) (meaning.reads new))
+      → BlocksRead meaning look (info ∷ []) some fits (AtMost (most_of most (info ∷ []))) old (of_read r) new
+  part_read info old new r among its pages of finds rose = record {
     pages = subst (λ (b : Bool). PagesRead meaning look b old new) (same_fault r) pages;
-    comes = part_comes wanted look.pin.blocks info.file r among its some;
+    comes = part_comes some look.pin.blocks info.file r among its of;
     told = λ told parts are.
         let split = split_at (meaning.shows old) [] info [] parts are in
-        found_sound (wanted_rows wanted split.rows) (wanted_rows wanted (flat_map (λ part. part) parts)) r
-        (ap (λ (l : List Row). wanted_rows wanted l) (sym (append-nil split.rows) ∙ ap (λ (l : List (List Row)). flat_map (λ part. part) l) (sym (one_part parts split))))
+        found_sound (fits split.rows) (fits (flat_map (λ part. part) parts)) r
+        (λ x. subst (λ (l : List Row). fits l x) (sym (append-nil split.rows) ∙ ap (λ (l : List (List Row)). flat_map (λ part. part) l) (sym (one_part parts split))))
         (finds told split.rows split.has);
-    bounded = λ id is told parts are.
+    bounded = λ told parts are.
         let split = split_at (meaning.shows old) [] info [] parts are in
-        let low = front_and_next (meaning.shows old) id [] info [] [] [] split.rows tt in
-        let one = rose id is told split.rows split.has in
-        rose_twice 0 (most_pages info id split.rows) (look_up_pages id (info ∷ []) parts) (meaning.reads old) (meaning.reads old) (meaning.reads new)
-        (record { later = omega arith; at_most = omega arith }) one
-        (subst (λ (l : List (List Row)). 0 + most_pages info id split.rows ≤ look_up_pages id (info ∷ []) l) (sym (one_part parts split)) low);
-    whole = λ none. subst (λ (n : ℕ). RoseAtMost n (meaning.reads old) (meaning.reads new)) (sym (one_only info)) (whole none);
+        let low = front_and_next most (meaning.shows old) [] info [] [] [] split.rows tt in
+        rose_twice 0 (most info split.rows) (most_of most (info ∷ []) parts) (meaning.reads old) (meaning.reads old) (meaning.reads new)
+        (rose_none 0 (meaning.reads old)) (rose told split.rows split.has)
+        (subst (λ (l : List (List Row)). 0 + most info split.rows ≤ most_of most (info ∷ []) l) (sym (one_part parts split)) low);
   }
     where
       one_part : (parts : List (List Row)) (split : Split (meaning.shows old) [] info [] parts) → parts ≡ split.rows ∷ []
       one_part parts split = split.is ∙ ap (λ (l : List (List Row)). l ++ split.rows ∷ split.after) (no_parts (meaning.shows old) split.before split.front_are)
           ∙ ap (λ (l : List (List Row)). split.rows ∷ l) (no_parts (meaning.shows old) split.after split.back_are)
 
-  -- there is no memory for its rows
-  pub part_starved : (info : InfoParts) (old new : P) (rows : List Row) → BlocksRead meaning look wanted (info ∷ []) (AreWanted wanted) old (Ok rows) new
-      → BlocksRead {A = List Row} meaning look wanted (info ∷ []) (AreWanted wanted) old (Err Memory) new
-  part_starved info old new rows h = record { pages = h.pages; comes = tt; told = λ told parts are. tt; bounded = h.bounded; whole = h.whole }
-
-  -- ---- so far
-
-  pub read_none : (port : P) (found : List Row) → IsOpen meaning port (look_of look) → found ≡ [] → BlocksRead meaning look wanted [] (AreWanted wanted) port (Ok found) port
-  read_none port found is_open none = record {
+module _ {P A : Type 0} (meaning : Meaning P) (look : Look) (some fits : List Row → List A → Type 0) (most : InfoParts → List Row → ℕ)
+    (none : some [] [] × fits [] [])
+    (both : (a b : List Row) (x y : List A) → (some a x → some b y → some (a ++ b) (x ++ y)) × (fits a x → fits b y → fits (a ++ b) (x ++ y))) where
+  pub read_none : (port : P) (found : List A) → IsOpen meaning port (look_of look) → found ≡ [] → BlocksRead meaning look [] some fits (AtMost (most_of most [])) port (Ok found) port
+  read_none port found is_open is = record {
     pages = pages_none meaning look port is_open;
-    comes = ([], λ e. refl, none ∙ sym (wanted_none wanted));
+    comes = ([], λ e. refl, subst (λ (x : List A). some [] x) (sym is) none.0);
     told = λ told parts are.
-        none ∙ sym (ap (λ (l : List (List Row)). wanted_rows wanted (flat_map (λ part. part) l)) (no_parts (meaning.shows port) parts are) ∙ wanted_none wanted);
-    bounded = λ id is told parts are. record { later = omega arith; at_most = omega arith };
-    whole = λ none. record { later = omega arith; at_most = omega arith };
+        subst (λ (l : List (List Row)). fits (flat_map (λ part. part) l) found) (sym (no_parts (meaning.shows port) parts are)) (subst (λ (x : List A). fits [] x) (sym is) none.1);
+    bounded = λ told parts are. rose_none (most_of most [] parts) (meaning.reads port);
   }
 
-  module _ (old mid new : P) (front : List InfoParts) (info : InfoParts) (before : List Row) (among : is_among info.file (info_files look.pin.blocks) ≡ true)
-      (h : BlocksRead meaning look wanted front (AreWanted wanted) old (Ok before) mid) where
+  module _ (old mid new : P) (front : List InfoParts) (info : InfoParts) (before : List A) (among : is_among info.file (info_files look.pin.blocks) ≡ true)
+      (h : BlocksRead meaning look front some fits (AtMost (most_of most front)) old (Ok before) mid) where
     -- the block holds the same when it is read
     here : IsTrue (meaning.tells old) → (rows : List Row) → BlockHasInfo info (meaning.shows old info.file) rows → AreBlocksOf (meaning.shows mid) (info ∷ []) (rows ∷ [])
     here told rows has = (subst (λ (b : List ℕ). BlockHasInfo info b rows) (sym (h.pages.stays.bytes told info.file among)) has, tt)
@@ -236,90 +217,138 @@ module _ {P : Type 0} (meaning : Meaning P) (look : Look) (wanted : Option Trace
     mid_told : IsTrue (meaning.tells old) → IsTrue (meaning.tells mid)
     mid_told told = subst IsTrue (sym h.pages.stays.telling) told
 
-    bound : {A : Type 0} (fits : List Row → A → Type 0) (r : Result A QueryError) (back : List InfoParts) → BlocksRead meaning look wanted (info ∷ []) fits mid r new
-        → (id : TraceId) → wanted ≡ Some id → IsTrue (meaning.tells old) → (all : List (List Row)) → AreBlocksOf (meaning.shows old) (front ++ info ∷ back) all
-        → RoseAtMost (look_up_pages id (front ++ info ∷ back) all) (meaning.reads old) (meaning.reads new)
-    bound fits r back one id is told all are =
+    bound : {B : Type 0} (one other : List Row → B → Type 0) (r : Result B QueryError) (back : List InfoParts)
+        → BlocksRead meaning look (info ∷ []) one other (AtMost (most_of most (info ∷ []))) mid r new
+        → IsTrue (meaning.tells old) → (all : List (List Row)) → AreBlocksOf (meaning.shows old) (front ++ info ∷ back) all
+        → AtMost (most_of most (front ++ info ∷ back)) all (meaning.reads old) (meaning.reads new)
+    bound one other r back last told all are =
         let split = split_at (meaning.shows old) front info back all are in
-        let low = subst (λ (l : List (List Row)). look_up_pages id front split.before + most_pages info id split.rows ≤ look_up_pages id (front ++ info ∷ back) l) (sym split.is)
-        (front_and_next (meaning.shows old) id front info back split.before split.after split.rows split.front_are) in
-        let only : look_up_pages id (info ∷ []) (split.rows ∷ []) ≡ most_pages info id split.rows = omega arith in
-        rose_twice (look_up_pages id front split.before) (most_pages info id split.rows) (look_up_pages id (front ++ info ∷ back) all) (meaning.reads old) (meaning.reads mid) (meaning.reads new)
-        (h.bounded id is told split.before split.front_are)
-        (subst (λ (n : ℕ). RoseAtMost n (meaning.reads mid) (meaning.reads new)) only (one.bounded id is (mid_told told) (split.rows ∷ []) (here told split.rows split.has))) low
-
-    bound_all : {A : Type 0} (fits : List Row → A → Type 0) (r : Result A QueryError) (back : List InfoParts) → BlocksRead meaning look wanted (info ∷ []) fits mid r new
-        → wanted ≡ None → RoseAtMost (all_pages (front ++ info ∷ back)) (meaning.reads old) (meaning.reads new)
-    bound_all fits r back one none =
-        rose_twice (all_pages front) info.pages (all_pages (front ++ info ∷ back)) (meaning.reads old) (meaning.reads mid) (meaning.reads new) (h.whole none)
-        (subst (λ (n : ℕ). RoseAtMost n (meaning.reads mid) (meaning.reads new)) (one_only info) (one.whole none)) (all_front_and_next front info back)
+        let low = subst (λ (l : List (List Row)). most_of most front split.before + most info split.rows ≤ most_of most (front ++ info ∷ back) l) (sym split.is)
+        (front_and_next most (meaning.shows old) front info back split.before split.after split.rows split.front_are) in
+        let only : most_of most (info ∷ []) (split.rows ∷ []) ≡ most info split.rows = omega arith in
+        rose_twice (most_of most front split.before) (most info split.rows) (most_of most (front ++ info ∷ back) all) (meaning.reads old) (meaning.reads mid) (meaning.reads new)
+        (h.bounded told split.before split.front_are)
+        (subst (λ (n : ℕ). RoseAtMost n (meaning.reads mid) (meaning.reads new)) only (last.bounded (mid_told told) (split.rows ∷ []) (here told split.rows split.has))) low
 
     -- one block more is read
-    pub read_next : (rows : List Row) → BlocksRead meaning look wanted (info ∷ []) (AreWanted wanted) mid (Ok rows) new
-        → BlocksRead meaning look wanted (front ++ info ∷ []) (AreWanted wanted) old (Ok (before ++ rows)) new
-    read_next rows one = record {
+    pub read_next : (found : List A) → BlocksRead meaning look (info ∷ []) some fits (AtMost (most_of most (info ∷ []))) mid (Ok found) new
+        → BlocksRead meaning look (front ++ info ∷ []) some fits (AtMost (most_of most (front ++ info ∷ []))) old (Ok (before ++ found)) new
+    read_next found one = record {
       pages = pages_then meaning look false old mid new h.pages one.pages;
       comes = (
         h.comes.0 ++ one.comes.0,
-        λ none. ap (λ (l : List Row). l ++ one.comes.0) (h.comes.1 none) ∙ one.comes.1 none,
-        both h.comes.0 one.comes.0 h.comes.2 one.comes.2,
+        λ e. ap (λ (l : List Row). l ++ one.comes.0) (h.comes.1 e) ∙ one.comes.1 e,
+        (both h.comes.0 one.comes.0 before found).0 h.comes.2 one.comes.2,
       );
       told = λ told all are.
           let split = split_at (meaning.shows old) front info [] all are in
           let first = h.told told split.before split.front_are in
           let next = one.told (mid_told told) (split.rows ∷ []) (here told split.rows split.has) in
-          both (flat_map (λ part. part) split.before) (flat_map (λ part. part) (split.rows ∷ [])) first next
-          ∙ ap (λ (l : List Row). wanted_rows wanted l)
+          subst (λ (l : List Row). fits l (before ++ found))
           (sym (flat_map-append (λ (part : List Row). part) split.before (split.rows ∷ []))
           ∙ ap (λ (l : List (List Row)). flat_map (λ part. part) (split.before ++ split.rows ∷ l)) (sym (no_parts (meaning.shows old) split.after split.back_are))
-          ∙ ap (λ (l : List (List Row)). flat_map (λ part. part) l) (sym split.is));
-      bounded = bound (AreWanted wanted) (Ok rows) [] one;
-      whole = bound_all (AreWanted wanted) (Ok rows) [] one;
+          ∙ ap (λ (l : List (List Row)). flat_map (λ part. part) l) (sym split.is))
+          ((both (flat_map (λ part. part) split.before) (flat_map (λ part. part) (split.rows ∷ [])) before found).1 first next);
+      bounded = bound some fits (Ok found) [] one;
     }
-      where
-        both : (a b : List Row) → before ≡ wanted_rows wanted a → rows ≡ wanted_rows wanted b → before ++ rows ≡ wanted_rows wanted (a ++ b)
-        both a b first next =
-            ap (λ (l : List Row). l ++ rows) first ∙ ap (λ (l : List Row). wanted_rows wanted a ++ l) next ∙ sym (wanted_append wanted a b)
 
     -- reading ends at a block
-    pub read_ends : (why : QueryError) (back : List InfoParts) → BlocksRead {A = List Row} meaning look wanted (info ∷ []) (AreWanted wanted) mid (Err why) new
-        → BlocksRead {A = List Row} meaning look wanted (front ++ info ∷ back) (AreWanted wanted) old (Err why) new
+    pub read_ends : (why : QueryError) (back : List InfoParts) → BlocksRead {A = List A} meaning look (info ∷ []) some fits (AtMost (most_of most (info ∷ []))) mid (Err why) new
+        → BlocksRead {A = List A} meaning look (front ++ info ∷ back) some fits (AtMost (most_of most (front ++ info ∷ back))) old (Err why) new
     read_ends why back one = record {
-      pages = pages_then meaning look (is_fault {A = List Row} (Err why)) old mid new h.pages one.pages;
+      pages = pages_then meaning look (is_fault {A = List A} (Err why)) old mid new h.pages one.pages;
       comes = one.comes;
       told = λ told all are.
           let split = split_at (meaning.shows old) front info back all are in
-          sound_error (λ (x : List Row). x ≡ wanted_rows wanted (flat_map (λ part. part) (split.rows ∷ []))) (λ (x : List Row). x ≡ wanted_rows wanted (flat_map (λ part. part) all)) why
+          sound_error (fits (flat_map (λ part. part) (split.rows ∷ []))) (fits (flat_map (λ part. part) all)) why
           (one.told (mid_told told) (split.rows ∷ []) (here told split.rows split.has));
-      bounded = bound {A = List Row} (AreWanted wanted) (Err why) back one;
-      whole = bound_all {A = List Row} (AreWanted wanted) (Err why) back one;
+      bounded = bound {B = List A} some fits (Err why) back one;
     }
+
+-- ---- all blocks, once and again
+
+-- they hold the same
+blocks_stay : (all : List ℕ) (old new : ℕ → List ℕ) (infos : List InfoParts) (parts : List (List Row)) → ((file : ℕ) → is_among file all ≡ true → new file ≡ old file)
+    → ((file : ℕ) → is_among file (info_files infos) ≡ true → is_among file all ≡ true) → AreBlocksOf old infos parts → AreBlocksOf new infos parts
+blocks_stay all old new [] [] same among are = tt
+blocks_stay all old new [] (p ∷ ps) same among are = absurd are
+blocks_stay all old new (i ∷ is) [] same among are = absurd are
+blocks_stay all old new (i ∷ is) (p ∷ ps) same among are = (
+  subst (λ (b : List ℕ). BlockHasInfo i b p) (sym (same i.file (among i.file (ap (λ (t : Bool). t || is_among i.file (info_files is)) (eq-eqb i.file i.file refl))))) are.0,
+  blocks_stay all old new is ps same (λ file m. among file (or_later (eqb i.file file) (is_among file (info_files is)) m)) are.1,
+)
+
+module _ {P A B : Type 0} (meaning : Meaning P) (look : Look) (old mid new : P) {some fits : List Row → A → Type 0} {within : List (List Row) → ℕ → ℕ → Type 0} (x : A)
+    (h : BlocksRead meaning look look.pin.blocks some fits within old (Ok x) mid)
+    {some' fits' : List Row → B → Type 0} {within' : List (List Row) → ℕ → ℕ → Type 0} (r : Result B QueryError)
+    (more : BlocksRead meaning look look.pin.blocks some' fits' within' mid r new)
+    (other_some other_fits : List Row → B → Type 0) (other_within : List (List Row) → ℕ → ℕ → Type 0) where
+  still_told : IsTrue (meaning.tells old) → IsTrue (meaning.tells mid)
+  still_told told = subst IsTrue (sym h.pages.stays.telling) told
+
+  still_are : IsTrue (meaning.tells old) → (parts : List (List Row)) → AreBlocksOf (meaning.shows old) look.pin.blocks parts → AreBlocksOf (meaning.shows mid) look.pin.blocks parts
+  still_are told parts are = blocks_stay (info_files look.pin.blocks) (meaning.shows old) (meaning.shows mid) look.pin.blocks parts (h.pages.stays.bytes told) (λ file m. m) are
+
+  comes_then : (q : Result B QueryError) → ((y : B) (a b : List Row) → some a x → some' b y → other_some (a ++ b) y) → ComesOf some' look.pin.blocks q → ComesOf other_some look.pin.blocks q
+  comes_then (Ok y) fit c = (h.comes.0 ++ c.0, λ e. ap (λ (l : List Row). l ++ c.0) (h.comes.1 e) ∙ c.1 e, fit y h.comes.0 c.0 h.comes.2 c.2)
+  comes_then (Err why) fit c = comes_error some' other_some look.pin.blocks why c
+
+  sound_then : (q : Result B QueryError) (rows : List Row) → ((y : B) → fits' rows y → other_fits rows y) → Sound (fits' rows) q → Sound (other_fits rows) q
+  sound_then (Ok y) rows fit s = fit y s
+  sound_then (Err why) rows fit s = sound_error (fits' rows) (other_fits rows) why s
+
+  pub reads_then : ((y : B) (a b : List Row) → some a x → some' b y → other_some (a ++ b) y) → ((y : B) (rows : List Row) → fits rows x → fits' rows y → other_fits rows y)
+      → ((parts : List (List Row)) (a b c : ℕ) → fits (flat_map (λ part. part) parts) x → within parts a b → within' parts b c → other_within parts a c)
+      → BlocksRead meaning look look.pin.blocks other_some other_fits other_within old r new
+  reads_then fit_some fit_all rose = record {
+    pages = pages_then meaning look (is_fault r) old mid new h.pages more.pages;
+    comes = comes_then r fit_some more.comes;
+    told = λ told parts are.
+        sound_then r (flat_map (λ part. part) parts) (λ y. fit_all y (flat_map (λ part. part) parts) (h.told told parts are)) (more.told (still_told told) parts (still_are told parts are));
+    bounded = λ told parts are.
+        rose parts (meaning.reads old) (meaning.reads mid) (meaning.reads new) (h.told told parts are) (h.bounded told parts are)
+        (more.bounded (still_told told) parts (still_are told parts are));
+  }
 
 -- ---- what is made of the rows
 
--- what is made of them fits as well
-pub read_told : {P A B : Type 0} {fits : List Row → A → Type 0} {other : List Row → B → Type 0} (meaning : Meaning P) (look : Look) (wanted : Option TraceId) (infos : List InfoParts) (old new : P) (x : A) (y : B)
-    → BlocksRead meaning look wanted infos fits old (Ok x) new → ((rows : List Row) → fits rows x → other rows y) → BlocksRead meaning look wanted infos other old (Ok y) new
-read_told meaning look wanted infos old new x y h makes = record {
-  pages = h.pages;
-  comes = (h.comes.0, h.comes.1, makes h.comes.0 h.comes.2);
-  told = λ told parts are. makes (flat_map (λ part. part) parts) (h.told told parts are);
-  bounded = h.bounded;
-  whole = h.whole;
-}
+module _ {P A B : Type 0} (meaning : Meaning P) (look : Look) (infos : List InfoParts) {some fits : List Row → A → Type 0} {other_some other_fits : List Row → B → Type 0}
+    {within other : List (List Row) → ℕ → ℕ → Type 0} (rose : (parts : List (List Row)) (a b : ℕ) → within parts a b → other parts a b) (old new : P) where
+  -- what is made of them fits as well
+  pub read_told : (x : A) (y : B) → BlocksRead meaning look infos some fits within old (Ok x) new → ((rows : List Row) → some rows x → other_some rows y)
+      → ((rows : List Row) → fits rows x → other_fits rows y) → BlocksRead meaning look infos other_some other_fits other old (Ok y) new
+  read_told x y h makes_some makes = record {
+    pages = h.pages;
+    comes = (h.comes.0, h.comes.1, makes_some h.comes.0 h.comes.2);
+    told = λ told parts are. makes (flat_map (λ part. part) parts) (h.told told parts are);
+    bounded = λ told parts are. rose parts (meaning.reads old) (meaning.reads new) (h.bounded told parts are);
+  }
 
--- there is no memory for it
-pub read_starved : {P A B : Type 0} {fits : List Row → A → Type 0} {other : List Row → B → Type 0} (meaning : Meaning P) (look : Look) (wanted : Option TraceId) (infos : List InfoParts) (old new : P) (x : A)
-    → BlocksRead meaning look wanted infos fits old (Ok x) new → BlocksRead meaning look wanted infos other old (Err Memory) new
-read_starved meaning look wanted infos old new x h = record { pages = h.pages; comes = tt; told = λ told parts are. tt; bounded = h.bounded; whole = h.whole }
+  -- there is no memory for it
+  pub read_starved : (x : A) → BlocksRead meaning look infos some fits within old (Ok x) new → BlocksRead meaning look infos other_some other_fits other old (Err Memory) new
+  read_starved x h = record {
+    pages = h.pages;
+    comes = tt;
+    told = λ told parts are. tt;
+    bounded = λ told parts are. rose parts (meaning.reads old) (meaning.reads new) (h.bounded told parts are);
+  }
 
--- or nothing is made
-pub read_failed : {P A B : Type 0} {fits : List Row → A → Type 0} {other : List Row → B → Type 0} (meaning : Meaning P) (look : Look) (wanted : Option TraceId) (infos : List InfoParts) (old new : P) (why : QueryError)
-    → BlocksRead meaning look wanted infos fits old (Err why) new → BlocksRead meaning look wanted infos other old (Err why) new
-read_failed {fits = fits} {other = other} meaning look wanted infos old new why h = record {
-  pages = h.pages;
-  comes = comes_error fits other look.pin.blocks why h.comes;
-  told = λ told parts are. sound_error (fits (flat_map (λ part. part) parts)) (other (flat_map (λ part. part) parts)) why (h.told told parts are);
-  bounded = h.bounded;
-  whole = h.whole;
+  -- or nothing is made
+  pub read_failed : (why : QueryError) → BlocksRead meaning look infos some fits within old (Err why) new → BlocksRead meaning look infos other_some other_fits other old (Err why) new
+  read_failed why h = record {
+    pages = h.pages;
+    comes = comes_error some other_some look.pin.blocks why h.comes;
+    told = λ told parts are. sound_error (fits (flat_map (λ part. part) parts)) (other_fits (flat_map (λ part. part) parts)) why (h.told told parts are);
+    bounded = λ told parts are. rose parts (meaning.reads old) (meaning.reads new) (h.bounded told parts are);
+  }
+
+-- there is no memory to begin
+pub read_nothing : {P A : Type 0} (meaning : Meaning P) (look : Look) (infos : List InfoParts) (some fits : List Row → A → Type 0) (within : List (List Row) → ℕ → ℕ → Type 0) (port : P)
+    → IsOpen meaning port (look_of look) → ((parts : List (List Row)) → within parts (meaning.reads port) (meaning.reads port))
+    → BlocksRead meaning look infos some fits within port (Err Memory) port
+read_nothing meaning look infos some fits within port is_open rose = record {
+  pages = pages_none meaning look port is_open;
+  comes = tt;
+  told = λ told parts are. tt;
+  bounded = λ told parts are. rose parts;
 }

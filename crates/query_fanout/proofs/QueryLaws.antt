@@ -22,10 +22,10 @@ use Rattle.store_state.specs.Shown.{ShowsHistory}
 use Rattle.store_state.specs.declared.jobs.Look.{Look}
 use Rattle.store_state.proofs.HoldLaws.{opens_new}
 use Rattle.block_read.specs.Answers.{RoseAtMost}
-use Rattle.query_fanout.specs.Bounds.{all_pages, look_up_pages}
+use Rattle.query_fanout.specs.Bounds.{all_rows}
 use Rattle.query_fanout.specs.TraceAnswers.{IsTraceAnswer}
 use Rattle.query_fanout.specs.Queries.{HasAsked, Sound}
-use Rattle.query_fanout.specs.Reading.{AreWanted, BlocksRead, all_rows}
+use Rattle.query_fanout.specs.Reading.{AreOfTrace, BlocksRead}
 use Rattle.query_fanout.specs.declared.error.QueryError.{QueryError}
 use Rattle.query_fanout.specs.declared.error.QueryError.TheVariants.{Memory}
 use Rattle.query_fanout.specs.declared.trace.TraceAnswer.{TraceAnswer}
@@ -63,7 +63,7 @@ pub is_open : {P : Type 0} (meaning : Meaning P) (old new : P) (look : Look) →
 is_open meaning old new look called holds = opens_new meaning old new event.Look (given look) (look_of look) called holds (0, omega arith, refl)
 
 pub trace_answers : (id : TraceId) (look : Look) (found : List Row) (x : TraceAnswer) → IsFirstOf (rows_of_trace id look.rows ++ found) x.rows → x.as_of ≡ look.as_of
-    → (rows : List Row) → AreWanted (Some id) rows found → IsTraceAnswer id look.as_of (look.rows ++ rows) x
+    → (rows : List Row) → AreOfTrace id rows found → IsTraceAnswer id look.as_of (look.rows ++ rows) x
 trace_answers id look found x firsts count rows are = record {
   count = count;
   firsts = subst (λ (l : List Row). IsFirstOf l x.rows)
@@ -82,11 +82,11 @@ module _ {P A : Type 0} (meaning : Meaning P) (old : P) (tells : ℕ → List Ro
         knows_later meaning old new (call event.Look (reply.Refused cause.Memory) ∷ []) v (λ later. Unit {0}) (new, called, refl) known (λ later. tt);
   }
 
-  pub has_asked : (mid late new : P) (look : Look) (wanted : Option TraceId) (r : Result A QueryError) → TellsFirsts tells → Called meaning old event.Look (given look) mid
+  pub has_asked : (mid late new : P) (look : Look) {within : List (List Row) → ℕ → ℕ → Type 0} (r : Result A QueryError) → TellsFirsts tells → Called meaning old event.Look (given look) mid
       → ((v : View) → meaning.knows mid v → ShowsHistory (IsTrue (meaning.tells mid)) (meaning.shows mid) look v.history)
-      → BlocksRead meaning look wanted look.pin.blocks (λ rows x. tells look.as_of (look.rows ++ rows) x) mid r late
+      → BlocksRead meaning look look.pin.blocks (λ rows x. tells look.as_of (look.rows ++ rows) x) (λ rows x. tells look.as_of (look.rows ++ rows) x) within mid r late
       → Called meaning late (event.Done look.pin.number) reply.Fine new → HasAsked meaning old tells r new
-  has_asked mid late new look wanted r respects looked shown read ended = record {
+  has_asked mid late new look r respects looked shown read ended = record {
     calls = call event.Look (given look) ∷ (read.pages.calls ++ call (event.Done look.pin.number) reply.Fine ∷ []);
     made = (mid, looked, made_after meaning mid late new read.pages.calls (call (event.Done look.pin.number) reply.Fine ∷ []) read.pages.made (new, ended, refl));
     asked = inr (record { pin = look.pin.number; blocks = look.pin.blocks; as_of = look.as_of; rows = look.rows }, read.pages.calls, refl, read.pages.are, read.comes);
@@ -108,31 +108,26 @@ module _ {P A : Type 0} (meaning : Meaning P) (old : P) (tells : ℕ → List Ro
 -- ---- how much is read
 
 module _ {P : Type 0} (meaning : Meaning P) (old : P) where
-  pub not_read : (count : ℕ) (new : P) → Called meaning old event.Look (reply.Refused cause.Memory) new → RoseAtMost count (meaning.reads old) (meaning.reads new)
-  not_read count new called =
+  pub not_read : (new : P) → Called meaning old event.Look (reply.Refused cause.Memory) new → meaning.reads new ≡ meaning.reads old
+  not_read new called =
+      let rise = called.reads_rise in
       let low = called.reads_bound in
-      record { later = called.reads_rise; at_most = omega (arith, low) }
+      omega (arith, rise, low)
 
   -- neither a look nor its end reads
-  within : (mid late new : P) (look : Look) (m n : ℕ) → Called meaning old event.Look (given look) mid → RoseAtMost m (meaning.reads mid) (meaning.reads late)
-      → Called meaning late (event.Done look.pin.number) reply.Fine new → m ≡ n → RoseAtMost n (meaning.reads old) (meaning.reads new)
-  within mid late new look m n looked rose ended same =
-      steps (meaning.reads old) (meaning.reads mid) (meaning.reads late) (meaning.reads new) m n
-      looked.reads_rise looked.reads_bound rose.later rose.at_most ended.reads_rise ended.reads_bound same
-    where
-      steps : (a b c d m n : ℕ) → a ≤ b → b ≤ a + 0 → b ≤ c → c ≤ b + m → c ≤ d → d ≤ c + 0 → m ≡ n → RoseAtMost n a d
-      steps a b c d m n e f g h i j k = record { later = omega (arith, e, g, i); at_most = omega (arith, f, h, j, k) }
-
-  pub read_within : {A : Type 0} {fits : List Row → A → Type 0} (mid late new : P) (look : Look) (id : TraceId) (r : Result A QueryError) (kept : Kept) → Called meaning old event.Look (given look) mid
-      → HasKept (meaning.shows mid) look kept → BlocksRead meaning look (Some id) look.pin.blocks fits mid r late → Called meaning late (event.Done look.pin.number) reply.Fine new
-      → IsTrue (meaning.tells old) → RoseAtMost (look_up_pages id kept.infos kept.parts) (meaning.reads old) (meaning.reads new)
-  read_within mid late new look id r kept looked has read ended told =
-      within mid late new look (look_up_pages id look.pin.blocks kept.parts) (look_up_pages id kept.infos kept.parts) looked
-      (read.bounded id refl (subst IsTrue (sym looked.telling) told) kept.parts has.blocks) ended
-      (ap (λ (infos : List InfoParts). look_up_pages id infos kept.parts) has.pinned)
-
-  pub all_within : {A : Type 0} {fits : List Row → A → Type 0} (mid late new : P) (look : Look) (r : Result A QueryError) (infos : List InfoParts) → Called meaning old event.Look (given look) mid
-      → look.pin.blocks ≡ infos → BlocksRead meaning look None look.pin.blocks fits mid r late → Called meaning late (event.Done look.pin.number) reply.Fine new
-      → RoseAtMost (all_pages infos) (meaning.reads old) (meaning.reads new)
-  all_within mid late new look r infos looked pinned read ended =
-      within mid late new look (all_pages look.pin.blocks) (all_pages infos) looked (read.whole refl) ended (ap all_pages pinned)
+  pub read_within : {A : Type 0} {some fits : List Row → A → Type 0} (within : List InfoParts → List Row → List (List Row) → ℕ → ℕ → Type 0) (mid late new : P) (look : Look) (r : Result A QueryError) (kept : Kept)
+      → Called meaning old event.Look (given look) mid → HasKept (meaning.shows mid) look kept
+      → BlocksRead meaning look look.pin.blocks some fits (within look.pin.blocks look.rows) mid r late → Called meaning late (event.Done look.pin.number) reply.Fine new
+      → IsTrue (meaning.tells old) → within kept.infos kept.outside kept.parts (meaning.reads old) (meaning.reads new)
+  read_within within mid late new look r kept looked has read ended told =
+      let rise = looked.reads_rise in
+      let low = looked.reads_bound in
+      let last_rise = ended.reads_rise in
+      let last_low = ended.reads_bound in
+      let begins : meaning.reads mid ≡ meaning.reads old = omega (arith, rise, low) in
+      let stops : meaning.reads late ≡ meaning.reads new = omega (arith, last_rise, last_low) in
+      subst (λ (infos : List InfoParts). within infos kept.outside kept.parts (meaning.reads old) (meaning.reads new)) has.pinned
+      (subst (λ (rows : List Row). within look.pin.blocks rows kept.parts (meaning.reads old) (meaning.reads new)) has.outside
+      (subst (λ (n : ℕ). within look.pin.blocks look.rows kept.parts (meaning.reads old) n) stops
+      (subst (λ (n : ℕ). within look.pin.blocks look.rows kept.parts n (meaning.reads late)) begins
+      (read.bounded (subst IsTrue (sym looked.telling) told) kept.parts has.blocks))))

@@ -1,5 +1,5 @@
 -- Private mechanism: what reading the blocks of a look makes of a port. No public clause cites these.
-use Rattle.std.specs.Prelude.{◌≡◌, ℕ, List, [], ◌++◌, Result, Ok, Err, IsTrue, Bool, true, Option, None, Some, if◌then◌else◌}
+use Rattle.std.specs.Prelude.{◌≡◌, ℕ, ◌+◌, List, [], ◌∷◌, Result, Ok, Err, IsTrue, Bool, true, Option, None, Some, sum_by, if◌then◌else◌}
 use Rattle.std.specs.List.{flat_map}
 use Rattle.span_types.specs.declared.ids.TraceId.{TraceId}
 use Rattle.span_types.specs.declared.spans.Row.{Row}
@@ -9,6 +9,7 @@ use Rattle.block_read.specs.PageReads.{PageRead}
 use Rattle.block_read.specs.declared.error.ReadError.{ReadError}
 use Rattle.block_read.specs.declared.error.ReadError.TheVariants as unread
 use Rattle.rows_by_trace.specs.Traces.{rows_of_trace}
+use Rattle.block_traces.specs.Batches.{rows_of_traces}
 use Rattle.store_model.specs.Event.Event.{ReadPage}
 use Rattle.store_model.specs.Event.{Reply as reply, Refusal as cause}
 use Rattle.store_model.specs.Holds.{Hold, files_of}
@@ -18,7 +19,7 @@ use Rattle.store_state.specs.Made.{Call, AreMade}
 use Rattle.store_state.specs.Meaning.{Meaning, Called, IsOpen}
 use Rattle.store_state.specs.Written.{AreBlocksOf}
 use Rattle.store_state.specs.declared.jobs.Look.{Look}
-use Rattle.query_fanout.specs.Bounds.{all_pages, look_up_pages}
+use Rattle.query_fanout.specs.Bounds.{look_up_pages}
 use Rattle.query_fanout.specs.Queries.{ComesOf, ReadsPages, Sound, is_fault}
 use Rattle.query_fanout.specs.declared.error.QueryError.{QueryError}
 use Rattle.query_fanout.specs.declared.error.QueryError.TheVariants.{Fault, NotBlock, Memory}
@@ -67,25 +68,40 @@ pub record PagesRead {P : Type 0} (meaning : Meaning P) (look : Look) (failed : 
 
 -- ---- blocks
 
--- all rows that a look sees: its own, and those of the parts that its blocks are read to
-abbrev pub all_rows : List Row → List (List Row) → List Row
-all_rows rows parts = rows ++ flat_map (λ part. part) parts
+-- What is read of blocks with these rows, if so many pages may be read of each.
+abbrev pub most_of : (InfoParts → List Row → ℕ) → List InfoParts → List (List Row) → ℕ
+most_of most [] parts = 0
+most_of most (info ∷ infos) [] = 0
+most_of most (info ∷ infos) (rows ∷ parts) = most info rows + most_of most infos parts
 
--- the rows that are wanted of a block: all, or those of a trace
-abbrev pub wanted_rows : Option TraceId → List Row → List Row
-wanted_rows None rows = rows
-wanted_rows (Some id) rows = rows_of_trace id rows
+abbrev pub AtMost : (List (List Row) → ℕ) → List (List Row) → ℕ → ℕ → Type 0
+AtMost most parts before now = RoseAtMost (most parts) before now
 
-abbrev pub AreWanted : Option TraceId → List Row → List Row → Type 0
-AreWanted wanted rows found = found ≡ wanted_rows wanted rows
-
--- What comes of reading some of the look's blocks. What fits their rows is made of them. For a trace no more is read than a look-up may
--- read, and for all rows no more pages than the blocks have.
-pub record BlocksRead {P A : Type 0} (meaning : Meaning P) (look : Look) (wanted : Option TraceId) (infos : List InfoParts) (fits : List Row → A → Type 0) (old : P) (r : Result A QueryError) (new : P) : Type 0 where
+-- What comes of reading some of the look's blocks. Where they are told, it fits their rows, and no more is read than may be; else it is
+-- of some rows, of which there are none if no block is pinned.
+pub record BlocksRead {P A : Type 0} (meaning : Meaning P) (look : Look) (infos : List InfoParts) (some fits : List Row → A → Type 0) (within : List (List Row) → ℕ → ℕ → Type 0) (old : P) (r : Result A QueryError) (new : P) : Type 0 where
   pub pages : PagesRead meaning look (is_fault r) old new
-  pub comes : ComesOf fits look.pin.blocks r
+  pub comes : ComesOf some look.pin.blocks r
   pub told : IsTrue (meaning.tells old) → (parts : List (List Row)) → AreBlocksOf (meaning.shows old) infos parts
       → Sound (fits (flat_map (λ part. part) parts)) r
-  pub bounded : (id : TraceId) → wanted ≡ Some id → IsTrue (meaning.tells old) → (parts : List (List Row)) → AreBlocksOf (meaning.shows old) infos parts
-      → RoseAtMost (look_up_pages id infos parts) (meaning.reads old) (meaning.reads new)
-  pub whole : wanted ≡ None → RoseAtMost (all_pages infos) (meaning.reads old) (meaning.reads new)
+  pub bounded : IsTrue (meaning.tells old) → (parts : List (List Row)) → AreBlocksOf (meaning.shows old) infos parts
+      → within parts (meaning.reads old) (meaning.reads new)
+
+-- ---- one trace
+
+-- the rows of a trace
+abbrev pub AreOfTrace : TraceId → List Row → List Row → Type 0
+AreOfTrace id rows found = found ≡ rows_of_trace id rows
+
+-- ---- several traces
+
+abbrev pub AreOfTraces : List TraceId → List Row → List Row → Type 0
+AreOfTraces ids rows found = found ≡ rows_of_traces ids rows
+
+-- just these rows, all of them of the traces
+abbrev pub AreTheirs : List TraceId → List Row → List Row → Type 0
+AreTheirs ids rows found = (found ≡ rows) × (rows_of_traces ids rows ≡ rows)
+
+-- what look-ups of these traces may read of blocks with these rows
+abbrev pub look_ups : List TraceId → List InfoParts → List (List Row) → ℕ
+look_ups ids infos parts = sum_by (λ id. look_up_pages id infos parts) ids

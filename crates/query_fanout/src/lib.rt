@@ -8,9 +8,12 @@
 mod blocks;
 mod error;
 mod laws;
+mod picks;
 mod pinned;
 mod searching;
+mod taking;
 mod trace;
+mod turns;
 
 pub use error::QueryError;
 pub use laws::{taken_answer_the_whole, takes_more};

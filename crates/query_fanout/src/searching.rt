@@ -1,22 +1,26 @@
 //! Searching.
 
-ghost use Rattle.std.specs.Prelude.{◌++◌, IfOk, List};
-ghost use Rattle.block_info.specs.InfoParts.{InfoParts};
+ghost use Rattle.std.specs.Prelude.{◌++◌, IsTrue, List};
 ghost use Rattle.store_model.specs.Holds.{Hold};
 ghost use Rattle.store_state.specs.Given.{look_of};
+ghost use Rattle.store_state.specs.Kept.{Kept};
 ghost use Rattle.store_state.specs.Meaning.{IsOpen};
-ghost use Rattle.block_read.specs.Answers.{RoseAtMost};
-ghost use Rattle.query_fanout.specs.Bounds.{all_pages};
+ghost use Rattle.column_scan.specs.Candidates.{Ascend};
+ghost use Rattle.query_fanout.specs.Bounds.{SearchReads, SearchReadsOf};
 ghost use Rattle.query_fanout.specs.SearchAnswers.{IsSearchAnswer};
 ghost use Rattle.query_fanout.specs.Queries.{HasAsked};
-ghost use Rattle.query_fanout.specs.Reading.{BlocksRead};
+ghost use Rattle.query_fanout.specs.Reading.{AtMost, BlocksRead, look_ups};
+ghost use Rattle.query_fanout.specs.Searching.{AllIfPicked, OwnIfPicked};
+ghost use Rattle.query_fanout.specs.Taking.{AreApart, asked_hint, traces_of};
 
 use crate::QueryError;
-use crate::blocks::block_rows;
-use crate::trace::joined_firsts;
+use crate::laws::taken_answer_the_whole;
+use crate::picks::picks_of_look;
+use crate::taking::take_each;
+use crate::turns::{in_turns, two_parts};
+use column_scan::{Pick, hint};
 use moment_range::Range;
-use search_answer::{Bounds, answer};
-use span_types::{Memory, Rows};
+use span_types::Memory;
 use spanset_eval::Results;
 use std::alloc::Global;
 use store_state::{FlushPort, Look};
@@ -47,9 +51,11 @@ pub struct SearchAnswer {
 /// What a search finds among the first occurrences of all spans, wherever they lie: in the rows of one look and in the
 /// blocks that it pins.
 ///
-/// The blocks are read whole, one after another; `bounded` says that no more pages are read than they have. Their rows are
-/// moved, those of the look copied; so at a time the bytes of one block are in memory beside all rows. First occurrences
-/// are taken once, of all rows, before any trace is evaluated. The look is given back in every case.
+/// First the traces that have a hinted span are picked, each with the latest start among its hinted spans: in the look's
+/// rows, and in each block by the stripes that may have one. Then they are looked up and answered a few at a time, those of
+/// late moments first, but for those of which no result can come among the best so far; `bounded` says how many pages that
+/// is at most. No rows are kept but those of a few traces, beside a copy of the look's rows while they are gone through
+/// for picks. The look is given back in every case.
 pub fn search<P: FlushPort>(
     alloc: Global,
     port: &mut P,
@@ -57,8 +63,8 @@ pub fn search<P: FlushPort>(
 ) -> Result<SearchAnswer, QueryError>
     requires { (held : List Hold) × P.meaning.holds port.old held }
     ensures asked { HasAsked P.meaning port.old (IsSearchAnswer asked.now) result port.new }
-    ensures bounded { (infos : List InfoParts) → P.meaning.lists port.old infos
-        → RoseAtMost (all_pages infos) (P.meaning.reads port.old) (P.meaning.reads port.new) }
+    ensures bounded { IsTrue (P.meaning.tells port.old) → (kept : Kept) → P.meaning.keeps port.old kept
+        → SearchReadsOf asked.now kept (P.meaning.reads port.old) (P.meaning.reads port.new) }
 {
     let look = match port.look() {
         Ok(look) => look,
@@ -77,43 +83,72 @@ fn search_of_look<P: FlushPort>(
     asked: &Asked,
 ) -> Result<SearchAnswer, QueryError>
     requires { IsOpen P.meaning port.old (look_of look.now) }
-    ensures { BlocksRead P.meaning look.now None look.now.pin.blocks
+    ensures { BlocksRead P.meaning look.now look.now.pin.blocks
         (λ rows found. IsSearchAnswer asked.now look.now.as_of (look.now.rows ++ rows) found)
-        port.old result port.new }
+        (λ rows found. IsSearchAnswer asked.now look.now.as_of (look.now.rows ++ rows) found)
+        (SearchReads (asked_hint asked.now) look.now.rows look.now.pin.blocks) port.old result port.new }
 {
-    match block_rows(alloc, port, look, None) {
-        Ok(found) => match search_rows(alloc, look, asked, found) {
-            Ok(answer) => Ok(answer),
-            Err(Memory) => Err(QueryError::Memory),
-        },
+    let hint = match hint(&asked.checked, asked.range) {
+        Ok(hint) => hint,
+        Err(_) => return Err(QueryError::Memory),
+    };
+    match picks_of_look(alloc, port, look, &hint) {
+        Ok(picks) => search_picks(alloc, port, look, asked, picks),
         Err(error) => Err(error),
     }
 }
 
-// What a search finds among a look's rows and more rows.
-fn search_rows(
+// What a search finds, if it finds nothing but of picked traces.
+fn search_picks<P: FlushPort>(
     alloc: Global,
+    port: &mut P,
     look: &Look,
     asked: &Asked,
-    found: Rows,
-) -> Result<SearchAnswer, Memory>
-    ensures { IfOk result (IsSearchAnswer asked.now look.now.as_of (look.now.rows ++ found)) }
+    picks: Vec<Pick>,
+) -> Result<SearchAnswer, QueryError>
+    requires open { IsOpen P.meaning port.old (look_of look.now) }
+    requires ascend { Ascend picks.items }
+    ensures { BlocksRead P.meaning look.now look.now.pin.blocks
+        (OwnIfPicked asked.now look.now.as_of look.now.rows picks.entry.items)
+        (AllIfPicked asked.now look.now.as_of look.now.rows picks.entry.items)
+        (AtMost (look_ups (traces_of picks.entry.items) look.now.pin.blocks)) port.old result port.new }
 {
-    let rows = look.rows.copy_rows()?;
-    let firsts = joined_firsts(alloc, rows, found)?;
-    let bounds = Bounds {
-        limit: asked.limit,
-        spans_per_set: asked.spans_per_set,
+    match two_parts(alloc, picks, asked.limit) {
+        Ok((late, early)) => {
+            search_parts(alloc, port, look, asked, late.as_slice(), early.as_slice())
+        }
+        Err(Memory) => Err(QueryError::Memory),
+    }
+}
+
+// The same of picks in two parts.
+fn search_parts<P: FlushPort>(
+    alloc: Global,
+    port: &mut P,
+    look: &Look,
+    asked: &Asked,
+    late: &[Pick],
+    early: &[Pick],
+) -> Result<SearchAnswer, QueryError>
+    requires open { IsOpen P.meaning port.old (look_of look.now) }
+    requires late { Ascend late.now }
+    requires early { Ascend early.now }
+    requires apart { AreApart (late.now ++ early.now) }
+    ensures { BlocksRead P.meaning look.now look.now.pin.blocks
+        (OwnIfPicked asked.now look.now.as_of look.now.rows (late.now ++ early.now))
+        (AllIfPicked asked.now look.now.as_of look.now.rows (late.now ++ early.now))
+        (AtMost (look_ups (traces_of (late.now ++ early.now)) look.now.pin.blocks)) port.old result port.new }
+{
+    taken_answer_the_whole();
+    let turns = match in_turns(alloc, late, early) {
+        Ok(turns) => turns,
+        Err(_) => return Err(QueryError::Memory),
     };
-    let results = answer(
-        alloc,
-        &asked.checked,
-        asked.range,
-        bounds,
-        firsts.as_slice(),
-    )?;
-    Ok(SearchAnswer {
-        as_of: look.as_of,
-        results,
-    })
+    match take_each(alloc, port, look, asked, turns.as_slice()) {
+        Ok(best) => Ok(SearchAnswer {
+            as_of: look.as_of,
+            results: best.into_results(),
+        }),
+        Err(error) => Err(error),
+    }
 }

@@ -11,11 +11,13 @@ ghost use Rattle.block_read.specs.Answers.{RoseAtMost};
 ghost use Rattle.query_fanout.specs.TraceAnswers.{IsTraceAnswer};
 ghost use Rattle.query_fanout.specs.Bounds.{look_up_pages};
 ghost use Rattle.query_fanout.specs.Queries.{HasAsked};
-ghost use Rattle.query_fanout.specs.Reading.{BlocksRead};
+ghost use Rattle.query_fanout.specs.Reading.{AtMost, BlocksRead};
 
 use crate::QueryError;
-use crate::blocks::block_rows;
-use span_types::{Memory, Rows, TraceId, first_rows};
+use crate::blocks::{OfBlock, of_blocks};
+use block_info::BlockInfo;
+use block_read::{Pages, ReadError, trace_rows};
+use span_types::{Memory, Row, Rows, TraceId, first_rows};
 use std::alloc::Global;
 use store_state::{FlushPort, Look};
 
@@ -26,6 +28,41 @@ pub struct TraceAnswer {
     pub as_of: u64,
     /// Their first occurrences, in block order.
     pub rows: Rows,
+}
+
+// The rows of a trace.
+#[derive(Drop)]
+struct OneTrace(TraceId);
+
+impl OfBlock for OneTrace {
+    ghost use Rattle.std.specs.Prelude.{refl};
+    ghost use Rattle.block_read.specs.Lookups.{most_pages};
+    ghost use Rattle.query_fanout.specs.Reading.{AreOfTrace};
+    ghost use Rattle.query_fanout.specs.Joined.{of_trace_both};
+
+    type Item = Row;
+
+    ghost can = { λ s. Unit {0} };
+
+    ghost some = { λ s. AreOfTrace s.0 };
+
+    ghost fits = { λ s. AreOfTrace s.0 };
+
+    ghost most = { λ s info rows. most_pages info s.0 rows };
+
+    fn of_block<G: Pages>(
+        &self,
+        alloc: Global,
+        pages: &mut G,
+        block: u32,
+        info: &BlockInfo,
+    ) -> Result<Rows, ReadError> {
+        trace_rows(alloc, pages, block, info, self.0)
+    }
+
+    ghost none = { λ s. (refl, refl) };
+
+    ghost both = { λ s a b x y. (of_trace_both s.0 a b x y, of_trace_both s.0 a b x y) };
 }
 
 /// The first occurrences of a trace's spans, wherever they lie: in the rows of one look and in the blocks that it pins.
@@ -59,10 +96,12 @@ fn trace_of_look<P: FlushPort>(
     id: TraceId,
 ) -> Result<TraceAnswer, QueryError>
     requires { IsOpen P.meaning port.old (look_of look.now) }
-    ensures { BlocksRead P.meaning look.now (Some id) look.now.pin.blocks
-        (λ rows found. IsTraceAnswer id look.now.as_of (look.now.rows ++ rows) found) port.old result port.new }
+    ensures { BlocksRead P.meaning look.now look.now.pin.blocks
+        (λ rows found. IsTraceAnswer id look.now.as_of (look.now.rows ++ rows) found)
+        (λ rows found. IsTraceAnswer id look.now.as_of (look.now.rows ++ rows) found)
+        (AtMost (look_up_pages id look.now.pin.blocks)) port.old result port.new }
 {
-    match block_rows(alloc, port, look, Some(id)) {
+    match of_blocks(alloc, port, look, &OneTrace(id)) {
         Ok(found) => match trace_firsts(alloc, look, id, found) {
             Ok(answer) => Ok(answer),
             Err(Memory) => Err(QueryError::Memory),

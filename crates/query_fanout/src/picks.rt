@@ -1,0 +1,116 @@
+//! The traces that a search has to look at: those that have a hinted span in a look or in its blocks.
+
+ghost use Rattle.std.specs.Prelude.{◌≡◌, ◌++◌, IfOk, map};
+ghost use Rattle.store_state.specs.Given.{look_of};
+ghost use Rattle.store_state.specs.Meaning.{IsOpen};
+ghost use Rattle.column_scan.specs.Candidates.{ArePicks, Ascend, HaveLatest, hinted_picks, spans_of};
+ghost use Rattle.query_fanout.specs.Bounds.{hinted_pages};
+ghost use Rattle.query_fanout.specs.Reading.{AtMost, BlocksRead};
+ghost use Rattle.query_fanout.specs.Searching.{AllArePicked, OwnArePicked};
+
+use crate::QueryError;
+use crate::blocks::{OfBlock, of_blocks};
+use block_info::BlockInfo;
+use block_read::{Pages, ReadError};
+use column_scan::{Hint, Pick, in_order, picks_of_block, picks_of_spans};
+use span_types::{Memory, Row, Seq, Span};
+use std::alloc::Global;
+use store_state::{FlushPort, Look};
+
+// The traces that have a hinted span.
+#[derive(Drop)]
+struct Hinted<'h>(&'h Hint);
+
+impl<'h> OfBlock for Hinted<'h> {
+    ghost use Rattle.std.specs.Prelude.{◌≡◌, [], refl};
+    ghost use Rattle.column_scan.specs.Scans.{scanned_pages};
+    ghost use Rattle.query_fanout.specs.Searching.{ArePicked};
+    ghost use Rattle.query_fanout.specs.Joined.{none_picked, picked_both, none_both};
+
+    type Item = Pick;
+
+    ghost can = { λ s. Unit {0} };
+
+    ghost some = { λ s rows picks. rows ≡ [] };
+
+    ghost fits = { λ s. ArePicked s.0.now };
+
+    ghost most = { λ s info rows. scanned_pages s.0.now info.stripes };
+
+    fn of_block<G: Pages>(
+        &self,
+        alloc: Global,
+        pages: &mut G,
+        block: u32,
+        info: &BlockInfo,
+    ) -> Result<Seq<Pick>, ReadError> {
+        match picks_of_block(alloc, pages, block, info, self.0) {
+            Ok(picks) => Ok(Seq::of(picks)),
+            Err(error) => Err(error),
+        }
+    }
+
+    ghost none = { λ s. (refl, none_picked s.0.now) };
+
+    ghost both = { λ s a b x y. (none_both a b, picked_both s.0.now a b x y) };
+}
+
+/// The traces that have a hinted span among the rows of an open look and its blocks, each once, in ascending order.
+pub(crate) fn picks_of_look<P: FlushPort>(
+    alloc: Global,
+    port: &mut P,
+    look: &Look,
+    hint: &Hint,
+) -> Result<Vec<Pick>, QueryError>
+    requires { IsOpen P.meaning port.old (look_of look.now) }
+    ensures { BlocksRead P.meaning look.now look.now.pin.blocks
+        (λ rows picks. OwnArePicked hint.now look.now.rows rows picks.items)
+        (λ rows picks. AllArePicked hint.now look.now.rows rows picks.items)
+        (AtMost (λ _. hinted_pages hint.now look.now.pin.blocks)) port.old result port.new }
+{
+    match of_blocks(alloc, port, look, &Hinted(hint)) {
+        Ok(found) => match with_own(alloc, look, hint, found) {
+            Ok(picks) => Ok(picks),
+            Err(Memory) => Err(QueryError::Memory),
+        },
+        Err(error) => Err(error),
+    }
+}
+
+// The picks among a look's rows, and more picks.
+fn with_own(
+    alloc: Global,
+    look: &Look,
+    hint: &Hint,
+    found: Seq<Pick>,
+) -> Result<Vec<Pick>, Memory>
+    ensures latest { IfOk result (λ picks.
+        HaveLatest (hinted_picks hint.now (spans_of look.now.rows) ++ found) picks.items) }
+    ensures ascending { IfOk result (λ picks. Ascend picks.items) }
+{
+    let mut picks = picks_of_own(alloc, look, hint)?;
+    picks.append(&mut found.into_vec())?;
+    let all = in_order(alloc, picks)?;
+    Ok(all)
+}
+
+// The picks among a look's rows. The rows are copied, and let go.
+fn picks_of_own(alloc: Global, look: &Look, hint: &Hint) -> Result<Vec<Pick>, Memory>
+    ensures { IfOk result (λ picks. ArePicks hint.now (spans_of look.now.rows) picks.items) }
+{
+    let rows = look.rows.copy_rows()?;
+    let spans = spans_of(alloc, rows.as_slice())?;
+    let picks = picks_of_spans(alloc, hint, spans.as_slice())?;
+    Ok(picks)
+}
+
+// The spans of rows.
+fn spans_of<'r>(alloc: Global, rows: &'r [Row]) -> Result<Vec<&'r Span>, Memory>
+    ensures { IfOk result (λ spans. map (λ s. s.now) spans.items ≡ spans_of rows.now) }
+{
+    let mut spans = Vec::new(alloc);
+    for row in rows {
+        spans.push(&row.span)?;
+    }
+    Ok(spans)
+}

@@ -1,0 +1,180 @@
+//! Picked traces are answered a few at a time, and the best results are kept.
+
+ghost use Rattle.std.specs.Prelude.{◌≡◌, All, IfOk, List, map};
+ghost use Rattle.std.specs.List.{flat_map};
+ghost use Rattle.span_types.specs.declared.spans.Row.{Row as AnyRow};
+ghost use Rattle.store_state.specs.Given.{look_of};
+ghost use Rattle.store_state.specs.Meaning.{IsOpen};
+ghost use Rattle.block_traces.specs.Batches.{AreInOrder};
+ghost use Rattle.column_scan.specs.Candidates.{Ascend};
+ghost use Rattle.rows_by_trace.specs.Traces.{rows_of_trace};
+ghost use Rattle.query_fanout.specs.Reading.{AreOfTraces, AtMost, BlocksRead, look_ups};
+ghost use Rattle.query_fanout.specs.Searching.{AnswersTheirs, AnswersWith, TakenTheirs, TakenWith, TakesTheirs, TakesWith};
+ghost use Rattle.query_fanout.specs.Taking.{AreApart, open_picks, traces_of};
+
+use crate::blocks::{OfBlock, of_blocks};
+use crate::laws::takes_more;
+use crate::trace::joined_firsts;
+use crate::{Asked, QueryError};
+use block_info::BlockInfo;
+use block_read::{Pages, ReadError};
+use block_traces::rows_of_traces;
+use column_scan::Pick;
+use search_answer::{Best, Bounds, answer};
+use span_types::{Memory, Row, Rows, TraceId};
+use std::alloc::Global;
+use store_state::{FlushPort, Look};
+
+// The rows of several traces, whose ids ascend.
+#[derive(Drop)]
+struct Traces<'i>(&'i [TraceId]);
+
+impl<'i> OfBlock for Traces<'i> {
+    ghost use Rattle.std.specs.Prelude.{refl};
+    ghost use Rattle.block_traces.specs.Batches.{AreInOrder, pages_for_each};
+    ghost use Rattle.query_fanout.specs.Reading.{AreOfTraces, AreTheirs};
+    ghost use Rattle.query_fanout.specs.Joined.{of_traces_both, theirs_both};
+
+    type Item = Row;
+
+    ghost can = { λ s. AreInOrder s.0.now };
+
+    ghost some = { λ s. AreTheirs s.0.now };
+
+    ghost fits = { λ s. AreOfTraces s.0.now };
+
+    ghost most = { λ s info rows. pages_for_each info s.0.now rows };
+
+    fn of_block<G: Pages>(
+        &self,
+        alloc: Global,
+        pages: &mut G,
+        block: u32,
+        info: &BlockInfo,
+    ) -> Result<Rows, ReadError> {
+        rows_of_traces(alloc, pages, block, info, self.0)
+    }
+
+    ghost none = { λ s. ((refl, refl), refl) };
+
+    ghost both = { λ s a b x y. (theirs_both s.0.now a b x y, of_traces_both s.0.now a b x y) };
+}
+
+/// Each few picks in turn are taken: what is kept in the end are the best results of all.
+pub(crate) fn take_each<P: FlushPort>(
+    alloc: Global,
+    port: &mut P,
+    look: &Look,
+    asked: &Asked,
+    turns: &[&[Pick]],
+) -> Result<Best, QueryError>
+    requires open { IsOpen P.meaning port.old (look_of look.now) }
+    requires ascend { All (λ few. Ascend few.now) turns.now }
+    requires apart { AreApart (flat_map (λ few. few.now) turns.now) }
+    ensures { BlocksRead P.meaning look.now look.now.pin.blocks
+        (TakenTheirs asked.now look.now.rows (map (λ few. few.now) turns.now))
+        (TakenWith asked.now look.now.rows (map (λ few. few.now) turns.now))
+        (AtMost (look_ups (traces_of (flat_map (λ few. few.now) turns.now)) look.now.pin.blocks))
+        port.old result port.new }
+{
+    takes_more();
+    let mut best = Best::new(alloc, asked.limit);
+    for few in turns {
+        best = take_few(alloc, port, look, asked, few, best)?;
+    }
+    Ok(best)
+}
+
+// A few picks are taken: the traces of which a result can still come among the best are answered.
+fn take_few<P: FlushPort>(
+    alloc: Global,
+    port: &mut P,
+    look: &Look,
+    asked: &Asked,
+    few: &[Pick],
+    best: Best,
+) -> Result<Best, QueryError>
+    requires open { IsOpen P.meaning port.old (look_of look.now) }
+    requires ascend { Ascend few.now }
+    ensures { BlocksRead P.meaning look.now look.now.pin.blocks
+        (TakesTheirs asked.now look.now.rows few.now best) (TakesWith asked.now look.now.rows few.now best)
+        (AtMost (look_ups (traces_of few.now) look.now.pin.blocks)) port.old result port.new }
+{
+    match open_traces(alloc, few, &best) {
+        Ok(ids) => answer_traces(alloc, port, look, asked, ids.as_slice(), best),
+        Err(Memory) => Err(QueryError::Memory),
+    }
+}
+
+// The traces of the picks of which a result can still come among the best.
+fn open_traces(alloc: Global, few: &[Pick], best: &Best) -> Result<Vec<TraceId>, Memory>
+    ensures { IfOk result (λ ids. ids.items ≡ traces_of (open_picks best.now few.now)) }
+{
+    let mut ids = Vec::new(alloc);
+    for pick in few {
+        if best.may_take(pick.trace, pick.latest) {
+            ids.push(pick.trace)?;
+        }
+    }
+    Ok(ids)
+}
+
+// Traces are answered over the rows of an open look and of its blocks. No rows are kept but theirs.
+fn answer_traces<P: FlushPort>(
+    alloc: Global,
+    port: &mut P,
+    look: &Look,
+    asked: &Asked,
+    ids: &[TraceId],
+    best: Best,
+) -> Result<Best, QueryError>
+    requires open { IsOpen P.meaning port.old (look_of look.now) }
+    requires in_order { AreInOrder ids.now }
+    ensures { BlocksRead P.meaning look.now look.now.pin.blocks
+        (AnswersTheirs asked.now look.now.rows ids.now best) (AnswersWith asked.now look.now.rows ids.now best)
+        (AtMost (look_ups ids.now look.now.pin.blocks)) port.old result port.new }
+{
+    match of_blocks(alloc, port, look, &Traces(ids)) {
+        Ok(found) => match answer_rows(alloc, look, asked, ids, found, best) {
+            Ok(best) => Ok(best),
+            Err(Memory) => Err(QueryError::Memory),
+        },
+        Err(error) => Err(error),
+    }
+}
+
+// Traces are answered over a look's rows of them, and their rows elsewhere.
+fn answer_rows(
+    alloc: Global,
+    look: &Look,
+    asked: &Asked,
+    ids: &[TraceId],
+    found: Rows,
+    best: Best,
+) -> Result<Best, Memory>
+    requires in_order { AreInOrder ids.now }
+    ensures { IfOk result (λ new. (rows : List AnyRow) → AreOfTraces ids.now rows found
+        → AnswersWith asked.now look.now.rows ids.now best rows new) }
+{
+    let own = own_rows(alloc, look, ids)?;
+    let firsts = joined_firsts(alloc, own, found)?;
+    let bounds = Bounds {
+        limit: asked.limit,
+        spans_per_set: asked.spans_per_set,
+    };
+    let checked = &asked.checked;
+    let more = answer(alloc, checked, asked.range, bounds, firsts.as_slice())?;
+    best.with(alloc, more)
+}
+
+// A look's rows of some traces, one trace's after those of the one before it.
+fn own_rows(alloc: Global, look: &Look, ids: &[TraceId]) -> Result<Rows, Memory>
+    ensures { IfOk result (λ rows. rows ≡ flat_map (λ id. rows_of_trace id look.now.rows) ids.now) }
+{
+    let mut all = Vec::new(alloc);
+    for id in ids {
+        let rows = look.rows.rows_of(*id)?;
+        all.append(&mut rows.into_vec())?;
+    }
+    Ok(Rows::of(all))
+}

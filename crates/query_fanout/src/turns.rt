@@ -1,0 +1,86 @@
+//! In which order picks are taken: those of late moments first, some at a time.
+
+ghost use Rattle.std.specs.Prelude.{◌≡◌, ◌++◌, ◌≤◌, All, IfOk, OnOk, length};
+ghost use Rattle.std.specs.List.{flat_map};
+ghost use Rattle.std.specs.List.Sorted.{IsPermutation};
+ghost use Rattle.column_scan.specs.Candidates.{Ascend};
+
+use column_scan::Pick;
+use span_types::Memory;
+use std::alloc::Global;
+
+// How many are taken at a time.
+const FEW: usize = 2048;
+
+/// The late picks, of which there are some more than results are asked for, and the early ones.
+pub(crate) fn two_parts(
+    alloc: Global,
+    picks: Vec<Pick>,
+    limit: u32,
+) -> Result<(Vec<Pick>, Vec<Pick>), Memory>
+    requires { Ascend picks.items }
+    ensures same { IfOk result (λ parts. IsPermutation picks.entry.items (parts.0.items ++ parts.1.items)) }
+    ensures late { IfOk result (λ parts. Ascend parts.0.items) }
+    ensures early { IfOk result (λ parts. Ascend parts.1.items) }
+{
+    let moment = late_moment(alloc, picks.as_slice(), limit)?;
+    let mut late = Vec::new(alloc);
+    let mut early = Vec::new(alloc);
+    for pick in picks.as_slice() {
+        if moment <= pick.latest {
+            late.push(*pick)?;
+        } else {
+            early.push(*pick)?;
+        }
+    }
+    Ok((late, early))
+}
+
+// A moment at or above which eight times as many picks are as results are asked for, if there are so many. Whatever it is,
+// the same results are found.
+fn late_moment(alloc: Global, picks: &[Pick], limit: u32) -> Result<u64, Memory> {
+    let mut moments = Vec::with_capacity(alloc, picks.len())?;
+    for pick in picks {
+        moments.push(pick.latest)?;
+    }
+    moments.sort_unstable();
+    let early = moments.len().saturating_sub(8 * limit as usize);
+    match moments.as_slice().get(early) {
+        Some(moment) => Ok(*moment),
+        None => Ok(0),
+    }
+}
+
+/// The picks in the order in which they are taken, at most 2,048 at a time.
+pub(crate) fn in_turns<'p>(
+    alloc: Global,
+    late: &'p [Pick],
+    early: &'p [Pick],
+) -> Result<Vec<&'p [Pick]>, Memory>
+    requires late { Ascend late.now }
+    requires early { Ascend early.now }
+    ensures same { IfOk result (λ turns. flat_map (λ few. few.now) turns.items ≡ late.now ++ early.now) }
+    ensures ascend { IfOk result (λ turns. All (λ few. Ascend few.now) turns.items) }
+{
+    let mut turns = Vec::new(alloc);
+    add_turns(&mut turns, late)?;
+    add_turns(&mut turns, early)?;
+    Ok(turns)
+}
+
+// Adds picks, at most 2,048 at a time.
+fn add_turns<'p>(turns: &mut Vec<&'p [Pick]>, picks: &'p [Pick]) -> Result<(), Memory>
+    requires before { All (λ few. Ascend few.now) turns.old.items }
+    requires picks { Ascend picks.now }
+    ensures same { OnOk result (flat_map (λ few. few.now) turns.new.items
+        ≡ flat_map (λ few. few.now) turns.old.items ++ picks.now) }
+    ensures ascend { OnOk result (All (λ few. Ascend few.now) turns.new.items) }
+{
+    let mut rest = picks;
+    while !rest.is_empty() {
+        let (few, others) = rest.split_at(rest.len().min(FEW));
+        turns.push(few)?;
+        rest = others;
+    }
+    Ok(())
+}
