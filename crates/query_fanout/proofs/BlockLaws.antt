@@ -95,7 +95,7 @@ no_parts shows [] are = refl
 no_parts shows (p ∷ ps) are = absurd are
 
 -- rows that were moved stand after those that were there
-pub moved : (found more after : List Row) (ok err : Bool) → after ≡ (if ok then found ++ more else found) → ok ≡ not err → err ≡ false → after ≡ found ++ more
+pub moved : {A : Type 0} (found more after : List A) (ok err : Bool) → after ≡ (if ok then found ++ more else found) → ok ≡ not err → err ≡ false → after ≡ found ++ more
 moved found more after ok err is not_err none = is ∙ ap (λ (b : Bool). if b then found ++ more else found) (not_err ∙ ap not none)
 
 -- ---- bounds

@@ -30,10 +30,10 @@ pub(crate) trait OfBlock {
     ghost can: { Self → Type 0 };
 
     /// The list fits some rows, whatever the pages are.
-    ghost some: { Self → List Row → List Item → Type 0 };
+    ghost some: { Self → List Row → List Self.Item → Type 0 };
 
     /// The list fits a block's rows.
-    ghost fits: { Self → List Row → List Item → Type 0 };
+    ghost fits: { Self → List Row → List Self.Item → Type 0 };
 
     /// How many pages may be read of a block with these rows.
     ghost most: { Self → InfoParts → List Row → ℕ };
@@ -62,7 +62,7 @@ pub(crate) trait OfBlock {
     ghost none: { (s : Self) → some s [] [] × fits s [] [] };
 
     /// What fits rows, and what fits more rows, fit both.
-    ghost both: { (s : Self) (a b : List Row) (x y : List Item)
+    ghost both: { (s : Self) (a b : List Row) (x y : List Self.Item)
         → (some s a x → some s b y → some s (a ++ b) (x ++ y)) × (fits s a x → fits s b y → fits s (a ++ b) (x ++ y)) };
 }
 
