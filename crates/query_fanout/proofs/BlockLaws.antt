@@ -5,13 +5,14 @@ use Rattle.std.specs.List.{flat_map}
 use Rattle.std.proofs.lemmas.Bool.{eq-eqb}
 use Rattle.std.proofs.lemmas.Grind.{flat_map-append}
 use Rattle.std.proofs.lemmas.List.{drop_more, take_more, take-append-drop}
+use Rattle.span_types.specs.Faults.{Rose}
 use Rattle.span_types.specs.declared.ids.TraceId.{TraceId}
 use Rattle.span_types.specs.declared.spans.Row.{Row}
 use Rattle.block_info.specs.InfoParts.{InfoParts}
 use Rattle.block_format.specs.Blocks.{BlockHasInfo}
 use Rattle.block_read.specs.Answers.{RoseAtMost}
 use Rattle.block_read.specs.Answers as answers
-use Rattle.block_read.specs.Lookups.{IsInFile, most_pages}
+use Rattle.block_read.specs.Lookups.{Finds, IsInFile, most_pages}
 use Rattle.block_read.specs.declared.error.ReadError.{ReadError}
 use Rattle.block_read.specs.declared.error.ReadError.TheVariants as unread
 use Rattle.column_scan.specs.Scans.{FindsFit}
@@ -166,6 +167,25 @@ part_comes some infos file (Ok x) among its of = (of.0, λ none. absurd (not_non
 part_comes some infos file (Err unread.Fault) among its of = tt
 part_comes some infos file (Err (unread.NotBlock other at)) among its of = ap (λ (f : ℕ). is_among f (info_files infos)) its ∙ among
 part_comes some infos file (Err unread.Memory) among its of = tt
+
+-- ---- what is read of one
+
+pub finds_fit : {A : Type 0} (wanted : A) (r : Result A ReadError) → Finds wanted r → FindsFit (λ x. x ≡ wanted) r
+finds_fit wanted (Ok x) h = h
+finds_fit wanted (Err unread.Fault) h = tt
+finds_fit wanted (Err (unread.NotBlock file at)) h = h
+finds_fit wanted (Err unread.Memory) h = tt
+
+pub some_rows : {A : Type 0} (fits : A → Type 0) (some : List Row → A → Type 0) (r : Result A ReadError) → ((x : A) → fits x → (rows : List Row) × some rows x) → IfOk r fits
+    → IfOk r (λ x. (rows : List Row) × some rows x)
+some_rows fits some (Ok x) to h = to x h
+some_rows fits some (Err why) to h = tt
+
+pub cause_of : {A : Type 0} (before now : ℕ) (r : Result A ReadError) → answers.FailsByFault before now r → IsTrue (answers.is_fault r) → Rose before now
+cause_of before now (Ok x) h fault = cc
+cause_of before now (Err unread.Fault) h fault = h
+cause_of before now (Err (unread.NotBlock file at)) h fault = cc
+cause_of before now (Err unread.Memory) h fault = cc
 
 -- ---- block by block
 
