@@ -5,3 +5,4 @@ mod BlockLaws
 mod QueryLaws
 mod SearchLaws
 pub mod TakingLaws
+pub mod WholeLaws

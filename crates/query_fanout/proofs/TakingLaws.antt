@@ -180,7 +180,7 @@ wider p q more rows all = sym (ap (filter q) all) ∙ kept_by rows ∙ all
     ]) refl
 
 -- of another trace there are no rows
-no_rows : (ids : List TraceId) (id : TraceId) (rows : List Row) → rows_of_traces ids rows ≡ rows → is_one_of ids id ≡ false → rows_of_trace id rows ≡ []
+pub no_rows : (ids : List TraceId) (id : TraceId) (rows : List Row) → rows_of_traces ids rows ≡ rows → is_one_of ids id ≡ false → rows_of_trace id rows ≡ []
 no_rows ids id rows all other = sym (ap (rows_of_trace id) all) ∙ other_rows (is_one_of ids) id rows other
 
 not_true : (b : Bool) → (b ≡ true → ⊥) → b ≡ false

@@ -10,3 +10,4 @@ mod Shown
 mod Starts
 pub mod BestLaws
 pub mod PickedLaws
+pub mod CutLaws
