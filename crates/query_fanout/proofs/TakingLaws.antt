@@ -1,5 +1,5 @@
 -- Picks are taken a few at a time: one more few, over the same rows or over more of them.
-use Rattle.std.proofs.Common.{◌≡◌, ◌⊎◌, inl, inr, ℕ, zero, suc, ◌+◌, ◌<◌, List, [], ◌∷◌, ◌++◌, Bool, true, false, ◌||◌, filter, map, length, refl, sym, ◌∙◌, ap, ap₂, subst, arith, Contains, slice_index_or, append-nil, append_assoc, length-append}
+use Rattle.std.proofs.Common.{◌≡◌, ◌⊎◌, inl, inr, zero, suc, ◌+◌, List, [], ◌∷◌, ◌++◌, Bool, true, false, ◌||◌, filter, length, refl, sym, ◌∙◌, ap, ap₂, subst, arith, Contains, slice_index_or, append-nil, append_assoc, length-append}
 use Rattle.std.specs.List.{flat_map}
 use Rattle.std.specs.Ordering.{is_eq}
 use Rattle.std.proofs.lemmas.Bool.{cases_order}
@@ -183,7 +183,7 @@ wider p q more rows all = sym (ap (filter q) all) ∙ kept_by rows ∙ all
 pub no_rows : (ids : List TraceId) (id : TraceId) (rows : List Row) → rows_of_traces ids rows ≡ rows → is_one_of ids id ≡ false → rows_of_trace id rows ≡ []
 no_rows ids id rows all other = sym (ap (rows_of_trace id) all) ∙ other_rows (is_one_of ids) id rows other
 
-not_true : (b : Bool) → (b ≡ true → ⊥) → b ≡ false
+pub not_true : (b : Bool) → (b ≡ true → ⊥) → b ≡ false
 not_true true bad = absurd (bad refl)
 not_true false bad = refl
 

@@ -1,14 +1,14 @@
 -- What is kept in the end is what the search answers over all rows.
-use Rattle.std.proofs.Common.{◌≡◌, ◌≢◌, ◌⊎◌, inl, inr, ℕ, zero, suc, ◌+◌, ◌-◌, ◌<◌, ◌≤◌, List, [], ◌∷◌, ◌++◌, Bool, true, false, not, ◌||◌, Option, None, Some, nat_lt, filter, map, length, take, refl, sym, ◌∙◌, ap, subst, arith, All, Contains, slice_index_or, append-nil, length-append}
+use Rattle.std.proofs.Common.{◌≡◌, ◌≢◌, ◌⊎◌, inl, inr, ℕ, ◌+◌, ◌-◌, ◌≤◌, List, [], ◌∷◌, ◌++◌, Bool, true, false, not, ◌||◌, Option, None, Some, nat_lt, filter, map, length, take, refl, sym, ◌∙◌, ap, subst, arith, All, Contains, slice_index_or, append-nil, length-append}
 use Rattle.std.specs.Prelude.{slice_get}
-use Rattle.std.specs.List.{AllByRecursion, AllPairs, flat_map}
+use Rattle.std.specs.List.{AllByRecursion, flat_map}
 use Rattle.std.specs.List.Sorted.{IsSorted}
 use Rattle.std.specs.Ordering.{is_eq, is_lt}
 use Rattle.std.proofs.Math.Seq.{take-nil}
-use Rattle.std.proofs.lemmas.Bool.{ltb-false}
+use Rattle.std.proofs.lemmas.Bool.{ltb-false, true≢false}
 use Rattle.std.proofs.lemmas.Cmp.{tied_itself}
 use Rattle.std.proofs.lemmas.List.{get_or-append-add, get_or-take, get_or_append_left, length-take, map-append}
-use Rattle.std.proofs.lemmas.List.Elements.{All-append, All-contains, All-from_recursion, All-map, All-nil, All-tail, All-weaker, Contains-append_left, Contains-append_right, recursion_from_All}
+use Rattle.std.proofs.lemmas.List.Elements.{All-append, All-contains, All-from_recursion, All-map, All-nil, All-tail, Contains-append_left, Contains-append_right, recursion_from_All}
 use Rattle.std.proofs.lemmas.List.Kept.{AllPairs-filter}
 use Rattle.std.proofs.lemmas.List.Sorted.{IsPermutation-refl}
 use Rattle.std.proofs.lemmas.Option.{slice_get-get_or}
@@ -42,7 +42,7 @@ use Rattle.column_scan.proofs.PickLaws.{hinted_row}
 use Rattle.block_traces.specs.Batches.{is_one_of}
 use Rattle.query_fanout.specs.declared.searching.Asked.{Asked}
 use Rattle.query_fanout.specs.Taking.{Answered, AnswersSearch, AreApart, AreCovered, Takes, TakesEach, TakenAnswerTheWhole, asked_hint, no_best, open_picks, traces_of}
-use Rattle.query_fanout.proofs.TakingLaws.{all_among, answered_there, kept_pick, no_rows, not_both, of_either, of_first, of_second, one_pick, open_is_there, or_left, pick_there}
+use Rattle.query_fanout.proofs.TakingLaws.{all_among, answered_there, kept_pick, no_rows, not_both, not_true, of_either, of_first, of_second, one_pick, open_is_there, or_left, pick_there}
 
 -- ---- picks
 
@@ -61,13 +61,6 @@ right_apart xs ys apart = λ i j d low high.
 among_both : (xs ys : List Pick) (id : TraceId) → (is_one_of (traces_of xs) id ≡ true) ⊎ (is_one_of (traces_of ys) id ≡ true) → is_one_of (traces_of (xs ++ ys)) id ≡ true
 among_both xs ys id (inl one) = ap (λ l. is_one_of l id) (map-append (λ (p : Pick). p.trace) xs ys) ∙ of_first id (traces_of xs) (traces_of ys) one
 among_both xs ys id (inr two) = ap (λ l. is_one_of l id) (map-append (λ (p : Pick). p.trace) xs ys) ∙ of_second id (traces_of xs) (traces_of ys) two
-
-not_true : (b : Bool) → (b ≡ true → ⊥) → b ≡ false
-not_true true bad = absurd (bad refl)
-not_true false bad = refl
-
-true_false : true ≡ false → ⊥
-true_false e = cc
 
 not_so : (b : Bool) → not b ≡ true → b ≡ false
 not_so true e = cc
@@ -103,7 +96,7 @@ open_or_shut best picks id apart one two =
     let shut = kept_pick (λ p. not (may_come best p.trace p.latest)) picks a.pick a.among in
     let opens = kept_pick (λ p. may_come best p.trace p.latest) picks b.pick b.among in
     let same : a.pick ≡ b.pick = one_pick picks a.pick b.pick apart shut.0 opens.0 (a.is ∙ sym b.is) in
-    true_false (sym opens.1 ∙ ap (λ (p : Pick). may_come best p.trace p.latest) (sym same) ∙ not_so (may_come best a.pick.trace a.pick.latest) shut.1)
+    true≢false (sym opens.1 ∙ ap (λ (p : Pick). may_come best p.trace p.latest) (sym same) ∙ not_so (may_come best a.pick.trace a.pick.latest) shut.1)
 
 each_is_either : (best : BestParts) (picks : List Pick) (id : TraceId) → is_one_of (traces_of picks) id ≡ true
     → (is_one_of (traces_of (shut_picks best picks)) id ≡ true) ⊎ (is_one_of (traces_of (open_picks best picks)) id ≡ true)
@@ -164,7 +157,7 @@ module _ (asked : Asked) (firsts : List Row) where
   no_results : ResultsOf asked firsts [] []
   no_results = record {
     only = All-nil (λ r. (is_one_of [] r.trace ≡ true) × IsFound asked firsts r.trace r);
-    whole = λ id r is found. absurd (true_false (sym is));
+    whole = λ id r is found. absurd (true≢false (sym is));
     once = tt;
   }
 
@@ -239,7 +232,7 @@ module _ (asked : Asked) (rows firsts : List Row) (is_first : IsFirstOf rows fir
     where
       at : (o : Option TraceResult) → IsOutcome asked.checked.patterns (rows_of_trace id firsts) (query_tree asked.checked.query) o
           → (b : Bool) → is_in_range asked.range (rows_of_trace id firsts) ≡ b → SomeResults asked firsts (id ∷ [])
-      at o is false out = nothing_found id (λ r found. true_false (sym found.within ∙ out))
+      at o is false out = nothing_found id (λ r found. true≢false (sym found.within ∙ out))
       at None is true within = nothing_found id (λ r found.
           none_some r (one_outcome asked.checked.patterns (rows_of_trace id firsts) (query_tree asked.checked.query) None (Some r) is found.outcome))
       at (Some s) is true within = one_found id s (record { within = within; outcome = is })
@@ -271,7 +264,7 @@ module _ (asked : Asked) (rows firsts : List Row) (is_first : IsFirstOf rows fir
       picked_only : (id : TraceId) → is_in_range asked.range (rows_of_trace id is.firsts) ≡ true → is_one_of ids id ≡ true
       picked_only id within = (elim (is_one_of ids id) as (λ b. is_one_of ids id ≡ b → is_one_of ids id ≡ true) [
         | true ↦ λ t. t
-        | false ↦ λ f. absurd (true_false (sym within ∙ ap (is_in_range asked.range) (no_rows ids id is.firsts is.theirs f)))
+        | false ↦ λ f. absurd (true≢false (sym within ∙ ap (is_in_range asked.range) (no_rows ids id is.firsts is.theirs f)))
       ]) refl
 
 -- ---- what is kept so far
@@ -439,7 +432,7 @@ module _ (asked : Asked) (rows firsts : List Row) (is_first : IsFirstOf rows fir
   rest_late p r among out found =
       late p r (Contains-append_right few (joined each) p among) (not_true (is_one_of ids p.trace) (λ is. elim (of_parts p.trace is) [
         | inl one ↦ not_both few (joined each) apart p.trace (open_is_there old few p.trace one) (all_among (joined each) p p.trace among refl)
-        | inr two ↦ true_false (sym two ∙ out)
+        | inr two ↦ true≢false (sym two ∙ out)
       ])) found
 
   and_rest : Taken asked firsts now (joined each) new → Taken asked firsts done (few ++ joined each) new
@@ -463,7 +456,7 @@ module _ (asked : Asked) (rows firsts : List Row) (is_first : IsFirstOf rows fir
   taken done [] old new ids kept (same, none) apart never late = record {
     ids = done;
     kept = subst (λ b. KeptOf asked firsts done b) (sym same) kept;
-    whole = λ id is. elim is [ inl one ↦ one | inr two ↦ absurd (true_false (sym two)) ];
+    whole = λ id is. elim is [ inl one ↦ one | inr two ↦ absurd (true≢false (sym two)) ];
   }
   taken done (few ∷ each) old new ids kept (between, later, takes, rest, are) apart never late =
       and_rest asked rows firsts is_first done few each old between new later ids kept takes rest are apart never late
@@ -499,7 +492,7 @@ module _ (asked : Asked) (rows firsts : List Row) (picks : List Pick) (ids : Lis
       let c = covers p.trace r found in
       let same : c.pick ≡ p = one_pick picks c.pick p apart c.among among c.is in
       elim c.late [
-        | inl one ↦ absurd (true_false (sym one ∙ ap (is_one_of ids) c.is ∙ out))
+        | inl one ↦ absurd (true≢false (sym one ∙ ap (is_one_of ids) c.is ∙ out))
         | inr two ↦ subst (λ (q : Pick). r.start ≤ q.latest) same two
       ]
 
@@ -520,5 +513,5 @@ module _ (asked : Asked) (rows firsts : List Row) (picks : List Pick) (ids : Lis
 pub taken_answer : TakenAnswerTheWhole
 taken_answer asked rows firsts each ids best is_first apart covered takes =
     answers_whole asked rows firsts (joined each) ids is_first apart covered best
-    (taken asked rows firsts is_first [] each (no_best asked) best ids (none_kept asked rows firsts is_first) takes apart (λ id bad _. true_false (sym bad))
+    (taken asked rows firsts is_first [] each (no_best asked) best ids (none_kept asked rows firsts is_first) takes apart (λ id bad _. true≢false (sym bad))
     (all_late asked rows firsts (joined each) ids is_first apart covered))
