@@ -4,3 +4,5 @@ mod PinnedLaws
 mod BlockLaws
 mod QueryLaws
 mod SearchLaws
+pub mod TakingLaws
+pub mod WholeLaws
