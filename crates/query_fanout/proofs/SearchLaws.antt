@@ -1,5 +1,5 @@
 -- A search tells of the first occurrences of all rows, if the hinted ones are covered by what it picks.
-use Rattle.std.proofs.Common.{◌≡◌, ◌⊎◌, inl, inr, ℕ, ◌+◌, ◌≤◌, List, [], ◌∷◌, ◌++◌, Bool, true, false, Result, Ok, Err, filter, map, refl, sym, ◌∙◌, ap, subst, arith, All, Contains}
+use Rattle.std.proofs.Common.{◌≡◌, ◌⊎◌, inl, inr, ℕ, ◌≤◌, List, [], ◌∷◌, ◌++◌, Bool, true, false, Result, Ok, Err, filter, map, refl, sym, ◌∙◌, ap, subst, arith, All, Contains}
 use Rattle.std.specs.List.{IsDistinct, flat_map}
 use Rattle.std.specs.List.Sorted.{IsPermutation}
 use Rattle.std.specs.Ordering.{is_eq, ordering_reverse}
@@ -25,7 +25,8 @@ use Rattle.column_scan.proofs.Latest.{contains_filter, contains_map}
 use Rattle.search_answer.specs.Keeping.{BestParts}
 use Rattle.search_answer.proofs.Fronts.{trace_cmp_total}
 use Rattle.store_model.proofs.FirstsExist.{firsts_exist}
-use Rattle.store_state.specs.Meaning.{Meaning}
+use Rattle.store_state.specs.Given.{look_of}
+use Rattle.store_state.specs.Meaning.{IsOpen, Meaning}
 use Rattle.store_state.specs.declared.jobs.Look.{Look}
 use Rattle.query_fanout.specs.Bounds.{SearchReads, all_rows, hinted_pages, look_up_pages, search_pages}
 use Rattle.query_fanout.specs.Reading.{AtMost, BlocksRead, look_ups}
@@ -33,9 +34,10 @@ use Rattle.query_fanout.specs.SearchAnswers.{IsSearchAnswer}
 use Rattle.query_fanout.specs.Searching.{AllArePicked, AllIfPicked, OwnArePicked, OwnIfPicked, TakenTheirs, TakenWith}
 use Rattle.query_fanout.specs.Taking.{AnswersSearch, AreApart, AreCovered, TakenAnswerTheWhole, TakesEach, asked_hint, no_best, traces_of}
 use Rattle.query_fanout.specs.declared.error.QueryError.{QueryError}
+use Rattle.query_fanout.specs.declared.error.QueryError.TheVariants.{Memory}
 use Rattle.query_fanout.specs.declared.searching.Asked.{Asked}
 use Rattle.query_fanout.specs.declared.searching.SearchAnswer.{SearchAnswer}
-use Rattle.query_fanout.proofs.BlockLaws.{read_failed, read_told, rose_none, rose_twice}
+use Rattle.query_fanout.proofs.BlockLaws.{read_failed, read_nothing, read_told, reads_then, rose_none, rose_twice}
 use Rattle.query_fanout.proofs.PicksExist.{candidates_exist, head_first, tail_ascends}
 use Rattle.query_fanout.proofs.QueryLaws.{TellsFirsts}
 use Rattle.query_fanout.proofs.TakingLaws.{answered_there, pick_there}
@@ -103,6 +105,14 @@ module _ (law : TakenAnswerTheWhole) (asked : Asked) (as_of : ℕ) (own : List R
       there id one =
           subst (λ (l : List Pick). is_one_of (traces_of l) id ≡ true) same (answered_there asked (own ++ rows) each (no_best asked) best taken.0 id taken.1 one)
 
+-- there is no memory to begin
+pub not_begun : {P : Type 0} (meaning : Meaning P) (look : Look) (asked : Asked) (picks : List Pick) (port : P) → IsOpen meaning port (look_of look)
+    → BlocksRead meaning look look.pin.blocks (OwnIfPicked asked look.as_of look.rows picks) (AllIfPicked asked look.as_of look.rows picks) (AtMost (look_ups (traces_of picks) look.pin.blocks)) port
+    (Err Memory) port
+not_begun meaning look asked picks port is_open =
+    read_nothing meaning look look.pin.blocks (OwnIfPicked asked look.as_of look.rows picks) (AllIfPicked asked look.as_of look.rows picks) (AtMost (look_ups (traces_of picks) look.pin.blocks)) port is_open
+    (λ parts. rose_none (look_ups (traces_of picks) look.pin.blocks parts) (meaning.reads port))
+
 -- What is told of picks that were taken a few at a time is told of them all.
 pub parts_read : {P X : Type 0} (meaning : Meaning P) (look : Look) (asked : Asked) (turns items : List X) (now : X → List Pick) (picks : List Pick) (old new : P) (best : BestParts) (answer : SearchAnswer)
     → TakenAnswerTheWhole → turns ≡ items → flat_map now items ≡ picks → AreApart picks → answer.as_of ≡ look.as_of → answer.results ≡ best.kept
@@ -151,6 +161,9 @@ distinct_apart (p ∷ ps) d =
 
 pub parts_apart : (picks parts : List Pick) → IsPermutation picks parts → Ascend picks → AreApart parts
 parts_apart picks parts moved up = distinct_apart parts (IsDistinct-IsPermutation same_traces flips picks parts moved (ascend_distinct picks up))
+
+pub moved_parts : (picks a b x y : List Pick) → IsPermutation picks (x ++ y) → a ≡ x → b ≡ y → IsPermutation picks (a ++ b)
+moved_parts picks a b x y moved first second = subst (IsPermutation picks) (sym (ap (λ l. l ++ b) first ∙ ap (λ l. x ++ l) second)) moved
 
 covered_so : (picks parts all : List Pick) → IsPermutation picks parts → All (IsCovered picks) all → All (IsCovered parts) all
 covered_so picks parts all moved = All-weaker (IsCovered picks) (IsCovered parts) (λ p c. (c.0, Contains-permutation picks parts c.0 moved c.1, c.2, c.3)) all
@@ -207,3 +220,32 @@ pub own_all : (asked : Asked) (as_of : ℕ) (own a b : List Row) (picks : List P
     → IsSearchAnswer asked as_of (own ++ (a ++ b)) answer
 own_all asked as_of own a b picks answer are told =
     subst (λ (l : List Row). IsSearchAnswer asked as_of (own ++ (l ++ b)) answer) (sym are.none) (told are.whole)
+
+module _ {P A : Type 0} (meaning : Meaning P) (look : Look) (asked : Asked) (hint : Hint) (items : A → List Pick) (old new : P) (is : hint ≡ asked_hint asked) where
+  -- the picks are read, for this hint
+  abbrev PicksRead : Hint → Result A QueryError → P → Type 0
+  PicksRead h = BlocksRead meaning look look.pin.blocks (λ rows picks. OwnArePicked h look.rows rows (items picks)) (λ rows picks. AllArePicked h look.rows rows (items picks))
+      (AtMost (λ parts. hinted_pages h look.pin.blocks)) old
+
+  abbrev SearchRead : Result SearchAnswer QueryError → P → Type 0
+  SearchRead = BlocksRead meaning look look.pin.blocks (λ rows found. IsSearchAnswer asked look.as_of (look.rows ++ rows) found) (λ rows found. IsSearchAnswer asked look.as_of (look.rows ++ rows) found)
+      (SearchReads (asked_hint asked) look.rows look.pin.blocks) old
+
+  -- and then what is picked is searched
+  pub picks_then : (mid : P) (picks : A) (r : Result SearchAnswer QueryError) → PicksRead hint (Ok picks) mid
+      → BlocksRead meaning look look.pin.blocks (OwnIfPicked asked look.as_of look.rows (items picks)) (AllIfPicked asked look.as_of look.rows (items picks))
+      (AtMost (look_ups (traces_of (items picks)) look.pin.blocks)) mid r new
+      → SearchRead r new
+  picks_then mid picks r read more =
+      reads_then meaning look old mid new picks (subst (λ h. PicksRead h (Ok picks) mid) is read) r more
+      (λ rows found. IsSearchAnswer asked look.as_of (look.rows ++ rows) found) (λ rows found. IsSearchAnswer asked look.as_of (look.rows ++ rows) found)
+      (SearchReads (asked_hint asked) look.rows look.pin.blocks)
+      (λ answer a b are told. own_all asked look.as_of look.rows a b (items picks) answer are told)
+      (λ answer rows are told. told are.latest.whole)
+      (λ parts a b c are one two. picked_within (asked_hint asked) look.rows (items picks) look.pin.blocks parts a b c are one two)
+
+  -- or they could not be
+  pub picks_failed : (why : QueryError) → PicksRead hint (Err why) new → SearchRead (Err why) new
+  picks_failed why read =
+      read_failed meaning look look.pin.blocks (λ parts a b rose. hinted_within (asked_hint asked) look.rows look.pin.blocks parts a b rose) old new why
+      (subst (λ h. PicksRead h (Err why) new) is read)
