@@ -39,7 +39,7 @@ none_both a b first second = ap (λ (l : List Row). l ++ b) first ∙ second
 pub none_picked : (hint : Hint) → ArePicked hint [] []
 none_picked hint = itself []
 
-with_before : (front all some : List Pick) → HaveLatest all some → HaveLatest (front ++ all) (front ++ some)
+pub with_before : (front all some : List Pick) → HaveLatest all some → HaveLatest (front ++ all) (front ++ some)
 with_before front all some have = record {
   whole = All-append (IsCovered (front ++ some)) front all
       (All-weaker (Contains front) (IsCovered (front ++ some)) (λ p m. (p, Contains-append_left front some p m, refl, omega arith)) front (All-contains_itself front))

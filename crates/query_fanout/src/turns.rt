@@ -1,6 +1,6 @@
 //! In which order picks are taken: those of late moments first, some at a time.
 
-ghost use Rattle.std.specs.Prelude.{◌≡◌, ◌++◌, ◌≤◌, All, IfOk, OnOk, length};
+ghost use Rattle.std.specs.Prelude.{◌≡◌, ◌++◌, ◌<◌, ◌≤◌, All, IfOk, OnOk, length};
 ghost use Rattle.std.specs.List.{flat_map};
 ghost use Rattle.std.specs.List.Sorted.{IsPermutation};
 ghost use Rattle.column_scan.specs.Candidates.{Ascend};
@@ -68,6 +68,15 @@ pub(crate) fn in_turns<'p>(
     Ok(turns)
 }
 
+// How many are taken of these.
+fn few_of(rest: &[Pick]) -> usize
+    requires { 0 < length rest.now }
+    ensures some { 0 < result }
+    ensures there { result ≤ length rest.now }
+{
+    rest.len().min(FEW)
+}
+
 // Adds picks, at most 2,048 at a time.
 fn add_turns<'p>(turns: &mut Vec<&'p [Pick]>, picks: &'p [Pick]) -> Result<(), Memory>
     requires before { All (λ few. Ascend few.now) turns.old.items }
@@ -78,7 +87,7 @@ fn add_turns<'p>(turns: &mut Vec<&'p [Pick]>, picks: &'p [Pick]) -> Result<(), M
 {
     let mut rest = picks;
     while !rest.is_empty() {
-        let (few, others) = rest.split_at(rest.len().min(FEW));
+        let (few, others) = rest.split_at(few_of(rest));
         turns.push(few)?;
         rest = others;
     }
