@@ -164,7 +164,8 @@ fn answer_rows(
     };
     let checked = &asked.checked;
     let more = answer(alloc, checked, asked.range, bounds, firsts.as_slice())?;
-    best.with(alloc, more)
+    let kept = best.with(alloc, more)?;
+    Ok(kept)
 }
 
 // A look's rows of some traces, one trace's after those of the one before it.
