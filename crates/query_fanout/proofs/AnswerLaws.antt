@@ -1,5 +1,5 @@
 -- What is kept of the traces that were taken is the answer.
-use Rattle.std.proofs.Common.{◌≡◌, ◌⊎◌, inl, inr, ℕ, zero, suc, ◌+◌, ◌≤◌, ◌<◌, Bool, true, false, true_false, ◌||◌, List, [], ◌∷◌, ◌++◌, length, map, filter, take, drop, All, Contains, arith, append-nil, append_assoc, refl, sym, ap, subst, ◌∙◌, slice_index_or}
+use Rattle.std.proofs.Common.{◌≡◌, ◌⊎◌, inl, inr, ℕ, zero, suc, ◌+◌, ◌≤◌, ◌<◌, Bool, true, false, true≢false, ◌||◌, List, [], ◌∷◌, ◌++◌, length, map, filter, take, drop, All, Contains, arith, append-nil, append_assoc, refl, sym, ap, subst, ◌∙◌, slice_index_or}
 use Rattle.std.specs.Prelude.{sum_by}
 use Rattle.std.specs.List.{AllPairs, IsDistinct, flat_map}
 use Rattle.std.specs.List.Sorted.{IsPermutation}
@@ -22,7 +22,7 @@ use Rattle.column_scan.specs.declared.hints.Hint.{Hint}
 use Rattle.column_scan.specs.declared.picks.Pick.{Pick}
 use Rattle.column_scan.proofs.Latest.{contains_filter, contains_map}
 use Rattle.search_answer.proofs.Fronts.{same_trace, trace_cmp_total}
-use Rattle.search_answer.specs.Keeping.{BestParts}
+use Rattle.search_answer.specs.Keeping.{BestParts, may_come}
 use Rattle.store_model.proofs.FirstsExist.{firsts_exist}
 use Rattle.query_fanout.specs.Bounds.{SearchReads, all_rows, hinted_pages, look_up_pages, search_pages}
 use Rattle.query_fanout.specs.Reading.{AtMost, look_ups}
@@ -52,20 +52,15 @@ more_read more asked own each few mid new some rows apart taken takes =
 
 -- ---- picks in turns
 
-module _ {X : Type 0} (now : X → List Pick) (turns : List X) where
-  -- those before the turn
-  abbrev pub so_far : ℕ → List (List Pick)
-  so_far i = map now (take i turns)
-
-  pub next_turn : (i : ℕ) (d : X) → i < length turns → so_far (i + 1) ≡ so_far i ++ now (slice_index_or turns i d) ∷ []
-  next_turn i d low = ap (map now) (take_more turns i d low) ∙ map-append now (take i turns) (slice_index_or turns i d ∷ [])
+pub next_turn : {X : Type 0} (turns : List X) (now : X → List Pick) (i : ℕ) (d : X) → i < length turns → map now (take (i + 1) turns) ≡ map now (take i turns) ++ now (slice_index_or turns i d) ∷ []
+next_turn turns now i d low = ap (map now) (take_more turns i d low) ∙ map-append now (take i turns) (slice_index_or turns i d ∷ [])
 
 joined : (each : List (List Pick)) (few : List Pick) → flat_map (λ l. l) (each ++ few ∷ []) ≡ flat_map (λ l. l) each ++ few
 joined each few = flat_map-append (λ (l : List Pick). l) each (few ∷ []) ∙ ap (λ (l : List Pick). flat_map (λ l. l) each ++ l) (append-nil few)
 
-pub flat_mapped : {X : Type 0} (now : X → List Pick) (turns : List X) → flat_map (λ l. l) (map now turns) ≡ flat_map now turns
-flat_mapped now [] = refl
-flat_mapped now (x ∷ xs) = ap (λ (l : List Pick). now x ++ l) (flat_mapped now xs)
+pub flat_mapped : {X : Type 0} (turns : List X) (now : X → List Pick) → flat_map (λ l. l) (map now turns) ≡ flat_map now turns
+flat_mapped [] now = refl
+flat_mapped (x ∷ xs) now = ap (λ (l : List Pick). now x ++ l) (flat_mapped xs now)
 
 front_apart : (xs ys : List Pick) → AreApart (xs ++ ys) → AreApart xs
 front_apart xs ys apart i j d before here =
@@ -77,10 +72,10 @@ front_apart xs ys apart i j d before here =
 whole_flat : {X : Type 0} (now : X → List Pick) (turns : List X) (i : ℕ) → flat_map now turns ≡ flat_map now (take i turns) ++ flat_map now (drop i turns)
 whole_flat now turns i = ap (flat_map now) (sym (take-append-drop i turns)) ∙ flat_map-append now (take i turns) (drop i turns)
 
-pub turn_apart : {X : Type 0} (now : X → List Pick) (turns : List X) (i : ℕ) (d : X) → i < length turns → AreApart (flat_map now turns)
+pub turn_apart : {X : Type 0} (turns : List X) (now : X → List Pick) (i : ℕ) (d : X) → i < length turns → AreApart (flat_map now turns)
     → AreApart (flat_map (λ l. l) (map now (take i turns)) ++ now (slice_index_or turns i d))
-turn_apart now turns i d low apart =
-    subst AreApart (sym (flat_mapped now (take (i + 1) turns)) ∙ ap (flat_map (λ l. l)) (next_turn now turns i d low) ∙ joined (map now (take i turns)) (now (slice_index_or turns i d)))
+turn_apart turns now i d low apart =
+    subst AreApart (sym (flat_mapped (take (i + 1) turns) now) ∙ ap (flat_map (λ l. l)) (next_turn turns now i d low) ∙ joined (map now (take i turns)) (now (slice_index_or turns i d)))
     (front_apart (flat_map now (take (i + 1) turns)) (flat_map now (drop (i + 1) turns)) (subst AreApart (whole_flat now turns (i + 1)) apart))
 
 -- ---- what may be read in turns
@@ -107,11 +102,11 @@ turn_rose each few infos parts a b c one two =
 add_more : (m n k : ℕ) → k ≡ m + n → m ≤ k
 add_more m n k is = omega (arith, is)
 
-pub turns_widen : {X : Type 0} (now : X → List Pick) (turns : List X) (i : ℕ) (infos : List InfoParts) (parts : List (List Row)) (a b : ℕ)
+pub turns_widen : {X : Type 0} (turns : List X) (now : X → List Pick) (i : ℕ) (infos : List InfoParts) (parts : List (List Row)) (a b : ℕ)
     → AtMost (look_ups (traces_of (flat_map (λ l. l) (map now (take i turns)))) infos) parts a b → AtMost (look_ups (traces_of (flat_map now turns)) infos) parts a b
-turns_widen now turns i infos parts a b rose =
+turns_widen turns now i infos parts a b rose =
     rose_more (look_ups (traces_of (flat_map (λ l. l) (map now (take i turns)))) infos parts) (look_ups (traces_of (flat_map now turns)) infos parts) a b
-    (subst (λ (l : List Pick). look_ups (traces_of l) infos parts ≤ look_ups (traces_of (flat_map now turns)) infos parts) (sym (flat_mapped now (take i turns)))
+    (subst (λ (l : List Pick). look_ups (traces_of l) infos parts ≤ look_ups (traces_of (flat_map now turns)) infos parts) (sym (flat_mapped (take i turns) now))
     (add_more (look_ups (traces_of (flat_map now (take i turns))) infos parts) (look_ups (traces_of (flat_map now (drop i turns))) infos parts) (look_ups (traces_of (flat_map now turns)) infos parts)
     (ap (λ (l : List Pick). look_ups (traces_of l) infos parts) (whole_flat now turns i)
     ∙ sum_more (flat_map now (take i turns)) (flat_map now (drop i turns)) infos parts))) rose
@@ -124,7 +119,7 @@ same_pick p q = is_eq (trace_cmp p.trace q.trace)
 pub parts_apart : (picks other : List Pick) → IsPermutation picks other → Ascend picks → AreApart other
 unfolding same_pick
 parts_apart picks other moved up i j d before here = λ same.
-    true_false
+    true≢false
     (sym ((eq_by_cmp_equiv trace_cmp_total).refl (slice_index_or other j d).trace)
     ∙ ap (λ (t : TraceId). is_eq (trace_cmp t (slice_index_or other j d).trace)) (sym same)
     ∙ apart_from_distinct same_pick other i j d
@@ -190,7 +185,7 @@ abbrev HasPick : List Pick → TraceId → Type 0
 HasPick picks t = (p : Pick) × Contains picks p × (p.trace ≡ t)
 
 open_picked : (keep : Pick → Bool) (few : List Pick) (t : TraceId) → is_one_of (traces_of (filter keep few)) t ≡ true → HasPick few t
-open_picked keep [] t one = absurd (true_false (sym one))
+open_picked keep [] t one = absurd (true≢false (sym one))
 open_picked keep (p ∷ ps) t one = (elim (keep p) as (λ b. keep p ≡ b → HasPick (p ∷ ps) t) [
   | true ↦ λ k. by (either_way (is_eq (trace_cmp t p.trace)) (is_one_of (traces_of (filter keep ps)) t) (kept k one))
   | false ↦ λ k. later (open_picked keep ps t (lost k one))
@@ -212,12 +207,12 @@ open_picked keep (p ∷ ps) t one = (elim (keep p) as (λ b. keep p ≡ b → Ha
 -- the traces that were answered were picked
 answered_picked : (asked : Asked) (rows : List Row) (each : List (List Pick)) (old new : BestParts) (ids : List TraceId) (t : TraceId) → TakesEach asked rows each old ids new
     → is_one_of ids t ≡ true → HasPick (flat_map (λ l. l) each) t
-answered_picked asked rows [] old new ids t taken one = absurd (true_false (sym (subst (λ (l : List TraceId). is_one_of l t ≡ true) taken.1 one)))
+answered_picked asked rows [] old new ids t taken one = absurd (true≢false (sym (subst (λ (l : List TraceId). is_one_of l t ≡ true) taken.1 one)))
 answered_picked asked rows (few ∷ others) old new ids t taken one =
     by (one_of_either (traces_of (open_picks old few)) taken.1 t (subst (λ (l : List TraceId). is_one_of l t ≡ true) taken.4 one))
   where
     by : (is_one_of (traces_of (open_picks old few)) t ≡ true) ⊎ (is_one_of taken.1 t ≡ true) → HasPick (few ++ flat_map (λ l. l) others) t
-    by (inl e) = (let p = open_picked _ few t e in (p.0, Contains-append_left few (flat_map (λ l. l) others) p.0 p.1, p.2))
+    by (inl e) = (let p = open_picked (λ (p : Pick). may_come old p.trace p.latest) few t e in (p.0, Contains-append_left few (flat_map (λ l. l) others) p.0 p.1, p.2))
     by (inr e) = (let p = answered_picked asked rows others taken.0 new taken.1 t taken.3 e in (p.0, Contains-append_right few (flat_map (λ l. l) others) p.0 p.1, p.2))
 
 theirs_covered : (hint : Hint) (rows : List Row) (picks : List Pick) (ids : List TraceId) → rows_of_traces ids rows ≡ rows

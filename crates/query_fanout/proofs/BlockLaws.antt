@@ -378,6 +378,17 @@ module _ {P A B : Type 0} (meaning : Meaning P) (look : Look) (infos : List Info
     bounded = λ told parts are. rose parts (meaning.reads old) (meaning.reads new) (h.bounded told parts are);
   }
 
+-- more may be read than was
+pub read_widens : {P A : Type 0} {some fits : List Row → A → Type 0} {within other : List (List Row) → ℕ → ℕ → Type 0} (meaning : Meaning P) (look : Look) (infos : List InfoParts)
+    (rose : (parts : List (List Row)) (a b : ℕ) → within parts a b → other parts a b) (old new : P) (r : Result A QueryError) → BlocksRead meaning look infos some fits within old r new
+    → BlocksRead meaning look infos some fits other old r new
+read_widens meaning look infos rose old new r h = record {
+  pages = h.pages;
+  comes = h.comes;
+  told = h.told;
+  bounded = λ told parts are. rose parts (meaning.reads old) (meaning.reads new) (h.bounded told parts are);
+}
+
 -- there is no memory to begin
 pub read_nothing : {P A : Type 0} (meaning : Meaning P) (look : Look) (infos : List InfoParts) (some fits : List Row → A → Type 0) (within : List (List Row) → ℕ → ℕ → Type 0) (port : P)
     → IsOpen meaning port (look_of look) → ((parts : List (List Row)) → within parts (meaning.reads port) (meaning.reads port))

@@ -1,5 +1,5 @@
 -- A few traces are answered over their rows.
-use Rattle.std.proofs.Common.{◌≡◌, ◌⊎◌, inl, inr, ℕ, zero, suc, ◌+◌, ◌≤◌, ◌<◌, Bool, true, false, true_false, ◌||◌, List, [], ◌∷◌, ◌++◌, length, map, filter, take, All, Option, None, Some, arith, append-nil, refl, sym, ap, subst, ◌∙◌, slice_index_or, if◌then◌else◌}
+use Rattle.std.proofs.Common.{◌≡◌, ◌⊎◌, inl, inr, ℕ, zero, suc, ◌+◌, ◌≤◌, ◌<◌, Bool, true, false, true≢false, ◌||◌, List, [], ◌∷◌, ◌++◌, length, map, filter, take, All, Option, None, Some, arith, append-nil, refl, sym, ap, subst, ◌∙◌, slice_index_or, if◌then◌else◌}
 use Rattle.std.specs.Prelude.{sum_by}
 use Rattle.std.specs.List.{AllByRecursion, AllPairs, flat_map}
 use Rattle.std.specs.Ordering.{is_eq, is_lt}
@@ -22,7 +22,7 @@ use Rattle.block_read.specs.Answers.{RoseAtMost}
 use Rattle.block_read.specs.Lookups.{most_pages}
 use Rattle.block_traces.specs.Batches.{AreInOrder, is_one_of, pages_for_each, rows_of_traces}
 use Rattle.search_answer.proofs.Fronts.{same_trace}
-use Rattle.search_answer.specs.Keeping.{BestParts}
+use Rattle.search_answer.specs.Keeping.{BestParts, may_come}
 use Rattle.spanset_eval.specs.Ranking.{AreFirst}
 use Rattle.spanset_eval.specs.declared.results.TraceResult.{TraceResult}
 use Rattle.column_scan.specs.Candidates.{Ascend}
@@ -66,7 +66,7 @@ keep_all p (x ∷ xs) all = rw (all 0 x (omega arith)) (ap (λ l. x ∷ l) (keep
 -- ---- ids
 
 not_either : (b c : Bool) → (b || c) ≡ false → (b ≡ false) × (c ≡ false)
-not_either true c e = absurd (true_false e)
+not_either true c e = absurd (true≢false e)
 not_either false c e = (refl, e)
 
 -- no id is there twice
@@ -96,7 +96,7 @@ traces_ascend (p ∷ ps) up =
 pub opened_ascend : (best : BestParts) (few : List Pick) (ids : List TraceId) → ids ≡ traces_of (open_picks best few) → Ascend few → AreInOrder ids
 opened_ascend best few ids is up =
     subst (λ (l : List TraceId). AreInOrder l) (sym is)
-    (traces_ascend (open_picks best few) (AllPairs-filter (λ (p q : Pick). trace_cmp p.trace q.trace ≡ Less) _ few up))
+    (traces_ascend (open_picks best few) (AllPairs-filter (λ (p q : Pick). trace_cmp p.trace q.trace ≡ Less) (λ (p : Pick). may_come best p.trace p.latest) few up))
 
 -- ---- their rows
 
@@ -110,7 +110,7 @@ of_theirs id ids rows one =
 of_other : (id other : TraceId) (rows : List Row) → is_eq (trace_cmp id other) ≡ false → rows_of_trace id (rows_of_trace other rows) ≡ []
 of_other id other rows no =
     filter_apart (is_of_trace id) (is_of_trace other) rows
-    (λ r a b. true_false (sym (subst (λ (t : TraceId). is_eq (trace_cmp t other) ≡ true) (row_is id r a) b) ∙ no))
+    (λ r a b. true≢false (sym (subst (λ (t : TraceId). is_eq (trace_cmp t other) ≡ true) (row_is id r a) b) ∙ no))
 
 -- a look's rows of each
 abbrev pub own_of : List TraceId → List Row → List Row
@@ -124,7 +124,7 @@ own_none id (i ∷ is) rows none =
     ∙ own_none id is rows both.1
 
 own_one : (id : TraceId) (ids : List TraceId) (rows : List Row) → Apart ids → is_one_of ids id ≡ true → rows_of_trace id (own_of ids rows) ≡ rows_of_trace id rows
-own_one id [] rows apart one = absurd (true_false (sym one))
+own_one id [] rows apart one = absurd (true≢false (sym one))
 own_one id (i ∷ is) rows apart one = filter-append (is_of_trace id) (rows_of_trace i rows) (own_of is rows) ∙ by_first
   where
     by_first : rows_of_trace id (rows_of_trace i rows) ++ rows_of_trace id (own_of is rows) ≡ rows_of_trace id rows
@@ -185,7 +185,7 @@ all_kept P p (x ∷ xs) so =
 
 or_first : (b c : Bool) → b ≡ true → (b || c) ≡ true
 or_first true c e = refl
-or_first false c e = absurd (true_false (sym e))
+or_first false c e = absurd (true≢false (sym e))
 
 or_second : (b c : Bool) → c ≡ true → (b || c) ≡ true
 or_second true c e = refl
@@ -279,4 +279,4 @@ rose_more m n a b low rose =
 pub open_widens : (best : BestParts) (few : List Pick) (infos : List InfoParts) (parts : List (List Row)) (a b : ℕ)
     → AtMost (look_ups (traces_of (open_picks best few)) infos) parts a b → AtMost (look_ups (traces_of few) infos) parts a b
 open_widens best few infos parts a b rose =
-    rose_more (look_ups (traces_of (open_picks best few)) infos parts) (look_ups (traces_of few) infos parts) a b (kept_sum (λ id. look_up_pages id infos parts) _ few) rose
+    rose_more (look_ups (traces_of (open_picks best few)) infos parts) (look_ups (traces_of few) infos parts) a b (kept_sum (λ id. look_up_pages id infos parts) (λ (p : Pick). may_come best p.trace p.latest) few) rose

@@ -5,7 +5,8 @@ mod BlockLaws
 mod PickedLaws
 mod TurnLaws
 mod FewLaws
-mod AnswerLaws
 mod CandidateLaws
+mod AnswerLaws
+mod TakeLaws
 mod QueryLaws
 mod SearchLaws

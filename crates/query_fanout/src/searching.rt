@@ -109,9 +109,9 @@ fn search_picks<P: FlushPort>(
     requires open { IsOpen P.meaning port.old (look_of look.now) }
     requires ascend { Ascend picks.items }
     ensures { BlocksRead P.meaning look.now look.now.pin.blocks
-        (OwnIfPicked asked.now look.now.as_of look.now.rows picks.entry.items)
-        (AllIfPicked asked.now look.now.as_of look.now.rows picks.entry.items)
-        (AtMost (look_ups (traces_of picks.entry.items) look.now.pin.blocks)) port.old result port.new }
+        (OwnIfPicked asked.now look.now.as_of look.now.rows picks.items)
+        (AllIfPicked asked.now look.now.as_of look.now.rows picks.items)
+        (AtMost (look_ups (traces_of picks.items) look.now.pin.blocks)) port.old result port.new }
 {
     match two_parts(alloc, picks, asked.limit) {
         Ok((late, early)) => {

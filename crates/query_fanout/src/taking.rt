@@ -80,7 +80,8 @@ pub(crate) fn take_each<P: FlushPort>(
     takes_more();
     let mut best = Best::new(alloc, asked.limit);
     for few in turns {
-        best = take_few(alloc, port, look, asked, few, best)?;
+        let next = take_few(alloc, port, look, asked, few, best)?;
+        best = next;
     }
     Ok(best)
 }
