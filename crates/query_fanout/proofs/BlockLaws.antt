@@ -181,6 +181,22 @@ pub some_rows : {A : Type 0} (fits : A → Type 0) (some : List Row → A → Ty
 some_rows fits some (Ok x) to h = to x h
 some_rows fits some (Err why) to h = tt
 
+-- the same error in place of another list
+pub error_told : {A B : Type 0} (one : A → Type 0) (other : B → Type 0) (why : ReadError) → FindsFit one (Err why) → FindsFit other (Err why)
+error_told one other unread.Fault h = tt
+error_told one other (unread.NotBlock file at) h = h
+error_told one other unread.Memory h = tt
+
+pub error_file : (A B : Type 0) (file : ℕ) (why : ReadError) → IsInFile {A = A} file (Err why) → IsInFile {A = B} file (Err why)
+error_file A B file unread.Fault h = tt
+error_file A B file (unread.NotBlock other at) h = h
+error_file A B file unread.Memory h = tt
+
+pub error_fault : (A B : Type 0) (why : ReadError) → answers.is_fault {X = A} (Err why) ≡ answers.is_fault {X = B} (Err why)
+error_fault A B unread.Fault = refl
+error_fault A B (unread.NotBlock file at) = refl
+error_fault A B unread.Memory = refl
+
 pub cause_of : {A : Type 0} (before now : ℕ) (r : Result A ReadError) → answers.FailsByFault before now r → IsTrue (answers.is_fault r) → Rose before now
 cause_of before now (Ok x) h fault = cc
 cause_of before now (Err unread.Fault) h fault = h
@@ -361,6 +377,17 @@ module _ {P A B : Type 0} (meaning : Meaning P) (look : Look) (infos : List Info
     told = λ told parts are. sound_error (fits (flat_map (λ part. part) parts)) (other_fits (flat_map (λ part. part) parts)) why (h.told told parts are);
     bounded = λ told parts are. rose parts (meaning.reads old) (meaning.reads new) (h.bounded told parts are);
   }
+
+-- more may be read than was
+pub read_widens : {P A : Type 0} {some fits : List Row → A → Type 0} {within other : List (List Row) → ℕ → ℕ → Type 0} (meaning : Meaning P) (look : Look) (infos : List InfoParts)
+    (rose : (parts : List (List Row)) (a b : ℕ) → within parts a b → other parts a b) (old new : P) (r : Result A QueryError) → BlocksRead meaning look infos some fits within old r new
+    → BlocksRead meaning look infos some fits other old r new
+read_widens meaning look infos rose old new r h = record {
+  pages = h.pages;
+  comes = h.comes;
+  told = h.told;
+  bounded = λ told parts are. rose parts (meaning.reads old) (meaning.reads new) (h.bounded told parts are);
+}
 
 -- there is no memory to begin
 pub read_nothing : {P A : Type 0} (meaning : Meaning P) (look : Look) (infos : List InfoParts) (some fits : List Row → A → Type 0) (within : List (List Row) → ℕ → ℕ → Type 0) (port : P)

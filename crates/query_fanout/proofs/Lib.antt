@@ -2,6 +2,12 @@ mod CallLaws
 pub mod Later
 mod PinnedLaws
 mod BlockLaws
+mod PickedLaws
+mod TurnLaws
+mod FewLaws
+mod CandidateLaws
+mod AnswerLaws
+mod TakeLaws
 mod QueryLaws
 mod PicksExist
 mod SearchLaws

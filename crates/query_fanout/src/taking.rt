@@ -80,7 +80,8 @@ pub(crate) fn take_each<P: FlushPort>(
     takes_more();
     let mut best = Best::new(alloc, asked.limit);
     for few in turns {
-        best = take_few(alloc, port, look, asked, few, best)?;
+        let next = take_few(alloc, port, look, asked, few, best)?;
+        best = next;
     }
     Ok(best)
 }
@@ -164,7 +165,8 @@ fn answer_rows(
     };
     let checked = &asked.checked;
     let more = answer(alloc, checked, asked.range, bounds, firsts.as_slice())?;
-    best.with(alloc, more)
+    let kept = best.with(alloc, more)?;
+    Ok(kept)
 }
 
 // A look's rows of some traces, one trace's after those of the one before it.

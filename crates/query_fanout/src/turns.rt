@@ -1,6 +1,6 @@
 //! In which order picks are taken: those of late moments first, some at a time.
 
-ghost use Rattle.std.specs.Prelude.{◌≡◌, ◌++◌, ◌≤◌, All, IfOk, OnOk, length};
+ghost use Rattle.std.specs.Prelude.{◌≡◌, ◌++◌, ◌<◌, ◌≤◌, All, IfOk, OnOk, filter, length, nat_le, nat_lt};
 ghost use Rattle.std.specs.List.{flat_map};
 ghost use Rattle.std.specs.List.Sorted.{IsPermutation};
 ghost use Rattle.column_scan.specs.Candidates.{Ascend};
@@ -19,21 +19,40 @@ pub(crate) fn two_parts(
     limit: u32,
 ) -> Result<(Vec<Pick>, Vec<Pick>), Memory>
     requires { Ascend picks.items }
-    ensures same { IfOk result (λ parts. IsPermutation picks.entry.items (parts.0.items ++ parts.1.items)) }
+    ensures same { IfOk result (λ parts. IsPermutation picks.items (parts.0.items ++ parts.1.items)) }
     ensures late { IfOk result (λ parts. Ascend parts.0.items) }
     ensures early { IfOk result (λ parts. Ascend parts.1.items) }
 {
     let moment = late_moment(alloc, picks.as_slice(), limit)?;
+    let late = late_ones(alloc, picks.as_slice(), moment)?;
+    let early = early_ones(alloc, picks.as_slice(), moment)?;
+    Ok((late, early))
+}
+
+// Those that aren't before a moment.
+fn late_ones(alloc: Global, picks: &[Pick], moment: u64) -> Result<Vec<Pick>, Memory>
+    ensures { IfOk result (λ late. late.items ≡ filter (λ p. nat_le moment p.latest) picks.now) }
+{
     let mut late = Vec::new(alloc);
-    let mut early = Vec::new(alloc);
-    for pick in picks.as_slice() {
+    for pick in picks {
         if moment <= pick.latest {
             late.push(*pick)?;
-        } else {
+        }
+    }
+    Ok(late)
+}
+
+// Those that are before it.
+fn early_ones(alloc: Global, picks: &[Pick], moment: u64) -> Result<Vec<Pick>, Memory>
+    ensures { IfOk result (λ early. early.items ≡ filter (λ p. nat_lt p.latest moment) picks.now) }
+{
+    let mut early = Vec::new(alloc);
+    for pick in picks {
+        if pick.latest < moment {
             early.push(*pick)?;
         }
     }
-    Ok((late, early))
+    Ok(early)
 }
 
 // A moment at or above which eight times as many picks are as results are asked for, if there are so many. Whatever it is,
@@ -68,6 +87,15 @@ pub(crate) fn in_turns<'p>(
     Ok(turns)
 }
 
+// How many are taken of these.
+fn few_of(rest: &[Pick]) -> usize
+    requires { 0 < length rest.now }
+    ensures some { 0 < result }
+    ensures there { result ≤ length rest.now }
+{
+    rest.len().min(FEW)
+}
+
 // Adds picks, at most 2,048 at a time.
 fn add_turns<'p>(turns: &mut Vec<&'p [Pick]>, picks: &'p [Pick]) -> Result<(), Memory>
     requires before { All (λ few. Ascend few.now) turns.old.items }
@@ -78,7 +106,7 @@ fn add_turns<'p>(turns: &mut Vec<&'p [Pick]>, picks: &'p [Pick]) -> Result<(), M
 {
     let mut rest = picks;
     while !rest.is_empty() {
-        let (few, others) = rest.split_at(rest.len().min(FEW));
+        let (few, others) = rest.split_at(few_of(rest));
         turns.push(few)?;
         rest = others;
     }

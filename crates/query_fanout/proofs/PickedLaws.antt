@@ -1,0 +1,58 @@
+-- The picks of a look's rows and of its blocks.
+use Rattle.std.proofs.Common.{◌≡◌, ℕ, zero, suc, ◌+◌, ◌≤◌, List, [], ◌∷◌, ◌++◌, All, Contains, arith, refl, sym, ap, subst, ◌∙◌}
+use Rattle.std.specs.Prelude.{sum_by}
+use Rattle.std.proofs.lemmas.List.Elements.{All-contains, All-contains_itself, All-weaker, Contains-append_left}
+use Rattle.std.proofs.lemmas.List.Sums.{sum_by-cons}
+use Rattle.span_types.specs.declared.spans.Row.{Row}
+use Rattle.block_info.specs.InfoParts.{InfoParts}
+use Rattle.block_read.specs.Answers.{RoseAtMost}
+use Rattle.column_scan.specs.Candidates.{ArePicks, Ascend, HaveLatest, IsCovered, hinted_picks, spans_of}
+use Rattle.column_scan.specs.Scans.{scanned_pages}
+use Rattle.column_scan.specs.declared.hints.Hint.{Hint}
+use Rattle.column_scan.specs.declared.picks.Pick.{Pick}
+use Rattle.column_scan.proofs.Latest.{of_latest}
+use Rattle.query_fanout.specs.Bounds.{hinted_pages}
+use Rattle.query_fanout.specs.Joined.{hinted_both, with_before}
+use Rattle.query_fanout.specs.Reading.{AtMost, most_of}
+use Rattle.query_fanout.specs.Searching.{AllArePicked, ArePicked, OwnArePicked}
+
+-- ---- what may be read for them
+
+add_to : (m a b : ℕ) → a ≤ b → m + a ≤ m + b
+add_to m a b low = omega (arith, low)
+
+most_hinted : (hint : Hint) (infos : List InfoParts) (parts : List (List Row)) → most_of (λ info rows. scanned_pages hint info.stripes) infos parts ≤ hinted_pages hint infos
+most_hinted hint [] parts = omega arith
+most_hinted hint (i ∷ is) [] = omega arith
+most_hinted hint (i ∷ is) (p ∷ ps) =
+    subst (λ (n : ℕ). scanned_pages hint i.stripes + most_of (λ info rows. scanned_pages hint info.stripes) is ps ≤ n)
+    (sym (sum_by-cons (λ (info : InfoParts). scanned_pages hint info.stripes) i is))
+    (add_to (scanned_pages hint i.stripes) (most_of (λ info rows. scanned_pages hint info.stripes) is ps) (hinted_pages hint is) (most_hinted hint is ps))
+
+pub hinted_widens : (hint : Hint) (infos : List InfoParts) (parts : List (List Row)) (a b : ℕ)
+    → AtMost (most_of (λ info rows. scanned_pages hint info.stripes) infos) parts a b → AtMost (λ _. hinted_pages hint infos) parts a b
+hinted_widens hint infos parts a b rose =
+    let later = rose.later in
+    let most = rose.at_most in
+    let low = most_hinted hint infos parts in
+    record { later = later; at_most = omega (arith, most, low) }
+
+-- ---- which they are
+
+module _ (hint : Hint) (own : List Row) (found picks : List Pick) (latest : HaveLatest (hinted_picks hint (spans_of own) ++ found) picks) (ascending : Ascend picks) where
+  pub own_picked : (rows : List Row) → rows ≡ [] → OwnArePicked hint own rows picks
+  own_picked rows none = record {
+    none = none;
+    whole = All-weaker (Contains (hinted_picks hint (spans_of own))) (IsCovered picks)
+        (λ p m. All-contains (IsCovered picks) (hinted_picks hint (spans_of own) ++ found) p latest.whole (Contains-append_left (hinted_picks hint (spans_of own)) found p m))
+        (hinted_picks hint (spans_of own)) (All-contains_itself (hinted_picks hint (spans_of own)));
+    ascending = ascending;
+  }
+
+  pub all_picked : (rows : List Row) → ArePicked hint rows found → AllArePicked hint own rows picks
+  all_picked rows are = record {
+    latest = subst (λ (l : List Pick). HaveLatest l picks) (sym (hinted_both hint own rows))
+        (of_latest (hinted_picks hint (spans_of own) ++ hinted_picks hint (spans_of rows)) (hinted_picks hint (spans_of own) ++ found) picks
+        (with_before (hinted_picks hint (spans_of own)) (hinted_picks hint (spans_of rows)) found are) latest);
+    ascending = ascending;
+  }
