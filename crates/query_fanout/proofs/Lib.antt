@@ -4,3 +4,4 @@ mod PinnedLaws
 mod BlockLaws
 mod QueryLaws
 mod SearchLaws
+mod ByTraceLaws

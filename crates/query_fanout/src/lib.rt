@@ -6,6 +6,7 @@
 #![tactic(auto)]
 
 mod blocks;
+mod by_trace;
 mod error;
 mod laws;
 mod pinned;
