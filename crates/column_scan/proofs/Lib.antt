@@ -1,4 +1,4 @@
 pub mod HintLaws
-mod PickLaws
+pub mod PickLaws
 pub mod Latest
 mod Stripes

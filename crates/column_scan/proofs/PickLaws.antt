@@ -5,11 +5,12 @@ use Rattle.std.specs.Ordering.{is_eq}
 use Rattle.std.proofs.lemmas.List.Elements.{All-contains}
 use Rattle.moment_range.specs.declared.range.Range.{Range}
 use Rattle.rows_by_trace.specs.Traces.{is_of_trace, rows_of_trace}
-use Rattle.span_types.specs.First.{first_at, lesser, row_at}
+use Rattle.span_types.specs.First.{IsFirstOf, first_at, lesser, row_at}
 use Rattle.span_types.specs.Keys.{row_key}
 use Rattle.span_types.specs.Orders.{key_cmp, place_cmp}
 use Rattle.std.specs.Ordering.{is_lt}
 use Rattle.span_types.specs.declared.ids.Key.{Key}
+use Rattle.span_types.specs.declared.ids.TraceId.{TraceId}
 use Rattle.span_types.specs.declared.spans.Row.{Row}
 use Rattle.spanset_eval.specs.Outcomes.{IsOutcome, shown}
 use Rattle.spanset_eval.specs.Stages.{remaining, selected_fields}
@@ -116,15 +117,32 @@ hinted ps q range rows r is = at (query_text q) refl
     at None e = ap (λ (t : Option (List ℕ)). list_any (λ row. hinted_by t range row.span) rows) e ∙ is.within
     at (Some text) e = ap (λ (t : Option (List ℕ)). list_any (λ row. hinted_by t range row.span) rows) e ∙ answer_holds ps rows q text r e is.outcome
 
-pub picked : AnsweredIsPicked
-picked ps q range rows firsts picks id r first are is =
+-- a hinted row of the trace, no earlier than its result
+pub record HintedRow (q : QueryTree) (range : Range) (rows : List Row) (id : TraceId) (r : TraceResult) : Type 0 where
+  pub row : Row
+  pub member : Contains rows row
+  pub passes : is_hinted (hint_of q range) row.span ≡ true
+  pub is : row.span.trace ≡ id
+  pub late : r.start ≤ row.span.start
+
+pub hinted_row : (ps : List Pattern) (q : QueryTree) (range : Range) (rows firsts : List Row) (id : TraceId) (r : TraceResult) → IsFirstOf rows firsts
+    → IsResult ps q range (rows_of_trace id firsts) r → HintedRow q range rows id r
+hinted_row ps q range rows firsts id r first is =
     let t = there (λ row. hinted_by (query_text q) range row.span) (rows_of_trace id firsts) (hinted ps q range (rows_of_trace id firsts) r is) in
     let k = kept (is_of_trace id) firsts t.row t.member.0 t.member.1 t.member.2 in
-    let whole = first_is_row (row_key t.row) rows t.row (All-contains (λ x. first_at (row_key x) rows ≡ Some x) firsts t.row first.only k.member) in
-    let among = contains_map pick_of (filter (is_hinted (hint_of q range)) (spans_of rows)) t.row.span
-    (contains_filter (is_hinted (hint_of q range)) (spans_of rows) t.row.span (contains_map (λ (row : Row). row.span) rows t.row whole) t.passes) in
-    let p = All-contains (IsCovered picks) (hinted_picks (hint_of q range) (spans_of rows)) (pick_of t.row.span) are.whole among in
     let early = earliest_bounds (latest (rows_of_trace id firsts)) (rows_of_trace id firsts) t.row t.member.0 t.member.1 t.member.2 in
-    let starts = result_starts ps q (rows_of_trace id firsts) r is.outcome in
-    let late = p.3 in
-    (p.0, p.1, p.2 ∙ same_trace t.row.span.trace id k.passes, omega (arith, early, starts, late))
+    let starts = result_starts ps q (rows_of_trace id firsts) r is.outcome in record {
+      row = t.row;
+      member = first_is_row (row_key t.row) rows t.row (All-contains (λ x. first_at (row_key x) rows ≡ Some x) firsts t.row first.only k.member);
+      passes = t.passes;
+      is = same_trace t.row.span.trace id k.passes;
+      late = omega (arith, early, starts);
+    }
+
+pub picked : AnsweredIsPicked
+picked ps q range rows firsts picks id r first are is =
+    let h = hinted_row ps q range rows firsts id r first is in
+    let among = contains_map pick_of (filter (is_hinted (hint_of q range)) (spans_of rows)) h.row.span
+    (contains_filter (is_hinted (hint_of q range)) (spans_of rows) h.row.span (contains_map (λ (row : Row). row.span) rows h.row h.member) h.passes) in
+    let p = All-contains (IsCovered picks) (hinted_picks (hint_of q range) (spans_of rows)) (pick_of h.row.span) are.whole among in
+    (p.0, p.1, p.2 ∙ h.is, omega (arith, h.late, p.3))

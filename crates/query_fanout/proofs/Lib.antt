@@ -5,3 +5,5 @@ mod BlockLaws
 mod QueryLaws
 mod SearchLaws
 mod ByTraceLaws
+pub mod TakingLaws
+pub mod WholeLaws

@@ -1,5 +1,5 @@
 -- Private mechanism: a search takes the picked traces a few at a time. No public clause cites these.
-use Rattle.std.specs.Prelude.{◌≡◌, ◌≢◌, ◌⊎◌, ◌×◌, ℕ, ◌≤◌, List, [], ◌∷◌, ◌++◌, All, Contains, filter, map, true}
+use Rattle.std.specs.Prelude.{◌≡◌, ◌≢◌, ◌⊎◌, ◌≤◌, List, [], ◌∷◌, ◌++◌, All, Contains, filter, map, true}
 use Rattle.std.specs.List.{AllPairs, flat_map}
 use Rattle.span_types.specs.First.{IsFirstOf}
 use Rattle.span_types.specs.declared.ids.TraceId.{TraceId}

@@ -1,4 +1,4 @@
-mod Each
+pub mod Each
 pub mod Firsts
 pub mod Fronts
 pub mod InRangeLaws
@@ -8,5 +8,6 @@ pub mod RankLaws
 pub mod Sorting
 mod Shown
 mod Starts
-mod BestLaws
-mod PickedLaws
+pub mod BestLaws
+pub mod PickedLaws
+pub mod CutLaws

@@ -88,11 +88,11 @@ Comes ps q t r = IsOutcome ps t.rows.now q (Some r)
 told : (ps : List Pattern) (q : QueryTree) (t : TraceInRange) (r : TraceResult) → Comes ps q t r → Tells t.rows.now r
 told ps q t r is = tells (selected_fields q.stages) t.rows.now (remaining ps t.rows.now q.stages is.selected) r is.is
 
-same_id : (ps : List Pattern) (q : QueryTree) (range : Range) (rows : List Row) (t : TraceInRange) (r : TraceResult) → IsInRange range rows t → Comes ps q t r → r.trace ≡ t.trace
-same_id ps q range rows t r here is =
-    let tells = told ps q t r is in
-    let ours : rows_of_trace t.trace rows ≡ tells.first ∷ tells.rest = sym here.whole ∙ tells.some in
-    tells.id ∙ of_filter t.trace rows tells.first tells.rest ours
+-- What is answered of a trace's rows is of the trace.
+pub trace_is : (ps : List Pattern) (q : QueryTree) (id : TraceId) (rows : List Row) (r : TraceResult) → IsOutcome ps (rows_of_trace id rows) q (Some r) → r.trace ≡ id
+trace_is ps q id rows r is =
+    let told = tells (selected_fields q.stages) (rows_of_trace id rows) (remaining ps (rows_of_trace id rows) q.stages is.selected) r is.is in
+    told.id ∙ of_filter id rows told.first told.rest told.some
   where
     of_filter : (id : TraceId) (all : List Row) (x : Row) (xs : List Row) → rows_of_trace id all ≡ x ∷ xs → x.span.trace ≡ id
     of_filter id [] x xs e = cc
@@ -101,6 +101,9 @@ same_id ps q range rows t r here is =
           | true ↦ λ h e. let head : y ≡ x = cc in subst (λ (z : Row). z.span.trace ≡ id) head (same_trace y.span.trace id h)
           | false ↦ λ h e. of_filter id ys x xs e
         ] refl e
+
+same_id : (ps : List Pattern) (q : QueryTree) (range : Range) (rows : List Row) (t : TraceInRange) (r : TraceResult) → IsInRange range rows t → Comes ps q t r → r.trace ≡ t.trace
+same_id ps q range rows t r here is = trace_is ps q t.trace rows r (subst (λ rs. IsOutcome ps rs q (Some r)) here.whole is)
 
 same_start : (ps : List Pattern) (q : QueryTree) (range : Range) (rows : List Row) (t : TraceInRange) (r : TraceResult) → IsInRange range rows t → Comes ps q t r → r.start ≡ t.start
 same_start ps q range rows t r here is = (told ps q t r is).start ∙ sym here.starts

@@ -77,7 +77,7 @@ one_list (x ∷ xs) (y ∷ ys) one two left right =
     ap (λ z. z ∷ xs) same ∙ ap (λ l. y ∷ l) rest
 
 -- Rows have one list of first occurrences.
-firsts_are_one : (rows a b : List Row) → IsFirstOf rows a → IsFirstOf rows b → a ≡ b
+pub firsts_are_one : (rows a b : List Row) → IsFirstOf rows a → IsFirstOf rows b → a ≡ b
 firsts_are_one rows a b one two = one_list a b (strict_from a (all_pairs a one.ordered)) (strict_from b (all_pairs b two.ordered)) (within a b one two) (within b a two one)
   where
     within : (a b : List Row) → IsFirstOf rows a → IsFirstOf rows b → Within a b
@@ -89,7 +89,7 @@ none_of_none = record { only = All-nil (λ x. first_at (row_key x) [] ≡ Some x
 -- ---- the rows of a picked trace
 
 module _ (is_picked : TraceId → Bool) (id : TraceId) where
-  picked_rows : (rows : List Row) → is_picked id ≡ true → rows_of_trace id (rows_of_picked is_picked rows) ≡ rows_of_trace id rows
+  pub picked_rows : (rows : List Row) → is_picked id ≡ true → rows_of_trace id (rows_of_picked is_picked rows) ≡ rows_of_trace id rows
   picked_rows [] held = refl
   picked_rows (row ∷ rows) held = (elim (is_of_trace id row) as (λ b. is_of_trace id row ≡ b → rows_of_trace id (rows_of_picked is_picked (row ∷ rows)) ≡ rows_of_trace id (row ∷ rows)) [
     | true ↦ λ t. let kept : is_picked row.span.trace ≡ true = ap is_picked (same_trace row.span.trace id t) ∙ held in rw (kept, t) (ap (λ l. row ∷ l) (picked_rows rows held))
@@ -99,7 +99,7 @@ module _ (is_picked : TraceId → Bool) (id : TraceId) where
     ]) refl
   ]) refl
 
-  other_rows : (rows : List Row) → is_picked id ≡ false → rows_of_trace id (rows_of_picked is_picked rows) ≡ []
+  pub other_rows : (rows : List Row) → is_picked id ≡ false → rows_of_trace id (rows_of_picked is_picked rows) ≡ []
   other_rows [] fails = refl
   other_rows (row ∷ rows) fails = (elim (is_picked row.span.trace) as (λ b. is_picked row.span.trace ≡ b → rows_of_trace id (rows_of_picked is_picked (row ∷ rows)) ≡ []) [
     | true ↦ λ p. (elim (is_of_trace id row) as (λ b. is_of_trace id row ≡ b → rows_of_trace id (rows_of_picked is_picked (row ∷ rows)) ≡ []) [

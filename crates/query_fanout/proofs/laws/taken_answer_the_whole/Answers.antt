@@ -1,0 +1,5 @@
+use Rattle.query_fanout.proofs.WholeLaws.{taken_answer}
+use Rattle.query_fanout.proofs.laws.taken_answer_the_whole.Goals as goal
+
+pub returns : goal.returns
+returns c = taken_answer
