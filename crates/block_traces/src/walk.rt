@@ -76,10 +76,11 @@ fn has_passed(id: TraceId, last: Option<TraceId>) -> bool
     }
 }
 
-/// Goes on past the stripes with so many rows from that one on, and adds the rows of the traces that they hold. A stripe that
-/// is passed is not read again.
+/// Goes on past the stripes with so many rows from that one on, and adds the rows of the traces that they hold. A stripe
+/// that is passed is not read again.
 ///
-/// [`ReadError::NotBlock`] comes as in [`rows_of_stripe`](block_read::rows_of_stripe), or at 0 if the block has no such rows.
+/// [`ReadError::NotBlock`] comes as in [`rows_of_stripe`](block_read::rows_of_stripe), or at 0 if the block has no such
+/// rows.
 fn pass_rows<P: Pages>(
     alloc: Global,
     pages: &mut P,
