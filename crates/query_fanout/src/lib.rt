@@ -6,7 +6,7 @@
 #![tactic(auto)]
 
 mod blocks;
-mod by_trace;
+mod own;
 mod error;
 mod laws;
 mod pinned;

@@ -3,7 +3,7 @@ use Rattle.std.specs.Ordering.{is_le, is_lt}
 use Rattle.std.proofs.lemmas.Fn.{always_returns_same}
 use Rattle.span_types.specs.Orders.{trace_cmp}
 use Rattle.live_traces.proofs.Groups.{begins_first, group_is, parted_le, parted_lt}
-use Rattle.query_fanout.proofs.by_trace.slice_of.Goals as goal
+use Rattle.query_fanout.proofs.own.slice_of.Goals as goal
 
 pub split_at-requires-2 : goal.split_at-requires-2
 split_at-requires-2 c =
