@@ -2,3 +2,5 @@ pub mod HintLaws
 mod PickLaws
 pub mod Latest
 mod Stripes
+mod Starts
+mod StripeParts

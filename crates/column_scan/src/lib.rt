@@ -10,6 +10,7 @@ mod hints;
 mod laws;
 mod picks;
 mod query;
+mod sketched;
 
 pub use blocks::{candidates, picks_of_block};
 pub use hints::Hint;
