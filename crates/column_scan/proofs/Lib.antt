@@ -4,3 +4,4 @@ pub mod Latest
 mod Stripes
 mod Starts
 mod StripeParts
+mod TextLaws

@@ -1,7 +1,7 @@
 -- Spans that start in a range, by what is told of their stripe.
-use Rattle.std.proofs.Common.{◌≡◌, ℕ, ◌+◌, ◌<◌, ◌≤◌, Bool, true, false, List, [], ◌∷◌, ◌++◌, length, map, take, filter, Option, None, Result, Ok, Err, refl, sym, ◌∙◌, ap, subst, arith, get_or, if◌then◌else◌}
+use Rattle.std.proofs.Common.{◌≡◌, ℕ, ◌+◌, ◌<◌, ◌≤◌, true, false, List, [], ◌∷◌, ◌++◌, length, map, take, filter, None, Result, Ok, refl, sym, ◌∙◌, ap, subst, arith, get_or}
 use Rattle.std.proofs.Math.ListN.{get_or-map}
-use Rattle.std.proofs.lemmas.List.{append-nil, length-map, take_all}
+use Rattle.std.proofs.lemmas.List.{length-map, take_all}
 use Rattle.moment_range.specs.declared.range.Range.{Range}
 use Rattle.moment_range.specs.Ranges.{is_within}
 use Rattle.span_types.specs.declared.ids.TraceId.{TraceId}
@@ -17,7 +17,7 @@ use Rattle.column_scan.specs.declared.hints.Hint.{Hint}
 use Rattle.column_scan.specs.declared.picks.Pick.{Pick}
 use Rattle.column_scan.specs.Candidates.{HaveLatest, hinted_by, hinted_picks, pick_of, spans_of}
 use Rattle.column_scan.specs.Picking.{by_start, started}
-use Rattle.column_scan.proofs.Latest.{hinted_step, itself}
+use Rattle.column_scan.proofs.Latest.{hinted_step, none_added}
 use Rattle.column_scan.proofs.StripeParts.{whole_read}
 
 one_started : (range : Range) (s : Span) → started range (pick_of s) ≡ hinted_picks (by_start range) (s ∷ [])
@@ -27,9 +27,7 @@ one_started range s = (elim (is_within range s.start) as (λ b. is_within range 
 ]) refl
 
 pub none_started : (range : Range) (p : Pick) (picks : List Pick) → is_within range p.latest ≡ false → HaveLatest (picks ++ started range p) picks
-none_started range p picks out =
-    let none : started range p ≡ [] = rw out refl in
-    subst (λ l. HaveLatest l picks) (sym (ap (λ l. picks ++ l) none ∙ append-nil picks)) (itself picks)
+none_started range p picks out = none_added picks (started range p) (rw out refl)
 
 pub next_start : (range : Range) (rows : List Row) (sketch : Sketch) (old picks new : List Pick) (i : ℕ) (trace : TraceId) (start : ℕ) → IsSketch rows sketch → i < length sketch.starts.items
     → ((d : TraceId) → trace ≡ get_or sketch.traces.items i d) → ((d : ℕ) → start ≡ get_or sketch.starts.items i d)

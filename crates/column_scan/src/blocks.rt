@@ -13,6 +13,7 @@ ghost use Rattle.column_scan.specs.Scans.{FindsFit, may_scan, meets, scanned_pag
 
 use crate::picks::add_hinted;
 use crate::sketched::{add_starts, sketch_of};
+use crate::texts::lacks_text;
 use crate::{Hint, Pick, in_order};
 use block_info::{BlockInfo, StripeInfo};
 use block_read::{Pages, ReadError, Unread, rows_of_bytes, stripe_bytes};
@@ -63,7 +64,7 @@ fn traces_of(alloc: Global, picks: &[Pick]) -> Result<Vec<TraceId>, Memory>
 ///
 /// With a text each stripe is read, without one those of which a moment can be in the range, each page once.
 /// [`ReadError::NotBlock`] comes only if the pages are no block that the information describes, at the first byte of the
-/// file where a stripe is malformed.
+/// file where a stripe is malformed whose rows had to be made. A malformed stripe may be passed over.
 pub fn picks_of_block<P: Pages>(
     alloc: Global,
     pages: &mut P,
@@ -142,6 +143,9 @@ fn add_bytes(
     ensures its_file { IsInFile block result }
     ensures no_fault { is_fault result ≡ false }
 {
+    if lacks_text(alloc, bytes, hint) {
+        return Ok(());
+    }
     let Some(sketch) = sketch_of(alloc, form, bytes, hint) else {
         return add_made(alloc, block, form, entry, bytes, hint, picks);
     };

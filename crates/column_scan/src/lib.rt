@@ -11,6 +11,7 @@ mod laws;
 mod picks;
 mod query;
 mod sketched;
+mod texts;
 
 pub use blocks::{candidates, picks_of_block};
 pub use hints::Hint;
