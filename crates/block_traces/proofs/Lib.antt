@@ -1,1 +1,3 @@
-
+mod IdLaws
+mod WalkLaws
+mod Stops

@@ -8,6 +8,7 @@ ghost use Rattle.block_read.specs.Lookups.{Finds, IsInFile};
 ghost use Rattle.block_read.specs.PageReads.{OnlyReads};
 ghost use Rattle.block_traces.specs.Batches.{AreInOrder, pages_for_each, rows_of_traces};
 
+use crate::walk::{Walk, pass_trace};
 use block_info::BlockInfo;
 use block_read::{Pages, ReadError};
 use span_types::{Rows, TraceId};
@@ -38,5 +39,13 @@ pub fn rows_of_traces<P: Pages>(
     ensures only { OnlyReads P.tells P.held P.faults P.ready P.went P.name
         pages.old (is_fault result) pages.new }
 {
-    Ok(Rows::none(alloc))
+    let mut walk = Walk {
+        next: 0,
+        last: None,
+        found: Vec::new(alloc),
+    };
+    for id in ids {
+        pass_trace(alloc, pages, block, info, ids, *id, &mut walk)?;
+    }
+    Ok(Rows::of(walk.found))
 }

@@ -70,6 +70,9 @@ with_more all some more have = record {
       (All-weaker (Contains more) (Contains (all ++ more)) (λ p m. Contains-append_right all more p m) more (All-contains_itself more));
 }
 
+pub none_added : (picks more : List Pick) → more ≡ [] → HaveLatest (picks ++ more) picks
+none_added picks more none = subst (λ l. HaveLatest l picks) (sym (ap (λ l. picks ++ l) none ∙ append-nil picks)) (itself picks)
+
 -- one step of a walk
 pub and_more : (all more some few : List Pick) → HaveLatest all some → HaveLatest (some ++ more) few → HaveLatest (all ++ more) few
 and_more all more some few have step = of_latest (all ++ more) (some ++ more) few (with_more all some more have) step
@@ -205,8 +208,7 @@ pub hinted_append : (hint : Hint) (xs ys : List Span) → hinted_picks hint (xs 
 hinted_append hint xs ys = ap (map pick_of) (filter-append (is_hinted hint) xs ys) ∙ map-append pick_of (filter (is_hinted hint) xs) (filter (is_hinted hint) ys)
 
 pub none_hinted : (hint : Hint) (s : Span) (picks : List Pick) → is_hinted hint s ≡ false → HaveLatest (picks ++ hinted_picks hint (s ∷ [])) picks
-none_hinted hint s picks not_so = let none : hinted_picks hint (s ∷ []) ≡ [] = rw not_so refl in
-    subst (λ l. HaveLatest l picks) (sym (ap (λ l. picks ++ l) none ∙ append-nil picks)) (itself picks)
+none_hinted hint s picks not_so = none_added picks (hinted_picks hint (s ∷ [])) (rw not_so refl)
 
 -- ---- steps of loops
 
@@ -226,4 +228,4 @@ hinted_step f hint xs old picks new i d h have step =
 
 -- what was found of no spans more
 pub none_more : (hint : Hint) (picks : List Pick) → HaveLatest (picks ++ hinted_picks hint []) picks
-none_more hint picks = subst (λ l. HaveLatest l picks) (sym (append-nil picks)) (itself picks)
+none_more hint picks = none_added picks [] refl

@@ -2,3 +2,6 @@ pub mod HintLaws
 pub mod PickLaws
 pub mod Latest
 mod Stripes
+mod Starts
+mod StripeParts
+mod TextLaws

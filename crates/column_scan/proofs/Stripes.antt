@@ -3,7 +3,7 @@ use Rattle.std.proofs.Common.{◌≡◌, ℕ, ◌+◌, ◌*◌, ◌<◌, ◌≤�
 use Rattle.std.specs.Prelude.{slice_get}
 use Rattle.std.specs.List.{AllByRecursion}
 use Rattle.std.proofs.lemmas.Bool.{leb-false, leb-true, ltb-false, ltb-true}
-use Rattle.std.proofs.lemmas.List.{append-nil, map-append, take_all}
+use Rattle.std.proofs.lemmas.List.{map-append, take_all}
 use Rattle.std.proofs.Math.Seq.{take-add}
 use Rattle.std.proofs.lemmas.List.Sums.{sum_by-cons, sum_by_more}
 use Rattle.std.proofs.lemmas.Option.{slice_get-get_or}
@@ -22,7 +22,7 @@ use Rattle.column_scan.specs.declared.hints.Hint.{Hint}
 use Rattle.column_scan.specs.declared.picks.Pick.{Pick}
 use Rattle.column_scan.specs.Candidates.{HaveLatest, hinted_by, hinted_picks, is_hinted, pick_of, spans_of}
 use Rattle.column_scan.specs.Scans.{FindsFit, may_scan, meets, scanned_by, scanned_pages}
-use Rattle.column_scan.proofs.Latest.{and_more, hinted_append, itself}
+use Rattle.column_scan.proofs.Latest.{and_more, hinted_append, none_added}
 
 -- ---- a stripe that is left out
 
@@ -66,8 +66,7 @@ none_hinted hint stripe (row ∷ rows) out early late =
 pub left_out : (hint : Hint) (form : ℕ) (stripe : StripeInfo) (bytes : List ℕ) (rows : List Row) (picks : List Pick) → may_scan hint stripe ≡ false → StripeHasEntry form stripe bytes rows
     → HaveLatest (picks ++ hinted_picks hint (spans_of rows)) picks
 left_out hint form stripe bytes rows picks out has =
-    let none : hinted_picks hint (spans_of rows) ≡ [] = ap (map pick_of) (none_hinted hint stripe rows out has.earliest.1 has.latest.1) in
-    subst (λ l. HaveLatest l picks) (sym (ap (λ l. picks ++ l) none ∙ append-nil picks)) (itself picks)
+    none_added picks (hinted_picks hint (spans_of rows)) (ap (map pick_of) (none_hinted hint stripe rows out has.earliest.1 has.latest.1))
 
 -- ---- stripe by stripe
 

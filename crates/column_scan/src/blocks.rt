@@ -1,9 +1,10 @@
 //! The traces of a block that have hinted spans.
 
-ghost use Rattle.std.specs.Prelude.{◌≡◌, ◌+◌, ◌^◌, ◌<◌, ◌++◌, [], ◌∷◌, IfOk, IsTrue, List, OnOk, map};
+ghost use Rattle.std.specs.Prelude.{◌≡◌, ◌+◌, ◌^◌, ◌<◌, ◌++◌, [], ◌∷◌, IfOk, IsTrue, List, None, Ok, OnOk, false, map};
 ghost use Rattle.span_types.specs.declared.spans.Row.{Row};
 ghost use Rattle.block_format.specs.Blocks.{BlockHasInfo, StripeHasEntry};
 ghost use Rattle.block_read.specs.Answers.{RoseAtMost, is_fault};
+ghost use Rattle.block_read.specs.BlockReadings.{stripe_of};
 ghost use Rattle.block_read.specs.Files.{part_of};
 ghost use Rattle.block_read.specs.Lookups.{IsInFile};
 ghost use Rattle.block_read.specs.PageReads.{OnlyReads};
@@ -11,9 +12,11 @@ ghost use Rattle.column_scan.specs.Candidates.{AreCandidates, ArePicks, HaveLate
 ghost use Rattle.column_scan.specs.Scans.{FindsFit, may_scan, meets, scanned_pages};
 
 use crate::picks::add_hinted;
+use crate::sketched::{add_starts, sketch_of};
+use crate::texts::lacks_text;
 use crate::{Hint, Pick, in_order};
 use block_info::{BlockInfo, StripeInfo};
-use block_read::{Pages, ReadError, rows_of_stripe};
+use block_read::{Pages, ReadError, Unread, rows_of_bytes, stripe_bytes};
 use moment_range::Range;
 use span_types::{Ids, Memory, Row, TraceId};
 use std::alloc::Global;
@@ -61,7 +64,7 @@ fn traces_of(alloc: Global, picks: &[Pick]) -> Result<Vec<TraceId>, Memory>
 ///
 /// With a text each stripe is read, without one those of which a moment can be in the range, each page once.
 /// [`ReadError::NotBlock`] comes only if the pages are no block that the information describes, at the first byte of the
-/// file where a stripe is malformed.
+/// file where a stripe is malformed whose rows had to be made. A malformed stripe may be passed over.
 pub fn picks_of_block<P: Pages>(
     alloc: Global,
     pages: &mut P,
@@ -115,7 +118,61 @@ fn add_stripe<P: Pages>(
     if !may_scan(hint, entry) {
         return Ok(());
     }
-    match rows_of_stripe(alloc, pages, block, form, entry) {
+    match stripe_bytes(alloc, pages, block, entry) {
+        Ok(bytes) => add_bytes(alloc, block, form, entry, bytes.as_slice(), hint, picks),
+        Err(Unread::Fault) => Err(ReadError::Fault),
+        Err(Unread::Memory) => Err(ReadError::Memory),
+    }
+}
+
+// Adds the traces of the hinted rows that the bytes of a stripe's pages stand for. Rows are made only where it isn't sure
+// without them.
+fn add_bytes(
+    alloc: Global,
+    block: u32,
+    form: u8,
+    entry: &StripeInfo,
+    bytes: &[u8],
+    hint: &Hint,
+    picks: &mut Vec<Pick>,
+) -> Result<(), ReadError>
+    requires near { entry.now.page + entry.now.pages < 2 ^ 52 }
+    ensures answers { (rows : List Row) → stripe_of form entry.now None bytes.now ≡ Ok rows
+        → FindsFit (λ _. HaveLatest (picks.old.items ++ hinted_picks hint.now (spans_of rows))
+        picks.new.items) result }
+    ensures its_file { IsInFile block result }
+    ensures no_fault { is_fault result ≡ false }
+{
+    if lacks_text(alloc, bytes, hint) {
+        return Ok(());
+    }
+    let Some(sketch) = sketch_of(alloc, form, bytes, hint) else {
+        return add_made(alloc, block, form, entry, bytes, hint, picks);
+    };
+    match add_starts(hint.range, &sketch, picks) {
+        Ok(()) => Ok(()),
+        Err(_) => Err(ReadError::Memory),
+    }
+}
+
+// The same, by the rows.
+fn add_made(
+    alloc: Global,
+    block: u32,
+    form: u8,
+    entry: &StripeInfo,
+    bytes: &[u8],
+    hint: &Hint,
+    picks: &mut Vec<Pick>,
+) -> Result<(), ReadError>
+    requires near { entry.now.page + entry.now.pages < 2 ^ 52 }
+    ensures answers { (rows : List Row) → stripe_of form entry.now None bytes.now ≡ Ok rows
+        → FindsFit (λ _. HaveLatest (picks.old.items ++ hinted_picks hint.now (spans_of rows))
+        picks.new.items) result }
+    ensures its_file { IsInFile block result }
+    ensures no_fault { is_fault result ≡ false }
+{
+    match rows_of_bytes(alloc, block, form, entry, bytes) {
         Ok(rows) => match add_rows(hint, rows.as_slice(), picks) {
             Ok(()) => Ok(()),
             Err(_) => Err(ReadError::Memory),

@@ -10,6 +10,8 @@ mod hints;
 mod laws;
 mod picks;
 mod query;
+mod sketched;
+mod texts;
 
 pub use blocks::{candidates, picks_of_block};
 pub use hints::Hint;

@@ -85,7 +85,7 @@ fn by_trace(a: &Pick, b: &Pick) -> Ordering
 }
 
 // Adds a pick. If it is of the last one's trace the later of the two stays.
-fn add(picks: &mut Vec<Pick>, pick: Pick) -> Result<(), Memory>
+pub(crate) fn add(picks: &mut Vec<Pick>, pick: Pick) -> Result<(), Memory>
     ensures latest { OnOk result (HaveLatest (picks.old.items ++ pick ∷ []) picks.new.items) }
     ensures order { OnOk result (Ascend picks.old.items
         → All (λ p. is_not_after p pick ≡ true) picks.old.items → Ascend picks.new.items) }

@@ -11,5 +11,6 @@ mod TakeLaws
 mod QueryLaws
 mod PicksExist
 mod SearchLaws
+mod ByTraceLaws
 pub mod TakingLaws
 pub mod WholeLaws

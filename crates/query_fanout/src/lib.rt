@@ -6,6 +6,7 @@
 #![tactic(auto)]
 
 mod blocks;
+mod own;
 mod error;
 mod laws;
 mod picks;

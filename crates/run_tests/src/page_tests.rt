@@ -1,4 +1,5 @@
-//! How many pages of the disk a look-up reads in whole runs: few for a trace, fewer for one that isn't there, and none twice.
+//! How many pages of the disk look-ups and searches read in whole runs: few for a trace, fewer for one that isn't there, none twice, and
+//! none for a range that meets no stripe.
 
 use disk_model::MemDisk;
 use run_support::{LOOK_A1, PUSH_X, PUSH_Y, PUSHED_0, TRACE_X, writes};
@@ -51,6 +52,29 @@ fn a_look_up_reads_few_pages_and_none_twice(rt: HostRuntime) -> Result<(), Memor
     ] {
         let reads = reads_for(&rt, alloc, &mut disk, input, wanted)?;
         assert_eq!(rt; reads, Some(3), "{input}");
+    }
+    Ok(())
+}
+
+// A search reads a block's stripes if some moment of them can be in its range or if it asks for a text, and looks up what it finds there.
+#[test]
+fn a_search_reads_what_may_match(rt: HostRuntime) -> Result<(), Memory> {
+    let alloc = rt.alloc();
+    let mut disk = MemDisk::empty(alloc);
+    let stored = format!(in alloc; "{PUSH_X}\ncutall\nflush\nreclaim\n")?;
+    let told = format!(in alloc;
+        "{PUSHED_0}ok cutall moved=1\nok flush rows=1\nok reclaim files=1\n"
+    )?;
+    assert!(rt; writes(&rt, alloc, &mut disk, stored.as_str(), (told.as_str(), 0))?);
+    let nothing = "ok search as_of=1 traces=0 {\"traces\":[]}\n";
+    for (input, most) in [
+        ("search start=1970-01-01T00:00:00.000000009Z { }", 0),
+        ("search end=1970-01-01T00:00:00.000000001Z { }", 0),
+        ("search { name = \"y\" }", 1),
+        ("search { duration > 1s }", 3),
+    ] {
+        let reads = reads_for(&rt, alloc, &mut disk, input, nothing)?;
+        assert_eq!(rt; reads, Some(most), "{input}");
     }
     Ok(())
 }

@@ -1,0 +1,74 @@
+//! Those rows of a stripe that are of one of the traces.
+
+ghost use Rattle.std.specs.Prelude.{◌≡◌, ◌+◌, ◌*◌, ◌^◌, ◌<◌, ◌++◌, IfOk, IsTrue, List, OnOk};
+ghost use Rattle.span_types.specs.declared.spans.Row.{Row};
+ghost use Rattle.block_format.specs.Blocks.{StripeHasEntry};
+ghost use Rattle.block_read.specs.Answers.{RoseAtMost, is_fault};
+ghost use Rattle.block_read.specs.Files.{part_of};
+ghost use Rattle.block_read.specs.Lookups.{Adds, IsInFile};
+ghost use Rattle.block_read.specs.PageReads.{OnlyReads};
+ghost use Rattle.block_traces.specs.Batches.{AreInOrder, is_one_of, rows_of_traces};
+ghost use Rattle.block_traces.specs.Walks.{last_trace};
+
+use block_info::StripeInfo;
+use block_read::{Pages, ReadError, rows_of_stripe};
+use span_types::{Memory, Row, Rows, TraceId};
+use std::alloc::Global;
+
+/// Adds the rows of the traces that a stripe has, and gives the trace of its last row.
+pub fn add_stripe<P: Pages>(
+    alloc: Global,
+    pages: &mut P,
+    block: u32,
+    form: u8,
+    entry: &StripeInfo,
+    ids: &[TraceId],
+    found: &mut Vec<Row>,
+) -> Result<Option<TraceId>, ReadError>
+    requires ready { P.ready pages.old block }
+    requires near { entry.now.page + entry.now.pages < 2 ^ 52 }
+    requires in_order { AreInOrder ids.now }
+    ensures answers { IsTrue (P.tells pages.old) → (rows : List Row)
+        → StripeHasEntry form entry.now (part_of entry.now.page entry.now.pages (P.held pages.old block)) rows
+        → Adds (rows_of_traces ids.now rows) found.old.items found.new.items result }
+    ensures last { IsTrue (P.tells pages.old) → (rows : List Row)
+        → StripeHasEntry form entry.now (part_of entry.now.page entry.now.pages (P.held pages.old block)) rows
+        → IfOk result (λ last. last ≡ last_trace rows) }
+    ensures of_traces { OnOk result (rows_of_traces ids.now found.old.items ≡ found.old.items
+        → rows_of_traces ids.now found.new.items ≡ found.new.items) }
+    ensures its_file { IsInFile block result }
+    ensures reads { RoseAtMost entry.now.pages (P.reads pages.old) (P.reads pages.new) }
+    ensures only { OnlyReads P.tells P.held P.faults P.ready P.went P.name pages.old (is_fault result) pages.new }
+{
+    match rows_of_stripe(alloc, pages, block, form, entry) {
+        Ok(rows) => match keep(rows, ids, found) {
+            Ok(last) => Ok(last),
+            Err(_) => Err(ReadError::Memory),
+        },
+        Err(e) => Err(e),
+    }
+}
+
+/// Adds those of the rows that are of one of the traces, and lets the others go. It gives the trace of the last row.
+fn keep(rows: Rows, ids: &[TraceId], found: &mut Vec<Row>) -> Result<Option<TraceId>, Memory>
+    requires { AreInOrder ids.now }
+    ensures added { OnOk result (found.new.items ≡ found.old.items ++ rows_of_traces ids.now rows) }
+    ensures last { IfOk result (λ last. last ≡ last_trace rows) }
+{
+    let mut last = None;
+    for row in rows.into_vec() {
+        last = Some(row.span.trace);
+        if is_among(row.span.trace, ids) {
+            found.push(row)?;
+        }
+    }
+    Ok(last)
+}
+
+/// Whether the id is one of these, which ascend.
+fn is_among(id: TraceId, ids: &[TraceId]) -> bool
+    requires { AreInOrder ids.now }
+    ensures { result ≡ is_one_of ids.now id }
+{
+    ids.binary_search(&id).is_ok()
+}

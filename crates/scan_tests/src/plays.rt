@@ -1,0 +1,195 @@
+//! Random runs: pushes, cuts, flushes and compactions, and a search after each of them, whose reply is compared with the model's.
+
+use crate::model::Model;
+use disk_model::MemDisk;
+use run_support::session_on;
+use span_types::Memory;
+use std::alloc::Global;
+use std::test::Fail;
+
+/// Numbers that look random, the same every time: a linear congruential generator (Knuth's constants).
+#[derive(Drop)]
+struct Dice {
+    state: u64,
+}
+
+impl Dice {
+    fn roll(&mut self, below: u64) -> u64 {
+        let next = self.state.wrapping_mul(6_364_136_223_846_793_005);
+        self.state = next.wrapping_add(1_442_695_040_888_963_407);
+        (self.state >> 33).checked_rem(below).unwrap_or(0)
+    }
+
+    fn one_of(&mut self, texts: &[&'static str]) -> &'static str {
+        let at = self.roll(texts.len() as u64);
+        texts.get(at as usize).copied().unwrap_or("")
+    }
+}
+
+const QUERIES: [&str; 12] = [
+    "{ }",
+    "{ name = \"a\" }",
+    "{ .v = \"x\" }",
+    "{ name = \"b\" && .v = \"y\" }",
+    "{ name = \"a\" || .v = \"x\" }",
+    "{ name = \"a\" } >> { name = \"b\" }",
+    "{ name = \"c\" } | count() > 1",
+    "{ .v = \"none\" }",
+    "{ } | by(name) | select(.v)",
+    "{ name = \"a\" } && { .v = \"y\" }",
+    "{ name != \"a\" }",
+    "{ duration > 5ns && resource.r = \"q\" }",
+];
+
+const OPTIONS: [&str; 8] = [
+    "",
+    "limit=1 ",
+    "limit=3 ",
+    "limit=2 spss=1 ",
+    "start=1970-01-01T00:00:00.000000010Z end=1970-01-01T00:00:00.000000030Z ",
+    "limit=1 start=1970-01-01T00:00:00.000000040Z ",
+    "end=1970-01-01T00:00:00.000000005Z ",
+    "limit=2 start=1970-01-01T00:00:00.000000020Z end=1970-01-01T00:00:00.000000021Z ",
+];
+
+/// How many traces and how many spans of each a run has, and how many spans a push has at most.
+#[derive(Clone, Copy)]
+struct Sizes {
+    traces: u64,
+    spans: u64,
+    push: u64,
+}
+
+/// A span of one of the traces, with a parent of the same trace or none. The same ids come again and again, with other fields.
+fn span(alloc: Global, dice: &mut Dice, sizes: Sizes) -> Result<String, Memory> {
+    let trace = dice.roll(sizes.traces).wrapping_add(1);
+    let id = dice.roll(sizes.spans).wrapping_add(1);
+    let above = dice.roll(sizes.spans);
+    let parent = if above == 0 {
+        String::new(alloc)
+    } else {
+        format!(in alloc; "{above:016x}")?
+    };
+    let name = dice.one_of(&["a", "b", "c"]);
+    let value = dice.one_of(&["x", "y"]);
+    let start = dice.roll(60);
+    let end = start.wrapping_add(dice.roll(10));
+    let text = format!(in alloc;
+        "{{\"traceId\":\"{trace:032x}\",\"spanId\":\"{id:016x}\",\"parentSpanId\":\"{}\",\"name\":\"{name}\",\
+         \"startTimeUnixNano\":\"{start}\",\"endTimeUnixNano\":\"{end}\",\
+         \"attributes\":[{{\"key\":\"v\",\"value\":{{\"stringValue\":\"{value}\"}}}}]}}",
+        parent.as_str()
+    )?;
+    Ok(text)
+}
+
+/// The JSON of a push.
+fn push(alloc: Global, dice: &mut Dice, sizes: Sizes) -> Result<String, Memory> {
+    let resource = dice.one_of(&["p", "q"]);
+    let mut text = format!(in alloc;
+        "{{\"resourceSpans\":[{{\"resource\":{{\"attributes\":[{{\"key\":\"r\",\"value\":{{\"stringValue\":\"{resource}\"}}}}]}},\
+         \"scopeSpans\":[{{\"spans\":["
+    )?;
+    for number in 0..=dice.roll(sizes.push) {
+        text.push_str(if number == 0 { "" } else { "," })?;
+        text.push_str(span(alloc, dice, sizes)?.as_str())?;
+    }
+    text.push_str("]}]}]}")?;
+    Ok(text)
+}
+
+/// The lines of a run, and what each is to be replied, if that is a search.
+#[derive(Drop)]
+struct Script {
+    input: String,
+    wanted: Vec<Option<String>>,
+}
+
+impl Script {
+    fn add(&mut self, line: &str, wanted: Option<String>) -> Result<(), Memory> {
+        self.input.push_str(line)?;
+        self.input.push_str("\n")?;
+        self.wanted.push(wanted)?;
+        Ok(())
+    }
+}
+
+/// One step of a run, and a search after it.
+fn add_step(
+    alloc: Global,
+    dice: &mut Dice,
+    sizes: Sizes,
+    model: &mut Model,
+    script: &mut Script,
+) -> Result<(), Memory> {
+    match dice.roll(8) {
+        0..=3 => {
+            let json = push(alloc, dice, sizes)?;
+            model.push(alloc, json.as_str())?;
+            let line = format!(in alloc; "push {}", json.as_str())?;
+            script.add(line.as_str(), None)?;
+        }
+        4 => script.add("cutall", None)?,
+        5 | 6 => {
+            script.add("cutall", None)?;
+            script.add("flush", None)?;
+        }
+        _ => script.add("compact", None)?,
+    }
+    let line = format!(in alloc; "search {}{}", dice.one_of(&OPTIONS), dice.one_of(&QUERIES))?;
+    let wanted = model.reply(alloc, line.as_str())?;
+    script.add(line.as_str(), Some(wanted))
+}
+
+/// A run of so many steps.
+fn script_of(alloc: Global, seed: u64, sizes: Sizes, steps: u64) -> Result<Script, Memory> {
+    let mut dice = Dice { state: seed };
+    let mut model = Model::new(alloc);
+    let mut script = Script {
+        input: String::new(alloc),
+        wanted: Vec::new(alloc),
+    };
+    for _ in 0..steps {
+        add_step(alloc, &mut dice, sizes, &mut model, &mut script)?;
+    }
+    Ok(script)
+}
+
+/// The number of the first line whose reply is another one than it was to be; none if there is no such line, and none is missing.
+fn first_wrong(script: &Script, replies: &str) -> Option<usize> {
+    let mut lines = replies.lines();
+    for (at, wanted) in script.wanted.as_slice().iter().enumerate() {
+        let Some(line) = lines.next() else {
+            return Some(at);
+        };
+        if let Some(wanted) = wanted {
+            if wanted.as_str() != line {
+                return Some(at);
+            }
+        }
+    }
+    None
+}
+
+/// How many random runs of each size are played.
+const RUNS: u64 = 12;
+
+#[test]
+fn searches_answer_over_all_rows(rt: HostRuntime) -> Result<(), Fail> {
+    let alloc = rt.alloc();
+    for (traces, spans, push, steps) in [(3, 2, 3, 24), (12, 4, 6, 24), (40, 3, 60, 16), (2, 300, 200, 10)] {
+        let sizes = Sizes {
+            traces,
+            spans,
+            push,
+        };
+        for seed in 0..RUNS {
+            let script = script_of(alloc, seed, sizes, steps)?;
+            let mut disk = MemDisk::empty(alloc);
+            let played = session_on(&rt, alloc, &mut disk, script.input.as_str())?;
+            let replies = std::str::from_utf8(played.text.as_slice()).unwrap_or("");
+            assert_eq!(rt; first_wrong(&script, replies), None, "{traces} traces, seed {seed}");
+        }
+    }
+    Ok(())
+}

@@ -1,0 +1,69 @@
+//! A span that was pushed twice: its later copy, in another block or in memory, makes no match, hides none, and ranks no trace.
+
+use disk_model::MemDisk;
+use run_support::session_on;
+use span_types::Memory;
+use std::alloc::Global;
+use std::test::Fail;
+
+/// A push of the span b1 of a trace, which is given by its last byte.
+fn push(
+    alloc: Global,
+    trace: &str,
+    name: &str,
+    start: u64,
+    end: u64,
+) -> Result<String, Memory> {
+    Ok(format!(in alloc;
+        "push {{\"resourceSpans\":[{{\"scopeSpans\":[{{\"spans\":[{{\"traceId\":\"000000000000000000000000000000{trace}\",\
+         \"spanId\":\"00000000000000b1\",\"parentSpanId\":\"\",\"name\":\"{name}\",\"startTimeUnixNano\":\"{start}\",\
+         \"endTimeUnixNano\":\"{end}\"}}]}}]}}]}}\n"
+    )?)
+}
+
+/// What a search tells of the trace a1, of which the first push counts.
+const OLD: &str =
+    r#"ok search as_of=3 traces=1 {"traces":[{"durationNanos":"10","rootName":"old","rootService":null,"spanSets":[{"by":[],"matched":1,"spans":[{"attributes":[],"durationNanos":"10","name":"old","spanId":"00000000000000b1","startTimeUnixNano":"100"}]}],"startTimeUnixNano":"100","traceId":"000000000000000000000000000000a1"}]}"#;
+
+const NOTHING: &str = r#"ok search as_of=3 traces=0 {"traces":[]}"#;
+
+/// Searches, and what each is to be told. The trace a2 starts at 80, between the first copy's start and the later one's.
+const SEARCHES: [(&str, &str); 5] = [
+    ("search limit=1 { }", OLD),
+    ("search { name = \"new\" }", NOTHING),
+    ("search { name = \"old\" }", OLD),
+    (
+        "search start=1970-01-01T00:00:00.00000004Z end=1970-01-01T00:00:00.00000006Z { }",
+        NOTHING,
+    ),
+    ("search start=1970-01-01T00:00:00.0000001Z { }", OLD),
+];
+
+// What becomes of the first copy, of the later one, and in the end.
+const PLACES: [[&str; 3]; 4] = [
+    ["cutall\nflush\n", "cutall\nflush\n", ""],
+    ["cutall\nflush\n", "", ""],
+    ["cutall\nflush\n", "cutall\n", ""],
+    ["cutall\nflush\n", "cutall\nflush\n", "compact\n"],
+];
+
+#[test]
+fn a_later_copy_counts_for_nothing(rt: HostRuntime) -> Result<(), Fail> {
+    let alloc = rt.alloc();
+    let old = push(alloc, "a1", "old", 100, 110)?;
+    let new = push(alloc, "a1", "new", 50, 60)?;
+    let other = push(alloc, "a2", "y", 80, 90)?;
+    for [first, later, end] in PLACES {
+        let stored = format!(in alloc;
+            "{}{first}{}{later}{}{end}", old.as_str(), new.as_str(), other.as_str()
+        )?;
+        for (search, wanted) in SEARCHES {
+            let mut disk = MemDisk::empty(alloc);
+            let input = format!(in alloc; "{}{search}\n", stored.as_str())?;
+            let played = session_on(&rt, alloc, &mut disk, input.as_str())?;
+            let replies = std::str::from_utf8(played.text.as_slice()).unwrap_or("");
+            assert_eq!(rt; replies.lines().last(), Some(wanted), "{search} after {first:?} {later:?} {end:?}");
+        }
+    }
+    Ok(())
+}
