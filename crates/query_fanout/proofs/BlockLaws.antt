@@ -378,6 +378,14 @@ module _ {P A B : Type 0} (meaning : Meaning P) (look : Look) (infos : List Info
     bounded = λ told parts are. rose parts (meaning.reads old) (meaning.reads new) (h.bounded told parts are);
   }
 
+-- what is made fits as well, if something is
+pub read_as : {P A : Type 0} {some fits other_some other_fits : List Row → A → Type 0} {within other : List (List Row) → ℕ → ℕ → Type 0} (meaning : Meaning P) (look : Look) (infos : List InfoParts)
+    (rose : (parts : List (List Row)) (a b : ℕ) → within parts a b → other parts a b) (old new : P) (r : Result A QueryError) → ((x : A) (rows : List Row) → some rows x → other_some rows x)
+    → ((x : A) (rows : List Row) → fits rows x → other_fits rows x) → BlocksRead meaning look infos some fits within old r new
+    → BlocksRead meaning look infos other_some other_fits other old r new
+read_as meaning look infos rose old new (Ok x) to_some to h = read_told meaning look infos rose old new x x h (to_some x) (to x)
+read_as meaning look infos rose old new (Err why) to_some to h = read_failed meaning look infos rose old new why h
+
 -- more may be read than was
 pub read_widens : {P A : Type 0} {some fits : List Row → A → Type 0} {within other : List (List Row) → ℕ → ℕ → Type 0} (meaning : Meaning P) (look : Look) (infos : List InfoParts)
     (rose : (parts : List (List Row)) (a b : ℕ) → within parts a b → other parts a b) (old new : P) (r : Result A QueryError) → BlocksRead meaning look infos some fits within old r new

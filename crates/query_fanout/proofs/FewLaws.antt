@@ -48,12 +48,12 @@ filter_within p q (x ∷ xs) so =
     ]) refl
 
 filter_apart : {X : Type 0} (p q : X → Bool) (xs : List X) → ((x : X) → p x ≡ true → q x ≡ true → ⊥) → filter p (filter q xs) ≡ []
-filter_apart p q [] no = refl
-filter_apart p q (x ∷ xs) no =
-    let rest = filter_apart p q xs no in
+filter_apart p q [] never = refl
+filter_apart p q (x ∷ xs) never =
+    let rest = filter_apart p q xs never in
     (elim (q x) as (λ c. q x ≡ c → filter p (filter q (x ∷ xs)) ≡ []) [
       | true ↦ λ t. rw t ((elim (p x) as (λ b. p x ≡ b → filter p (x ∷ filter q xs) ≡ []) [
-        | true ↦ λ u. absurd (no x u t)
+        | true ↦ λ u. absurd (never x u t)
         | false ↦ λ f. rw f rest
       ]) refl)
       | false ↦ λ g. rw g rest
@@ -108,9 +108,9 @@ of_theirs id ids rows one =
     filter_within (is_of_trace id) (λ (r : Row). is_one_of ids r.span.trace) rows (λ r a. subst (λ (t : TraceId). is_one_of ids t ≡ true) (sym (row_is id r a)) one)
 
 of_other : (id other : TraceId) (rows : List Row) → is_eq (trace_cmp id other) ≡ false → rows_of_trace id (rows_of_trace other rows) ≡ []
-of_other id other rows no =
+of_other id other rows differs =
     filter_apart (is_of_trace id) (is_of_trace other) rows
-    (λ r a b. true≢false (sym (subst (λ (t : TraceId). is_eq (trace_cmp t other) ≡ true) (row_is id r a) b) ∙ no))
+    (λ r a b. true≢false (sym (subst (λ (t : TraceId). is_eq (trace_cmp t other) ≡ true) (row_is id r a) b) ∙ differs))
 
 -- a look's rows of each
 abbrev pub own_of : List TraceId → List Row → List Row
@@ -125,10 +125,10 @@ own_none id (i ∷ is) rows none =
 
 own_one : (id : TraceId) (ids : List TraceId) (rows : List Row) → Apart ids → is_one_of ids id ≡ true → rows_of_trace id (own_of ids rows) ≡ rows_of_trace id rows
 own_one id [] rows apart one = absurd (true≢false (sym one))
-own_one id (i ∷ is) rows apart one = filter-append (is_of_trace id) (rows_of_trace i rows) (own_of is rows) ∙ by_first
+own_one id (i ∷ is) rows apart one = filter-append (is_of_trace id) (rows_of_trace i rows) (own_of is rows) ∙ by_first (λ m. own_one id is rows apart.1 m)
   where
-    by_first : rows_of_trace id (rows_of_trace i rows) ++ rows_of_trace id (own_of is rows) ≡ rows_of_trace id rows
-    by_first = (elim (is_eq (trace_cmp id i)) as (λ b. is_eq (trace_cmp id i) ≡ b → rows_of_trace id (rows_of_trace i rows) ++ rows_of_trace id (own_of is rows) ≡ rows_of_trace id rows) [
+    by_first : (is_one_of is id ≡ true → rows_of_trace id (own_of is rows) ≡ rows_of_trace id rows) → rows_of_trace id (rows_of_trace i rows) ++ rows_of_trace id (own_of is rows) ≡ rows_of_trace id rows
+    by_first rest = (elim (is_eq (trace_cmp id i)) as (λ b. is_eq (trace_cmp id i) ≡ b → rows_of_trace id (rows_of_trace i rows) ++ rows_of_trace id (own_of is rows) ≡ rows_of_trace id rows) [
       | true ↦ λ t.
           let same : id ≡ i = same_trace id i t in
           ap (λ (l : List Row). l ++ rows_of_trace id (own_of is rows))
@@ -136,7 +136,7 @@ own_one id (i ∷ is) rows apart one = filter-append (is_of_trace id) (rows_of_t
           ∙ ap (λ (l : List Row). rows_of_trace id rows ++ l) (own_none id is rows (subst (λ (j : TraceId). is_one_of is j ≡ false) (sym same) apart.0)) ∙ append-nil (rows_of_trace id rows)
       | false ↦ λ f.
           ap (λ (l : List Row). l ++ rows_of_trace id (own_of is rows)) (of_other id i rows f)
-          ∙ own_one id is rows apart.1 (subst (λ (b : Bool). (b || is_one_of is id) ≡ true) f one)
+          ∙ rest (subst (λ (b : Bool). (b || is_one_of is id) ≡ true) f one)
     ]) refl
 
 pub own_more : (ids : List TraceId) (rows : List Row) (i : ℕ) (d : TraceId) → i < length ids → own_of (take (i + 1) ids) rows ≡ own_of (take i ids) rows ++ rows_of_trace (slice_index_or ids i d) rows
@@ -162,13 +162,13 @@ at_row k x r h = by (is_eq (key_cmp (row_key x) k)) h
     by true e = cc
     by false e = cc
 
-first_among : (P : Row → Type 0) (k : Key) (rows : List Row) (r : Row) → AllByRecursion P rows → first_at k rows ≡ Some r → P r
+pub first_among : (P : Row → Type 0) (k : Key) (rows : List Row) (r : Row) → AllByRecursion P rows → first_at k rows ≡ Some r → P r
 first_among P k [] r all h = cc
-first_among P k (x ∷ xs) r all h = by (lesser_either (row_at k x) (first_at k xs) r h)
+first_among P k (x ∷ xs) r all h = by (λ e. first_among P k xs r all.1 e) (lesser_either (row_at k x) (first_at k xs) r h)
   where
-    by : (row_at k x ≡ Some r) ⊎ (first_at k xs ≡ Some r) → P r
-    by (inl e) = subst P (at_row k x r e) all.0
-    by (inr e) = first_among P k xs r all.1 e
+    by : (first_at k xs ≡ Some r → P r) → (row_at k x ≡ Some r) ⊎ (first_at k xs ≡ Some r) → P r
+    by rest (inl e) = subst P (at_row k x r e) all.0
+    by rest (inr e) = rest e
 
 all_both : (P : Row → Type 0) (xs ys : List Row) → AllByRecursion P xs → AllByRecursion P ys → AllByRecursion P (xs ++ ys)
 all_both P [] ys a b = b

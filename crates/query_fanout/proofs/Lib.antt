@@ -5,12 +5,12 @@ mod BlockLaws
 mod PickedLaws
 mod TurnLaws
 mod FewLaws
-mod CandidateLaws
-mod AnswerLaws
+mod TakenLaws
 mod TakeLaws
 mod QueryLaws
 mod PicksExist
 mod SearchLaws
 mod ByTraceLaws
+mod OwnLaws
 pub mod TakingLaws
 pub mod WholeLaws

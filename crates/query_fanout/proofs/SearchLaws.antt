@@ -106,24 +106,24 @@ module _ (law : TakenAnswerTheWhole) (asked : Asked) (as_of : ℕ) (own : List R
           subst (λ (l : List Pick). is_one_of (traces_of l) id ≡ true) same (answered_there asked (own ++ rows) each (no_best asked) best taken.0 id taken.1 one)
 
 -- there is no memory to begin
-pub not_begun : {P : Type 0} (meaning : Meaning P) (look : Look) (asked : Asked) (picks : List Pick) (port : P) → IsOpen meaning port (look_of look)
-    → BlocksRead meaning look look.pin.blocks (OwnIfPicked asked look.as_of look.rows picks) (AllIfPicked asked look.as_of look.rows picks) (AtMost (look_ups (traces_of picks) look.pin.blocks)) port
+pub not_begun : {P : Type 0} (meaning : Meaning P) (look : Look) (own : List Row) (asked : Asked) (picks : List Pick) (port : P) → IsOpen meaning port (look_of look)
+    → BlocksRead meaning look look.pin.blocks (OwnIfPicked asked look.as_of own picks) (AllIfPicked asked look.as_of own picks) (AtMost (look_ups (traces_of picks) look.pin.blocks)) port
     (Err Memory) port
-not_begun meaning look asked picks port is_open =
-    read_nothing meaning look look.pin.blocks (OwnIfPicked asked look.as_of look.rows picks) (AllIfPicked asked look.as_of look.rows picks) (AtMost (look_ups (traces_of picks) look.pin.blocks)) port is_open
+not_begun meaning look own asked picks port is_open =
+    read_nothing meaning look look.pin.blocks (OwnIfPicked asked look.as_of own picks) (AllIfPicked asked look.as_of own picks) (AtMost (look_ups (traces_of picks) look.pin.blocks)) port is_open
     (λ parts. rose_none (look_ups (traces_of picks) look.pin.blocks parts) (meaning.reads port))
 
 -- What is told of picks that were taken a few at a time is told of them all.
-pub parts_read : {P X : Type 0} (meaning : Meaning P) (look : Look) (asked : Asked) (turns items : List X) (now : X → List Pick) (picks : List Pick) (old new : P) (best : BestParts) (answer : SearchAnswer)
+pub parts_read : {P X : Type 0} (meaning : Meaning P) (look : Look) (own : List Row) (asked : Asked) (turns items : List X) (now : X → List Pick) (picks : List Pick) (old new : P) (best : BestParts) (answer : SearchAnswer)
     → TakenAnswerTheWhole → turns ≡ items → flat_map now items ≡ picks → AreApart picks → answer.as_of ≡ look.as_of → answer.results ≡ best.kept
-    → BlocksRead meaning look look.pin.blocks (TakenTheirs asked look.rows (map now turns)) (TakenWith asked look.rows (map now turns)) (AtMost (look_ups (traces_of (flat_map now turns)) look.pin.blocks)) old (Ok best) new
-    → BlocksRead meaning look look.pin.blocks (OwnIfPicked asked look.as_of look.rows picks) (AllIfPicked asked look.as_of look.rows picks) (AtMost (look_ups (traces_of picks) look.pin.blocks)) old (Ok answer) new
-parts_read meaning look asked turns items now picks old new best answer law value whole apart count is h =
+    → BlocksRead meaning look look.pin.blocks (TakenTheirs asked own (map now turns)) (TakenWith asked own (map now turns)) (AtMost (look_ups (traces_of (flat_map now turns)) look.pin.blocks)) old (Ok best) new
+    → BlocksRead meaning look look.pin.blocks (OwnIfPicked asked look.as_of own picks) (AllIfPicked asked look.as_of own picks) (AtMost (look_ups (traces_of picks) look.pin.blocks)) old (Ok answer) new
+parts_read meaning look own asked turns items now picks old new best answer law value whole apart count is h =
     let same : flat_map now turns ≡ picks = ap (flat_map now) value ∙ whole in
     let all : flat_map (λ few. few) (map now turns) ≡ picks = flat_map-map (λ (few : List Pick). few) now turns ∙ same in
     read_told meaning look look.pin.blocks (λ parts a b. subst (λ (l : List Pick). RoseAtMost (look_ups (traces_of l) look.pin.blocks parts) a b) same) old new best answer h
-    (own_told law asked look.as_of look.rows (map now turns) picks all apart best answer count is)
-    (all_told law asked look.as_of look.rows (map now turns) picks all apart best answer count is)
+    (own_told law asked look.as_of own (map now turns) picks all apart best answer count is)
+    (all_told law asked look.as_of own (map now turns) picks all apart best answer count is)
 
 -- ---- picks in another order
 

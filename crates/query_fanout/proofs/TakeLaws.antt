@@ -12,31 +12,31 @@ use Rattle.query_fanout.specs.Searching.{TakenTheirs, TakenWith, TakesTheirs, Ta
 use Rattle.query_fanout.specs.Taking.{AreApart, TakesMore, TakesMoreRead, no_best, traces_of}
 use Rattle.query_fanout.specs.declared.error.QueryError.{QueryError}
 use Rattle.query_fanout.specs.declared.searching.Asked.{Asked}
-use Rattle.query_fanout.proofs.AnswerLaws.{more_read, more_taken, none_taken, turn_rose}
+use Rattle.query_fanout.proofs.TakenLaws.{more_read, more_taken, none_taken, turn_rose}
 use Rattle.query_fanout.proofs.BlockLaws.{reads_then, rose_none}
 use Rattle.query_fanout.proofs.CallLaws.{pages_none}
 
 -- these were taken
-abbrev pub Taken : {P : Type 0} → Meaning P → Look → Asked → List (List Pick) → P → Result BestParts QueryError → P → Type 0
-Taken meaning look asked each old r new =
-    BlocksRead meaning look look.pin.blocks (TakenTheirs asked look.rows each) (TakenWith asked look.rows each)
+abbrev pub Taken : {P : Type 0} → Meaning P → Look → List Row → Asked → List (List Pick) → P → Result BestParts QueryError → P → Type 0
+Taken meaning look own asked each old r new =
+    BlocksRead meaning look look.pin.blocks (TakenTheirs asked own each) (TakenWith asked own each)
     (AtMost (look_ups (traces_of (flat_map (λ few. few) each)) look.pin.blocks)) old r new
 
-pub taken_none : {P : Type 0} (meaning : Meaning P) (look : Look) (asked : Asked) (port : P) (best : BestParts) → IsOpen meaning port (look_of look) → best ≡ no_best asked
-    → Taken meaning look asked [] port (Ok best) port
-taken_none meaning look asked port best is_open is = record {
+pub taken_none : {P : Type 0} (meaning : Meaning P) (look : Look) (own : List Row) (asked : Asked) (port : P) (best : BestParts) → IsOpen meaning port (look_of look) → best ≡ no_best asked
+    → Taken meaning look own asked [] port (Ok best) port
+taken_none meaning look own asked port best is_open is = record {
   pages = pages_none meaning look port is_open;
-  comes = ([], λ e. refl, none_taken asked look.rows best is);
-  told = λ told parts are. ([], is, refl);
+  comes = ([], λ e. refl, none_taken asked own best is);
+  told = λ told parts are. ([], (is, refl));
   bounded = λ told parts are. rose_none (look_ups [] look.pin.blocks parts) (meaning.reads port);
 }
 
-pub taken_next : {P : Type 0} (meaning : Meaning P) (look : Look) (asked : Asked) (law : TakesMore) (law_read : TakesMoreRead) (old mid new : P) (each : List (List Pick)) (few : List Pick)
-    (best : BestParts) (r : Result BestParts QueryError) → AreApart (flat_map (λ l. l) each ++ few) → Taken meaning look asked each old (Ok best) mid
-    → BlocksRead meaning look look.pin.blocks (TakesTheirs asked look.rows few best) (TakesWith asked look.rows few best) (AtMost (look_ups (traces_of few) look.pin.blocks)) mid r new
-    → Taken meaning look asked (each ++ few ∷ []) old r new
-taken_next meaning look asked law law_read old mid new each few best r apart h one =
-    reads_then meaning look old mid new best h r one (TakenTheirs asked look.rows (each ++ few ∷ [])) (TakenWith asked look.rows (each ++ few ∷ []))
+pub taken_next : {P : Type 0} (meaning : Meaning P) (look : Look) (own : List Row) (asked : Asked) (law : TakesMore) (law_read : TakesMoreRead) (old mid new : P) (each : List (List Pick)) (few : List Pick)
+    (best : BestParts) (r : Result BestParts QueryError) → AreApart (flat_map (λ l. l) each ++ few) → Taken meaning look own asked each old (Ok best) mid
+    → BlocksRead meaning look look.pin.blocks (TakesTheirs asked own few best) (TakesWith asked own few best) (AtMost (look_ups (traces_of few) look.pin.blocks)) mid r new
+    → Taken meaning look own asked (each ++ few ∷ []) old r new
+taken_next meaning look own asked law law_read old mid new each few best r apart h one =
+    reads_then meaning look old mid new best h r one (TakenTheirs asked own (each ++ few ∷ [])) (TakenWith asked own (each ++ few ∷ []))
     (AtMost (look_ups (traces_of (flat_map (λ few. few) (each ++ few ∷ []))) look.pin.blocks))
-    (λ y a b. more_read law_read asked look.rows each few best y a b apart) (λ y rows. more_taken law asked look.rows each few best y rows)
+    (λ y a b. more_read law_read asked own each few best y a b apart) (λ y rows. more_taken law asked own each few best y rows)
     (λ parts a b c fits. turn_rose each few look.pin.blocks parts a b c)

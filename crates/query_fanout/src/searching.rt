@@ -1,6 +1,7 @@
 //! Searching.
 
-ghost use Rattle.std.specs.Prelude.{◌++◌, IsTrue, List};
+ghost use Rattle.std.specs.Prelude.{◌++◌, IfOk, IsTrue, List};
+ghost use Rattle.span_types.specs.First.{IsFirstOf};
 ghost use Rattle.store_model.specs.Holds.{Hold};
 ghost use Rattle.store_state.specs.Given.{look_of};
 ghost use Rattle.store_state.specs.Kept.{Kept};
@@ -15,6 +16,7 @@ ghost use Rattle.query_fanout.specs.Taking.{AreApart, asked_hint, traces_of};
 
 use crate::QueryError;
 use crate::laws::taken_answer_the_whole;
+use crate::own::Own;
 use crate::picks::picks_of_look;
 use crate::taking::take_each;
 use crate::turns::{in_turns, two_parts};
@@ -54,8 +56,8 @@ pub struct SearchAnswer {
 /// First the traces that have a hinted span are picked, each with the latest start among its hinted spans: in the look's
 /// rows, and in each block by the stripes that may have one. Then they are looked up and answered a few at a time, those of
 /// late moments first, but for those of which no result can come among the best so far; `bounded` says how many pages that
-/// is at most. No rows are kept but those of a few traces, beside a copy of the look's rows while they are gone through
-/// for picks. The look is given back in every case.
+/// is at most. No rows are kept but those of a few traces, beside a copy of the look's rows. The look is given back in every
+/// case.
 pub fn search<P: FlushPort>(
     alloc: Global,
     port: &mut P,
@@ -139,12 +141,46 @@ fn search_parts<P: FlushPort>(
         (AllIfPicked asked.now look.now.as_of look.now.rows (late.now ++ early.now))
         (AtMost (look_ups (traces_of (late.now ++ early.now)) look.now.pin.blocks)) port.old result port.new }
 {
+    match own_firsts(alloc, look) {
+        Ok(own) => search_turns(alloc, port, look, &own, asked, late, early),
+        Err(Memory) => Err(QueryError::Memory),
+    }
+}
+
+// The first occurrences of a look's rows.
+fn own_firsts(alloc: Global, look: &Look) -> Result<Own, Memory>
+    ensures { IfOk result (λ own. IsFirstOf look.now.rows own) }
+{
+    let rows = look.rows.copy_rows()?;
+    let own = Own::of(alloc, rows)?;
+    Ok(own)
+}
+
+// The same over first occurrences in place of the look's rows.
+fn search_turns<P: FlushPort>(
+    alloc: Global,
+    port: &mut P,
+    look: &Look,
+    own: &Own,
+    asked: &Asked,
+    late: &[Pick],
+    early: &[Pick],
+) -> Result<SearchAnswer, QueryError>
+    requires open { IsOpen P.meaning port.old (look_of look.now) }
+    requires late { Ascend late.now }
+    requires early { Ascend early.now }
+    requires apart { AreApart (late.now ++ early.now) }
+    ensures { BlocksRead P.meaning look.now look.now.pin.blocks
+        (OwnIfPicked asked.now look.now.as_of own.now (late.now ++ early.now))
+        (AllIfPicked asked.now look.now.as_of own.now (late.now ++ early.now))
+        (AtMost (look_ups (traces_of (late.now ++ early.now)) look.now.pin.blocks)) port.old result port.new }
+{
     taken_answer_the_whole();
     let turns = match in_turns(alloc, late, early) {
         Ok(turns) => turns,
         Err(_) => return Err(QueryError::Memory),
     };
-    match take_each(alloc, port, look, asked, turns.as_slice()) {
+    match take_each(alloc, port, look, own, asked, turns.as_slice()) {
         Ok(best) => Ok(SearchAnswer {
             as_of: look.as_of,
             results: best.into_results(),

@@ -7,13 +7,13 @@ ghost use Rattle.store_state.specs.Given.{look_of};
 ghost use Rattle.store_state.specs.Meaning.{IsOpen};
 ghost use Rattle.block_traces.specs.Batches.{AreInOrder};
 ghost use Rattle.column_scan.specs.Candidates.{Ascend};
-ghost use Rattle.rows_by_trace.specs.Traces.{rows_of_trace};
 ghost use Rattle.query_fanout.specs.Reading.{AreOfTraces, AtMost, BlocksRead, look_ups};
 ghost use Rattle.query_fanout.specs.Searching.{AnswersTheirs, AnswersWith, TakenTheirs, TakenWith, TakesTheirs, TakesWith};
 ghost use Rattle.query_fanout.specs.Taking.{AreApart, open_picks, traces_of};
 
 use crate::blocks::{OfBlock, of_blocks};
 use crate::laws::takes_more;
+use crate::own::Own;
 use crate::trace::joined_firsts;
 use crate::{Asked, QueryError};
 use block_info::BlockInfo;
@@ -65,6 +65,7 @@ pub(crate) fn take_each<P: FlushPort>(
     alloc: Global,
     port: &mut P,
     look: &Look,
+    own: &Own,
     asked: &Asked,
     turns: &[&[Pick]],
 ) -> Result<Best, QueryError>
@@ -72,15 +73,15 @@ pub(crate) fn take_each<P: FlushPort>(
     requires ascend { All (λ few. Ascend few.now) turns.now }
     requires apart { AreApart (flat_map (λ few. few.now) turns.now) }
     ensures { BlocksRead P.meaning look.now look.now.pin.blocks
-        (TakenTheirs asked.now look.now.rows (map (λ few. few.now) turns.now))
-        (TakenWith asked.now look.now.rows (map (λ few. few.now) turns.now))
+        (TakenTheirs asked.now own.now (map (λ few. few.now) turns.now))
+        (TakenWith asked.now own.now (map (λ few. few.now) turns.now))
         (AtMost (look_ups (traces_of (flat_map (λ few. few.now) turns.now)) look.now.pin.blocks))
         port.old result port.new }
 {
     takes_more();
     let mut best = Best::new(alloc, asked.limit);
     for few in turns {
-        let next = take_few(alloc, port, look, asked, few, best)?;
+        let next = take_few(alloc, port, look, own, asked, few, best)?;
         best = next;
     }
     Ok(best)
@@ -91,6 +92,7 @@ fn take_few<P: FlushPort>(
     alloc: Global,
     port: &mut P,
     look: &Look,
+    own: &Own,
     asked: &Asked,
     few: &[Pick],
     best: Best,
@@ -98,11 +100,11 @@ fn take_few<P: FlushPort>(
     requires open { IsOpen P.meaning port.old (look_of look.now) }
     requires ascend { Ascend few.now }
     ensures { BlocksRead P.meaning look.now look.now.pin.blocks
-        (TakesTheirs asked.now look.now.rows few.now best) (TakesWith asked.now look.now.rows few.now best)
+        (TakesTheirs asked.now own.now few.now best) (TakesWith asked.now own.now few.now best)
         (AtMost (look_ups (traces_of few.now) look.now.pin.blocks)) port.old result port.new }
 {
     match open_traces(alloc, few, &best) {
-        Ok(ids) => answer_traces(alloc, port, look, asked, ids.as_slice(), best),
+        Ok(ids) => answer_traces(alloc, port, look, own, asked, ids.as_slice(), best),
         Err(Memory) => Err(QueryError::Memory),
     }
 }
@@ -125,6 +127,7 @@ fn answer_traces<P: FlushPort>(
     alloc: Global,
     port: &mut P,
     look: &Look,
+    own: &Own,
     asked: &Asked,
     ids: &[TraceId],
     best: Best,
@@ -132,11 +135,11 @@ fn answer_traces<P: FlushPort>(
     requires open { IsOpen P.meaning port.old (look_of look.now) }
     requires in_order { AreInOrder ids.now }
     ensures { BlocksRead P.meaning look.now look.now.pin.blocks
-        (AnswersTheirs asked.now look.now.rows ids.now best) (AnswersWith asked.now look.now.rows ids.now best)
+        (AnswersTheirs asked.now own.now ids.now best) (AnswersWith asked.now own.now ids.now best)
         (AtMost (look_ups ids.now look.now.pin.blocks)) port.old result port.new }
 {
     match of_blocks(alloc, port, look, &Traces(ids)) {
-        Ok(found) => match answer_rows(alloc, look, asked, ids, found, best) {
+        Ok(found) => match answer_rows(alloc, own, asked, ids, found, best) {
             Ok(best) => Ok(best),
             Err(Memory) => Err(QueryError::Memory),
         },
@@ -144,10 +147,10 @@ fn answer_traces<P: FlushPort>(
     }
 }
 
-// Traces are answered over a look's rows of them, and their rows elsewhere.
+// Traces are answered over their rows in memory, and those elsewhere.
 fn answer_rows(
     alloc: Global,
-    look: &Look,
+    own: &Own,
     asked: &Asked,
     ids: &[TraceId],
     found: Rows,
@@ -155,10 +158,10 @@ fn answer_rows(
 ) -> Result<Best, Memory>
     requires in_order { AreInOrder ids.now }
     ensures { IfOk result (λ new. (rows : List AnyRow) → AreOfTraces ids.now rows found
-        → AnswersWith asked.now look.now.rows ids.now best rows new) }
+        → AnswersWith asked.now own.now ids.now best rows new) }
 {
-    let own = own_rows(alloc, look, ids)?;
-    let firsts = joined_firsts(alloc, own, found)?;
+    let theirs = own.rows_of(alloc, ids)?;
+    let firsts = joined_firsts(alloc, theirs, found)?;
     let bounds = Bounds {
         limit: asked.limit,
         spans_per_set: asked.spans_per_set,
@@ -167,16 +170,4 @@ fn answer_rows(
     let more = answer(alloc, checked, asked.range, bounds, firsts.as_slice())?;
     let kept = best.with(alloc, more)?;
     Ok(kept)
-}
-
-// A look's rows of some traces, one trace's after those of the one before it.
-fn own_rows(alloc: Global, look: &Look, ids: &[TraceId]) -> Result<Rows, Memory>
-    ensures { IfOk result (λ rows. rows ≡ flat_map (λ id. rows_of_trace id look.now.rows) ids.now) }
-{
-    let mut all = Vec::new(alloc);
-    for id in ids {
-        let rows = look.rows.rows_of(*id)?;
-        all.append(&mut rows.into_vec())?;
-    }
-    Ok(Rows::of(all))
 }

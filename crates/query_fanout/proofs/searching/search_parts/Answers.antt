@@ -1,11 +1,12 @@
-use Rattle.std.proofs.Common.{◌++◌, refl}
-use Rattle.query_fanout.proofs.SearchLaws.{not_begun, parts_read}
+use Rattle.std.proofs.Common.{◌++◌}
+use Rattle.query_fanout.proofs.OwnLaws.{told_of_all}
+use Rattle.query_fanout.proofs.SearchLaws.{not_begun}
 use Rattle.query_fanout.proofs.searching.search_parts.Goals as goal
 
-pub returns-in-Err : goal.returns-in-Err
-returns-in-Err g c = not_begun g.P.LookPort.meaning c.args.look.now c.args.asked.now (c.args.late.now ++ c.args.early.now) c.args.port.now c.requires.open
+pub returns-in-Ok : goal.returns-in-Ok
+returns-in-Ok g c =
+    told_of_all g.P.LookPort.meaning c.args.look.now c.args.asked.now c.in-Ok.own (c.args.late.now ++ c.args.early.now) c.in-Ok.ensures c.args.port.now c.search_turns.new.port
+    c.search_turns.result c.search_turns.ensures
 
-pub returns-in-Ok-take_each : goal.returns-in-Ok-take_each
-returns-in-Ok-take_each g c =
-    parts_read g.P.LookPort.meaning c.args.look.now c.args.asked.now c.as_slice.result.now c.in-Ok.turns.items (λ few. few.now) (c.args.late.now ++ c.args.early.now) c.args.port.now
-    c.take_each.new.port c.in-Ok-take_each.best _ c.taken_answer_the_whole.ensures c.as_slice.ensures.value c.in-Ok.ensures.same c.requires.apart refl c.into_results.ensures c.in-Ok-take_each.ensures
+pub returns-in-Err : goal.returns-in-Err
+returns-in-Err g c = not_begun g.P.LookPort.meaning c.args.look.now c.args.look.now.rows c.args.asked.now (c.args.late.now ++ c.args.early.now) c.args.port.now c.requires.open

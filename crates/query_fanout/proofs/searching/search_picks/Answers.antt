@@ -3,7 +3,7 @@ use Rattle.query_fanout.proofs.SearchLaws.{moved_parts, not_begun, parts_apart, 
 use Rattle.query_fanout.proofs.searching.search_picks.Goals as goal
 
 pub returns-in-Err : goal.returns-in-Err
-returns-in-Err g c = not_begun g.P.LookPort.meaning c.args.look.now c.args.asked.now c.args.picks.items c.args.port.now c.requires.open
+returns-in-Err g c = not_begun g.P.LookPort.meaning c.args.look.now c.args.look.now.rows c.args.asked.now c.args.picks.items c.args.port.now c.requires.open
 
 pub search_parts-requires-clause-apart : goal.search_parts-requires-clause-apart
 search_parts-requires-clause-apart g c =

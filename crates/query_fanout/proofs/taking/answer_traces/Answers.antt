@@ -6,7 +6,7 @@ pub returns-in-Ok-answer_rows : goal.returns-in-Ok-answer_rows
 returns-in-Ok-answer_rows g c =
     read_told g.P.LookPort.meaning c.args.look.now c.args.look.now.pin.blocks (each_widens c.args.ids.now c.args.look.now.pin.blocks) c.args.port.now c.of_blocks.new.port c.in-Ok.found
     c.in-Ok-answer_rows.best c.in-Ok.ensures
-    (answered_theirs c.args.asked.now c.args.look.now.rows c.in-Ok.found c.args.ids.now c.args.best c.in-Ok-answer_rows.best c.in-Ok-answer_rows.ensures) c.in-Ok-answer_rows.ensures
+    (answered_theirs c.args.asked.now c.args.own.now c.in-Ok.found c.args.ids.now c.args.best c.in-Ok-answer_rows.best c.in-Ok-answer_rows.ensures) c.in-Ok-answer_rows.ensures
 
 pub returns-in-Err-answer_rows : goal.returns-in-Err-answer_rows
 returns-in-Err-answer_rows g c =

@@ -15,13 +15,13 @@ returns-in-Ok g c =
     let look = c.args.look.now in
     let asked = c.args.asked.now in
     read_widens g.P.LookPort.meaning look look.pin.blocks (open_widens c.args.best c.args.few.now look.pin.blocks) c.args.port.now c.answer_traces.new.port c.answer_traces.result
-    (subst (λ (ids : List TraceId). BlocksRead g.P.LookPort.meaning look look.pin.blocks (AnswersTheirs asked look.rows ids c.args.best) (AnswersWith asked look.rows ids c.args.best)
+    (subst (λ (ids : List TraceId). BlocksRead g.P.LookPort.meaning look look.pin.blocks (AnswersTheirs asked c.args.own.now ids c.args.best) (AnswersWith asked c.args.own.now ids c.args.best)
     (AtMost (look_ups ids look.pin.blocks)) c.args.port.now c.answer_traces.result c.answer_traces.new.port) (c.as_slice.ensures.value ∙ c.in-Ok.ensures) c.answer_traces.ensures)
 
 pub returns-in-Err : goal.returns-in-Err
 returns-in-Err g c =
     let look = c.args.look.now in
     let asked = c.args.asked.now in
-    read_nothing g.P.LookPort.meaning look look.pin.blocks (TakesTheirs asked look.rows c.args.few.now c.args.best) (TakesWith asked look.rows c.args.few.now c.args.best)
+    read_nothing g.P.LookPort.meaning look look.pin.blocks (TakesTheirs asked c.args.own.now c.args.few.now c.args.best) (TakesWith asked c.args.own.now c.args.few.now c.args.best)
     (AtMost (look_ups (traces_of c.args.few.now) look.pin.blocks)) c.args.port.now c.requires.open
     (λ parts. rose_none (look_ups (traces_of c.args.few.now) look.pin.blocks parts) (g.P.LookPort.meaning.reads c.args.port.now))

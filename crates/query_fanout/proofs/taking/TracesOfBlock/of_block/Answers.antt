@@ -9,4 +9,4 @@ returns-clause-told g c = λ told rows has. finds_fit (rows_of_traces c.args.sel
 
 pub returns-clause-some : goal.returns-clause-some
 returns-clause-some g c =
-    some_rows (λ rows. rows_of_traces c.args.self.now.0.now rows ≡ rows) (AreTheirs c.args.self.now.0.now) c.rows_of_traces.result (λ rows same. (rows, refl, same)) c.rows_of_traces.ensures.of_traces
+    some_rows (λ rows. rows_of_traces c.args.self.now.0.now rows ≡ rows) (AreTheirs c.args.self.now.0.now) c.rows_of_traces.result (λ rows same. (rows, (refl, same))) c.rows_of_traces.ensures.of_traces
