@@ -47,9 +47,9 @@ one_more old turns picks rest back few n (same, up, left) front_is back_is = (
 split : (moment latest : ℕ) → nat_lt latest moment ≡ not (nat_le moment latest)
 split moment latest = elim (nat_le moment latest) as (λ b. nat_le moment latest ≡ b → nat_lt latest moment ≡ not b) [
   | true ↦ λ e. elim (nat_lt latest moment) as (λ b. nat_lt latest moment ≡ b → b ≡ false) [
-      | true ↦ λ f. let low = leb-true moment latest e in let high = ltb-true latest moment f in absurd (omega (arith, low, high))
-      | false ↦ λ f. refl
-    ] refl
+    | true ↦ λ f. let low = leb-true moment latest e in let high = ltb-true latest moment f in absurd (omega (arith, low, high))
+    | false ↦ λ f. refl
+  ] refl
   | false ↦ λ e. let low = leb-false moment latest e in lt-ltb latest moment (omega (arith, low))
 ] refl
 

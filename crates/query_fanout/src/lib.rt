@@ -6,9 +6,9 @@
 #![tactic(auto)]
 
 mod blocks;
-mod own;
 mod error;
 mod laws;
+mod own;
 mod picks;
 mod pinned;
 mod searching;

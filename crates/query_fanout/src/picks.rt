@@ -78,12 +78,7 @@ pub(crate) fn picks_of_look<P: FlushPort>(
 }
 
 // The picks among a look's rows, and more picks.
-fn with_own(
-    alloc: Global,
-    look: &Look,
-    hint: &Hint,
-    found: Seq<Pick>,
-) -> Result<Vec<Pick>, Memory>
+fn with_own(alloc: Global, look: &Look, hint: &Hint, found: Seq<Pick>) -> Result<Vec<Pick>, Memory>
     ensures latest { IfOk result (λ picks.
         HaveLatest (hinted_picks hint.now (spans_of look.now.rows) ++ found) picks.items) }
     ensures ascending { IfOk result (λ picks. Ascend picks.items) }

@@ -36,12 +36,14 @@ pub(crate) fn hint_of(alloc: Global, query: &str) -> Result<Hint, Failure> {
         from: 0,
         until: None,
     };
-    hint(alloc, &checked, always).map_err(|_| "no memory")
+    hint(&checked, always).map_err(|_| "no memory")
 }
 
 /// The rows of spans, which stand in a text with commas between them, as those of one push.
 pub(crate) fn rows_of(alloc: Global, spans: &str, number: u64) -> Result<Vec<Row>, Memory> {
-    let line = format!(in alloc; "{{\"resourceSpans\":[{{\"scopeSpans\":[{{\"spans\":[{spans}]}}]}}]}}")?;
+    let line = format!(in alloc;
+        "{{\"resourceSpans\":[{{\"scopeSpans\":[{{\"spans\":[{spans}]}}]}}]}}"
+    )?;
     let Ok(reading) = read_line(alloc, line.as_bytes()) else {
         return Err(Memory);
     };

@@ -57,10 +57,28 @@ fn candidates_of_two_blocks(rt: HostRuntime) -> Result<(), Fail> {
     let child = block_of(alloc, CHILD)?;
     let parent = block_of(alloc, PARENT)?;
     let named = hint_of(alloc, r#"{ name = "a" }"#)?;
-    assert_eq!(rt; picked(alloc, &child, &named)?, Picked { traces: 0, reads: 1 });
-    assert_eq!(rt; picked(alloc, &parent, &named)?, Picked { traces: 1, reads: 1 });
+    assert_eq!(rt;
+        picked(alloc, &child, &named)?,
+        Picked {
+            traces: 0,
+            reads: 1
+        }
+    );
+    assert_eq!(rt;
+        picked(alloc, &parent, &named)?,
+        Picked {
+            traces: 1,
+            reads: 1
+        }
+    );
     let any = hint_of(alloc, "{ }")?;
-    assert_eq!(rt; picked(alloc, &child, &any)?, Picked { traces: 1, reads: 1 });
+    assert_eq!(rt;
+        picked(alloc, &child, &any)?,
+        Picked {
+            traces: 1,
+            reads: 1
+        }
+    );
     Ok(())
 }
 
@@ -70,11 +88,46 @@ fn candidates_in_a_range(rt: HostRuntime) -> Result<(), Fail> {
     let alloc = rt.alloc();
     let block = block_of(alloc, CHILD)?;
     for (from, until, wanted) in [
-        (0, None, Picked { traces: 1, reads: 1 }),
-        (2, None, Picked { traces: 1, reads: 1 }),
-        (3, None, Picked { traces: 0, reads: 0 }),
-        (0, Some(2), Picked { traces: 0, reads: 0 }),
-        (0, Some(3), Picked { traces: 1, reads: 1 }),
+        (
+            0,
+            None,
+            Picked {
+                traces: 1,
+                reads: 1,
+            },
+        ),
+        (
+            2,
+            None,
+            Picked {
+                traces: 1,
+                reads: 1,
+            },
+        ),
+        (
+            3,
+            None,
+            Picked {
+                traces: 0,
+                reads: 0,
+            },
+        ),
+        (
+            0,
+            Some(2),
+            Picked {
+                traces: 0,
+                reads: 0,
+            },
+        ),
+        (
+            0,
+            Some(3),
+            Picked {
+                traces: 1,
+                reads: 1,
+            },
+        ),
     ] {
         let mut hint = hint_of(alloc, "{ }")?;
         hint.range.from = from;
@@ -83,6 +136,12 @@ fn candidates_in_a_range(rt: HostRuntime) -> Result<(), Fail> {
     }
     let mut named = hint_of(alloc, r#"{ name = "b" }"#)?;
     named.range.from = 3;
-    assert_eq!(rt; picked(alloc, &block, &named)?, Picked { traces: 1, reads: 1 });
+    assert_eq!(rt;
+        picked(alloc, &block, &named)?,
+        Picked {
+            traces: 1,
+            reads: 1
+        }
+    );
     Ok(())
 }

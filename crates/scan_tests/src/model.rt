@@ -62,10 +62,19 @@ impl Model {
             limit: asked.limit,
             spans_per_set: asked.spans_per_set,
         };
-        let results = answer(alloc, &asked.checked, asked.range, bounds, firsts.as_slice())?;
+        let results = answer(
+            alloc,
+            &asked.checked,
+            asked.range,
+            bounds,
+            firsts.as_slice(),
+        )?;
         let fields = printed_fields(alloc, &asked.checked.query)?;
         let text = write_results(alloc, &fields, &results)?;
         let (pushes, traces) = (self.pushes, results.len());
-        Ok(format!(in alloc; "ok search as_of={pushes} traces={traces} {}", text.as_str())?)
+        Ok(format!(in alloc;
+            "ok search as_of={pushes} traces={traces} {}",
+            text.as_str()
+        )?)
     }
 }

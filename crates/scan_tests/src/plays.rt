@@ -177,7 +177,12 @@ const RUNS: u64 = 12;
 #[test]
 fn searches_answer_over_all_rows(rt: HostRuntime) -> Result<(), Fail> {
     let alloc = rt.alloc();
-    for (traces, spans, push, steps) in [(3, 2, 3, 24), (12, 4, 6, 24), (40, 3, 60, 16), (2, 300, 200, 10)] {
+    for (traces, spans, push, steps) in [
+        (3, 2, 3, 24),
+        (12, 4, 6, 24),
+        (40, 3, 60, 16),
+        (2, 300, 200, 10),
+    ] {
         let sizes = Sizes {
             traces,
             spans,
@@ -188,7 +193,11 @@ fn searches_answer_over_all_rows(rt: HostRuntime) -> Result<(), Fail> {
             let mut disk = MemDisk::empty(alloc);
             let played = session_on(&rt, alloc, &mut disk, script.input.as_str())?;
             let replies = std::str::from_utf8(played.text.as_slice()).unwrap_or("");
-            assert_eq!(rt; first_wrong(&script, replies), None, "{traces} traces, seed {seed}");
+            assert_eq!(rt;
+                first_wrong(&script, replies),
+                None,
+                "{traces} traces, seed {seed}"
+            );
         }
     }
     Ok(())

@@ -7,13 +7,7 @@ use std::alloc::Global;
 use std::test::Fail;
 
 /// A push of the span b1 of a trace, which is given by its last byte.
-fn push(
-    alloc: Global,
-    trace: &str,
-    name: &str,
-    start: u64,
-    end: u64,
-) -> Result<String, Memory> {
+fn push(alloc: Global, trace: &str, name: &str, start: u64, end: u64) -> Result<String, Memory> {
     Ok(format!(in alloc;
         "push {{\"resourceSpans\":[{{\"scopeSpans\":[{{\"spans\":[{{\"traceId\":\"000000000000000000000000000000{trace}\",\
          \"spanId\":\"00000000000000b1\",\"parentSpanId\":\"\",\"name\":\"{name}\",\"startTimeUnixNano\":\"{start}\",\
@@ -55,14 +49,21 @@ fn a_later_copy_counts_for_nothing(rt: HostRuntime) -> Result<(), Fail> {
     let other = push(alloc, "a2", "y", 80, 90)?;
     for [first, later, end] in PLACES {
         let stored = format!(in alloc;
-            "{}{first}{}{later}{}{end}", old.as_str(), new.as_str(), other.as_str()
+            "{}{first}{}{later}{}{end}",
+            old.as_str(),
+            new.as_str(),
+            other.as_str()
         )?;
         for (search, wanted) in SEARCHES {
             let mut disk = MemDisk::empty(alloc);
             let input = format!(in alloc; "{}{search}\n", stored.as_str())?;
             let played = session_on(&rt, alloc, &mut disk, input.as_str())?;
             let replies = std::str::from_utf8(played.text.as_slice()).unwrap_or("");
-            assert_eq!(rt; replies.lines().last(), Some(wanted), "{search} after {first:?} {later:?} {end:?}");
+            assert_eq!(rt;
+                replies.lines().last(),
+                Some(wanted),
+                "{search} after {first:?} {later:?} {end:?}"
+            );
         }
     }
     Ok(())
