@@ -1,4 +1,4 @@
--- Private mechanism: a search takes the picked traces a few at a time. No public clause cites these.
+-- A search takes the picked traces a few at a time. Only the laws of `src/laws.rt` are stated by these.
 use Rattle.std.specs.Prelude.{◌≡◌, ◌≢◌, ◌⊎◌, ◌≤◌, List, [], ◌∷◌, ◌++◌, All, Contains, filter, map, true}
 use Rattle.std.specs.List.{AllPairs, flat_map}
 use Rattle.span_types.specs.First.{IsFirstOf}

@@ -1,5 +1,5 @@
 //! Tests of searches by pages: hints, candidates of blocks, spans that were pushed twice, and long random runs whose searches
-//! are compared with an answer over all rows. They show what no clause says.
+//! are compared with an answer over all rows.
 #![tactic(auto)]
 
 #[cfg(test)]

@@ -1,5 +1,4 @@
-//! What a search is to reply: its answer over the first occurrences of all spans that were pushed, as the program found it before it
-//! read single pages.
+//! What a search is to reply: its answer over the first occurrences of all spans that were pushed, in one go.
 
 use otlp_spans::read_line;
 use search_answer::{Bounds, answer};
