@@ -9,8 +9,7 @@ pub enum QueryError {
     #[error("disk-fault")]
     Fault,
     /// The pages of a pinned block are no block; `at` is the first malformed byte of a stripe that was read, or 0 if the
-    /// block's index
-    /// names rows that no stripe has.
+    /// block's index names rows that no stripe has.
     #[error("not-block file={file} at={at}")]
     NotBlock { file: u32, at: u64 },
     /// Out of memory.

@@ -13,10 +13,11 @@ use traceql_types::{RegexMaker, check};
 /// The number of a block's file.
 pub(crate) const FILE: u32 = 7;
 
-/// What a hint picks in a block: how many traces, and how many pages were read for it.
+/// What a hint picks in a block: how many traces, the last byte of the first one's id, and how many pages were read for it.
 #[derive(Clone, Copy, Debug, PartialEq, Eq)]
 pub(crate) struct Picked {
     pub(crate) traces: usize,
+    pub(crate) first: Option<u8>,
     pub(crate) reads: u64,
 }
 
@@ -89,6 +90,7 @@ pub(crate) fn picked(alloc: Global, block: &BuiltBlock, hint: &Hint) -> Result<P
     match candidates(alloc, &mut pages, FILE, &block.info, hint) {
         Ok(ids) => Ok(Picked {
             traces: ids.len(),
+            first: ids.as_slice().first().map(|id| id.0[15]),
             reads: pages.reads(),
         }),
         Err(ReadError::Memory) => Err("no memory"),

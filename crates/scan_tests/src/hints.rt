@@ -61,6 +61,7 @@ fn candidates_of_two_blocks(rt: HostRuntime) -> Result<(), Fail> {
         picked(alloc, &child, &named)?,
         Picked {
             traces: 0,
+            first: None,
             reads: 1
         }
     );
@@ -68,6 +69,7 @@ fn candidates_of_two_blocks(rt: HostRuntime) -> Result<(), Fail> {
         picked(alloc, &parent, &named)?,
         Picked {
             traces: 1,
+            first: Some(0xa1),
             reads: 1
         }
     );
@@ -76,6 +78,7 @@ fn candidates_of_two_blocks(rt: HostRuntime) -> Result<(), Fail> {
         picked(alloc, &child, &any)?,
         Picked {
             traces: 1,
+            first: Some(0xa1),
             reads: 1
         }
     );
@@ -93,6 +96,7 @@ fn candidates_in_a_range(rt: HostRuntime) -> Result<(), Fail> {
             None,
             Picked {
                 traces: 1,
+                first: Some(0xa1),
                 reads: 1,
             },
         ),
@@ -101,6 +105,7 @@ fn candidates_in_a_range(rt: HostRuntime) -> Result<(), Fail> {
             None,
             Picked {
                 traces: 1,
+                first: Some(0xa1),
                 reads: 1,
             },
         ),
@@ -109,6 +114,7 @@ fn candidates_in_a_range(rt: HostRuntime) -> Result<(), Fail> {
             None,
             Picked {
                 traces: 0,
+                first: None,
                 reads: 0,
             },
         ),
@@ -117,6 +123,7 @@ fn candidates_in_a_range(rt: HostRuntime) -> Result<(), Fail> {
             Some(2),
             Picked {
                 traces: 0,
+                first: None,
                 reads: 0,
             },
         ),
@@ -125,6 +132,7 @@ fn candidates_in_a_range(rt: HostRuntime) -> Result<(), Fail> {
             Some(3),
             Picked {
                 traces: 1,
+                first: Some(0xa1),
                 reads: 1,
             },
         ),
@@ -140,6 +148,7 @@ fn candidates_in_a_range(rt: HostRuntime) -> Result<(), Fail> {
         picked(alloc, &block, &named)?,
         Picked {
             traces: 1,
+            first: Some(0xa1),
             reads: 1
         }
     );
