@@ -82,7 +82,7 @@ pub(crate) fn file_of(alloc: Global, block: &BuiltBlock) -> Result<MemPages, Mem
 }
 
 /// What a hint picks in a block.
-pub(crate) fn picked(alloc: Global, block: &BuiltBlock, hint: &Hint) -> Result<Picked, Failure> {
+pub(crate) fn picked_in(alloc: Global, block: &BuiltBlock, hint: &Hint) -> Result<Picked, Failure> {
     let Ok(pages) = file_of(alloc, block) else {
         return Err("no memory");
     };

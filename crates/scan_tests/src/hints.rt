@@ -1,6 +1,6 @@
 //! The hints of queries, and what they pick in two blocks.
 
-use crate::blocks::{Picked, block_of, hint_of, picked};
+use crate::blocks::{Picked, block_of, hint_of, picked_in};
 use span_types::Memory;
 use std::test::Fail;
 
@@ -58,7 +58,7 @@ fn candidates_of_two_blocks(rt: HostRuntime) -> Result<(), Fail> {
     let parent = block_of(alloc, PARENT)?;
     let named = hint_of(alloc, r#"{ name = "a" }"#)?;
     assert_eq!(rt;
-        picked(alloc, &child, &named)?,
+        picked_in(alloc, &child, &named)?,
         Picked {
             traces: 0,
             first: None,
@@ -66,7 +66,7 @@ fn candidates_of_two_blocks(rt: HostRuntime) -> Result<(), Fail> {
         }
     );
     assert_eq!(rt;
-        picked(alloc, &parent, &named)?,
+        picked_in(alloc, &parent, &named)?,
         Picked {
             traces: 1,
             first: Some(0xa1),
@@ -75,7 +75,7 @@ fn candidates_of_two_blocks(rt: HostRuntime) -> Result<(), Fail> {
     );
     let any = hint_of(alloc, "{ }")?;
     assert_eq!(rt;
-        picked(alloc, &child, &any)?,
+        picked_in(alloc, &child, &any)?,
         Picked {
             traces: 1,
             first: Some(0xa1),
@@ -140,12 +140,12 @@ fn candidates_in_a_range(rt: HostRuntime) -> Result<(), Fail> {
         let mut hint = hint_of(alloc, "{ }")?;
         hint.range.from = from;
         hint.range.until = until;
-        assert_eq!(rt; picked(alloc, &block, &hint)?, wanted, "{from}");
+        assert_eq!(rt; picked_in(alloc, &block, &hint)?, wanted, "{from}");
     }
     let mut named = hint_of(alloc, r#"{ name = "b" }"#)?;
     named.range.from = 3;
     assert_eq!(rt;
-        picked(alloc, &block, &named)?,
+        picked_in(alloc, &block, &named)?,
         Picked {
             traces: 1,
             first: Some(0xa1),
