@@ -4,7 +4,7 @@
 mod cells;
 mod error;
 mod fill;
-mod kinds;
+pub mod kinds;
 mod laws;
 mod row_puts;
 mod rows;
@@ -12,9 +12,11 @@ mod starts;
 mod stripe_reading;
 mod stripe_writing;
 
+pub use cells::{Cells, Listed};
 pub use error::FormatError;
 pub use fill::{put_fill, unfilled};
 pub use laws::{held_is_read, no_rows_have_no_bytes, one_meaning, read_is_held};
+pub use rows::rows_of_cells;
 pub use starts::{read_size, read_starts};
-pub use stripe_reading::read_stripe;
+pub use stripe_reading::{read_stripe, shared};
 pub use stripe_writing::{can_be_stripe, write_stripe};

@@ -41,8 +41,8 @@ fn row(cells: Cells) -> Row
     Row { place, span }
 }
 
-/// The rows of these cells.
-pub fn rows(alloc: Global, cells: Vec<Cells>) -> Result<Vec<Row>, Memory>
+/// The rows of these cells, of which no id is all zeros.
+pub fn rows_of_cells(alloc: Global, cells: Vec<Cells>) -> Result<Vec<Row>, Memory>
     requires { AllByRecursion IsNamed cells.items }
     ensures { IfOk result (λ rows. rows.items ≡ rows_of cells.items) }
 {

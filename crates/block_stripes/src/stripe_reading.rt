@@ -10,7 +10,7 @@ use crate::FormatError;
 use crate::cells::{Listed, Tables, cells};
 use crate::fill::unfilled;
 use crate::kinds::{Resources, Scopes, WholeTexts};
-use crate::rows::{ascend, rows};
+use crate::rows::{ascend, rows_of_cells};
 use block_columns::{Fields, table, unused};
 use byte_fields::Reader;
 use indexmap::IndexSet;
@@ -189,12 +189,12 @@ fn scoped_rows(
     };
     let count = size(fields)?;
     let cells = cells(alloc, fields, tables, resources, scopes, count)?;
-    let rows = rows(alloc, cells)?;
+    let rows = rows_of_cells(alloc, cells)?;
     Ok(rows)
 }
 
 /// The values of a table, which can be shared from now on.
-fn shared<T: Eq + Hash + Drop>(alloc: Global, table: IndexSet<T>) -> Result<Vec<Shared<T>>, Memory>
+pub fn shared<T: Eq + Hash + Drop>(alloc: Global, table: IndexSet<T>) -> Result<Vec<Shared<T>>, Memory>
     ensures { IfOk result (λ x. x.items ≡ table.keys) }
 {
     let mut values = Vec::with_capacity(alloc, table.len())?;

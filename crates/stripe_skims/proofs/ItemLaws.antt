@@ -49,7 +49,7 @@ going_done read count i s total high far = (far.before, items_done (λ _. read) 
 
 -- ---- lists
 
-then_same : {A B : Type 0} (r : Result A ℕ) (f g : A → Result B ℕ) → ((x : A) → f x ≡ g x) → (r >>= f) ≡ (r >>= g)
+pub then_same : {A B : Type 0} (r : Result A ℕ) (f g : A → Result B ℕ) → ((x : A) → f x ≡ g x) → (r >>= f) ≡ (r >>= g)
 then_same (Ok x) f g same = same x
 then_same (Err at) f g same = refl
 

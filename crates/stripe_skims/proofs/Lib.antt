@@ -1,6 +1,6 @@
 mod CellLaws
-mod ColumnLaws
-mod ItemLaws
+pub mod ColumnLaws
+pub mod ItemLaws
 mod OrderLaws
-mod SkipLaws
-mod StripeLaws
+pub mod SkipLaws
+pub mod StripeLaws

@@ -1,11 +1,11 @@
--- What is told of a stripe whose rows aren't made.
-use Rattle.std.specs.Prelude.{◌≡◌, ℕ, ◌==◌, ◌||◌, Bool, not, List, length, map, Result, Ok}
+-- What a sketch tells of a stripe.
+use Rattle.std.specs.Prelude.{◌≡◌, ℕ, ◌==◌, ◌||◌, Bool, not, List, length, map, Result}
 use Rattle.std.specs.List.{list_any}
 use Rattle.std.specs.Ordering.{is_lt, nat_cmp, ordering_then}
 use Rattle.span_types.specs.Orders.{span_cmp, trace_cmp}
 use Rattle.stripe_skims.specs.declared.order.RowKey.{RowKey}
 use Rattle.span_types.specs.declared.spans.Row.{Row}
-use Rattle.block_columns.specs.ColumnReadings.{Spot}
+use Rattle.stripe_skims.specs.Walks.{TellsAll}
 use Rattle.stripe_skims.specs.declared.sketches.Sketch.{Sketch}
 
 -- a row with events or links
@@ -16,16 +16,15 @@ is_rich row = not (length row.span.events == 0) || not (length row.span.links ==
 pub record IsSketch (rows : List Row) (sketch : Sketch) : Type 0 where
   pub traces : sketch.traces.items ≡ map (λ row. row.span.trace) rows
   pub spans : sketch.spans.items ≡ map (λ row. row.span.id) rows
+  pub kinds : sketch.kinds.items ≡ map (λ row. row.span.kind) rows
   pub starts : sketch.starts.items ≡ map (λ row. row.span.start) rows
+  pub ends : sketch.ends.items ≡ map (λ row. row.span.«end») rows
+  pub statuses : sketch.statuses.items ≡ map (λ row. row.span.status) rows
   pub rich : sketch.rich ≡ list_any is_rich rows
 
--- Reading gives rows of which this is told, and stands there after them.
-abbrev pub Sketches : Result (List Row × Spot) ℕ → Sketch → Spot → Type 0
-Sketches read sketch new = (rows : List Row) × (read ≡ Ok (rows, new)) × IsSketch rows sketch
-
--- The same of a whole stripe.
+-- Reading the whole stripe gives rows of which this is told.
 abbrev pub SketchesAll : Result (List Row) ℕ → Sketch → Type 0
-SketchesAll read sketch = (rows : List Row) × (read ≡ Ok rows) × IsSketch rows sketch
+SketchesAll read sketch = TellsAll IsSketch read sketch
 
 -- what block order looks at in a row
 abbrev pub key_of : Row → RowKey

@@ -1,45 +1,63 @@
 //! All columns of a stripe.
 
-ghost use Rattle.std.specs.Prelude.{◌≡◌, IfSome, List, Ok, true};
-ghost use Rattle.block_stripes.specs.StripeReadings.{cells_at, rows_of};
-ghost use Rattle.block_stripes.specs.StripeRows.{Cells};
+ghost use Rattle.std.specs.Prelude.{◌≡◌, IfSome, true};
+ghost use Rattle.block_stripes.specs.StripeReadings.{cells_at};
 ghost use Rattle.stripe_skims.specs.Sketches.{IsSketch};
 ghost use Rattle.stripe_skims.specs.Sure.{AreApart};
+ghost use Rattle.stripe_skims.specs.Walks.{TellsCells};
 
 use crate::columns::{BothSkims, EventLists, Kept, LinkLists, Owned, Passed, Skim};
 use crate::items::Dropped;
-use crate::kinds::{
-    Moments, Numbers, Parents, Positions, Resources, Scopes, SpanIds, SpanKinds, Statuses, TraceIds,
-};
 use crate::passes::{AttrLists, Events, Links, References, stamps_of};
 use crate::sketches::Sketch;
+use crate::walks::Walk;
 use block_columns::Fields;
-use span_types::{Resource, Scope, Text};
+use block_stripes::Listed;
+use block_stripes::kinds::{
+    Moments, Numbers, Parents, Positions, Resources, Scopes, SpanIds, SpanKinds, Statuses, TraceIds,
+};
+use span_types::{SharedResource, SharedScope, Text};
 use std::alloc::Global;
 
-/// A table, and where it stands.
+/// Tells a sketch.
 #[derive(Drop)]
-pub struct Listed<'t, T> {
-    /// Where it stands.
-    pub list: Fields<'t>,
-    /// Its values.
-    pub values: &'t [T],
+pub struct Told;
+
+impl Walk for Told {
+    ghost use Rattle.stripe_skims.specs.Sketches.{IsSketch};
+
+    type Seen = Sketch;
+
+    ghost tells = { λ _. IsSketch };
+
+    fn columns(
+        &self,
+        alloc: Global,
+        fields: &mut Fields,
+        texts: &[Text],
+        extended: bool,
+        resources: Listed<SharedResource>,
+        scopes: Listed<SharedScope>,
+        count: u64,
+    ) -> Option<Sketch> {
+        cells(alloc, fields, texts, extended, resources, scopes, count)
+    }
 }
 
 /// Passes over the cells of so many rows.
-pub fn cells(
+fn cells(
     alloc: Global,
     fields: &mut Fields,
     texts: &[Text],
     extended: bool,
-    resources: Listed<Resource>,
-    scopes: Listed<Scope>,
+    resources: Listed<SharedResource>,
+    scopes: Listed<SharedScope>,
     count: u64,
 ) -> Option<Sketch>
     requires { AreApart texts.now }
-    ensures { IfSome result (λ sketch. (cells : List Cells)
-        × (cells_at true extended texts.now (record { list = resources.entry.list; values = resources.entry.values.now })
-        (record { list = scopes.entry.list; values = scopes.entry.values.now }) count fields.old ≡ Ok (cells, fields.new)) × IsSketch (rows_of cells) sketch) }
+    ensures { IfSome result (λ sketch. TellsCells IsSketch
+        (cells_at true extended texts.now (record { list = resources.entry.list; values = resources.entry.values.now })
+        (record { list = scopes.entry.list; values = scopes.entry.values.now }) count fields.old) sketch fields.new) }
 {
     let attrs = AttrLists {
         texts,
@@ -94,13 +112,9 @@ pub fn cells(
     let times = BothSkims {
         left: Kept { kind: Moments },
         right: BothSkims {
-            left: Passed {
-                kind: Dropped { kind: Moments },
-            },
+            left: Kept { kind: Moments },
             right: BothSkims {
-                left: Passed {
-                    kind: Dropped { kind: Statuses },
-                },
+                left: Kept { kind: Statuses },
                 right: BothSkims {
                     left: messages,
                     right: owners,
@@ -122,9 +136,7 @@ pub fn cells(
             right: BothSkims {
                 left: names,
                 right: BothSkims {
-                    left: Passed {
-                        kind: Dropped { kind: SpanKinds },
-                    },
+                    left: Kept { kind: SpanKinds },
                     right: times,
                 },
             },
@@ -143,13 +155,16 @@ pub fn cells(
         },
     };
     let (traces, (spans, (_, names))) = columns.skim(alloc, fields, count)?;
-    let (_, (_, (_, (_, times)))) = names;
-    let (starts, (_, (_, (_, owners)))) = times;
+    let (_, (_, (_, (kinds, times)))) = names;
+    let (starts, (ends, (statuses, (_, owners)))) = times;
     let (_, (_, (_, (events, links)))) = owners;
     Some(Sketch {
         traces,
         spans,
+        kinds,
         starts,
+        ends,
+        statuses,
         rich: events | links,
     })
 }

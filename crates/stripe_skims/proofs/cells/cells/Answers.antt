@@ -7,6 +7,7 @@ pub returns : goal.returns
 unfolding cells_at
 returns c =
     let s = c.in_ok-traces.ensures in
-    let times = s.shown.1.1.1.1.1.1.1 in
+    let kinds = s.shown.1.1.1.1.1.1 in
+    let times = kinds.1 in
     let lists = times.1.1.1.1.1.1.1 in
-    (s.items, s.is, sketched s.items _ _ _ s.shown.0 s.shown.1.0 times.0 lists.0 lists.1 refl)
+    (s.items, s.is, sketched s.items _ _ _ s.shown.0 s.shown.1.0 kinds.0 times.0 times.1.0 times.1.1.0 lists.0 lists.1 refl)

@@ -1,12 +1,6 @@
 use Rattle.std.proofs.Common.{refl}
-use Rattle.block_stripes.proofs.ReadSteps.{eight_of}
-use Rattle.stripe_skims.proofs.StripeLaws.{filled, stripe_told}
+use Rattle.stripe_skims.proofs.StripeLaws.{ordered_told}
 use Rattle.stripe_skims.proofs.sketches.skim.Goals as goal
 
-pub content_of-requires : goal.content_of-requires
-content_of-requires c = eight_of c.args.bytes.now _ _ c.new-reader.ensures c.in-Ok.ensures.gives
-
 pub returns : goal.returns
-returns c =
-    stripe_told c.args.extended c.args.bytes.now c.in-Ok.size _ _ c.in_ok-sketch.sketch c.new-reader.ensures c.in-Ok.ensures.gives c.in_ok-sketch.ensures.told
-    (filled _ c.args.bytes.now c.unfilled.result c.unfilled.ensures c.in-None.is) (c.if-not-ascends.ensures refl)
+returns c = ordered_told c.args.extended c.args.bytes.now c.in_ok-sketch.sketch c.in_ok-sketch.ensures (c.if-not-ascends.ensures refl)

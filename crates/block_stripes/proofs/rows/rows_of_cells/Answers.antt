@@ -4,7 +4,7 @@ use Rattle.span_types.specs.declared.spans.Row.{Row}
 use Rattle.block_stripes.specs.StripeReadings.{rows_of}
 use Rattle.block_stripes.specs.Stripes.{IsNamed}
 use Rattle.block_stripes.proofs.ReadSteps.{named_next, rows_end, rows_go}
-use Rattle.block_stripes.proofs.rows.rows.Goals as goal
+use Rattle.block_stripes.proofs.rows.rows_of_cells.Goals as goal
 
 pub loop-one-init : goal.loop-one-init
 loop-one-init c =

@@ -1,7 +1,0 @@
-use Rattle.stripe_skims.proofs.CellLaws.{scoped_told}
-use Rattle.stripe_skims.proofs.sketches.scoped_rows.Goals as goal
-
-pub returns : goal.returns
-returns c =
-    scoped_told c.args.extended c.args.texts.now _ _ c.args.fields.now c.table.new.fields c.number.new.self c.cells.new.fields _ c.as_slice.result.now c.in-Ok-number.count c.cells.result
-    c.in-Ok.ensures c.in-Ok-number.ensures c.if-count-eq0.false c.if-count-gt256.false c.fork-list.ensures c.as_slice.ensures.keys c.cells.ensures
