@@ -15,7 +15,7 @@ use Rattle.span_types.specs.Orders.{trace_cmp}
 use Rattle.span_types.specs.declared.ids.TraceId.{TraceId}
 use Rattle.span_types.specs.declared.spans.Row.{Row}
 use Rattle.rows_by_trace.specs.Traces.{is_of_trace, rows_of_trace}
-use Rattle.block_traces.specs.Batches.{AreInOrder, is_one_of, rows_of_traces}
+use Rattle.stripe_traces.specs.Wanted.{AreInOrder, is_one_of, rows_of_traces}
 
 pub total : IsTotalOrder trace_cmp
 total = on_total (λ (t : TraceId). t.0) nat_list_cmp_total

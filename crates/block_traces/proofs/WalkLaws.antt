@@ -19,8 +19,9 @@ use Rattle.block_read.specs.Lookups.{HasTrace}
 use Rattle.block_read.proofs.DescribedLaws.{index_stands}
 use Rattle.block_read.proofs.TogetherLaws.{ends_within, some_there}
 use Rattle.block_read.proofs.TraceWalk.{rows_last}
-use Rattle.block_traces.specs.Batches.{AreInOrder, is_one_of, rows_of_traces}
-use Rattle.block_traces.specs.Walks.{HasCome, is_before, last_or, last_trace}
+use Rattle.stripe_traces.specs.Wanted.{AreInOrder, is_one_of, rows_of_traces}
+use Rattle.stripe_traces.specs.Wanted.{last_or, last_trace}
+use Rattle.block_traces.specs.Walks.{HasCome, is_before}
 use Rattle.block_traces.specs.declared.walk.Walk.{Walk}
 use Rattle.block_traces.proofs.IdLaws.{below_like, below_upto, each_fails, less_is, none_more, none_of, none_passes, total}
 

@@ -7,22 +7,13 @@ use Rattle.span_types.specs.declared.spans.Row.{Row}
 use Rattle.rows_by_trace.specs.Traces.{rows_of_trace}
 use Rattle.block_read.specs.declared.error.ReadError.{ReadError}
 use Rattle.block_read.specs.declared.error.ReadError.TheVariants.{Fault, NotBlock, Memory}
-use Rattle.block_traces.specs.Batches.{rows_of_traces}
+use Rattle.stripe_traces.specs.Wanted.{rows_of_traces}
 use Rattle.block_traces.specs.declared.walk.Walk.{Walk}
 
 -- the trace is below that of the last row, if there is one
 abbrev pub is_before : TraceId → Option TraceId → Bool
 is_before id None = false
 is_before id (Some last) = is_lt (trace_cmp id last)
-
--- the trace of the last of these rows; if there are none, the other one
-abbrev pub last_or : Option TraceId → List Row → Option TraceId
-last_or other [] = other
-last_or other (row ∷ rows) = last_or (Some row.span.trace) rows
-
--- the trace of the last of these rows
-abbrev pub last_trace : List Row → Option TraceId
-last_trace rows = last_or None rows
 
 -- Of a block with these rows all rows of the traces are found that are in stripes before the next one. Later ones have no row of a trace
 -- below that of the last row, and none of those that are done.

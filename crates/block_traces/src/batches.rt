@@ -6,7 +6,8 @@ ghost use Rattle.block_format.specs.Blocks.{BlockHasInfo};
 ghost use Rattle.block_read.specs.Answers.{RoseAtMost, is_fault};
 ghost use Rattle.block_read.specs.Lookups.{Finds, IsInFile};
 ghost use Rattle.block_read.specs.PageReads.{OnlyReads};
-ghost use Rattle.block_traces.specs.Batches.{AreInOrder, pages_for_each, rows_of_traces};
+ghost use Rattle.stripe_traces.specs.Wanted.{AreInOrder, rows_of_traces};
+ghost use Rattle.block_traces.specs.Batches.{pages_for_each};
 
 use crate::walk::{Walk, pass_trace};
 use block_info::BlockInfo;

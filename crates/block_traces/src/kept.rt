@@ -7,8 +7,8 @@ ghost use Rattle.block_read.specs.Answers.{RoseAtMost, is_fault};
 ghost use Rattle.block_read.specs.Files.{part_of};
 ghost use Rattle.block_read.specs.Lookups.{Adds, IsInFile};
 ghost use Rattle.block_read.specs.PageReads.{OnlyReads};
-ghost use Rattle.block_traces.specs.Batches.{AreInOrder, is_one_of, rows_of_traces};
-ghost use Rattle.block_traces.specs.Walks.{last_trace};
+ghost use Rattle.stripe_traces.specs.Wanted.{AreInOrder, is_one_of, rows_of_traces};
+ghost use Rattle.stripe_traces.specs.Wanted.{last_trace};
 
 use block_info::StripeInfo;
 use block_read::{Pages, ReadError, rows_of_stripe};

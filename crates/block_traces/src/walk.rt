@@ -8,7 +8,7 @@ ghost use Rattle.block_format.specs.Blocks.{BlockHasInfo};
 ghost use Rattle.block_read.specs.Answers.{RoseAtMost, is_fault};
 ghost use Rattle.block_read.specs.Lookups.{HasTrace, IsInFile, most_pages, pages_with};
 ghost use Rattle.block_read.specs.PageReads.{OnlyReads};
-ghost use Rattle.block_traces.specs.Batches.{AreInOrder, rows_of_traces};
+ghost use Rattle.stripe_traces.specs.Wanted.{AreInOrder, rows_of_traces};
 ghost use Rattle.block_traces.specs.Walks.{Comes, HasCome, is_before};
 
 use crate::kept::add_stripe;

@@ -4,16 +4,11 @@ use Rattle.std.specs.List.{AllPairs}
 use Rattle.std.specs.declared.cmp.Ordering.TheVariants.{Less}
 use Rattle.moment_range.specs.declared.range.Range.{Range}
 use Rattle.moment_range.specs.Ranges.{is_within}
-use Rattle.rows_by_trace.specs.Traces.{rows_of_trace}
-use Rattle.span_types.specs.First.{IsFirstOf}
 use Rattle.span_types.specs.Orders.{trace_cmp}
 use Rattle.span_types.specs.declared.ids.TraceId.{TraceId}
 use Rattle.span_types.specs.declared.spans.Row.{Row}
 use Rattle.span_types.specs.declared.spans.Span.{Span}
-use Rattle.spanset_eval.specs.declared.results.TraceResult.{TraceResult}
 use Rattle.traceql_syntax.specs.Trees.{QueryTree}
-use Rattle.traceql_types.specs.declared.pattern.Pattern.{Pattern}
-use Rattle.search_answer.specs.Answers.{IsResult}
 use Rattle.column_scan.specs.declared.hints.Hint.{Hint}
 use Rattle.column_scan.specs.declared.picks.Pick.{Pick}
 use Rattle.column_scan.specs.Hints.{holds_text, query_text}
@@ -64,12 +59,3 @@ pub record ArePicks (hint : Hint) (spans : List Span) (picks : List Pick) : Type
 -- the ids of exactly those traces, each once, in ascending order
 abbrev pub AreCandidates : Hint → List Span → List TraceId → Type 0
 AreCandidates hint spans ids = (picks : List Pick) × ArePicks hint spans picks × (ids ≡ map (λ p. p.trace) picks)
-
--- ---- the law that a search rests on
-
--- Whatever a query answers of first occurrences, its trace is picked among all rows, and doesn't start after the pick's moment.
-abbrev pub AnsweredIsPicked : Type 0
-AnsweredIsPicked = (ps : List Pattern) (q : QueryTree) (range : Range) (rows firsts : List Row) (picks : List Pick) (id : TraceId) (r : TraceResult)
-    → IsFirstOf rows firsts → HaveLatest (hinted_picks (hint_of q range) (spans_of rows)) picks
-    → IsResult ps q range (rows_of_trace id firsts) r
-    → (p : Pick) × Contains picks p × (p.trace ≡ id) × (r.start ≤ p.latest)

@@ -2,30 +2,30 @@
 use Rattle.std.specs.Prelude.{◌≡◌, ℕ, List, [], ◌++◌, All}
 use Rattle.span_types.specs.declared.ids.TraceId.{TraceId}
 use Rattle.span_types.specs.declared.spans.Row.{Row}
-use Rattle.block_traces.specs.Batches.{rows_of_traces}
+use Rattle.stripe_traces.specs.Wanted.{rows_of_traces}
 use Rattle.search_answer.specs.Keeping.{BestParts}
-use Rattle.column_scan.specs.Candidates.{ArePicks, Ascend, HaveLatest, IsCovered, hinted_picks, spans_of}
-use Rattle.column_scan.specs.declared.hints.Hint.{Hint}
+use Rattle.column_scan.specs.Candidates.{Ascend, HaveLatest, IsCovered, spans_of}
+use Rattle.column_scan.specs.Sieves.{AreSifted, SieveParts, sifted_picks}
 use Rattle.column_scan.specs.declared.picks.Pick.{Pick}
 use Rattle.query_fanout.specs.SearchAnswers.{IsSearchAnswer}
-use Rattle.query_fanout.specs.Taking.{Answered, TakesEach, asked_hint, no_best, open_picks, traces_of}
+use Rattle.query_fanout.specs.Taking.{Answered, TakesEach, asked_sieve, no_best, open_picks, traces_of}
 use Rattle.query_fanout.specs.declared.searching.Asked.{Asked}
 use Rattle.query_fanout.specs.declared.searching.SearchAnswer.{SearchAnswer}
 
 -- ---- picks
 
--- The traces of the hinted rows are picked, none earlier than the rows.
-abbrev pub ArePicked : Hint → List Row → List Pick → Type 0
-ArePicked hint rows picks = HaveLatest (hinted_picks hint (spans_of rows)) picks
+-- The traces of the sifted rows are picked, none earlier than the rows.
+abbrev pub ArePicked : SieveParts → List Row → List Pick → Type 0
+ArePicked sieve rows picks = HaveLatest (sifted_picks sieve (spans_of rows)) picks
 
--- The traces of a look's hinted rows are picked, none earlier than the rows. Nothing is known of other rows.
-pub record OwnArePicked (hint : Hint) (own rows : List Row) (picks : List Pick) : Type 0 where
+-- The traces of a look's sifted rows are picked, none earlier than the rows. Nothing is known of other rows.
+pub record OwnArePicked (sieve : SieveParts) (own rows : List Row) (picks : List Pick) : Type 0 where
   pub none : rows ≡ []
-  pub whole : All (IsCovered picks) (hinted_picks hint (spans_of own))
+  pub whole : All (IsCovered picks) (sifted_picks sieve (spans_of own))
   pub ascending : Ascend picks
 
-abbrev pub AllArePicked : Hint → List Row → List Row → List Pick → Type 0
-AllArePicked hint own rows picks = ArePicks hint (spans_of (own ++ rows)) picks
+abbrev pub AllArePicked : SieveParts → List Row → List Row → List Pick → Type 0
+AllArePicked sieve own rows picks = AreSifted sieve (spans_of (own ++ rows)) picks
 
 -- ---- a few traces
 
@@ -56,12 +56,12 @@ TakenTheirs asked own each rows best =
 
 -- ---- the answer
 
--- Of the rows it finds what the query finds among all of them, if the traces of the hinted ones are picked, none earlier than the rows.
+-- Of the rows it finds what the query finds among all of them, if the traces of the sifted ones are picked, none earlier than the rows.
 abbrev pub AllIfPicked : Asked → ℕ → List Row → List Pick → List Row → SearchAnswer → Type 0
 AllIfPicked asked as_of own picks rows answer =
-    All (IsCovered picks) (hinted_picks (asked_hint asked) (spans_of (own ++ rows))) → IsSearchAnswer asked as_of (own ++ rows) answer
+    All (IsCovered picks) (sifted_picks (asked_sieve asked) (spans_of (own ++ rows))) → IsSearchAnswer asked as_of (own ++ rows) answer
 
--- The same if those of the look's hinted rows are.
+-- The same if those of the look's sifted rows are.
 abbrev pub OwnIfPicked : Asked → ℕ → List Row → List Pick → List Row → SearchAnswer → Type 0
 OwnIfPicked asked as_of own picks rows answer =
-    All (IsCovered picks) (hinted_picks (asked_hint asked) (spans_of own)) → IsSearchAnswer asked as_of (own ++ rows) answer
+    All (IsCovered picks) (sifted_picks (asked_sieve asked) (spans_of own)) → IsSearchAnswer asked as_of (own ++ rows) answer

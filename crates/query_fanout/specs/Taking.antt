@@ -10,10 +10,11 @@ use Rattle.rows_by_trace.specs.Traces.{rows_of_trace}
 use Rattle.search_answer.specs.Answers.{IsAnswer}
 use Rattle.search_answer.specs.Keeping.{BestParts, may_come}
 use Rattle.traceql_syntax.specs.Trees.{query_tree}
-use Rattle.column_scan.specs.Candidates.{hint_of, is_hinted}
+use Rattle.column_scan.specs.Candidates.{hint_of}
+use Rattle.column_scan.specs.Sieves.{SieveParts, is_sifted, sieve_of}
 use Rattle.column_scan.specs.declared.hints.Hint.{Hint}
 use Rattle.column_scan.specs.declared.picks.Pick.{Pick}
-use Rattle.block_traces.specs.Batches.{is_one_of, rows_of_traces}
+use Rattle.stripe_traces.specs.Wanted.{is_one_of, rows_of_traces}
 use Rattle.query_fanout.specs.declared.searching.Asked.{Asked}
 
 -- what a search answers over these first occurrences
@@ -23,6 +24,10 @@ AnswersSearch asked firsts answer =
 
 abbrev pub asked_hint : Asked → Hint
 asked_hint asked = hint_of (query_tree asked.checked.query) asked.range
+
+-- what a span must be to pick its trace for the search
+abbrev pub asked_sieve : Asked → SieveParts
+asked_sieve asked = sieve_of asked.checked.patterns (query_tree asked.checked.query) asked.range
 
 abbrev pub traces_of : List Pick → List TraceId
 traces_of picks = map (λ p. p.trace) picks
@@ -59,17 +64,17 @@ TakesEach asked rows (few ∷ others) old ids new =
     (between : BestParts) × (later : List TraceId) × Takes asked rows few old between
     × TakesEach asked rows others between later new × (ids ≡ traces_of (open_picks old few) ++ later)
 
--- The trace of each hinted row is picked, and it was answered or the pick isn't earlier than the row.
-abbrev pub AreCovered : Hint → List Row → List Pick → List TraceId → Type 0
-AreCovered hint rows picks ids = All (λ row. is_hinted hint row.span ≡ true
+-- The trace of each sifted row is picked, and it was answered or the pick isn't earlier than the row.
+abbrev pub AreCovered : SieveParts → List Row → List Pick → List TraceId → Type 0
+AreCovered sieve rows picks ids = All (λ row. is_sifted sieve row.span ≡ true
     → (p : Pick) × Contains picks p × (p.trace ≡ row.span.trace) × ((is_one_of ids p.trace ≡ true) ⊎ (row.span.start ≤ p.latest))) rows
 
 -- ---- laws
 
--- If the hinted rows are covered by the picks that were taken, what is kept in the end is what the search answers over all rows.
+-- If the sifted rows are covered by the picks that were taken, what is kept in the end is what the search answers over all rows.
 abbrev pub TakenAnswerTheWhole : Type 0
 TakenAnswerTheWhole = (asked : Asked) (rows firsts : List Row) (each : List (List Pick)) (ids : List TraceId) (best : BestParts)
-    → IsFirstOf rows firsts → AreApart (flat_map (λ few. few) each) → AreCovered (asked_hint asked) rows (flat_map (λ few. few) each) ids
+    → IsFirstOf rows firsts → AreApart (flat_map (λ few. few) each) → AreCovered (asked_sieve asked) rows (flat_map (λ few. few) each) ids
     → TakesEach asked rows each (no_best asked) ids best → AnswersSearch asked firsts best.kept
 
 -- One more few are taken, over the same rows.

@@ -5,7 +5,7 @@ ghost use Rattle.std.specs.List.{flat_map};
 ghost use Rattle.span_types.specs.declared.spans.Row.{Row as AnyRow};
 ghost use Rattle.store_state.specs.Given.{look_of};
 ghost use Rattle.store_state.specs.Meaning.{IsOpen};
-ghost use Rattle.block_traces.specs.Batches.{AreInOrder};
+ghost use Rattle.stripe_traces.specs.Wanted.{AreInOrder};
 ghost use Rattle.column_scan.specs.Candidates.{Ascend};
 ghost use Rattle.query_fanout.specs.Reading.{AreOfTraces, AtMost, BlocksRead, look_ups};
 ghost use Rattle.query_fanout.specs.Searching.{AnswersTheirs, AnswersWith, TakenTheirs, TakenWith, TakesTheirs, TakesWith};
@@ -31,7 +31,8 @@ struct Traces<'i>(&'i [TraceId]);
 
 impl<'i> OfBlock for Traces<'i> {
     ghost use Rattle.std.specs.Prelude.{refl};
-    ghost use Rattle.block_traces.specs.Batches.{AreInOrder, pages_for_each};
+    ghost use Rattle.stripe_traces.specs.Wanted.{AreInOrder};
+    ghost use Rattle.block_traces.specs.Batches.{pages_for_each};
     ghost use Rattle.query_fanout.specs.Reading.{AreOfTraces, AreTheirs};
     ghost use Rattle.query_fanout.specs.Joined.{of_traces_both, theirs_both};
 

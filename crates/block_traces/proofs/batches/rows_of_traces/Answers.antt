@@ -10,7 +10,8 @@ use Rattle.block_read.specs.Lookups.{most_pages}
 use Rattle.block_read.specs.PageReads.{OnlyReads}
 use Rattle.block_read.proofs.PageReads.{none_read, read_then, rose_first, rose_more}
 use Rattle.block_read.proofs.TraceWalk.{fault_passed}
-use Rattle.block_traces.specs.Batches.{pages_for_each, rows_of_traces}
+use Rattle.stripe_traces.specs.Wanted.{rows_of_traces}
+use Rattle.block_traces.specs.Batches.{pages_for_each}
 use Rattle.block_traces.specs.Walks.{HasCome}
 use Rattle.block_traces.proofs.Stops.{find_passed}
 use Rattle.block_traces.proofs.WalkLaws.{all_done, nothing_done, parts_at}

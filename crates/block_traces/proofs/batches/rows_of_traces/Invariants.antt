@@ -5,7 +5,8 @@ use Rattle.span_types.specs.declared.spans.Row.{Row}
 use Rattle.block_format.specs.Blocks.{BlockHasInfo}
 use Rattle.block_read.specs.Answers.{RoseAtMost}
 use Rattle.block_read.specs.PageReads.{OnlyReads}
-use Rattle.block_traces.specs.Batches.{pages_for_each, rows_of_traces}
+use Rattle.stripe_traces.specs.Wanted.{rows_of_traces}
+use Rattle.block_traces.specs.Batches.{pages_for_each}
 use Rattle.block_traces.specs.Walks.{HasCome}
 use Rattle.block_traces.proofs.batches.rows_of_traces.Given as goal
 

@@ -1,7 +1,7 @@
 -- So far the traces' rows among those that were looked at are added, and the last of these is known.
 use Rattle.std.proofs.Common.{◌≡◌, ◌++◌}
-use Rattle.block_traces.specs.Batches.{rows_of_traces}
-use Rattle.block_traces.specs.Walks.{last_trace}
+use Rattle.stripe_traces.specs.Wanted.{rows_of_traces}
+use Rattle.stripe_traces.specs.Wanted.{last_trace}
 use Rattle.block_traces.proofs.kept.keep.Given as goal
 
 abbrev pub invariant-loop-row : goal.invariant-loop-row

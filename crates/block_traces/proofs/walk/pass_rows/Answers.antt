@@ -7,7 +7,7 @@ use Rattle.block_read.specs.Answers.{is_fault}
 use Rattle.block_read.specs.PageReads.{OnlyReads}
 use Rattle.block_read.proofs.PageReads.{none_read, read_then}
 use Rattle.block_read.proofs.TraceWalk.{entry_there, fault_passed, pages_first, pages_more, stripes_there}
-use Rattle.block_traces.specs.Batches.{rows_of_traces}
+use Rattle.stripe_traces.specs.Wanted.{rows_of_traces}
 use Rattle.block_traces.specs.Walks.{HasCome}
 use Rattle.block_traces.proofs.Stops.{stop_passed}
 use Rattle.block_traces.proofs.WalkLaws.{ascending, none_after, one_done, past_stripe, to_stripe}

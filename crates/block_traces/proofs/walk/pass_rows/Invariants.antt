@@ -5,7 +5,7 @@ use Rattle.span_types.specs.declared.ids.TraceId.{TraceId}
 use Rattle.span_types.specs.declared.spans.Row.{Row}
 use Rattle.block_read.specs.Lookups.{HasTrace, pages_with}
 use Rattle.block_read.specs.PageReads.{OnlyReads}
-use Rattle.block_traces.specs.Batches.{rows_of_traces}
+use Rattle.stripe_traces.specs.Wanted.{rows_of_traces}
 use Rattle.block_traces.specs.Walks.{HasCome}
 use Rattle.block_traces.proofs.walk.pass_rows.Given as goal
 

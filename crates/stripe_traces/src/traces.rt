@@ -1,0 +1,36 @@
+//! The rows of some traces in a stripe.
+
+ghost use Rattle.std.specs.Prelude.{◌≡◌, IfSome, List, Ok};
+ghost use Rattle.span_types.specs.declared.spans.Row.{Row as AnyRow};
+ghost use Rattle.block_stripes.specs.StripeReadings.{stripe_at};
+ghost use Rattle.stripe_traces.specs.Wanted.{AreInOrder, HasTraces, rows_of_traces};
+
+use crate::cells::Wanted;
+use span_types::{Row, TraceId};
+use std::alloc::Global;
+use stripe_skims::walk;
+
+/// Those rows of a stripe that are of some traces.
+#[derive(Drop)]
+pub struct StripeTraces {
+    /// The rows, in their order.
+    pub rows: Vec<Row>,
+    /// The trace of the stripe's last row.
+    pub last: Option<TraceId>,
+}
+
+/// The rows of these traces in a stripe, in form 1, or in form 2, which has events and links. Their ids ascend, each once. No other
+/// row is made. None says nothing: the stripe is malformed, or memory was wanted.
+pub fn traces_of_stripe(
+    alloc: Global,
+    bytes: &[u8],
+    extended: bool,
+    ids: &[TraceId],
+) -> Option<StripeTraces>
+    requires { AreInOrder ids.now }
+    ensures told { IfSome result (λ found. (rows : List AnyRow) → stripe_at extended bytes.now ≡ Ok rows
+        → HasTraces ids.now rows found) }
+    ensures of_traces { IfSome result (λ found. rows_of_traces ids.now found.rows.items ≡ found.rows.items) }
+{
+    walk(alloc, bytes, extended, &Wanted { ids })
+}
