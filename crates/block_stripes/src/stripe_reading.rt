@@ -194,7 +194,10 @@ fn scoped_rows(
 }
 
 /// The values of a table, which can be shared from now on.
-pub fn shared<T: Eq + Hash + Drop>(alloc: Global, table: IndexSet<T>) -> Result<Vec<Shared<T>>, Memory>
+pub fn shared<T: Eq + Hash + Drop>(
+    alloc: Global,
+    table: IndexSet<T>,
+) -> Result<Vec<Shared<T>>, Memory>
     ensures { IfOk result (λ x. x.items ≡ table.keys) }
 {
     let mut values = Vec::with_capacity(alloc, table.len())?;

@@ -4,9 +4,9 @@ ghost use Rattle.std.specs.Prelude.{◌≡◌, IfSome};
 ghost use Rattle.block_stripes.specs.StripeReadings.{stripe_at};
 ghost use Rattle.stripe_skims.specs.Sketches.{SketchesAll};
 
+use crate::cells::Told;
 use crate::order::ascends;
 use crate::walks::walk;
-use crate::cells::Told;
 use span_types::{SpanId, SpanKind, StatusCode, TraceId};
 use std::alloc::Global;
 

@@ -81,12 +81,7 @@ fn content_of<W: Walk>(
 }
 
 /// The texts, and the rows, which use each of them.
-fn content<W: Walk>(
-    alloc: Global,
-    fields: &mut Fields,
-    extended: bool,
-    walk: &W,
-) -> Option<W::Seen>
+fn content<W: Walk>(alloc: Global, fields: &mut Fields, extended: bool, walk: &W) -> Option<W::Seen>
     ensures { IfSome result (λ seen. TellsRows (W.tells walk.now) (content_at extended fields.old) seen fields.new) }
 {
     let Ok(texts) = table(alloc, fields, &WholeTexts) else {

@@ -11,8 +11,8 @@ use crate::choices::{BothChoices, Choose, One, OwnedChoice};
 use crate::traces::StripeTraces;
 use block_columns::{Fields, Referred, beside, column};
 use block_stripes::kinds::{
-    AttrLists, EventLists, LinkLists, Moments, Numbers, Parents, Positions, Resources, Scopes, SpanIds, SpanKinds,
-    Statuses, TraceIds,
+    AttrLists, EventLists, LinkLists, Moments, Numbers, Parents, Positions, Resources, Scopes,
+    SpanIds, SpanKinds, Statuses, TraceIds,
 };
 use block_stripes::{Listed, rows_of_cells};
 use span_types::{SharedResource, SharedScope, Text, TraceId};

@@ -22,7 +22,12 @@ pub trait Choose {
     ghost ready: { Self → Type 0 };
 
     /// Goes over as many rows as there are marks, and gives what the marked ones have. None says nothing.
-    fn choose(&mut self, alloc: Global, fields: &mut Fields, wanted: &[bool]) -> Option<Vec<Self::Item>>
+    fn choose(
+        &mut self,
+        alloc: Global,
+        fields: &mut Fields,
+        wanted: &[bool],
+    ) -> Option<Vec<Self::Item>>
         requires { ready self.old }
         ensures { IfSome result (λ seen. Skims (λ items seen. AreChosen wanted.now items seen) (length wanted.now)
             (reading self.old (length wanted.now) fields.old) seen.items fields.new) };
