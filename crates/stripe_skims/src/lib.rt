@@ -17,4 +17,4 @@ pub use items::{Dropped, Pass, pass_items, pass_list};
 pub use order::{RowKey, is_before, key};
 pub use passes::{AttrLists, Events, Links, References, stamps_of};
 pub use sketches::{Sketch, skim};
-pub use walks::{Walk, walk};
+pub use walks::{Walk, go_over};

@@ -6,7 +6,7 @@ ghost use Rattle.stripe_skims.specs.Sketches.{SketchesAll};
 
 use crate::cells::Told;
 use crate::order::ascends;
-use crate::walks::walk;
+use crate::walks::go_over;
 use span_types::{SpanId, SpanKind, StatusCode, TraceId};
 use std::alloc::Global;
 
@@ -34,7 +34,7 @@ pub struct Sketch {
 pub fn skim(alloc: Global, bytes: &[u8], extended: bool) -> Option<Sketch>
     ensures { IfSome result (λ sketch. SketchesAll (stripe_at extended bytes.now) sketch) }
 {
-    let sketch = walk(alloc, bytes, extended, &Told)?;
+    let sketch = go_over(alloc, bytes, extended, &Told)?;
     if !ascends(&sketch) {
         return None;
     }

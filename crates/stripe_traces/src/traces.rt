@@ -8,7 +8,7 @@ ghost use Rattle.stripe_traces.specs.Wanted.{AreInOrder, HasTraces, rows_of_trac
 use crate::cells::Wanted;
 use span_types::{Row, TraceId};
 use std::alloc::Global;
-use stripe_skims::walk;
+use stripe_skims::go_over;
 
 /// Those rows of a stripe that are of some traces.
 #[derive(Drop)]
@@ -32,5 +32,5 @@ pub fn traces_of_stripe(
         → HasTraces ids.now rows found) }
     ensures of_traces { IfSome result (λ found. rows_of_traces ids.now found.rows.items ≡ found.rows.items) }
 {
-    walk(alloc, bytes, extended, &Wanted { ids })
+    go_over(alloc, bytes, extended, &Wanted { ids })
 }

@@ -1,6 +1,6 @@
 use Rattle.block_stripes.proofs.ReadSteps.{eight_of}
 use Rattle.stripe_skims.proofs.StripeLaws.{filled, stripe_told}
-use Rattle.stripe_skims.proofs.walks.walk.Goals as goal
+use Rattle.stripe_skims.proofs.walks.go_over.Goals as goal
 
 pub content_of-requires : goal.content_of-requires
 content_of-requires g c = eight_of c.args.bytes.now _ _ c.new-reader.ensures c.in-Ok.ensures.gives
