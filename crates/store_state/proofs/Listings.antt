@@ -1,18 +1,14 @@
--- What a listing becomes.
-use Rattle.std.proofs.Common.{rules, ◌≡◌, ℕ, append_assoc, ◌+◌, ◌<◌, ◌≤◌, min, nat_le, List, [], ◌∷◌, ◌++◌, Bool, true, false, not, Option, Some, refl, sym, ◌∙◌, ap, arith, ◌-◌, length, length-append, map, filter, take, if◌then◌else◌}
-use Rattle.std.proofs.Math.Seq.{take-append_seam}
+-- What commits make of a list.
+use Rattle.std.proofs.Common.{rules, ◌≡◌, ℕ, append_assoc, ◌+◌, ◌<◌, ◌≤◌, min, nat_le, List, [], ◌∷◌, ◌++◌, Bool, true, false, not, Option, Some, refl, sym, ◌∙◌, ap, arith, ◌-◌, length, length-append, map, filter, if◌then◌else◌}
 use Rattle.std.proofs.lemmas.List.{length-map}
 use Rattle.span_types.specs.declared.spans.Row.{Row}
 use Rattle.block_list.specs.declared.body.BlockRef.{BlockRef}
 use Rattle.block_list.specs.declared.body.SegmentRef.{SegmentRef}
-use Rattle.store_model.specs.State.{State, Block, Segment, Flush, Compaction, block_files, is_among, live_rows, flush_files, compaction_files, listed_loose}
+use Rattle.store_model.specs.State.{State, Block, Segment, block_files, is_among, live_rows}
 use Rattle.store_model.specs.Choice.{in_files, outside_files}
-use Rattle.store_model.specs.After.{floor_after, least, released, staying, with_segment, job_files, after_commit_flush, after_commit_compact, after_drop_flush, after_drop_compact}
+use Rattle.store_model.specs.After.{floor_after, least, released, staying}
 use Rattle.live_traces.specs.Parts.{least_number, least_with}
-use Rattle.store_state.specs.Listed.{IsListingOf, TakesOneJob, floor_from, ref_of, segment_of}
-use Rattle.store_state.specs.Loose.{AreFilesOf}
-use Rattle.store_state.specs.declared.listing.Listing.{Listing}
-use Rattle.store_state.specs.declared.listing.FlushFiles.{FlushFiles}
+use Rattle.store_state.specs.Listed.{floor_from, ref_of, segment_of}
 use Rattle.store_state.specs.Parted.{inside, outside}
 
 pub map_append : {X Y : Type 0} (f : X → Y) (xs ys : List X) → map f (xs ++ ys) ≡ map f xs ++ map f ys
@@ -116,69 +112,6 @@ inside-append files (x ∷ xs) ys = by_test (is_among x.file files) (inside-appe
     by_test true h = ap (λ zs. x.file ∷ zs) h
     by_test false h = h
 
--- ---- what an event makes of a listing
-
--- all but the loose files is the same
-pub record IsBeside (new old : Listing) : Type 0 where
-  pub blocks : new.blocks.items ≡ old.blocks.items
-  pub segments : new.segments.items ≡ old.segments.items
-  pub floor : new.floor ≡ old.floor
-  pub next_file : new.next_file ≡ old.next_file
-
-pub flush_listing : (count rows : ℕ) (found : Option ℕ) (files : FlushFiles) (now next : Listing) (u : State) (job : Flush) (firsts : List Row) →
-    IsListingOf now u → AreFilesOf files job → found ≡ least_number (u.head ++ live_rows u.live) →
-    next.blocks.items ≡ now.blocks.items ++ record { file = files.block; level = 0; rows = rows } ∷ [] →
-    map segment_of next.segments.items ≡ staying (floor_from count found) (map segment_of (now.segments.items ++ record { file = files.segment; first = count } ∷ [])) →
-    next.floor ≡ floor_from count found →
-    next.loose.items ≡ now.loose.items ++ released (floor_from count found) (map segment_of (now.segments.items ++ record { file = files.segment; first = count } ∷ [])) →
-    next.next_file ≡ now.next_file → IsListingOf next (after_commit_flush count job rows firsts u)
-flush_listing count rows found files now next u job firsts is own least blocks segments floor loose next_file = record {
-  blocks = map_append ref_of u.blocks (new ∷ []) ∙ ap (λ xs. xs ++ ref_of new ∷ []) is.blocks
-      ∙ ap (λ f. now.blocks.items ++ record { file = f; level = 0; rows = rows } ∷ []) (sym own.block) ∙ sym blocks;
-  segments = ap (λ f. staying f (with_segment count job u)) at ∙ ap (staying (floor_from count found)) all ∙ sym segments;
-  floor = at ∙ sym floor;
-  loose = ap (λ xs. xs ++ released (floor_after count u) (with_segment count job u)) is.loose
-      ∙ ap (λ f. now.loose.items ++ released f (with_segment count job u)) at
-      ∙ ap (λ xs. now.loose.items ++ released (floor_from count found) xs) all ∙ sym loose;
-  next_file = is.next_file ∙ sym next_file;
-}
-  where
-    new : Block
-    new = record { file = job.file; level = 0; size = rows; rows = firsts }
-
-    at : floor_after count u ≡ floor_from count found
-    at = floor_is count u found least
-
-    all : with_segment count job u ≡ map segment_of (now.segments.items ++ record { file = files.segment; first = count } ∷ [])
-    all = ap (λ xs. xs ++ record { file = job.segment; first = count } ∷ []) is.segments
-        ∙ ap (λ f. map segment_of now.segments.items ++ record { file = f; first = count } ∷ []) (sym own.segment)
-        ∙ sym (map_append segment_of now.segments.items (record { file = files.segment; first = count } ∷ []))
-
-pub compact_listing : (block : BlockRef) (joined : List ℕ) (now next : Listing) (u : State) (job : Compaction) (firsts : List Row) →
-    IsListingOf now u → job.file ≡ block.file → job.level ≡ block.level → job_files job u ≡ joined →
-    next.blocks.items ≡ outside joined now.blocks.items ++ block ∷ [] → next.segments.items ≡ now.segments.items → next.floor ≡ now.floor →
-    next.loose.items ≡ now.loose.items ++ inside joined now.blocks.items → next.next_file ≡ now.next_file →
-    IsListingOf next (after_commit_compact job block.rows firsts u)
-compact_listing block joined now next u job firsts is file level mine blocks segments floor loose next_file = record {
-  blocks = map_append ref_of (outside_files (job_files job u) u.blocks) (new ∷ [])
-      ∙ ap (λ xs. xs ++ ref_of new ∷ []) (blocks_outside (job_files job u) u.blocks)
-      ∙ ap (λ fs. outside fs (map ref_of u.blocks) ++ ref_of new ∷ []) mine
-      ∙ ap (λ bs. outside joined bs ++ ref_of new ∷ []) is.blocks
-      ∙ ap (λ b. outside joined now.blocks.items ++ b ∷ []) same ∙ sym blocks;
-  segments = is.segments ∙ ap (map segment_of) (sym segments);
-  floor = is.floor ∙ sym floor;
-  loose = ap (λ xs. xs ++ block_files (in_files (job_files job u) u.blocks)) is.loose
-      ∙ ap (λ xs. now.loose.items ++ xs) (files_inside (job_files job u) u.blocks ∙ ap (λ fs. inside fs (map ref_of u.blocks)) mine ∙ ap (inside joined) is.blocks)
-      ∙ sym loose;
-  next_file = is.next_file ∙ sym next_file;
-}
-  where
-    new : Block
-    new = record { file = job.file; level = job.level; size = block.rows; rows = firsts }
-
-    same : ref_of (record { file = job.file; level = job.level; size = block.rows; rows = firsts }) ≡ block
-    same = ap (λ f. record { file = f; level = job.level; rows = block.rows }) file ∙ ap (λ l. record { file = block.file; level = l; rows = block.rows }) level
-
 -- ---- room
 
 parted_length : (floor : ℕ) (segments : List Segment) → length (staying floor segments) + length (released floor segments) ≡ length segments
@@ -234,118 +167,3 @@ each_side joined block blocks stay loose all stays go = omega (arith, more, both
 
     whole : length all ≡ length loose + length (inside joined blocks)
     whole = ap length go ∙ length-append loose (inside joined blocks)
-
--- a list with more at its end
-more_length : {X : Type 0} (xs ys zs : List X) → zs ≡ xs ++ ys → length zs ≡ length xs + length ys
-more_length xs ys zs e = ap length e ∙ length-append xs ys
-
--- In all as many are named, but for two more, of which one is a block's and one a segment's at most.
-one_job : (old new : Listing) → length new.blocks.items ≤ length old.blocks.items + 1 → length new.segments.items ≤ length old.segments.items + 1 →
-    length new.loose.items + length new.segments.items + length new.blocks.items ≤ length old.loose.items + length old.segments.items + length old.blocks.items + 2 →
-    TakesOneJob old new
-one_job old new blocks segments all = λ jobs next room. record {
-  blocks = omega (arith, blocks, room.blocks);
-  segments = omega (arith, segments, room.segments);
-  loose = omega (arith, all, room.loose);
-}
-
-pub flush_takes : (floor : ℕ) (block : BlockRef) (last : SegmentRef) (now next : Listing) →
-    next.blocks.items ≡ now.blocks.items ++ block ∷ [] →
-    map segment_of next.segments.items ≡ staying floor (map segment_of (now.segments.items ++ last ∷ [])) →
-    next.loose.items ≡ now.loose.items ++ released floor (map segment_of (now.segments.items ++ last ∷ [])) → TakesOneJob now next
-flush_takes floor block last now next blocks segments loose = one_job now next (omega (arith, more)) (omega (arith, stay, both, all)) (omega (arith, more, stay, both, all, go))
-  where
-    more : length next.blocks.items ≡ length now.blocks.items + 1
-    more = more_length now.blocks.items (block ∷ []) next.blocks.items blocks
-
-    stay : length next.segments.items ≡ length (staying floor (map segment_of (now.segments.items ++ last ∷ [])))
-    stay = sym (length-map next.segments.items segment_of) ∙ ap length segments
-
-    go : length next.loose.items ≡ length now.loose.items + length (released floor (map segment_of (now.segments.items ++ last ∷ [])))
-    go = more_length now.loose.items (released floor (map segment_of (now.segments.items ++ last ∷ []))) next.loose.items loose
-
-    both : length (staying floor (map segment_of (now.segments.items ++ last ∷ []))) + length (released floor (map segment_of (now.segments.items ++ last ∷ []))) ≡ length (map segment_of (now.segments.items ++ last ∷ []))
-    both = parted_length floor (map segment_of (now.segments.items ++ last ∷ []))
-
-    all : length (map segment_of (now.segments.items ++ last ∷ [])) ≡ length now.segments.items + 1
-    all = length-map (now.segments.items ++ last ∷ []) segment_of ∙ length-append now.segments.items (last ∷ [])
-
-pub compact_takes : (block : BlockRef) (joined : List ℕ) (now next : Listing) →
-    next.blocks.items ≡ outside joined now.blocks.items ++ block ∷ [] → next.segments.items ≡ now.segments.items →
-    next.loose.items ≡ now.loose.items ++ inside joined now.blocks.items → TakesOneJob now next
-compact_takes block joined now next blocks segments loose = one_job now next (omega (arith, more, both)) (omega (arith, same)) (omega (arith, more, both, same, go))
-  where
-    more : length next.blocks.items ≡ length (outside joined now.blocks.items) + 1
-    more = more_length (outside joined now.blocks.items) (block ∷ []) next.blocks.items blocks
-
-    both : length (outside joined now.blocks.items) + length (inside joined now.blocks.items) ≡ length now.blocks.items
-    both = sides_length joined now.blocks.items
-
-    same : length next.segments.items ≡ length now.segments.items
-    same = ap length segments
-
-    go : length next.loose.items ≡ length now.loose.items + length (inside joined now.blocks.items)
-    go = more_length now.loose.items (inside joined now.blocks.items) next.loose.items loose
-
--- What a commit makes of a listing.
-pub record IsFlushMade (count rows : ℕ) (found : Option ℕ) (files : FlushFiles) (now next : Listing) : Type 0 where
-  pub listing : (u : State) (job : Flush) (firsts : List Row) → IsListingOf now u → AreFilesOf files job → found ≡ least_number (u.head ++ live_rows u.live) →
-      IsListingOf next (after_commit_flush count job rows firsts u)
-  pub others : TakesOneJob now next
-
-pub flush_made : (count rows : ℕ) (found : Option ℕ) (files : FlushFiles) (now next : Listing) →
-    next.blocks.items ≡ now.blocks.items ++ record { file = files.block; level = 0; rows = rows } ∷ [] →
-    map segment_of next.segments.items ≡ staying (floor_from count found) (map segment_of (now.segments.items ++ record { file = files.segment; first = count } ∷ [])) →
-    next.floor ≡ floor_from count found →
-    next.loose.items ≡ now.loose.items ++ released (floor_from count found) (map segment_of (now.segments.items ++ record { file = files.segment; first = count } ∷ [])) →
-    next.next_file ≡ now.next_file → IsFlushMade count rows found files now next
-flush_made count rows found files now next blocks segments floor loose next_file = record {
-  listing = λ u job firsts is own least. flush_listing count rows found files now next u job firsts is own least blocks segments floor loose next_file;
-  others = flush_takes (floor_from count found) _ _ now next blocks segments loose;
-}
-
-pub record IsCompactMade (block : BlockRef) (joined : List ℕ) (now next : Listing) : Type 0 where
-  pub listing : (u : State) (job : Compaction) (firsts : List Row) → IsListingOf now u → job.file ≡ block.file → job.level ≡ block.level → job_files job u ≡ joined →
-      IsListingOf next (after_commit_compact job block.rows firsts u)
-  pub others : TakesOneJob now next
-
-pub compact_made : (block : BlockRef) (joined : List ℕ) (now next : Listing) →
-    next.blocks.items ≡ outside joined now.blocks.items ++ block ∷ [] → next.segments.items ≡ now.segments.items → next.floor ≡ now.floor →
-    next.loose.items ≡ now.loose.items ++ inside joined now.blocks.items → next.next_file ≡ now.next_file → IsCompactMade block joined now next
-compact_made block joined now next blocks segments floor loose next_file = record {
-  listing = λ u job firsts is file level mine. compact_listing block joined now next u job firsts is file level mine blocks segments floor loose next_file;
-  others = compact_takes block joined now next blocks segments loose;
-}
-
--- files of jobs that stay open are added, and go again
-pub taken_back : (loose own other : List ℕ) → take (length ((loose ++ own) ++ other) - (length own + length other)) ((loose ++ own) ++ other) ≡ loose
-taken_back loose own other =
-    ap (λ n. take n ((loose ++ own) ++ other)) (omega (arith, length-append (loose ++ own) other, length-append loose own))
-    ∙ ap (take (length loose)) (append_assoc loose own other) ∙ take-append_seam loose (own ++ other)
-
-pub drop_flush_listing : (files : FlushFiles) (old new : Listing) (u : State) (job : Flush) → IsListingOf old u → AreFilesOf files job → IsBeside new old →
-    new.loose.items ≡ (old.loose.items ++ files.block ∷ []) ++ files.segment ∷ [] → IsListingOf new (after_drop_flush job u)
-drop_flush_listing files old new u job is own same loose = record {
-  blocks = is.blocks ∙ sym same.blocks;
-  segments = is.segments ∙ ap (map segment_of) (sym same.segments);
-  floor = is.floor ∙ sym same.floor;
-  loose = ap (λ xs. xs ++ job.file ∷ job.segment ∷ []) is.loose
-      ∙ ap (λ f. old.loose.items ++ f ∷ job.segment ∷ []) (sym own.block) ∙ ap (λ f. old.loose.items ++ files.block ∷ f ∷ []) (sym own.segment)
-      ∙ sym (append_assoc old.loose.items (files.block ∷ []) (files.segment ∷ [])) ∙ sym loose;
-  next_file = is.next_file ∙ sym same.next_file;
-}
-
-pub drop_compact_listing : (file : ℕ) (old new : Listing) (u : State) (job : Compaction) → IsListingOf old u → job.file ≡ file → IsBeside new old →
-    new.loose.items ≡ old.loose.items ++ file ∷ [] → IsListingOf new (after_drop_compact job u)
-drop_compact_listing file old new u job is own same loose = record {
-  blocks = is.blocks ∙ sym same.blocks;
-  segments = is.segments ∙ ap (map segment_of) (sym same.segments);
-  floor = is.floor ∙ sym same.floor;
-  loose = ap (λ xs. xs ++ job.file ∷ []) is.loose ∙ ap (λ f. old.loose.items ++ f ∷ []) own ∙ sym loose;
-  next_file = is.next_file ∙ sym same.next_file;
-}
-
-pub listed_as_loose : (listing : Listing) (u : State) (flush compaction : List ℕ) → IsListingOf listing u → flush ≡ flush_files u.flush → compaction ≡ compaction_files u.compaction →
-    (listing.loose.items ++ flush) ++ compaction ≡ listed_loose u
-listed_as_loose listing u flush compaction is f g =
-    ap (λ xs. (xs ++ flush) ++ compaction) (sym is.loose) ∙ ap (λ xs. (u.loose ++ xs) ++ compaction) f ∙ ap (λ xs. (u.loose ++ flush_files u.flush) ++ xs) g

@@ -1,10 +1,10 @@
 -- What a list names of a state of the machine.
-use Rattle.std.specs.Prelude.{◌≡◌, ℕ, ◌+◌, ◌*◌, ◌<◌, ◌≤◌, min, List, [], ◌∷◌, ◌++◌, Option, None, Some, length, map, take, drop}
+use Rattle.std.specs.Prelude.{ℕ, ◌+◌, ◌<◌, ◌≤◌, ◌×◌, min, List, [], ◌∷◌, ◌++◌, Option, None, Some, take, drop}
 use Rattle.std.specs.Vec.{vec_capacity}
 use Rattle.block_list.specs.declared.body.BlockRef.{BlockRef}
 use Rattle.block_list.specs.declared.body.SegmentRef.{SegmentRef}
 use Rattle.block_list.specs.declared.body.ListBody.{ListBody}
-use Rattle.store_model.specs.State.{State, Block, Segment}
+use Rattle.store_model.specs.State.{Block, Segment}
 use Rattle.store_state.specs.declared.listing.Listing.{Listing}
 use Rattle.store_state.specs.declared.listing.FlushFiles.{FlushFiles}
 use Rattle.store_state.specs.Loose.{flush_part, compaction_part}
@@ -25,35 +25,6 @@ picked (at ∷ positions) blocks = take 1 (drop at blocks) ++ picked positions b
 abbrev pub Ascend : ℕ → ℕ → List ℕ → Type 0
 Ascend from end [] = Unit {0}
 Ascend from end (at ∷ positions) = (from ≤ at) × (at < end) × Ascend (at + 1) end positions
-
--- The listing is that of the state.
-pub record IsListingOf (listing : Listing) (u : State) : Type 0 where
-  pub blocks : map ref_of u.blocks ≡ listing.blocks.items
-  pub segments : u.segments ≡ map segment_of listing.segments.items
-  pub floor : u.floor ≡ listing.floor
-  pub loose : u.loose ≡ listing.loose.items
-  pub next_file : u.next_file ≡ listing.next_file
-
--- the two name the same
-pub record NamesTheSame (one other : Listing) : Type 0 where
-  pub blocks : one.blocks.items ≡ other.blocks.items
-  pub segments : one.segments.items ≡ other.segments.items
-  pub floor : one.floor ≡ other.floor
-  pub loose : one.loose.items ≡ other.loose.items
-  pub next_file : one.next_file ≡ other.next_file
-
--- In one listing there is room for what so many open jobs make of another one, each by its commit or its end, in any order.
-pub record HasRoomFor (jobs : ℕ) (next : Listing) (listing : Listing) : Type 0 where
-  -- each job adds a block and a segment at most
-  pub blocks : length listing.blocks.items + jobs ≤ vec_capacity next.blocks
-  pub segments : length listing.segments.items + jobs ≤ vec_capacity next.segments
-  -- each segment and each block may become loose, and each job has two files at most
-  pub loose : length listing.loose.items + length listing.segments.items + length listing.blocks.items + 2 * jobs
-      ≤ vec_capacity next.loose
-
--- What one job makes of a listing leaves room for the other jobs, wherever there was room for it and them.
-abbrev pub TakesOneJob : Listing → Listing → Type 0
-TakesOneJob old new = (jobs : ℕ) (next : Listing) → HasRoomFor (jobs + 1) next old → HasRoomFor jobs next new
 
 -- no room is lost
 pub record KeepsRoom (old new : Listing) : Type 0 where

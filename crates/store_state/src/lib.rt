@@ -7,7 +7,6 @@
 
 mod choice;
 mod errors;
-mod freeing;
 mod jobs;
 mod laws;
 mod listing;
@@ -18,15 +17,11 @@ mod rounds;
 
 pub use choice::choose;
 pub use errors::{BeginError, PushError, ReclaimError, WriteError};
-pub use freeing::reclaim;
 pub use jobs::{CompactJob, FlushJob, JobFile, Look, Pin};
 pub use laws::{
     a_choice_is_few, a_list_parts_blocks_as_the_machine, a_step_tells_what_is_learnt,
     the_floor_is_the_least_that_waits,
 };
-pub use listing::{
-    FlushFiles, Listing, commit_compact, commit_flush, floor_of, list_body, list_compact,
-    list_flush, listing_of,
-};
+pub use listing::{FlushFiles, Listing, floor_of, list_body, list_compact, list_flush};
 pub use port::{FlushPort, LookPort, Port};
 pub use rounds::{Refusal, Round, Step, begin_cause, write_cause};

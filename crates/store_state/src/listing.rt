@@ -1,14 +1,11 @@
-//! What a store's list names, and what flushes and compactions make of it. Nothing here takes memory but `with_room`,
-//! `spare` and `reserve`, which a job that begins calls, so that commits and ends find room.
+//! What a store's list names, and what the commits of flushes and compactions make of it. Nothing here takes memory but
+//! `with_room`, which a job that begins calls, so that its commit finds room.
 
-ghost use Rattle.std.specs.Prelude.{◌≡◌, ℕ, ◌≤◌, ◌<◌, ◌+◌, ◌++◌, ◌∷◌, [], List, length, map, IfOk, OnOk};
+ghost use Rattle.std.specs.Prelude.{◌≡◌, ◌≤◌, ◌+◌, ◌++◌, ◌∷◌, [], length, map, IfOk};
 ghost use Rattle.std.specs.Vec.{vec_len, vec_capacity};
-ghost use Rattle.span_types.specs.declared.spans.Row.{Row};
-ghost use Rattle.store_model.specs.State.{State, Flush, Compaction, live_rows, flush_files, compaction_files, listed_loose};
-ghost use Rattle.store_model.specs.After.{after_begin_flush, after_begin_compact, after_commit_flush, after_drop_flush, after_commit_compact, after_drop_compact, job_files, released, staying, taken};
-ghost use Rattle.live_traces.specs.Parts.{least_number};
-ghost use Rattle.store_state.specs.Listed.{HasRoomFor, IsListingOf, KeepsRoom, NamesTheSame, TakesOneJob, floor_from, listed_body, segment_of};
-ghost use Rattle.store_state.specs.Loose.{AreFilesOf, compaction_part, flush_part};
+ghost use Rattle.store_model.specs.After.{released, staying};
+ghost use Rattle.store_state.specs.Listed.{KeepsRoom, floor_from, listed_body, segment_of};
+ghost use Rattle.store_state.specs.Loose.{compaction_part, flush_part};
 ghost use Rattle.store_state.specs.Parted.{inside, outside};
 
 use crate::parts::{part_blocks, part_segments};
@@ -16,9 +13,6 @@ use crate::room::{fill, put};
 use block_list::{BlockRef, ListBody, SegmentRef};
 use span_types::{Memory, Seq};
 use std::alloc::Global;
-
-// A list doesn't name more files than there are numbers for.
-const MOST_LISTED: usize = 4_294_967_296;
 
 /// The files of an open flush.
 #[derive(Clone, Copy, Debug)]
@@ -44,48 +38,8 @@ pub struct Listing {
     pub next_file: u32,
 }
 
-/// A flush's commit: `next` becomes what `now` is with the flush's block, of so many rows, at the end of the blocks and its
-/// segment at the end of the segments. `count` is the history's length, and `least` the least number in the head and live.
-pub fn commit_flush(
-    now: &Listing,
-    next: &mut Listing,
-    files: FlushFiles,
-    rows: u32,
-    count: u64,
-    least: Option<u64>,
-)
-    requires { HasRoomFor 1 next.now now.now }
-    ensures listing { (u : State) (job : Flush) (firsts : List Row) →
-        IsListingOf now.now u → AreFilesOf files job →
-        least ≡ least_number (u.head ++ live_rows u.live) →
-        IsListingOf next.new (after_commit_flush count job rows firsts u) }
-    ensures others { TakesOneJob now.now next.new }
-    ensures room { KeepsRoom next.old next.new }
-{
-    let floor = floor_of(count, least);
-    let block = BlockRef {
-        file: files.block,
-        level: 0,
-        rows,
-    };
-    let last = SegmentRef {
-        file: files.segment,
-        first: count,
-    };
-    list_flush(
-        now.blocks.as_slice(),
-        now.segments.as_slice(),
-        now.loose.as_slice(),
-        next,
-        block,
-        last,
-        floor,
-    );
-    next.next_file = now.next_file;
-}
-
-/// The same from lists alone: `next` names these blocks with a block at the end, those of these segments with a last one
-/// that stay with the floor, and as loose these files and those of the other segments.
+/// A flush's commit: `next` names these blocks with a block at the end, those of these segments with a last one that stay with
+/// the floor, and as loose these files and those of the other segments.
 pub fn list_flush(
     blocks: &[BlockRef],
     segments: &[SegmentRef],
@@ -126,29 +80,7 @@ pub fn floor_of(count: u64, least: Option<u64>) -> u64
     }
 }
 
-/// A compaction's commit: `next` becomes what `now` is without the blocks in the job's files, which are loose then, and with its
-/// own block, of so many rows, at the end.
-pub fn commit_compact(now: &Listing, next: &mut Listing, joined: &[u32], block: BlockRef)
-    requires { HasRoomFor 1 next.now now.now }
-    ensures listing { (u : State) (job : Compaction) (firsts : List Row) → IsListingOf now.now u →
-        job.file ≡ block.file → job.level ≡ block.level → job_files job u ≡ joined.now →
-        IsListingOf next.new (after_commit_compact job block.rows firsts u) }
-    ensures others { TakesOneJob now.now next.new }
-    ensures room { KeepsRoom next.old next.new }
-{
-    list_compact(
-        now.blocks.as_slice(),
-        now.loose.as_slice(),
-        next,
-        joined,
-        block,
-    );
-    fill(&mut next.segments, now.segments.as_slice());
-    next.floor = now.floor;
-    next.next_file = now.next_file;
-}
-
-/// The same from lists alone: `next` names those of these blocks that aren't in the joined files, with a block at the end, and
+/// A compaction's commit: `next` names those of these blocks that aren't in the joined files, with a block at the end, and
 /// as loose these files and those of the other blocks. It leaves the segments, the floor and the next file alone.
 pub fn list_compact(
     blocks: &[BlockRef],
@@ -173,7 +105,7 @@ pub fn list_compact(
     put(&mut next.blocks, block);
 }
 
-/// The list that is committed. As loose it names also the files of the jobs that stay open. `listing_of` gives the listing back.
+/// The list that is committed. As loose it names also the files of the jobs that stay open.
 pub fn list_body(
     listing: Listing,
     generation: u8,
@@ -183,8 +115,6 @@ pub fn list_body(
     requires { length listing.loose.items + length (flush_part flush) + length (compaction_part compaction)
         ≤ vec_capacity listing.loose }
     ensures body { result ≡ listed_body generation listing flush compaction }
-    ensures loose { (u : State) → IsListingOf listing u → flush_part flush ≡ flush_files u.flush →
-        compaction_part compaction ≡ compaction_files u.compaction → result.loose ≡ listed_loose u }
 {
     let Listing {
         blocks,
@@ -229,39 +159,6 @@ fn put_compaction(loose: &mut Vec<u32>, compaction: Option<u32>)
     }
 }
 
-/// The listing of which `list_body` made the list, with the same jobs open. Its lists are moved and not copied.
-pub fn listing_of(body: ListBody, flush: Option<FlushFiles>, compaction: Option<u32>) -> Listing
-    ensures { (generation : ℕ) (listing : Listing) →
-        body ≡ listed_body generation listing flush compaction → NamesTheSame result listing }
-{
-    let ListBody {
-        generation: _,
-        next_file,
-        floor,
-        segments,
-        blocks,
-        loose,
-    } = body;
-    let mut loose = loose.into_vec();
-    loose.truncate(loose.len().saturating_sub(job_files(flush, compaction)));
-    Listing {
-        blocks: blocks.into_vec(),
-        segments: segments.into_vec(),
-        floor,
-        loose,
-        next_file,
-    }
-}
-
-// How many files open jobs have.
-fn job_files(flush: Option<FlushFiles>, compaction: Option<u32>) -> usize
-    ensures { result ≡ length (flush_part flush) + length (compaction_part compaction) }
-{
-    let flush = if flush.is_some() { 2 } else { 0 };
-    let compaction = if compaction.is_some() { 1 } else { 0 };
-    flush + compaction
-}
-
 impl Listing {
     /// An empty one, which has room for so many blocks, segments and loose files.
     pub fn with_room(
@@ -284,102 +181,5 @@ impl Listing {
             loose,
             next_file: 0,
         })
-    }
-
-    /// An empty one, which has room for what a flush and a compaction make of this one, in any order.
-    pub fn spare(&self, alloc: Global) -> Result<Listing, Memory>
-        ensures { IfOk result (λ spare. HasRoomFor 2 spare self.now) }
-    {
-        let (blocks, segments) = (self.blocks.len(), self.segments.len());
-        let loose = self.loose.len();
-        if loose > MOST_LISTED || segments > MOST_LISTED || blocks > MOST_LISTED {
-            return Err(Memory);
-        }
-        Listing::with_room(
-            alloc,
-            blocks + 2,
-            segments + 2,
-            loose + segments + blocks + 4,
-        )
-    }
-
-    /// Takes room in itself for what a flush and a compaction make of it, in any order.
-    pub fn reserve(&mut self) -> Result<(), Memory>
-        ensures more { OnOk result (HasRoomFor 2 self.new self.new) }
-        ensures same { NamesTheSame self.new self.old }
-        ensures room { KeepsRoom self.old self.new }
-    {
-        let (blocks, segments) = (self.blocks.len(), self.segments.len());
-        if segments > MOST_LISTED || blocks > MOST_LISTED {
-            return Err(Memory);
-        }
-        self.loose.reserve(segments + blocks + 4)?;
-        self.blocks.reserve(2)?;
-        self.segments.reserve(2)?;
-        Ok(())
-    }
-
-    /// Names what another one names, in its own room.
-    pub fn copy_from(&mut self, other: &Listing)
-        requires { HasRoomFor 0 self.now other.now }
-        ensures same { NamesTheSame self.new other.now }
-        ensures room { KeepsRoom self.old self.new }
-    {
-        fill(&mut self.blocks, other.blocks.as_slice());
-        fill(&mut self.segments, other.segments.as_slice());
-        self.floor = other.floor;
-        fill(&mut self.loose, other.loose.as_slice());
-        self.next_file = other.next_file;
-    }
-
-    /// The file numbers of a flush that begins: its block's first.
-    pub fn begin_flush(&mut self) -> FlushFiles
-        requires { self.now.next_file < 4294967294 }
-        ensures listing { (u : State) → IsListingOf self.old u →
-            AreFilesOf result (taken u) × IsListingOf self.new (after_begin_flush u) }
-        ensures lists { self.new ≡ record self.old { next_file = self.old.next_file + 2 } }
-    {
-        let block = self.next_file;
-        self.next_file += 2;
-        FlushFiles {
-            block,
-            segment: block + 1,
-        }
-    }
-
-    /// The file number of a compaction that begins.
-    pub fn begin_compact(&mut self) -> u32
-        requires { self.now.next_file < 4294967294 }
-        ensures file { result ≡ self.old.next_file }
-        ensures listing { (u : State) (pin : ℕ) → IsListingOf self.old u →
-            IsListingOf self.new (after_begin_compact pin u) }
-        ensures lists { self.new ≡ record self.old { next_file = self.old.next_file + 1 } }
-    {
-        let file = self.next_file;
-        self.next_file += 1;
-        file
-    }
-
-    /// A flush that is given up leaves its files loose.
-    pub fn drop_flush(&mut self, files: FlushFiles)
-        requires { vec_len self.now.loose + 2 ≤ vec_capacity self.now.loose }
-        ensures listing { (u : State) (job : Flush) → IsListingOf self.old u → AreFilesOf files job →
-            IsListingOf self.new (after_drop_flush job u) }
-        ensures others { TakesOneJob self.old self.new }
-        ensures room { KeepsRoom self.old self.new }
-    {
-        put(&mut self.loose, files.block);
-        put(&mut self.loose, files.segment);
-    }
-
-    /// A compaction that is given up leaves its file loose.
-    pub fn drop_compact(&mut self, file: u32)
-        requires { vec_len self.now.loose + 1 ≤ vec_capacity self.now.loose }
-        ensures listing { (u : State) (job : Compaction) → IsListingOf self.old u → job.file ≡ file →
-            IsListingOf self.new (after_drop_compact job u) }
-        ensures others { TakesOneJob self.old self.new }
-        ensures room { KeepsRoom self.old self.new }
-    {
-        put(&mut self.loose, file);
     }
 }

@@ -6,20 +6,16 @@ mod blocks;
 #[cfg(test)]
 mod compacting;
 #[cfg(test)]
-mod events;
-#[cfg(test)]
 mod flushing;
 #[cfg(test)]
 mod frames;
+#[cfg(test)]
+mod lists;
 #[cfg(test)]
 mod live;
 #[cfg(test)]
 mod opening;
 #[cfg(test)]
-mod pages;
-#[cfg(test)]
 mod pushes;
 #[cfg(test)]
 mod store;
-#[cfg(test)]
-mod upkeep;
