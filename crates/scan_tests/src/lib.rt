@@ -12,3 +12,5 @@ mod model;
 mod plays;
 #[cfg(test)]
 mod repeats;
+#[cfg(test)]
+mod sieves;

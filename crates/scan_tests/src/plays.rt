@@ -26,7 +26,7 @@ impl Dice {
     }
 }
 
-const QUERIES: [&str; 12] = [
+const QUERIES: [&str; 20] = [
     "{ }",
     "{ name = \"a\" }",
     "{ .v = \"x\" }",
@@ -39,6 +39,14 @@ const QUERIES: [&str; 12] = [
     "{ name = \"a\" } && { .v = \"y\" }",
     "{ name != \"a\" }",
     "{ duration > 5ns && resource.r = \"q\" }",
+    "{ status = error }",
+    "{ kind = server && status != ok }",
+    "{ duration >= 5ns }",
+    "{ status = error && name = \"a\" }",
+    "{ !(kind = client) && .v = \"y\" && duration < 7ns }",
+    "{ duration > 1s }",
+    "{ status = error } && { kind = server }",
+    "{ kind = server || status = error } | count() > 1",
 ];
 
 const OPTIONS: [&str; 8] = [
@@ -74,8 +82,10 @@ fn span(alloc: Global, dice: &mut Dice, sizes: Sizes) -> Result<String, Memory> 
     let value = dice.one_of(&["x", "y"]);
     let start = dice.roll(60);
     let end = start.wrapping_add(dice.roll(10));
+    let kind = dice.roll(6);
+    let status = dice.roll(3);
     let text = format!(in alloc;
-        "{{\"traceId\":\"{trace:032x}\",\"spanId\":\"{id:016x}\",\"parentSpanId\":\"{}\",\"name\":\"{name}\",\
+        "{{\"traceId\":\"{trace:032x}\",\"spanId\":\"{id:016x}\",\"parentSpanId\":\"{}\",\"name\":\"{name}\",\"kind\":{kind},\"status\":{{\"code\":{status}}},\
          \"startTimeUnixNano\":\"{start}\",\"endTimeUnixNano\":\"{end}\",\
          \"attributes\":[{{\"key\":\"v\",\"value\":{{\"stringValue\":\"{value}\"}}}}]}}",
         parent.as_str()

@@ -6,11 +6,12 @@ use span_types::Memory;
 use std::alloc::Global;
 use std::test::Fail;
 
-/// A push of the span b1 of a trace, which is given by its last byte.
+/// A push of the span b1 of a trace, which is given by its last byte. Its status is `ok` if it is named `old`, else `error`.
 fn push(alloc: Global, trace: &str, name: &str, start: u64, end: u64) -> Result<String, Memory> {
+    let status = if name == "old" { 1 } else { 2 };
     Ok(format!(in alloc;
         "push {{\"resourceSpans\":[{{\"scopeSpans\":[{{\"spans\":[{{\"traceId\":\"000000000000000000000000000000{trace}\",\
-         \"spanId\":\"00000000000000b1\",\"parentSpanId\":\"\",\"name\":\"{name}\",\"startTimeUnixNano\":\"{start}\",\
+         \"spanId\":\"00000000000000b1\",\"parentSpanId\":\"\",\"name\":\"{name}\",\"status\":{{\"code\":{status}}},\"startTimeUnixNano\":\"{start}\",\
          \"endTimeUnixNano\":\"{end}\"}}]}}]}}]}}\n"
     )?)
 }
@@ -22,7 +23,7 @@ const OLD: &str =
 const NOTHING: &str = r#"ok search as_of=3 traces=0 {"traces":[]}"#;
 
 /// Searches, and what each is to be told. The trace a2 starts at 80, between the first copy's start and the later one's.
-const SEARCHES: [(&str, &str); 5] = [
+const SEARCHES: [(&str, &str); 8] = [
     ("search limit=1 { }", OLD),
     ("search { name = \"new\" }", NOTHING),
     ("search { name = \"old\" }", OLD),
@@ -31,6 +32,12 @@ const SEARCHES: [(&str, &str); 5] = [
         NOTHING,
     ),
     ("search start=1970-01-01T00:00:00.0000001Z { }", OLD),
+    ("search { status = ok }", OLD),
+    ("search { status = error && name != \"y\" }", NOTHING),
+    (
+        "search { status = ok && duration = 10ns && name = \"old\" }",
+        OLD,
+    ),
 ];
 
 // What becomes of the first copy, of the later one, and in the end.
