@@ -1,5 +1,5 @@
 -- What is told of a whole stripe.
-use Rattle.std.proofs.Common.{◌≡◌, ℕ, ◌+◌, ◌-◌, ◌≤◌, Bool, true, false, cond, List, [], length, take, drop, Option, None, Ok, Err, refl, sym, ◌∙◌, ap, subst, arith}
+use Rattle.std.proofs.Common.{◌≡◌, ℕ, ◌+◌, ◌-◌, ◌≤◌, Bool, true, false, cond, List, [], length, take, drop, Option, None, Result, Ok, Err, refl, sym, ◌∙◌, ap, subst, arith}
 use Rattle.std.specs.List.{list_any, position_or_len}
 use Rattle.std.specs.Str.{bytes_eq}
 use Rattle.std.proofs.lemmas.Bool.{eq-eqb, le-leb}
@@ -74,7 +74,7 @@ assoc : {A B C : Type 0} (r : Result A ℕ) (f : A → Result B ℕ) (g : B → 
 assoc (Ok x) f g = refl
 assoc (Err at) f g = refl
 
-if_ordered : List Row → Result (List Row) ℕ
+abbrev if_ordered : List Row → Result (List Row) ℕ
 if_ordered rows = cond (ascend rows) (Ok rows) (Err 0)
 
 -- a stripe is read where its rows are in order
@@ -88,11 +88,12 @@ pub ordered_told : (extended : Bool) (bytes : List ℕ) (k : Sketch) → TellsAl
 ordered_told extended bytes k told order =
     (told.0, ordered_of extended bytes ∙ ap (λ (r : Result (List Row) ℕ). r >>= if_ordered) told.1 ∙ ap (λ (b : Bool). cond b (Ok told.0) (Err 0)) (order told.0 told.2), told.2)
 
+only_ok : {A : Type 0} (b : Bool) (x y : A) (r : Result A ℕ) → r ≡ cond b (Ok x) (Err 0) → r ≡ Ok y → x ≡ y
+only_ok true x y r is ok = let same : Ok x ≡ Ok y = sym is ∙ ok in cc
+only_ok false x y r is ok = let same : Err 0 ≡ Ok y = sym is ∙ ok in cc
+
 -- what is told of the rows in whatever order is told of those that are read
 pub read_unordered : (extended : Bool) (bytes : List ℕ) (rows : List Row) → stripe_at extended bytes ≡ Ok rows → unordered_at extended bytes ≡ Ok rows
 read_unordered extended bytes rows is =
     let a = bound (unordered_at extended bytes) if_ordered rows (sym (ordered_of extended bytes) ∙ is) in
-    a.first ∙ (elim (ascend a.value) as (λ b. cond b (Ok a.value) (Err 0) ≡ Ok rows → Ok a.value ≡ Ok rows) [
-      | true ↦ λ same. same
-      | false ↦ λ same. cc
-    ]) a.last
+    a.first ∙ ap Ok (only_ok (ascend a.value) a.value rows (if_ordered a.value) refl a.last)
