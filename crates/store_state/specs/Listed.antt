@@ -1,5 +1,5 @@
 -- What a list names of a state of the machine.
-use Rattle.std.specs.Prelude.{ℕ, ◌+◌, ◌<◌, ◌≤◌, ◌×◌, min, List, [], ◌∷◌, ◌++◌, Option, None, Some, take, drop}
+use Rattle.std.specs.Prelude.{ℕ, ◌+◌, ◌<◌, ◌≤◌, min, List, [], ◌∷◌, ◌++◌, Option, None, Some, take, drop}
 use Rattle.std.specs.Vec.{vec_capacity}
 use Rattle.block_list.specs.declared.body.BlockRef.{BlockRef}
 use Rattle.block_list.specs.declared.body.SegmentRef.{SegmentRef}
