@@ -71,7 +71,13 @@ fn a_search_reads_what_may_match(rt: HostRuntime) -> Result<(), Memory> {
         ("search start=1970-01-01T00:00:00.000000009Z { }", 0),
         ("search end=1970-01-01T00:00:00.000000001Z { }", 0),
         ("search { name = \"y\" }", 1),
-        ("search { duration > 1s }", 3),
+        ("search { duration > 1s }", 1),
+        ("search { duration > 1s && .v = 1 }", 1),
+        ("search { traceDuration > 1s }", 3),
+        (
+            "search start=1970-01-01T00:00:00.000000001Z { duration > 1s }",
+            3,
+        ),
     ] {
         let reads = reads_for(&rt, alloc, &mut disk, input, nothing)?;
         assert_eq!(rt; reads, Some(most), "{input}");

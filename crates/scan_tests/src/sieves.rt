@@ -9,14 +9,14 @@ use std::test::Fail;
 use traceql_parse::parse;
 use traceql_types::{RegexMaker, check};
 
-/// A server's span that failed, 1 to 11 ns; a client's that went well, 2 to 7 ns; and one that says neither and took no time, at 3 ns.
+/// A server's span that failed, 1 to 11 ns; a client's that went well, 2 to 7 ns; and one that says neither and ends before it starts.
 const SPANS: &str =
     r#"{"traceId":"000000000000000000000000000000a1","spanId":"00000000000000b1","name":"a","kind":2,"status":{"code":2},"startTimeUnixNano":"1","endTimeUnixNano":"11"},
 {"traceId":"000000000000000000000000000000a2","spanId":"00000000000000b1","name":"b","kind":3,"status":{"code":1},"startTimeUnixNano":"2","endTimeUnixNano":"7"},
-{"traceId":"000000000000000000000000000000a3","spanId":"00000000000000b1","name":"c","startTimeUnixNano":"3","endTimeUnixNano":"3"}"#;
+{"traceId":"000000000000000000000000000000a3","spanId":"00000000000000b1","name":"c","startTimeUnixNano":"3","endTimeUnixNano":"2"}"#;
 
 /// Queries, the first moment of the range, and the last bytes of the traces that are picked.
-const PICKED: [(&str, u64, &[u8]); 20] = [
+const PICKED: [(&str, u64, &[u8]); 21] = [
     ("{ }", 0, &[0xa1, 0xa2, 0xa3]),
     ("{ status = error }", 0, &[0xa1]),
     ("{ span:status != error }", 0, &[0xa2, 0xa3]),
@@ -29,6 +29,7 @@ const PICKED: [(&str, u64, &[u8]); 20] = [
     ("{ .x = 1 || status = error }", 0, &[0xa1, 0xa2, 0xa3]),
     ("{ duration > 1ns && kind != server && .x = 1 }", 0, &[0xa2]),
     ("{ duration > 1h }", 0, &[]),
+    ("{ duration = 0ns && status = unset }", 0, &[0xa3]),
     ("{ status = error && name = \"b\" }", 0, &[]),
     ("{ status = ok && name = \"b\" }", 0, &[0xa2]),
     ("{ traceDuration > 1h }", 0, &[0xa1, 0xa2, 0xa3]),
