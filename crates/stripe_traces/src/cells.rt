@@ -1,27 +1,60 @@
 //! The columns of a stripe, of which the rows of wanted traces are made.
 
-ghost use Rattle.std.specs.Prelude.{◌≡◌, IfOk, IfSome, length, map, true};
-ghost use Rattle.block_stripes.specs.StripeReadings.{cells_at};
-ghost use Rattle.stripe_skims.specs.Sure.{AreApart};
-ghost use Rattle.stripe_skims.specs.Walks.{TellsCells};
-ghost use Rattle.stripe_traces.specs.Chosen.{chosen};
-ghost use Rattle.stripe_traces.specs.Wanted.{AreInOrder, HasTraces, is_one_of};
+ghost use Rattle.stripe_traces.specs.Wanted.{AreInOrder, HasTraces};
 
-use crate::choices::{BothChoices, Choose, One, OwnedChoice};
+use crate::choices::Choose;
+use crate::columns::{OwnerColumns, SpanColumns};
+use crate::marks::mark_rows;
 use crate::traces::StripeTraces;
-use block_columns::{Fields, Referred, beside, column};
-use block_stripes::kinds::{
-    AttrLists, EventLists, LinkLists, Moments, Numbers, Parents, Positions, Resources, Scopes,
-    SpanIds, SpanKinds, Statuses, TraceIds,
-};
+use block_columns::{Fields, beside, column};
+use block_stripes::kinds::TraceIds;
 use block_stripes::{Listed, rows_of_cells};
 use span_types::{SharedResource, SharedScope, Text, TraceId};
 use std::alloc::Global;
-use stripe_skims::{Dropped, Events, Links, Pass, References, Walk, pass_list, stamps_of};
+use stripe_skims::Walk;
 
-/// Some traces, whose ids ascend.
+/// Some traces.
 #[derive(Drop)]
 pub struct Wanted<'i> {
     /// Their ids.
     pub ids: &'i [TraceId],
+    ghost in_order: { AreInOrder ids.now },
+}
+
+impl<'i> Walk for Wanted<'i> {
+    type Seen = StripeTraces;
+
+    ghost tells = { λ w. HasTraces w.ids.now };
+
+    fn columns(
+        &self,
+        alloc: Global,
+        fields: &mut Fields,
+        texts: &[Text],
+        extended: bool,
+        resources: Listed<SharedResource>,
+        scopes: Listed<SharedScope>,
+        count: u64,
+    ) -> Option<StripeTraces> {
+        let Ok(traces) = column(alloc, fields, &TraceIds, count) else {
+            return None;
+        };
+        let marked = mark_rows(alloc, traces.as_slice(), self.ids)?;
+        let owners = OwnerColumns {
+            texts,
+            extended,
+            resources,
+            scopes,
+        };
+        let columns = SpanColumns { owners };
+        let further = columns.choose(alloc, fields, marked.wanted.as_slice())?;
+        let Ok(cells) = beside(alloc, marked.traces, further) else {
+            return None;
+        };
+        let Ok(rows) = rows_of_cells(alloc, cells) else {
+            return None;
+        };
+        let last = traces.as_slice().last().copied();
+        Some(StripeTraces { rows, last })
+    }
 }

@@ -11,7 +11,7 @@ use std::alloc::Global;
 use stripe_skims::{Pass, References};
 
 /// Columns of rows, some of which are wanted.
-pub trait Choose {
+pub trait Choose: Drop {
     /// What a row has of them.
     type Item: Drop;
 
@@ -22,15 +22,10 @@ pub trait Choose {
     ghost ready: { Self → Type 0 };
 
     /// Goes over as many rows as there are marks, and gives what the marked ones have. None says nothing.
-    fn choose(
-        &mut self,
-        alloc: Global,
-        fields: &mut Fields,
-        wanted: &[bool],
-    ) -> Option<Vec<Self::Item>>
-        requires { ready self.old }
-        ensures { IfSome result (λ seen. Skims (λ items seen. AreChosen wanted.now items seen) (length wanted.now)
-            (reading self.old (length wanted.now) fields.old) seen.items fields.new) };
+    fn choose(self, alloc: Global, fields: &mut Fields, wanted: &[bool]) -> Option<Vec<Self::Item>>
+        requires { ready self }
+        ensures { IfSome result (λ seen. Skims (AreChosen wanted.now) (length wanted.now)
+            (reading self (length wanted.now) fields.old) seen.items fields.new) };
 }
 
 /// One column: how its values are read, and how they are passed over.
@@ -42,24 +37,20 @@ pub struct One<K, P> {
     pub pass: P,
 }
 
-impl<K: Kind, P: Pass<Item = K::Item>> Choose for One<K, P> {
+impl<K: Kind + Drop, P: Pass<Item = K::Item> + Drop> Choose for One<K, P> {
     type Item = K::Item;
 
     ghost reading = { λ c n s. column_at (K.reading c.kind) n s };
 
     ghost ready = { λ c. P.ready c.pass × ((s : Spot) → P.reading c.pass s ≡ K.reading c.kind s) };
 
-    fn choose(
-        &mut self,
-        alloc: Global,
-        fields: &mut Fields,
-        wanted: &[bool],
-    ) -> Option<Vec<K::Item>> {
-        choose_items(alloc, fields, &self.kind, &mut self.pass, wanted)
+    fn choose(self, alloc: Global, fields: &mut Fields, wanted: &[bool]) -> Option<Vec<K::Item>> {
+        let mut pass = self.pass;
+        choose_items(alloc, fields, &self.kind, &mut pass, wanted)
     }
 }
 
-/// The values of one column that are wanted.
+/// The wanted values of one column.
 fn choose_items<K: Kind, P: Pass<Item = K::Item>>(
     alloc: Global,
     fields: &mut Fields,
@@ -69,7 +60,7 @@ fn choose_items<K: Kind, P: Pass<Item = K::Item>>(
 ) -> Option<Vec<K::Item>>
     requires ready { P.ready pass.old }
     requires alike { (s : Spot) → P.reading pass.old s ≡ K.reading kind.now s }
-    ensures { IfSome result (λ seen. Skims (λ items seen. AreChosen wanted.now items seen) (length wanted.now)
+    ensures { IfSome result (λ seen. Skims (AreChosen wanted.now) (length wanted.now)
         (column_at (K.reading kind.now) (length wanted.now) fields.old) seen.items fields.new) }
 {
     let mut values = Vec::new(alloc);
@@ -105,7 +96,7 @@ impl<L: Choose, R: Choose> Choose for BothChoices<L, R> {
     ghost ready = { λ c. L.ready c.left × R.ready c.right };
 
     fn choose(
-        &mut self,
+        self,
         alloc: Global,
         fields: &mut Fields,
         wanted: &[bool],
@@ -130,14 +121,14 @@ pub struct OwnedChoice<'t, T, K> {
     pub kind: K,
 }
 
-impl<'t, T: TryCopy, K: Kind> Choose for OwnedChoice<'t, T, K> {
+impl<'t, T: TryCopy, K: Kind + Drop> Choose for OwnedChoice<'t, T, K> {
     type Item = T;
 
     ghost reading = { λ o n s. owners_at (K.reading o.kind) o.list o.table.now n s };
 
     ghost ready = { λ _. Unit {0} };
 
-    fn choose(&mut self, alloc: Global, fields: &mut Fields, wanted: &[bool]) -> Option<Vec<T>> {
+    fn choose(self, alloc: Global, fields: &mut Fields, wanted: &[bool]) -> Option<Vec<T>> {
         let outer = fields.used();
         fields.count_from(0);
         let kind = Referred { table: self.table };

@@ -1,0 +1,4 @@
+mod ChosenLaws
+pub mod IdLaws
+mod MarkLaws
+mod RowLaws
