@@ -1,4 +1,3 @@
 mod ChosenLaws
 pub mod IdLaws
-mod MarkLaws
 mod RowLaws
