@@ -6,7 +6,7 @@ ghost use Rattle.stripe_skims.specs.Sure.{AreApart};
 ghost use Rattle.stripe_traces.specs.Columns.{lists_from, names_from, spans_from, times_from};
 
 use crate::choices::{BothChoices, Choose, One, OwnedChoice};
-use crate::passes::{EventPass, LinkPass, attr_lists};
+use crate::passes::{EventPass, LinkPass, Within, attr_lists};
 use block_columns::{Fields, Referred};
 use block_stripes::Listed;
 use block_stripes::kinds::{
@@ -143,6 +143,7 @@ impl<'t> Choose for OwnerColumns<'t> {
 /// The columns of starts, ends, statuses and messages, and those after them.
 #[derive(Drop)]
 struct TimeColumns<'t> {
+    moments: Within,
     owners: OwnerColumns<'t>,
 }
 
@@ -158,7 +159,7 @@ impl<'t> Choose for TimeColumns<'t> {
         let texts = self.owners.texts;
         let starts = One {
             kind: Moments,
-            pass: Dropped { kind: Moments },
+            pass: self.moments,
         };
         let ends = One {
             kind: Moments,
@@ -193,6 +194,7 @@ impl<'t> Choose for TimeColumns<'t> {
 /// The columns of pushes, positions, names and kinds, and those after them.
 #[derive(Drop)]
 struct NameColumns<'t> {
+    moments: Within,
     owners: OwnerColumns<'t>,
 }
 
@@ -227,6 +229,7 @@ impl<'t> Choose for NameColumns<'t> {
             right: BothChoices {
                 left: kinds,
                 right: TimeColumns {
+                    moments: self.moments,
                     owners: self.owners,
                 },
             },
@@ -245,6 +248,8 @@ impl<'t> Choose for NameColumns<'t> {
 /// All columns but that of the traces: spans and parents, and those after them.
 #[derive(Drop)]
 pub struct SpanColumns<'t> {
+    /// Between which moments the other rows start.
+    pub moments: Within,
     /// The last ones, from that of the resources on.
     pub owners: OwnerColumns<'t>,
 }
@@ -271,6 +276,7 @@ impl<'t> Choose for SpanColumns<'t> {
             right: BothChoices {
                 left: parents,
                 right: NameColumns {
+                    moments: self.moments,
                     owners: self.owners,
                 },
             },

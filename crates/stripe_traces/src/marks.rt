@@ -40,6 +40,13 @@ pub fn mark_rows(alloc: Global, traces: &[TraceId], ids: &[TraceId]) -> Option<M
     })
 }
 
+/// Whether no id comes after one that it is below.
+pub fn ascend(ids: &[TraceId]) -> bool {
+    ids.iter()
+        .zip(ids.iter().skip(1))
+        .all(|(id, next)| id <= next)
+}
+
 /// Whether the id is one of these, which ascend.
 fn is_among(id: TraceId, ids: &[TraceId]) -> bool
     requires { AreInOrder ids.now }

@@ -1,8 +1,9 @@
-//! Passing over the attributes, the events and the links of rows.
+//! Passing over the starts, the attributes, the events and the links of rows.
 
 ghost use Rattle.std.specs.Prelude.{◌≡◌, IfSome};
 ghost use Rattle.block_columns.specs.ColumnReadings.{counted_at, only_if_at};
 ghost use Rattle.block_parts.specs.PartReadings.{event_with, link_with};
+ghost use Rattle.block_stripes.specs.StripeReadings.{moment_at};
 ghost use Rattle.stripe_skims.specs.Sure.{AreApart, AreReady};
 
 use block_columns::Fields;
@@ -22,6 +23,30 @@ pub fn attr_lists<'t>(alloc: Global, texts: &'t [Text]) -> Option<AttrLists<'t>>
         stamps,
         list: 1,
     })
+}
+
+/// Moments from one to another, both among them. One before or after them is not passed over.
+#[derive(Drop)]
+pub struct Within {
+    /// The first, in nanoseconds since 1970.
+    pub earliest: u64,
+    /// The last.
+    pub latest: u64,
+}
+
+impl Pass for Within {
+    type Item = u64;
+
+    ghost reading = { λ _. moment_at };
+
+    ghost ready = { λ _. Unit {0} };
+
+    fn pass(&mut self, fields: &mut Fields) -> bool {
+        match fields.moment() {
+            Ok(moment) => self.earliest <= moment && moment <= self.latest,
+            Err(_) => false,
+        }
+    }
 }
 
 /// Lists of events, for which there are bytes in form 2 alone.

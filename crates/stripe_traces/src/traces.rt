@@ -6,6 +6,7 @@ ghost use Rattle.block_stripes.specs.StripeReadings.{stripe_at};
 ghost use Rattle.stripe_traces.specs.Wanted.{AreInOrder, HasTraces, rows_of_traces};
 
 use crate::cells::Wanted;
+use block_info::StripeInfo;
 use span_types::{Row, TraceId};
 use std::alloc::Global;
 use stripe_skims::go_over;
@@ -20,11 +21,12 @@ pub struct StripeTraces {
 }
 
 /// The rows of these traces in a stripe, in form 1, or in form 2, which has events and links. Their ids ascend, each once. No other
-/// row is made. None says nothing: the stripe is malformed, or memory was wanted.
+/// row is made. None says nothing: the stripe is malformed, is another one than `entry` tells of, or memory was wanted.
 pub fn traces_of_stripe(
     alloc: Global,
     bytes: &[u8],
     extended: bool,
+    entry: &StripeInfo,
     ids: &[TraceId],
 ) -> Option<StripeTraces>
     requires { AreInOrder ids.now }
@@ -32,5 +34,14 @@ pub fn traces_of_stripe(
         → HasTraces ids.now rows found) }
     ensures of_traces { IfSome result (λ found. rows_of_traces ids.now found.rows.items ≡ found.rows.items) }
 {
-    go_over(alloc, bytes, extended, &Wanted { ids })
+    let found = go_over(alloc, bytes, extended, &Wanted { ids, entry })?;
+    if !start_within(found.rows.as_slice(), entry) {
+        return None;
+    }
+    Some(found)
+}
+
+/// Whether the rows start between the stripe's earliest and latest start.
+fn start_within(rows: &[Row], entry: &StripeInfo) -> bool {
+    rows.iter().all(|row| entry.earliest <= row.span.start && row.span.start <= entry.latest)
 }
