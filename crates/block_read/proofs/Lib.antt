@@ -14,4 +14,5 @@ pub mod DescribedLaws
 pub mod TogetherLaws
 pub mod TraceWalk
 mod FilterLaws
+pub mod KeptRows
 mod SketchWalk

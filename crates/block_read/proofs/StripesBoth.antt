@@ -56,6 +56,10 @@ sized extended part rows are is =
     let whole : length part ≡ length text + fill_size (length text) = ap length is ∙ length-append text fill ∙ ap (λ (k : ℕ). length text + k) (length-replicate {A = ℕ} (fill_size (length text)) 0) in
     record { size = (n, ahead (length (fixed64_bytes n)) start); read = first; pages = omega (arith, whole, long) }
 
+-- a stripe by itself is read as its rows
+pub part_read : (form : ℕ) (entry : StripeInfo) (part : List ℕ) (rows : List Row) → StripeHasEntry form entry part rows → stripe_at (is_extended form) part ≡ Ok rows
+part_read form entry part rows has = again_stripe (is_extended form) part rows has.holds.bytes_fit has.holds.rows_are has.holds.bytes_are
+
 pub stripe_again : (form : ℕ) (entry : StripeInfo) (last : Option Row) (part : List ℕ) (rows : List Row) → StripeHasEntry form entry part rows → follow last rows ≡ true → stripe_of form entry last part ≡ Ok rows
 unfolding stripe_of
 stripe_again form entry last part rows has behind =
@@ -63,7 +67,7 @@ stripe_again form entry last part rows has behind =
     let s = sized extended part rows has.holds.rows_are has.holds.bytes_are in
     let pages : div_ceil (8 + s.size.0) 4096 ≡ entry.pages = (let a = s.pages in let b = has.pages in omega (arith, a, b)) in
     let first = passed (eqb (div_ceil (8 + s.size.0) 4096) entry.pages) 0 s.size (eq-eqb (div_ceil (8 + s.size.0) 4096) entry.pages pages) in
-    let read = again_stripe extended part rows has.holds.bytes_fit has.holds.rows_are has.holds.bytes_are in
+    let read = part_read form entry part rows has in
     let are : Agree entry rows = record { count = has.count; earliest = has.earliest; latest = has.latest } in
     let agree = agree_passes entry rows are in
     let same : agreeing entry part (within part (stripe_at extended part)) ≡ Ok rows = ap (λ (r : Result (List Row) ℕ). agreeing entry part (within part r)) read ∙ passed (agrees entry (starts rows)) 0 rows agree in

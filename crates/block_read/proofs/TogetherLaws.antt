@@ -17,7 +17,7 @@ use Rattle.block_format.specs.Blocks.{ids_of}
 use Rattle.block_index.specs.Index.{AreAscending, is_same}
 use Rattle.rows_by_trace.specs.Traces.{is_of_trace, rows_of_trace}
 
-total : IsTotalOrder trace_cmp
+pub total : IsTotalOrder trace_cmp
 total = on_total (λ (t : TraceId). t.0) nat_list_cmp_total
 
 turned_eq : (o : Ordering) → is_eq (ordering_reverse o) ≡ is_eq o
@@ -192,24 +192,6 @@ any_there id (x ∷ rows) some = (elim (is_of_trace id x) as (λ b. is_of_trace 
       let same : length (rows_of_trace id (x ∷ rows)) ≡ length (rows_of_trace id rows) = rw t refl in
       ap (λ (b : Bool). b || list_any (is_of_trace id) rows) t ∙ any_there id rows (omega (arith, some, same))
 ]) refl
-
-again : (id : TraceId) (rows : List Row) → rows_of_trace id (rows_of_trace id rows) ≡ rows_of_trace id rows
-again id [] = refl
-again id (x ∷ rows) = (elim (is_of_trace id x) as (λ b. is_of_trace id x ≡ b → rows_of_trace id (rows_of_trace id (x ∷ rows)) ≡ rows_of_trace id (x ∷ rows)) [
-  | true ↦ λ t.
-      let one : rows_of_trace id (x ∷ rows) ≡ x ∷ rows_of_trace id rows = rw t refl in
-      let two : rows_of_trace id (x ∷ rows_of_trace id rows) ≡ x ∷ rows_of_trace id (rows_of_trace id rows) = rw t refl in
-      ap (rows_of_trace id) one ∙ two ∙ ap (λ (l : List Row). x ∷ l) (again id rows) ∙ sym one
-  | false ↦ λ t.
-      let one : rows_of_trace id (x ∷ rows) ≡ rows_of_trace id rows = rw t refl in
-      ap (rows_of_trace id) one ∙ again id rows ∙ sym one
-]) refl
-
--- rows of the trace, and more of them
-pub more_of_trace : (id : TraceId) (old more new : List Row) → new ≡ old ++ rows_of_trace id more → rows_of_trace id old ≡ old → rows_of_trace id new ≡ new
-more_of_trace id old more new is all =
-    ap (rows_of_trace id) is ∙ filter-append (is_of_trace id) old (rows_of_trace id more) ∙ ap (λ (l : List Row). l ++ rows_of_trace id (rows_of_trace id more)) all
-    ∙ ap (λ (l : List Row). old ++ l) (again id more) ∙ sym is
 
 -- ---- parts of the rows
 

@@ -29,6 +29,12 @@ part_whole : (held : List ℕ) (page pages : ℕ) → length (part_of page pages
 part_whole held page pages size =
     take-append-le (4096 * pages) (drop (4096 * page) held) (replicate (4096 * pages) 0) (omega (arith, size, length-take (4096 * pages) (drop (4096 * page) held)))
 
+-- what stands for rows in the file does in the bytes that were read
+pub part_told : (form : ℕ) (entry : StripeInfo) (held bytes : List ℕ) (rows : List Row) → StripeHasEntry form entry (part_of entry.page entry.pages held) rows → bytes ≡ first_bytes (4096 * entry.pages) (drop (4096 * entry.page) held)
+    → StripeHasEntry form entry bytes rows
+part_told form entry held bytes rows has is =
+    subst (λ (l : List ℕ). StripeHasEntry form entry l rows) (sym (is ∙ part_whole held entry.page entry.pages has.pages)) has
+
 -- a stripe's pages are read as its rows
 pub stripe_told : (form : ℕ) (entry : StripeInfo) (held bytes : List ℕ) (rows : List Row) → StripeHasEntry form entry (part_of entry.page entry.pages held) rows → bytes ≡ first_bytes (4096 * entry.pages) (drop (4096 * entry.page) held)
     → stripe_of form entry None bytes ≡ Ok rows

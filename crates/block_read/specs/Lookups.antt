@@ -11,6 +11,8 @@ use Rattle.block_info.specs.InfoParts.{InfoParts}
 use Rattle.block_index.specs.Index.{AreAscending, AreIds, entries, entries_on, index_bytes, is_same, page_entries}
 use Rattle.block_index.specs.Pages.{page_at}
 use Rattle.block_format.specs.Blocks.{BlockHasInfo, ids_of}
+use Rattle.stripe_traces.specs.Wanted.{HasTraces}
+use Rattle.stripe_traces.specs.declared.traces.StripeTraces.{StripeTraces}
 use Rattle.block_read.specs.Files.{page_of}
 use Rattle.block_read.specs.declared.error.ReadError.{ReadError}
 use Rattle.block_read.specs.declared.error.ReadError.TheVariants.{Fault, NotBlock, Memory}
@@ -36,6 +38,13 @@ Finds wanted (Ok x) = x ≡ wanted
 Finds wanted (Err Fault) = Unit {0}
 Finds wanted (Err (NotBlock file at)) = ⊥
 Finds wanted (Err Memory) = Unit {0}
+
+-- Of these rows those of the traces are found, with the trace of the last row, and the pages aren't found to be no block.
+abbrev pub FindsTraces : List TraceId → List Row → Result StripeTraces ReadError → Type 0
+FindsTraces ids rows (Ok x) = HasTraces ids rows x
+FindsTraces ids rows (Err Fault) = Unit {0}
+FindsTraces ids rows (Err (NotBlock file at)) = ⊥
+FindsTraces ids rows (Err Memory) = Unit {0}
 
 -- a block that is found to be none is the one in this file
 abbrev pub IsInFile : {A : Type 0} → ℕ → Result A ReadError → Type 0

@@ -4,8 +4,8 @@
 //!
 //! - Reading a whole block: `file`, `header`, `stripes`, `indexed`, `block`, and `checking`, which keeps no rows, and by
 //!   `sketches` makes none where it is sure without them.
-//! - Looking up a trace: `lookup` asks the filters and the index where it is, `parts` reads one stripe, `traces`
-//!   walks over the stripes that hold it.
+//! - Looking up a trace: `lookup` asks the filters and the index where it is, `parts` reads one stripe, or of its rows
+//!   those of some traces, by `kept` where all rows had to be made; `traces` walks over the stripes that hold a trace.
 //! - `laws` says that what a block stands for is read, and nothing else.
 //!
 //! `docs/BLOCK-FORMAT.md` has the bytes and where they are malformed; the definition of reading is in
@@ -19,6 +19,7 @@ mod error;
 mod file;
 mod header;
 mod indexed;
+mod kept;
 mod laws;
 mod lookup;
 mod memory;
@@ -36,4 +37,5 @@ pub use laws::{described_block_is_read, held_block_is_read, read_block_is_held};
 pub use lookup::find_trace;
 pub use memory::MemPages;
 pub use pages::Pages;
-pub use parts::{rows_of_bytes, rows_of_stripe, stripe_bytes};
+pub use parts::{rows_of_bytes, stripe_bytes, traces_of_part};
+pub use traces::stripes_of;

@@ -7,42 +7,76 @@ ghost use Rattle.block_format.specs.Blocks.{StripeHasEntry};
 ghost use Rattle.block_read.specs.Answers.{RoseAtMost, is_fault, is_unread};
 ghost use Rattle.block_read.specs.BlockReadings.{stripe_of};
 ghost use Rattle.block_read.specs.Files.{first_bytes, part_of};
-ghost use Rattle.block_read.specs.Lookups.{Finds, IsInFile};
+ghost use Rattle.block_read.specs.Lookups.{Finds, FindsTraces, IsInFile};
 ghost use Rattle.block_read.specs.PageReads.{OnlyReads};
+ghost use Rattle.stripe_traces.specs.Wanted.{AreInOrder, rows_of_traces};
 
 use crate::file::{Unread, bytes_from};
+use crate::kept::keep;
 use crate::stripes::stripe;
 use crate::{Pages, ReadError};
 use block_info::StripeInfo;
 use span_fields::Break;
-use span_types::{Row, Rows};
+use span_types::{Row, Rows, TraceId};
 use std::alloc::Global;
+use stripe_traces::{StripeTraces, traces_of_stripe};
 
 const PAGE_BYTES: u64 = 4096;
 
-/// The rows of a stripe of a block.
+/// Those rows of a stripe of a block that are of these traces, whose ids ascend, and the trace of the stripe's last row.
 ///
 /// [`ReadError::NotBlock`] comes only if the pages are no such stripe.
-pub fn rows_of_stripe<P: Pages>(
+pub fn traces_of_part<P: Pages>(
     alloc: Global,
     pages: &mut P,
     block: u32,
     form: u8,
     entry: &StripeInfo,
-) -> Result<Rows, ReadError>
+    ids: &[TraceId],
+) -> Result<StripeTraces, ReadError>
     requires ready { P.ready pages.old block }
     requires near { entry.now.page + entry.now.pages < 2 ^ 52 }
+    requires in_order { AreInOrder ids.now }
     ensures answers { IsTrue (P.tells pages.old) → (rows : List Row)
         → StripeHasEntry form entry.now (part_of entry.now.page entry.now.pages (P.held pages.old block)) rows
-        → Finds rows result }
+        → FindsTraces ids.now rows result }
+    ensures of_traces { IfOk result (λ found. rows_of_traces ids.now found.rows.items ≡ found.rows.items) }
     ensures its_file { IsInFile block result }
     ensures reads { RoseAtMost entry.now.pages (P.reads pages.old) (P.reads pages.new) }
     ensures only { OnlyReads P.tells P.held P.faults P.ready P.went P.name pages.old (is_fault result) pages.new }
 {
     match stripe_bytes(alloc, pages, block, entry) {
-        Ok(bytes) => rows_of_bytes(alloc, block, form, entry, bytes.as_slice()),
+        Ok(bytes) => traces_of_bytes(alloc, block, form, entry, bytes.as_slice(), ids),
         Err(Unread::Fault) => Err(ReadError::Fault),
         Err(Unread::Memory) => Err(ReadError::Memory),
+    }
+}
+
+/// The same of the bytes of a stripe's pages. The other rows are made only if the stripe isn't read without them.
+fn traces_of_bytes(
+    alloc: Global,
+    block: u32,
+    form: u8,
+    entry: &StripeInfo,
+    bytes: &[u8],
+    ids: &[TraceId],
+) -> Result<StripeTraces, ReadError>
+    requires near { entry.now.page + entry.now.pages < 2 ^ 52 }
+    requires in_order { AreInOrder ids.now }
+    ensures answers { (rows : List Row) → StripeHasEntry form entry.now bytes.now rows → FindsTraces ids.now rows result }
+    ensures of_traces { IfOk result (λ found. rows_of_traces ids.now found.rows.items ≡ found.rows.items) }
+    ensures its_file { IsInFile block result }
+    ensures no_fault { is_fault result ≡ false }
+{
+    if let Some(found) = traces_of_stripe(alloc, bytes, form == 2, ids) {
+        return Ok(found);
+    }
+    match rows_of_bytes(alloc, block, form, entry, bytes) {
+        Ok(rows) => match keep(alloc, rows, ids) {
+            Ok(found) => Ok(found),
+            Err(_) => Err(ReadError::Memory),
+        },
+        Err(e) => Err(e),
     }
 }
 

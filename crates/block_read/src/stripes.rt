@@ -41,7 +41,7 @@ pub fn stripes(alloc: Global, bytes: &[u8], header: &Header) -> Result<Vec<Row>,
 }
 
 /// Adds rows to others.
-fn add(rows: &mut Vec<Row>, more: Vec<Row>) -> Result<(), Memory>
+pub fn add(rows: &mut Vec<Row>, more: Vec<Row>) -> Result<(), Memory>
     ensures { OnOk result (rows.new.items ≡ rows.old.items ++ more.items) }
 {
     let mut more = more;

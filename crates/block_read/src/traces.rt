@@ -10,15 +10,16 @@ ghost use Rattle.block_read.specs.Files.{part_of};
 ghost use Rattle.block_read.specs.Lookups.{Adds, Finds, HasTrace, IsInFile, pages_with};
 ghost use Rattle.block_read.specs.PageReads.{OnlyReads};
 
-use crate::parts::rows_of_stripe;
+use crate::parts::traces_of_part;
+use crate::stripes::add;
 use crate::{Pages, ReadError};
 use block_info::{BlockInfo, StripeInfo};
-use span_types::{Memory, Row, Rows, TraceId};
+use span_types::{Row, Rows, TraceId};
 use std::alloc::Global;
 
 /// The rows of a trace, of which the block has so many from that one on. Only the stripes with these rows are read.
 ///
-/// [`ReadError::NotBlock`] comes as in [`rows_of_stripe`], or at 0 if the block has no such rows.
+/// [`ReadError::NotBlock`] comes as in [`traces_of_part`], or at 0 if the block has no such rows.
 pub fn rows_at<P: Pages>(
     alloc: Global,
     pages: &mut P,
@@ -60,7 +61,7 @@ pub fn rows_at<P: Pages>(
 
 /// The numbers of the first stripe that has one of so many rows from that one on, and of the first stripe after them:
 /// each stripe but the last has 256 rows.
-fn stripes_of(first: u32, count: u32) -> (usize, usize)
+pub fn stripes_of(first: u32, count: u32) -> (usize, usize)
     ensures from { result.0 ≡ first / 256 }
     ensures to { result.1 ≡ div_ceil (first + count) 256 }
 {
@@ -89,23 +90,11 @@ fn add_stripe<P: Pages>(
     ensures reads { RoseAtMost entry.now.pages (P.reads pages.old) (P.reads pages.new) }
     ensures only { OnlyReads P.tells P.held P.faults P.ready P.went P.name pages.old (is_fault result) pages.new }
 {
-    match rows_of_stripe(alloc, pages, block, form, entry) {
-        Ok(rows) => match keep(rows, id, found) {
+    match traces_of_part(alloc, pages, block, form, entry, &[id]) {
+        Ok(part) => match add(found, part.rows) {
             Ok(()) => Ok(()),
             Err(_) => Err(ReadError::Memory),
         },
         Err(e) => Err(e),
     }
-}
-
-/// Adds those of the rows that are of the trace, and lets the others go.
-fn keep(rows: Rows, id: TraceId, found: &mut Vec<Row>) -> Result<(), Memory>
-    ensures { OnOk result (found.new.items ≡ found.old.items ++ rows_of_trace id rows) }
-{
-    for row in rows.into_vec() {
-        if row.span.trace.cmp(&id).is_eq() {
-            found.push(row)?;
-        }
-    }
-    Ok(())
 }

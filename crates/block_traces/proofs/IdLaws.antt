@@ -15,10 +15,8 @@ use Rattle.span_types.specs.Orders.{trace_cmp}
 use Rattle.span_types.specs.declared.ids.TraceId.{TraceId}
 use Rattle.span_types.specs.declared.spans.Row.{Row}
 use Rattle.rows_by_trace.specs.Traces.{is_of_trace, rows_of_trace}
+use Rattle.block_read.proofs.TogetherLaws.{total}
 use Rattle.stripe_traces.specs.Wanted.{AreInOrder, is_one_of, rows_of_traces}
-
-pub total : IsTotalOrder trace_cmp
-total = on_total (λ (t : TraceId). t.0) nat_list_cmp_total
 
 -- ---- answers of `cmp`
 
@@ -80,37 +78,6 @@ none_of t id (a ∷ done) later up none less =
     let rest = none_of t id done later (λ i j d low high. up (suc i) (suc j) d (omega (arith, low)) (omega (arith, high))) both.1 less in
     ap (λ (b : Bool). b || is_one_of (done ++ id ∷ later) t) both.0 ∙ rest
 
--- ---- a search by halving
-
-any_at : (id : TraceId) (ids : List TraceId) (at : ℕ) (d : TraceId) → at < length ids → trace_cmp (get_or ids at d) id ≡ Equal → is_one_of ids id ≡ true
-any_at id [] at d low e = absurd (omega (arith, low))
-any_at id (a ∷ ids) zero d low e = ap (λ (o : Ordering). is_eq o || is_one_of ids id) (tied_back total a id e)
-any_at id (a ∷ ids) (suc at) d low e = by (is_eq (trace_cmp id a)) (any_at id ids at d (omega (arith, low)) e)
-  where
-    by : (b : Bool) → is_one_of ids id ≡ true → (b || is_one_of ids id) ≡ true
-    by true rest = refl
-    by false rest = rest
-
-none_at : (id : TraceId) (ids : List TraceId) → AllByRecursion (λ (y : TraceId). is_eq (trace_cmp y id) ≡ false) ids → is_one_of ids id ≡ false
-none_at id [] all = refl
-none_at id (a ∷ ids) all = by (trace_cmp id a) refl (none_at id ids all.1)
-  where
-    by : (o : Ordering) → trace_cmp id a ≡ o → is_one_of ids id ≡ false → is_one_of (a ∷ ids) id ≡ false
-    by Less e rest = rw e rest
-    by Equal e rest = let back = ap is_eq (tied_back total id a e) in let bad : true ≡ false = sym back ∙ all.0 in cc
-    by Greater e rest = rw e rest
-
--- `binary_search` finds an id exactly if it is one of them
-pub found_among : (id : TraceId) (ids : List TraceId) (r : Result ℕ ℕ) → AreInOrder ids → IsSearchInRange r (length ids) → IsBinarySearchResult (λ (y : TraceId). trace_cmp y id) ids r → is_ok r ≡ is_one_of ids id
-found_among id ids (Ok at) up within is = sym (any_at id ids at id within (is id))
-found_among id ids (Err at) up within is =
-    let falls = searchable_from_sorted total (λ (y : TraceId). y) ids id (λ k d from low. (let less = up k (k + 1) d (omega arith) low in ap is_lt (total.antisymm (get_or ids (k + 1) d) (get_or ids k d) ∙ ap ordering_reverse less))) in
-    let parts = is falls in
-    sym (none_at id ids (recursion_from_All (λ (y : TraceId). is_eq (trace_cmp y id) ≡ false) ids (λ k d low. elim (cases_lt k at) [
-      | inl here ↦ ap is_eq (parts.0 k d (omega arith) here)
-      | inr there ↦ ap is_eq (parts.1 k d there low)
-    ])))
-
 -- ---- rows of none of them
 
 -- nothing passes, so each fails
@@ -138,23 +105,3 @@ none_more id done rows none one =
       one_more r.span.trace done (id ∷ []) ∙ ap (λ (t : Bool). t || (is_of_trace id r || false)) a.0 ∙ ap (λ (t : Bool). t || false) b.0,
       both l a.1 b.1,
     )
-
-again : {X : Type 0} (p : X → Bool) (xs : List X) → filter p (filter p xs) ≡ filter p xs
-again p [] = refl
-again {X} p (x ∷ xs) = by (p x) refl (again p xs)
-  where
-    by : (b : Bool) → p x ≡ b → filter p (filter p xs) ≡ filter p xs → filter p (filter p (x ∷ xs)) ≡ filter p (x ∷ xs)
-    by true t rest =
-        let one : filter p (x ∷ xs) ≡ x ∷ filter p xs = rw t refl in
-        let two : filter p (x ∷ filter p xs) ≡ x ∷ filter p (filter p xs) = rw t refl in
-        ap (filter p) one ∙ two ∙ ap (λ (l : List X). x ∷ l) rest ∙ sym one
-    by false t rest =
-        let one : filter p (x ∷ xs) ≡ filter p xs = rw t refl in
-        ap (filter p) one ∙ rest ∙ sym one
-
--- rows of the traces, and more of them
-pub more_of_traces : (ids : List TraceId) (old more new : List Row) → new ≡ old ++ rows_of_traces ids more → rows_of_traces ids old ≡ old → rows_of_traces ids new ≡ new
-more_of_traces ids old more new is all =
-    let p : Row → Bool = λ r. is_one_of ids r.span.trace in
-    ap (rows_of_traces ids) is ∙ filter-append p old (rows_of_traces ids more) ∙ ap (λ (l : List Row). l ++ rows_of_traces ids (rows_of_traces ids more)) all
-    ∙ ap (λ (l : List Row). old ++ l) (again p more) ∙ sym is

@@ -17,13 +17,12 @@ use Rattle.block_format.specs.Blocks.{ids_of}
 use Rattle.block_index.specs.Index.{AreAscending, is_same}
 use Rattle.block_read.specs.Lookups.{HasTrace}
 use Rattle.block_read.proofs.DescribedLaws.{index_stands}
-use Rattle.block_read.proofs.TogetherLaws.{ends_within, some_there}
+use Rattle.block_read.proofs.TogetherLaws.{ends_within, some_there, total}
 use Rattle.block_read.proofs.TraceWalk.{rows_last}
-use Rattle.stripe_traces.specs.Wanted.{AreInOrder, is_one_of, rows_of_traces}
-use Rattle.stripe_traces.specs.Wanted.{last_or, last_trace}
+use Rattle.stripe_traces.specs.Wanted.{AreInOrder, is_one_of, last_or, last_trace, rows_of_traces}
 use Rattle.block_traces.specs.Walks.{HasCome, is_before}
 use Rattle.block_traces.specs.declared.walk.Walk.{Walk}
-use Rattle.block_traces.proofs.IdLaws.{below_like, below_upto, each_fails, less_is, none_more, none_of, none_passes, total}
+use Rattle.block_traces.proofs.IdLaws.{below_like, below_upto, each_fails, less_is, none_more, none_of, none_passes}
 
 -- ---- parts of lists
 
@@ -77,24 +76,6 @@ after_last id other (suc n) (x ∷ rows) up above before =
     (λ low. above_later id x.span.trace rows (less_is (trace_cmp id x.span.trace) low)
     (recursion_from_All (λ (b : TraceId). is_gt (trace_cmp x.span.trace b) ≡ false) (ids_of rows) (λ j d within. up 0 (suc j) d (omega arith) (omega (arith, within)))))
     before
-
-pub last_more : (other : Option TraceId) (rows : List Row) (row : Row) → last_or other (rows ++ row ∷ []) ≡ Some row.span.trace
-last_more other [] row = refl
-last_more other (x ∷ rows) row = last_more (Some x.span.trace) rows row
-
--- a row of the traces is kept, another one is not
-pub row_kept : (ids : List TraceId) (base found new rows : List Row) (row : Row) → found ≡ base ++ rows_of_traces ids rows → is_one_of ids row.span.trace ≡ true → new ≡ found ++ row ∷ [] → new ≡ base ++ rows_of_traces ids (rows ++ row ∷ [])
-row_kept ids base found new rows row so_far one is =
-    let p : Row → Bool = λ r. is_one_of ids r.span.trace in
-    let kept : rows_of_traces ids (row ∷ []) ≡ row ∷ [] = rw one refl in
-    is ∙ ap (λ (l : List Row). l ++ row ∷ []) so_far ∙ append_assoc base (rows_of_traces ids rows) (row ∷ []) ∙ ap (λ (l : List Row). base ++ (rows_of_traces ids rows ++ l)) (sym kept)
-    ∙ ap (λ (l : List Row). base ++ l) (sym (filter-append p rows (row ∷ [])))
-
-pub row_left : (ids : List TraceId) (base found rows : List Row) (row : Row) → found ≡ base ++ rows_of_traces ids rows → is_one_of ids row.span.trace ≡ false → found ≡ base ++ rows_of_traces ids (rows ++ row ∷ [])
-row_left ids base found rows row so_far other =
-    let p : Row → Bool = λ r. is_one_of ids r.span.trace in
-    let none : rows_of_traces ids (row ∷ []) ≡ [] = rw other refl in
-    so_far ∙ ap (λ (l : List Row). base ++ l) (sym (append-nil (rows_of_traces ids rows)) ∙ ap (λ (l : List Row). rows_of_traces ids rows ++ l) (sym none) ∙ sym (filter-append p rows (row ∷ [])))
 
 -- ---- steps of a walk
 

@@ -1,4 +1,4 @@
-//! Those rows of a stripe that are of one of the traces.
+//! What a stripe has of the traces.
 
 ghost use Rattle.std.specs.Prelude.{◌≡◌, ◌+◌, ◌*◌, ◌^◌, ◌<◌, ◌++◌, IfOk, IsTrue, List, OnOk};
 ghost use Rattle.span_types.specs.declared.spans.Row.{Row};
@@ -7,12 +7,11 @@ ghost use Rattle.block_read.specs.Answers.{RoseAtMost, is_fault};
 ghost use Rattle.block_read.specs.Files.{part_of};
 ghost use Rattle.block_read.specs.Lookups.{Adds, IsInFile};
 ghost use Rattle.block_read.specs.PageReads.{OnlyReads};
-ghost use Rattle.stripe_traces.specs.Wanted.{AreInOrder, is_one_of, rows_of_traces};
-ghost use Rattle.stripe_traces.specs.Wanted.{last_trace};
+ghost use Rattle.stripe_traces.specs.Wanted.{AreInOrder, last_trace, rows_of_traces};
 
 use block_info::StripeInfo;
-use block_read::{Pages, ReadError, rows_of_stripe};
-use span_types::{Memory, Row, Rows, TraceId};
+use block_read::{Pages, ReadError, traces_of_part};
+use span_types::{Memory, Row, TraceId};
 use std::alloc::Global;
 
 /// Adds the rows of the traces that a stripe has, and gives the trace of its last row.
@@ -40,35 +39,20 @@ pub fn add_stripe<P: Pages>(
     ensures reads { RoseAtMost entry.now.pages (P.reads pages.old) (P.reads pages.new) }
     ensures only { OnlyReads P.tells P.held P.faults P.ready P.went P.name pages.old (is_fault result) pages.new }
 {
-    match rows_of_stripe(alloc, pages, block, form, entry) {
-        Ok(rows) => match keep(rows, ids, found) {
-            Ok(last) => Ok(last),
+    match traces_of_part(alloc, pages, block, form, entry, ids) {
+        Ok(part) => match add(found, part.rows) {
+            Ok(()) => Ok(part.last),
             Err(_) => Err(ReadError::Memory),
         },
         Err(e) => Err(e),
     }
 }
 
-/// Adds those of the rows that are of one of the traces, and lets the others go. It gives the trace of the last row.
-fn keep(rows: Rows, ids: &[TraceId], found: &mut Vec<Row>) -> Result<Option<TraceId>, Memory>
-    requires { AreInOrder ids.now }
-    ensures added { OnOk result (found.new.items ≡ found.old.items ++ rows_of_traces ids.now rows) }
-    ensures last { IfOk result (λ last. last ≡ last_trace rows) }
+/// Adds rows to others.
+fn add(rows: &mut Vec<Row>, more: Vec<Row>) -> Result<(), Memory>
+    ensures { OnOk result (rows.new.items ≡ rows.old.items ++ more.items) }
 {
-    let mut last = None;
-    for row in rows.into_vec() {
-        last = Some(row.span.trace);
-        if is_among(row.span.trace, ids) {
-            found.push(row)?;
-        }
-    }
-    Ok(last)
-}
-
-/// Whether the id is one of these, which ascend.
-fn is_among(id: TraceId, ids: &[TraceId]) -> bool
-    requires { AreInOrder ids.now }
-    ensures { result ≡ is_one_of ids.now id }
-{
-    ids.binary_search(&id).is_ok()
+    let mut more = more;
+    rows.append(&mut more)?;
+    Ok(())
 }

@@ -1,7 +1,6 @@
 //! A walk over the stripes of a block that hold one of the traces.
 
-ghost use Rattle.std.specs.Prelude.{◌≡◌, ◌+◌, ◌/◌, ◌++◌, IsTrue, List, OnOk, [], ◌∷◌};
-ghost use Rattle.std.specs.Int.{div_ceil};
+ghost use Rattle.std.specs.Prelude.{◌≡◌, ◌++◌, IsTrue, List, OnOk, [], ◌∷◌};
 ghost use Rattle.span_types.specs.declared.ids.TraceId.{TraceId as Trace};
 ghost use Rattle.span_types.specs.declared.spans.Row.{Row};
 ghost use Rattle.block_format.specs.Blocks.{BlockHasInfo};
@@ -13,7 +12,7 @@ ghost use Rattle.block_traces.specs.Walks.{Comes, HasCome, is_before};
 
 use crate::kept::add_stripe;
 use block_info::BlockInfo;
-use block_read::{Pages, ReadError, find_trace};
+use block_read::{Pages, ReadError, find_trace, stripes_of};
 use span_types::{Row, TraceId};
 use std::alloc::Global;
 
@@ -79,7 +78,7 @@ fn has_passed(id: TraceId, last: Option<TraceId>) -> bool
 /// Goes on past the stripes with so many rows from that one on, and adds the rows of the traces that they hold. A stripe
 /// that is passed is not read again.
 ///
-/// [`ReadError::NotBlock`] comes as in [`rows_of_stripe`](block_read::rows_of_stripe), or at 0 if the block has no such
+/// [`ReadError::NotBlock`] comes as in [`traces_of_part`](block_read::traces_of_part), or at 0 if the block has no such
 /// rows.
 fn pass_rows<P: Pages>(
     alloc: Global,
@@ -125,14 +124,4 @@ fn pass_rows<P: Pages>(
         walk.next = number + 1;
     }
     Ok(())
-}
-
-/// The numbers of the first stripe that has one of so many rows from that one on, and of the first stripe after them:
-/// each stripe but the last has 256 rows.
-fn stripes_of(first: u32, count: u32) -> (usize, usize)
-    ensures from { result.0 ≡ first / 256 }
-    ensures to { result.1 ≡ div_ceil (first + count) 256 }
-{
-    let end = u64::from(first) + u64::from(count);
-    (first as usize / 256, end.div_ceil(256) as usize)
 }
