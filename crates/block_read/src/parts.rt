@@ -68,7 +68,7 @@ fn traces_of_bytes(
     ensures its_file { IsInFile block result }
     ensures no_fault { is_fault result ≡ false }
 {
-    if let Some(found) = traces_of_stripe(alloc, bytes, form == 2, ids) {
+    if let Some(found) = traces_of_stripe(alloc, bytes, form == 2, entry, ids) {
         return Ok(found);
     }
     match rows_of_bytes(alloc, block, form, entry, bytes) {
