@@ -17,8 +17,6 @@ use Rattle.span_types.specs.Orders.{trace_cmp}
 use Rattle.block_info.specs.InfoParts.{InfoParts}
 use Rattle.block_read.specs.Answers.{RoseAtMost}
 use Rattle.stripe_traces.specs.Wanted.{is_one_of, rows_of_traces}
-use Rattle.column_scan.specs.Candidates.{AreCandidates, ArePicks, Ascend, HaveLatest, IsCovered, hinted_picks, is_hinted, pick_of, spans_of}
-use Rattle.column_scan.specs.declared.hints.Hint.{Hint}
 use Rattle.column_scan.specs.declared.picks.Pick.{Pick}
 use Rattle.column_scan.proofs.Latest.{contains_filter, contains_map}
 use Rattle.search_answer.proofs.Fronts.{same_trace, trace_cmp_total}
