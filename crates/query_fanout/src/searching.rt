@@ -53,11 +53,11 @@ pub struct SearchAnswer {
 /// What a search finds among the first occurrences of all spans, wherever they lie: in the rows of one look and in the
 /// blocks that it pins.
 ///
-/// First the traces that have a sifted span are picked, one that the query's sieve lets through, each with the latest start
-/// among its sifted spans: in the look's rows, and in each block by the stripes that may have one. Then they are looked up and answered a few at a time, those of
-/// late moments first, but for those of which no result can come among the best so far; `bounded` says how many pages that
-/// is at most. No rows are kept but those of a few traces, beside a copy of the look's rows. The look is given back in every
-/// case.
+/// First the traces are picked that have a sifted span, one that the query's sieve lets through, each with the latest start
+/// among its sifted spans: in the look's rows, and in each block by the stripes that may have one. Then they are looked up
+/// and answered a few at a time, those of late moments first, but for those of which no result can come among the best so
+/// far; `bounded` says how many pages that is at most. No rows are kept but those of a few traces, beside a copy of the
+/// look's rows. The look is given back in every case.
 pub fn search<P: FlushPort>(
     alloc: Global,
     port: &mut P,
