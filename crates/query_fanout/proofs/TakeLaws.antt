@@ -41,7 +41,7 @@ pub none_open : {P : Type 0} (meaning : Meaning P) (look : Look) (own : List Row
     → BlocksRead meaning look look.pin.blocks (TakesTheirs asked own few best) (TakesWith asked own few best) (AtMost (look_ups (traces_of few) look.pin.blocks)) port (Ok best) port
 none_open meaning look own asked few best port is_open none short sorted = record {
   pages = pages_none meaning look port is_open;
-  comes = ([], λ e. refl, nothing [], refl);
+  comes = ([], λ e. refl, (nothing [], refl));
   told = λ told parts are. nothing (flat_map (λ part. part) parts);
   bounded = λ told parts are. rose_none (look_ups (traces_of few) look.pin.blocks parts) (meaning.reads port);
 }
