@@ -1,5 +1,5 @@
 -- Rows may be replaced by their first occurrences.
-use Rattle.std.proofs.Common.{Result, ◌≡◌, ℕ, Some, Bool, true, false, List, [], ◌∷◌, ◌++◌, All, Contains, ap, refl, subst, sym, ◌∙◌, if◌then◌else◌}
+use Rattle.std.proofs.Common.{Result, ◌≡◌, ℕ, Some, true, false, List, [], ◌∷◌, ◌++◌, All, Contains, refl, subst}
 use Rattle.std.specs.List.{AllByRecursion}
 use Rattle.std.proofs.lemmas.List.Elements.{All-append, All-contains_itself, All-from_recursion, All-weaker, Contains-append_left, Contains-append_right, recursion_from_All}
 use Rattle.span_types.specs.First.{IsFirstOf, first_at}

@@ -1,11 +1,9 @@
 -- The picks of a look's rows and of its blocks.
-use Rattle.std.proofs.Common.{◌≡◌, ℕ, zero, suc, ◌+◌, ◌≤◌, List, [], ◌∷◌, ◌++◌, All, Contains, arith, refl, sym, ap, subst, ◌∙◌}
-use Rattle.std.specs.Prelude.{sum_by}
+use Rattle.std.proofs.Common.{◌≡◌, ℕ, ◌+◌, ◌≤◌, List, [], ◌∷◌, ◌++◌, Contains, arith, sym, subst}
 use Rattle.std.proofs.lemmas.List.Elements.{All-contains, All-contains_itself, All-weaker, Contains-append_left}
 use Rattle.std.proofs.lemmas.List.Sums.{sum_by-cons}
 use Rattle.span_types.specs.declared.spans.Row.{Row}
 use Rattle.block_info.specs.InfoParts.{InfoParts}
-use Rattle.block_read.specs.Answers.{RoseAtMost}
 use Rattle.column_scan.specs.Candidates.{Ascend, HaveLatest, IsCovered, spans_of}
 use Rattle.column_scan.specs.Scans.{scanned_pages}
 use Rattle.column_scan.specs.Sieves.{SieveParts, sifted_picks}

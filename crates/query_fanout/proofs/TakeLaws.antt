@@ -35,11 +35,15 @@ taken_none meaning look own asked port best is_open is = record {
   bounded = λ told parts are. rose_none (look_ups [] look.pin.blocks parts) (meaning.reads port);
 }
 
+-- no more is kept than asked for, and in order
+abbrev pub IsKept : BestParts → Type 0
+IsKept best = (length best.kept ≤ best.limit) × IsSorted rank_cmp best.kept
+
 -- no pick is left of which a result can come among the best
 pub none_open : {P : Type 0} (meaning : Meaning P) (look : Look) (own : List Row) (asked : Asked) (few : List Pick) (best : BestParts) (port : P) → IsOpen meaning port (look_of look)
-    → traces_of (open_picks best few) ≡ [] → length best.kept ≤ best.limit → IsSorted rank_cmp best.kept
+    → traces_of (open_picks best few) ≡ [] → IsKept best
     → BlocksRead meaning look look.pin.blocks (TakesTheirs asked own few best) (TakesWith asked own few best) (AtMost (look_ups (traces_of few) look.pin.blocks)) port (Ok best) port
-none_open meaning look own asked few best port is_open none short sorted = record {
+none_open meaning look own asked few best port is_open none kept = record {
   pages = pages_none meaning look port is_open;
   comes = ([], λ e. refl, (nothing [], refl));
   told = λ told parts are. nothing (flat_map (λ part. part) parts);
@@ -47,7 +51,7 @@ none_open meaning look own asked few best port is_open none short sorted = recor
 }
   where
     nothing : (rows : List Row) → TakesWith asked own few best rows best
-    nothing rows = subst (λ (ids : List TraceId). Answered asked (own ++ rows) ids best best) (sym none) (none_answered asked (own ++ rows) best short sorted)
+    nothing rows = subst (λ (ids : List TraceId). Answered asked (own ++ rows) ids best best) (sym none) (none_answered asked (own ++ rows) best kept.0 kept.1)
 
 pub taken_next : {P : Type 0} (meaning : Meaning P) (look : Look) (own : List Row) (asked : Asked) (law : TakesMore) (law_read : TakesMoreRead) (old mid new : P) (each : List (List Pick)) (few : List Pick)
     (best : BestParts) (r : Result BestParts QueryError) → AreApart (flat_map (λ l. l) each ++ few) → Taken meaning look own asked each old (Ok best) mid

@@ -121,7 +121,15 @@ fn search_picks<P: FlushPort>(
 {
     match two_parts(alloc, picks, asked.limit) {
         Ok((late, early)) => {
-            search_parts(alloc, port, look, rows, asked, late.as_slice(), early.as_slice())
+            search_parts(
+                alloc,
+                port,
+                look,
+                rows,
+                asked,
+                late.as_slice(),
+                early.as_slice(),
+            )
         }
         Err(Memory) => Err(QueryError::Memory),
     }
