@@ -87,7 +87,7 @@ in_order_apart (i ∷ is) up = (
 )
 
 -- ids of picks that ascend ascend
-traces_ascend : (picks : List Pick) → Ascend picks → AreInOrder (traces_of picks)
+pub traces_ascend : (picks : List Pick) → Ascend picks → AreInOrder (traces_of picks)
 traces_ascend [] up = λ i j d l h. absurd (omega (arith, h))
 traces_ascend (p ∷ ps) up =
     AllPairs-cons (λ (a b : TraceId). trace_cmp a b ≡ Less) p.trace (traces_of ps)

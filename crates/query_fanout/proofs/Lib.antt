@@ -9,6 +9,7 @@ mod TakenLaws
 mod TakeLaws
 mod QueryLaws
 mod PicksExist
+mod SiftedLaws
 mod SearchLaws
 mod ByTraceLaws
 mod OwnLaws

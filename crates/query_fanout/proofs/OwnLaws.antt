@@ -1,13 +1,13 @@
 -- A look's rows may be replaced by their first occurrences.
-use Rattle.std.proofs.Common.{Result, ◌≡◌, ℕ, Some, Bool, true, false, List, [], ◌∷◌, ◌++◌, All, Contains, ap, refl, subst, sym, ◌∙◌, if◌then◌else◌}
+use Rattle.std.proofs.Common.{Result, ◌≡◌, ℕ, Some, true, false, List, [], ◌∷◌, ◌++◌, All, Contains, refl, subst}
 use Rattle.std.specs.List.{AllByRecursion}
 use Rattle.std.proofs.lemmas.List.Elements.{All-append, All-contains_itself, All-from_recursion, All-weaker, Contains-append_left, Contains-append_right, recursion_from_All}
 use Rattle.span_types.specs.First.{IsFirstOf, first_at}
 use Rattle.span_types.specs.Keys.{row_key}
 use Rattle.span_types.specs.declared.spans.Row.{Row}
 use Rattle.span_types.proofs.FirstLaws.{firsts_more}
-use Rattle.column_scan.specs.Candidates.{IsCovered, hinted_picks, is_hinted, pick_of, spans_of}
-use Rattle.column_scan.specs.declared.hints.Hint.{Hint}
+use Rattle.column_scan.specs.Candidates.{IsCovered, pick_of, spans_of}
+use Rattle.column_scan.specs.Sieves.{SieveParts, is_sifted, sifted_picks}
 use Rattle.column_scan.specs.declared.picks.Pick.{Pick}
 use Rattle.column_scan.proofs.Latest.{contains_filter, contains_map}
 use Rattle.store_state.specs.Meaning.{Meaning}
@@ -17,29 +17,28 @@ use Rattle.query_fanout.specs.SearchAnswers.{IsSearchAnswer}
 use Rattle.query_fanout.specs.declared.error.QueryError.{QueryError}
 use Rattle.query_fanout.proofs.BlockLaws.{read_as}
 use Rattle.query_fanout.specs.Searching.{AllIfPicked, OwnIfPicked}
-use Rattle.query_fanout.specs.Taking.{asked_hint}
+use Rattle.query_fanout.specs.Taking.{asked_sieve}
 use Rattle.query_fanout.specs.declared.searching.Asked.{Asked}
 use Rattle.query_fanout.specs.declared.searching.SearchAnswer.{SearchAnswer}
 use Rattle.query_fanout.proofs.FewLaws.{first_among}
-use Rattle.query_fanout.specs.Joined.{hinted_both}
 
--- all hinted ones among these rows are picked
-abbrev Covered : Hint → List Pick → List Row → Type 0
-Covered hint picks rows = All (IsCovered picks) (hinted_picks hint (spans_of rows))
+-- all sifted ones among these rows are picked
+abbrev Covered : SieveParts → List Pick → List Row → Type 0
+Covered sieve picks rows = All (IsCovered picks) (sifted_picks sieve (spans_of rows))
 
-covered_part : (hint : Hint) (picks : List Pick) (rows part : List Row) → Covered hint picks rows → AllByRecursion (Contains rows) part
-    → AllByRecursion (IsCovered picks) (hinted_picks hint (spans_of part))
-covered_part hint picks rows [] all within = tt
-covered_part hint picks rows (x ∷ xs) all within =
-    let rest = covered_part hint picks rows xs all within.1 in
-    (elim (is_hinted hint x.span) as (λ b. is_hinted hint x.span ≡ b → AllByRecursion (IsCovered picks) (hinted_picks hint (spans_of (x ∷ xs)))) [
+covered_part : (sieve : SieveParts) (picks : List Pick) (rows part : List Row) → Covered sieve picks rows → AllByRecursion (Contains rows) part
+    → AllByRecursion (IsCovered picks) (sifted_picks sieve (spans_of part))
+covered_part sieve picks rows [] all within = tt
+covered_part sieve picks rows (x ∷ xs) all within =
+    let rest = covered_part sieve picks rows xs all within.1 in
+    (elim (is_sifted sieve x.span) as (λ b. is_sifted sieve x.span ≡ b → AllByRecursion (IsCovered picks) (sifted_picks sieve (spans_of (x ∷ xs)))) [
       | true ↦ λ t. rw t (here t, rest)
       | false ↦ λ f. rw f rest
     ]) refl
   where
-    here : is_hinted hint x.span ≡ true → IsCovered picks (pick_of x.span)
+    here : is_sifted sieve x.span ≡ true → IsCovered picks (pick_of x.span)
     here t =
-        let there = contains_map pick_of _ x.span (contains_filter (is_hinted hint) (spans_of rows) x.span (contains_map (λ (r : Row). r.span) rows x within.0) t) in
+        let there = contains_map pick_of _ x.span (contains_filter (is_sifted sieve) (spans_of rows) x.span (contains_map (λ (r : Row). r.span) rows x within.0) t) in
         subst (IsCovered picks) there.2 (all there.0 (pick_of x.span) there.1)
 
 -- first occurrences are among the rows
@@ -53,14 +52,14 @@ module _ (asked : Asked) (as_of : ℕ) (own firsts : List Row) (picks : List Pic
 
   pub all_if_picked : (rows : List Row) (x : SearchAnswer) → AllIfPicked asked as_of firsts picks rows x → AllIfPicked asked as_of own picks rows x
   all_if_picked rows x h = λ covered. answers_all rows x
-      (h (All-from_recursion (IsCovered picks) _ (covered_part (asked_hint asked) picks (own ++ rows) (firsts ++ rows) covered
+      (h (All-from_recursion (IsCovered picks) _ (covered_part (asked_sieve asked) picks (own ++ rows) (firsts ++ rows) covered
       (recursion_from_All (Contains (own ++ rows)) (firsts ++ rows) (All-append (Contains (own ++ rows)) firsts rows
       (All-weaker (Contains own) (Contains (own ++ rows)) (λ r m. Contains-append_left own rows r m) firsts (firsts_within own firsts are))
       (All-weaker (Contains rows) (Contains (own ++ rows)) (λ r m. Contains-append_right own rows r m) rows (All-contains_itself rows)))))))
 
   pub own_if_picked : (rows : List Row) (x : SearchAnswer) → OwnIfPicked asked as_of firsts picks rows x → OwnIfPicked asked as_of own picks rows x
   own_if_picked rows x h = λ covered. answers_all rows x
-      (h (All-from_recursion (IsCovered picks) _ (covered_part (asked_hint asked) picks own firsts covered (recursion_from_All (Contains own) firsts (firsts_within own firsts are)))))
+      (h (All-from_recursion (IsCovered picks) _ (covered_part (asked_sieve asked) picks own firsts covered (recursion_from_All (Contains own) firsts (firsts_within own firsts are)))))
 
 -- what is told over first occurrences is told over all of the rows
 pub told_of_all : {P : Type 0} {within : List (List Row) → ℕ → ℕ → Type 0} (meaning : Meaning P) (look : Look) (asked : Asked) (firsts : List Row) (picks : List Pick) → IsFirstOf look.rows firsts

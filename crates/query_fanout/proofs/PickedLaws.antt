@@ -1,18 +1,17 @@
 -- The picks of a look's rows and of its blocks.
-use Rattle.std.proofs.Common.{◌≡◌, ℕ, zero, suc, ◌+◌, ◌≤◌, List, [], ◌∷◌, ◌++◌, All, Contains, arith, refl, sym, ap, subst, ◌∙◌}
-use Rattle.std.specs.Prelude.{sum_by}
+use Rattle.std.proofs.Common.{◌≡◌, ℕ, ◌+◌, ◌≤◌, List, [], ◌∷◌, ◌++◌, Contains, arith, sym, subst}
 use Rattle.std.proofs.lemmas.List.Elements.{All-contains, All-contains_itself, All-weaker, Contains-append_left}
 use Rattle.std.proofs.lemmas.List.Sums.{sum_by-cons}
 use Rattle.span_types.specs.declared.spans.Row.{Row}
 use Rattle.block_info.specs.InfoParts.{InfoParts}
-use Rattle.block_read.specs.Answers.{RoseAtMost}
-use Rattle.column_scan.specs.Candidates.{ArePicks, Ascend, HaveLatest, IsCovered, hinted_picks, spans_of}
+use Rattle.column_scan.specs.Candidates.{Ascend, HaveLatest, IsCovered, spans_of}
 use Rattle.column_scan.specs.Scans.{scanned_pages}
+use Rattle.column_scan.specs.Sieves.{SieveParts, sifted_picks}
 use Rattle.column_scan.specs.declared.hints.Hint.{Hint}
 use Rattle.column_scan.specs.declared.picks.Pick.{Pick}
 use Rattle.column_scan.proofs.Latest.{of_latest}
 use Rattle.query_fanout.specs.Bounds.{hinted_pages}
-use Rattle.query_fanout.specs.Joined.{hinted_both, with_before}
+use Rattle.query_fanout.specs.Joined.{sifted_both, with_before}
 use Rattle.query_fanout.specs.Reading.{AtMost, most_of}
 use Rattle.query_fanout.specs.Searching.{AllArePicked, ArePicked, OwnArePicked}
 
@@ -39,20 +38,20 @@ hinted_widens hint infos parts a b rose =
 
 -- ---- which they are
 
-module _ (hint : Hint) (own : List Row) (found picks : List Pick) (latest : HaveLatest (hinted_picks hint (spans_of own) ++ found) picks) (ascending : Ascend picks) where
-  pub own_picked : (rows : List Row) → rows ≡ [] → OwnArePicked hint own rows picks
+module _ (sieve : SieveParts) (own : List Row) (found picks : List Pick) (latest : HaveLatest (sifted_picks sieve (spans_of own) ++ found) picks) (ascending : Ascend picks) where
+  pub own_picked : (rows : List Row) → rows ≡ [] → OwnArePicked sieve own rows picks
   own_picked rows none = record {
     none = none;
-    whole = All-weaker (Contains (hinted_picks hint (spans_of own))) (IsCovered picks)
-        (λ p m. All-contains (IsCovered picks) (hinted_picks hint (spans_of own) ++ found) p latest.whole (Contains-append_left (hinted_picks hint (spans_of own)) found p m))
-        (hinted_picks hint (spans_of own)) (All-contains_itself (hinted_picks hint (spans_of own)));
+    whole = All-weaker (Contains (sifted_picks sieve (spans_of own))) (IsCovered picks)
+        (λ p m. All-contains (IsCovered picks) (sifted_picks sieve (spans_of own) ++ found) p latest.whole (Contains-append_left (sifted_picks sieve (spans_of own)) found p m))
+        (sifted_picks sieve (spans_of own)) (All-contains_itself (sifted_picks sieve (spans_of own)));
     ascending = ascending;
   }
 
-  pub all_picked : (rows : List Row) → ArePicked hint rows found → AllArePicked hint own rows picks
+  pub all_picked : (rows : List Row) → ArePicked sieve rows found → AllArePicked sieve own rows picks
   all_picked rows are = record {
-    latest = subst (λ (l : List Pick). HaveLatest l picks) (sym (hinted_both hint own rows))
-        (of_latest (hinted_picks hint (spans_of own) ++ hinted_picks hint (spans_of rows)) (hinted_picks hint (spans_of own) ++ found) picks
-        (with_before (hinted_picks hint (spans_of own)) (hinted_picks hint (spans_of rows)) found are) latest);
+    latest = subst (λ (l : List Pick). HaveLatest l picks) (sym (sifted_both sieve own rows))
+        (of_latest (sifted_picks sieve (spans_of own) ++ sifted_picks sieve (spans_of rows)) (sifted_picks sieve (spans_of own) ++ found) picks
+        (with_before (sifted_picks sieve (spans_of own)) (sifted_picks sieve (spans_of rows)) found are) latest);
     ascending = ascending;
   }

@@ -1,4 +1,4 @@
--- A search tells of the first occurrences of all rows, if the hinted ones are covered by what it picks.
+-- A search tells of the first occurrences of all rows, if the sifted ones are covered by what it picks.
 use Rattle.std.proofs.Common.{◌≡◌, ◌⊎◌, inl, inr, ℕ, ◌≤◌, List, [], ◌∷◌, ◌++◌, Bool, true, false, Result, Ok, Err, filter, map, refl, sym, ◌∙◌, ap, subst, arith, All, Contains}
 use Rattle.std.specs.List.{IsDistinct, flat_map}
 use Rattle.std.specs.List.Sorted.{IsPermutation}
@@ -18,7 +18,8 @@ use Rattle.span_types.proofs.FirstLaws.{firsts_alike}
 use Rattle.block_info.specs.InfoParts.{InfoParts}
 use Rattle.block_read.specs.Answers.{RoseAtMost}
 use Rattle.stripe_traces.specs.Wanted.{is_one_of, rows_of_traces}
-use Rattle.column_scan.specs.Candidates.{Ascend, IsCovered, hinted_picks, is_hinted, pick_of, spans_of}
+use Rattle.column_scan.specs.Candidates.{Ascend, IsCovered, pick_of, spans_of}
+use Rattle.column_scan.specs.Sieves.{SieveParts, is_sifted, sifted_picks}
 use Rattle.column_scan.specs.declared.hints.Hint.{Hint}
 use Rattle.column_scan.specs.declared.picks.Pick.{Pick}
 use Rattle.column_scan.proofs.Latest.{contains_filter, contains_map}
@@ -32,7 +33,7 @@ use Rattle.query_fanout.specs.Bounds.{SearchReads, all_rows, hinted_pages, look_
 use Rattle.query_fanout.specs.Reading.{AtMost, BlocksRead, look_ups}
 use Rattle.query_fanout.specs.SearchAnswers.{IsSearchAnswer}
 use Rattle.query_fanout.specs.Searching.{AllArePicked, AllIfPicked, OwnArePicked, OwnIfPicked, TakenTheirs, TakenWith}
-use Rattle.query_fanout.specs.Taking.{AnswersSearch, AreApart, AreCovered, TakenAnswerTheWhole, TakesEach, asked_hint, no_best, traces_of}
+use Rattle.query_fanout.specs.Taking.{AnswersSearch, AreApart, AreCovered, TakenAnswerTheWhole, TakesEach, asked_hint, asked_sieve, no_best, traces_of}
 use Rattle.query_fanout.specs.declared.error.QueryError.{QueryError}
 use Rattle.query_fanout.specs.declared.error.QueryError.TheVariants.{Memory}
 use Rattle.query_fanout.specs.declared.searching.Asked.{Asked}
@@ -40,6 +41,7 @@ use Rattle.query_fanout.specs.declared.searching.SearchAnswer.{SearchAnswer}
 use Rattle.query_fanout.proofs.BlockLaws.{read_failed, read_nothing, read_told, reads_then, rose_none, rose_twice}
 use Rattle.query_fanout.proofs.PicksExist.{candidates_exist, head_first, tail_ascends}
 use Rattle.query_fanout.proofs.QueryLaws.{TellsFirsts}
+use Rattle.query_fanout.proofs.SiftedLaws.{sifted_sum}
 use Rattle.query_fanout.proofs.TakingLaws.{answered_there, pick_there}
 
 pub search_tells_firsts : (asked : Asked) → TellsFirsts (IsSearchAnswer asked)
@@ -47,32 +49,32 @@ search_tells_firsts asked x n a b same h = record { count = h.count; firsts = h.
 
 -- ---- what is covered
 
--- The trace of a row is picked if the row is hinted, and it was answered or the pick isn't earlier.
-abbrev RowIsCovered : Hint → List Pick → List TraceId → Row → Type 0
-RowIsCovered hint picks ids row = is_hinted hint row.span ≡ true
+-- The trace of a row is picked if the row is sifted, and it was answered or the pick isn't earlier.
+abbrev RowIsCovered : SieveParts → List Pick → List TraceId → Row → Type 0
+RowIsCovered sieve picks ids row = is_sifted sieve row.span ≡ true
     → (p : Pick) × Contains picks p × (p.trace ≡ row.span.trace) × ((is_one_of ids p.trace ≡ true) ⊎ (row.span.start ≤ p.latest))
 
--- what hinted rows pick is what they are covered by
-picks_cover : (hint : Hint) (rows : List Row) (picks : List Pick) (ids : List TraceId) → All (IsCovered picks) (hinted_picks hint (spans_of rows)) → AreCovered hint rows picks ids
-picks_cover hint rows picks ids all =
-    All-weaker (Contains rows) (RowIsCovered hint picks ids) covers rows (All-contains_itself rows)
+-- what sifted rows pick is what they are covered by
+picks_cover : (sieve : SieveParts) (rows : List Row) (picks : List Pick) (ids : List TraceId) → All (IsCovered picks) (sifted_picks sieve (spans_of rows)) → AreCovered sieve rows picks ids
+picks_cover sieve rows picks ids all =
+    All-weaker (Contains rows) (RowIsCovered sieve picks ids) covers rows (All-contains_itself rows)
   where
-    covers : (row : Row) → Contains rows row → RowIsCovered hint picks ids row
-    covers row m hinted =
-        let among = contains_map pick_of (filter (is_hinted hint) (spans_of rows)) row.span
-        (contains_filter (is_hinted hint) (spans_of rows) row.span (contains_map (λ (r : Row). r.span) rows row m) hinted) in
-        let c = All-contains (IsCovered picks) (hinted_picks hint (spans_of rows)) (pick_of row.span) all among in
+    covers : (row : Row) → Contains rows row → RowIsCovered sieve picks ids row
+    covers row m sifted =
+        let among = contains_map pick_of (filter (is_sifted sieve) (spans_of rows)) row.span
+        (contains_filter (is_sifted sieve) (spans_of rows) row.span (contains_map (λ (r : Row). r.span) rows row m) sifted) in
+        let c = All-contains (IsCovered picks) (sifted_picks sieve (spans_of rows)) (pick_of row.span) all among in
         (c.0, c.1, c.2, inr c.3)
 
 -- rows of traces that were picked and answered
-theirs_covered : (hint : Hint) (rows : List Row) (picks : List Pick) (ids : List TraceId) → ((id : TraceId) → is_one_of ids id ≡ true → is_one_of (traces_of picks) id ≡ true)
-    → rows_of_traces ids rows ≡ rows → AreCovered hint rows picks ids
-theirs_covered hint rows picks ids there theirs =
-    All-weaker (λ (row : Row). is_one_of ids row.span.trace ≡ true) (RowIsCovered hint picks ids) covers rows
+theirs_covered : (sieve : SieveParts) (rows : List Row) (picks : List Pick) (ids : List TraceId) → ((id : TraceId) → is_one_of ids id ≡ true → is_one_of (traces_of picks) id ≡ true)
+    → rows_of_traces ids rows ≡ rows → AreCovered sieve rows picks ids
+theirs_covered sieve rows picks ids there theirs =
+    All-weaker (λ (row : Row). is_one_of ids row.span.trace ≡ true) (RowIsCovered sieve picks ids) covers rows
     (subst (λ (l : List Row). All (λ (row : Row). is_one_of ids row.span.trace ≡ true) l) theirs (filter_passes (λ (row : Row). is_one_of ids row.span.trace) rows))
   where
-    covers : (row : Row) → is_one_of ids row.span.trace ≡ true → RowIsCovered hint picks ids row
-    covers row one hinted =
+    covers : (row : Row) → is_one_of ids row.span.trace ≡ true → RowIsCovered sieve picks ids row
+    covers row one sifted =
         let of = pick_there picks row.span.trace (there row.span.trace one) in
         (of.pick, of.among, of.is, inl (ap (is_one_of ids) of.is ∙ one))
 
@@ -80,7 +82,7 @@ theirs_covered hint rows picks ids there theirs =
 
 module _ (law : TakenAnswerTheWhole) (asked : Asked) (as_of : ℕ) (own : List Row) (each : List (List Pick)) (picks : List Pick) (same : flat_map (λ few. few) each ≡ picks) (apart : AreApart picks)
     (best : BestParts) (answer : SearchAnswer) (count : answer.as_of ≡ as_of) (is : answer.results ≡ best.kept) where
-  tells : (rows : List Row) (ids : List TraceId) → TakesEach asked (own ++ rows) each (no_best asked) ids best → AreCovered (asked_hint asked) (own ++ rows) picks ids
+  tells : (rows : List Row) (ids : List TraceId) → TakesEach asked (own ++ rows) each (no_best asked) ids best → AreCovered (asked_sieve asked) (own ++ rows) picks ids
       → IsSearchAnswer asked as_of (own ++ rows) answer
   tells rows ids taken covered =
       let first = firsts_exist (own ++ rows) in record {
@@ -89,17 +91,17 @@ module _ (law : TakenAnswerTheWhole) (asked : Asked) (as_of : ℕ) (own : List R
         are_first = first.1;
         found = subst (AnswersSearch asked first.0) (sym is)
             (law asked (own ++ rows) first.0 each ids best first.1 (subst AreApart (sym same) apart)
-            (subst (λ (l : List Pick). AreCovered (asked_hint asked) (own ++ rows) l ids) (sym same) covered) taken);
+            (subst (λ (l : List Pick). AreCovered (asked_sieve asked) (own ++ rows) l ids) (sym same) covered) taken);
       }
 
   all_told : (rows : List Row) → TakenWith asked own each rows best → AllIfPicked asked as_of own picks rows answer
-  all_told rows taken covered = tells rows taken.0 taken.1 (picks_cover (asked_hint asked) (own ++ rows) picks taken.0 covered)
+  all_told rows taken covered = tells rows taken.0 taken.1 (picks_cover (asked_sieve asked) (own ++ rows) picks taken.0 covered)
 
   own_told : (rows : List Row) → TakenTheirs asked own each rows best → OwnIfPicked asked as_of own picks rows answer
   own_told rows taken covered =
       tells rows taken.0 taken.1
-      (All-append (RowIsCovered (asked_hint asked) picks taken.0) own rows (picks_cover (asked_hint asked) own picks taken.0 covered)
-      (theirs_covered (asked_hint asked) rows picks taken.0 there taken.2))
+      (All-append (RowIsCovered (asked_sieve asked) picks taken.0) own rows (picks_cover (asked_sieve asked) own picks taken.0 covered)
+      (theirs_covered (asked_sieve asked) rows picks taken.0 there taken.2))
     where
       there : (id : TraceId) → is_one_of taken.0 id ≡ true → is_one_of (traces_of picks) id ≡ true
       there id one =
@@ -188,19 +190,23 @@ pub read_in_parts : {P : Type 0} (meaning : Meaning P) (look : Look) (asked : As
     → BlocksRead meaning look look.pin.blocks (OwnIfPicked asked look.as_of look.rows picks) (AllIfPicked asked look.as_of look.rows picks) (AtMost (look_ups (traces_of picks) look.pin.blocks)) old r new
 read_in_parts meaning look asked picks parts old new r moved =
     read_as meaning look look.pin.blocks (λ rows a b. subst (λ n. RoseAtMost n a b) (look_ups_same picks parts look.pin.blocks rows moved)) old new r
-    (λ x rows told covered. told (covered_so picks parts (hinted_picks (asked_hint asked) (spans_of look.rows)) moved covered))
-    (λ x rows told covered. told (covered_so picks parts (hinted_picks (asked_hint asked) (spans_of (look.rows ++ rows))) moved covered))
+    (λ x rows told covered. told (covered_so picks parts (sifted_picks (asked_sieve asked) (spans_of look.rows)) moved covered))
+    (λ x rows told covered. told (covered_so picks parts (sifted_picks (asked_sieve asked) (spans_of (look.rows ++ rows))) moved covered))
 
 -- ---- how much is read
 
 -- for picks and then for what is picked
-pub picked_within : (hint : Hint) (own : List Row) (picks : List Pick) (infos : List InfoParts) (parts : List (List Row)) (a b c : ℕ) → AllArePicked hint own (flat_map (λ part. part) parts) picks
-    → RoseAtMost (hinted_pages hint infos) a b → RoseAtMost (look_ups (traces_of picks) infos parts) b c → SearchReads hint own infos parts a c
-picked_within hint own picks infos parts a b c are one two = (
-  traces_of picks,
-  (picks, are, refl),
-  rose_twice (hinted_pages hint infos) (look_ups (traces_of picks) infos parts) (search_pages hint (traces_of picks) infos parts) a b c one two (omega arith),
-)
+pub picked_within : (sieve : SieveParts) (own : List Row) (picks : List Pick) (infos : List InfoParts) (parts : List (List Row)) (a b c : ℕ)
+    → AllArePicked sieve own (flat_map (λ part. part) parts) picks → RoseAtMost (hinted_pages sieve.hint infos) a b → RoseAtMost (look_ups (traces_of picks) infos parts) b c
+    → SearchReads sieve.hint own infos parts a c
+picked_within sieve own picks infos parts a b c are one two =
+    let hint = sieve.hint in
+    let all = candidates_exist hint (spans_of (all_rows own parts)) in
+    let less = sifted_sum (λ id. look_up_pages id infos parts) sieve (spans_of (all_rows own parts)) picks all.0 are all.1 in (
+      all.0,
+      all.1,
+      rose_twice (hinted_pages hint infos) (look_ups (traces_of picks) infos parts) (search_pages hint all.0 infos parts) a b c one two (omega (arith, less)),
+    )
 
 -- for no more than picks
 pub hinted_within : (hint : Hint) (own : List Row) (infos : List InfoParts) (parts : List (List Row)) (a b : ℕ) → RoseAtMost (hinted_pages hint infos) a b → SearchReads hint own infos parts a b
@@ -216,36 +222,36 @@ none_within hint own infos parts n = hinted_within hint own infos parts n n (ros
 
 -- ---- what is told of picks that are all
 
-pub own_all : (asked : Asked) (as_of : ℕ) (own a b : List Row) (picks : List Pick) (answer : SearchAnswer) → OwnArePicked (asked_hint asked) own a picks → OwnIfPicked asked as_of own picks b answer
+pub own_all : (asked : Asked) (as_of : ℕ) (own a b : List Row) (picks : List Pick) (answer : SearchAnswer) → OwnArePicked (asked_sieve asked) own a picks → OwnIfPicked asked as_of own picks b answer
     → IsSearchAnswer asked as_of (own ++ (a ++ b)) answer
 own_all asked as_of own a b picks answer are told =
     subst (λ (l : List Row). IsSearchAnswer asked as_of (own ++ (l ++ b)) answer) (sym are.none) (told are.whole)
 
-module _ {P A : Type 0} (meaning : Meaning P) (look : Look) (asked : Asked) (hint : Hint) (items : A → List Pick) (old new : P) (is : hint ≡ asked_hint asked) where
-  -- the picks are read, for this hint
-  abbrev PicksRead : Hint → Result A QueryError → P → Type 0
-  PicksRead h = BlocksRead meaning look look.pin.blocks (λ rows picks. OwnArePicked h look.rows rows (items picks)) (λ rows picks. AllArePicked h look.rows rows (items picks))
-      (AtMost (λ parts. hinted_pages h look.pin.blocks)) old
+module _ {P A : Type 0} (meaning : Meaning P) (look : Look) (asked : Asked) (sieve : SieveParts) (items : A → List Pick) (old new : P) (is : sieve ≡ asked_sieve asked) where
+  -- the picks are read, by this sieve
+  abbrev PicksRead : SieveParts → Result A QueryError → P → Type 0
+  PicksRead s = BlocksRead meaning look look.pin.blocks (λ rows picks. OwnArePicked s look.rows rows (items picks)) (λ rows picks. AllArePicked s look.rows rows (items picks))
+      (AtMost (λ parts. hinted_pages s.hint look.pin.blocks)) old
 
   abbrev SearchRead : Result SearchAnswer QueryError → P → Type 0
   SearchRead = BlocksRead meaning look look.pin.blocks (λ rows found. IsSearchAnswer asked look.as_of (look.rows ++ rows) found) (λ rows found. IsSearchAnswer asked look.as_of (look.rows ++ rows) found)
       (SearchReads (asked_hint asked) look.rows look.pin.blocks) old
 
   -- and then what is picked is searched
-  pub picks_then : (mid : P) (picks : A) (r : Result SearchAnswer QueryError) → PicksRead hint (Ok picks) mid
+  pub picks_then : (mid : P) (picks : A) (r : Result SearchAnswer QueryError) → PicksRead sieve (Ok picks) mid
       → BlocksRead meaning look look.pin.blocks (OwnIfPicked asked look.as_of look.rows (items picks)) (AllIfPicked asked look.as_of look.rows (items picks))
       (AtMost (look_ups (traces_of (items picks)) look.pin.blocks)) mid r new
       → SearchRead r new
   picks_then mid picks r read more =
-      reads_then meaning look old mid new picks (subst (λ h. PicksRead h (Ok picks) mid) is read) r more
+      reads_then meaning look old mid new picks (subst (λ s. PicksRead s (Ok picks) mid) is read) r more
       (λ rows found. IsSearchAnswer asked look.as_of (look.rows ++ rows) found) (λ rows found. IsSearchAnswer asked look.as_of (look.rows ++ rows) found)
       (SearchReads (asked_hint asked) look.rows look.pin.blocks)
       (λ answer a b are told. own_all asked look.as_of look.rows a b (items picks) answer are told)
       (λ answer rows are told. told are.latest.whole)
-      (λ parts a b c are one two. picked_within (asked_hint asked) look.rows (items picks) look.pin.blocks parts a b c are one two)
+      (λ parts a b c are one two. picked_within (asked_sieve asked) look.rows (items picks) look.pin.blocks parts a b c are one two)
 
   -- or they could not be
-  pub picks_failed : (why : QueryError) → PicksRead hint (Err why) new → SearchRead (Err why) new
+  pub picks_failed : (why : QueryError) → PicksRead sieve (Err why) new → SearchRead (Err why) new
   picks_failed why read =
       read_failed meaning look look.pin.blocks (λ parts a b rose. hinted_within (asked_hint asked) look.rows look.pin.blocks parts a b rose) old new why
-      (subst (λ h. PicksRead h (Err why) new) is read)
+      (subst (λ s. PicksRead s (Err why) new) is read)

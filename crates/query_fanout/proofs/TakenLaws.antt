@@ -1,36 +1,20 @@
 -- Picks that are taken in turns.
-use Rattle.std.proofs.Common.{◌≡◌, ◌⊎◌, inl, inr, ℕ, zero, suc, ◌+◌, ◌≤◌, ◌<◌, Bool, true, false, true≢false, ◌||◌, List, [], ◌∷◌, ◌++◌, length, map, filter, take, drop, All, Contains, arith, append-nil, append_assoc, refl, sym, ap, subst, ◌∙◌, slice_index_or}
+use Rattle.std.proofs.Common.{◌≡◌, ℕ, ◌+◌, ◌≤◌, ◌<◌, List, [], ◌∷◌, ◌++◌, length, map, take, drop, arith, append-nil, refl, sym, ap, subst, ◌∙◌, slice_index_or}
 use Rattle.std.specs.Prelude.{sum_by}
-use Rattle.std.specs.List.{AllPairs, IsDistinct, flat_map}
-use Rattle.std.specs.List.Sorted.{IsPermutation}
-use Rattle.std.specs.Ordering.{is_eq}
-use Rattle.std.proofs.lemmas.Cmp.{eq_by_cmp_equiv}
+use Rattle.std.specs.List.{flat_map}
 use Rattle.std.proofs.lemmas.Grind.{flat_map-append}
 use Rattle.std.proofs.lemmas.List.{get_or_append_left, length-append, map-append, take_more, take-append-drop}
-use Rattle.std.proofs.lemmas.List.Elements.{All-append, All-contains, All-contains_itself, All-weaker, Contains-append_cases, Contains-append_left, Contains-append_right, filter_passes}
-use Rattle.std.proofs.lemmas.List.Sorted.{Contains-permutation, IsPermutation-map, IsPermutation-sym, sum_by-IsPermutation}
 use Rattle.std.proofs.lemmas.List.Sums.{sum_by-append}
-use Rattle.std.proofs.lemmas.Map.Keys.{IsDistinct-IsPermutation, IsDistinct-from_apart, apart_from_distinct}
-use Rattle.span_types.specs.declared.ids.TraceId.{TraceId}
 use Rattle.span_types.specs.declared.spans.Row.{Row}
-use Rattle.span_types.specs.Orders.{trace_cmp}
 use Rattle.block_info.specs.InfoParts.{InfoParts}
 use Rattle.block_read.specs.Answers.{RoseAtMost}
-use Rattle.stripe_traces.specs.Wanted.{is_one_of, rows_of_traces}
-use Rattle.column_scan.specs.Candidates.{AreCandidates, ArePicks, Ascend, HaveLatest, IsCovered, hinted_picks, is_hinted, pick_of, spans_of}
-use Rattle.column_scan.specs.declared.hints.Hint.{Hint}
 use Rattle.column_scan.specs.declared.picks.Pick.{Pick}
-use Rattle.column_scan.proofs.Latest.{contains_filter, contains_map}
-use Rattle.search_answer.proofs.Fronts.{same_trace, trace_cmp_total}
-use Rattle.search_answer.specs.Keeping.{BestParts, may_come}
-use Rattle.store_model.proofs.FirstsExist.{firsts_exist}
-use Rattle.query_fanout.specs.Bounds.{SearchReads, all_rows, hinted_pages, look_up_pages, search_pages}
+use Rattle.search_answer.specs.Keeping.{BestParts}
+use Rattle.query_fanout.specs.Bounds.{look_up_pages}
 use Rattle.query_fanout.specs.Reading.{AtMost, look_ups}
-use Rattle.query_fanout.specs.SearchAnswers.{IsSearchAnswer}
-use Rattle.query_fanout.specs.Searching.{AllArePicked, AllIfPicked, OwnArePicked, OwnIfPicked, TakenTheirs, TakenWith, TakesTheirs, TakesWith}
-use Rattle.query_fanout.specs.Taking.{AnswersSearch, AreApart, AreCovered, TakenAnswerTheWhole, Takes, TakesEach, TakesMore, TakesMoreRead, asked_hint, no_best, open_picks, traces_of}
+use Rattle.query_fanout.specs.Searching.{TakenTheirs, TakenWith, TakesTheirs, TakesWith}
+use Rattle.query_fanout.specs.Taking.{AreApart, TakesMore, TakesMoreRead, no_best, open_picks, traces_of}
 use Rattle.query_fanout.specs.declared.searching.Asked.{Asked}
-use Rattle.query_fanout.specs.declared.searching.SearchAnswer.{SearchAnswer}
 use Rattle.query_fanout.proofs.FewLaws.{rose_more}
 
 -- ---- one more few

@@ -1,5 +1,5 @@
 -- What is kept in the end is what the search answers over all rows.
-use Rattle.std.proofs.Common.{◌≡◌, ◌≢◌, ◌⊎◌, inl, inr, ℕ, ◌+◌, ◌-◌, ◌≤◌, List, [], ◌∷◌, ◌++◌, Bool, true, false, not, ◌||◌, Option, None, Some, nat_lt, filter, map, length, take, refl, sym, ◌∙◌, ap, subst, arith, All, Contains, slice_index_or, append-nil, length-append}
+use Rattle.std.proofs.Common.{◌≡◌, ◌≢◌, ◌⊎◌, inl, inr, ℕ, suc, zero, ◌+◌, ◌-◌, ◌≤◌, List, [], ◌∷◌, ◌++◌, Bool, true, false, not, ◌||◌, Option, None, Some, nat_lt, filter, map, length, take, refl, sym, ◌∙◌, ap, subst, arith, All, Contains, slice_index_or, append-nil, length-append}
 use Rattle.std.specs.Prelude.{slice_get}
 use Rattle.std.specs.List.{AllByRecursion, flat_map}
 use Rattle.std.specs.List.Sorted.{IsSorted}
@@ -16,6 +16,7 @@ use Rattle.span_types.specs.First.{IsFirstOf}
 use Rattle.span_types.specs.Orders.{trace_cmp}
 use Rattle.span_types.specs.declared.ids.TraceId.{TraceId}
 use Rattle.span_types.specs.declared.spans.Row.{Row}
+use Rattle.span_types.specs.declared.spans.Span.{Span}
 use Rattle.rows_by_trace.specs.Traces.{rows_of_trace}
 use Rattle.rows_by_trace.proofs.TraceLaws.{trace_of_firsts}
 use Rattle.spanset_eval.specs.declared.results.TraceResult.{TraceResult}
@@ -35,13 +36,14 @@ use Rattle.search_answer.proofs.OneList.{one_outcome}
 use Rattle.search_answer.proofs.PartLaws.{trace_is}
 use Rattle.search_answer.proofs.PickedLaws.{firsts_are_one}
 use Rattle.search_answer.proofs.RankLaws.{first_joined}
-use Rattle.column_scan.specs.Candidates.{is_hinted}
+use Rattle.column_scan.specs.Candidates.{pick_of, spans_of}
+use Rattle.column_scan.specs.Sieves.{AnsweredIsPicked, is_sifted, sifted_picks}
 use Rattle.column_scan.specs.declared.picks.Pick.{Pick}
 use Rattle.column_scan.proofs.Latest.{contains_filter}
-use Rattle.column_scan.proofs.PickLaws.{hinted_row}
+use Rattle.column_scan.proofs.Latest.{itself as latest_themselves}
 use Rattle.stripe_traces.specs.Wanted.{is_one_of}
 use Rattle.query_fanout.specs.declared.searching.Asked.{Asked}
-use Rattle.query_fanout.specs.Taking.{Answered, AnswersSearch, AreApart, AreCovered, Takes, TakesEach, TakenAnswerTheWhole, asked_hint, no_best, open_picks, traces_of}
+use Rattle.query_fanout.specs.Taking.{Answered, AnswersSearch, AreApart, AreCovered, Takes, TakesEach, TakenAnswerTheWhole, asked_sieve, no_best, open_picks, traces_of}
 use Rattle.query_fanout.proofs.TakingLaws.{all_among, answered_there, kept_pick, no_rows, not_both, not_true, of_either, of_first, of_second, one_pick, open_is_there, or_left, pick_there}
 
 -- ---- picks
@@ -467,8 +469,33 @@ module _ (asked : Asked) (rows firsts : List Row) (is_first : IsFirstOf rows fir
 
 -- ---- the whole
 
-module _ (asked : Asked) (rows firsts : List Row) (picks : List Pick) (ids : List TraceId) (is_first : IsFirstOf rows firsts) (apart : AreApart picks)
-    (covered : AreCovered (asked_hint asked) rows picks ids) where
+-- a row that passes the test, and that is picked so
+record RowOf (test : Span → Bool) (rows : List Row) (p : Pick) : Type 0 where
+  row : Row
+  member : Contains rows row
+  passes : test row.span ≡ true
+  is : pick_of row.span ≡ p
+
+next_row : (test : Span → Bool) (x : Row) (rows : List Row) (p : Pick) → RowOf test rows p → RowOf test (x ∷ rows) p
+next_row test x rows p of = record { row = of.row; member = (suc of.member.0, omega (arith, of.member.1), of.member.2); passes = of.passes; is = of.is }
+
+row_of : (test : Span → Bool) (rows : List Row) (p : Pick) → Contains (map pick_of (filter test (spans_of rows))) p → RowOf test rows p
+row_of test [] p m = absurd (omega (arith, m.1))
+row_of test (x ∷ rows) p m = at (λ n. row_of test rows p n)
+  where
+    first_or : test x.span ≡ true → (Contains (map pick_of (filter test (spans_of rows))) p → RowOf test rows p) → Contains (pick_of x.span ∷ map pick_of (filter test (spans_of rows))) p
+        → RowOf test (x ∷ rows) p
+    first_or t rest (zero, low, is) = record { row = x; member = (0, omega arith, refl); passes = t; is = is }
+    first_or t rest (suc k, low, is) = next_row test x rows p (rest (k, omega (arith, low), is))
+
+    at : (Contains (map pick_of (filter test (spans_of rows))) p → RowOf test rows p) → RowOf test (x ∷ rows) p
+    at rest = (elim (test x.span) as (λ b. test x.span ≡ b → RowOf test (x ∷ rows) p) [
+      | true ↦ λ t. first_or t rest (rw t at m)
+      | false ↦ λ t. next_row test x rows p (rest (rw t at m))
+    ]) refl
+
+module _ (law : AnsweredIsPicked) (asked : Asked) (rows firsts : List Row) (picks : List Pick) (ids : List TraceId) (is_first : IsFirstOf rows firsts) (apart : AreApart picks)
+    (covered : AreCovered (asked_sieve asked) rows picks ids) where
   record Covers (id : TraceId) (r : TraceResult) : Type 0 where
     pick : Pick
     among : Contains picks pick
@@ -478,10 +505,13 @@ module _ (asked : Asked) (rows firsts : List Row) (picks : List Pick) (ids : Lis
   -- the trace of a result is picked
   covers : (id : TraceId) (r : TraceResult) → IsFound asked firsts id r → Covers id r
   covers id r found =
-      let h = hinted_row asked.checked.patterns (query_tree asked.checked.query) asked.range rows firsts id r is_first found in
-      let c = All-contains (λ row. is_hinted (asked_hint asked) row.span ≡ true
+      let all = sifted_picks (asked_sieve asked) (spans_of rows) in
+      let p = law asked.checked.patterns (query_tree asked.checked.query) asked.range rows firsts all id r is_first (latest_themselves all) found in
+      let h = row_of (is_sifted (asked_sieve asked)) rows p.0 p.1 in
+      let c = All-contains (λ row. is_sifted (asked_sieve asked) row.span ≡ true
       → (p : Pick) × Contains picks p × (p.trace ≡ row.span.trace) × ((is_one_of ids p.trace ≡ true) ⊎ (row.span.start ≤ p.latest))) rows h.row covered h.member h.passes in
-      record { pick = c.0; among = c.1; is = c.2 ∙ h.is; late = no_later c.0 h.row h.late c.3 }
+      let starts = ap (λ (q : Pick). q.latest) h.is in
+      record { pick = c.0; among = c.1; is = c.2 ∙ ap (λ (q : Pick). q.trace) h.is ∙ p.2; late = no_later c.0 h.row (omega (arith, p.3, starts)) c.3 }
     where
       no_later : (p : Pick) (row : Row) → r.start ≤ row.span.start → (is_one_of ids p.trace ≡ true) ⊎ (row.span.start ≤ p.latest) → (is_one_of ids p.trace ≡ true) ⊎ (r.start ≤ p.latest)
       no_later p row early (inl one) = inl one
@@ -510,8 +540,8 @@ module _ (asked : Asked) (rows firsts : List Row) (picks : List Pick) (ids : Lis
         is = u.is;
       }
 
-pub taken_answer : TakenAnswerTheWhole
-taken_answer asked rows firsts each ids best is_first apart covered takes =
-    answers_whole asked rows firsts (joined each) ids is_first apart covered best
+pub taken_answer : AnsweredIsPicked → TakenAnswerTheWhole
+taken_answer law asked rows firsts each ids best is_first apart covered takes =
+    answers_whole law asked rows firsts (joined each) ids is_first apart covered best
     (taken asked rows firsts is_first [] each (no_best asked) best ids (none_kept asked rows firsts is_first) takes apart (λ id bad _. true≢false (sym bad))
-    (all_late asked rows firsts (joined each) ids is_first apart covered))
+    (all_late law asked rows firsts (joined each) ids is_first apart covered))

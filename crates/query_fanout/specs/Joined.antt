@@ -1,15 +1,15 @@
 -- Private mechanism: what is read of blocks is joined. Lemmas that ghost members cite, and no clause.
-use Rattle.std.proofs.Common.{◌≡◌, List, [], ◌++◌, All, Contains, arith, refl, sym, ap, subst, ◌∙◌}
+use Rattle.std.proofs.Common.{◌≡◌, List, [], ◌++◌, Contains, arith, refl, sym, ap, subst, ◌∙◌}
 use Rattle.std.proofs.lemmas.List.{map-append}
 use Rattle.std.proofs.lemmas.List.Elements.{All-append, All-contains_itself, All-weaker, Contains-append_left, Contains-append_right, filter-append}
 use Rattle.span_types.specs.declared.ids.TraceId.{TraceId}
 use Rattle.span_types.specs.declared.spans.Row.{Row}
 use Rattle.rows_by_trace.specs.Traces.{is_of_trace, rows_of_trace}
 use Rattle.stripe_traces.specs.Wanted.{is_one_of, rows_of_traces}
-use Rattle.column_scan.specs.Candidates.{HaveLatest, IsCovered, hinted_picks, spans_of}
-use Rattle.column_scan.specs.declared.hints.Hint.{Hint}
+use Rattle.column_scan.specs.Candidates.{HaveLatest, IsCovered, spans_of}
+use Rattle.column_scan.specs.Sieves.{SieveParts, sifted_picks}
 use Rattle.column_scan.specs.declared.picks.Pick.{Pick}
-use Rattle.column_scan.proofs.Latest.{hinted_append, itself, with_more, of_latest}
+use Rattle.column_scan.proofs.Latest.{itself, of_latest, sifted_append, with_more}
 use Rattle.query_fanout.specs.Reading.{AreOfTrace, AreOfTraces, AreTheirs}
 use Rattle.query_fanout.specs.Searching.{ArePicked}
 
@@ -36,8 +36,8 @@ none_both a b first second = ap (λ (l : List Row). l ++ b) first ∙ second
 
 -- ---- picks
 
-pub none_picked : (hint : Hint) → ArePicked hint [] []
-none_picked hint = itself []
+pub none_picked : (sieve : SieveParts) → ArePicked sieve [] []
+none_picked sieve = itself []
 
 pub with_before : (front all some : List Pick) → HaveLatest all some → HaveLatest (front ++ all) (front ++ some)
 with_before front all some have = record {
@@ -52,9 +52,9 @@ with_before front all some have = record {
 pub both_latest : (a b x y : List Pick) → HaveLatest a x → HaveLatest b y → HaveLatest (a ++ b) (x ++ y)
 both_latest a b x y first second = of_latest (a ++ b) (x ++ b) (x ++ y) (with_more a x b first) (with_before x b y second)
 
-pub hinted_both : (hint : Hint) (a b : List Row) → hinted_picks hint (spans_of (a ++ b)) ≡ hinted_picks hint (spans_of a) ++ hinted_picks hint (spans_of b)
-hinted_both hint a b = ap (hinted_picks hint) (map-append (λ (row : Row). row.span) a b) ∙ hinted_append hint (spans_of a) (spans_of b)
+pub sifted_both : (sieve : SieveParts) (a b : List Row) → sifted_picks sieve (spans_of (a ++ b)) ≡ sifted_picks sieve (spans_of a) ++ sifted_picks sieve (spans_of b)
+sifted_both sieve a b = ap (sifted_picks sieve) (map-append (λ (row : Row). row.span) a b) ∙ sifted_append sieve (spans_of a) (spans_of b)
 
-pub picked_both : (hint : Hint) (a b : List Row) (x y : List Pick) → ArePicked hint a x → ArePicked hint b y → ArePicked hint (a ++ b) (x ++ y)
-picked_both hint a b x y first second =
-    subst (λ (l : List Pick). HaveLatest l (x ++ y)) (sym (hinted_both hint a b)) (both_latest (hinted_picks hint (spans_of a)) (hinted_picks hint (spans_of b)) x y first second)
+pub picked_both : (sieve : SieveParts) (a b : List Row) (x y : List Pick) → ArePicked sieve a x → ArePicked sieve b y → ArePicked sieve (a ++ b) (x ++ y)
+picked_both sieve a b x y first second =
+    subst (λ (l : List Pick). HaveLatest l (x ++ y)) (sym (sifted_both sieve a b)) (both_latest (sifted_picks sieve (spans_of a)) (sifted_picks sieve (spans_of b)) x y first second)

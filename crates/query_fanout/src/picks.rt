@@ -1,9 +1,10 @@
-//! The traces that a search has to look at: those that have a hinted span in a look or in its blocks.
+//! The traces that a search has to look at: those that have a sifted span in a look or in its blocks.
 
 ghost use Rattle.std.specs.Prelude.{◌≡◌, ◌++◌, IfOk, map};
 ghost use Rattle.store_state.specs.Given.{look_of};
 ghost use Rattle.store_state.specs.Meaning.{IsOpen};
-ghost use Rattle.column_scan.specs.Candidates.{ArePicks, Ascend, HaveLatest, hinted_picks, spans_of};
+ghost use Rattle.column_scan.specs.Candidates.{Ascend, HaveLatest, spans_of};
+ghost use Rattle.column_scan.specs.Sieves.{AreSifted, sifted_picks};
 ghost use Rattle.query_fanout.specs.Bounds.{hinted_pages};
 ghost use Rattle.query_fanout.specs.Reading.{AtMost, BlocksRead};
 ghost use Rattle.query_fanout.specs.Searching.{AllArePicked, OwnArePicked};
@@ -12,16 +13,16 @@ use crate::QueryError;
 use crate::blocks::{OfBlock, of_blocks};
 use block_info::BlockInfo;
 use block_read::{Pages, ReadError};
-use column_scan::{Hint, Pick, in_order, picks_of_block, picks_of_spans};
+use column_scan::{Pick, Sieve, in_order, picks_of_block, picks_of_spans};
 use span_types::{Memory, Row, Seq, Span};
 use std::alloc::Global;
 use store_state::{FlushPort, Look};
 
-// The traces that have a hinted span.
+// The traces that have a sifted span.
 #[derive(Drop)]
-struct Hinted<'h>(&'h Hint);
+struct Sifted<'s, 'q>(&'s Sieve<'q>);
 
-impl<'h> OfBlock for Hinted<'h> {
+impl<'s, 'q> OfBlock for Sifted<'s, 'q> {
     ghost use Rattle.std.specs.Prelude.{◌≡◌, [], refl};
     ghost use Rattle.column_scan.specs.Scans.{scanned_pages};
     ghost use Rattle.query_fanout.specs.Searching.{ArePicked};
@@ -35,7 +36,7 @@ impl<'h> OfBlock for Hinted<'h> {
 
     ghost fits = { λ s. ArePicked s.0.now };
 
-    ghost most = { λ s info rows. scanned_pages s.0.now info.stripes };
+    ghost most = { λ s info rows. scanned_pages s.0.now.hint info.stripes };
 
     fn of_block<G: Pages>(
         &self,
@@ -55,21 +56,21 @@ impl<'h> OfBlock for Hinted<'h> {
     ghost both = { λ s a b x y. (none_both a b, picked_both s.0.now a b x y) };
 }
 
-/// The traces that have a hinted span among the rows of an open look and its blocks, each once, in ascending order.
+/// The traces that have a sifted span among the rows of an open look and its blocks, each once, in ascending order.
 pub(crate) fn picks_of_look<P: FlushPort>(
     alloc: Global,
     port: &mut P,
     look: &Look,
-    hint: &Hint,
+    sieve: &Sieve,
 ) -> Result<Vec<Pick>, QueryError>
     requires { IsOpen P.meaning port.old (look_of look.now) }
     ensures { BlocksRead P.meaning look.now look.now.pin.blocks
-        (λ rows picks. OwnArePicked hint.now look.now.rows rows picks.items)
-        (λ rows picks. AllArePicked hint.now look.now.rows rows picks.items)
-        (AtMost (λ _. hinted_pages hint.now look.now.pin.blocks)) port.old result port.new }
+        (λ rows picks. OwnArePicked sieve.now look.now.rows rows picks.items)
+        (λ rows picks. AllArePicked sieve.now look.now.rows rows picks.items)
+        (AtMost (λ _. hinted_pages sieve.now.hint look.now.pin.blocks)) port.old result port.new }
 {
-    match of_blocks(alloc, port, look, &Hinted(hint)) {
-        Ok(found) => match with_own(alloc, look, hint, found) {
+    match of_blocks(alloc, port, look, &Sifted(sieve)) {
+        Ok(found) => match with_own(alloc, look, sieve, found) {
             Ok(picks) => Ok(picks),
             Err(Memory) => Err(QueryError::Memory),
         },
@@ -78,24 +79,29 @@ pub(crate) fn picks_of_look<P: FlushPort>(
 }
 
 // The picks among a look's rows, and more picks.
-fn with_own(alloc: Global, look: &Look, hint: &Hint, found: Seq<Pick>) -> Result<Vec<Pick>, Memory>
+fn with_own(
+    alloc: Global,
+    look: &Look,
+    sieve: &Sieve,
+    found: Seq<Pick>,
+) -> Result<Vec<Pick>, Memory>
     ensures latest { IfOk result (λ picks.
-        HaveLatest (hinted_picks hint.now (spans_of look.now.rows) ++ found) picks.items) }
+        HaveLatest (sifted_picks sieve.now (spans_of look.now.rows) ++ found) picks.items) }
     ensures ascending { IfOk result (λ picks. Ascend picks.items) }
 {
-    let mut picks = picks_of_own(alloc, look, hint)?;
+    let mut picks = picks_of_own(alloc, look, sieve)?;
     picks.append(&mut found.into_vec())?;
     let all = in_order(alloc, picks)?;
     Ok(all)
 }
 
 // The picks among a look's rows. The rows are copied, and let go.
-fn picks_of_own(alloc: Global, look: &Look, hint: &Hint) -> Result<Vec<Pick>, Memory>
-    ensures { IfOk result (λ picks. ArePicks hint.now (spans_of look.now.rows) picks.items) }
+fn picks_of_own(alloc: Global, look: &Look, sieve: &Sieve) -> Result<Vec<Pick>, Memory>
+    ensures { IfOk result (λ picks. AreSifted sieve.now (spans_of look.now.rows) picks.items) }
 {
     let rows = look.rows.copy_rows()?;
     let spans = spans_of(alloc, rows.as_slice())?;
-    let picks = picks_of_spans(alloc, hint, spans.as_slice())?;
+    let picks = picks_of_spans(alloc, sieve, spans.as_slice())?;
     Ok(picks)
 }
 

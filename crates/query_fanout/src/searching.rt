@@ -20,7 +20,7 @@ use crate::own::Own;
 use crate::picks::picks_of_look;
 use crate::taking::take_each;
 use crate::turns::{in_turns, two_parts};
-use column_scan::{Pick, hint};
+use column_scan::{Pick, sieve};
 use moment_range::Range;
 use span_types::Memory;
 use spanset_eval::Results;
@@ -53,11 +53,11 @@ pub struct SearchAnswer {
 /// What a search finds among the first occurrences of all spans, wherever they lie: in the rows of one look and in the
 /// blocks that it pins.
 ///
-/// First the traces that have a hinted span are picked, each with the latest start among its hinted spans: in the look's
-/// rows, and in each block by the stripes that may have one. Then they are looked up and answered a few at a time, those of
-/// late moments first, but for those of which no result can come among the best so far; `bounded` says how many pages that
-/// is at most. No rows are kept but those of a few traces, beside a copy of the look's rows. The look is given back in every
-/// case.
+/// First the traces are picked that have a sifted span, one that the query's sieve lets through, each with the latest start
+/// among its sifted spans: in the look's rows, and in each block by the stripes that may have one. Then they are looked up
+/// and answered a few at a time, those of late moments first, but for those of which no result can come among the best so
+/// far; `bounded` says how many pages that is at most. No rows are kept but those of a few traces, beside a copy of the
+/// look's rows. The look is given back in every case.
 pub fn search<P: FlushPort>(
     alloc: Global,
     port: &mut P,
@@ -90,11 +90,11 @@ fn search_of_look<P: FlushPort>(
         (λ rows found. IsSearchAnswer asked.now look.now.as_of (look.now.rows ++ rows) found)
         (SearchReads (asked_hint asked.now) look.now.rows look.now.pin.blocks) port.old result port.new }
 {
-    let hint = match hint(&asked.checked, asked.range) {
-        Ok(hint) => hint,
+    let sieve = match sieve(alloc, &asked.checked, asked.range) {
+        Ok(sieve) => sieve,
         Err(_) => return Err(QueryError::Memory),
     };
-    match picks_of_look(alloc, port, look, &hint) {
+    match picks_of_look(alloc, port, look, &sieve) {
         Ok(picks) => search_picks(alloc, port, look, asked, picks),
         Err(error) => Err(error),
     }

@@ -1,4 +1,4 @@
-use Rattle.std.proofs.Common.{◌≡◌, ℕ, ◌∷◌, [], refl, rules, sym, ap, subst, ◌∙◌}
+use Rattle.std.proofs.Common.{ℕ, ◌∷◌, [], refl, rules, sym, ap, subst, ◌∙◌}
 use Rattle.block_read.specs.Answers.{is_fault}
 use Rattle.block_read.specs.Lookups.{IsInFile}
 use Rattle.store_model.specs.State.{is_among}

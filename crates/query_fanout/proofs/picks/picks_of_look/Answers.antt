@@ -4,17 +4,17 @@ use Rattle.query_fanout.proofs.picks.picks_of_look.Goals as goal
 
 pub returns-in-Ok-with_own : goal.returns-in-Ok-with_own
 returns-in-Ok-with_own g c =
-    let hint = c.args.hint.now in
+    let sieve = c.args.sieve.now in
     let own = c.args.look.now.rows in
-    read_told g.P.LookPort.meaning c.args.look.now c.args.look.now.pin.blocks (hinted_widens hint c.args.look.now.pin.blocks) c.args.port.now c.of_blocks.new.port c.in-Ok.found
+    read_told g.P.LookPort.meaning c.args.look.now c.args.look.now.pin.blocks (hinted_widens sieve.hint c.args.look.now.pin.blocks) c.args.port.now c.of_blocks.new.port c.in-Ok.found
     c.in-Ok-with_own.picks c.in-Ok.ensures
-    (own_picked hint own c.in-Ok.found c.in-Ok-with_own.picks.items c.in-Ok-with_own.ensures.latest c.in-Ok-with_own.ensures.ascending)
-    (all_picked hint own c.in-Ok.found c.in-Ok-with_own.picks.items c.in-Ok-with_own.ensures.latest c.in-Ok-with_own.ensures.ascending)
+    (own_picked sieve own c.in-Ok.found c.in-Ok-with_own.picks.items c.in-Ok-with_own.ensures.latest c.in-Ok-with_own.ensures.ascending)
+    (all_picked sieve own c.in-Ok.found c.in-Ok-with_own.picks.items c.in-Ok-with_own.ensures.latest c.in-Ok-with_own.ensures.ascending)
 
 pub returns-in-Err-with_own : goal.returns-in-Err-with_own
 returns-in-Err-with_own g c =
-    read_starved g.P.LookPort.meaning c.args.look.now c.args.look.now.pin.blocks (hinted_widens c.args.hint.now c.args.look.now.pin.blocks) c.args.port.now c.of_blocks.new.port c.in-Ok.found c.in-Ok.ensures
+    read_starved g.P.LookPort.meaning c.args.look.now c.args.look.now.pin.blocks (hinted_widens c.args.sieve.now.hint c.args.look.now.pin.blocks) c.args.port.now c.of_blocks.new.port c.in-Ok.found c.in-Ok.ensures
 
 pub returns-in-Err : goal.returns-in-Err
 returns-in-Err g c =
-    read_failed g.P.LookPort.meaning c.args.look.now c.args.look.now.pin.blocks (hinted_widens c.args.hint.now c.args.look.now.pin.blocks) c.args.port.now c.of_blocks.new.port c.in-Err.error c.in-Err.ensures
+    read_failed g.P.LookPort.meaning c.args.look.now c.args.look.now.pin.blocks (hinted_widens c.args.sieve.now.hint c.args.look.now.pin.blocks) c.args.port.now c.of_blocks.new.port c.in-Err.error c.in-Err.ensures

@@ -23,10 +23,10 @@ search_picks-requires-clause-ascend g c = c.in-Ok-picks_of_look.ensures.comes.2.
 
 pub returns-in-Ok-picks_of_look : goal.returns-in-Ok-picks_of_look
 returns-in-Ok-picks_of_look g c =
-    picks_then g.P.LookPort.meaning c.args.look.now c.args.asked.now c.in-Ok.hint (λ picks. picks.items) c.args.port.now c.search_picks.new.port c.in-Ok.ensures c.picks_of_look.new.port
+    picks_then g.P.LookPort.meaning c.args.look.now c.args.asked.now c.in-Ok.sieve (λ picks. picks.items) c.args.port.now c.search_picks.new.port c.in-Ok.ensures c.picks_of_look.new.port
     c.in-Ok-picks_of_look.picks c.search_picks.result c.in-Ok-picks_of_look.ensures c.search_picks.ensures
 
 pub returns : goal.returns
 returns g c =
-    picks_failed g.P.LookPort.meaning c.args.look.now c.args.asked.now c.in-Ok.hint (λ (picks : Vec Pick Global). picks.items) c.args.port.now c.picks_of_look.new.port c.in-Ok.ensures
+    picks_failed g.P.LookPort.meaning c.args.look.now c.args.asked.now c.in-Ok.sieve (λ (picks : Vec Pick Global). picks.items) c.args.port.now c.picks_of_look.new.port c.in-Ok.ensures
     c.in-Err-picks_of_look.error c.in-Err-picks_of_look.ensures
