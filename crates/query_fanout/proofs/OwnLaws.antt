@@ -1,4 +1,4 @@
--- A look's rows may be replaced by their first occurrences.
+-- Rows may be replaced by their first occurrences.
 use Rattle.std.proofs.Common.{Result, ◌≡◌, ℕ, Some, true, false, List, [], ◌∷◌, ◌++◌, All, Contains, refl, subst}
 use Rattle.std.specs.List.{AllByRecursion}
 use Rattle.std.proofs.lemmas.List.Elements.{All-append, All-contains_itself, All-from_recursion, All-weaker, Contains-append_left, Contains-append_right, recursion_from_All}
@@ -62,10 +62,10 @@ module _ (asked : Asked) (as_of : ℕ) (own firsts : List Row) (picks : List Pic
       (h (All-from_recursion (IsCovered picks) _ (covered_part (asked_sieve asked) picks own firsts covered (recursion_from_All (Contains own) firsts (firsts_within own firsts are)))))
 
 -- what is told over first occurrences is told over all of the rows
-pub told_of_all : {P : Type 0} {within : List (List Row) → ℕ → ℕ → Type 0} (meaning : Meaning P) (look : Look) (asked : Asked) (firsts : List Row) (picks : List Pick) → IsFirstOf look.rows firsts
+pub told_of_all : {P : Type 0} {within : List (List Row) → ℕ → ℕ → Type 0} (meaning : Meaning P) (look : Look) (asked : Asked) (own firsts : List Row) (picks : List Pick) → IsFirstOf own firsts
     → (old new : P) (r : Result SearchAnswer QueryError)
     → BlocksRead meaning look look.pin.blocks (OwnIfPicked asked look.as_of firsts picks) (AllIfPicked asked look.as_of firsts picks) within old r new
-    → BlocksRead meaning look look.pin.blocks (OwnIfPicked asked look.as_of look.rows picks) (AllIfPicked asked look.as_of look.rows picks) within old r new
-told_of_all meaning look asked firsts picks are old new r h =
-    read_as meaning look look.pin.blocks (λ parts a b rose. rose) old new r (λ x rows. own_if_picked asked look.as_of look.rows firsts picks are rows x)
-    (λ x rows. all_if_picked asked look.as_of look.rows firsts picks are rows x) h
+    → BlocksRead meaning look look.pin.blocks (OwnIfPicked asked look.as_of own picks) (AllIfPicked asked look.as_of own picks) within old r new
+told_of_all meaning look asked own firsts picks are old new r h =
+    read_as meaning look look.pin.blocks (λ parts a b rose. rose) old new r (λ x rows. own_if_picked asked look.as_of own firsts picks are rows x)
+    (λ x rows. all_if_picked asked look.as_of own firsts picks are rows x) h

@@ -185,13 +185,13 @@ read_as meaning look infos rose old new (Ok x) make_some make h = read_told mean
 read_as meaning look infos rose old new (Err why) make_some make h = read_failed meaning look infos rose old new why h
 
 -- A search over picks in another order is one over these.
-pub read_in_parts : {P : Type 0} (meaning : Meaning P) (look : Look) (asked : Asked) (picks parts : List Pick) (old new : P) (r : Result SearchAnswer QueryError) → IsPermutation picks parts
-    → BlocksRead meaning look look.pin.blocks (OwnIfPicked asked look.as_of look.rows parts) (AllIfPicked asked look.as_of look.rows parts) (AtMost (look_ups (traces_of parts) look.pin.blocks)) old r new
-    → BlocksRead meaning look look.pin.blocks (OwnIfPicked asked look.as_of look.rows picks) (AllIfPicked asked look.as_of look.rows picks) (AtMost (look_ups (traces_of picks) look.pin.blocks)) old r new
-read_in_parts meaning look asked picks parts old new r moved =
+pub read_in_parts : {P : Type 0} (meaning : Meaning P) (look : Look) (own : List Row) (asked : Asked) (picks parts : List Pick) (old new : P) (r : Result SearchAnswer QueryError) → IsPermutation picks parts
+    → BlocksRead meaning look look.pin.blocks (OwnIfPicked asked look.as_of own parts) (AllIfPicked asked look.as_of own parts) (AtMost (look_ups (traces_of parts) look.pin.blocks)) old r new
+    → BlocksRead meaning look look.pin.blocks (OwnIfPicked asked look.as_of own picks) (AllIfPicked asked look.as_of own picks) (AtMost (look_ups (traces_of picks) look.pin.blocks)) old r new
+read_in_parts meaning look own asked picks parts old new r moved =
     read_as meaning look look.pin.blocks (λ rows a b. subst (λ n. RoseAtMost n a b) (look_ups_same picks parts look.pin.blocks rows moved)) old new r
-    (λ x rows told covered. told (covered_so picks parts (sifted_picks (asked_sieve asked) (spans_of look.rows)) moved covered))
-    (λ x rows told covered. told (covered_so picks parts (sifted_picks (asked_sieve asked) (spans_of (look.rows ++ rows))) moved covered))
+    (λ x rows told covered. told (covered_so picks parts (sifted_picks (asked_sieve asked) (spans_of own)) moved covered))
+    (λ x rows told covered. told (covered_so picks parts (sifted_picks (asked_sieve asked) (spans_of (own ++ rows))) moved covered))
 
 -- ---- how much is read
 
@@ -220,6 +220,14 @@ hinted_within hint own infos parts a b rose =
 pub none_within : (hint : Hint) (own : List Row) (infos : List InfoParts) (parts : List (List Row)) (n : ℕ) → SearchReads hint own infos parts n n
 none_within hint own infos parts n = hinted_within hint own infos parts n n (rose_none (hinted_pages hint infos) n)
 
+-- there is no memory to begin
+pub not_searched : {P : Type 0} (meaning : Meaning P) (look : Look) (asked : Asked) (port : P) → IsOpen meaning port (look_of look)
+    → BlocksRead meaning look look.pin.blocks (λ rows found. IsSearchAnswer asked look.as_of (look.rows ++ rows) found) (λ rows found. IsSearchAnswer asked look.as_of (look.rows ++ rows) found)
+    (SearchReads (asked_hint asked) look.rows look.pin.blocks) port (Err Memory) port
+not_searched meaning look asked port is_open =
+    read_nothing meaning look look.pin.blocks (λ rows found. IsSearchAnswer asked look.as_of (look.rows ++ rows) found) (λ rows found. IsSearchAnswer asked look.as_of (look.rows ++ rows) found)
+    (SearchReads (asked_hint asked) look.rows look.pin.blocks) port is_open (λ parts. none_within (asked_hint asked) look.rows look.pin.blocks parts (meaning.reads port))
+
 -- ---- what is told of picks that are all
 
 pub own_all : (asked : Asked) (as_of : ℕ) (own a b : List Row) (picks : List Pick) (answer : SearchAnswer) → OwnArePicked (asked_sieve asked) own a picks → OwnIfPicked asked as_of own picks b answer
@@ -227,31 +235,34 @@ pub own_all : (asked : Asked) (as_of : ℕ) (own a b : List Row) (picks : List P
 own_all asked as_of own a b picks answer are told =
     subst (λ (l : List Row). IsSearchAnswer asked as_of (own ++ (l ++ b)) answer) (sym are.none) (told are.whole)
 
-module _ {P A : Type 0} (meaning : Meaning P) (look : Look) (asked : Asked) (sieve : SieveParts) (items : A → List Pick) (old new : P) (is : sieve ≡ asked_sieve asked) where
-  -- the picks are read, by this sieve
-  abbrev PicksRead : SieveParts → Result A QueryError → P → Type 0
-  PicksRead s = BlocksRead meaning look look.pin.blocks (λ rows picks. OwnArePicked s look.rows rows (items picks)) (λ rows picks. AllArePicked s look.rows rows (items picks))
+module _ {P A : Type 0} (meaning : Meaning P) (look : Look) (seen own : List Row) (asked : Asked) (sieve : SieveParts) (items : A → List Pick) (old new : P) (seen_are : seen ≡ own)
+    (own_are : own ≡ look.rows) (is : sieve ≡ asked_sieve asked) where
+  -- the picks of these rows and of the blocks are read, by this sieve
+  abbrev PicksRead : List Row → SieveParts → Result A QueryError → P → Type 0
+  PicksRead l s = BlocksRead meaning look look.pin.blocks (λ rows picks. OwnArePicked s l rows (items picks)) (λ rows picks. AllArePicked s l rows (items picks))
       (AtMost (λ parts. hinted_pages s.hint look.pin.blocks)) old
 
-  abbrev SearchRead : Result SearchAnswer QueryError → P → Type 0
-  SearchRead = BlocksRead meaning look look.pin.blocks (λ rows found. IsSearchAnswer asked look.as_of (look.rows ++ rows) found) (λ rows found. IsSearchAnswer asked look.as_of (look.rows ++ rows) found)
-      (SearchReads (asked_hint asked) look.rows look.pin.blocks) old
+  -- what a search finds in these rows and in the blocks is read
+  abbrev SearchRead : List Row → Result SearchAnswer QueryError → P → Type 0
+  SearchRead l = BlocksRead meaning look look.pin.blocks (λ rows found. IsSearchAnswer asked look.as_of (l ++ rows) found) (λ rows found. IsSearchAnswer asked look.as_of (l ++ rows) found)
+      (SearchReads (asked_hint asked) l look.pin.blocks) old
 
   -- and then what is picked is searched
-  pub picks_then : (mid : P) (picks : A) (r : Result SearchAnswer QueryError) → PicksRead sieve (Ok picks) mid
-      → BlocksRead meaning look look.pin.blocks (OwnIfPicked asked look.as_of look.rows (items picks)) (AllIfPicked asked look.as_of look.rows (items picks))
+  pub picks_then : (mid : P) (picks : A) (r : Result SearchAnswer QueryError) → PicksRead seen sieve (Ok picks) mid
+      → BlocksRead meaning look look.pin.blocks (OwnIfPicked asked look.as_of own (items picks)) (AllIfPicked asked look.as_of own (items picks))
       (AtMost (look_ups (traces_of (items picks)) look.pin.blocks)) mid r new
-      → SearchRead r new
+      → SearchRead look.rows r new
   picks_then mid picks r read more =
-      reads_then meaning look old mid new picks (subst (λ s. PicksRead s (Ok picks) mid) is read) r more
-      (λ rows found. IsSearchAnswer asked look.as_of (look.rows ++ rows) found) (λ rows found. IsSearchAnswer asked look.as_of (look.rows ++ rows) found)
-      (SearchReads (asked_hint asked) look.rows look.pin.blocks)
-      (λ answer a b are told. own_all asked look.as_of look.rows a b (items picks) answer are told)
+      subst (λ (l : List Row). SearchRead l r new) own_are
+      (reads_then meaning look old mid new picks (subst (λ (l : List Row). PicksRead l (asked_sieve asked) (Ok picks) mid) seen_are (subst (λ s. PicksRead seen s (Ok picks) mid) is read)) r more
+      (λ rows found. IsSearchAnswer asked look.as_of (own ++ rows) found) (λ rows found. IsSearchAnswer asked look.as_of (own ++ rows) found)
+      (SearchReads (asked_hint asked) own look.pin.blocks)
+      (λ answer a b are told. own_all asked look.as_of own a b (items picks) answer are told)
       (λ answer rows are told. told are.latest.whole)
-      (λ parts a b c are one two. picked_within (asked_sieve asked) look.rows (items picks) look.pin.blocks parts a b c are one two)
+      (λ parts a b c are one two. picked_within (asked_sieve asked) own (items picks) look.pin.blocks parts a b c are one two))
 
   -- or they could not be
-  pub picks_failed : (why : QueryError) → PicksRead sieve (Err why) new → SearchRead (Err why) new
+  pub picks_failed : (why : QueryError) → PicksRead seen sieve (Err why) new → SearchRead look.rows (Err why) new
   picks_failed why read =
       read_failed meaning look look.pin.blocks (λ parts a b rose. hinted_within (asked_hint asked) look.rows look.pin.blocks parts a b rose) old new why
-      (subst (λ s. PicksRead s (Err why) new) is read)
+      (subst (λ s. PicksRead seen s (Err why) new) is read)

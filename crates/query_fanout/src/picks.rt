@@ -56,21 +56,23 @@ impl<'s, 'q> OfBlock for Sifted<'s, 'q> {
     ghost both = { λ s a b x y. (none_both a b, picked_both s.0.now a b x y) };
 }
 
-/// The traces that have a sifted span among the rows of an open look and its blocks, each once, in ascending order.
+/// The traces that have a sifted span among rows in memory and those of an open look's blocks, each once, in ascending
+/// order.
 pub(crate) fn picks_of_look<P: FlushPort>(
     alloc: Global,
     port: &mut P,
     look: &Look,
+    rows: &[Row],
     sieve: &Sieve,
 ) -> Result<Vec<Pick>, QueryError>
     requires { IsOpen P.meaning port.old (look_of look.now) }
     ensures { BlocksRead P.meaning look.now look.now.pin.blocks
-        (λ rows picks. OwnArePicked sieve.now look.now.rows rows picks.items)
-        (λ rows picks. AllArePicked sieve.now look.now.rows rows picks.items)
+        (λ more picks. OwnArePicked sieve.now rows.now more picks.items)
+        (λ more picks. AllArePicked sieve.now rows.now more picks.items)
         (AtMost (λ _. hinted_pages sieve.now.hint look.now.pin.blocks)) port.old result port.new }
 {
     match of_blocks(alloc, port, look, &Sifted(sieve)) {
-        Ok(found) => match with_own(alloc, look, sieve, found) {
+        Ok(found) => match with_own(alloc, rows, sieve, found) {
             Ok(picks) => Ok(picks),
             Err(Memory) => Err(QueryError::Memory),
         },
@@ -78,29 +80,28 @@ pub(crate) fn picks_of_look<P: FlushPort>(
     }
 }
 
-// The picks among a look's rows, and more picks.
+// The picks among rows, and more picks.
 fn with_own(
     alloc: Global,
-    look: &Look,
+    rows: &[Row],
     sieve: &Sieve,
     found: Seq<Pick>,
 ) -> Result<Vec<Pick>, Memory>
     ensures latest { IfOk result (λ picks.
-        HaveLatest (sifted_picks sieve.now (spans_of look.now.rows) ++ found) picks.items) }
+        HaveLatest (sifted_picks sieve.now (spans_of rows.now) ++ found) picks.items) }
     ensures ascending { IfOk result (λ picks. Ascend picks.items) }
 {
-    let mut picks = picks_of_own(alloc, look, sieve)?;
+    let mut picks = picks_of_rows(alloc, rows, sieve)?;
     picks.append(&mut found.into_vec())?;
     let all = in_order(alloc, picks)?;
     Ok(all)
 }
 
-// The picks among a look's rows. The rows are copied, and let go.
-fn picks_of_own(alloc: Global, look: &Look, sieve: &Sieve) -> Result<Vec<Pick>, Memory>
-    ensures { IfOk result (λ picks. AreSifted sieve.now (spans_of look.now.rows) picks.items) }
+// The picks among rows.
+fn picks_of_rows(alloc: Global, rows: &[Row], sieve: &Sieve) -> Result<Vec<Pick>, Memory>
+    ensures { IfOk result (λ picks. AreSifted sieve.now (spans_of rows.now) picks.items) }
 {
-    let rows = look.rows.copy_rows()?;
-    let spans = spans_of(alloc, rows.as_slice())?;
+    let spans = spans_of(alloc, rows)?;
     let picks = picks_of_spans(alloc, sieve, spans.as_slice())?;
     Ok(picks)
 }

@@ -1,7 +1,6 @@
 //! Searching.
 
-ghost use Rattle.std.specs.Prelude.{◌++◌, IfOk, IsTrue, List};
-ghost use Rattle.span_types.specs.First.{IsFirstOf};
+ghost use Rattle.std.specs.Prelude.{◌++◌, IsTrue, List};
 ghost use Rattle.store_model.specs.Holds.{Hold};
 ghost use Rattle.store_state.specs.Given.{look_of};
 ghost use Rattle.store_state.specs.Kept.{Kept};
@@ -22,7 +21,7 @@ use crate::taking::take_each;
 use crate::turns::{in_turns, two_parts};
 use column_scan::{Pick, sieve};
 use moment_range::Range;
-use span_types::Memory;
+use span_types::{Memory, Rows};
 use spanset_eval::Results;
 use std::alloc::Global;
 use store_state::{FlushPort, Look};
@@ -94,30 +93,43 @@ fn search_of_look<P: FlushPort>(
         Ok(sieve) => sieve,
         Err(_) => return Err(QueryError::Memory),
     };
-    match picks_of_look(alloc, port, look, &sieve) {
-        Ok(picks) => search_picks(alloc, port, look, asked, picks),
+    let rows = match look.rows.copy_rows() {
+        Ok(rows) => rows,
+        Err(_) => return Err(QueryError::Memory),
+    };
+    match picks_of_look(alloc, port, look, rows.as_slice(), &sieve) {
+        Ok(picks) => search_picks(alloc, port, look, rows, asked, picks),
         Err(error) => Err(error),
     }
 }
 
-// What a search finds, if it finds nothing but of picked traces.
+// What a search finds among rows in memory and those of an open look's blocks, if it finds nothing but of picked traces.
 fn search_picks<P: FlushPort>(
     alloc: Global,
     port: &mut P,
     look: &Look,
+    rows: Rows,
     asked: &Asked,
     picks: Vec<Pick>,
 ) -> Result<SearchAnswer, QueryError>
     requires open { IsOpen P.meaning port.old (look_of look.now) }
     requires ascend { Ascend picks.items }
     ensures { BlocksRead P.meaning look.now look.now.pin.blocks
-        (OwnIfPicked asked.now look.now.as_of look.now.rows picks.items)
-        (AllIfPicked asked.now look.now.as_of look.now.rows picks.items)
+        (OwnIfPicked asked.now look.now.as_of rows picks.items)
+        (AllIfPicked asked.now look.now.as_of rows picks.items)
         (AtMost (look_ups (traces_of picks.items) look.now.pin.blocks)) port.old result port.new }
 {
     match two_parts(alloc, picks, asked.limit) {
         Ok((late, early)) => {
-            search_parts(alloc, port, look, asked, late.as_slice(), early.as_slice())
+            search_parts(
+                alloc,
+                port,
+                look,
+                rows,
+                asked,
+                late.as_slice(),
+                early.as_slice(),
+            )
         }
         Err(Memory) => Err(QueryError::Memory),
     }
@@ -128,6 +140,7 @@ fn search_parts<P: FlushPort>(
     alloc: Global,
     port: &mut P,
     look: &Look,
+    rows: Rows,
     asked: &Asked,
     late: &[Pick],
     early: &[Pick],
@@ -137,26 +150,17 @@ fn search_parts<P: FlushPort>(
     requires early { Ascend early.now }
     requires apart { AreApart (late.now ++ early.now) }
     ensures { BlocksRead P.meaning look.now look.now.pin.blocks
-        (OwnIfPicked asked.now look.now.as_of look.now.rows (late.now ++ early.now))
-        (AllIfPicked asked.now look.now.as_of look.now.rows (late.now ++ early.now))
+        (OwnIfPicked asked.now look.now.as_of rows (late.now ++ early.now))
+        (AllIfPicked asked.now look.now.as_of rows (late.now ++ early.now))
         (AtMost (look_ups (traces_of (late.now ++ early.now)) look.now.pin.blocks)) port.old result port.new }
 {
-    match own_firsts(alloc, look) {
+    match Own::of(alloc, rows) {
         Ok(own) => search_turns(alloc, port, look, &own, asked, late, early),
         Err(Memory) => Err(QueryError::Memory),
     }
 }
 
-// The first occurrences of a look's rows.
-fn own_firsts(alloc: Global, look: &Look) -> Result<Own, Memory>
-    ensures { IfOk result (λ own. IsFirstOf look.now.rows own) }
-{
-    let rows = look.rows.copy_rows()?;
-    let own = Own::of(alloc, rows)?;
-    Ok(own)
-}
-
-// The same over first occurrences in place of the look's rows.
+// The same over first occurrences in place of the rows.
 fn search_turns<P: FlushPort>(
     alloc: Global,
     port: &mut P,

@@ -7,5 +7,5 @@ use Rattle.query_fanout.proofs.picks.with_own.Goals as goal
 
 pub returns-clause-latest : goal.returns-clause-latest
 returns-clause-latest c =
-    and_more (sifted_picks c.args.sieve.now (spans_of c.args.look.now.rows)) c.args.found c.in_ok-picks.picks.items c.in_ok-all.all.items c.in_ok-picks.ensures.latest
+    and_more (sifted_picks c.args.sieve.now (spans_of c.args.rows.now)) c.args.found c.in_ok-picks.picks.items c.in_ok-all.all.items c.in_ok-picks.ensures.latest
     (subst (λ (l : List Pick). HaveLatest l c.in_ok-all.all.items) (c.in_ok-append.ensures.items ∙ ap (λ (l : List Pick). c.in_ok-picks.picks.items ++ l) c.into_vec.ensures) c.in_ok-all.ensures.latest)

@@ -3,7 +3,7 @@ use Rattle.query_fanout.proofs.SearchLaws.{moved_parts, not_begun, parts_apart, 
 use Rattle.query_fanout.proofs.searching.search_picks.Goals as goal
 
 pub returns-in-Err : goal.returns-in-Err
-returns-in-Err g c = not_begun g.P.LookPort.meaning c.args.look.now c.args.look.now.rows c.args.asked.now c.args.picks.items c.args.port.now c.requires.open
+returns-in-Err g c = not_begun g.P.LookPort.meaning c.args.look.now c.args.rows c.args.asked.now c.args.picks.items c.args.port.now c.requires.open
 
 pub search_parts-requires-clause-apart : goal.search_parts-requires-clause-apart
 search_parts-requires-clause-apart g c =
@@ -13,7 +13,7 @@ search_parts-requires-clause-apart g c =
 
 pub returns-in-Ok : goal.returns-in-Ok
 returns-in-Ok g c =
-    read_in_parts g.P.LookPort.meaning c.args.look.now c.args.asked.now c.args.picks.items (c.as_slice.result.now ++ c.as_slice-in-Ok.result.now) c.args.port.now c.search_parts.new.port
+    read_in_parts g.P.LookPort.meaning c.args.look.now c.args.rows c.args.asked.now c.args.picks.items (c.as_slice.result.now ++ c.as_slice-in-Ok.result.now) c.args.port.now c.search_parts.new.port
     c.search_parts.result
     (moved_parts c.args.picks.items c.as_slice.result.now c.as_slice-in-Ok.result.now c.in-Ok.late.items c.in-Ok.early.items c.in-Ok.ensures.same c.as_slice.ensures.value c.as_slice-in-Ok.ensures.value)
     c.search_parts.ensures
