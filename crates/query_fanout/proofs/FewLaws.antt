@@ -1,14 +1,17 @@
 -- A few traces are answered over their rows.
-use Rattle.std.proofs.Common.{◌≡◌, ◌⊎◌, inl, inr, ℕ, zero, suc, ◌+◌, ◌≤◌, ◌<◌, Bool, true, false, true≢false, ◌||◌, List, [], ◌∷◌, ◌++◌, length, map, filter, take, All, Option, None, Some, arith, append-nil, refl, sym, ap, subst, ◌∙◌, slice_index_or, if◌then◌else◌}
+use Rattle.std.proofs.Common.{◌≡◌, ◌⊎◌, inl, inr, ℕ, suc, ◌+◌, ◌≤◌, ◌<◌, Bool, true, false, true≢false, ◌||◌, List, [], ◌∷◌, ◌++◌, length, filter, take, All, Option, None, Some, arith, append-nil, refl, sym, ap, subst, ◌∙◌, slice_index_or, if◌then◌else◌}
 use Rattle.std.specs.Prelude.{sum_by}
-use Rattle.std.specs.List.{AllByRecursion, AllPairs, flat_map}
+use Rattle.std.specs.List.{AllByRecursion, flat_map}
+use Rattle.std.specs.List.Sorted.{IsPermutation, IsSorted}
 use Rattle.std.specs.Ordering.{is_eq, is_lt}
 use Rattle.std.specs.declared.cmp.Ordering.TheVariants.{Less}
 use Rattle.std.proofs.lemmas.Grind.{flat_map-append}
-use Rattle.std.proofs.lemmas.List.{take_more}
-use Rattle.std.proofs.lemmas.List.Elements.{All-map, filter-append}
+use Rattle.std.proofs.Math.Seq.{take-nil}
+use Rattle.std.proofs.lemmas.List.{take_all, take_more}
+use Rattle.std.proofs.lemmas.List.Elements.{All-map, All-nil, filter-append}
 use Rattle.std.proofs.lemmas.List.Kept.{AllPairs-cons, AllPairs-filter}
-use Rattle.std.proofs.lemmas.List.Sums.{sum_by-append, sum_by-cons}
+use Rattle.std.proofs.lemmas.List.Sorted.{IsPermutation-refl}
+use Rattle.std.proofs.lemmas.List.Sums.{sum_by-cons}
 use Rattle.span_types.specs.declared.ids.Key.{Key}
 use Rattle.span_types.specs.declared.ids.TraceId.{TraceId}
 use Rattle.span_types.specs.declared.spans.Row.{Row}
@@ -23,9 +26,11 @@ use Rattle.block_read.specs.Lookups.{most_pages}
 use Rattle.stripe_traces.specs.Wanted.{AreInOrder, is_one_of, rows_of_traces}
 use Rattle.block_traces.specs.Batches.{pages_for_each}
 use Rattle.search_answer.proofs.Fronts.{same_trace}
+use Rattle.search_answer.specs.Answers.{IsResult}
 use Rattle.search_answer.specs.Keeping.{BestParts, may_come}
-use Rattle.spanset_eval.specs.Ranking.{AreFirst}
+use Rattle.spanset_eval.specs.Ranking.{AreFirst, rank_cmp}
 use Rattle.spanset_eval.specs.declared.results.TraceResult.{TraceResult}
+use Rattle.traceql_syntax.specs.Trees.{query_tree}
 use Rattle.column_scan.specs.Candidates.{Ascend}
 use Rattle.column_scan.specs.declared.picks.Pick.{Pick}
 use Rattle.query_fanout.specs.Bounds.{look_up_pages}
@@ -232,6 +237,33 @@ answered asked own rows found firsts ids old new answer up are first answers lim
 pub answered_theirs : (asked : Asked) (own found : List Row) (ids : List TraceId) (old new : BestParts) → ((rows : List Row) → AreOfTraces ids rows found → AnswersWith asked own ids old rows new)
     → (rows : List Row) → AreTheirs ids rows found → AnswersTheirs asked own ids old rows new
 answered_theirs asked own found ids old new with_rows rows theirs = (with_rows rows (theirs.0 ∙ sym theirs.1), theirs.1)
+
+-- Of no traces nothing is answered.
+pub none_answered : (asked : Asked) (rows : List Row) (best : BestParts) → length best.kept ≤ best.limit → IsSorted rank_cmp best.kept → Answered asked rows [] best best
+none_answered asked rows best short sorted = record {
+  firsts = [];
+  theirs = refl;
+  first = λ id one. absurd (true≢false (sym one));
+  answer = [];
+  answers = record {
+    all = [];
+    results = record {
+      only = All-nil (λ r. IsResult asked.checked.patterns (query_tree asked.checked.query) asked.range (rows_of_trace r.trace []) r);
+      whole = λ id r found. absurd (true≢false (sym found.within));
+      once = tt;
+    };
+    first = [];
+    ranked = record { all = []; same = IsPermutation-refl []; sorted = λ k d low high. absurd (omega (arith, high)); first_are = sym (take-nil asked.limit) };
+    is = refl;
+  };
+  limit = refl;
+  best = record {
+    all = best.kept;
+    same = subst (λ (l : List TraceResult). IsPermutation l best.kept) (sym (append-nil best.kept)) (IsPermutation-refl best.kept);
+    sorted = sorted;
+    first_are = sym (take_all best.limit best.kept short);
+  };
+}
 
 -- ---- what may be read for them
 

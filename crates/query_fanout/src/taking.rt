@@ -88,7 +88,8 @@ pub(crate) fn take_each<P: FlushPort>(
     Ok(best)
 }
 
-// A few picks are taken: the traces of which a result can still come among the best are answered.
+// A few picks are taken: the traces of which a result can still come among the best are answered. If there are none, no
+// block is gone through.
 fn take_few<P: FlushPort>(
     alloc: Global,
     port: &mut P,
@@ -104,10 +105,14 @@ fn take_few<P: FlushPort>(
         (TakesTheirs asked.now own.now few.now best) (TakesWith asked.now own.now few.now best)
         (AtMost (look_ups (traces_of few.now) look.now.pin.blocks)) port.old result port.new }
 {
-    match open_traces(alloc, few, &best) {
-        Ok(ids) => answer_traces(alloc, port, look, own, asked, ids.as_slice(), best),
-        Err(Memory) => Err(QueryError::Memory),
+    let ids = match open_traces(alloc, few, &best) {
+        Ok(ids) => ids,
+        Err(Memory) => return Err(QueryError::Memory),
+    };
+    if ids.is_empty() {
+        return Ok(best);
     }
+    answer_traces(alloc, port, look, own, asked, ids.as_slice(), best)
 }
 
 // The traces of the picks of which a result can still come among the best.
