@@ -12,6 +12,9 @@ use std::alloc::Global;
 // How many are taken at a time.
 const FEW: usize = 2048;
 
+// How many late picks there are for each result that is asked for: not each picked trace has a result.
+const LATE_FOR_EACH: usize = 8;
+
 /// The late picks, of which there are some more than results are asked for, and the early ones.
 pub(crate) fn two_parts(
     alloc: Global,
@@ -55,15 +58,15 @@ fn early_ones(alloc: Global, picks: &[Pick], moment: u64) -> Result<Vec<Pick>, M
     Ok(early)
 }
 
-// A moment at or above which eight times as many picks are as results are asked for, if there are so many. Whatever it is,
-// the same results are found.
+// A moment at or above which so many picks are for each result that is asked for, if there are so many. Whatever it is, the
+// same results are found.
 fn late_moment(alloc: Global, picks: &[Pick], limit: u32) -> Result<u64, Memory> {
     let mut moments = Vec::with_capacity(alloc, picks.len())?;
     for pick in picks {
         moments.push(pick.latest)?;
     }
     moments.sort_unstable();
-    let early = moments.len().saturating_sub(8 * limit as usize);
+    let early = moments.len().saturating_sub(LATE_FOR_EACH * limit as usize);
     match moments.as_slice().get(early) {
         Some(moment) => Ok(*moment),
         None => Ok(0),
