@@ -1,4 +1,3 @@
-use Rattle.query_fanout.specs.Reading.{AtMost}
 use Rattle.query_fanout.proofs.BlockLaws.{look_up_widens, read_failed, read_starved, read_told}
 use Rattle.query_fanout.proofs.QueryLaws.{trace_answers}
 use Rattle.query_fanout.proofs.trace.trace_of_look.Goals as goal
