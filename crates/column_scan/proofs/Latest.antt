@@ -18,6 +18,7 @@ use Rattle.span_types.specs.declared.spans.Span.{Span}
 use Rattle.search_answer.proofs.Fronts.{same_trace}
 use Rattle.column_scan.specs.declared.hints.Hint.{Hint}
 use Rattle.column_scan.specs.Candidates.{Ascend, HaveLatest, IsCovered, hinted_picks, is_hinted, pick_of}
+use Rattle.column_scan.specs.Sieves.{SieveParts, is_sifted, sifted_picks}
 
 -- ---- lists
 
@@ -206,6 +207,9 @@ none_after sorted picks i d up h have = All-weaker (Contains (take i sorted)) (�
 
 pub hinted_append : (hint : Hint) (xs ys : List Span) → hinted_picks hint (xs ++ ys) ≡ hinted_picks hint xs ++ hinted_picks hint ys
 hinted_append hint xs ys = ap (map pick_of) (filter-append (is_hinted hint) xs ys) ∙ map-append pick_of (filter (is_hinted hint) xs) (filter (is_hinted hint) ys)
+
+pub sifted_append : (sieve : SieveParts) (a b : List Span) → sifted_picks sieve (a ++ b) ≡ sifted_picks sieve a ++ sifted_picks sieve b
+sifted_append sieve a b = ap (map pick_of) (filter-append (is_sifted sieve) a b) ∙ map-append pick_of (filter (is_sifted sieve) a) (filter (is_sifted sieve) b)
 
 pub none_hinted : (hint : Hint) (s : Span) (picks : List Pick) → is_hinted hint s ≡ false → HaveLatest (picks ++ hinted_picks hint (s ∷ [])) picks
 none_hinted hint s picks not_so = none_added picks (hinted_picks hint (s ∷ [])) (rw not_so refl)
