@@ -1,6 +1,6 @@
 -- What a query's filter asks of a span's kind, its status, its start and its end: columns of a fixed width, which are read without the
 -- rows. A span of which such a part of the filter isn't so is kept by no filter, so it picks no trace.
-use Rattle.std.specs.Prelude.{ℕ, List, [], ◌∷◌, ◌++◌, Bool, true, false, ◌&&◌, ◌||◌, ◌==◌, ◌≡◌, ◌≤◌, Contains, Option, None, Some, filter, is_none, is_some, map, if◌then◌else◌}
+use Rattle.std.specs.Prelude.{List, [], ◌∷◌, ◌++◌, Bool, true, false, ◌&&◌, ◌||◌, ◌==◌, ◌≡◌, ◌≤◌, Contains, Option, None, Some, filter, is_none, is_some, map, if◌then◌else◌}
 use Rattle.std.specs.List.{list_all}
 use Rattle.moment_range.specs.declared.range.Range.{Range}
 use Rattle.rows_by_trace.specs.Traces.{rows_of_trace}
