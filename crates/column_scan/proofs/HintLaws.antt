@@ -28,7 +28,7 @@ use Rattle.traceql_value.specs.Meaning.{is_so, value_of}
 use Rattle.traceql_value.specs.Spans.{attr_named, field_of_span, or_else, value_named}
 use Rattle.traceql_value.specs.Values.{attr_value, compares}
 use Rattle.spanset_eval.specs.Outcomes.{IsOutcome, shown}
-use Rattle.spanset_eval.specs.Sets.{PassesFilter, Selects}
+use Rattle.spanset_eval.specs.Sets.{PassesFilter, Selects, filter_span}
 use Rattle.spanset_eval.specs.Stages.{after_stage, after_stages, coalesced, drop_empty, is_in_some, positions_from, remaining, selected_fields}
 use Rattle.spanset_eval.specs.declared.results.TraceResult.{TraceResult}
 use Rattle.column_scan.specs.Hints.{asked_text, both_text, chain_text, field_in, filter_text, has_text, holds_text, is_conjunction, is_equality, is_text, literal_in, member_text, query_text, set_text, tells_text, text_of}
@@ -43,11 +43,11 @@ or_right : (a b : Bool) → b ≡ true → (a || b) ≡ true
 or_right true b is = refl
 or_right false b is = is
 
-and_left : (a b : Bool) → (a && b) ≡ true → a ≡ true
+pub and_left : (a b : Bool) → (a && b) ≡ true → a ≡ true
 and_left true b is = refl
 and_left false b is = cc
 
-and_right : (a b : Bool) → (a && b) ≡ true → b ≡ true
+pub and_right : (a b : Bool) → (a && b) ≡ true → b ≡ true
 and_right true b is = is
 and_right false b is = cc
 
@@ -58,7 +58,7 @@ found_there {X} p q (y ∷ xs) x h is = (elim (p y) as (λ b. p y ≡ b → list
   | false ↦ λ t. or_right (q y) (list_any q xs) (found_there p q xs x (rw t at h) is)
 ]) refl
 
-there_any : {X : Type 0} (q : X → Bool) (xs : List X) (i : ℕ) (x : X) → slice_get xs i ≡ Some x → q x ≡ true → list_any q xs ≡ true
+pub there_any : {X : Type 0} (q : X → Bool) (xs : List X) (i : ℕ) (x : X) → slice_get xs i ≡ Some x → q x ≡ true → list_any q xs ≡ true
 there_any q [] i x h is = let none : ⊥ = cc in absurd none
 there_any {X} q (y ∷ xs) zero x h is = let same : y ≡ x = cc in or_left (q y) (list_any q xs) (subst (λ (z : X). q z ≡ true) (sym same) is)
 there_any q (y ∷ xs) (suc i) x h is = or_right (q y) (list_any q xs) (there_any q xs i x h is)
@@ -176,7 +176,7 @@ equality_is binary.Divide is = cc
 equality_is binary.Remainder is = cc
 equality_is binary.Power is = cc
 
-conjunction_is : (op : BinaryOp) → is_conjunction op ≡ true → op ≡ binary.And
+pub conjunction_is : (op : BinaryOp) → is_conjunction op ≡ true → op ≡ binary.And
 conjunction_is binary.And is = refl
 conjunction_is (binary.Compare c) is = cc
 conjunction_is binary.Or is = cc
@@ -241,6 +241,12 @@ both_is a b text is = at (field_in a) refl (literal_in b) refl
         let right = literal_is b l g in
         record { left_at = left.0; right_at = right.0; field = f; tells = asked.tells; left = left.1; right = right.1 ∙ ap (Literally right.0) asked.is }
 
+-- both sides of a `&&` are so
+pub both_so : (ps : List Pattern) (rows : List Row) (s : Span) (at first second : ℕ) (a b : Tree) → is_so ps rows s (Binary at binary.And first a second b) ≡ true
+    → (is_so ps rows s a ≡ true) × (is_so ps rows s b ≡ true)
+unfolding value_of
+both_so ps rows s at first second a b so = (and_left (is_so ps rows s a) (is_so ps rows s b) so, and_right (is_so ps rows s a) (is_so ps rows s b) so)
+
 module _ (ps : List Pattern) (rows : List Row) (s : Span) (text : List ℕ) where
   equals : (at first second : ℕ) (a b : Tree) → Member a b text → is_so ps rows s (Binary at (binary.Compare comparison.Equal) first a second b) ≡ true → holds_text text s ≡ true
   unfolding value_of
@@ -263,10 +269,6 @@ module _ (ps : List Pattern) (rows : List Row) (s : Span) (text : List ℕ) wher
     | false ↦ λ t. let bad : None ≡ Some text = rw t at is in cc
   ]) refl
 
-  both_so : (at first second : ℕ) (a b : Tree) → is_so ps rows s (Binary at binary.And first a second b) ≡ true → (is_so ps rows s a ≡ true) × (is_so ps rows s b ≡ true)
-  unfolding value_of
-  both_so at first second a b so = (and_left (is_so ps rows s a) (is_so ps rows s b) so, and_right (is_so ps rows s a) (is_so ps rows s b) so)
-
   chain : (e : Tree) → chain_text e ≡ Some text → is_so ps rows s e ≡ true → holds_text text s ≡ true
   chain (Literally at l) is so = cc
   chain (Asks at f) is so = cc
@@ -275,7 +277,7 @@ module _ (ps : List Pattern) (rows : List Row) (s : Span) (text : List ℕ) wher
   chain (Binary at op first a second b) is so = (elim (is_conjunction op) as (λ t. is_conjunction op ≡ t → holds_text text s ≡ true) [
     | true ↦ λ t.
         let either : option_or (chain_text a) (member_text b) ≡ Some text = rw t at is in
-        let parts = both_so at first second a b (subst (λ (o : BinaryOp). is_so ps rows s (Binary at o first a second b) ≡ true) (conjunction_is op t) so) in
+        let parts = both_so ps rows s at first second a b (subst (λ (o : BinaryOp). is_so ps rows s (Binary at o first a second b) ≡ true) (conjunction_is op t) so) in
         of_either (chain_text a) refl either (λ asks. chain a asks parts.0) parts.1
     | false ↦ λ t. member (Binary at op first a second b) (rw t at is) so
   ]) refl
@@ -314,14 +316,25 @@ some_selected ps rows fields stages result (y ∷ ys) is = (y, (0, omega arith, 
 
 -- ---- the law
 
-passes_holds : (ps : List Pattern) (rows : List Row) (condition : Option Placed) (text : List ℕ) (y : ℕ) → filter_text condition ≡ Some text → PassesFilter ps rows condition y
-    → list_any (λ r. holds_text text r.span) rows ≡ true
-passes_holds ps rows None text y is passes = cc
-passes_holds ps rows (Some e) text y is passes = there_any (λ r. holds_text text r.span) rows y passes.row passes.is (chain ps rows passes.row.span text e.1 is passes.kept)
+-- The filter that alone selects spans keeps one.
+pub record Kept (ps : List Pattern) (rows : List Row) (condition : Option Placed) : Type 0 where
+  pub at : ℕ
+  pub passes : PassesFilter ps rows condition at
+
+pub answer_kept : (ps : List Pattern) (rows : List Row) (q : QueryTree) (result : TraceResult) (place : ℕ) (condition : Option Placed) → q.spansets ≡ Filter place condition → IsOutcome ps rows q (Some result)
+    → Kept ps rows condition
+answer_kept ps rows q result place condition filters outcome =
+    let some = some_selected ps rows (selected_fields q.stages) q.stages result outcome.selected outcome.is in
+    record { at = some.0; passes = subst (λ (set : SetTree). Selects ps rows set some.0) filters (outcome.lists.only some.0 some.1) }
+
+-- such a span holds the filter's text
+pub kept_holds : (ps : List Pattern) (rows : List Row) (condition : Option Placed) (text : List ℕ) → filter_text condition ≡ Some text → (s : Span) → filter_span ps rows condition s ≡ true → holds_text text s ≡ true
+kept_holds ps rows None text is s kept = cc
+kept_holds ps rows (Some e) text is s kept = chain ps rows s text e.1 is kept
 
 selects_holds : (ps : List Pattern) (rows : List Row) (set : SetTree) (text : List ℕ) (y : ℕ) → set_text set ≡ Some text → Selects ps rows set y
     → list_any (λ r. holds_text text r.span) rows ≡ true
-selects_holds ps rows (Filter at condition) text y is selects = passes_holds ps rows condition text y is selects
+selects_holds ps rows (Filter at condition) text y is selects = there_any (λ r. holds_text text r.span) rows y selects.row selects.is (kept_holds ps rows condition text is selects.row.span selects.kept)
 selects_holds ps rows (Join at op a b) text y is selects = cc
 
 pub answer_holds : (ps : List Pattern) (rows : List Row) (q : QueryTree) (text : List ℕ) (result : TraceResult) → query_text q ≡ Some text → IsOutcome ps rows q (Some result)

@@ -1,10 +1,11 @@
 -- Picks that are joined, and lists that are kept in part.
-use Rattle.std.proofs.Common.{◌≡◌, ℕ, zero, suc, ◌+◌, ◌<◌, ◌≤◌, Bool, true, false, List, [], ◌∷◌, ◌++◌, length, map, take, filter, refl, sym, ◌∙◌, ap, subst, arith, All, Contains, slice_index_or, append_assoc, not, nat_lt, if◌then◌else◌}
+use Rattle.std.proofs.Common.{◌≡◌, ℕ, zero, suc, ◌+◌, ◌<◌, ◌≤◌, Bool, true, false, ◌&&◌, List, [], ◌∷◌, ◌++◌, length, map, take, filter, refl, sym, ◌∙◌, ap, subst, arith, All, Contains, slice_index_or, append_assoc, not, nat_lt, if◌then◌else◌}
 use Rattle.std.proofs.lemmas.List.{take_more, map_more, get_or_default, get_or-take, get_or_append_left, length-take, get_or-append-add, length-append, append-nil, map-append}
 use Rattle.std.proofs.lemmas.Bool.{ltb-false, ltb-true}
 use Rattle.std.proofs.lemmas.List.Quantifiers.{all_pairs_push}
 use Rattle.std.proofs.lemmas.List.Elements.{All-append, All-cons, All-nil, All-push, filter-append, All-contains, All-weaker, All-contains_itself, Contains-append_left, Contains-append_right, Contains-push}
 use Rattle.std.specs.Cmp.{IsTotalOrder}
+use Rattle.std.specs.List.{list_any}
 use Rattle.std.specs.List.Sorted.{IsPermutation, IsSorted}
 use Rattle.std.proofs.lemmas.List.Sorted.{All-permutation, Contains-permutation, IsPermutation-sym, ranks_by, sorted_far}
 use Rattle.std.proofs.lemmas.Cmp.{on_total, nat_list_cmp_total}
@@ -17,7 +18,8 @@ use Rattle.span_types.specs.Orders.{trace_cmp}
 use Rattle.span_types.specs.declared.spans.Span.{Span}
 use Rattle.search_answer.proofs.Fronts.{same_trace}
 use Rattle.column_scan.specs.declared.hints.Hint.{Hint}
-use Rattle.column_scan.specs.Candidates.{Ascend, HaveLatest, IsCovered, hinted_picks, is_hinted, pick_of}
+use Rattle.column_scan.specs.Candidates.{ArePicks, Ascend, HaveLatest, IsCovered, hinted_picks, is_hinted, pick_of}
+use Rattle.column_scan.specs.Sieves.{AreSifted, SieveParts, is_sifted, meets_members, only_hint, sifted_picks}
 
 -- ---- lists
 
@@ -202,13 +204,36 @@ none_after sorted picks i d up h have = All-weaker (Contains (take i sorted)) (�
         let one : is_lt (pick_cmp (slice_index_or sorted i d) z) ≡ false = subst (λ x. is_lt (pick_cmp (slice_index_or sorted i d) x) ≡ false) at far in
         subst (λ o. not (is_gt o) ≡ true) (sym (pick_total.antisymm z (slice_index_or sorted i d))) (not_after (pick_cmp (slice_index_or sorted i d) z) one)
 
--- ---- hinted spans
+-- ---- hinted and sifted spans
 
 pub hinted_append : (hint : Hint) (xs ys : List Span) → hinted_picks hint (xs ++ ys) ≡ hinted_picks hint xs ++ hinted_picks hint ys
 hinted_append hint xs ys = ap (map pick_of) (filter-append (is_hinted hint) xs ys) ∙ map-append pick_of (filter (is_hinted hint) xs) (filter (is_hinted hint) ys)
 
-pub none_hinted : (hint : Hint) (s : Span) (picks : List Pick) → is_hinted hint s ≡ false → HaveLatest (picks ++ hinted_picks hint (s ∷ [])) picks
-none_hinted hint s picks not_so = none_added picks (hinted_picks hint (s ∷ [])) (rw not_so refl)
+pub sifted_append : (sieve : SieveParts) (a b : List Span) → sifted_picks sieve (a ++ b) ≡ sifted_picks sieve a ++ sifted_picks sieve b
+sifted_append sieve a b = ap (map pick_of) (filter-append (is_sifted sieve) a b) ∙ map-append pick_of (filter (is_sifted sieve) a) (filter (is_sifted sieve) b)
+
+pub none_sifted : (sieve : SieveParts) (s : Span) (picks : List Pick) → is_sifted sieve s ≡ false → HaveLatest (picks ++ sifted_picks sieve (s ∷ [])) picks
+none_sifted sieve s picks not_so = none_added picks (sifted_picks sieve (s ∷ [])) (rw not_so refl)
+
+-- of spans that aren't hinted none is sifted
+pub none_of_hint : (sieve : SieveParts) (spans : List Span) → hinted_picks sieve.hint spans ≡ [] → sifted_picks sieve spans ≡ []
+none_of_hint sieve [] none = refl
+none_of_hint sieve (s ∷ spans) none = (elim (is_hinted sieve.hint s) as (λ b. is_hinted sieve.hint s ≡ b → sifted_picks sieve (s ∷ spans) ≡ []) [
+  | true ↦ λ t. let bad : pick_of s ∷ hinted_picks sieve.hint spans ≡ [] = rw t at none in cc
+  | false ↦ λ t. rw (and_false (meets_members sieve s) (is_hinted sieve.hint s) t) (none_of_hint sieve spans (rw t at none))
+]) refl
+  where
+    and_false : (a b : Bool) → b ≡ false → (a && b) ≡ false
+    and_false true b is = is
+    and_false false b is = refl
+
+-- and none of those of which no member is so
+pub none_of_members : (sieve : SieveParts) (spans : List Span) → list_any (meets_members sieve) spans ≡ false → sifted_picks sieve spans ≡ []
+none_of_members sieve [] none = refl
+none_of_members sieve (s ∷ spans) none = (elim (meets_members sieve s) as (λ b. meets_members sieve s ≡ b → sifted_picks sieve (s ∷ spans) ≡ []) [
+  | true ↦ λ t. let bad : true ≡ false = rw t at none in cc
+  | false ↦ λ t. rw t (none_of_members sieve spans (rw t at none))
+]) refl
 
 -- ---- steps of loops
 
@@ -217,15 +242,20 @@ pub sorted_step : (sorted picks new : List Pick) (i : ℕ) (d : Pick) → i < le
 sorted_step sorted picks new i d h have step =
     subst (λ l. HaveLatest l new) (sym (take_more sorted i d h)) (and_more (take i sorted) (slice_index_or sorted i d ∷ []) picks new have step)
 
-pub hinted_step : {X : Type 0} (f : X → Span) (hint : Hint) (xs : List X) (old picks new : List Pick) (i : ℕ) (d : X) → i < length xs
-    → HaveLatest (old ++ hinted_picks hint (map f (take i xs))) picks
-    → HaveLatest (picks ++ hinted_picks hint (f (slice_index_or xs i d) ∷ [])) new → HaveLatest (old ++ hinted_picks hint (map f (take (i + 1) xs))) new
-hinted_step f hint xs old picks new i d h have step =
-    let one = hinted_picks hint (f (slice_index_or xs i d) ∷ []) in
-    let more = ap (hinted_picks hint) (map_more f xs i d h) ∙ hinted_append hint (map f (take i xs)) (f (slice_index_or xs i d) ∷ []) in
-    let whole = ap (λ l. old ++ l) more ∙ sym (append_assoc old (hinted_picks hint (map f (take i xs))) one) in
-    subst (λ l. HaveLatest l new) (sym whole) (and_more (old ++ hinted_picks hint (map f (take i xs))) one picks new have step)
+pub sifted_step : {X : Type 0} (f : X → Span) (sieve now : SieveParts) (xs : List X) (old picks new : List Pick) (i : ℕ) (d : X) → now ≡ sieve → i < length xs
+    → HaveLatest (old ++ sifted_picks sieve (map f (take i xs))) picks
+    → HaveLatest (picks ++ sifted_picks now (f (slice_index_or xs i d) ∷ [])) new → HaveLatest (old ++ sifted_picks sieve (map f (take (i + 1) xs))) new
+sifted_step f sieve now xs old picks new i d same h have step =
+    let one = sifted_picks sieve (f (slice_index_or xs i d) ∷ []) in
+    let more = ap (sifted_picks sieve) (map_more f xs i d h) ∙ sifted_append sieve (map f (take i xs)) (f (slice_index_or xs i d) ∷ []) in
+    let whole = ap (λ l. old ++ l) more ∙ sym (append_assoc old (sifted_picks sieve (map f (take i xs))) one) in
+    subst (λ l. HaveLatest l new) (sym whole) (and_more (old ++ sifted_picks sieve (map f (take i xs))) one picks new have
+    (subst (λ (p : SieveParts). HaveLatest (picks ++ sifted_picks p (f (slice_index_or xs i d) ∷ [])) new) same step))
 
 -- what was found of no spans more
-pub none_more : (hint : Hint) (picks : List Pick) → HaveLatest (picks ++ hinted_picks hint []) picks
-none_more hint picks = none_added picks [] refl
+pub none_more : (sieve : SieveParts) (picks : List Pick) → HaveLatest (picks ++ sifted_picks sieve []) picks
+none_more sieve picks = none_added picks [] refl
+
+-- what the sieve of a hint alone picks
+pub by_hint_alone : (hint : Hint) (spans : List Span) (picks : List Pick) → AreSifted (only_hint hint) spans picks → ArePicks hint spans picks
+by_hint_alone hint spans picks are = record { latest = are.latest; ascending = are.ascending }

@@ -1,8 +1,11 @@
 -- What is answered is picked.
-use Rattle.std.proofs.Common.{◌≡◌, ℕ, zero, suc, ◌<◌, ◌≤◌, Bool, true, false, List, [], ◌∷◌, length, Option, None, Some, filter, refl, sym, ◌∙◌, ap, arith, slice_index_or, Contains}
-use Rattle.std.specs.List.{list_any}
+use Rattle.std.proofs.Common.{◌≡◌, ◌==◌, ◌||◌, ℕ, zero, suc, ◌<◌, ◌≤◌, Bool, true, false, if◌then◌else◌, List, [], ◌∷◌, length, Option, None, Some, filter, refl, sym, ◌∙◌, ap, arith, slice_index_or, Contains}
+use Rattle.std.specs.List.{list_all, list_any}
+use Rattle.std.specs.Prelude.{is_none, is_some}
+use Rattle.std.proofs.lemmas.Bool.{eqb-true, le-leb}
 use Rattle.std.specs.Ordering.{is_eq}
 use Rattle.std.proofs.lemmas.List.Elements.{All-contains}
+use Rattle.moment_range.specs.Ranges.{is_before, is_within}
 use Rattle.moment_range.specs.declared.range.Range.{Range}
 use Rattle.rows_by_trace.specs.Traces.{is_of_trace, rows_of_trace}
 use Rattle.span_types.specs.First.{IsFirstOf, first_at, lesser, row_at}
@@ -12,18 +15,24 @@ use Rattle.std.specs.Ordering.{is_lt}
 use Rattle.span_types.specs.declared.ids.Key.{Key}
 use Rattle.span_types.specs.declared.ids.TraceId.{TraceId}
 use Rattle.span_types.specs.declared.spans.Row.{Row}
+use Rattle.span_types.specs.declared.spans.Span.{Span}
 use Rattle.spanset_eval.specs.Outcomes.{IsOutcome, shown}
+use Rattle.spanset_eval.specs.Sets.{filter_span}
 use Rattle.spanset_eval.specs.Stages.{remaining, selected_fields}
 use Rattle.spanset_eval.specs.declared.groups.Group.{Group}
 use Rattle.spanset_eval.specs.declared.results.TraceResult.{TraceResult}
-use Rattle.traceql_syntax.specs.Trees.{QueryTree}
+use Rattle.traceql_syntax.specs.Trees.{Filter, Join, Placed, QueryTree, SetTree, Tree}
 use Rattle.traceql_types.specs.declared.pattern.Pattern.{Pattern}
+use Rattle.traceql_value.specs.Meaning.{is_so}
 use Rattle.traceql_value.specs.Spans.{earliest, latest, start_of}
 use Rattle.search_answer.proofs.Fronts.{same_trace}
 use Rattle.search_answer.specs.Answers.{IsResult}
-use Rattle.column_scan.proofs.HintLaws.{answer_holds}
-use Rattle.column_scan.specs.Hints.{query_text}
-use Rattle.column_scan.specs.Candidates.{AnsweredIsPicked, IsCovered, hint_of, hinted_by, hinted_picks, is_hinted, pick_of, spans_of}
+use Rattle.column_scan.proofs.ColumnLaws.{members_so}
+use Rattle.column_scan.proofs.HintLaws.{and_left, and_right, answer_holds, answer_kept, kept_holds, there_any}
+use Rattle.column_scan.specs.Candidates.{IsCovered, hint_of, hinted_by, pick_of, spans_of}
+use Rattle.column_scan.specs.Hints.{filter_text, query_text, set_text}
+use Rattle.column_scan.specs.Sieves.{AnsweredIsPicked, SieveParts, filter_members, has_all_moments, hints_the_kept, is_sifted, set_members, sieve_of, sifted_picks}
+use Rattle.column_scan.specs.declared.hints.Hint.{Hint}
 use Rattle.column_scan.proofs.Latest.{contains_filter, contains_map}
 
 -- ---- lists
@@ -117,18 +126,67 @@ hinted ps q range rows r is = at (query_text q) refl
     at None e = ap (λ (t : Option (List ℕ)). list_any (λ row. hinted_by t range row.span) rows) e ∙ is.within
     at (Some text) e = ap (λ (t : Option (List ℕ)). list_any (λ row. hinted_by t range row.span) rows) e ∙ answer_holds ps rows q text r e is.outcome
 
--- a hinted row of the trace, no earlier than its result
-pub record HintedRow (q : QueryTree) (range : Range) (rows : List Row) (id : TraceId) (r : TraceResult) : Type 0 where
+-- A range that has all moments has this one.
+within_all : (range : Range) (moment : ℕ) → has_all_moments range ≡ true → is_within range moment ≡ true
+within_all range moment all =
+    let first : range.from ≡ 0 = eqb-true range.from 0 (and_left (range.from == 0) (is_none range.until) all) in
+    rw (le-leb range.from moment (omega (arith, first))) (before range.until (and_right (range.from == 0) (is_none range.until) all))
+  where
+    before : (until : Option ℕ) → is_none until ≡ true → is_before until moment ≡ true
+    before None none = refl
+    before (Some until) none = cc
+
+-- a span that the filter keeps is hinted, if the hint asks for those
+kept_hinted : (ps : List Pattern) (rows : List Row) (condition : Option Placed) (text : Option (List ℕ)) (range : Range) (s : Span) → filter_text condition ≡ text → (is_some text || has_all_moments range) ≡ true
+    → filter_span ps rows condition s ≡ true → hinted_by text range s ≡ true
+kept_hinted ps rows condition None range s is all kept = within_all range s.start all
+kept_hinted ps rows condition (Some text) range s is all kept = kept_holds ps rows condition text is s kept
+
+-- the members of the filter are so of a span that it keeps
+filter_so : (ps : List Pattern) (rows : List Row) (condition : Option Placed) (s : Span) → filter_span ps rows condition s ≡ true → list_all (λ e. is_so ps [] s e) (filter_members condition) ≡ true
+filter_so ps rows None s kept = refl
+filter_so ps rows (Some e) s kept = members_so ps rows s e.1 kept
+
+module _ (ps : List Pattern) (q : QueryTree) (range : Range) (rows : List Row) (r : TraceResult) (is : IsResult ps q range rows r) where
+  abbrev hint : Hint
+  hint = hint_of q range
+
+  abbrev with_members : List Tree → SieveParts
+  with_members members = record { hint = hint; patterns = ps; members = members }
+
+  abbrev IsThere : List Tree → Type 0
+  IsThere members = list_any (λ row. is_sifted (with_members members) row.span) rows ≡ true
+
+  of_filter : (place : ℕ) (condition : Option Placed) → q.spansets ≡ Filter place condition → hints_the_kept hint ≡ true → IsThere (filter_members condition)
+  of_filter place condition filters all =
+      let k = answer_kept ps rows q r place condition filters is.outcome in
+      let s = k.passes.row.span in
+      let so = filter_so ps rows condition s k.passes.kept in
+      let there = kept_hinted ps rows condition (query_text q) range s (sym (ap set_text filters)) all k.passes.kept in
+      there_any (λ row. is_sifted (with_members (filter_members condition)) row.span) rows k.at k.passes.row k.passes.is (rw (so, there) refl)
+
+  of_set : (set : SetTree) → q.spansets ≡ set → hints_the_kept hint ≡ true → IsThere (set_members set)
+  of_set (Filter place condition) filters all = of_filter place condition filters all
+  of_set (Join at op a b) joins all = hinted ps q range rows r is
+
+  sifted : list_any (λ row. is_sifted (sieve_of ps q range) row.span) rows ≡ true
+  sifted = (elim (hints_the_kept hint) as (λ b. hints_the_kept hint ≡ b → IsThere (if hints_the_kept hint then set_members q.spansets else [])) [
+    | true ↦ λ t. rw t (of_set q.spansets refl t)
+    | false ↦ λ t. rw t (hinted ps q range rows r is)
+  ]) refl
+
+-- a sifted row of the trace, no earlier than its result
+pub record SiftedRow (ps : List Pattern) (q : QueryTree) (range : Range) (rows : List Row) (id : TraceId) (r : TraceResult) : Type 0 where
   pub row : Row
   pub member : Contains rows row
-  pub passes : is_hinted (hint_of q range) row.span ≡ true
+  pub passes : is_sifted (sieve_of ps q range) row.span ≡ true
   pub is : row.span.trace ≡ id
   pub late : r.start ≤ row.span.start
 
-pub hinted_row : (ps : List Pattern) (q : QueryTree) (range : Range) (rows firsts : List Row) (id : TraceId) (r : TraceResult) → IsFirstOf rows firsts
-    → IsResult ps q range (rows_of_trace id firsts) r → HintedRow q range rows id r
-hinted_row ps q range rows firsts id r first is =
-    let t = there (λ row. hinted_by (query_text q) range row.span) (rows_of_trace id firsts) (hinted ps q range (rows_of_trace id firsts) r is) in
+pub sifted_row : (ps : List Pattern) (q : QueryTree) (range : Range) (rows firsts : List Row) (id : TraceId) (r : TraceResult) → IsFirstOf rows firsts
+    → IsResult ps q range (rows_of_trace id firsts) r → SiftedRow ps q range rows id r
+sifted_row ps q range rows firsts id r first is =
+    let t = there (λ row. is_sifted (sieve_of ps q range) row.span) (rows_of_trace id firsts) (sifted ps q range (rows_of_trace id firsts) r is) in
     let k = kept (is_of_trace id) firsts t.row t.member.0 t.member.1 t.member.2 in
     let early = earliest_bounds (latest (rows_of_trace id firsts)) (rows_of_trace id firsts) t.row t.member.0 t.member.1 t.member.2 in
     let starts = result_starts ps q (rows_of_trace id firsts) r is.outcome in record {
@@ -141,8 +199,9 @@ hinted_row ps q range rows firsts id r first is =
 
 pub picked : AnsweredIsPicked
 picked ps q range rows firsts picks id r first are is =
-    let h = hinted_row ps q range rows firsts id r first is in
-    let among = contains_map pick_of (filter (is_hinted (hint_of q range)) (spans_of rows)) h.row.span
-    (contains_filter (is_hinted (hint_of q range)) (spans_of rows) h.row.span (contains_map (λ (row : Row). row.span) rows h.row h.member) h.passes) in
-    let p = All-contains (IsCovered picks) (hinted_picks (hint_of q range) (spans_of rows)) (pick_of h.row.span) are.whole among in
+    let sieve = sieve_of ps q range in
+    let h = sifted_row ps q range rows firsts id r first is in
+    let among = contains_map pick_of (filter (is_sifted sieve) (spans_of rows)) h.row.span
+    (contains_filter (is_sifted sieve) (spans_of rows) h.row.span (contains_map (λ (row : Row). row.span) rows h.row h.member) h.passes) in
+    let p = All-contains (IsCovered picks) (sifted_picks sieve (spans_of rows)) (pick_of h.row.span) are.whole among in
     (p.0, p.1, p.2 ∙ h.is, omega (arith, h.late, p.3))

@@ -1,8 +1,10 @@
--- Spans that start in a range, by what is told of their stripe.
-use Rattle.std.proofs.Common.{◌≡◌, ℕ, ◌+◌, ◌<◌, ◌≤◌, true, false, List, [], ◌∷◌, ◌++◌, length, map, take, filter, None, Result, Ok, refl, sym, ◌∙◌, ap, subst, arith, get_or}
-use Rattle.std.proofs.Math.ListN.{get_or-map}
-use Rattle.std.proofs.lemmas.List.{length-map, take_all}
-use Rattle.moment_range.specs.declared.range.Range.{Range}
+-- Spans that are sifted by what is told of their stripe.
+use Rattle.std.proofs.Common.{◌≡◌, ℕ, ◌+◌, ◌<◌, ◌≤◌, Bool, true, false, ◌&&◌, List, [], ◌∷◌, ◌++◌, length, map, take, None, Some, Result, Ok, refl, sym, ◌∙◌, ap, subst, arith, get_or}
+use Rattle.std.specs.Prelude.{slice_get}
+use Rattle.std.specs.List.{list_any}
+use Rattle.std.specs.Option.{option_map}
+use Rattle.std.proofs.lemmas.List.{length-map, map_more, take_all}
+use Rattle.std.proofs.lemmas.Option.{get_or_from_slice_get, slice_get-get_or, slice_get-map}
 use Rattle.moment_range.specs.Ranges.{is_within}
 use Rattle.span_types.specs.declared.ids.TraceId.{TraceId}
 use Rattle.span_types.specs.declared.spans.Row.{Row}
@@ -13,54 +15,108 @@ use Rattle.block_stripes.specs.StripeReadings.{stripe_at}
 use Rattle.block_stripes.specs.Stripes.{is_extended}
 use Rattle.stripe_skims.specs.Sketches.{IsSketch, SketchesAll}
 use Rattle.stripe_skims.specs.declared.sketches.Sketch.{Sketch}
-use Rattle.column_scan.specs.declared.hints.Hint.{Hint}
 use Rattle.column_scan.specs.declared.picks.Pick.{Pick}
-use Rattle.column_scan.specs.Candidates.{HaveLatest, hinted_by, hinted_picks, pick_of, spans_of}
-use Rattle.column_scan.specs.Picking.{by_start, started}
-use Rattle.column_scan.proofs.Latest.{hinted_step, none_added}
+use Rattle.column_scan.specs.Candidates.{HaveLatest, hinted_by, is_hinted, pick_of, spans_of}
+use Rattle.column_scan.specs.Sieves.{SieveParts, meets_members, sifted_picks}
+use Rattle.column_scan.proofs.HintLaws.{there_any}
+use Rattle.column_scan.proofs.Latest.{none_sifted, sifted_step}
 use Rattle.column_scan.proofs.StripeParts.{whole_read}
 
-one_started : (range : Range) (s : Span) → started range (pick_of s) ≡ hinted_picks (by_start range) (s ∷ [])
-one_started range s = (elim (is_within range s.start) as (λ b. is_within range s.start ≡ b → started range (pick_of s) ≡ hinted_picks (by_start range) (s ∷ [])) [
-  | true ↦ λ t. rw t refl
-  | false ↦ λ t. rw t refl
+-- ---- one row
+
+-- what stands in a column for a row
+pub stands : {X : Type 0} (f : Row → X) (items : List X) (rows : List Row) (i : ℕ) (row : Row) (d : X) → items ≡ map f rows → slice_get rows i ≡ Some row → f row ≡ get_or items i d
+stands f items rows i row d told here =
+    sym (get_or_from_slice_get (map f rows) i (f row) d (slice_get-map f rows i ∙ ap (option_map f) here)) ∙ ap (λ l. get_or l i d) (sym told)
+
+by_start : (sieve : SieveParts) (s : Span) → sieve.hint.text ≡ None → is_hinted sieve.hint s ≡ is_within sieve.hint.range s.start
+by_start sieve s alone = ap (λ text. hinted_by text sieve.hint.range s) alone
+
+-- a span that starts out of the range
+pub out_of_range : (sieve : SieveParts) (s : Span) (picks : List Pick) → sieve.hint.text ≡ None → is_within sieve.hint.range s.start ≡ false → HaveLatest (picks ++ sifted_picks sieve (s ∷ [])) picks
+out_of_range sieve s picks alone out = none_sifted sieve s picks (and_false (meets_members sieve s) (is_hinted sieve.hint s) (by_start sieve s alone ∙ out))
+  where
+    and_false : (a b : Bool) → b ≡ false → (a && b) ≡ false
+    and_false true b is = is
+    and_false false b is = refl
+
+-- one of which the members aren't so
+pub out_of_members : (sieve : SieveParts) (s : Span) (picks : List Pick) → meets_members sieve s ≡ false → HaveLatest (picks ++ sifted_picks sieve (s ∷ [])) picks
+out_of_members sieve s picks out = none_sifted sieve s picks (rw out refl)
+
+-- one that is sifted
+pub sifted_start : (sieve : SieveParts) (s : Span) (pick : Pick) (picks new : List Pick) → sieve.hint.text ≡ None → is_within sieve.hint.range s.start ≡ true → meets_members sieve s ≡ true → pick_of s ≡ pick
+    → HaveLatest (picks ++ pick ∷ []) new → HaveLatest (picks ++ sifted_picks sieve (s ∷ [])) new
+sifted_start sieve s pick picks new alone inside so is have =
+    let hinted : is_hinted sieve.hint s ≡ true = by_start sieve s alone ∙ inside in
+    let one : sifted_picks sieve (s ∷ []) ≡ pick ∷ [] = rw (so, hinted) (ap (λ (p : Pick). p ∷ []) is) in
+    subst (λ l. HaveLatest (picks ++ l) new) (sym one) have
+
+-- ---- row by row
+
+-- there is a row
+row_at : (rows : List Row) (sketch : Sketch) (i : ℕ) → IsSketch rows sketch → i < length sketch.traces.items → (row : Row) × (i < length rows) × (slice_get rows i ≡ Some row)
+row_at [] sketch i told low = let none : length sketch.traces.items ≡ 0 = ap length told.traces in absurd (omega (arith, low, none))
+row_at (row ∷ rest) sketch i told low =
+    let here : i < length (row ∷ rest) = omega (arith, low, ap length told.traces, length-map (row ∷ rest) (λ (r : Row). r.span.trace)) in
+    (get_or (row ∷ rest) i row, here, slice_get-get_or (row ∷ rest) i row here)
+
+pub next_start : (sieve now : SieveParts) (rows : List Row) (sketch : Sketch) (old picks new : List Pick) (i : ℕ) (trace : TraceId) → now ≡ sieve → IsSketch rows sketch → i < length sketch.traces.items
+    → ((d : TraceId) → trace ≡ get_or sketch.traces.items i d)
+    → HaveLatest (old ++ sifted_picks sieve (spans_of (take i rows))) picks
+    → ((row : Row) → slice_get rows i ≡ Some row → row.span.trace ≡ trace → HaveLatest (picks ++ sifted_picks now (row.span ∷ [])) new)
+    → HaveLatest (old ++ sifted_picks sieve (spans_of (take (i + 1) rows))) new
+next_start sieve now rows sketch old picks new i trace same told low trace_is have step =
+    let traces = λ (r : Row). r.span.trace in
+    let at = row_at rows sketch i told low in
+    let is : at.0.span.trace ≡ trace = stands traces sketch.traces.items rows i at.0 at.0.span.trace told.traces at.2 ∙ sym (trace_is at.0.span.trace) in
+    sifted_step (λ r. r.span) sieve now rows old picks new i at.0 same at.1 have
+    (subst (λ (r : Row). HaveLatest (picks ++ sifted_picks now (r.span ∷ [])) new) (sym (get_or_from_slice_get rows i at.0 at.0 at.2)) (step at.0 at.2 is))
+
+pub all_starts : (sieve : SieveParts) (rows : List Row) (sketch : Sketch) (old picks : List Pick) (i : ℕ) → IsSketch rows sketch → length sketch.traces.items ≤ i
+    → HaveLatest (old ++ sifted_picks sieve (spans_of (take i rows))) picks → HaveLatest (old ++ sifted_picks sieve (spans_of rows)) picks
+all_starts sieve rows sketch old picks i told ended have =
+    subst (λ l. HaveLatest (old ++ sifted_picks sieve (spans_of l)) picks) (take_all i rows (omega (arith, ended, ap length told.traces, length-map rows (λ (r : Row). r.span.trace)))) have
+
+-- ---- rows of which no member is so
+
+none_more : {X : Type 0} (p : X → Bool) (xs : List X) (x : X) → list_any p xs ≡ false → p x ≡ false → list_any p (xs ++ x ∷ []) ≡ false
+none_more p [] x none not_so = rw not_so refl
+none_more p (y ∷ xs) x none not_so = (elim (p y) as (λ b. p y ≡ b → list_any p ((y ∷ xs) ++ x ∷ []) ≡ false) [
+  | true ↦ λ t. let bad : true ≡ false = rw t at none in cc
+  | false ↦ λ t. rw t (none_more p xs x (rw t at none) not_so)
 ]) refl
 
-pub none_started : (range : Range) (p : Pick) (picks : List Pick) → is_within range p.latest ≡ false → HaveLatest (picks ++ started range p) picks
-none_started range p picks out = none_added picks (started range p) (rw out refl)
+pub next_none : (sieve now : SieveParts) (rows : List Row) (sketch : Sketch) (i : ℕ) → now ≡ sieve → IsSketch rows sketch → i < length sketch.traces.items
+    → list_any (meets_members sieve) (spans_of (take i rows)) ≡ false → ((row : Row) → slice_get rows i ≡ Some row → meets_members now row.span ≡ false)
+    → list_any (meets_members sieve) (spans_of (take (i + 1) rows)) ≡ false
+next_none sieve now rows sketch i same told low none step =
+    let at = row_at rows sketch i told low in
+    let here : meets_members sieve at.0.span ≡ false = ap (λ (s : SieveParts). meets_members s at.0.span) (sym same) ∙ step at.0 at.2 in
+    let more : spans_of (take (i + 1) rows) ≡ spans_of (take i rows) ++ at.0.span ∷ [] =
+    map_more (λ (r : Row). r.span) rows i at.0 at.1 ∙ ap (λ (r : Row). spans_of (take i rows) ++ r.span ∷ []) (get_or_from_slice_get rows i at.0 at.0 at.2) in
+    subst (λ l. list_any (meets_members sieve) l ≡ false) (sym more) (none_more (meets_members sieve) (spans_of (take i rows)) at.0.span none here)
 
-pub next_start : (range : Range) (rows : List Row) (sketch : Sketch) (old picks new : List Pick) (i : ℕ) (trace : TraceId) (start : ℕ) → IsSketch rows sketch → i < length sketch.starts.items
-    → ((d : TraceId) → trace ≡ get_or sketch.traces.items i d) → ((d : ℕ) → start ≡ get_or sketch.starts.items i d)
-    → HaveLatest (old ++ hinted_picks (by_start range) (spans_of (take i rows))) picks → HaveLatest (picks ++ started range (record { trace = trace; latest = start })) new
-    → HaveLatest (old ++ hinted_picks (by_start range) (spans_of (take (i + 1) rows))) new
-next_start range [] sketch old picks new i trace start told low trace_is start_is have step = let none : length sketch.starts.items ≡ 0 = ap length told.starts in absurd (omega (arith, low, none))
-next_start range (row ∷ rest) sketch old picks new i trace start told low trace_is start_is have step =
-    let rows = row ∷ rest in
-    let starts = λ (r : Row). r.span.start in
-    let traces = λ (r : Row). r.span.trace in
-    let at = get_or rows i row in
-    let here : i < length rows = omega (arith, low, ap length told.starts, length-map rows starts) in
-    let one : start ≡ at.span.start = start_is row.span.start ∙ ap (λ l. get_or l i row.span.start) told.starts ∙ get_or-map starts rows i row in
-    let two : trace ≡ at.span.trace = trace_is row.span.trace ∙ ap (λ l. get_or l i row.span.trace) told.traces ∙ get_or-map traces rows i row in
-    let same : started range (record { trace = trace; latest = start }) ≡ hinted_picks (by_start range) (at.span ∷ []) =
-    ap (λ t. started range (record { trace = t; latest = start })) two ∙ ap (λ k. started range (record { trace = at.span.trace; latest = k })) one ∙ one_started range at.span in
-    hinted_step (λ r. r.span) (by_start range) rows old picks new i row here have (subst (λ l. HaveLatest (picks ++ l) new) same step)
+pub all_none : (sieve : SieveParts) (rows : List Row) (sketch : Sketch) (i : ℕ) → IsSketch rows sketch → length sketch.traces.items ≤ i
+    → list_any (meets_members sieve) (spans_of (take i rows)) ≡ false → list_any (meets_members sieve) (spans_of rows) ≡ false
+all_none sieve rows sketch i told ended none =
+    subst (λ l. list_any (meets_members sieve) (spans_of l) ≡ false) (take_all i rows (omega (arith, ended, ap length told.traces, length-map rows (λ (r : Row). r.span.trace)))) none
 
-pub all_starts : (range : Range) (rows : List Row) (sketch : Sketch) (old picks : List Pick) (i : ℕ) → IsSketch rows sketch → length rows ≤ i
-    → HaveLatest (old ++ hinted_picks (by_start range) (spans_of (take i rows))) picks → HaveLatest (old ++ hinted_picks (by_start range) (spans_of rows)) picks
-all_starts range rows sketch old picks i told ended have =
-    subst (λ l. HaveLatest (old ++ hinted_picks (by_start range) (spans_of l)) picks) (take_all i rows ended) have
+pub one_found : (sieve now : SieveParts) (rows : List Row) (sketch : Sketch) (i : ℕ) → now ≡ sieve → IsSketch rows sketch → i < length sketch.traces.items
+    → ((row : Row) → slice_get rows i ≡ Some row → meets_members now row.span ≡ true) → list_any (meets_members sieve) (spans_of rows) ≡ true
+one_found sieve now rows sketch i same told low step =
+    let at = row_at rows sketch i told low in
+    let here : meets_members sieve at.0.span ≡ true = ap (λ (s : SieveParts). meets_members s at.0.span) (sym same) ∙ step at.0 at.2 in
+    there_any (meets_members sieve) (spans_of rows) i at.0.span (slice_get-map (λ (r : Row). r.span) rows i ∙ ap (option_map (λ (r : Row). r.span)) at.2) here
 
-only_start : (hint : Hint) → hint.text ≡ None → (spans : List Span) → hinted_picks (by_start hint.range) spans ≡ hinted_picks hint spans
-only_start hint alone spans = ap (λ text. map pick_of (filter (hinted_by text hint.range) spans)) (sym alone)
+-- ---- the rows that are read
 
--- a hint that only asks when spans start finds in a sketch what it finds in the rows
-pub starts_told : (hint : Hint) (form : ℕ) (entry : StripeInfo) (bytes : List ℕ) (rows : List Row) (sketch : Sketch) (picks new : List Pick) → hint.text ≡ None
-    → SketchesAll (stripe_at (is_extended form) bytes) sketch → stripe_of form entry None bytes ≡ Ok rows
-    → ((rows : List Row) → IsSketch rows sketch → HaveLatest (picks ++ hinted_picks (by_start hint.range) (spans_of rows)) new) → HaveLatest (picks ++ hinted_picks hint (spans_of rows)) new
-starts_told hint form entry bytes rows sketch picks new alone told read found =
+-- what is told of a stripe is told of the rows that are read by its entry
+pub told_of_read : (form : ℕ) (entry : StripeInfo) (bytes : List ℕ) (rows : List Row) (sketch : Sketch) → SketchesAll (stripe_at (is_extended form) bytes) sketch → stripe_of form entry None bytes ≡ Ok rows
+    → IsSketch rows sketch
+told_of_read form entry bytes rows sketch told read =
     let same : told.0 ≡ rows = same_rows told.0 rows (sym told.1 ∙ whole_read form entry None bytes rows read) in
-    subst (λ l. HaveLatest (picks ++ l) new) (only_start hint alone (spans_of rows)) (found rows (subst (λ l. IsSketch l sketch) same told.2))
+    subst (λ l. IsSketch l sketch) same told.2
   where
     same_rows : (xs ys : List Row) → (let r : Result (List Row) ℕ = Ok xs in let q : Result (List Row) ℕ = Ok ys in r ≡ q) → xs ≡ ys
     same_rows xs ys e = cc

@@ -5,7 +5,7 @@ use Rattle.std.specs.List.{AllByRecursion}
 use Rattle.std.proofs.lemmas.Bool.{leb-false, leb-true, ltb-false, ltb-true}
 use Rattle.std.proofs.lemmas.List.{map-append, take_all}
 use Rattle.std.proofs.Math.Seq.{take-add}
-use Rattle.std.proofs.lemmas.List.Sums.{sum_by-cons, sum_by_more}
+use Rattle.std.proofs.lemmas.List.Sums.{sum_by-cons, sum_by-take-le, sum_by_more}
 use Rattle.std.proofs.lemmas.Option.{slice_get-get_or}
 use Rattle.moment_range.specs.declared.range.Range.{Range}
 use Rattle.moment_range.specs.Ranges.{is_before, is_within}
@@ -20,9 +20,10 @@ use Rattle.block_read.specs.declared.error.ReadError.TheVariants.{Fault, NotBloc
 use Rattle.block_read.proofs.DescribedLaws.{few_rows, stripe_share, stripes_stand}
 use Rattle.column_scan.specs.declared.hints.Hint.{Hint}
 use Rattle.column_scan.specs.declared.picks.Pick.{Pick}
-use Rattle.column_scan.specs.Candidates.{HaveLatest, hinted_by, hinted_picks, is_hinted, pick_of, spans_of}
+use Rattle.column_scan.specs.Candidates.{HaveLatest, hinted_by, is_hinted, pick_of, spans_of}
 use Rattle.column_scan.specs.Scans.{FindsFit, may_scan, meets, scanned_by, scanned_pages}
-use Rattle.column_scan.proofs.Latest.{and_more, hinted_append, none_added}
+use Rattle.column_scan.specs.Sieves.{SieveParts, sifted_picks}
+use Rattle.column_scan.proofs.Latest.{and_more, none_added, none_of_hint, sifted_append}
 
 -- ---- a stripe that is left out
 
@@ -63,10 +64,11 @@ none_hinted hint stripe (row ∷ rows) out early late =
         ap (λ t. hinted_by t hint.range row.span) is ∙ outside hint.range stripe row.span.start (sym (ap (λ t. scanned_by t hint.range stripe) is) ∙ out) early.0 late.0
     not_hinted (Some text) is = let bad : true ≡ false = sym (ap (λ t. scanned_by t hint.range stripe) is) ∙ out in cc
 
-pub left_out : (hint : Hint) (form : ℕ) (stripe : StripeInfo) (bytes : List ℕ) (rows : List Row) (picks : List Pick) → may_scan hint stripe ≡ false → StripeHasEntry form stripe bytes rows
-    → HaveLatest (picks ++ hinted_picks hint (spans_of rows)) picks
-left_out hint form stripe bytes rows picks out has =
-    none_added picks (hinted_picks hint (spans_of rows)) (ap (map pick_of) (none_hinted hint stripe rows out has.earliest.1 has.latest.1))
+pub left_out : (sieve : SieveParts) (form : ℕ) (stripe : StripeInfo) (bytes : List ℕ) (rows : List Row) (picks : List Pick) → may_scan sieve.hint stripe ≡ false → StripeHasEntry form stripe bytes rows
+    → HaveLatest (picks ++ sifted_picks sieve (spans_of rows)) picks
+left_out sieve form stripe bytes rows picks out has =
+    none_added picks (sifted_picks sieve (spans_of rows))
+    (none_of_hint sieve (spans_of rows) (ap (map pick_of) (none_hinted sieve.hint stripe rows out has.earliest.1 has.latest.1)))
 
 -- ---- stripe by stripe
 
@@ -84,20 +86,21 @@ module _ (info : InfoParts) (bytes : List ℕ) (rows : List Row) (has : BlockHas
   has_entry = subst (StripeHasEntry info.form stripe (part_of stripe.page stripe.pages bytes)) (stripe_share info bytes rows has i stripe there).here
       (stripes_stand info bytes rows has i stripe there)
 
-pub next_stripe : (hint : Hint) (rows : List Row) (picks new : List Pick) (i : ℕ) → HaveLatest (hinted_picks hint (so_far i rows)) picks
-    → HaveLatest (picks ++ hinted_picks hint (spans_of (take 256 (drop (256 * i) rows)))) new → HaveLatest (hinted_picks hint (so_far (i + 1) rows)) new
-next_stripe hint rows picks new i have step =
+pub next_stripe : (sieve now : SieveParts) (rows : List Row) (picks new : List Pick) (i : ℕ) → now ≡ sieve → HaveLatest (sifted_picks sieve (so_far i rows)) picks
+    → HaveLatest (picks ++ sifted_picks now (spans_of (take 256 (drop (256 * i) rows)))) new → HaveLatest (sifted_picks sieve (so_far (i + 1) rows)) new
+next_stripe sieve now rows picks new i same have step =
     let next : 256 * i + 256 ≡ 256 * (i + 1) = omega arith in
     let parts : so_far (i + 1) rows ≡ so_far i rows ++ spans_of (take 256 (drop (256 * i) rows)) =
     ap (λ k. spans_of (take k rows)) (sym next) ∙ ap spans_of (take-add (256 * i) 256 rows) ∙ map-append (λ (row : Row). row.span) (take (256 * i) rows) (take 256 (drop (256 * i) rows)) in
-    let whole = ap (hinted_picks hint) parts ∙ hinted_append hint (so_far i rows) (spans_of (take 256 (drop (256 * i) rows))) in
-    subst (λ l. HaveLatest l new) (sym whole) (and_more (hinted_picks hint (so_far i rows)) (hinted_picks hint (spans_of (take 256 (drop (256 * i) rows)))) picks new have step)
+    let whole = ap (sifted_picks sieve) parts ∙ sifted_append sieve (so_far i rows) (spans_of (take 256 (drop (256 * i) rows))) in
+    subst (λ l. HaveLatest l new) (sym whole) (and_more (sifted_picks sieve (so_far i rows)) (sifted_picks sieve (spans_of (take 256 (drop (256 * i) rows)))) picks new have
+    (subst (λ (p : SieveParts). HaveLatest (picks ++ sifted_picks p (spans_of (take 256 (drop (256 * i) rows)))) new) same step))
 
-pub all_stripes : (hint : Hint) (info : InfoParts) (bytes : List ℕ) (rows : List Row) (picks : List Pick) (i : ℕ) → BlockHasInfo info bytes rows → length info.stripes ≤ i
-    → HaveLatest (hinted_picks hint (so_far i rows)) picks → HaveLatest (hinted_picks hint (spans_of rows)) picks
-all_stripes hint info bytes rows picks i has ended have =
+pub all_stripes : (sieve : SieveParts) (info : InfoParts) (bytes : List ℕ) (rows : List Row) (picks : List Pick) (i : ℕ) → BlockHasInfo info bytes rows → length info.stripes ≤ i
+    → HaveLatest (sifted_picks sieve (so_far i rows)) picks → HaveLatest (sifted_picks sieve (spans_of rows)) picks
+all_stripes sieve info bytes rows picks i has ended have =
     let few = few_rows info bytes rows has in
-    subst (λ l. HaveLatest (hinted_picks hint (spans_of l)) picks) (take_all (256 * i) rows (omega (arith, few, ended))) have
+    subst (λ l. HaveLatest (sifted_picks sieve (spans_of l)) picks) (take_all (256 * i) rows (omega (arith, few, ended))) have
 
 -- the same of the bytes, the stripes and the form as the code has them
 pub entry_there : (info : InfoParts) (bytes : List ℕ) (rows : List Row) → BlockHasInfo info bytes rows → (i : ℕ) (d : StripeInfo) → i < length info.stripes
@@ -118,6 +121,13 @@ pages_more hint stripes items i d low same =
     let one = sum_by-cons pages (get_or stripes i d) [] in
     let more : scanned_pages hint (take (i + 1) stripes) ≡ scanned_pages hint (take i stripes) + scanned_pages hint (get_or stripes i d ∷ []) = omega (arith, sum_by_more pages stripes i d low, one) in
     subst (λ l. scanned_pages hint (take (i + 1) stripes) ≡ scanned_pages hint (take i stripes) + scanned_pages hint (get_or l i d ∷ [])) (sym same) more
+
+pub pages_within : (hint : Hint) (stripes items : List StripeInfo) (i : ℕ) (d : StripeInfo) → i < length stripes → items ≡ stripes
+    → scanned_pages hint (take i stripes) + scanned_pages hint (get_or items i d ∷ []) ≤ scanned_pages hint stripes
+pages_within hint stripes items i d low same =
+    let pages = λ (stripe : StripeInfo). if may_scan hint stripe then stripe.pages else 0 in
+    let most : scanned_pages hint (take (i + 1) stripes) ≤ scanned_pages hint stripes = sum_by-take-le pages stripes (i + 1) in
+    omega (arith, most, pages_more hint stripes items i d low same)
 
 -- ---- errors
 

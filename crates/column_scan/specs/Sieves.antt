@@ -1,6 +1,6 @@
 -- What a query's filter asks of a span's kind, its status, its start and its end: columns of a fixed width, which are read without the
 -- rows. If one filter is all that spans are selected by, a span of which such a part of it isn't so is not kept by it.
-use Rattle.std.specs.Prelude.{ℕ, List, [], ◌∷◌, ◌++◌, Bool, true, false, ◌&&◌, ◌||◌, ◌==◌, ◌≡◌, ◌≤◌, Contains, Option, None, Some, filter, is_none, is_some, map, if◌then◌else◌}
+use Rattle.std.specs.Prelude.{List, [], ◌∷◌, ◌++◌, Bool, true, false, ◌&&◌, ◌||◌, ◌==◌, ◌≡◌, ◌≤◌, Contains, Option, None, Some, filter, is_none, is_some, map, if◌then◌else◌}
 use Rattle.std.specs.List.{list_all}
 use Rattle.moment_range.specs.declared.range.Range.{Range}
 use Rattle.rows_by_trace.specs.Traces.{rows_of_trace}

@@ -1,4 +1,4 @@
-//! The traces of a block that have hinted spans.
+//! The traces of a block that have sifted spans.
 
 ghost use Rattle.std.specs.Prelude.{◌≡◌, ◌+◌, ◌^◌, ◌<◌, ◌++◌, [], ◌∷◌, IfOk, IsTrue, List, None, Ok, OnOk, false, map};
 ghost use Rattle.span_types.specs.declared.spans.Row.{Row};
@@ -8,18 +8,23 @@ ghost use Rattle.block_read.specs.BlockReadings.{stripe_of};
 ghost use Rattle.block_read.specs.Files.{part_of};
 ghost use Rattle.block_read.specs.Lookups.{IsInFile};
 ghost use Rattle.block_read.specs.PageReads.{OnlyReads};
-ghost use Rattle.column_scan.specs.Candidates.{AreCandidates, ArePicks, HaveLatest, hinted_picks, spans_of};
+ghost use Rattle.stripe_skims.specs.Sketches.{IsSketch};
+ghost use Rattle.column_scan.specs.Candidates.{AreCandidates, HaveLatest, spans_of};
 ghost use Rattle.column_scan.specs.Scans.{FindsFit, may_scan, meets, scanned_pages};
+ghost use Rattle.column_scan.specs.Sieves.{AreSifted, sifted_picks};
+ghost use Rattle.column_scan.specs.Sifting.{IsOfRows};
 
-use crate::picks::add_hinted;
-use crate::sketched::{add_starts, sketch_of};
+use crate::picks::add_sifted;
+use crate::sifters::Sifter;
+use crate::sketched::{add_starts, sketch_of, some_meets};
 use crate::texts::lacks_text;
-use crate::{Hint, Pick, in_order};
+use crate::{Hint, Pick, Sieve, in_order};
 use block_info::{BlockInfo, StripeInfo};
 use block_read::{Pages, ReadError, Unread, rows_of_bytes, stripe_bytes};
 use moment_range::Range;
-use span_types::{Ids, Memory, Row, TraceId};
+use span_types::{Ids, Memory, Row, TraceId, TryCopy};
 use std::alloc::Global;
+use stripe_skims::Sketch;
 
 /// The ids of the traces that have a hinted row in a block, each once, in ascending order. It reads as
 /// [`picks_of_block`] does, with the same errors.
@@ -40,7 +45,10 @@ pub fn candidates<P: Pages>(
     ensures only { OnlyReads P.tells P.held P.faults P.ready P.went P.name
         pages.old (is_fault result) pages.new }
 {
-    match picks_of_block(alloc, pages, block, info, hint) {
+    let Ok(copy) = hint.copy() else {
+        return Err(ReadError::Memory);
+    };
+    match picks_of_block(alloc, pages, block, info, &Sieve::by_hint(alloc, copy)) {
         Ok(picks) => match traces_of(alloc, picks.as_slice()) {
             Ok(traces) => Ok(Ids::of(traces)),
             Err(_) => Err(ReadError::Memory),
@@ -60,7 +68,7 @@ fn traces_of(alloc: Global, picks: &[Pick]) -> Result<Vec<TraceId>, Memory>
     Ok(traces)
 }
 
-/// The traces that have a hinted row in a block, each once, in ascending order.
+/// The traces that have a sifted row in a block, each once, in ascending order.
 ///
 /// With a text each stripe is read, without one those of which a moment can be in the range, each page once.
 /// [`ReadError::NotBlock`] comes only if the pages are no block that the information describes, at the first byte of the
@@ -70,21 +78,32 @@ pub fn picks_of_block<P: Pages>(
     pages: &mut P,
     block: u32,
     info: &BlockInfo,
-    hint: &Hint,
+    sieve: &Sieve<'_>,
 ) -> Result<Vec<Pick>, ReadError>
     requires { P.ready pages.old block }
     ensures answers { IsTrue (P.tells pages.old) → (rows : List Row)
         → BlockHasInfo info.now (P.held pages.old block) rows
-        → FindsFit (λ picks. ArePicks hint.now (spans_of rows) picks.items) result }
+        → FindsFit (λ picks. AreSifted sieve.now (spans_of rows) picks.items) result }
     ensures its_file { IsInFile block result }
-    ensures reads { RoseAtMost (scanned_pages hint.now info.now.stripes)
+    ensures reads { RoseAtMost (scanned_pages sieve.now.hint info.now.stripes)
         (P.reads pages.old) (P.reads pages.new) }
     ensures only { OnlyReads P.tells P.held P.faults P.ready P.went P.name
         pages.old (is_fault result) pages.new }
 {
+    let Ok(mut sifter) = Sifter::of(alloc, sieve) else {
+        return Err(ReadError::Memory);
+    };
     let mut picks = Vec::new(alloc);
     for stripe in info.stripes.as_slice() {
-        add_stripe(alloc, pages, block, info.form, stripe, hint, &mut picks)?;
+        add_stripe(
+            alloc,
+            pages,
+            block,
+            info.form,
+            stripe,
+            &mut sifter,
+            &mut picks,
+        )?;
     }
     match in_order(alloc, picks) {
         Ok(all) => Ok(all),
@@ -92,14 +111,14 @@ pub fn picks_of_block<P: Pages>(
     }
 }
 
-// Adds the traces that have a hinted row in a stripe, which is read only if it may have one.
+// Adds the traces that have a sifted row in a stripe, which is read only if it may have one.
 fn add_stripe<P: Pages>(
     alloc: Global,
     pages: &mut P,
     block: u32,
     form: u8,
     entry: &StripeInfo,
-    hint: &Hint,
+    sifter: &mut Sifter<'_, '_>,
     picks: &mut Vec<Pick>,
 ) -> Result<(), ReadError>
     requires ready { P.ready pages.old block }
@@ -107,25 +126,26 @@ fn add_stripe<P: Pages>(
     ensures answers { IsTrue (P.tells pages.old) → (rows : List Row)
         → StripeHasEntry form entry.now
         (part_of entry.now.page entry.now.pages (P.held pages.old block)) rows
-        → FindsFit (λ _. HaveLatest (picks.old.items ++ hinted_picks hint.now (spans_of rows))
+        → FindsFit (λ _. HaveLatest (picks.old.items ++ sifted_picks sifter.old (spans_of rows))
         picks.new.items) result }
+    ensures same { sifter.new ≡ sifter.old }
     ensures its_file { IsInFile block result }
-    ensures reads { RoseAtMost (scanned_pages hint.now (entry.now ∷ []))
+    ensures reads { RoseAtMost (scanned_pages sifter.old.hint (entry.now ∷ []))
         (P.reads pages.old) (P.reads pages.new) }
     ensures only { OnlyReads P.tells P.held P.faults P.ready P.went P.name
         pages.old (is_fault result) pages.new }
 {
-    if !may_scan(hint, entry) {
+    if !may_scan(sifter.hint(), entry) {
         return Ok(());
     }
     match stripe_bytes(alloc, pages, block, entry) {
-        Ok(bytes) => add_bytes(alloc, block, form, entry, bytes.as_slice(), hint, picks),
+        Ok(bytes) => add_bytes(alloc, block, form, entry, bytes.as_slice(), sifter, picks),
         Err(Unread::Fault) => Err(ReadError::Fault),
         Err(Unread::Memory) => Err(ReadError::Memory),
     }
 }
 
-// Adds the traces of the hinted rows that the bytes of a stripe's pages stand for. Rows are made only where it isn't sure
+// Adds the traces of the sifted rows that the bytes of a stripe's pages stand for. Rows are made only where it isn't sure
 // without them.
 fn add_bytes(
     alloc: Global,
@@ -133,25 +153,49 @@ fn add_bytes(
     form: u8,
     entry: &StripeInfo,
     bytes: &[u8],
-    hint: &Hint,
+    sifter: &mut Sifter<'_, '_>,
     picks: &mut Vec<Pick>,
 ) -> Result<(), ReadError>
     requires near { entry.now.page + entry.now.pages < 2 ^ 52 }
     ensures answers { (rows : List Row) → stripe_of form entry.now None bytes.now ≡ Ok rows
-        → FindsFit (λ _. HaveLatest (picks.old.items ++ hinted_picks hint.now (spans_of rows))
+        → FindsFit (λ _. HaveLatest (picks.old.items ++ sifted_picks sifter.old (spans_of rows))
         picks.new.items) result }
+    ensures same { sifter.new ≡ sifter.old }
     ensures its_file { IsInFile block result }
     ensures no_fault { is_fault result ≡ false }
 {
-    if lacks_text(alloc, bytes, hint) {
+    if lacks_text(alloc, bytes, sifter.hint()) {
         return Ok(());
     }
-    let Some(sketch) = sketch_of(alloc, form, bytes, hint) else {
-        return add_made(alloc, block, form, entry, bytes, hint, picks);
+    let Some(sketch) = sketch_of(alloc, form, bytes, sifter) else {
+        return add_made(alloc, block, form, entry, bytes, sifter, picks);
     };
-    match add_starts(hint.range, &sketch, picks) {
-        Ok(()) => Ok(()),
+    match add_sketched(sifter, &sketch, picks) {
+        Ok(true) => Ok(()),
+        Ok(false) => add_made(alloc, block, form, entry, bytes, sifter, picks),
         Err(_) => Err(ReadError::Memory),
+    }
+}
+
+// Adds the traces of the sifted rows by what is told of the stripe, and says whether that was all: a row that may hold the
+// text is to be made.
+fn add_sketched(
+    sifter: &mut Sifter<'_, '_>,
+    sketch: &Sketch,
+    picks: &mut Vec<Pick>,
+) -> Result<bool, Memory>
+    requires { IsOfRows sketch.now }
+    ensures all { (rows : List Row) → IsSketch rows sketch.now → IfOk result (λ all. IsTrue all
+        → HaveLatest (picks.old.items ++ sifted_picks sifter.old (spans_of rows)) picks.new.items) }
+    ensures none { IfOk result (λ all. all ≡ false → picks.new ≡ picks.old) }
+    ensures same { sifter.new ≡ sifter.old }
+{
+    match &sifter.hint().text {
+        None => {
+            add_starts(sifter, sketch, picks)?;
+            Ok(true)
+        }
+        Some(_) => Ok(!some_meets(sifter, sketch)?),
     }
 }
 
@@ -162,18 +206,19 @@ fn add_made(
     form: u8,
     entry: &StripeInfo,
     bytes: &[u8],
-    hint: &Hint,
+    sifter: &mut Sifter<'_, '_>,
     picks: &mut Vec<Pick>,
 ) -> Result<(), ReadError>
     requires near { entry.now.page + entry.now.pages < 2 ^ 52 }
     ensures answers { (rows : List Row) → stripe_of form entry.now None bytes.now ≡ Ok rows
-        → FindsFit (λ _. HaveLatest (picks.old.items ++ hinted_picks hint.now (spans_of rows))
+        → FindsFit (λ _. HaveLatest (picks.old.items ++ sifted_picks sifter.old (spans_of rows))
         picks.new.items) result }
+    ensures same { sifter.new ≡ sifter.old }
     ensures its_file { IsInFile block result }
     ensures no_fault { is_fault result ≡ false }
 {
     match rows_of_bytes(alloc, block, form, entry, bytes) {
-        Ok(rows) => match add_rows(hint, rows.as_slice(), picks) {
+        Ok(rows) => match add_rows(sifter, rows.as_slice(), picks) {
             Ok(()) => Ok(()),
             Err(_) => Err(ReadError::Memory),
         },
@@ -181,13 +226,14 @@ fn add_made(
     }
 }
 
-// Adds the traces of the rows that are hinted.
-fn add_rows(hint: &Hint, rows: &[Row], picks: &mut Vec<Pick>) -> Result<(), Memory>
-    ensures { OnOk result (HaveLatest
-        (picks.old.items ++ hinted_picks hint.now (spans_of rows.now)) picks.new.items) }
+// Adds the traces of the rows that are sifted.
+fn add_rows(sifter: &mut Sifter<'_, '_>, rows: &[Row], picks: &mut Vec<Pick>) -> Result<(), Memory>
+    ensures found { OnOk result (HaveLatest
+        (picks.old.items ++ sifted_picks sifter.old (spans_of rows.now)) picks.new.items) }
+    ensures same { sifter.new ≡ sifter.old }
 {
     for row in rows {
-        add_hinted(hint, &row.span, picks)?;
+        add_sifted(sifter, &row.span, picks)?;
     }
     Ok(())
 }

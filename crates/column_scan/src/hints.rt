@@ -4,8 +4,9 @@ ghost use Rattle.std.specs.Prelude.{◌≡◌};
 ghost use Rattle.column_scan.specs.Candidates.{is_hinted};
 ghost use Rattle.column_scan.specs.Hints.{has_text, holds_text, is_text};
 
+use crate::query::copy_of;
 use moment_range::Range;
-use span_types::{AttrValue, Attrs, Span, Text};
+use span_types::{AttrValue, Attrs, Memory, Span, Text, TryCopy};
 
 /// What a search asks of single spans: to hold a text or, if there is none, to start in a range.
 #[derive(Debug, Drop)]
@@ -14,6 +15,16 @@ pub struct Hint {
     pub range: Range,
     /// The text, if the query asks for one.
     pub text: Option<Text>,
+}
+
+impl TryCopy for Hint {
+    fn copy(&self) -> Result<Hint, Memory> {
+        let text = copy_of(self.text.as_ref())?;
+        Ok(Hint {
+            range: self.range,
+            text,
+        })
+    }
 }
 
 impl Hint {

@@ -1,7 +1,7 @@
-//! Laws of hints and picks: no trace that a query answers is left out.
+//! Laws of hints, sieves and picks: no trace that a query answers is left out.
 
-ghost use Rattle.column_scan.specs.Candidates.{AnsweredIsPicked};
 ghost use Rattle.column_scan.specs.Hints.{AnswersHoldText};
+ghost use Rattle.column_scan.specs.Sieves.{AnsweredIsPicked, ColumnsTell};
 
 /// A trace of which a query answers something has a span that holds the query's text.
 pub fn answers_hold_the_text()
@@ -12,4 +12,9 @@ pub fn answers_hold_the_text()
 /// doesn't start after the pick's moment.
 pub fn answered_is_picked()
     ensures { AnsweredIsPicked }
+{}
+
+/// What an expression that asks for columns alone is for a span in no trace, it is for each span with the same columns.
+pub fn columns_tell()
+    ensures { ColumnsTell }
 {}

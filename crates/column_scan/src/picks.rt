@@ -1,49 +1,61 @@
-//! The traces that have hinted spans.
+//! The traces that have sifted spans.
 
 ghost use Rattle.std.specs.Prelude.{◌≡◌, ◌++◌, [], ◌∷◌, All, IfOk, OnOk, map, true};
 ghost use Rattle.std.specs.List.Sorted.{IsPermutation, IsSorted};
-ghost use Rattle.column_scan.specs.Candidates.{ArePicks, Ascend, HaveLatest, hinted_picks, pick_of};
+ghost use Rattle.column_scan.specs.Candidates.{Ascend, HaveLatest, pick_of};
 ghost use Rattle.column_scan.specs.Picking.{is_not_after, later_of, pick_cmp};
+ghost use Rattle.column_scan.specs.Sieves.{AreSifted, sifted_picks};
 
-use crate::Hint;
+use crate::Sieve;
+use crate::sifters::Sifter;
 use span_types::{Memory, Span, TraceId};
 use std::alloc::Global;
 use std::cmp::Ordering;
 
-/// A trace that has a hinted span.
+/// A trace that has a sifted span.
 #[derive(Clone, Copy, Debug, PartialEq, Eq)]
 pub struct Pick {
     /// The trace.
     pub trace: TraceId,
-    /// The latest start among its hinted spans, in nanoseconds since 1970.
+    /// The latest start among its sifted spans, in nanoseconds since 1970.
     pub latest: u64,
 }
 
-/// The traces that have a hinted span, each once, in ascending order. The one error is want of memory.
-pub fn picks_of_spans(alloc: Global, hint: &Hint, spans: &[&Span]) -> Result<Vec<Pick>, Memory>
+/// The traces that have a sifted span, each once, in ascending order. The one error is want of memory.
+pub fn picks_of_spans(
+    alloc: Global,
+    sieve: &Sieve<'_>,
+    spans: &[&Span],
+) -> Result<Vec<Pick>, Memory>
     ensures { IfOk result (λ picks.
-        ArePicks hint.now (map (λ s. s.now) spans.now) picks.items) }
+        AreSifted sieve.now (map (λ s. s.now) spans.now) picks.items) }
 {
+    let mut sifter = Sifter::of(alloc, sieve)?;
     let mut picks = Vec::new(alloc);
     for span in spans {
-        add_hinted(hint, span, &mut picks)?;
+        add_sifted(&mut sifter, span, &mut picks)?;
     }
     let all = in_order(alloc, picks)?;
     Ok(all)
 }
 
-// Adds the trace of a span that is hinted.
-pub(crate) fn add_hinted(hint: &Hint, span: &Span, picks: &mut Vec<Pick>) -> Result<(), Memory>
-    ensures { OnOk result (HaveLatest
-        (picks.old.items ++ hinted_picks hint.now (span.now ∷ [])) picks.new.items) }
+// Adds the trace of a span that is sifted.
+pub(crate) fn add_sifted(
+    sifter: &mut Sifter<'_, '_>,
+    span: &Span,
+    picks: &mut Vec<Pick>,
+) -> Result<(), Memory>
+    ensures found { OnOk result (HaveLatest
+        (picks.old.items ++ sifted_picks sifter.old (span.now ∷ [])) picks.new.items) }
+    ensures same { sifter.new ≡ sifter.old }
 {
-    if hint.holds(span) {
+    if sifter.holds(span)? {
         add(picks, pick_of(span))?;
     }
     Ok(())
 }
 
-// What a span picks if it is hinted.
+// What a span picks if it is sifted.
 fn pick_of(span: &Span) -> Pick
     ensures { result ≡ pick_of span.now }
 {

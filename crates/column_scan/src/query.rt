@@ -1,10 +1,11 @@
 //! The hint of a query.
 
-ghost use Rattle.std.specs.Prelude.{◌≡◌, ◌<◌, IfOk, MatchOption};
+ghost use Rattle.std.specs.Prelude.{◌≡◌, ◌++◌, ◌<◌, IfOk, MatchOption};
 ghost use Rattle.std.specs.Option.{option_map, option_or};
 ghost use Rattle.traceql_syntax.specs.Trees.{placed_option, query_tree, set_tree, tree};
 ghost use Rattle.traceql_value.specs.Chains.{tree_size};
 ghost use Rattle.column_scan.specs.Candidates.{hint_of};
+ghost use Rattle.column_scan.specs.Sieves.{column_members, if_columns};
 ghost use Rattle.column_scan.specs.Hints.{asked_text, both_text, chain_text, field_in, filter_text, is_conjunction, is_equality, literal_in, member_text, set_text, tells_text, text_of};
 
 use crate::Hint;
@@ -25,7 +26,7 @@ pub fn hint(checked: &Checked, range: Range) -> Result<Hint, Memory>
 }
 
 // A copy of a text, if there is one.
-fn copy_of(text: Option<&Text>) -> Result<Option<Text>, Memory>
+pub(crate) fn copy_of(text: Option<&Text>) -> Result<Option<Text>, Memory>
     ensures { IfOk result (λ copy. copy ≡ option_map (λ t. t.now) text.entry) }
 {
     match text {
@@ -68,11 +69,13 @@ fn chain_text(expr: &FieldExpr) -> Option<&Text>
 }
 
 // The two sides of a `&&`: a chain up to it, and the member after it.
-fn sides(expr: &FieldExpr) -> Option<(&FieldExpr, &FieldExpr)>
-    ensures { MatchOption result (chain_text (tree expr.now) ≡ member_text (tree expr.now))
+pub(crate) fn sides(expr: &FieldExpr) -> Option<(&FieldExpr, &FieldExpr)>
+    ensures text { MatchOption result (chain_text (tree expr.now) ≡ member_text (tree expr.now))
         (λ p. (chain_text (tree expr.now)
         ≡ option_or (chain_text (tree p.0.now)) (member_text (tree p.1.now)))
         × (tree_size (tree p.0.now) < tree_size (tree expr.now))) }
+    ensures members { MatchOption result (column_members (tree expr.now) ≡ if_columns (tree expr.now))
+        (λ p. column_members (tree expr.now) ≡ column_members (tree p.0.now) ++ if_columns (tree p.1.now)) }
 {
     match expr {
         FieldExpr::Binary {

@@ -1,6 +1,10 @@
-use Rattle.std.proofs.Common.{◌++◌, take}
-use Rattle.column_scan.specs.Candidates.{HaveLatest, hinted_picks, spans_of}
+use Rattle.std.proofs.Common.{◌≡◌, ◌++◌, take}
+use Rattle.column_scan.specs.Candidates.{HaveLatest, spans_of}
+use Rattle.column_scan.specs.Sieves.{sifted_picks}
 use Rattle.column_scan.proofs.blocks.add_rows.Given as goal
 
 abbrev pub invariant-loop-row : goal.invariant-loop-row
-invariant-loop-row l = HaveLatest (l.fn.picks.items ++ hinted_picks l.hint (spans_of (take l.row-index l.rows))) l.picks.items
+invariant-loop-row l = record {
+  same : l.sifter ≡ l.fn.sifter;
+  found : HaveLatest (l.fn.picks.items ++ sifted_picks l.fn.sifter (spans_of (take l.row-index l.rows))) l.picks.items;
+}

@@ -1,9 +1,12 @@
-use Rattle.std.proofs.Common.{◌++◌, List, length, take}
+use Rattle.std.proofs.Common.{◌≡◌, ◌++◌, List, take}
 use Rattle.span_types.specs.declared.spans.Row.{Row}
 use Rattle.stripe_skims.specs.Sketches.{IsSketch}
-use Rattle.column_scan.specs.Candidates.{HaveLatest, hinted_picks, spans_of}
-use Rattle.column_scan.specs.Picking.{by_start}
+use Rattle.column_scan.specs.Candidates.{HaveLatest, spans_of}
+use Rattle.column_scan.specs.Sieves.{sifted_picks}
 use Rattle.column_scan.proofs.sketched.add_starts.Given as goal
 
-abbrev pub invariant-loop-trace : goal.invariant-loop-trace
-invariant-loop-trace l = (rows : List Row) → IsSketch rows l.sketch → HaveLatest (l.fn.picks.items ++ hinted_picks (by_start l.range) (spans_of (take (length l.yielded) rows))) l.picks.items
+abbrev pub invariant-loop-i : goal.invariant-loop-i
+invariant-loop-i l = record {
+  same : l.sifter ≡ l.fn.sifter;
+  found : (rows : List Row) → IsSketch rows l.sketch → HaveLatest (l.fn.picks.items ++ sifted_picks l.fn.sifter (spans_of (take l.i rows))) l.picks.items;
+}

@@ -1,0 +1,46 @@
+-- Private mechanism. How a sieve is kept and applied.
+use Rattle.std.specs.Prelude.{◌≡◌, ℕ, ◌<◌, true, List, [], length, map, Option, None, Some}
+use Rattle.std.specs.List.{list_all}
+use Rattle.span_types.specs.declared.spans.Row.{Row}
+use Rattle.span_types.specs.declared.spans.Span.{Span}
+use Rattle.stripe_skims.specs.Sketches.{IsSketch}
+use Rattle.stripe_skims.specs.declared.sketches.Sketch.{Sketch}
+use Rattle.traceql_syntax.specs.declared.field.FieldExpr.{FieldExpr}
+use Rattle.traceql_syntax.specs.Trees.{Tree, tree}
+use Rattle.traceql_types.specs.declared.checked.Checked.{Checked}
+use Rattle.traceql_types.specs.declared.pattern.Pattern.{Pattern}
+use Rattle.column_scan.specs.declared.columns.Columns.{Columns}
+use Rattle.column_scan.specs.Sieves.{reads_columns}
+use denote.Ref.{Bor}
+
+-- ---- what a sieve keeps
+
+abbrev pub trees_of : List (Bor FieldExpr) → List Tree
+trees_of exprs = map (λ e. tree e.now) exprs
+
+-- the patterns of a query, if there is one
+abbrev pub patterns_in : Option (Bor Checked) → List Pattern
+patterns_in None = []
+patterns_in (Some checked) = checked.now.patterns
+
+-- The members ask for columns alone, and without a query there are none.
+pub record IsKept (checked : Option (Bor Checked)) (members : List (Bor FieldExpr)) : Type 0 where
+  pub columns : list_all reads_columns (trees_of members) ≡ true
+  pub none : checked ≡ None → members ≡ []
+
+-- ---- columns
+
+-- the columns are those of the span
+pub record HasColumns (s : Span) (columns : Columns) : Type 0 where
+  pub kind : s.kind ≡ columns.kind
+  pub status : s.status ≡ columns.status
+  pub start : s.start ≡ columns.start
+  pub ended : s.«end» ≡ columns.«end»
+
+-- The sketch is of some rows.
+abbrev pub IsOfRows : Sketch → Type 0
+IsOfRows sketch = (rows : List Row) × IsSketch rows sketch
+
+-- The sketch is of rows, of which there are more than so many.
+abbrev pub IsInSketch : Sketch → ℕ → Type 0
+IsInSketch sketch i = (rows : List Row) × IsSketch rows sketch × (i < length rows)
