@@ -119,6 +119,13 @@ module _ (info : InfoParts) (bytes : List ℕ) (id : TraceId) (first count : ℕ
       new_is ∙ ap (λ (l : List Row). l ++ rows_of_trace id (take 256 (drop (256 * i) rows))) old_is ∙ sym (one_part id (256 * i) 256 rows)
       ∙ ap (λ (k : ℕ). rows_of_trace id (take k rows)) next
 
+  -- a stripe that is named has a row of the trace
+  pub has_row : (i from to : ℕ) → from ≡ first / 256 → to ≡ div_ceil (first + count) 256 → from ≤ i → i < to → list_any (is_of_trace id) (take 256 (drop (256 * i) rows)) ≡ true
+  has_row i from to from_is to_is begun left =
+      let one = placed.first_is in
+      let two = placed.count_is in
+      some_within id rows ascending (256 * i) 256 (omega (arith, one, two, to_is, left)) (omega (arith, one, from_is, begun)) placed.some (omega arith)
+
   module _ (i : ℕ) (d : StripeInfo) (low : i < length info.stripes) where
     abbrev stripe : StripeInfo
     stripe = get_or info.stripes i d
@@ -151,10 +158,7 @@ module _ (info : InfoParts) (bytes : List ℕ) (id : TraceId) (first count : ℕ
     pub pages_more : (from to : ℕ) → from ≡ first / 256 → to ≡ div_ceil (first + count) 256 → from ≤ i → i < to
         → pages_with id (drop i info.stripes) (drop (256 * i) rows) ≡ stripe.pages + pages_with id (drop (i + 1) info.stripes) (drop (256 * (i + 1)) rows)
     pages_more from to from_is to_is begun left =
-        let one = placed.first_is in
-        let two = placed.count_is in
-        let held = some_within id rows ascending (256 * i) 256 (omega (arith, one, two, to_is, left)) (omega (arith, one, from_is, begun)) placed.some (omega arith) in
-        one_stripe ∙ ap (λ (b : Bool). (if b then stripe.pages else 0) + pages_with id (drop (i + 1) info.stripes) (drop (256 * (i + 1)) rows)) held
+        one_stripe ∙ ap (λ (b : Bool). (if b then stripe.pages else 0) + pages_with id (drop (i + 1) info.stripes) (drop (256 * (i + 1)) rows)) (has_row i from to from_is to_is begun left)
 
   abbrev no_stripe : StripeInfo
   no_stripe = record { page = 0; pages = 0; rows = 0; earliest = 0; latest = 0 }

@@ -1,3 +1,4 @@
 mod IdLaws
 mod WalkLaws
 mod Stops
+mod OnceLaws

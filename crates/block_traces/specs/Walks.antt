@@ -1,5 +1,5 @@
 -- Private: how far a walk over the stripes of a block has come.
-use Rattle.std.specs.Prelude.{◌≡◌, ◌*◌, Bool, false, true, List, [], ◌∷◌, take, drop, Option, None, Some, Result, Ok, Err}
+use Rattle.std.specs.Prelude.{◌≡◌, ℕ, ◌+◌, ◌*◌, ◌≤◌, Bool, false, true, List, [], ◌∷◌, take, drop, Option, None, Some, Result, Ok, Err}
 use Rattle.std.specs.Ordering.{is_lt}
 use Rattle.span_types.specs.Orders.{trace_cmp}
 use Rattle.span_types.specs.declared.ids.TraceId.{TraceId}
@@ -7,7 +7,9 @@ use Rattle.span_types.specs.declared.spans.Row.{Row}
 use Rattle.rows_by_trace.specs.Traces.{rows_of_trace}
 use Rattle.block_read.specs.declared.error.ReadError.{ReadError}
 use Rattle.block_read.specs.declared.error.ReadError.TheVariants.{Fault, NotBlock, Memory}
+use Rattle.block_info.specs.InfoParts.{InfoParts}
 use Rattle.stripe_traces.specs.Wanted.{rows_of_traces}
+use Rattle.block_traces.specs.Batches.{pages_with_one_of}
 use Rattle.block_traces.specs.declared.walk.Walk.{Walk}
 
 -- the trace is below that of the last row, if there is one
@@ -21,6 +23,15 @@ pub record HasCome (ids done : List TraceId) (rows : List Row) (walk : Walk) : T
   pub so_far : walk.found.items ≡ rows_of_traces ids (take (256 * walk.next) rows)
   pub below : (id : TraceId) → is_before id walk.last ≡ true → rows_of_trace id (drop (256 * walk.next) rows) ≡ []
   pub none_left : rows_of_traces done (drop (256 * walk.next) rows) ≡ []
+
+-- the pages of those stripes, from that one on, that hold a row of one of the traces
+abbrev pub left : List TraceId → InfoParts → List Row → ℕ → ℕ
+left ids info rows next = pages_with_one_of ids (drop next info.stripes) (drop (256 * next) rows)
+
+-- Each of the pages that were left is read once at most, and so many others.
+abbrev pub ReadsOnce : {A : Type 0} → ℕ → ℕ → ℕ → ℕ → ℕ → Result A ReadError → Type 0
+ReadsOnce others left_before left_now before now (Ok x) = now + left_now ≤ before + (others + left_before)
+ReadsOnce others left_before left_now before now (Err e) = now ≤ before + (others + left_before)
 
 -- It comes so far, and the pages aren't found to be no block. A fault and out of memory say nothing of it.
 abbrev pub Comes : {A : Type 0} → Type 0 → Result A ReadError → Type 0

@@ -7,7 +7,7 @@ ghost use Rattle.block_read.specs.Answers.{RoseAtMost, is_fault};
 ghost use Rattle.block_read.specs.Lookups.{Finds, IsInFile};
 ghost use Rattle.block_read.specs.PageReads.{OnlyReads};
 ghost use Rattle.stripe_traces.specs.Wanted.{AreInOrder, rows_of_traces};
-ghost use Rattle.block_traces.specs.Batches.{pages_for_each};
+ghost use Rattle.block_traces.specs.Batches.{pages_for_all, pages_for_each};
 
 use crate::walk::{Walk, pass_trace};
 use block_info::BlockInfo;
@@ -19,7 +19,8 @@ use std::alloc::Global;
 ///
 /// A trace is looked up by the block's filters and its index, unless a stripe that was read settles it, and each stripe that
 /// holds one of the traces is read once. Of a block that the information describes no more pages are read than look-ups of
-/// each trace by itself may read. Of other pages it may give any rows of these traces, or answer [`ReadError::NotBlock`].
+/// each trace by itself may read, and those of its stripes once each. Of other pages it may give any rows of these traces,
+/// or answer [`ReadError::NotBlock`].
 pub fn rows_of_traces<P: Pages>(
     alloc: Global,
     pages: &mut P,
@@ -37,6 +38,10 @@ pub fn rows_of_traces<P: Pages>(
     ensures reads { IsTrue (P.tells pages.old) → (rows : List Row)
         → BlockHasInfo info.now (P.held pages.old block) rows
         → RoseAtMost (pages_for_each info.now ids.now rows) (P.reads pages.old) (P.reads pages.new) }
+    // A stripe is read once for all of the traces.
+    ensures once { IsTrue (P.tells pages.old) → (rows : List Row)
+        → BlockHasInfo info.now (P.held pages.old block) rows
+        → RoseAtMost (pages_for_all info.now ids.now rows) (P.reads pages.old) (P.reads pages.new) }
     ensures only { OnlyReads P.tells P.held P.faults P.ready P.went P.name
         pages.old (is_fault result) pages.new }
 {

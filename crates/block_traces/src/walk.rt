@@ -1,14 +1,14 @@
 //! A walk over the stripes of a block that hold one of the traces.
 
-ghost use Rattle.std.specs.Prelude.{◌≡◌, ◌++◌, IsTrue, List, OnOk, [], ◌∷◌};
+ghost use Rattle.std.specs.Prelude.{◌≡◌, ◌+◌, ◌++◌, IsTrue, List, OnOk, [], ◌∷◌};
 ghost use Rattle.span_types.specs.declared.ids.TraceId.{TraceId as Trace};
 ghost use Rattle.span_types.specs.declared.spans.Row.{Row};
 ghost use Rattle.block_format.specs.Blocks.{BlockHasInfo};
 ghost use Rattle.block_read.specs.Answers.{RoseAtMost, is_fault};
-ghost use Rattle.block_read.specs.Lookups.{HasTrace, IsInFile, most_pages, pages_with};
+ghost use Rattle.block_read.specs.Lookups.{HasTrace, IsInFile, bits, most_pages, pages_with};
 ghost use Rattle.block_read.specs.PageReads.{OnlyReads};
 ghost use Rattle.stripe_traces.specs.Wanted.{AreInOrder, rows_of_traces};
-ghost use Rattle.block_traces.specs.Walks.{Comes, HasCome, is_before};
+ghost use Rattle.block_traces.specs.Walks.{Comes, HasCome, ReadsOnce, is_before, left};
 
 use crate::kept::add_stripe;
 use block_info::BlockInfo;
@@ -51,6 +51,10 @@ pub fn pass_trace<P: Pages>(
     ensures reads { IsTrue (P.tells pages.old) → (rows : List Row)
         → BlockHasInfo info.now (P.held pages.old block) rows
         → RoseAtMost (most_pages info.now id rows) (P.reads pages.old) (P.reads pages.new) }
+    ensures once { IsTrue (P.tells pages.old) → (rows : List Row)
+        → BlockHasInfo info.now (P.held pages.old block) rows → (done later : List Trace) → ids.now ≡ done ++ id ∷ later
+        → ReadsOnce (1 + bits info.now.index_pages) (left ids.now info.now rows walk.old.next)
+        (left ids.now info.now rows walk.new.next) (P.reads pages.old) (P.reads pages.new) result }
     ensures only { OnlyReads P.tells P.held P.faults P.ready P.went P.name pages.old (is_fault result) pages.new }
 {
     if has_passed(id, walk.last) {
@@ -102,6 +106,11 @@ fn pass_rows<P: Pages>(
     ensures reads { IsTrue (P.tells pages.old) → (rows : List Row) → (id : Trace)
         → HasTrace info.now (P.held pages.old block) id first count rows
         → RoseAtMost (pages_with id info.now.stripes rows) (P.reads pages.old) (P.reads pages.new) }
+    ensures once { IsTrue (P.tells pages.old) → (rows : List Row) → (id : Trace)
+        → HasTrace info.now (P.held pages.old block) id first count rows
+        → (done later : List Trace) → ids.now ≡ done ++ id ∷ later
+        → ReadsOnce 0 (left ids.now info.now rows walk.old.next) (left ids.now info.now rows walk.new.next)
+        (P.reads pages.old) (P.reads pages.new) result }
     ensures only { OnlyReads P.tells P.held P.faults P.ready P.went P.name pages.old (is_fault result) pages.new }
 {
     let stripes = info.stripes.as_slice();

@@ -1,18 +1,20 @@
-use Rattle.std.proofs.Common.{◌≡◌, ◌+◌, ◌≤◌, ℕ, List, Bool, Err, take, drop, refl, sym, subst, ◌∙◌, ap, arith}
+use Rattle.std.proofs.Common.{◌≡◌, ◌+◌, ◌*◌, ◌≤◌, ℕ, length, List, Bool, Err, take, drop, refl, sym, subst, ◌∙◌, ap, arith}
 use Rattle.std.specs.Prelude.{IsTrue}
+use Rattle.std.proofs.lemmas.Nat.{mul-le}
 use Rattle.std.proofs.lemmas.List.{take_all, take_more}
 use Rattle.std.proofs.lemmas.List.Sums.{sum_by_more, sum_by_more_le}
 use Rattle.std.proofs.lemmas.Result.{err_from_is_err_and}
 use Rattle.span_types.specs.declared.ids.TraceId.{TraceId}
 use Rattle.block_format.specs.Blocks.{BlockHasInfo}
 use Rattle.block_read.specs.Answers.{RoseAtMost, is_fault}
-use Rattle.block_read.specs.Lookups.{most_pages}
+use Rattle.block_read.specs.Lookups.{bits, most_pages}
 use Rattle.block_read.specs.PageReads.{OnlyReads}
 use Rattle.block_read.proofs.PageReads.{none_read, read_then, rose_first, rose_more}
 use Rattle.block_read.proofs.TraceWalk.{fault_passed}
 use Rattle.stripe_traces.specs.Wanted.{rows_of_traces}
 use Rattle.block_traces.specs.Batches.{pages_for_each}
 use Rattle.block_traces.specs.Walks.{HasCome}
+use Rattle.block_traces.proofs.OnceLaws.{each_counts}
 use Rattle.block_traces.proofs.Stops.{find_passed}
 use Rattle.block_traces.proofs.WalkLaws.{all_done, nothing_done, parts_at}
 use Rattle.block_traces.proofs.batches.rows_of_traces.Goals as goal
@@ -26,6 +28,7 @@ loop-id-init g c =
     record {
       told = λ told rows has. nothing_done c.args.ids.now rows (record { next = 0; last = _; found = c.new.result }) refl refl c.new.ensures.items;
       reads = λ told rows has. rose_first 0 (P.reads c.args.pages.now);
+      once = λ told rows has. omega arith;
       of_traces = ap (rows_of_traces c.args.ids.now) c.new.ensures.items ∙ sym c.new.ensures.items;
       only = none_read P.tells P.held P.faults P.ready P.went P.name c.args.pages.now;
     }
@@ -52,6 +55,24 @@ returns-in_err-pass_trace-clause-reads g c = λ told rows has.
     let still = subst (λ (bytes : List ℕ). BlockHasInfo c.args.info.now bytes rows) (sym (h.only.stays.same_files told c.args.block)) has in
     rose_more (pages_for_each c.args.info.now (take i ids) rows) (most_pages c.args.info.now _ rows) (pages_for_each c.args.info.now ids rows) (P.reads c.args.pages.now) (P.reads c.loop-id.pages) (P.reads c.pass_trace.new.pages)
     (sum_by_more_le (λ (id : TraceId). most_pages c.args.info.now id rows) ids i _ c.loop-id-test.true) (h.reads told rows has) (c.pass_trace.ensures.reads there rows still)
+
+pub returns-in_err-pass_trace-clause-once : goal.returns-in_err-pass_trace-clause-once
+returns-in_err-pass_trace-clause-once g c = λ told rows has.
+    let P = g.P.Pages in
+    let h = c.loop-id.invariant in
+    let ids = c.args.ids.now in
+    let i = c.loop-id.id-index in
+    let info = c.args.info.now in
+    let there : IsTrue (P.tells c.loop-id.pages) = subst IsTrue (sym h.only.stays.telling) told in
+    let still = subst (λ (bytes : List ℕ). BlockHasInfo info bytes rows) (sym (h.only.stays.same_files told c.args.block)) has in
+    let others = 1 + bits info.index_pages in
+    let few = h.once told rows has in
+    let one = c.in_err-pass_trace.ensures.once there rows still (take i ids) (drop (i + 1) ids) (parts_at ids i _ c.loop-id-test.true) in
+    let all = each_counts i (length ids) others c.loop-id-test.true in
+    let more = c.in_err-pass_trace.ensures.reads there rows still in
+    let before = (h.reads told rows has).later in
+    let now = more.later in
+    record { later = omega (arith, before, now); at_most = omega (arith, few, one, all) }
 
 pub returns-in_err-pass_trace-clause-only : goal.returns-in_err-pass_trace-clause-only
 returns-in_err-pass_trace-clause-only g c =
@@ -80,6 +101,14 @@ loop-id-preserved g c =
           let sum = sum_by_more (λ (id : TraceId). most_pages c.args.info.now id rows) ids i _ c.loop-id-test.true in
           rose_more (pages_for_each c.args.info.now (take i ids) rows) (most_pages c.args.info.now _ rows) (pages_for_each c.args.info.now (take (i + 1) ids) rows) (P.reads c.args.pages.now) (P.reads c.loop-id.pages) (P.reads c.pass_trace.new.pages)
           (not_less _ _ sum) (h.reads told rows has) (e.reads there rows still);
+      once = λ told rows has.
+          let there : IsTrue (P.tells c.loop-id.pages) = subst IsTrue (sym h.only.stays.telling) told in
+          let still = subst (λ (bytes : List ℕ). BlockHasInfo c.args.info.now bytes rows) (sym (h.only.stays.same_files told c.args.block)) has in
+          let others = 1 + bits c.args.info.now.index_pages in
+          let next : (i + 1) * others ≡ i * others + others = omega arith in
+          let few = h.once told rows has in
+          let one = e.once there rows still (take i ids) (drop (i + 1) ids) (parts_at ids i _ c.loop-id-test.true) in
+          omega (arith, few, one, next);
       of_traces = e.of_traces h.of_traces;
       only = read_then P.tells P.held P.faults P.ready P.went P.name _ c.args.pages.now c.loop-id.pages c.pass_trace.new.pages h.only e.only;
     }
@@ -95,3 +124,12 @@ returns-clause-reads g c = λ told rows has.
     let P = g.P.Pages in
     let all = take_all c.loop-id.id-index c.args.ids.now c.loop-id-test.false in
     subst (λ (done : List TraceId). RoseAtMost (pages_for_each c.args.info.now done rows) (P.reads c.args.pages.now) (P.reads c.loop-id.pages)) all (c.loop-id.invariant.reads told rows has)
+
+pub returns-clause-once : goal.returns-clause-once
+returns-clause-once g c = λ told rows has.
+    let h = c.loop-id.invariant in
+    let few = h.once told rows has in
+    let before = (h.reads told rows has).later in
+    let others = 1 + bits c.args.info.now.index_pages in
+    let all = mul-le c.loop-id.id-index others (length c.args.ids.now) others (omega (arith, c.loop-id.auto.id-index-end)) (omega arith) in
+    record { later = before; at_most = omega (arith, few, all) }

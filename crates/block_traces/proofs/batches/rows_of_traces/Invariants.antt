@@ -1,13 +1,14 @@
 -- So far the traces before this one are done.
-use Rattle.std.proofs.Common.{◌≡◌, List, take, false}
+use Rattle.std.proofs.Common.{◌≡◌, ◌+◌, ◌*◌, ◌≤◌, List, take, false}
 use Rattle.std.specs.Prelude.{IsTrue}
 use Rattle.span_types.specs.declared.spans.Row.{Row}
 use Rattle.block_format.specs.Blocks.{BlockHasInfo}
 use Rattle.block_read.specs.Answers.{RoseAtMost}
+use Rattle.block_read.specs.Lookups.{bits}
 use Rattle.block_read.specs.PageReads.{OnlyReads}
 use Rattle.stripe_traces.specs.Wanted.{rows_of_traces}
 use Rattle.block_traces.specs.Batches.{pages_for_each}
-use Rattle.block_traces.specs.Walks.{HasCome}
+use Rattle.block_traces.specs.Walks.{HasCome, left}
 use Rattle.block_traces.proofs.batches.rows_of_traces.Given as goal
 
 abbrev pub invariant-loop-id : goal.invariant-loop-id
@@ -17,6 +18,8 @@ invariant-loop-id g l =
       told : IsTrue (P.tells l.fn.pages) → (rows : List Row) → BlockHasInfo l.info (P.held l.fn.pages l.block) rows → HasCome l.ids (take l.id-index l.ids) rows l.walk;
       reads : IsTrue (P.tells l.fn.pages) → (rows : List Row) → BlockHasInfo l.info (P.held l.fn.pages l.block) rows
           → RoseAtMost (pages_for_each l.info (take l.id-index l.ids) rows) (P.reads l.fn.pages) (P.reads l.pages);
+      once : IsTrue (P.tells l.fn.pages) → (rows : List Row) → BlockHasInfo l.info (P.held l.fn.pages l.block) rows
+          → P.reads l.pages + left l.ids l.info rows l.walk.next ≤ P.reads l.fn.pages + (l.id-index * (1 + bits l.info.index_pages) + left l.ids l.info rows 0);
       of_traces : rows_of_traces l.ids l.walk.found.items ≡ l.walk.found.items;
       only : OnlyReads P.tells P.held P.faults P.ready P.went P.name l.fn.pages false l.pages;
     }

@@ -8,7 +8,8 @@ use Rattle.block_read.specs.PageReads.{OnlyReads}
 use Rattle.block_read.proofs.PageReads.{none_read, read_then}
 use Rattle.block_read.proofs.TraceWalk.{entry_there, fault_passed, pages_first, pages_more, stripes_there}
 use Rattle.stripe_traces.specs.Wanted.{rows_of_traces}
-use Rattle.block_traces.specs.Walks.{HasCome}
+use Rattle.block_traces.specs.Walks.{HasCome, left}
+use Rattle.block_traces.proofs.OnceLaws.{less_later, stopped, stripe_counts}
 use Rattle.block_traces.proofs.Stops.{stop_passed}
 use Rattle.block_traces.proofs.WalkLaws.{ascending, none_after, one_done, past_stripe, to_stripe}
 use Rattle.block_traces.proofs.walk.pass_rows.Goals as goal
@@ -30,6 +31,9 @@ loop-number-init g c =
           to_stripe c.args.info.now held id c.args.first c.args.count rows has c.args.ids.now done later c.requires.in_order is c.stripes_of-from.result.0 c.args.walk.now
           (record { next = c.max-start.result; last = c.args.walk.now.last; found = c.args.walk.now.found }) c.stripes_of-from.ensures.from c.max-start.ensures refl refl come;
       reads = λ told rows id has. let less = pages_first c.args.info.now held id c.args.first c.args.count rows has c.max-start.result in omega (arith, less);
+      once = λ told rows id has done later is.
+          let less = less_later c.args.ids.now c.args.info.now held rows has.described c.args.walk.now.next c.max-start.result (omega (arith, c.max-start.ensures)) in
+          omega (arith, less);
       more = omega arith;
       next = refl;
       of_traces = λ all. all;
@@ -66,6 +70,23 @@ returns-in_err-walk-clause-reads g c = λ told rows id has.
     let more = h.more in
     record { later = omega (arith, more, later); at_most = omega (arith, few, one, same, most) }
 
+pub returns-in_err-walk-clause-once : goal.returns-in_err-walk-clause-once
+returns-in_err-walk-clause-once g c = λ told rows id has done later is.
+    let P = g.P.Pages in
+    let h = c.loop-number.invariant in
+    let p = err_from_is_err_and c.from_residual.result c.from_residual.ensures.1 in
+    let held = P.held c.args.pages.now c.args.block in
+    let i = c.loop-number.number in
+    let low : i < length c.args.info.now.stripes = omega (arith, c.loop-number-test.true, c.if-to-stripes.false, ap length (c.as_slice-stripes.ensures ∙ ap (λ (n : InfoParts). n.stripes) c.info.view_is)) in
+    let one = stripe_counts c.args.ids.now done later c.args.info.now held id c.args.first c.args.count rows has is i no_stripe low c.stripes_of-from.result.0 c.stripes_of-from.result.1 c.stripes_of-from.ensures.from c.stripes_of-from.ensures.to
+    (omega (arith, c.loop-number.auto.number, c.max-start.ensures)) (omega (arith, c.loop-number-test.true)) in
+    let same = ap (λ (l : List StripeInfo). (get_or l i no_stripe).pages) (c.as_slice-stripes.ensures ∙ ap (λ (n : InfoParts). n.stripes) c.info.view_is) in
+    let few = h.once told rows id has done later is in
+    let most = c.in_err-walk.ensures.reads.at_most in
+    let before = left c.args.ids.now c.args.info.now rows c.args.walk.now.next in
+    let after = left c.args.ids.now c.args.info.now rows c.loop-number.walk.next in
+    stopped 0 before after (P.reads c.args.pages.now) (P.reads c.add_stripe.new.pages) c.from_residual.result p.0 p.1 (omega (arith, few, one, same, most))
+
 pub returns-in_err-walk-clause-only : goal.returns-in_err-walk-clause-only
 returns-in_err-walk-clause-only g c =
     let P = g.P.Pages in
@@ -98,6 +119,11 @@ loop-number-preserved g c =
           (omega (arith, c.loop-number.auto.number, c.max-start.ensures)) (omega (arith, c.loop-number-test.true)) in
           let few = h.reads told rows id has in
           omega (arith, few, one, same, most);
+      once = λ told rows id has done later is.
+          let one = stripe_counts c.args.ids.now done later c.args.info.now held id c.args.first c.args.count rows has is i no_stripe low c.stripes_of-from.result.0 c.stripes_of-from.result.1 c.stripes_of-from.ensures.from c.stripes_of-from.ensures.to
+          (omega (arith, c.loop-number.auto.number, c.max-start.ensures)) (omega (arith, c.loop-number-test.true)) in
+          let few = h.once told rows id has done later is in
+          omega (arith, few, one, same, most);
       more = omega (arith, more, later);
       next = refl;
       of_traces = λ all. e.of_traces (h.of_traces all);
@@ -111,3 +137,10 @@ returns-clause-answers g c = λ told rows id has done later is come.
     let next = h.next in
     one_done c.args.ids.now done rows id c.loop-number.walk (h.told told rows id has done later is come)
     (none_after c.args.info.now held id c.args.first c.args.count rows has c.stripes_of-from.result.1 c.loop-number.walk.next c.stripes_of-from.ensures.to (omega (arith, next, c.loop-number-test.false)))
+
+pub returns-clause-once : goal.returns-clause-once
+returns-clause-once g c = λ told rows id has done later is.
+    let h = c.loop-number.invariant in
+    let next = ap (left c.args.ids.now c.args.info.now rows) h.next in
+    let few = h.once told rows id has done later is in
+    omega (arith, few, next)

@@ -1,4 +1,4 @@
--- So far the stripes before the next one are passed, and of those with the trace's rows each is read once.
+-- So far the stripes before the next one are passed, and of those with rows of the trace, or of any of the traces, each is read once.
 use Rattle.std.proofs.Common.{◌≡◌, ◌+◌, ◌*◌, ◌≤◌, List, ◌∷◌, ◌++◌, drop, false}
 use Rattle.std.specs.Prelude.{IsTrue}
 use Rattle.span_types.specs.declared.ids.TraceId.{TraceId}
@@ -6,7 +6,7 @@ use Rattle.span_types.specs.declared.spans.Row.{Row}
 use Rattle.block_read.specs.Lookups.{HasTrace, pages_with}
 use Rattle.block_read.specs.PageReads.{OnlyReads}
 use Rattle.stripe_traces.specs.Wanted.{rows_of_traces}
-use Rattle.block_traces.specs.Walks.{HasCome}
+use Rattle.block_traces.specs.Walks.{HasCome, left}
 use Rattle.block_traces.proofs.walk.pass_rows.Given as goal
 
 abbrev pub invariant-loop-number : goal.invariant-loop-number
@@ -17,6 +17,8 @@ invariant-loop-number g l =
           → (done later : List TraceId) → l.ids ≡ done ++ id ∷ later → HasCome l.ids done rows l.fn.walk → HasCome l.ids done rows l.walk;
       reads : IsTrue (P.tells l.fn.pages) → (rows : List Row) → (id : TraceId) → HasTrace l.info (P.held l.fn.pages l.block) id l.first l.count rows
           → P.reads l.pages + pages_with id (drop l.number l.info.stripes) (drop (256 * l.number) rows) ≤ P.reads l.fn.pages + pages_with id l.info.stripes rows;
+      once : IsTrue (P.tells l.fn.pages) → (rows : List Row) → (id : TraceId) → HasTrace l.info (P.held l.fn.pages l.block) id l.first l.count rows
+          → (done later : List TraceId) → l.ids ≡ done ++ id ∷ later → P.reads l.pages + left l.ids l.info rows l.number ≤ P.reads l.fn.pages + left l.ids l.info rows l.fn.walk.next;
       more : P.reads l.fn.pages ≤ P.reads l.pages;
       next : l.walk.next ≡ l.number;
       of_traces : rows_of_traces l.ids l.fn.walk.found.items ≡ l.fn.walk.found.items → rows_of_traces l.ids l.walk.found.items ≡ l.walk.found.items;
