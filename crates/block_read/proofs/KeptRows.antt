@@ -14,8 +14,7 @@ use Rattle.std.proofs.lemmas.List.Sorted.{searchable_from_sorted}
 use Rattle.span_types.specs.Orders.{trace_cmp}
 use Rattle.span_types.specs.declared.ids.TraceId.{TraceId}
 use Rattle.span_types.specs.declared.spans.Row.{Row}
-use Rattle.rows_by_trace.specs.Traces.{is_of_trace, rows_of_trace}
-use Rattle.stripe_traces.specs.Wanted.{AreInOrder, HasTraces, is_one_of, last_or, rows_of_traces}
+use Rattle.stripe_traces.specs.Wanted.{AreInOrder, is_one_of, last_or, rows_of_traces}
 use Rattle.stripe_traces.specs.declared.traces.StripeTraces.{StripeTraces}
 use Rattle.block_read.specs.Lookups.{Finds, FindsTraces}
 use Rattle.block_read.specs.declared.error.ReadError.{ReadError}

@@ -1,6 +1,6 @@
 //! The rows of a trace, of the stripes where they are.
 
-ghost use Rattle.std.specs.Prelude.{◌≡◌, ◌+◌, ◌*◌, ◌/◌, ◌^◌, ◌<◌, ◌++◌, IfOk, IsTrue, List, OnOk};
+ghost use Rattle.std.specs.Prelude.{◌≡◌, ◌+◌, ◌/◌, ◌^◌, ◌<◌, IfOk, IsTrue, List, OnOk};
 ghost use Rattle.std.specs.Int.{div_ceil};
 ghost use Rattle.span_types.specs.declared.spans.Row.{Row};
 ghost use Rattle.rows_by_trace.specs.Traces.{rows_of_trace};

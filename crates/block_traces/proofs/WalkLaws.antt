@@ -5,7 +5,7 @@ use Rattle.std.specs.List.{AllByRecursion, count_by, list_any, position_or_len}
 use Rattle.std.specs.Ordering.{is_gt}
 use Rattle.std.specs.declared.cmp.Ordering.TheVariants.{Less}
 use Rattle.std.proofs.Math.Seq.{take-add}
-use Rattle.std.proofs.lemmas.List.{append-nil, append_assoc, append_cancel_left, drop-drop, drop_more, get_or-drop, get_or-take, length-map, length-take, take-append-drop}
+use Rattle.std.proofs.lemmas.List.{append-nil, append_cancel_left, drop-drop, drop_more, get_or-drop, get_or-take, length-map, length-take, take-append-drop}
 use Rattle.std.proofs.lemmas.List.Elements.{All-from_recursion, filter-append, recursion_from_All}
 use Rattle.std.proofs.lemmas.List.Sums.{fails_before_first, passes_at_first}
 use Rattle.span_types.specs.Orders.{trace_cmp}
