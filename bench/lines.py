@@ -1,5 +1,7 @@
 #!/usr/bin/env python3
-"""Writes lines of OTLP/JSON: `lines.py SPANS LINES` gives LINES lines of SPANS spans each, the same every time."""
+"""Writes lines of OTLP/JSON: `lines.py SPANS LINES` gives LINES lines, each of one trace of SPANS spans, the same every time.
+
+The traces begin at random within 11 days, their spans within two seconds of that, and one span in fifty fails."""
 import json
 import random
 import sys
@@ -10,8 +12,8 @@ def attribute(key, value):
     return {"key": key, "value": {kind: str(value)}}
 
 
-def span(draw, trace, number):
-    start = 1_700_000_000_000_000_000 + draw.randrange(10**15)
+def span(draw, trace, begun, number):
+    start = begun + draw.randrange(2 * 10**9)
     return {
         "traceId": trace,
         "spanId": f"{number + 1:016x}",
@@ -20,7 +22,7 @@ def span(draw, trace, number):
         "kind": draw.randrange(6),
         "startTimeUnixNano": str(start),
         "endTimeUnixNano": str(start + draw.randrange(10**9)),
-        "status": {"code": draw.randrange(3)},
+        "status": {"code": draw.randrange(2) if draw.randrange(50) else 2},
         "attributes": [
             attribute("http.request.method", draw.choice(["GET", "POST"])),
             attribute("http.response.status_code", 200 + 100 * draw.randrange(4)),
@@ -34,7 +36,8 @@ def line(draw, spans):
     trace = f"{draw.getrandbits(128) | 1:032x}"
     resource = {"attributes": [attribute("service.name", f"svc-{draw.randrange(3)}"), attribute("host.name", "node-7")]}
     scope = {"name": "lib", "version": "1.0"}
-    inner = {"scope": scope, "spans": [span(draw, trace, i) for i in range(spans)]}
+    begun = 1_700_000_000_000_000_000 + draw.randrange(10**15)
+    inner = {"scope": scope, "spans": [span(draw, trace, begun, i) for i in range(spans)]}
     return json.dumps({"resourceSpans": [{"resource": resource, "scopeSpans": [inner]}]}, separators=(",", ":"))
 
 
