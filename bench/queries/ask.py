@@ -122,7 +122,7 @@ def main():
         for _ in range(ROUNDS):
             ours.append(timed(lambda: session.ask(line)))
             theirs.append(timed(lambda: base.execute(statement).fetchall()))
-        told(name, ours, theirs, f" {session.memory() - opened:.0f} MB more than the open store")
+        told(name, ours, theirs, f" {session.memory() - opened:.0f} MB above the peak of the opening")
     session.end()
 
 
