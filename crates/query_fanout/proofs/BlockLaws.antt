@@ -66,16 +66,16 @@ not_none [] file among none = cc
 not_none (i ∷ is) file among none = cc
 
 -- the blocks of the front, the one after it and the others
-record Split (shows : ℕ → List ℕ) (front : List InfoParts) (info : InfoParts) (back : List InfoParts) (all : List (List Row)) : Type 0 where
-  before : List (List Row)
-  rows : List Row
-  after : List (List Row)
-  is : all ≡ before ++ rows ∷ after
-  front_are : AreBlocksOf shows front before
-  has : BlockHasInfo info (shows info.file) rows
-  back_are : AreBlocksOf shows back after
+pub record Split (shows : ℕ → List ℕ) (front : List InfoParts) (info : InfoParts) (back : List InfoParts) (all : List (List Row)) : Type 0 where
+  pub before : List (List Row)
+  pub rows : List Row
+  pub after : List (List Row)
+  pub is : all ≡ before ++ rows ∷ after
+  pub front_are : AreBlocksOf shows front before
+  pub has : BlockHasInfo info (shows info.file) rows
+  pub back_are : AreBlocksOf shows back after
 
-split_at : (shows : ℕ → List ℕ) (front : List InfoParts) (info : InfoParts) (back : List InfoParts) (all : List (List Row)) → AreBlocksOf shows (front ++ info ∷ back) all
+pub split_at : (shows : ℕ → List ℕ) (front : List InfoParts) (info : InfoParts) (back : List InfoParts) (all : List (List Row)) → AreBlocksOf shows (front ++ info ∷ back) all
     → Split shows front info back all
 split_at shows [] info back [] are = absurd are
 split_at shows [] info back (p ∷ ps) are = record { before = []; rows = p; after = ps; is = refl; front_are = tt; has = are.0; back_are = are.1 }
@@ -144,7 +144,7 @@ sound_error one other Fault h = tt
 sound_error one other (NotBlock file at) h = absurd h
 sound_error one other Memory h = tt
 
-comes_error : {A B : Type 0} (one : List Row → A → Type 0) (other : List Row → B → Type 0) (infos : List InfoParts) (why : QueryError) → ComesOf one infos (Err why) → ComesOf other infos (Err why)
+pub comes_error : {A B : Type 0} (one : List Row → A → Type 0) (other : List Row → B → Type 0) (infos : List InfoParts) (why : QueryError) → ComesOf one infos (Err why) → ComesOf other infos (Err why)
 comes_error one other infos Fault h = tt
 comes_error one other infos (NotBlock file at) h = h
 comes_error one other infos Memory h = tt
@@ -304,7 +304,7 @@ module _ {P A : Type 0} (meaning : Meaning P) (look : Look) (some fits : List Ro
 -- ---- all blocks, once and again
 
 -- they hold the same
-blocks_stay : (all : List ℕ) (old new : ℕ → List ℕ) (infos : List InfoParts) (parts : List (List Row)) → ((file : ℕ) → is_among file all ≡ true → new file ≡ old file)
+pub blocks_stay : (all : List ℕ) (old new : ℕ → List ℕ) (infos : List InfoParts) (parts : List (List Row)) → ((file : ℕ) → is_among file all ≡ true → new file ≡ old file)
     → ((file : ℕ) → is_among file (info_files infos) ≡ true → is_among file all ≡ true) → AreBlocksOf old infos parts → AreBlocksOf new infos parts
 blocks_stay all old new [] [] same among are = tt
 blocks_stay all old new [] (p ∷ ps) same among are = absurd are

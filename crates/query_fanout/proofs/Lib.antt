@@ -2,7 +2,7 @@ mod CallLaws
 pub mod Later
 mod PinnedLaws
 mod BlockLaws
-mod PickedLaws
+mod PartLaws
 mod TurnLaws
 mod FewLaws
 mod TakenLaws
@@ -10,6 +10,16 @@ mod TakeLaws
 mod QueryLaws
 mod PicksExist
 mod SiftedLaws
+mod ApartLaws
+mod TookLaws
+mod WaitLaws
+mod LeastLaws
+mod RoundLaws
+mod StageLaws
+mod PlaceLaws
+mod EndLaws
+mod AfterLaws
+mod ReachLaws
 mod SearchLaws
 mod ByTraceLaws
 mod OwnLaws

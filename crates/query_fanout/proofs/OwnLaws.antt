@@ -5,21 +5,10 @@ use Rattle.std.proofs.lemmas.List.Elements.{All-append, All-contains_itself, All
 use Rattle.span_types.specs.First.{IsFirstOf, first_at}
 use Rattle.span_types.specs.Keys.{row_key}
 use Rattle.span_types.specs.declared.spans.Row.{Row}
-use Rattle.span_types.proofs.FirstLaws.{firsts_more}
 use Rattle.column_scan.specs.Candidates.{IsCovered, pick_of, spans_of}
 use Rattle.column_scan.specs.Sieves.{SieveParts, is_sifted, sifted_picks}
 use Rattle.column_scan.specs.declared.picks.Pick.{Pick}
 use Rattle.column_scan.proofs.Latest.{contains_filter, contains_map}
-use Rattle.store_state.specs.Meaning.{Meaning}
-use Rattle.store_state.specs.declared.jobs.Look.{Look}
-use Rattle.query_fanout.specs.Reading.{BlocksRead}
-use Rattle.query_fanout.specs.SearchAnswers.{IsSearchAnswer}
-use Rattle.query_fanout.specs.declared.error.QueryError.{QueryError}
-use Rattle.query_fanout.proofs.BlockLaws.{read_as}
-use Rattle.query_fanout.specs.Searching.{AllIfPicked, OwnIfPicked}
-use Rattle.query_fanout.specs.Taking.{asked_sieve}
-use Rattle.query_fanout.specs.declared.searching.Asked.{Asked}
-use Rattle.query_fanout.specs.declared.searching.SearchAnswer.{SearchAnswer}
 use Rattle.query_fanout.proofs.FewLaws.{first_among}
 
 -- all sifted ones among these rows are picked
@@ -46,26 +35,9 @@ firsts_within : (rows firsts : List Row) → IsFirstOf rows firsts → All (Cont
 firsts_within rows firsts are = All-weaker (λ r. first_at (row_key r) rows ≡ Some r) (Contains rows)
     (λ r is. first_among (Contains rows) (row_key r) rows r (recursion_from_All (Contains rows) rows (All-contains_itself rows)) is) firsts are.only
 
-module _ (asked : Asked) (as_of : ℕ) (own firsts : List Row) (picks : List Pick) (are : IsFirstOf own firsts) where
-  answers_all : (rows : List Row) (x : SearchAnswer) → IsSearchAnswer asked as_of (firsts ++ rows) x → IsSearchAnswer asked as_of (own ++ rows) x
-  answers_all rows x h = record { count = h.count; firsts = h.firsts; are_first = firsts_more own firsts rows h.firsts are h.are_first; found = h.found }
-
-  pub all_if_picked : (rows : List Row) (x : SearchAnswer) → AllIfPicked asked as_of firsts picks rows x → AllIfPicked asked as_of own picks rows x
-  all_if_picked rows x h = λ covered. answers_all rows x
-      (h (All-from_recursion (IsCovered picks) _ (covered_part (asked_sieve asked) picks (own ++ rows) (firsts ++ rows) covered
-      (recursion_from_All (Contains (own ++ rows)) (firsts ++ rows) (All-append (Contains (own ++ rows)) firsts rows
-      (All-weaker (Contains own) (Contains (own ++ rows)) (λ r m. Contains-append_left own rows r m) firsts (firsts_within own firsts are))
-      (All-weaker (Contains rows) (Contains (own ++ rows)) (λ r m. Contains-append_right own rows r m) rows (All-contains_itself rows)))))))
-
-  pub own_if_picked : (rows : List Row) (x : SearchAnswer) → OwnIfPicked asked as_of firsts picks rows x → OwnIfPicked asked as_of own picks rows x
-  own_if_picked rows x h = λ covered. answers_all rows x
-      (h (All-from_recursion (IsCovered picks) _ (covered_part (asked_sieve asked) picks own firsts covered (recursion_from_All (Contains own) firsts (firsts_within own firsts are)))))
-
--- what is told over first occurrences is told over all of the rows
-pub told_of_all : {P : Type 0} {within : List (List Row) → ℕ → ℕ → Type 0} (meaning : Meaning P) (look : Look) (asked : Asked) (own firsts : List Row) (picks : List Pick) → IsFirstOf own firsts
-    → (old new : P) (r : Result SearchAnswer QueryError)
-    → BlocksRead meaning look look.pin.blocks (OwnIfPicked asked look.as_of firsts picks) (AllIfPicked asked look.as_of firsts picks) within old r new
-    → BlocksRead meaning look look.pin.blocks (OwnIfPicked asked look.as_of own picks) (AllIfPicked asked look.as_of own picks) within old r new
-told_of_all meaning look asked own firsts picks are old new r h =
-    read_as meaning look look.pin.blocks (λ parts a b rose. rose) old new r (λ x rows. own_if_picked asked look.as_of own firsts picks are rows x)
-    (λ x rows. all_if_picked asked look.as_of own firsts picks are rows x) h
+-- what covers the sifted rows covers those of their first occurrences
+pub firsts_covered : (sieve : SieveParts) (picks : List Pick) (rows firsts : List Row) → IsFirstOf rows firsts → All (IsCovered picks) (sifted_picks sieve (spans_of rows))
+    → All (IsCovered picks) (sifted_picks sieve (spans_of firsts))
+firsts_covered sieve picks rows firsts are covered =
+    All-from_recursion (IsCovered picks) (sifted_picks sieve (spans_of firsts))
+    (covered_part sieve picks rows firsts covered (recursion_from_All (Contains rows) firsts (firsts_within rows firsts are)))

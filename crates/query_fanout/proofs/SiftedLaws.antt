@@ -10,8 +10,8 @@ use Rattle.span_types.specs.declared.ids.TraceId.{TraceId}
 use Rattle.span_types.specs.declared.spans.Span.{Span}
 use Rattle.stripe_traces.specs.Wanted.{AreInOrder}
 use Rattle.search_answer.proofs.Fronts.{trace_cmp_total}
-use Rattle.column_scan.specs.Candidates.{AreCandidates, ArePicks, IsCovered, hinted_picks, is_hinted, pick_of}
-use Rattle.column_scan.specs.Sieves.{AreSifted, SieveParts, is_sifted, meets_members, sifted_picks}
+use Rattle.column_scan.specs.Candidates.{AreCandidates, ArePicks, Ascend, IsCovered, hinted_picks, is_hinted, pick_of}
+use Rattle.column_scan.specs.Sieves.{SieveParts, is_sifted, meets_members, sifted_picks}
 use Rattle.column_scan.specs.declared.picks.Pick.{Pick}
 use Rattle.column_scan.proofs.Latest.{contains_map}
 use Rattle.query_fanout.specs.Taking.{traces_of}
@@ -101,20 +101,20 @@ and_right false b is = cc
 sifted_hinted : (sieve : SieveParts) (spans : List Span) (p : Pick) → Contains (sifted_picks sieve spans) p → Contains (hinted_picks sieve.hint spans) p
 sifted_hinted sieve spans p m = wider_picks (is_sifted sieve) (is_hinted sieve.hint) (λ s is. and_right (meets_members sieve s) (is_hinted sieve.hint s) is) spans p m
 
-among_candidates : (sieve : SieveParts) (spans : List Span) (picks all : List Pick) → AreSifted sieve spans picks → ArePicks sieve.hint spans all
+among_candidates : (sieve : SieveParts) (spans : List Span) (picks all : List Pick) → All (Contains (sifted_picks sieve spans)) picks → ArePicks sieve.hint spans all
     → All (Contains (traces_of all)) (traces_of picks)
-among_candidates sieve spans picks all are hinted =
+among_candidates sieve spans picks all only hinted =
     All-map (Contains (traces_of all)) (λ (p : Pick). p.trace) picks
-    (All-weaker (Contains (sifted_picks sieve spans)) (λ (p : Pick). Contains (traces_of all) p.trace) there picks are.latest.only)
+    (All-weaker (Contains (sifted_picks sieve spans)) (λ (p : Pick). Contains (traces_of all) p.trace) there picks only)
   where
     there : (p : Pick) → Contains (sifted_picks sieve spans) p → Contains (traces_of all) p.trace
     there p m =
         let c = All-contains (IsCovered all) (hinted_picks sieve.hint spans) p hinted.latest.whole (sifted_hinted sieve spans p m) in
         subst (Contains (traces_of all)) c.2 (contains_map (λ (q : Pick). q.trace) all c.0 c.1)
 
--- What is summed over the traces that are picked is no more than over the candidates.
-pub sifted_sum : (f : TraceId → ℕ) (sieve : SieveParts) (spans : List Span) (picks : List Pick) (ids : List TraceId) → AreSifted sieve spans picks → AreCandidates sieve.hint spans ids
-    → sum_by f (traces_of picks) ≤ sum_by f ids
-sifted_sum f sieve spans picks ids are (all, hinted, is) =
+-- What is summed over the traces of picks in order is no more than over the candidates.
+pub sifted_sum : (f : TraceId → ℕ) (sieve : SieveParts) (spans : List Span) (picks : List Pick) (ids : List TraceId) → All (Contains (sifted_picks sieve spans)) picks → Ascend picks
+    → AreCandidates sieve.hint spans ids → sum_by f (traces_of picks) ≤ sum_by f ids
+sifted_sum f sieve spans picks ids only up (all, hinted, is) =
     subst (λ (l : List TraceId). sum_by f (traces_of picks) ≤ sum_by f l) (sym is)
-    (sum_within f (traces_of all) (traces_of picks) (traces_ascend all hinted.ascending) (traces_ascend picks are.ascending) (among_candidates sieve spans picks all are hinted))
+    (sum_within f (traces_of all) (traces_of picks) (traces_ascend all hinted.ascending) (traces_ascend picks up) (among_candidates sieve spans picks all only hinted))

@@ -12,7 +12,7 @@ use Rattle.store_state.specs.Meaning.{IsOpen, Meaning}
 use Rattle.store_state.specs.declared.jobs.Look.{Look}
 use Rattle.query_fanout.specs.Reading.{AtMost, BlocksRead, look_ups}
 use Rattle.query_fanout.specs.Searching.{TakenTheirs, TakenWith, TakesTheirs, TakesWith}
-use Rattle.query_fanout.specs.Taking.{Answered, AreApart, TakesMore, TakesMoreRead, no_best, open_picks, traces_of}
+use Rattle.query_fanout.specs.Taking.{Answered, AreApart, TakesMore, TakesMoreRead, open_picks, traces_of}
 use Rattle.query_fanout.specs.declared.error.QueryError.{QueryError}
 use Rattle.query_fanout.specs.declared.searching.Asked.{Asked}
 use Rattle.query_fanout.proofs.TakenLaws.{more_read, more_taken, none_taken, turn_rose}
@@ -21,17 +21,17 @@ use Rattle.query_fanout.proofs.CallLaws.{pages_none}
 use Rattle.query_fanout.proofs.FewLaws.{none_answered}
 
 -- these were taken
-abbrev pub Taken : {P : Type 0} → Meaning P → Look → List Row → Asked → List (List Pick) → P → Result BestParts QueryError → P → Type 0
-Taken meaning look own asked each old r new =
-    BlocksRead meaning look look.pin.blocks (TakenTheirs asked own each) (TakenWith asked own each)
+abbrev pub Taken : {P : Type 0} → Meaning P → Look → List Row → Asked → List (List Pick) → BestParts → P → Result BestParts QueryError → P → Type 0
+Taken meaning look own asked each first old r new =
+    BlocksRead meaning look look.pin.blocks (TakenTheirs asked own each first) (TakenWith asked own each first)
     (AtMost (look_ups (traces_of (flat_map (λ few. few) each)) look.pin.blocks)) old r new
 
-pub taken_none : {P : Type 0} (meaning : Meaning P) (look : Look) (own : List Row) (asked : Asked) (port : P) (best : BestParts) → IsOpen meaning port (look_of look) → best ≡ no_best asked
-    → Taken meaning look own asked [] port (Ok best) port
-taken_none meaning look own asked port best is_open is = record {
+pub taken_none : {P : Type 0} (meaning : Meaning P) (look : Look) (own : List Row) (asked : Asked) (port : P) (best : BestParts) → IsOpen meaning port (look_of look)
+    → Taken meaning look own asked [] best port (Ok best) port
+taken_none meaning look own asked port best is_open = record {
   pages = pages_none meaning look port is_open;
-  comes = ([], λ e. refl, none_taken asked own best is);
-  told = λ told parts are. ([], (is, refl));
+  comes = ([], λ e. refl, none_taken asked own best best refl);
+  told = λ told parts are. ([], (refl, refl));
   bounded = λ told parts are. rose_none (look_ups [] look.pin.blocks parts) (meaning.reads port);
 }
 
@@ -54,11 +54,11 @@ none_open meaning look own asked few best port is_open none kept = record {
     nothing rows = subst (λ (ids : List TraceId). Answered asked (own ++ rows) ids best best) (sym none) (none_answered asked (own ++ rows) best kept.0 kept.1)
 
 pub taken_next : {P : Type 0} (meaning : Meaning P) (look : Look) (own : List Row) (asked : Asked) (law : TakesMore) (law_read : TakesMoreRead) (old mid new : P) (each : List (List Pick)) (few : List Pick)
-    (best : BestParts) (r : Result BestParts QueryError) → AreApart (flat_map (λ l. l) each ++ few) → Taken meaning look own asked each old (Ok best) mid
+    (first best : BestParts) (r : Result BestParts QueryError) → AreApart (flat_map (λ l. l) each ++ few) → Taken meaning look own asked each first old (Ok best) mid
     → BlocksRead meaning look look.pin.blocks (TakesTheirs asked own few best) (TakesWith asked own few best) (AtMost (look_ups (traces_of few) look.pin.blocks)) mid r new
-    → Taken meaning look own asked (each ++ few ∷ []) old r new
-taken_next meaning look own asked law law_read old mid new each few best r apart h one =
-    reads_then meaning look old mid new best h r one (TakenTheirs asked own (each ++ few ∷ [])) (TakenWith asked own (each ++ few ∷ []))
+    → Taken meaning look own asked (each ++ few ∷ []) first old r new
+taken_next meaning look own asked law law_read old mid new each few first best r apart h one =
+    reads_then meaning look old mid new best h r one (TakenTheirs asked own (each ++ few ∷ []) first) (TakenWith asked own (each ++ few ∷ []) first)
     (AtMost (look_ups (traces_of (flat_map (λ few. few) (each ++ few ∷ []))) look.pin.blocks))
-    (λ y a b. more_read law_read asked own each few best y a b apart) (λ y rows. more_taken law asked own each few best y rows)
+    (λ y a b. more_read law_read asked own each few first best y a b apart) (λ y rows. more_taken law asked own each few first best y rows)
     (λ parts a b c fits. turn_rose each few look.pin.blocks parts a b c)

@@ -13,24 +13,24 @@ use Rattle.search_answer.specs.Keeping.{BestParts}
 use Rattle.query_fanout.specs.Bounds.{look_up_pages}
 use Rattle.query_fanout.specs.Reading.{AtMost, look_ups}
 use Rattle.query_fanout.specs.Searching.{TakenTheirs, TakenWith, TakesTheirs, TakesWith}
-use Rattle.query_fanout.specs.Taking.{AreApart, TakesMore, TakesMoreRead, no_best, open_picks, traces_of}
+use Rattle.query_fanout.specs.Taking.{AreApart, TakesMore, TakesMoreRead, open_picks, traces_of}
 use Rattle.query_fanout.specs.declared.searching.Asked.{Asked}
 use Rattle.query_fanout.proofs.FewLaws.{rose_more}
 
 -- ---- one more few
 
-pub none_taken : (asked : Asked) (own : List Row) (best : BestParts) → best ≡ no_best asked → TakenTheirs asked own [] [] best
-none_taken asked own best is = ([], (is, refl), refl)
+pub none_taken : (asked : Asked) (own : List Row) (old best : BestParts) → best ≡ old → TakenTheirs asked own [] old [] best
+none_taken asked own old best is = ([], (is, refl), refl)
 
-pub more_taken : (more : TakesMore) (asked : Asked) (own : List Row) (each : List (List Pick)) (few : List Pick) (mid new : BestParts) (rows : List Row) → TakenWith asked own each rows mid
-    → TakesWith asked own few mid rows new → TakenWith asked own (each ++ few ∷ []) rows new
-more_taken more asked own each few mid new rows taken takes =
-    (taken.0 ++ traces_of (open_picks mid few), more asked (own ++ rows) each few (no_best asked) mid new taken.0 taken.1 takes)
+pub more_taken : (more : TakesMore) (asked : Asked) (own : List Row) (each : List (List Pick)) (few : List Pick) (old mid new : BestParts) (rows : List Row) → TakenWith asked own each old rows mid
+    → TakesWith asked own few mid rows new → TakenWith asked own (each ++ few ∷ []) old rows new
+more_taken more asked own each few old mid new rows taken takes =
+    (taken.0 ++ traces_of (open_picks mid few), more asked (own ++ rows) each few old mid new taken.0 taken.1 takes)
 
-pub more_read : (more : TakesMoreRead) (asked : Asked) (own : List Row) (each : List (List Pick)) (few : List Pick) (mid new : BestParts) (some rows : List Row)
-    → AreApart (flat_map (λ l. l) each ++ few) → TakenTheirs asked own each some mid → TakesTheirs asked own few mid rows new → TakenTheirs asked own (each ++ few ∷ []) (some ++ rows) new
-more_read more asked own each few mid new some rows apart taken takes =
-    let both = more asked own some rows each few (no_best asked) mid new taken.0 apart taken.1 taken.2 takes.0 takes.1 in
+pub more_read : (more : TakesMoreRead) (asked : Asked) (own : List Row) (each : List (List Pick)) (few : List Pick) (old mid new : BestParts) (some rows : List Row)
+    → AreApart (flat_map (λ l. l) each ++ few) → TakenTheirs asked own each old some mid → TakesTheirs asked own few mid rows new → TakenTheirs asked own (each ++ few ∷ []) old (some ++ rows) new
+more_read more asked own each few old mid new some rows apart taken takes =
+    let both = more asked own some rows each few old mid new taken.0 apart taken.1 taken.2 takes.0 takes.1 in
     (taken.0 ++ traces_of (open_picks mid few), both.0, both.1)
 
 -- ---- picks in turns

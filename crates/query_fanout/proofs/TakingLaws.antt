@@ -156,7 +156,7 @@ answered_over asked a b ids old new same is = record {
   best = is.best;
 }
 
-over_rows : (asked : Asked) (a b : List Row) (each : List (List Pick)) (old new : BestParts) (ids : List TraceId) → ((id : TraceId) → is_one_of ids id ≡ true → rows_of_trace id a ≡ rows_of_trace id b)
+pub over_rows : (asked : Asked) (a b : List Row) (each : List (List Pick)) (old new : BestParts) (ids : List TraceId) → ((id : TraceId) → is_one_of ids id ≡ true → rows_of_trace id a ≡ rows_of_trace id b)
     → TakesEach asked a each old ids new → TakesEach asked b each old ids new
 over_rows asked a b [] old new ids same takes = takes
 over_rows asked a b (few ∷ each) old new ids same (between, later, taken, rest, are) = (
@@ -169,7 +169,7 @@ over_rows asked a b (few ∷ each) old new ids same (between, later, taken, rest
 )
 
 -- rows all of which pass a test pass a wider one
-wider : (p q : Row → Bool) → ((x : Row) → p x ≡ true → q x ≡ true) → (rows : List Row) → filter p rows ≡ rows → filter q rows ≡ rows
+pub wider : (p q : Row → Bool) → ((x : Row) → p x ≡ true → q x ≡ true) → (rows : List Row) → filter p rows ≡ rows → filter q rows ≡ rows
 wider p q more rows all = sym (ap (filter q) all) ∙ kept_by rows ∙ all
   where
     kept_by : (xs : List Row) → filter q (filter p xs) ≡ filter p xs

@@ -9,9 +9,8 @@ use Rattle.stripe_traces.specs.Wanted.{is_one_of, rows_of_traces}
 use Rattle.column_scan.specs.Candidates.{HaveLatest, IsCovered, spans_of}
 use Rattle.column_scan.specs.Sieves.{SieveParts, sifted_picks}
 use Rattle.column_scan.specs.declared.picks.Pick.{Pick}
-use Rattle.column_scan.proofs.Latest.{itself, of_latest, sifted_append, with_more}
+use Rattle.column_scan.proofs.Latest.{sifted_append}
 use Rattle.query_fanout.specs.Reading.{AreOfTrace, AreOfTraces, AreTheirs}
-use Rattle.query_fanout.specs.Searching.{ArePicked}
 
 -- ---- rows
 
@@ -31,13 +30,7 @@ theirs_both ids a b x y first second = (
   filter-append (λ (row : Row). is_one_of ids row.span.trace) a b ∙ both (rows_of_traces ids a) (rows_of_traces ids b) a b first.1 second.1,
 )
 
-pub none_both : (a b : List Row) → a ≡ [] → b ≡ [] → a ++ b ≡ []
-none_both a b first second = ap (λ (l : List Row). l ++ b) first ∙ second
-
 -- ---- picks
-
-pub none_picked : (sieve : SieveParts) → ArePicked sieve [] []
-none_picked sieve = itself []
 
 pub with_before : (front all some : List Pick) → HaveLatest all some → HaveLatest (front ++ all) (front ++ some)
 with_before front all some have = record {
@@ -49,12 +42,5 @@ with_before front all some have = record {
       (All-weaker (Contains all) (Contains (front ++ all)) (λ p m. Contains-append_right front all p m) some have.only);
 }
 
-pub both_latest : (a b x y : List Pick) → HaveLatest a x → HaveLatest b y → HaveLatest (a ++ b) (x ++ y)
-both_latest a b x y first second = of_latest (a ++ b) (x ++ b) (x ++ y) (with_more a x b first) (with_before x b y second)
-
 pub sifted_both : (sieve : SieveParts) (a b : List Row) → sifted_picks sieve (spans_of (a ++ b)) ≡ sifted_picks sieve (spans_of a) ++ sifted_picks sieve (spans_of b)
 sifted_both sieve a b = ap (sifted_picks sieve) (map-append (λ (row : Row). row.span) a b) ∙ sifted_append sieve (spans_of a) (spans_of b)
-
-pub picked_both : (sieve : SieveParts) (a b : List Row) (x y : List Pick) → ArePicked sieve a x → ArePicked sieve b y → ArePicked sieve (a ++ b) (x ++ y)
-picked_both sieve a b x y first second =
-    subst (λ (l : List Pick). HaveLatest l (x ++ y)) (sym (sifted_both sieve a b)) (both_latest (sifted_picks sieve (spans_of a)) (sifted_picks sieve (spans_of b)) x y first second)

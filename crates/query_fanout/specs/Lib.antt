@@ -3,6 +3,7 @@ pub mod Joined
 pub mod Queries
 pub mod TraceAnswers
 pub mod Reading
+pub mod Rounds
 pub mod SearchAnswers
 pub mod Searching
 pub mod Taking

@@ -87,6 +87,14 @@ pub record BlocksRead {P A : Type 0} (meaning : Meaning P) (look : Look) (infos 
   pub bounded : IsTrue (meaning.tells old) → (parts : List (List Row)) → AreBlocksOf (meaning.shows old) infos parts
       → within parts (meaning.reads old) (meaning.reads new)
 
+-- The same where what is told tells the rows of each block apart.
+pub record PartsRead {P A : Type 0} (meaning : Meaning P) (look : Look) (some : List Row → A → Type 0) (fits : List (List Row) → A → Type 0) (within : List (List Row) → ℕ → ℕ → Type 0) (old : P) (r : Result A QueryError) (new : P) : Type 0 where
+  pub pages : PagesRead meaning look (is_fault r) old new
+  pub comes : ComesOf some look.pin.blocks r
+  pub told : IsTrue (meaning.tells old) → (parts : List (List Row)) → AreBlocksOf (meaning.shows old) look.pin.blocks parts → Sound (fits parts) r
+  pub bounded : IsTrue (meaning.tells old) → (parts : List (List Row)) → AreBlocksOf (meaning.shows old) look.pin.blocks parts
+      → within parts (meaning.reads old) (meaning.reads new)
+
 -- ---- one trace
 
 -- the rows of a trace

@@ -1,31 +1,14 @@
 -- Private mechanism: what a search reads of blocks, and what it makes of it. No public clause cites these.
-use Rattle.std.specs.Prelude.{◌≡◌, ℕ, List, [], ◌++◌, All}
+use Rattle.std.specs.Prelude.{◌≡◌, List, ◌++◌}
+use Rattle.std.specs.List.{flat_map}
+use Rattle.std.specs.List.Sorted.{IsPermutation}
 use Rattle.span_types.specs.declared.ids.TraceId.{TraceId}
 use Rattle.span_types.specs.declared.spans.Row.{Row}
 use Rattle.stripe_traces.specs.Wanted.{rows_of_traces}
 use Rattle.search_answer.specs.Keeping.{BestParts}
-use Rattle.column_scan.specs.Candidates.{Ascend, HaveLatest, IsCovered, spans_of}
-use Rattle.column_scan.specs.Sieves.{AreSifted, SieveParts, sifted_picks}
 use Rattle.column_scan.specs.declared.picks.Pick.{Pick}
-use Rattle.query_fanout.specs.SearchAnswers.{IsSearchAnswer}
-use Rattle.query_fanout.specs.Taking.{Answered, TakesEach, asked_sieve, no_best, open_picks, traces_of}
+use Rattle.query_fanout.specs.Taking.{Answered, TakesEach, open_picks, traces_of}
 use Rattle.query_fanout.specs.declared.searching.Asked.{Asked}
-use Rattle.query_fanout.specs.declared.searching.SearchAnswer.{SearchAnswer}
-
--- ---- picks
-
--- The traces of the sifted rows are picked, none earlier than the rows.
-abbrev pub ArePicked : SieveParts → List Row → List Pick → Type 0
-ArePicked sieve rows picks = HaveLatest (sifted_picks sieve (spans_of rows)) picks
-
--- The traces of a look's sifted rows are picked, none earlier than the rows. Nothing is known of other rows.
-pub record OwnArePicked (sieve : SieveParts) (own rows : List Row) (picks : List Pick) : Type 0 where
-  pub none : rows ≡ []
-  pub whole : All (IsCovered picks) (sifted_picks sieve (spans_of own))
-  pub ascending : Ascend picks
-
-abbrev pub AllArePicked : SieveParts → List Row → List Row → List Pick → Type 0
-AllArePicked sieve own rows picks = AreSifted sieve (spans_of (own ++ rows)) picks
 
 -- ---- a few traces
 
@@ -44,24 +27,21 @@ TakesWith asked own few old rows new = AnswersWith asked own (traces_of (open_pi
 abbrev pub TakesTheirs : Asked → List Row → List Pick → BestParts → List Row → BestParts → Type 0
 TakesTheirs asked own few old rows new = AnswersTheirs asked own (traces_of (open_picks old few)) old rows new
 
--- ---- all that were picked
+-- ---- picks that are taken, a few at a time
 
--- Some of them are taken, a few at a time.
-abbrev pub TakenWith : Asked → List Row → List (List Pick) → List Row → BestParts → Type 0
-TakenWith asked own each rows best = (ids : List TraceId) × TakesEach asked (own ++ rows) each (no_best asked) ids best
+-- Some are taken, and the best results kept of those so far and of theirs.
+abbrev pub TakenWith : Asked → List Row → List (List Pick) → BestParts → List Row → BestParts → Type 0
+TakenWith asked own each old rows new = (ids : List TraceId) × TakesEach asked (own ++ rows) each old ids new
 
-abbrev pub TakenTheirs : Asked → List Row → List (List Pick) → List Row → BestParts → Type 0
-TakenTheirs asked own each rows best =
-    (ids : List TraceId) × TakesEach asked (own ++ rows) each (no_best asked) ids best × (rows_of_traces ids rows ≡ rows)
+abbrev pub TakenTheirs : Asked → List Row → List (List Pick) → BestParts → List Row → BestParts → Type 0
+TakenTheirs asked own each old rows new =
+    (ids : List TraceId) × TakesEach asked (own ++ rows) each old ids new × (rows_of_traces ids rows ≡ rows)
 
--- ---- the answer
+-- the same of picks in whatever order
+abbrev pub TookWith : Asked → List Row → List Pick → BestParts → List Row → BestParts → Type 0
+TookWith asked own picks old rows new =
+    (each : List (List Pick)) × IsPermutation picks (flat_map (λ few. few) each) × TakenWith asked own each old rows new
 
--- Of the rows it finds what the query finds among all of them, if the traces of the sifted ones are picked, none earlier than the rows.
-abbrev pub AllIfPicked : Asked → ℕ → List Row → List Pick → List Row → SearchAnswer → Type 0
-AllIfPicked asked as_of own picks rows answer =
-    All (IsCovered picks) (sifted_picks (asked_sieve asked) (spans_of (own ++ rows))) → IsSearchAnswer asked as_of (own ++ rows) answer
-
--- The same if those of the look's sifted rows are.
-abbrev pub OwnIfPicked : Asked → ℕ → List Row → List Pick → List Row → SearchAnswer → Type 0
-OwnIfPicked asked as_of own picks rows answer =
-    All (IsCovered picks) (sifted_picks (asked_sieve asked) (spans_of own)) → IsSearchAnswer asked as_of (own ++ rows) answer
+abbrev pub TookTheirs : Asked → List Row → List Pick → BestParts → List Row → BestParts → Type 0
+TookTheirs asked own picks old rows new =
+    (each : List (List Pick)) × IsPermutation picks (flat_map (λ few. few) each) × TakenTheirs asked own each old rows new

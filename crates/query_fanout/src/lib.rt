@@ -11,10 +11,14 @@ mod laws;
 mod own;
 mod picks;
 mod pinned;
+mod reach;
+mod rounds;
+mod scans;
 mod searching;
 mod taking;
 mod trace;
 mod turns;
+mod waits;
 
 pub use error::QueryError;
 pub use laws::{taken_answer_the_whole, takes_more};

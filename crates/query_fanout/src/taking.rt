@@ -1,6 +1,6 @@
 //! Picked traces are answered a few at a time, and the best results are kept.
 
-ghost use Rattle.std.specs.Prelude.{◌≡◌, All, IfOk, List, map};
+ghost use Rattle.std.specs.Prelude.{◌≡◌, ◌++◌, All, IfOk, List, map};
 ghost use Rattle.std.specs.List.{flat_map};
 ghost use Rattle.span_types.specs.declared.spans.Row.{Row as AnyRow};
 ghost use Rattle.store_state.specs.Given.{look_of};
@@ -8,13 +8,14 @@ ghost use Rattle.store_state.specs.Meaning.{IsOpen};
 ghost use Rattle.stripe_traces.specs.Wanted.{AreInOrder};
 ghost use Rattle.column_scan.specs.Candidates.{Ascend};
 ghost use Rattle.query_fanout.specs.Reading.{AreOfTraces, AtMost, BlocksRead, look_ups};
-ghost use Rattle.query_fanout.specs.Searching.{AnswersTheirs, AnswersWith, TakenTheirs, TakenWith, TakesTheirs, TakesWith};
+ghost use Rattle.query_fanout.specs.Searching.{AnswersTheirs, AnswersWith, TakenTheirs, TakenWith, TakesTheirs, TakesWith, TookTheirs, TookWith};
 ghost use Rattle.query_fanout.specs.Taking.{AreApart, open_picks, traces_of};
 
 use crate::blocks::{OfBlock, of_blocks};
 use crate::laws::takes_more;
 use crate::own::Own;
 use crate::trace::joined_firsts;
+use crate::turns::{in_turns, two_parts};
 use crate::{Asked, QueryError};
 use block_info::BlockInfo;
 use block_read::{Pages, ReadError};
@@ -61,26 +62,87 @@ impl<'i> OfBlock for Traces<'i> {
     ghost both = { λ s a b x y. (theirs_both s.0.now a b x y, of_traces_both s.0.now a b x y) };
 }
 
-/// Each few picks in turn are taken: what is kept in the end are the best results of all.
-pub(crate) fn take_each<P: FlushPort>(
+/// Picks are taken: those of late moments first, a few at a time. What is kept are the best of the results so far and of theirs.
+pub(crate) fn take_picks<P: FlushPort>(
+    alloc: Global,
+    port: &mut P,
+    look: &Look,
+    own: &Own,
+    asked: &Asked,
+    picks: Vec<Pick>,
+    best: Best,
+) -> Result<Best, QueryError>
+    requires open { IsOpen P.meaning port.old (look_of look.now) }
+    requires ascend { Ascend picks.items }
+    ensures { BlocksRead P.meaning look.now look.now.pin.blocks
+        (TookTheirs asked.now own.now picks.items best) (TookWith asked.now own.now picks.items best)
+        (AtMost (look_ups (traces_of picks.items) look.now.pin.blocks)) port.old result port.new }
+{
+    match two_parts(alloc, picks, asked.limit) {
+        Ok((late, early)) => {
+            take_parts(
+                alloc,
+                port,
+                look,
+                own,
+                asked,
+                late.as_slice(),
+                early.as_slice(),
+                best,
+            )
+        }
+        Err(Memory) => Err(QueryError::Memory),
+    }
+}
+
+// The same of picks in two parts.
+fn take_parts<P: FlushPort>(
+    alloc: Global,
+    port: &mut P,
+    look: &Look,
+    own: &Own,
+    asked: &Asked,
+    late: &[Pick],
+    early: &[Pick],
+    best: Best,
+) -> Result<Best, QueryError>
+    requires open { IsOpen P.meaning port.old (look_of look.now) }
+    requires late { Ascend late.now }
+    requires early { Ascend early.now }
+    requires apart { AreApart (late.now ++ early.now) }
+    ensures { BlocksRead P.meaning look.now look.now.pin.blocks
+        (TookTheirs asked.now own.now (late.now ++ early.now) best)
+        (TookWith asked.now own.now (late.now ++ early.now) best)
+        (AtMost (look_ups (traces_of (late.now ++ early.now)) look.now.pin.blocks)) port.old result port.new }
+{
+    let turns = match in_turns(alloc, late, early) {
+        Ok(turns) => turns,
+        Err(_) => return Err(QueryError::Memory),
+    };
+    take_each(alloc, port, look, own, asked, turns.as_slice(), best)
+}
+
+// Each few picks in turn are taken.
+fn take_each<P: FlushPort>(
     alloc: Global,
     port: &mut P,
     look: &Look,
     own: &Own,
     asked: &Asked,
     turns: &[&[Pick]],
+    best: Best,
 ) -> Result<Best, QueryError>
     requires open { IsOpen P.meaning port.old (look_of look.now) }
     requires ascend { All (λ few. Ascend few.now) turns.now }
     requires apart { AreApart (flat_map (λ few. few.now) turns.now) }
     ensures { BlocksRead P.meaning look.now look.now.pin.blocks
-        (TakenTheirs asked.now own.now (map (λ few. few.now) turns.now))
-        (TakenWith asked.now own.now (map (λ few. few.now) turns.now))
+        (TakenTheirs asked.now own.now (map (λ few. few.now) turns.now) best)
+        (TakenWith asked.now own.now (map (λ few. few.now) turns.now) best)
         (AtMost (look_ups (traces_of (flat_map (λ few. few.now) turns.now)) look.now.pin.blocks))
         port.old result port.new }
 {
     takes_more();
-    let mut best = Best::new(alloc, asked.limit);
+    let mut best = best;
     for few in turns {
         let next = take_few(alloc, port, look, own, asked, few, best)?;
         best = next;

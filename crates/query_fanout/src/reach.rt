@@ -1,0 +1,51 @@
+//! How far all is gone through.
+
+ghost use Rattle.std.specs.Prelude.{◌≡◌};
+ghost use Rattle.query_fanout.specs.Rounds.{goes_to, is_below, is_all};
+
+use span_types::TraceId;
+
+/// The traces up to which all is gone through.
+#[derive(Clone, Copy, Drop)]
+pub(crate) enum Reach {
+    /// None of them.
+    Nothing,
+    /// Those below this one.
+    Upto(TraceId),
+    /// All.
+    Whole,
+}
+
+/// Whether a trace is among them.
+pub(crate) fn is_below(reach: Reach, id: TraceId) -> bool
+    ensures { result ≡ is_below reach id }
+{
+    match reach {
+        Reach::Nothing => false,
+        Reach::Upto(bound) => id.cmp(&bound).is_lt(),
+        Reach::Whole => true,
+    }
+}
+
+/// Whether the first goes no further than the second.
+pub(crate) fn goes_to(reach: Reach, other: Reach) -> bool
+    ensures { result ≡ goes_to reach other }
+{
+    match (reach, other) {
+        (Reach::Nothing, _) => true,
+        (Reach::Upto(_), Reach::Nothing) => false,
+        (Reach::Upto(bound), Reach::Upto(other)) => bound.cmp(&other).is_le(),
+        (_, Reach::Whole) => true,
+        (Reach::Whole, _) => false,
+    }
+}
+
+/// Whether these are all.
+pub(crate) fn is_all(reach: Reach) -> bool
+    ensures { result ≡ is_all reach }
+{
+    match reach {
+        Reach::Nothing | Reach::Upto(_) => false,
+        Reach::Whole => true,
+    }
+}
