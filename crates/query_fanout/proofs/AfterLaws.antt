@@ -74,22 +74,20 @@ both_moved picks more each others one two =
 
 pub took_with : (asked : Asked) (own : List Row) (picks more : List Pick) (old mid new : BestParts) (rows : List Row) → TookWith asked own picks old rows mid → TookWith asked own more mid rows new
     → TookWith asked own (picks ++ more) old rows new
-took_with asked own picks more old mid new rows (each, moved, ids, takes) (others, more_moved, later, after) = (
-  each ++ others,
-  both_moved picks more each others moved more_moved,
-  ids ++ later,
-  takes_after asked (own ++ rows) each others old mid new ids later takes after,
-)
+took_with asked own picks more old mid new rows (each, moved, (ids, takes)) (others, more_moved, (later, after)) =
+    (each ++ others, both_moved picks more each others moved more_moved, (ids ++ later, takes_after asked (own ++ rows) each others old mid new ids later takes after))
 
 pub took_theirs : (asked : Asked) (own : List Row) (picks more : List Pick) (old mid new : BestParts) (some rows : List Row) → Ascend (picks ++ more) → TookTheirs asked own picks old some mid
     → TookTheirs asked own more mid rows new → TookTheirs asked own (picks ++ more) old (some ++ rows) new
-took_theirs asked own picks more old mid new some rows up (each, moved, ids, takes, some_are) (others, more_moved, later, after, rows_are) =
+took_theirs asked own picks more old mid new some rows up (each, moved, (ids, takes, some_are)) (others, more_moved, (later, after, rows_are)) =
     let whole = both_moved picks more each others moved more_moved in
     let apart : AreApart (flat_map (λ few. few) each ++ flat_map (λ few. few) others) =
     subst AreApart (flat_map-append (λ (few : List Pick). few) each others) (parts_apart (picks ++ more) (flat_map (λ few. few) (each ++ others)) whole up) in (
       each ++ others,
       whole,
-      ids ++ later,
-      read_after asked own some rows each others old mid new ids later apart takes some_are after rows_are,
-      all_after asked own some rows each others old mid new ids later apart takes some_are after rows_are,
+      (
+        ids ++ later,
+        read_after asked own some rows each others old mid new ids later apart takes some_are after rows_are,
+        all_after asked own some rows each others old mid new ids later apart takes some_are after rows_are,
+      ),
     )

@@ -43,25 +43,22 @@ as_many shows [] (p ∷ ps) are = absurd are
 as_many shows (i ∷ is) [] are = absurd are
 as_many shows (i ∷ is) (p ∷ ps) are = ap (λ (n : ℕ). suc n) (as_many shows is ps are.1)
 
+fit_there : {A : Type 0} (shows : ℕ → List ℕ) (front : List InfoParts) (info : InfoParts) (back : List InfoParts) (fits : List Row → A → Type 0) (r : Result A QueryError) (parts : List (List Row))
+    (split : Split shows front info back parts) → Sound (fits (split.rows ++ [])) r → Sound (λ x. AtBlock front back (λ before after rows. fits rows x) parts) r
+fit_there shows front info back fits (Ok x) parts split h = record {
+  before = split.before;
+  rows = split.rows;
+  after = split.after;
+  is = split.is;
+  place = as_many shows front split.before split.front_are;
+  fit = subst (λ (l : List Row). fits l x) (append-nil split.rows) h;
+}
+fit_there shows front info back fits (Err why) parts split h = sound_error (fits (split.rows ++ [])) (λ x. AtBlock front back (λ before after rows. fits rows x) parts) why h
+
 module _ {P A : Type 0} (meaning : Meaning P) (look : Look) (front : List InfoParts) (info : InfoParts) (back : List InfoParts) (are_all : look.pin.blocks ≡ front ++ info ∷ back)
-    {some fits : List Row → A → Type 0} {within : List (List Row) → ℕ → ℕ → Type 0} (old new : P) (r : Result A QueryError) where
+    (some fits : List Row → A → Type 0) (within : List (List Row) → ℕ → ℕ → Type 0) (old new : P) (r : Result A QueryError) where
   blocks : (parts : List (List Row)) → AreBlocksOf (meaning.shows old) look.pin.blocks parts → Split (meaning.shows old) front info back parts
   blocks parts are = split_at (meaning.shows old) front info back parts (subst (λ (l : List InfoParts). AreBlocksOf (meaning.shows old) l parts) are_all are)
-
-  its_rows : (rows : List Row) → BlockHasInfo info (meaning.shows old info.file) rows → AreBlocksOf (meaning.shows old) (info ∷ []) (rows ∷ [])
-  its_rows rows has = (has, tt)
-
-  fit_there : (q : Result A QueryError) (parts : List (List Row)) (split : Split (meaning.shows old) front info back parts) → Sound (fits (split.rows ++ [])) q
-      → Sound (λ x. AtBlock front back (λ before after rows. fits rows x) parts) q
-  fit_there (Ok x) parts split h = record {
-    before = split.before;
-    rows = split.rows;
-    after = split.after;
-    is = split.is;
-    place = as_many (meaning.shows old) front split.before split.front_are;
-    fit = subst (λ (l : List Row). fits l x) (append-nil split.rows) h;
-  }
-  fit_there (Err why) parts split h = sound_error (fits (split.rows ++ [])) (λ x. AtBlock front back (λ before after rows. fits rows x) parts) why h
 
   -- what is read of one block
   pub one_block : BlocksRead meaning look (info ∷ []) some fits within old r new
@@ -71,29 +68,31 @@ module _ {P A : Type 0} (meaning : Meaning P) (look : Look) (front : List InfoPa
     comes = h.comes;
     told = λ told parts are.
         let split = blocks parts are in
-        fit_there r parts split (h.told told (split.rows ∷ []) (its_rows split.rows split.has));
+        fit_there (meaning.shows old) front info back fits r parts split (h.told told (split.rows ∷ []) (split.has, tt));
     bounded = λ told parts are.
         let split = blocks parts are in
-        (split.rows, h.bounded told (split.rows ∷ []) (its_rows split.rows split.has));
+        (split.rows, h.bounded told (split.rows ∷ []) (split.has, tt));
   }
 
 -- ---- one read after another
 
-same_error : {A B : Type 0} (why : QueryError) → is_fault {A = A} (Err why) ≡ is_fault {A = B} (Err why)
-same_error Fault = refl
-same_error (NotBlock file at) = refl
-same_error Memory = refl
+same_error : (A B : Type 0) (why : QueryError) → is_fault {A = A} (Err why) ≡ is_fault {A = B} (Err why)
+same_error A B Fault = refl
+same_error A B (NotBlock file at) = refl
+same_error A B Memory = refl
 
-module _ {P A B C : Type 0} (meaning : Meaning P) (look : Look) (old mid new : P) {some : List Row → A → Type 0} {fits : List (List Row) → A → Type 0} {within : List (List Row) → ℕ → ℕ → Type 0} (x : A)
-    (h : PartsRead meaning look some fits within old (Ok x) mid)
-    {some' : List Row → B → Type 0} {fits' : List (List Row) → B → Type 0} {within' : List (List Row) → ℕ → ℕ → Type 0}
-    {other_some : List Row → C → Type 0} {other_fits : List (List Row) → C → Type 0} {other_within : List (List Row) → ℕ → ℕ → Type 0} where
+module _ {P A : Type 0} (meaning : Meaning P) (look : Look) (old mid : P) (some : List Row → A → Type 0) (fits : List (List Row) → A → Type 0) (within : List (List Row) → ℕ → ℕ → Type 0) (x : A)
+    (h : PartsRead meaning look some fits within old (Ok x) mid) where
   still_told : IsTrue (meaning.tells old) → IsTrue (meaning.tells mid)
   still_told told = subst IsTrue (sym h.pages.stays.telling) told
 
   still_are : IsTrue (meaning.tells old) → (parts : List (List Row)) → AreBlocksOf (meaning.shows old) look.pin.blocks parts → AreBlocksOf (meaning.shows mid) look.pin.blocks parts
   still_are told parts are = blocks_stay (info_files look.pin.blocks) (meaning.shows old) (meaning.shows mid) look.pin.blocks parts (h.pages.stays.bytes told) (λ file m. m) are
 
+module _ {P A B C : Type 0} (meaning : Meaning P) (look : Look) (old mid new : P) {some : List Row → A → Type 0} {fits : List (List Row) → A → Type 0} {within : List (List Row) → ℕ → ℕ → Type 0} (x : A)
+    (h : PartsRead meaning look some fits within old (Ok x) mid)
+    {some' : List Row → B → Type 0} {fits' : List (List Row) → B → Type 0} {within' : List (List Row) → ℕ → ℕ → Type 0}
+    {other_some : List Row → C → Type 0} {other_fits : List (List Row) → C → Type 0} {other_within : List (List Row) → ℕ → ℕ → Type 0} where
   -- something is made of both
   pub parts_then : (y : B) (z : C) → PartsRead meaning look some' fits' within' mid (Ok y) new
       → ((a b : List Row) → some a x → some' b y → other_some (a ++ b) z)
@@ -107,10 +106,10 @@ module _ {P A B C : Type 0} (meaning : Meaning P) (look : Look) (old mid new : P
       λ e. ap (λ (l : List Row). l ++ more.comes.0) (h.comes.1 e) ∙ more.comes.1 e,
       make_some h.comes.0 more.comes.0 h.comes.2 more.comes.2,
     );
-    told = λ told parts are. make parts (h.told told parts are) (more.told (still_told told) parts (still_are told parts are));
+    told = λ told parts are. make parts (h.told told parts are) (more.told (still_told meaning look old mid some fits within x h told) parts (still_are meaning look old mid some fits within x h told parts are));
     bounded = λ told parts are.
-        rose parts (meaning.reads old) (meaning.reads mid) (meaning.reads new) (h.told told parts are) (more.told (still_told told) parts (still_are told parts are))
-        (h.bounded told parts are) (more.bounded (still_told told) parts (still_are told parts are));
+        rose parts (meaning.reads old) (meaning.reads mid) (meaning.reads new) (h.told told parts are) (more.told (still_told meaning look old mid some fits within x h told) parts (still_are meaning look old mid some fits within x h told parts are))
+        (h.bounded told parts are) (more.bounded (still_told meaning look old mid some fits within x h told) parts (still_are meaning look old mid some fits within x h told parts are));
   }
 
   -- or the second one failed
@@ -118,12 +117,12 @@ module _ {P A B C : Type 0} (meaning : Meaning P) (look : Look) (old mid new : P
       → ((parts : List (List Row)) (a b c : ℕ) → fits parts x → within parts a b → within' parts b c → other_within parts a c)
       → PartsRead {A = C} meaning look other_some other_fits other_within old (Err why) new
   parts_end why more rose = record {
-    pages = pages_then meaning look (is_fault {A = C} (Err why)) old mid new h.pages (subst (λ (b : Bool). PagesRead meaning look b mid new) (same_error {A = B} {B = C} why) more.pages);
+    pages = pages_then meaning look (is_fault {A = C} (Err why)) old mid new h.pages (subst (λ (b : Bool). PagesRead meaning look b mid new) (same_error B C why) more.pages);
     comes = comes_error some' other_some look.pin.blocks why more.comes;
-    told = λ told parts are. sound_error (fits' parts) (other_fits parts) why (more.told (still_told told) parts (still_are told parts are));
+    told = λ told parts are. sound_error (fits' parts) (other_fits parts) why (more.told (still_told meaning look old mid some fits within x h told) parts (still_are meaning look old mid some fits within x h told parts are));
     bounded = λ told parts are.
         rose parts (meaning.reads old) (meaning.reads mid) (meaning.reads new) (h.told told parts are)
-        (h.bounded told parts are) (more.bounded (still_told told) parts (still_are told parts are));
+        (h.bounded told parts are) (more.bounded (still_told meaning look old mid some fits within x h told) parts (still_are meaning look old mid some fits within x h told parts are));
   }
 
 -- ---- what is made of the rows
@@ -155,7 +154,7 @@ module _ {P A B : Type 0} (meaning : Meaning P) (look : Look) {some : List Row �
   pub parts_failed : (why : QueryError) → PartsRead {A = A} meaning look some fits within old (Err why) new → ((parts : List (List Row)) (a b : ℕ) → within parts a b → other_within parts a b)
       → PartsRead {A = B} meaning look other_some other_fits other_within old (Err why) new
   parts_failed why h rose = record {
-    pages = subst (λ (b : Bool). PagesRead meaning look b old new) (same_error {A = A} {B = B} why) h.pages;
+    pages = subst (λ (b : Bool). PagesRead meaning look b old new) (same_error A B why) h.pages;
     comes = comes_error some other_some look.pin.blocks why h.comes;
     told = λ told parts are. sound_error (fits parts) (other_fits parts) why (h.told told parts are);
     bounded = λ told parts are. rose parts (meaning.reads old) (meaning.reads new) (h.bounded told parts are);

@@ -89,14 +89,14 @@ module _ (law : TakenAnswerTheWhole) (asked : Asked) (own : List Row) (picks : L
   -- all sifted rows are covered
   pub all_told : (rows : List Row) → TookWith asked own picks (no_best asked) rows best → All (IsCovered picks) (sifted_picks (asked_sieve asked) (spans_of (own ++ rows)))
       → AnswersRows asked (own ++ rows) best
-  all_told rows (each, moved, ids, taken) covered =
+  all_told rows (each, moved, (ids, taken)) covered =
       tells rows each ids moved taken
       (picks_cover (asked_sieve asked) (own ++ rows) (flat_map (λ few. few) each) ids (covered_so picks (flat_map (λ few. few) each) (sifted_picks (asked_sieve asked) (spans_of (own ++ rows))) moved covered))
 
   -- those of the look are, and the other rows are of traces that were answered
   pub own_told : (rows : List Row) → TookTheirs asked own picks (no_best asked) rows best → All (IsCovered picks) (sifted_picks (asked_sieve asked) (spans_of own))
       → AnswersRows asked (own ++ rows) best
-  own_told rows (each, moved, ids, taken, theirs) covered =
+  own_told rows (each, moved, (ids, taken, theirs)) covered =
       tells rows each ids moved taken
       (All-append (RowIsCovered (asked_sieve asked) (flat_map (λ few. few) each) ids) own rows
       (picks_cover (asked_sieve asked) own (flat_map (λ few. few) each) ids (covered_so picks (flat_map (λ few. few) each) (sifted_picks (asked_sieve asked) (spans_of own)) moved covered))

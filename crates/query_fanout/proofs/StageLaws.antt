@@ -6,6 +6,7 @@ use Rattle.std.specs.List.Sorted.{IsPermutation}
 use Rattle.std.proofs.lemmas.List.Elements.{All-append, All-contains, All-contains_itself, All-head, All-nil, All-tail, All-weaker, Contains-append_left}
 use Rattle.std.proofs.lemmas.List.Sorted.{IsPermutation-refl}
 use Rattle.std.proofs.lemmas.List.Sums.{sum_by-cons, sum_by-set, sum_by-take-drop, sum_by-take-le}
+use Rattle.span_types.specs.declared.ids.TraceId.{TraceId}
 use Rattle.span_types.specs.declared.spans.Row.{Row}
 use Rattle.block_info.specs.InfoParts.{InfoParts}
 use Rattle.block_info.specs.declared.info.StripeInfo.{StripeInfo}
@@ -80,6 +81,9 @@ left_within hint (s ∷ scans) (suc at) scan low is =
 
 -- ---- a search begins
 
+none_below : (gone : Reach) (id : TraceId) → gone ≡ Nothing → is_below gone id ≡ false
+none_below gone id is = ap (λ (r : Reach). is_below r id) is
+
 fresh_scans : (sieve : SieveParts) (gone : Reach) (picks : List Pick) (shows : ℕ → List ℕ) (parts : List (List Row)) (scans : List Scan) → gone ≡ Nothing → All IsFresh scans
     → AreBlocksOf shows (infos_of scans) parts → AreScans sieve gone picks parts scans
 fresh_scans sieve gone picks shows [] [] none fresh are = tt
@@ -88,8 +92,8 @@ fresh_scans sieve gone picks shows (rows ∷ parts) [] none fresh are = absurd a
 fresh_scans sieve gone picks shows (rows ∷ parts) (scan ∷ scans) none fresh are = (
   record {
     covered = subst (λ (n : ℕ). All (IsCovered picks) (sifted_picks sieve (spans_of (take n rows)))) (sym no_rows) (All-nil (IsCovered picks));
-    upto = λ k d low. ap (λ (r : Reach). is_below r _) (All-head IsFresh scan scans fresh).upto;
-    later = λ k d low. ap (λ (r : Reach). is_below r _) none;
+    upto = λ k d low. none_below scan.upto _ (All-head IsFresh scan scans fresh).upto;
+    later = λ k d low. none_below gone _ none;
   },
   fresh_scans sieve gone picks shows parts scans none (All-tail IsFresh scan scans fresh) are.1,
 )
@@ -102,7 +106,7 @@ module _ {P : Type 0} (meaning : Meaning P) (look : Look) (seen own : List Row) 
   sieve = asked_sieve asked
 
   took_none : (best : BestParts) (rows : List Row) → best ≡ no_best asked → TookWith asked own [] (no_best asked) rows best
-  took_none best rows is = ([], IsPermutation-refl [], [], (is, refl))
+  took_none best rows is = ([], IsPermutation-refl [], ([], (is, refl)))
 
   pub begun : (picks : List Pick) (rounds : Rounds) (port : P) → IsOpen meaning port (look_of look) → PicksOf sieve seen own picks → IsBegun look asked picks rounds
       → Reached meaning look seen own asked port rounds port
@@ -111,11 +115,11 @@ module _ {P : Type 0} (meaning : Meaning P) (look : Look) (seen own : List Row) 
     taken = [];
     ascend = λ i j d before low. absurd (omega (arith, low));
     taken_are = All-nil (λ p. is_below rounds.gone p.trace ≡ true);
-    waits_are = λ k d low. ap (λ (r : Reach). is_below r _) is.gone;
+    waits_are = λ k d low. none_below rounds.gone _ is.gone;
     own_are = All-weaker (IsCovered picks) (IsCovered (all_waiting rounds.waits.items)) covers (sifted_picks sieve (spans_of own)) of.whole;
     reads = record {
       pages = pages_none meaning look port is_open;
-      comes = ([], λ e. refl, ([], IsPermutation-refl [], [], ((is.best, refl), refl)));
+      comes = ([], λ e. refl, ([], IsPermutation-refl [], ([], (is.best, refl), refl)));
       told = λ told parts are. (
         took_none rounds.best (flat_map (λ part. part) parts) is.best,
         record {
@@ -253,7 +257,7 @@ module _ {P : Type 0} (meaning : Meaning P) (look : Look) (seen own : List Row) 
           (λ parts best. TookWith asked own r.taken (no_best asked) (flat_map (λ part. part) parts) best × IsGoneThrough sieve seen r.taken next parts)
           (ReadsFor sieve seen look.pin.blocks r.taken (gone_pages sieve.hint next.scans.items)) start (Ok best) new) (sym best_is)
           (parts_then meaning look start mid new rounds.best r.reads found rounds.best
-          (one_block meaning look front scan.info.now back are_all mid new (Ok found) read)
+          (one_block meaning look front scan.info.now back are_all (λ rows x. rows ≡ []) (λ rows x. GoesOn sieve rows scan x.scan x.picks.items) _ mid new (Ok found) read)
           (λ a b took none. subst (λ (l : List Row). TookTheirs asked own r.taken (no_best asked) l rounds.best) (sym (ap (λ (l : List Row). a ++ l) none ∙ append-nil a)) took)
           (λ parts fits there. (fits.0, through parts fits.1 there))
           (λ parts a b c fits there one two. further parts a b c one two));
@@ -294,7 +298,7 @@ module _ {P : Type 0} (meaning : Meaning P) (look : Look) (seen own : List Row) 
 
         further : (parts : List (List Row)) (a b c : ℕ) → ReadsFor sieve seen look.pin.blocks r.taken (gone_pages sieve.hint rounds.scans.items) parts a b
             → (rows : List Row) × ReadsOn sieve.hint scan (Ok found) (rows ∷ []) b c → ReadsFor sieve seen look.pin.blocks r.taken (gone_pages sieve.hint next.scans.items) parts a c
-        further parts a b c one (rows, n, more, rose) =
+        further parts a b c one (rows, (n, more, rose)) =
             let moved = sum_by-set (pages_gone sieve.hint) rounds.scans.items at found.scan scan low in
             let same = ap (gone_pages sieve.hint) scans_are in
             let old = ap (pages_gone sieve.hint) is in record {
@@ -308,7 +312,7 @@ module _ {P : Type 0} (meaning : Meaning P) (look : Look) (seen own : List Row) 
         → BlocksRead {A = Found} meaning look (scan.info.now ∷ []) (λ rows x. rows ≡ []) (λ rows x. GoesOn sieve rows scan x.scan x.picks.items) (ReadsOn sieve.hint scan (Err why)) mid (Err why) new
         → BrokenOff {A = A} meaning look seen asked start (Err why) new
     goes_wrong A why read =
-        parts_end meaning look start mid new rounds.best r.reads why (one_block meaning look front scan.info.now back are_all mid new (Err why) read)
+        parts_end meaning look start mid new rounds.best r.reads why (one_block meaning look front scan.info.now back are_all (λ rows x. rows ≡ []) (λ rows x. GoesOn sieve rows scan x.scan x.picks.items) _ mid new (Err why) read)
         (λ parts a b c fits one two. (r.taken, further parts a b c one two))
       where
         further : (parts : List (List Row)) (a b c : ℕ) → ReadsFor sieve seen look.pin.blocks r.taken (gone_pages sieve.hint rounds.scans.items) parts a b
@@ -327,12 +331,12 @@ module _ {P : Type 0} (meaning : Meaning P) (look : Look) (seen own : List Row) 
     goes_hungry A found same_info read =
         parts_end {B = Found} meaning look start mid new rounds.best r.reads Memory
         (parts_starved {B = Found} meaning look {other_some = λ rows x. rows ≡ []} {other_fits = λ parts x. Unit {0}} {other_within = λ parts b c. (rows : List Row) × ReadsOn sieve.hint scan (Ok found) (rows ∷ []) b c}
-        mid new found (one_block meaning look front scan.info.now back are_all mid new (Ok found) read) (λ parts b c fits reads. reads))
+        mid new found (one_block meaning look front scan.info.now back are_all (λ rows x. rows ≡ []) (λ rows x. GoesOn sieve rows scan x.scan x.picks.items) _ mid new (Ok found) read) (λ parts b c fits reads. reads))
         (λ parts a b c fits one two. (r.taken, further parts a b c one two))
       where
         further : (parts : List (List Row)) (a b c : ℕ) → ReadsFor sieve seen look.pin.blocks r.taken (gone_pages sieve.hint rounds.scans.items) parts a b
             → (rows : List Row) × ReadsOn sieve.hint scan (Ok found) (rows ∷ []) b c → ReadsFor sieve seen look.pin.blocks r.taken (hinted_pages sieve.hint look.pin.blocks) parts a c
-        further parts a b c one (rows, n, more, rose) =
+        further parts a b c one (rows, (n, more, rose)) =
             let most = left_within sieve.hint rounds.scans.items at scan low is in
             let same = ap (hinted_pages sieve.hint) r.well.infos in
             let part : pages_gone sieve.hint found.scan ≤ scanned_pages sieve.hint scan.info.now.stripes =

@@ -9,7 +9,7 @@ use Rattle.query_fanout.proofs.StageLaws.{OneRead, goes_hungry, goes_wrong, gone
 use Rattle.query_fanout.proofs.rounds.go_on_at.Goals as goal
 
 pub go_on-requires-clause-pinned : goal.go_on-requires-clause-pinned
-go_on-requires-clause-pinned g c = (its_block c.args.rounds.scans.items c.args.look.now.pin.blocks c.args.at c.index.result c.requires.well.infos c.requires.low (search (rules))).among
+go_on-requires-clause-pinned g c = (its_block c.args.rounds.scans.items c.args.look.now.pin.blocks c.args.at c.index.result.now c.requires.well.infos c.requires.low (search (rules))).among
 
 pub returns-in-Ok-clause-goes : goal.returns-in-Ok-clause-goes
 returns-in-Ok-clause-goes g c = λ seen start r.
@@ -17,7 +17,7 @@ returns-in-Ok-clause-goes g c = λ seen start r.
     let look = c.args.look.now in
     let at = c.args.at in
     let scans = c.args.rounds.scans.items in
-    let scan = c.index.result in
+    let scan = c.index.result.now in
     let found = c.in_ok-found.found in
     let f = c.in-Ok.ensures in
     let its = its_block scans look.pin.blocks at scan c.requires.well.infos c.requires.low (search (rules)) in
@@ -30,7 +30,7 @@ returns-in-Ok-clause-goes g c = λ seen start r.
 pub returns-in-Ok-clause-fewer : goal.returns-in-Ok-clause-fewer
 returns-in-Ok-clause-fewer g c = λ d goes_on.
     let scans = c.args.rounds.scans.items in
-    let scan = c.index.result in
+    let scan = c.index.result.now in
     subst (λ (l : List Scan). all_steps l < all_steps scans) (sym c.in-Ok.ensures.scans)
     (fewer_steps scans c.args.at scan c.in_ok-found.found.scan c.requires.low (search (rules)) (c.in_ok-found.ensures.further (there scans c.args.at scan d c.requires.low (search (rules)) goes_on)))
 
@@ -40,7 +40,7 @@ returns-in-Err-clause-goes g c = λ seen start r.
     let look = c.args.look.now in
     let at = c.args.at in
     let scans = c.args.rounds.scans.items in
-    let scan = c.index.result in
+    let scan = c.index.result.now in
     let its = its_block scans look.pin.blocks at scan c.requires.well.infos c.requires.low (search (rules)) in
     goes_hungry meaning look seen c.args.own.now c.args.asked.now c.args.rounds start c.args.port.now c.go_on.new.port at scan r c.requires.low (search (rules)) its.front its.back its.are_all its.place
     Rounds c.in_ok-found.found c.in_ok-found.ensures.same (subst (λ (s : SieveParts). OneRead meaning look scan s c.args.port.now (Ok c.in_ok-found.found) c.go_on.new.port) c.requires.sieve c.in_ok-found.ensures.read)
@@ -52,7 +52,7 @@ returns-in_err-found-clause-goes g c = λ seen start r.
     let look = c.args.look.now in
     let at = c.args.at in
     let scans = c.args.rounds.scans.items in
-    let scan = c.index.result in
+    let scan = c.index.result.now in
     let its = its_block scans look.pin.blocks at scan c.requires.well.infos c.requires.low (search (rules)) in
     rw (p.1, p.2) (goes_wrong meaning look seen c.args.own.now c.args.asked.now c.args.rounds start c.args.port.now c.go_on.new.port at scan r c.requires.low (search (rules)) its.front its.back
     its.are_all its.place Rounds c.in_err-found.field-0.0

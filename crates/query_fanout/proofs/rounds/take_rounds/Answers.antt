@@ -35,7 +35,7 @@ take_gone-requires-clause-well g c = (c.loop-at.invariant c.requires.picks.0 c.r
 
 pub returns-in_err-all : goal.returns-in_err-all
 returns-in_err-all g c = λ seen of.
-    let p = err_from_is_err_and c.from_residual.result c.from_residual.ensures.1 in
+    let p = err_from_is_err_and c.from_residual-in_err-all.result c.from_residual-in_err-all.ensures.1 in
     rw (p.1, p.2) (ends_early g.P.LookPort.meaning c.args.look.now seen c.args.own.now c.args.asked.now c.args.port.now c.take_gone.new.port Rounds c.in_err-all.field-0.0
     (c.in_err-all.ensures.goes seen c.args.port.now (c.loop-at.invariant seen of)))
 

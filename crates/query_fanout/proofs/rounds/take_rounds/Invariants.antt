@@ -9,4 +9,4 @@ abbrev pub invariant-loop-at : goal.invariant-loop-at
 invariant-loop-at g l = (seen : List Row) → PicksOf (asked_sieve l.asked) seen l.own l.fn.picks.items → Reached g.P.LookPort.meaning l.look seen l.own l.asked l.fn.port l.rounds l.port
 
 abbrev pub decreases-loop-at : goal.decreases-loop-at
-decreases-loop-at l = all_steps l.rounds.scans.items
+decreases-loop-at g l = all_steps l.rounds.scans.items
