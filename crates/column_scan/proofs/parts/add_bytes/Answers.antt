@@ -6,7 +6,7 @@ use Rattle.column_scan.specs.Sieves.{sifted_picks}
 use Rattle.column_scan.proofs.Latest.{none_added, none_of_hint}
 use Rattle.column_scan.proofs.StripeParts.{whole_read}
 use Rattle.column_scan.proofs.Starts.{told_of_read}
-use Rattle.column_scan.proofs.blocks.add_bytes.Goals as goal
+use Rattle.column_scan.proofs.parts.add_bytes.Goals as goal
 
 pub returns-then-lacks_text-clause-answers : goal.returns-then-lacks_text-clause-answers
 returns-then-lacks_text-clause-answers c = λ rows read.
