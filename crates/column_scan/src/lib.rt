@@ -8,14 +8,16 @@
 
 mod blocks;
 mod columns;
+mod glanced;
 mod hints;
 mod laws;
 mod members;
+mod parts;
 mod picks;
 mod query;
+mod scans;
 mod sieves;
 mod sifters;
-mod sketched;
 mod texts;
 
 pub use blocks::{candidates, picks_of_block};
@@ -24,4 +26,6 @@ pub use laws::{answered_is_picked, answers_hold_the_text, columns_tell};
 pub use members::sieve;
 pub use picks::{Pick, in_order, picks_of_spans};
 pub use query::hint;
+pub use scans::{Progress, scan_stripes};
 pub use sieves::Sieve;
+pub use sifters::Sifter;

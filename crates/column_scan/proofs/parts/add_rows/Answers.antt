@@ -3,7 +3,7 @@ use Rattle.std.proofs.lemmas.List.{take_all}
 use Rattle.column_scan.specs.Candidates.{HaveLatest, spans_of}
 use Rattle.column_scan.specs.Sieves.{sifted_picks}
 use Rattle.column_scan.proofs.Latest.{none_more, sifted_step}
-use Rattle.column_scan.proofs.blocks.add_rows.Goals as goal
+use Rattle.column_scan.proofs.parts.add_rows.Goals as goal
 
 pub loop-row-init : goal.loop-row-init
 loop-row-init c = record { same = refl; found = none_more c.args.sifter.now c.args.picks.now.items }

@@ -1,7 +1,7 @@
 use Rattle.std.proofs.Common.{◌≡◌, ◌++◌, take}
 use Rattle.column_scan.specs.Candidates.{HaveLatest, spans_of}
 use Rattle.column_scan.specs.Sieves.{sifted_picks}
-use Rattle.column_scan.proofs.blocks.add_rows.Given as goal
+use Rattle.column_scan.proofs.parts.add_rows.Given as goal
 
 abbrev pub invariant-loop-row : goal.invariant-loop-row
 invariant-loop-row l = record {

@@ -1,7 +1,7 @@
 use Rattle.std.proofs.Common.{◌∙◌}
 use Rattle.block_read.proofs.TraceWalk.{stripe_told}
 use Rattle.column_scan.proofs.Stripes.{left_out}
-use Rattle.column_scan.proofs.blocks.add_stripe.Goals as goal
+use Rattle.column_scan.proofs.parts.add_stripe.Goals as goal
 
 pub returns-then-not-may_scan-clause-answers : goal.returns-then-not-may_scan-clause-answers
 returns-then-not-may_scan-clause-answers g c = λ told rows has.

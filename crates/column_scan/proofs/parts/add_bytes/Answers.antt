@@ -6,7 +6,7 @@ use Rattle.column_scan.specs.Sieves.{sifted_picks}
 use Rattle.column_scan.proofs.Latest.{none_added, none_of_hint}
 use Rattle.column_scan.proofs.StripeParts.{whole_read}
 use Rattle.column_scan.proofs.Starts.{told_of_read}
-use Rattle.column_scan.proofs.blocks.add_bytes.Goals as goal
+use Rattle.column_scan.proofs.parts.add_bytes.Goals as goal
 
 pub returns-then-lacks_text-clause-answers : goal.returns-then-lacks_text-clause-answers
 returns-then-lacks_text-clause-answers c = λ rows read.
@@ -16,4 +16,4 @@ returns-then-lacks_text-clause-answers c = λ rows read.
 
 pub returns-in-Ok-true-clause-answers : goal.returns-in-Ok-true-clause-answers
 returns-in-Ok-true-clause-answers c = λ rows read.
-    c.in-Ok-true.ensures.all rows (told_of_read c.args.form c.args.entry.now c.args.bytes.now rows c.in-Some.sketch c.in-Some.ensures read) c.in-Ok-true.field-0-test
+    c.in-Ok-true.ensures.all rows (told_of_read c.args.form c.args.entry.now c.args.bytes.now rows c.in-Some.glance c.in-Some.ensures.told read) c.in-Ok-true.field-0-test
