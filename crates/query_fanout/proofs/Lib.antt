@@ -17,6 +17,7 @@ mod LeastLaws
 mod RoundLaws
 mod StageLaws
 mod PlaceLaws
+mod GoLaws
 mod EndLaws
 mod AfterLaws
 mod ReachLaws

@@ -149,7 +149,7 @@ scan_set sieve gone picks more (b ∷ before) rows after (scan ∷ scans) next a
 
 -- ---- what is found is of the rows
 
-sifted_within : (sieve : SieveParts) (a b c : List Row) (p : Pick) → Contains (sifted_picks sieve (spans_of b)) p → Contains (sifted_picks sieve (spans_of (a ++ (b ++ c)))) p
+pub sifted_within : (sieve : SieveParts) (a b c : List Row) (p : Pick) → Contains (sifted_picks sieve (spans_of b)) p → Contains (sifted_picks sieve (spans_of (a ++ (b ++ c)))) p
 sifted_within sieve a b c p m =
     subst (λ (l : List Pick). Contains l p) (sym (sifted_both sieve a (b ++ c)))
     (Contains-append_right (sifted_picks sieve (spans_of a)) (sifted_picks sieve (spans_of (b ++ c))) p

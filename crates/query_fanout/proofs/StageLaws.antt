@@ -1,5 +1,5 @@
 -- How a search comes from one stage to the next.
-use Rattle.std.proofs.Common.{◌≡◌, ℕ, zero, suc, ◌+◌, ◌<◌, ◌≤◌, Bool, true, false, List, [], ◌∷◌, ◌++◌, All, Contains, Err, Ok, Result, append-nil, append_assoc, arith, ap, drop, length, map, refl, slice_index_or, slice_set, subst, sym, take, ◌∙◌}
+use Rattle.std.proofs.Common.{◌≡◌, ℕ, zero, suc, ◌+◌, ◌*◌, ◌<◌, ◌≤◌, Bool, true, false, List, [], ◌∷◌, ◌++◌, All, Contains, Err, Ok, Result, append-nil, append_assoc, arith, ap, drop, length, map, refl, slice_index_or, slice_set, subst, sym, take, ◌∙◌}
 use Rattle.std.specs.Prelude.{if◌then◌else◌, sum_by}
 use Rattle.std.specs.List.{flat_map}
 use Rattle.std.specs.List.Sorted.{IsPermutation}
@@ -99,7 +99,7 @@ fresh_scans sieve gone picks shows (rows ∷ parts) (scan ∷ scans) none fresh 
 )
   where
     no_rows : rows_gone scan ≡ 0
-    no_rows = ap (λ (n : ℕ). sum_by (λ (stripe : StripeInfo). stripe.rows) (take n scan.info.now.stripes)) (All-head IsFresh scan scans fresh).next
+    no_rows = ap (λ (n : ℕ). 256 * n) (All-head IsFresh scan scans fresh).next
 
 module _ {P : Type 0} (meaning : Meaning P) (look : Look) (seen own : List Row) (asked : Asked) where
   abbrev sieve : SieveParts

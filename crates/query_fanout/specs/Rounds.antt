@@ -1,5 +1,5 @@
 -- Private mechanism: a search goes through all blocks side by side, a few stripes at a time. No public clause cites these.
-use Rattle.std.specs.Prelude.{◌≡◌, ℕ, ◌+◌, ◌-◌, ◌<◌, All, suc, List, [], ◌∷◌, ◌++◌, Bool, true, false, Contains, Result, Ok, Err, drop, if◌then◌else◌, length, map, slice_index_or, slice_set, sum_by, take}
+use Rattle.std.specs.Prelude.{◌≡◌, ℕ, ◌+◌, ◌-◌, ◌*◌, ◌<◌, All, suc, List, [], ◌∷◌, ◌++◌, Bool, true, false, Contains, Result, Ok, Err, drop, if◌then◌else◌, length, map, nat_lt, None, Option, Some, slice_index_or, slice_set, sum_by, take}
 use Rattle.std.specs.List.{flat_map}
 use Rattle.std.specs.List.Sorted.{IsPermutation}
 use Rattle.std.specs.Ordering.{is_le, is_lt}
@@ -48,6 +48,15 @@ goes_to Whole Nothing = false
 goes_to Whole (Upto other) = false
 goes_to Whole Whole = true
 
+-- up to the trace of the last row, if it is known
+abbrev pub reach_of : Option TraceId → Reach
+reach_of None = Nothing
+reach_of (Some id) = Upto id
+
+-- where a scan is before the stripe of that number, if there are so many: at its end all is gone through
+abbrev pub reach_at : ℕ → ℕ → Option TraceId → Reach
+reach_at next size last = if nat_lt next size then reach_of last else Whole
+
 abbrev pub is_all : Reach → Bool
 is_all Nothing = false
 is_all (Upto bound) = false
@@ -84,9 +93,9 @@ pub record IsBatch (gone : Reach) (picks batch : List Pick) : Type 0 where
 
 -- ---- how far a block is gone through
 
--- how many rows the stripes have that were gone through
+-- how many rows were gone through: each stripe but the last has 256
 abbrev pub rows_gone : Scan → ℕ
-rows_gone scan = sum_by (λ stripe. stripe.rows) (take scan.next scan.info.now.stripes)
+rows_gone scan = 256 * scan.next
 
 -- steps that are left, of which each goes over a stripe or ends the scan
 abbrev pub steps_left : Scan → ℕ

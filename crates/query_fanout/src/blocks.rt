@@ -108,15 +108,15 @@ fn of_pinned<P: FlushPort, R: OfBlock>(
     query_result(read)
 }
 
-// A block's file.
-fn file_of(info: &BlockInfo) -> u32
+/// A block's file.
+pub(crate) fn file_of(info: &BlockInfo) -> u32
     ensures { result ≡ info.now.file }
 {
     info.file
 }
 
-// What a query answers of a block that is read so.
-fn query_result<T>(read: Result<T, ReadError>) -> Result<T, QueryError>
+/// What a query answers of a block that is read so.
+pub(crate) fn query_result<T>(read: Result<T, ReadError>) -> Result<T, QueryError>
     ensures { result ≡ of_read read }
 {
     match read {

@@ -1,7 +1,7 @@
 //! How far all is gone through.
 
 ghost use Rattle.std.specs.Prelude.{◌≡◌};
-ghost use Rattle.query_fanout.specs.Rounds.{goes_to, is_below, is_all};
+ghost use Rattle.query_fanout.specs.Rounds.{goes_to, is_all, is_below, reach_of};
 
 use span_types::TraceId;
 
@@ -37,6 +37,16 @@ pub(crate) fn goes_to(reach: Reach, other: Reach) -> bool
         (Reach::Upto(bound), Reach::Upto(other)) => bound.cmp(&other).is_le(),
         (_, Reach::Whole) => true,
         (Reach::Whole, _) => false,
+    }
+}
+
+/// Up to the trace of the last row, if it is known.
+pub(crate) fn reach_of(last: Option<TraceId>) -> Reach
+    ensures { result ≡ reach_of last }
+{
+    match last {
+        Some(id) => Reach::Upto(id),
+        None => Reach::Nothing,
     }
 }
 

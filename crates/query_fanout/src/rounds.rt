@@ -17,7 +17,7 @@ use crate::scans::{Found, Scan, go_on, least, scans_of};
 use crate::taking::take_picks;
 use crate::waits::{Batch, batch_of, part};
 use crate::{Asked, QueryError};
-use column_scan::{Pick, Sieve, in_order};
+use column_scan::{Pick, Sifter, in_order};
 use search_answer::Best;
 use span_types::Memory;
 use std::alloc::Global;
@@ -42,11 +42,11 @@ pub(crate) fn take_rounds<P: FlushPort>(
     look: &Look,
     own: &Own,
     asked: &Asked,
-    sieve: &Sieve<'_>,
+    sifter: &mut Sifter<'_, '_>,
     picks: Vec<Pick>,
 ) -> Result<Best, QueryError>
     requires open { IsOpen P.meaning port.old (look_of look.now) }
-    requires sieve { sieve.now ≡ asked_sieve asked.now }
+    requires sieve { sifter.old ≡ asked_sieve asked.now }
     requires picks { (seen : List AnyRow) × PicksOf (asked_sieve asked.now) seen own.now picks.items }
     ensures { (seen : List AnyRow) → PicksOf (asked_sieve asked.now) seen own.now picks.items
         → BlocksRead P.meaning look.now look.now.pin.blocks (λ rows best. AnswersRows asked.now (own.now ++ rows) best)
@@ -59,7 +59,7 @@ pub(crate) fn take_rounds<P: FlushPort>(
         Err(Memory) => return Err(QueryError::Memory),
     };
     while let Some(at) = least(rounds.scans.as_slice()) {
-        let next = one_round(alloc, port, look, own, asked, sieve, at, rounds)?;
+        let next = one_round(alloc, port, look, own, asked, sifter, at, rounds)?;
         rounds = next;
     }
     let all = take_gone(alloc, port, look, own, asked, Reach::Whole, rounds)?;
@@ -94,20 +94,21 @@ fn one_round<'l, P: FlushPort>(
     look: &Look,
     own: &Own,
     asked: &Asked,
-    sieve: &Sieve<'_>,
+    sifter: &mut Sifter<'_, '_>,
     at: usize,
     rounds: Rounds<'l>,
 ) -> Result<Rounds<'l>, QueryError>
     requires open { IsOpen P.meaning port.old (look_of look.now) }
     requires well { IsWell look.now rounds }
     requires least { IsLeast rounds.scans.items at }
-    requires sieve { sieve.now ≡ asked_sieve asked.now }
+    requires sieve { sifter.old ≡ asked_sieve asked.now }
     ensures goes { GoesFrom P.meaning look.now own.now asked.now port.old rounds.entry result port.new }
     ensures fewer { IfOk result (λ new. all_steps new.scans.items < all_steps rounds.entry.scans.items) }
+    ensures sifter { sifter.new ≡ sifter.old }
 {
     let bound = rounds.scans[at].upto;
     let taken = take_gone(alloc, port, look, own, asked, bound, rounds)?;
-    go_on_at(alloc, port, look, own, asked, sieve, at, taken)
+    go_on_at(alloc, port, look, own, asked, sifter, at, taken)
 }
 
 // The picks that wait below a bound are taken, if all scans have come so far.
@@ -167,19 +168,20 @@ fn go_on_at<'l, P: FlushPort>(
     look: &Look,
     own: &Own,
     asked: &Asked,
-    sieve: &Sieve<'_>,
+    sifter: &mut Sifter<'_, '_>,
     at: usize,
     rounds: Rounds<'l>,
 ) -> Result<Rounds<'l>, QueryError>
     requires open { IsOpen P.meaning port.old (look_of look.now) }
     requires well { IsWell look.now rounds }
     requires low { at < length rounds.scans.items }
-    requires sieve { sieve.now ≡ asked_sieve asked.now }
+    requires sieve { sifter.old ≡ asked_sieve asked.now }
     ensures goes { GoesFrom P.meaning look.now own.now asked.now port.old rounds.entry result port.new }
     ensures fewer { IfOk result (λ new. (d : AnyScan) → is_all (slice_index_or rounds.entry.scans.items at d).upto ≡ false
         → all_steps new.scans.items < all_steps rounds.entry.scans.items) }
+    ensures sifter { sifter.new ≡ sifter.old }
 {
-    let found = go_on(alloc, port, look, sieve, rounds.scans[at])?;
+    let found = go_on(alloc, port, look, sifter, rounds.scans[at])?;
     match with_found(alloc, at, rounds, found) {
         Ok(next) => Ok(next),
         Err(Memory) => Err(QueryError::Memory),

@@ -1,16 +1,18 @@
 //! The blocks of a look, each gone through a few stripes at a time.
 
-ghost use Rattle.std.specs.Prelude.{◌≡◌, ◌<◌, ◌∷◌, [], All, IfOk, IfSome, None, false, true};
+ghost use Rattle.std.specs.Prelude.{◌≡◌, ◌<◌, ◌∷◌, [], All, IfOk, IfSome, None, false, length, true};
 ghost use Rattle.store_model.specs.State.{is_among};
 ghost use Rattle.store_state.specs.Given.{info_files, look_of};
 ghost use Rattle.store_state.specs.Meaning.{IsOpen};
 ghost use Rattle.query_fanout.specs.Reading.{BlocksRead};
-ghost use Rattle.query_fanout.specs.Rounds.{GoesOn, IsFresh, IsLeast, ReadsOn, infos_of, is_all, steps_left};
+ghost use Rattle.query_fanout.specs.Rounds.{GoesOn, IsFresh, IsLeast, ReadsOn, infos_of, is_all, reach_at, steps_left};
 
 use crate::QueryError;
-use crate::reach::{Reach, goes_to};
+use crate::blocks::{file_of, query_result};
+use crate::pinned::Pinned;
+use crate::reach::{Reach, goes_to, reach_of};
 use block_info::BlockInfo;
-use column_scan::{Pick, Sieve};
+use column_scan::{Pick, Progress, Sifter, scan_stripes};
 use span_types::Memory;
 use std::alloc::Global;
 use store_state::{FlushPort, Look};
@@ -72,16 +74,54 @@ pub(crate) fn go_on<'l, P: FlushPort>(
     alloc: Global,
     port: &mut P,
     look: &Look,
-    sieve: &Sieve<'_>,
+    sifter: &mut Sifter<'_, '_>,
     scan: Scan<'l>,
 ) -> Result<Found<'l>, QueryError>
     requires open { IsOpen P.meaning port.old (look_of look.now) }
     requires pinned { is_among scan.info.now.file (info_files look.now.pin.blocks) ≡ true }
     ensures read { BlocksRead P.meaning look.now (scan.entry.info.now ∷ []) (λ rows found. rows ≡ [])
-        (λ rows found. GoesOn sieve.now rows scan.entry found.scan found.picks.items)
-        (ReadsOn sieve.now.hint scan.entry result) port.old result port.new }
+        (λ rows found. GoesOn sifter.old rows scan.entry found.scan found.picks.items)
+        (ReadsOn sifter.old.hint scan.entry result) port.old result port.new }
     ensures same { IfOk result (λ found. found.scan.info ≡ scan.entry.info) }
     ensures further { IfOk result (λ found. is_all scan.entry.upto ≡ false → steps_left found.scan < steps_left scan.entry) }
+    ensures sifter { sifter.new ≡ sifter.old }
 {
-    Err(QueryError::Memory)
+    let file = file_of(scan.info);
+    let mut picks = Vec::new(alloc);
+    let mut pages = Pinned { port, look };
+    let read = scan_stripes(
+        alloc,
+        &mut pages,
+        file,
+        scan.info,
+        scan.next,
+        sifter,
+        Some(MOST),
+        &mut picks,
+    );
+    match query_result(read) {
+        Ok(progress) => Ok(Found {
+            scan: further(scan, progress),
+            picks,
+        }),
+        Err(error) => Err(error),
+    }
+}
+
+// The scan before the next stripe.
+fn further<'l>(scan: Scan<'l>, progress: Progress) -> Scan<'l>
+    ensures info { result.info ≡ scan.entry.info }
+    ensures next { result.next ≡ progress.next }
+    ensures upto { result.upto ≡ reach_at progress.next (length scan.entry.info.now.stripes) progress.last }
+{
+    let upto = if progress.next < scan.info.stripes.len() {
+        reach_of(progress.last)
+    } else {
+        Reach::Whole
+    };
+    Scan {
+        info: scan.info,
+        next: progress.next,
+        upto,
+    }
 }

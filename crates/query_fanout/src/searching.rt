@@ -15,7 +15,7 @@ use crate::QueryError;
 use crate::own::Own;
 use crate::picks::picks_of_rows;
 use crate::rounds::take_rounds;
-use column_scan::sieve;
+use column_scan::{Sifter, sieve};
 use moment_range::Range;
 use span_types::Memory;
 use spanset_eval::Results;
@@ -102,7 +102,11 @@ fn search_of_look<P: FlushPort>(
         Ok(own) => own,
         Err(Memory) => return Err(QueryError::Memory),
     };
-    match take_rounds(alloc, port, look, &own, asked, &sieve, picks) {
+    let mut sifter = match Sifter::of(alloc, &sieve) {
+        Ok(sifter) => sifter,
+        Err(Memory) => return Err(QueryError::Memory),
+    };
+    match take_rounds(alloc, port, look, &own, asked, &mut sifter, picks) {
         Ok(best) => Ok(SearchAnswer {
             as_of: look.as_of,
             results: best.into_results(),

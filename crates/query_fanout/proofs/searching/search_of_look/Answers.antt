@@ -17,6 +17,9 @@ returns-in-Err-picks_of_rows g c = not_searched g.P.LookPort.meaning c.args.look
 pub returns-in-Err-of : goal.returns-in-Err-of
 returns-in-Err-of g c = not_searched g.P.LookPort.meaning c.args.look.now c.args.asked.now c.args.port.now c.requires
 
+pub returns-in-Err-of-sifter : goal.returns-in-Err-of-sifter
+returns-in-Err-of-sifter g c = not_searched g.P.LookPort.meaning c.args.look.now c.args.asked.now c.args.port.now c.requires
+
 pub take_rounds-requires-clause-picks : goal.take_rounds-requires-clause-picks
 take_rounds-requires-clause-picks g c =
     (c.args.look.now.rows, picks_are c.args.asked.now c.in-Ok.sieve c.as_slice.result.now c.in-Ok-of.own c.args.look.now.rows c.in-Ok-picks_of_rows.picks.items c.in-Ok.ensures
