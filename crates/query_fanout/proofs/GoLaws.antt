@@ -152,6 +152,13 @@ pub no_rows_read : {A : Type 0} (r : Result A ReadError) → IfOk r (λ x. (rows
 no_rows_read (Ok x) = ([], refl)
 no_rows_read (Err why) = tt
 
+-- what is so of a scan that stopped
+pub of_ok : (r : Result Progress ReadError) (progress : Progress) (so : Progress → Type 0) → Ok progress ≡ of_read r → IfOk r so → so progress
+of_ok (Ok x) progress so is h = let same : progress ≡ x = cc in subst so (sym same) h
+of_ok (Err unread.Fault) progress so is h = cc
+of_ok (Err (unread.NotBlock file at)) progress so is h = cc
+of_ok (Err unread.Memory) progress so is h = cc
+
 -- what may be read of one block whatever its rows are
 one_most : (m : ℕ) (info : InfoParts) (parts : List (List Row)) → most_of (λ i rows. m) (info ∷ []) parts ≤ m
 one_most m info [] = omega arith
