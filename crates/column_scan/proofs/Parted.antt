@@ -1,11 +1,10 @@
 -- How the rows of a block are parted by the trace of one of them.
-use Rattle.std.proofs.Common.{◌≡◌, ℕ, zero, suc, ◌+◌, ◌*◌, ◌<◌, false, List, [], ◌∷◌, ◌++◌, length, take, drop, Option, None, Some, refl, sym, ◌∙◌, ap, subst, arith, IfSome}
+use Rattle.std.proofs.Common.{◌≡◌, ℕ, zero, suc, ◌+◌, ◌*◌, false, List, [], ◌∷◌, ◌++◌, take, drop, Option, None, Some, refl, ◌∙◌, ap, subst, arith, IfSome}
 use Rattle.std.specs.List.{AllByRecursion}
 use Rattle.std.specs.Ordering.{is_gt, ordering_reverse}
 use Rattle.std.specs.declared.cmp.Ordering.{Ordering}
 use Rattle.std.specs.declared.cmp.Ordering.TheVariants.{Less, Equal, Greater}
 use Rattle.std.proofs.Math.Seq.{take-add}
-use Rattle.std.proofs.lemmas.List.{length-map}
 use Rattle.std.proofs.lemmas.List.Elements.{recursion_from_All}
 use Rattle.std.proofs.lemmas.Option.{same_Some}
 use Rattle.span_types.specs.Orders.{trace_cmp}
@@ -67,10 +66,11 @@ not_above t = of_reverse (trace_cmp t t) (total.antisymm t t)
 up_to_last : (id : TraceId) (other : Option TraceId) (n : ℕ) (rows : List Row) → AreAscending (ids_of rows) → last_or other (take n rows) ≡ Some id → AllByRecursion (λ (r : Row). is_gt (trace_cmp r.span.trace id) ≡ false) (take n rows)
 up_to_last id other zero rows up is = tt
 up_to_last id other (suc n) [] up is = tt
-up_to_last id other (suc n) (x ∷ rows) up is =
-    (last_has (λ (t : TraceId). is_gt (trace_cmp x.span.trace t) ≡ false) id x.span.trace (take n rows) (not_above x.span.trace)
-    (taken (λ (r : Row). is_gt (trace_cmp x.span.trace r.span.trace) ≡ false) n rows (first_lowest x rows up)) is,
-    up_to_last id (Some x.span.trace) n rows (tail_up x rows up) is)
+up_to_last id other (suc n) (x ∷ rows) up is = (
+  last_has (λ (t : TraceId). is_gt (trace_cmp x.span.trace t) ≡ false) id x.span.trace (take n rows) (not_above x.span.trace)
+      (taken (λ (r : Row). is_gt (trace_cmp x.span.trace r.span.trace) ≡ false) n rows (first_lowest x rows up)) is,
+  up_to_last id (Some x.span.trace) n rows (tail_up x rows up) is,
+)
 
 -- the last of a part is the last of all up to its end
 last_append : (other : Option TraceId) (xs ys : List Row) → last_or other (xs ++ ys) ≡ last_or (last_or other xs) ys

@@ -1,4 +1,4 @@
-use Rattle.std.proofs.Common.{◌≡◌, ℕ, false, ◌*◌, ◌+◌, ◌<◌, ◌++◌, [], ◌∷◌, List, get_or, Bool, Option, Result, Err, take, drop, length, refl, sym, subst, ◌∙◌, ap, arith}
+use Rattle.std.proofs.Common.{◌≡◌, ℕ, false, ◌*◌, ◌<◌, ◌++◌, [], ◌∷◌, List, get_or, Bool, Option, Result, Err, take, drop, length, refl, sym, subst, ◌∙◌, ap, arith}
 use Rattle.std.specs.Prelude.{IsTrue}
 use Rattle.std.proofs.lemmas.Result.{err_from_is_err_and}
 use Rattle.span_types.specs.declared.ids.TraceId.{TraceId}
