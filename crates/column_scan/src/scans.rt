@@ -68,7 +68,7 @@ pub fn scan_stripes<P: Pages>(
     let stripes = info.stripes.as_slice();
     let mut next = from;
     let mut last = None;
-    'on: while next < stripes.len() && !is_enough(most, picks.len()) {
+    'scan: while next < stripes.len() && !is_enough(most, picks.len()) {
         last = add_stripe(
             alloc,
             pages,

@@ -1,97 +1,134 @@
-use Rattle.std.proofs.Common.{◌*◌, ◌<◌, ◌++◌, [], ◌∷◌, get_or, Bool, Err, take, drop, length, sym, subst, ◌∙◌, ap, arith}
+use Rattle.std.proofs.Common.{◌≡◌, ℕ, false, ◌*◌, ◌<◌, ◌++◌, [], ◌∷◌, List, get_or, Bool, Option, Result, Err, take, drop, length, refl, sym, subst, ◌∙◌, ap, arith}
 use Rattle.std.specs.Prelude.{IsTrue}
 use Rattle.std.proofs.lemmas.Result.{err_from_is_err_and}
+use Rattle.span_types.specs.declared.ids.TraceId.{TraceId}
 use Rattle.block_info.specs.InfoParts.{InfoParts}
 use Rattle.block_info.specs.declared.info.StripeInfo.{StripeInfo}
 use Rattle.block_read.specs.Answers.{is_fault}
 use Rattle.block_read.specs.PageReads.{OnlyReads}
-use Rattle.block_read.proofs.PageReads.{read_then}
+use Rattle.block_read.specs.declared.error.ReadError.{ReadError}
+use Rattle.block_read.proofs.PageReads.{none_read, read_then}
 use Rattle.block_read.proofs.TraceWalk.{fault_passed}
 use Rattle.column_scan.specs.Candidates.{HaveLatest, spans_of}
-use Rattle.column_scan.specs.Scans.{scanned_pages}
-use Rattle.column_scan.specs.Sieves.{AreSifted, SieveParts, sifted_picks}
-use Rattle.column_scan.proofs.Latest.{of_latest}
-use Rattle.column_scan.proofs.Stripes.{all_stripes, entry_there, fits_passed, next_stripe, pages_more, pages_within}
-use Rattle.column_scan.proofs.blocks.picks_of_block.Goals as goal
+use Rattle.column_scan.specs.Scans.{gone_through, is_enough, rows_between, scanned_pages}
+use Rattle.column_scan.specs.Sieves.{SieveParts, sifted_picks}
+use Rattle.column_scan.specs.Sifting.{TellsLast}
+use Rattle.column_scan.specs.declared.picks.Pick.{Pick}
+use Rattle.column_scan.specs.declared.scans.Progress.{Progress}
+use Rattle.column_scan.proofs.Parted.{parted}
+use Rattle.column_scan.proofs.Stripes.{entry_there, fits_passed, next_stripe, none_between, pages_more, pages_within}
+use Rattle.column_scan.proofs.scans.scan_stripes.Goals as goal
 
 abbrev no_stripe : StripeInfo
 no_stripe = record { page = 0; pages = 0; rows = 0; earliest = 0; latest = 0 }
 
-pub returns-in_err-add_stripe-clause-answers : goal.returns-in_err-add_stripe-clause-answers
-returns-in_err-add_stripe-clause-answers g c = λ told rows has.
+pub scan-init : goal.scan-init
+scan-init g c =
     let P = g.P.Pages in
-    let h = c.loop-stripe.invariant in
+    record {
+      same = refl;
+      onward = omega arith;
+      told = λ told rows has. none_between c.args.sifter.now c.args.from rows c.args.picks.now.items;
+      last = λ told rows has. tt;
+      begun = λ is. refl;
+      known = λ low none. absurd (omega (arith, low));
+      reads = omega arith;
+      more = omega arith;
+      only = none_read P.tells P.held P.faults P.ready P.went P.name c.args.pages.now;
+    }
+
+pub returns-in_err-last-clause-answers : goal.returns-in_err-last-clause-answers
+returns-in_err-last-clause-answers g c = λ told rows has.
+    let P = g.P.Pages in
+    let h = c.scan.invariant in
     let p = err_from_is_err_and c.from_residual.result c.from_residual.ensures.1 in
-    let i = c.loop-stripe.stripe-index in
-    let same = c.as_slice-stripe-items.ensures ∙ ap (λ (n : InfoParts). n.stripes) c.info.view_is in
-    let low : i < length c.args.info.now.stripes = omega (arith, c.loop-stripe-test.true, ap length same) in
-    let entry = entry_there c.args.info.now (P.held c.args.pages.now c.args.block) rows has i no_stripe low c.info.inside.form c.as_slice-stripe-items.result.now (P.held c.loop-stripe.pages c.args.block)
+    let i = c.scan.next in
+    let same = c.as_slice-stripes.ensures ∙ ap (λ (n : InfoParts). n.stripes) c.info.view_is in
+    let low : i < length c.args.info.now.stripes = omega (arith, c.scan-test.true, ap length same) in
+    let entry = entry_there c.args.info.now (P.held c.args.pages.now c.args.block) rows has i no_stripe low c.info.inside.form c.as_slice-stripes.result.now (P.held c.scan.pages c.args.block)
     (ap (λ (n : InfoParts). n.form) c.info.view_is) same (h.only.stays.same_files told c.args.block) in
-    let there : IsTrue (P.tells c.loop-stripe.pages) = subst IsTrue (sym h.only.stays.telling) told in
-    fits_passed (λ _. HaveLatest (c.loop-stripe.picks.items ++ sifted_picks c.loop-stripe.sifter (spans_of (take 256 (drop (256 * i) rows)))) c.add_stripe.new.picks.items)
-    (λ picks. AreSifted c.args.sieve.now (spans_of rows) picks.items) c.add_stripe.result c.from_residual.result c.in_err-add_stripe.field-0.0
-    c.in_err-add_stripe.was (p.1 ∙ ap Err p.2) (c.add_stripe.ensures.answers there (take 256 (drop (256 * i) rows)) entry)
+    let there : IsTrue (P.tells c.scan.pages) = subst IsTrue (sym h.only.stays.telling) told in
+    let part = take 256 (drop (256 * i) rows) in
+    fits_passed (λ (last : Option TraceId). HaveLatest (c.scan.picks.items ++ sifted_picks c.scan.sifter (spans_of part)) c.add_stripe.new.picks.items × TellsLast part last)
+    (λ (progress : Progress). HaveLatest (c.args.picks.now.items ++ sifted_picks c.args.sifter.now (spans_of (rows_between c.args.from progress.next rows))) c.add_stripe.new.picks.items)
+    c.add_stripe.result c.from_residual.result c.in_err-last.field-0.0 c.in_err-last.was (p.1 ∙ ap Err p.2) (c.add_stripe.ensures.answers there part entry)
 
-pub returns-in_err-add_stripe-clause-only : goal.returns-in_err-add_stripe-clause-only
-returns-in_err-add_stripe-clause-only g c =
-    let P = g.P.Pages in
-    let p = err_from_is_err_and c.from_residual.result c.from_residual.ensures.1 in
-    let only = read_then P.tells P.held P.faults P.ready P.went P.name (is_fault c.add_stripe.result) c.args.pages.now c.loop-stripe.pages c.add_stripe.new.pages c.loop-stripe.invariant.only c.add_stripe.ensures.only in
-    subst (λ (failed : Bool). OnlyReads P.tells P.held P.faults P.ready P.went P.name c.args.pages.now failed c.add_stripe.new.pages)
-    (fault_passed c.add_stripe.result c.from_residual.result c.in_err-add_stripe.field-0.0 c.in_err-add_stripe.was (p.1 ∙ ap Err p.2)) only
-
-pub returns-in_err-add_stripe-clause-reads : goal.returns-in_err-add_stripe-clause-reads
-returns-in_err-add_stripe-clause-reads g c =
-    let h = c.loop-stripe.invariant in
+pub returns-in_err-last-clause-reads : goal.returns-in_err-last-clause-reads
+returns-in_err-last-clause-reads g c =
+    let h = c.scan.invariant in
     let e = c.add_stripe.ensures.reads in
-    let i = c.loop-stripe.stripe-index in
-    let same = c.as_slice-stripe-items.ensures ∙ ap (λ (n : InfoParts). n.stripes) c.info.view_is in
-    let low : i < length c.args.info.now.stripes = omega (arith, c.loop-stripe-test.true, ap length same) in
+    let p = err_from_is_err_and c.from_residual.result c.from_residual.ensures.1 in
+    let i = c.scan.next in
+    let stripes = c.args.info.now.stripes in
+    let same = c.as_slice-stripes.ensures ∙ ap (λ (n : InfoParts). n.stripes) c.info.view_is in
+    let low : i < length stripes = omega (arith, c.scan-test.true, ap length same) in
     let few = h.reads in
     let more = h.more in
     let later = e.later in
     let most = e.at_most in
+    let gone = ap (λ (r : Result Progress ReadError). scanned_pages c.args.sifter.now.hint (gone_through c.args.from r stripes)) (p.1 ∙ ap Err p.2) in
     record {
       later = omega (arith, more, later);
       at_most = omega (
         arith,
         few,
         most,
-        ap (λ (s : SieveParts). scanned_pages s.hint (get_or c.as_slice-stripe-items.result.now i no_stripe ∷ [])) h.same,
-        pages_within c.args.sieve.now.hint c.args.info.now.stripes c.as_slice-stripe-items.result.now i no_stripe low same,
+        gone,
+        ap (λ (s : SieveParts). scanned_pages s.hint (get_or c.as_slice-stripes.result.now i no_stripe ∷ [])) h.same,
+        ap (λ (l : List StripeInfo). scanned_pages c.args.sifter.now.hint (get_or l i no_stripe ∷ [])) same,
+        pages_within c.args.sifter.now.hint stripes c.args.from i no_stripe h.onward low,
       );
     }
 
-pub loop-stripe-preserved : goal.loop-stripe-preserved
-loop-stripe-preserved g c =
+pub returns-in_err-last-clause-only : goal.returns-in_err-last-clause-only
+returns-in_err-last-clause-only g c =
     let P = g.P.Pages in
-    let h = c.loop-stripe.invariant in
-    let e = c.in_ok-add_stripe.ensures in
-    let i = c.loop-stripe.stripe-index in
-    let same = c.as_slice-stripe-items.ensures ∙ ap (λ (n : InfoParts). n.stripes) c.info.view_is in
-    let low : i < length c.args.info.now.stripes = omega (arith, c.loop-stripe-test.true, ap length same) in
+    let p = err_from_is_err_and c.from_residual.result c.from_residual.ensures.1 in
+    let only = read_then P.tells P.held P.faults P.ready P.went P.name (is_fault c.add_stripe.result) c.args.pages.now c.scan.pages c.add_stripe.new.pages c.scan.invariant.only c.add_stripe.ensures.only in
+    subst (λ (failed : Bool). OnlyReads P.tells P.held P.faults P.ready P.went P.name c.args.pages.now failed c.add_stripe.new.pages)
+    (fault_passed c.add_stripe.result c.from_residual.result c.in_err-last.field-0.0 c.in_err-last.was (p.1 ∙ ap Err p.2)) only
+
+pub scan-preserved : goal.scan-preserved
+scan-preserved g c =
+    let P = g.P.Pages in
+    let h = c.scan.invariant in
+    let e = c.in_ok-last.ensures in
+    let i = c.scan.next in
+    let stripes = c.args.info.now.stripes in
+    let same = c.as_slice-stripes.ensures ∙ ap (λ (n : InfoParts). n.stripes) c.info.view_is in
+    let low : i < length stripes = omega (arith, c.scan-test.true, ap length same) in
     let few = h.reads in
     let more = h.more in
     let later = e.reads.later in
     let most = e.reads.at_most in
+    let onward = h.onward in
     record {
       same = e.same ∙ h.same;
+      onward = omega arith;
       told = λ told rows has.
-          let entry = entry_there c.args.info.now (P.held c.args.pages.now c.args.block) rows has i no_stripe low c.info.inside.form c.as_slice-stripe-items.result.now (P.held c.loop-stripe.pages c.args.block)
+          let entry = entry_there c.args.info.now (P.held c.args.pages.now c.args.block) rows has i no_stripe low c.info.inside.form c.as_slice-stripes.result.now (P.held c.scan.pages c.args.block)
           (ap (λ (n : InfoParts). n.form) c.info.view_is) same (h.only.stays.same_files told c.args.block) in
-          let there : IsTrue (P.tells c.loop-stripe.pages) = subst IsTrue (sym h.only.stays.telling) told in
-          next_stripe c.args.sieve.now c.loop-stripe.sifter rows c.loop-stripe.picks.items c.add_stripe.new.picks.items i h.same (h.told told rows has) (e.answers there (take 256 (drop (256 * i) rows)) entry);
-      reads = omega (arith, few, most, ap (λ (s : SieveParts). scanned_pages s.hint (get_or c.as_slice-stripe-items.result.now i no_stripe ∷ [])) h.same, pages_more c.args.sieve.now.hint c.args.info.now.stripes c.as_slice-stripe-items.result.now i no_stripe low same);
+          let there : IsTrue (P.tells c.scan.pages) = subst IsTrue (sym h.only.stays.telling) told in
+          next_stripe c.args.sifter.now c.scan.sifter rows c.args.picks.now.items c.scan.picks.items c.add_stripe.new.picks.items c.args.from i onward h.same (h.told told rows has) (e.answers there (take 256 (drop (256 * i) rows)) entry).0;
+      last = λ told rows has.
+          let entry = entry_there c.args.info.now (P.held c.args.pages.now c.args.block) rows has i no_stripe low c.info.inside.form c.as_slice-stripes.result.now (P.held c.scan.pages c.args.block)
+          (ap (λ (n : InfoParts). n.form) c.info.view_is) same (h.only.stays.same_files told c.args.block) in
+          let there : IsTrue (P.tells c.scan.pages) = subst IsTrue (sym h.only.stays.telling) told in
+          parted c.args.info.now (P.held c.args.pages.now c.args.block) rows has i c.in_ok-last.last (e.answers there (take 256 (drop (256 * i) rows)) entry).1;
+      begun = λ is. absurd (omega (arith, is, onward));
+      known = λ low none.
+          let items : c.add_stripe.new.picks.items ≡ c.scan.picks.items = cc (e.none none) in
+          let size : c.len.result ≡ length c.scan.picks.items = omega arith in
+          let few : c.is_enough.result ≡ false = cc in
+          ap (λ (l : List Pick). is_enough c.args.most (length l)) items ∙ ap (λ (n : ℕ). is_enough c.args.most n) (sym size) ∙ sym c.is_enough.ensures ∙ few;
+      reads = omega (
+        arith,
+        few,
+        most,
+        ap (λ (s : SieveParts). scanned_pages s.hint (get_or c.as_slice-stripes.result.now i no_stripe ∷ [])) h.same,
+        ap (λ (l : List StripeInfo). scanned_pages c.args.sifter.now.hint (get_or l i no_stripe ∷ [])) same,
+        pages_more c.args.sifter.now.hint stripes c.args.from i no_stripe onward low,
+      );
       more = omega (arith, more, later);
-      only = read_then P.tells P.held P.faults P.ready P.went P.name _ c.args.pages.now c.loop-stripe.pages c.add_stripe.new.pages h.only e.only;
-    }
-
-pub returns-in-Ok-in_order-clause-answers : goal.returns-in-Ok-in_order-clause-answers
-returns-in-Ok-in_order-clause-answers g c = λ told rows has.
-    let same = c.as_slice-stripe-items.ensures ∙ ap (λ (n : InfoParts). n.stripes) c.info.view_is in
-    let whole = all_stripes c.args.sieve.now c.args.info.now (g.P.Pages.held c.args.pages.now c.args.block) rows c.loop-stripe.picks.items c.loop-stripe.stripe-index has
-    (omega (arith, c.loop-stripe-test.false, ap length same)) (c.loop-stripe.invariant.told told rows has) in
-    record {
-      latest = of_latest (sifted_picks c.args.sieve.now (spans_of rows)) c.loop-stripe.picks.items c.in-Ok-in_order.all.items whole c.in-Ok-in_order.ensures.latest;
-      ascending = c.in-Ok-in_order.ensures.ascending;
+      only = read_then P.tells P.held P.faults P.ready P.went P.name _ c.args.pages.now c.scan.pages c.add_stripe.new.pages h.only e.only;
     }
