@@ -38,13 +38,13 @@ use Rattle.query_fanout.proofs.RoundLaws.{sifted_within}
 
 -- ---- lists
 
+take_none : (X : Type 0) (n : ℕ) → take {A = X} n [] ≡ []
+take_none X zero = refl
+take_none X (suc n) = refl
+
 split_take : {X : Type 0} (n m : ℕ) (xs : List X) → take (n + m) xs ≡ take n xs ++ take m (drop n xs)
 split_take zero m xs = ap (λ (k : ℕ). take k xs) (omega arith)
-split_take (suc n) m [] = none (suc n + m) ∙ sym (none m)
-  where
-    none : (k : ℕ) → take k [] ≡ []
-    none zero = refl
-    none (suc k) = refl
+split_take {X} (suc n) m [] = take_none X (suc n + m) ∙ sym (take_none X m)
 split_take (suc n) m (x ∷ xs) = ap (λ (k : ℕ). take k (x ∷ xs)) (omega arith) ∙ ap (λ l. x ∷ l) (split_take n m xs)
 
 between : (from next : ℕ) → from ≤ next → 256 * next ≡ 256 * from + 256 * (next - from)
@@ -63,7 +63,7 @@ after_last None before after parted = λ k d low. refl
 after_last (Some id) before after parted =
     All-weaker (λ (row : Row). is_gt (trace_cmp id row.span.trace) ≡ false) (λ (row : Row). is_lt (trace_cmp row.span.trace id) ≡ false)
     (λ row above. ap is_lt (trace_cmp_total.antisymm row.span.trace id) ∙ turned (trace_cmp id row.span.trace) above) after
-    (All-from_recursion (λ (row : Row). is_gt (trace_cmp id row.span.trace) ≡ false) after parted.after)
+    (All-from_recursion (λ (row : Row). is_gt (trace_cmp id row.span.trace) ≡ false) after parted.none_below)
 
 -- and at the end there is none
 above_reach : (last : Option TraceId) (next size : ℕ) (rows : List Row) → length rows ≤ 256 * size → IfSome last (λ id. IsParted id (take (256 * next) rows) (drop (256 * next) rows))

@@ -114,13 +114,14 @@ fn further<'l>(scan: Scan<'l>, progress: Progress) -> Scan<'l>
     ensures next { result.next ≡ progress.next }
     ensures upto { result.upto ≡ reach_at progress.next (length scan.entry.info.now.stripes) progress.last }
 {
-    let upto = if progress.next < scan.info.stripes.len() {
+    let info = scan.info;
+    let upto = if progress.next < info.stripes.len() {
         reach_of(progress.last)
     } else {
         Reach::Whole
     };
     Scan {
-        info: scan.info,
+        info,
         next: progress.next,
         upto,
     }

@@ -48,8 +48,8 @@ returns-in-Ok-clause-read g c =
     (read_on meaning look sieve scan old new r c.in-Ok.progress (record { scan = c.further.result; picks = c.scan_stripes-read.new.picks }) part c.in-Ok.ensures h.onward c.further.ensures.info
     c.further.ensures.next c.further.ensures.upto)
 
-pub returns-in-Err-clause-read : goal.returns-in-Err-clause-read
-returns-in-Err-clause-read g c =
+pub returns-clause-read : goal.returns-clause-read
+returns-clause-read g c =
     let h = c.scan_stripes-read.ensures in
     let meaning = g.P.LookPort.meaning in
     let look = c.args.look.now in
