@@ -9,7 +9,7 @@ use Rattle.span_types.specs.Equal.{same_resource, same_scope}
 use Rattle.byte_fields.specs.Reading.{Stand, ◌>>=◌, fixed64_at}
 use Rattle.byte_fields.proofs.FieldLaws.{read_as}
 use Rattle.span_fields.specs.Breaks.{in_part}
-use Rattle.span_fields.proofs.Meant.{bound, kept_else, kept_then}
+use Rattle.span_fields.proofs.Meant.{Bound, bound, kept_else, kept_then}
 use Rattle.block_columns.specs.ColumnLaws.{read_to}
 use Rattle.block_columns.specs.ColumnReadings.{Spot, all_used, made_at, number_at, table_at}
 use Rattle.block_columns.proofs.Basics.{same_read}
@@ -106,17 +106,24 @@ module _ (glance : Glance) (extended : Bool) where
   part_shown : (bytes : List ℕ) (size : ℕ) (rows : List Row) → Shows AreSeen (content_at extended) (record { whole = take (8 + size) bytes; at = 8 }) → content_of extended bytes size ≡ Ok rows → AreSeen rows
   part_shown bytes size rows one e = (let read = content_read bytes size rows e in one.shows (content_part bytes size) read.0 rows refl read.1)
 
+  -- the rows of a content, where zeros follow it and they are in order
+  abbrev ordered : List ℕ → ℕ → List Row → Result (List Row) ℕ
+  ordered bytes size found = unless_some (unfilled (8 + size) (drop (8 + size) bytes)) found >>= λ found. cond (ascend found) (Ok found) (Err 0)
+
+  same_rows : (bytes : List ℕ) (size : ℕ) (found rows : List Row) → ordered bytes size found ≡ Ok rows → found ≡ rows
+  same_rows bytes size found rows e =
+      let a = bound (unless_some (unfilled (8 + size) (drop (8 + size) bytes)) found) (λ found. cond (ascend found) (Ok found) (Err 0)) rows e in
+      (fill_found (8 + size) (drop (8 + size) bytes) found a.value a.first).1 ∙ same_found a.value rows (kept_then (ascend a.value) 0 (Ok a.value) rows a.last).1
+
+  bound_shown : (bytes : List ℕ) (size : ℕ) (rows : List Row) → Shows AreSeen (content_at extended) (record { whole = take (8 + size) bytes; at = 8 }) → Bound (content_of extended bytes size) (ordered bytes size) rows → AreSeen rows
+  bound_shown bytes size rows one b = subst AreSeen (same_rows bytes size b.value rows b.last) (part_shown bytes size b.value one b.first)
+
   pub stripe_told : (bytes : List ℕ) (size : ℕ) (start after here : Stand) → start ≡ record { whole = bytes; at = 0 } → fixed64_at start ≡ read_as size after → here ≡ record { whole = take (8 + size) bytes; at = 8 }
       → Shows AreSeen (content_at extended) here → TellsIfRead IsGlance (stripe_at extended bytes) glance
   unfolding stripe_at
   stripe_told bytes size start after here is sized stand one = λ rows e.
       let whole : Stand = record { whole = bytes; at = 0 } in
-      let rest = λ (size : ℕ) (found : List Row). unless_some (unfilled (8 + size) (drop (8 + size) bytes)) found >>= λ found. cond (ascend found) (Ok found) (Err 0) in
-      let a = bound (in_part false fixed64_at whole) (λ size. content_of extended bytes size.0 >>= rest size.0) rows e in
+      let a = bound (in_part false fixed64_at whole) (λ size. content_of extended bytes size.0 >>= ordered bytes size.0) rows e in
       let same = (part_same false fixed64_at whole size a.value.0 after a.value.1 (ap fixed64_at (sym is) ∙ sized) a.first).1 in
-      let b = bound (content_of extended bytes a.value.0) (rest a.value.0) rows a.last in
-      let c = bound (unless_some (unfilled (8 + a.value.0) (drop (8 + a.value.0) bytes)) b.value) (λ found. cond (ascend found) (Ok found) (Err 0)) rows b.last in
-      let content : content_of extended bytes size ≡ Ok b.value = ap (λ (k : ℕ). content_of extended bytes k) (sym same) ∙ b.first in
-      let seen = part_shown bytes size b.value (subst (Shows AreSeen (content_at extended)) stand one) content in
-      let found = (fill_found (8 + a.value.0) (drop (8 + a.value.0) bytes) b.value c.value c.first).1 in
-      subst AreSeen (same_found c.value rows (kept_then (ascend c.value) 0 (Ok c.value) rows c.last).1) (subst AreSeen found seen)
+      let rest : (content_of extended bytes size >>= ordered bytes size) ≡ Ok rows = ap (λ (k : ℕ). content_of extended bytes k >>= ordered bytes k) (sym same) ∙ a.last in
+      bound_shown bytes size rows (subst (Shows AreSeen (content_at extended)) stand one) (bound (content_of extended bytes size) (ordered bytes size) rows rest)

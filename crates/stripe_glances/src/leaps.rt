@@ -16,7 +16,8 @@ pub trait Leap {
 
     /// Jumps over the next value. False says nothing.
     fn leap(&self, reader: &mut Reader) -> bool
-        ensures { IsTrue result → (texts : List (List ℕ)) (before : List Self.Item) → Leaps (reading self.now texts before) reader.old reader.new };
+        ensures { IsTrue result → (texts : List (List ℕ)) (before : List Self.Item)
+            → Leaps (reading self.now texts before) reader.old reader.new };
 }
 
 /// Jumps over so many values.
