@@ -8,3 +8,4 @@ mod Tests
 mod Starts
 mod StripeParts
 mod TextLaws
+mod TextSteps

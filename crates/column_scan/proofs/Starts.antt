@@ -13,8 +13,8 @@ use Rattle.block_info.specs.declared.info.StripeInfo.{StripeInfo}
 use Rattle.block_read.specs.BlockReadings.{stripe_of}
 use Rattle.block_stripes.specs.StripeReadings.{stripe_at}
 use Rattle.block_stripes.specs.Stripes.{is_extended}
-use Rattle.stripe_skims.specs.Sketches.{IsSketch, SketchesAll}
-use Rattle.stripe_skims.specs.declared.sketches.Sketch.{Sketch}
+use Rattle.stripe_glances.specs.Glances.{IsGlance, TellsIfRead}
+use Rattle.stripe_glances.specs.declared.glances.Glance.{Glance}
 use Rattle.column_scan.specs.declared.picks.Pick.{Pick}
 use Rattle.column_scan.specs.Candidates.{HaveLatest, hinted_by, is_hinted, pick_of, spans_of}
 use Rattle.column_scan.specs.Sieves.{SieveParts, meets_members, sifted_picks}
@@ -55,27 +55,27 @@ sifted_start sieve s pick picks new alone inside so is have =
 -- ---- row by row
 
 -- there is a row
-row_at : (rows : List Row) (sketch : Sketch) (i : ℕ) → IsSketch rows sketch → i < length sketch.traces.items → (row : Row) × (i < length rows) × (slice_get rows i ≡ Some row)
-row_at [] sketch i told low = let none : length sketch.traces.items ≡ 0 = ap length told.traces in absurd (omega (arith, low, none))
-row_at (row ∷ rest) sketch i told low =
+row_at : (rows : List Row) (glance : Glance) (i : ℕ) → IsGlance rows glance → i < length glance.traces.items → (row : Row) × (i < length rows) × (slice_get rows i ≡ Some row)
+row_at [] glance i told low = let none : length glance.traces.items ≡ 0 = ap length told.traces in absurd (omega (arith, low, none))
+row_at (row ∷ rest) glance i told low =
     let here : i < length (row ∷ rest) = omega (arith, low, ap length told.traces, length-map (row ∷ rest) (λ (r : Row). r.span.trace)) in
     (get_or (row ∷ rest) i row, here, slice_get-get_or (row ∷ rest) i row here)
 
-pub next_start : (sieve now : SieveParts) (rows : List Row) (sketch : Sketch) (old picks new : List Pick) (i : ℕ) (trace : TraceId) → now ≡ sieve → IsSketch rows sketch → i < length sketch.traces.items
-    → ((d : TraceId) → trace ≡ get_or sketch.traces.items i d)
+pub next_start : (sieve now : SieveParts) (rows : List Row) (glance : Glance) (old picks new : List Pick) (i : ℕ) (trace : TraceId) → now ≡ sieve → IsGlance rows glance → i < length glance.traces.items
+    → ((d : TraceId) → trace ≡ get_or glance.traces.items i d)
     → HaveLatest (old ++ sifted_picks sieve (spans_of (take i rows))) picks
     → ((row : Row) → slice_get rows i ≡ Some row → row.span.trace ≡ trace → HaveLatest (picks ++ sifted_picks now (row.span ∷ [])) new)
     → HaveLatest (old ++ sifted_picks sieve (spans_of (take (i + 1) rows))) new
-next_start sieve now rows sketch old picks new i trace same told low trace_is have step =
+next_start sieve now rows glance old picks new i trace same told low trace_is have step =
     let traces = λ (r : Row). r.span.trace in
-    let at = row_at rows sketch i told low in
-    let is : at.0.span.trace ≡ trace = stands traces sketch.traces.items rows i at.0 at.0.span.trace told.traces at.2 ∙ sym (trace_is at.0.span.trace) in
+    let at = row_at rows glance i told low in
+    let is : at.0.span.trace ≡ trace = stands traces glance.traces.items rows i at.0 at.0.span.trace told.traces at.2 ∙ sym (trace_is at.0.span.trace) in
     sifted_step (λ r. r.span) sieve now rows old picks new i at.0 same at.1 have
     (subst (λ (r : Row). HaveLatest (picks ++ sifted_picks now (r.span ∷ [])) new) (sym (get_or_from_slice_get rows i at.0 at.0 at.2)) (step at.0 at.2 is))
 
-pub all_starts : (sieve : SieveParts) (rows : List Row) (sketch : Sketch) (old picks : List Pick) (i : ℕ) → IsSketch rows sketch → length sketch.traces.items ≤ i
+pub all_starts : (sieve : SieveParts) (rows : List Row) (glance : Glance) (old picks : List Pick) (i : ℕ) → IsGlance rows glance → length glance.traces.items ≤ i
     → HaveLatest (old ++ sifted_picks sieve (spans_of (take i rows))) picks → HaveLatest (old ++ sifted_picks sieve (spans_of rows)) picks
-all_starts sieve rows sketch old picks i told ended have =
+all_starts sieve rows glance old picks i told ended have =
     subst (λ l. HaveLatest (old ++ sifted_picks sieve (spans_of l)) picks) (take_all i rows (omega (arith, ended, ap length told.traces, length-map rows (λ (r : Row). r.span.trace)))) have
 
 -- ---- rows of which no member is so
@@ -87,36 +87,31 @@ none_more p (y ∷ xs) x none not_so = (elim (p y) as (λ b. p y ≡ b → list_
   | false ↦ λ t. rw t (none_more p xs x (rw t at none) not_so)
 ]) refl
 
-pub next_none : (sieve now : SieveParts) (rows : List Row) (sketch : Sketch) (i : ℕ) → now ≡ sieve → IsSketch rows sketch → i < length sketch.traces.items
+pub next_none : (sieve now : SieveParts) (rows : List Row) (glance : Glance) (i : ℕ) → now ≡ sieve → IsGlance rows glance → i < length glance.traces.items
     → list_any (meets_members sieve) (spans_of (take i rows)) ≡ false → ((row : Row) → slice_get rows i ≡ Some row → meets_members now row.span ≡ false)
     → list_any (meets_members sieve) (spans_of (take (i + 1) rows)) ≡ false
-next_none sieve now rows sketch i same told low none step =
-    let at = row_at rows sketch i told low in
+next_none sieve now rows glance i same told low none step =
+    let at = row_at rows glance i told low in
     let here : meets_members sieve at.0.span ≡ false = ap (λ (s : SieveParts). meets_members s at.0.span) (sym same) ∙ step at.0 at.2 in
     let more : spans_of (take (i + 1) rows) ≡ spans_of (take i rows) ++ at.0.span ∷ [] =
     map_more (λ (r : Row). r.span) rows i at.0 at.1 ∙ ap (λ (r : Row). spans_of (take i rows) ++ r.span ∷ []) (get_or_from_slice_get rows i at.0 at.0 at.2) in
     subst (λ l. list_any (meets_members sieve) l ≡ false) (sym more) (none_more (meets_members sieve) (spans_of (take i rows)) at.0.span none here)
 
-pub all_none : (sieve : SieveParts) (rows : List Row) (sketch : Sketch) (i : ℕ) → IsSketch rows sketch → length sketch.traces.items ≤ i
+pub all_none : (sieve : SieveParts) (rows : List Row) (glance : Glance) (i : ℕ) → IsGlance rows glance → length glance.traces.items ≤ i
     → list_any (meets_members sieve) (spans_of (take i rows)) ≡ false → list_any (meets_members sieve) (spans_of rows) ≡ false
-all_none sieve rows sketch i told ended none =
+all_none sieve rows glance i told ended none =
     subst (λ l. list_any (meets_members sieve) (spans_of l) ≡ false) (take_all i rows (omega (arith, ended, ap length told.traces, length-map rows (λ (r : Row). r.span.trace)))) none
 
-pub one_found : (sieve now : SieveParts) (rows : List Row) (sketch : Sketch) (i : ℕ) → now ≡ sieve → IsSketch rows sketch → i < length sketch.traces.items
+pub one_found : (sieve now : SieveParts) (rows : List Row) (glance : Glance) (i : ℕ) → now ≡ sieve → IsGlance rows glance → i < length glance.traces.items
     → ((row : Row) → slice_get rows i ≡ Some row → meets_members now row.span ≡ true) → list_any (meets_members sieve) (spans_of rows) ≡ true
-one_found sieve now rows sketch i same told low step =
-    let at = row_at rows sketch i told low in
+one_found sieve now rows glance i same told low step =
+    let at = row_at rows glance i told low in
     let here : meets_members sieve at.0.span ≡ true = ap (λ (s : SieveParts). meets_members s at.0.span) (sym same) ∙ step at.0 at.2 in
     there_any (meets_members sieve) (spans_of rows) i at.0.span (slice_get-map (λ (r : Row). r.span) rows i ∙ ap (option_map (λ (r : Row). r.span)) at.2) here
 
 -- ---- the rows that are read
 
 -- what is told of a stripe is told of the rows that are read by its entry
-pub told_of_read : (form : ℕ) (entry : StripeInfo) (bytes : List ℕ) (rows : List Row) (sketch : Sketch) → SketchesAll (stripe_at (is_extended form) bytes) sketch → stripe_of form entry None bytes ≡ Ok rows
-    → IsSketch rows sketch
-told_of_read form entry bytes rows sketch told read =
-    let same : told.0 ≡ rows = same_rows told.0 rows (sym told.1 ∙ whole_read form entry None bytes rows read) in
-    subst (λ l. IsSketch l sketch) same told.2
-  where
-    same_rows : (xs ys : List Row) → (let r : Result (List Row) ℕ = Ok xs in let q : Result (List Row) ℕ = Ok ys in r ≡ q) → xs ≡ ys
-    same_rows xs ys e = cc
+pub told_of_read : (form : ℕ) (entry : StripeInfo) (bytes : List ℕ) (rows : List Row) (glance : Glance) → ((extended : Bool) → TellsIfRead IsGlance (stripe_at extended bytes) glance) → stripe_of form entry None bytes ≡ Ok rows
+    → IsGlance rows glance
+told_of_read form entry bytes rows glance told read = told (is_extended form) rows (whole_read form entry None bytes rows read)

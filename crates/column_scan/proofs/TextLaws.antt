@@ -308,13 +308,12 @@ none_hinted : (text : List ℕ) (range : Range) (rows : List Row) → AllByRecur
 none_hinted text range [] all = refl
 none_hinted text range (row ∷ rows) all = let one = all.0 in rw one (none_hinted text range rows all.1)
 
-pub none_picked : (hint : Hint) (text bytes : List ℕ) (texts : List (List ℕ)) → hint.text ≡ Some text → texts_of bytes ≡ Ok texts → list_any (λ x. bytes_eq x text) texts ≡ false
+pub none_picked : (hint : Hint) (text bytes : List ℕ) → hint.text ≡ Some text → ((texts : List (List ℕ)) → texts_of bytes ≡ Ok texts → list_any (λ x. bytes_eq x text) texts ≡ false)
     → (extended : Bool) (rows : List Row) → stripe_at extended bytes ≡ Ok rows → hinted_picks hint (spans_of rows) ≡ []
-none_picked hint text bytes texts asked begins none extended rows e =
+none_picked hint text bytes asked none extended rows e =
     let whole = has_content extended bytes rows e in
     let content = content_reads extended bytes whole.size rows whole.read in
     let is = is_read extended (content_part bytes whole.size) rows content.0 content.1 in
-    let same : is.texts ≡ texts = same_found is.texts texts (sym (begins_with bytes whole.size whole.after is.texts is.from whole.sized is.begins) ∙ begins) in
-    let others = each_other text is.texts (ap (list_any (λ x. bytes_eq x text)) same ∙ none) in
+    let others = each_other text is.texts (none is.texts (begins_with bytes whole.size whole.after is.texts is.from whole.sized is.begins)) in
     let free = owned_give text is.texts others extended is.from rows is.to is.read in
     ap (λ asked. map pick_of (filter (hinted_by asked hint.range) (spans_of rows))) asked ∙ ap (map pick_of) (none_hinted text hint.range rows free)

@@ -1,10 +1,8 @@
 -- Private mechanism. How a sieve is kept and applied.
-use Rattle.std.specs.Prelude.{◌≡◌, ℕ, ◌<◌, true, List, [], length, map, Option, None, Some}
+use Rattle.std.specs.Prelude.{◌≡◌, true, List, [], length, map, Option, None, Some}
 use Rattle.std.specs.List.{list_all}
-use Rattle.span_types.specs.declared.spans.Row.{Row}
 use Rattle.span_types.specs.declared.spans.Span.{Span}
-use Rattle.stripe_skims.specs.Sketches.{IsSketch}
-use Rattle.stripe_skims.specs.declared.sketches.Sketch.{Sketch}
+use Rattle.stripe_glances.specs.declared.glances.Glance.{Glance}
 use Rattle.traceql_syntax.specs.declared.field.FieldExpr.{FieldExpr}
 use Rattle.traceql_syntax.specs.Trees.{Tree, tree}
 use Rattle.traceql_types.specs.declared.checked.Checked.{Checked}
@@ -37,10 +35,9 @@ pub record HasColumns (s : Span) (columns : Columns) : Type 0 where
   pub start : s.start ≡ columns.start
   pub ended : s.«end» ≡ columns.«end»
 
--- The sketch is of some rows.
-abbrev pub IsOfRows : Sketch → Type 0
-IsOfRows sketch = (rows : List Row) × IsSketch rows sketch
-
--- The sketch is of rows, of which there are more than so many.
-abbrev pub IsInSketch : Sketch → ℕ → Type 0
-IsInSketch sketch i = (rows : List Row) × IsSketch rows sketch × (i < length rows)
+-- Each column is of as many rows.
+pub record IsEven (glance : Glance) : Type 0 where
+  pub kinds : length glance.kinds.items ≡ length glance.traces.items
+  pub starts : length glance.starts.items ≡ length glance.traces.items
+  pub ends : length glance.ends.items ≡ length glance.traces.items
+  pub statuses : length glance.statuses.items ≡ length glance.traces.items

@@ -8,15 +8,15 @@ ghost use Rattle.block_read.specs.BlockReadings.{stripe_of};
 ghost use Rattle.block_read.specs.Files.{part_of};
 ghost use Rattle.block_read.specs.Lookups.{IsInFile};
 ghost use Rattle.block_read.specs.PageReads.{OnlyReads};
-ghost use Rattle.stripe_skims.specs.Sketches.{IsSketch};
+ghost use Rattle.stripe_glances.specs.Glances.{IsGlance};
 ghost use Rattle.column_scan.specs.Candidates.{AreCandidates, HaveLatest, spans_of};
 ghost use Rattle.column_scan.specs.Scans.{FindsFit, may_scan, meets, scanned_pages};
 ghost use Rattle.column_scan.specs.Sieves.{AreSifted, sifted_picks};
-ghost use Rattle.column_scan.specs.Sifting.{IsOfRows};
+ghost use Rattle.column_scan.specs.Sifting.{IsEven};
 
+use crate::glanced::{add_starts, glance_of, some_meets};
 use crate::picks::add_sifted;
 use crate::sifters::Sifter;
-use crate::sketched::{add_starts, sketch_of, some_meets};
 use crate::texts::lacks_text;
 use crate::{Hint, Pick, Sieve, in_order};
 use block_info::{BlockInfo, StripeInfo};
@@ -24,7 +24,7 @@ use block_read::{Pages, ReadError, Unread, rows_of_bytes, stripe_bytes};
 use moment_range::Range;
 use span_types::{Ids, Memory, Row, TraceId, TryCopy};
 use std::alloc::Global;
-use stripe_skims::Sketch;
+use stripe_glances::Glance;
 
 /// The ids of the traces that have a hinted row in a block, each once, in ascending order. It reads as
 /// [`picks_of_block`] does, with the same errors.
@@ -167,10 +167,10 @@ fn add_bytes(
     if lacks_text(alloc, bytes, sifter.hint()) {
         return Ok(());
     }
-    let Some(sketch) = sketch_of(alloc, form, bytes, sifter) else {
+    let Some(glance) = glance_of(alloc, bytes, entry, sifter) else {
         return add_made(alloc, block, form, entry, bytes, sifter, picks);
     };
-    match add_sketched(sifter, &sketch, picks) {
+    match add_glanced(sifter, &glance, picks) {
         Ok(true) => Ok(()),
         Ok(false) => add_made(alloc, block, form, entry, bytes, sifter, picks),
         Err(_) => Err(ReadError::Memory),
@@ -179,23 +179,23 @@ fn add_bytes(
 
 // Adds the traces of the sifted rows by what is told of the stripe, and says whether that was all: a row that may hold the
 // text is to be made.
-fn add_sketched(
+fn add_glanced(
     sifter: &mut Sifter<'_, '_>,
-    sketch: &Sketch,
+    glance: &Glance,
     picks: &mut Vec<Pick>,
 ) -> Result<bool, Memory>
-    requires { IsOfRows sketch.now }
-    ensures all { (rows : List Row) → IsSketch rows sketch.now → IfOk result (λ all. IsTrue all
+    requires { IsEven glance.now }
+    ensures all { (rows : List Row) → IsGlance rows glance.now → IfOk result (λ all. IsTrue all
         → HaveLatest (picks.old.items ++ sifted_picks sifter.old (spans_of rows)) picks.new.items) }
     ensures none { IfOk result (λ all. all ≡ false → picks.new ≡ picks.old) }
     ensures same { sifter.new ≡ sifter.old }
 {
     match &sifter.hint().text {
         None => {
-            add_starts(sifter, sketch, picks)?;
+            add_starts(sifter, glance, picks)?;
             Ok(true)
         }
-        Some(_) => Ok(!some_meets(sifter, sketch)?),
+        Some(_) => Ok(!some_meets(sifter, glance)?),
     }
 }
 

@@ -8,6 +8,7 @@
 
 mod blocks;
 mod columns;
+mod glanced;
 mod hints;
 mod laws;
 mod members;
@@ -15,7 +16,6 @@ mod picks;
 mod query;
 mod sieves;
 mod sifters;
-mod sketched;
 mod texts;
 
 pub use blocks::{candidates, picks_of_block};

@@ -1,20 +1,17 @@
 //! The texts that a stripe begins with. No row of the stripe has another one.
 
-ghost use Rattle.std.specs.Prelude.{◌≡◌, ◌+◌, ◌≤◌, [], Bool, IsTrue, List, Ok, length, take};
+ghost use Rattle.std.specs.Prelude.{◌≡◌, ◌+◌, ◌≤◌, [], ℕ, Bool, IfSome, IsTrue, List, Ok, length, take};
 ghost use Rattle.std.specs.List.{list_any};
 ghost use Rattle.std.specs.Str.{bytes_eq};
 ghost use Rattle.span_types.specs.declared.spans.Row.{Row};
-ghost use Rattle.span_fields.specs.Breaks.{Answers};
-ghost use Rattle.block_stripes.specs.StripeReadings.{content_part, stripe_at, whole_text_at};
+ghost use Rattle.block_columns.specs.ColumnReadings.{Spot};
+ghost use Rattle.block_stripes.specs.StripeReadings.{content_part, stripe_at};
 ghost use Rattle.block_stripes.specs.StripeStarts.{content_spot};
 ghost use Rattle.column_scan.specs.Candidates.{hinted_picks, spans_of};
-ghost use Rattle.column_scan.specs.StripeTexts.{texts_of};
+ghost use Rattle.column_scan.specs.StripeTexts.{IsNextCount, IsNextText, texts_of};
 
 use crate::Hint;
-use block_columns::{Fields, Kind, column};
 use byte_fields::Reader;
-use span_fields::{Break, fixed64};
-use span_types::Text;
 use std::alloc::Global;
 
 // Whether no row of a stripe can hold the hint's text, by the texts that the stripe begins with. False says nothing.
@@ -25,47 +22,59 @@ pub fn lacks_text(alloc: Global, bytes: &[u8], hint: &Hint) -> bool
     let Some(text) = &hint.text else {
         return false;
     };
-    match texts_of(alloc, bytes) {
-        Ok(texts) => !is_among(text, texts.as_slice()),
-        Err(_) => false,
+    match has_text(alloc, bytes, text.as_str().as_bytes()) {
+        Some(found) => !found,
+        None => false,
     }
 }
 
-// Whether the text is one of these.
-fn is_among(text: &Text, texts: &[Text]) -> bool
-    ensures { result ≡ list_any (λ x. bytes_eq x text.now) texts.now }
+// Whether the text is one of those that a stripe begins with, which stay where they are. None says nothing.
+fn has_text(alloc: Global, bytes: &[u8], text: &[u8]) -> Option<bool>
+    ensures { IfSome result (λ b. (texts : List (List ℕ)) → texts_of bytes.now ≡ Ok texts
+        → b ≡ list_any (λ x. bytes_eq x text.now) texts) }
 {
-    texts.iter().any(|other| *other == *text)
+    let mut reader = content(alloc, bytes)?;
+    let count = next_count(&mut reader)?;
+    for _ in 0..count {
+        if next_text(&mut reader)? == text {
+            return Some(true);
+        }
+    }
+    Some(false)
 }
 
-// The texts that a stripe begins with.
-#[tactic(auto, unfolding(crate::specs::StripeTexts::texts_of))]
-fn texts_of(alloc: Global, bytes: &[u8]) -> Result<Vec<Text>, Break>
-    ensures { Answers (λ x. x.items) result (texts_of bytes.now) }
+// The number of the texts.
+fn next_count(reader: &mut Reader) -> Option<u64>
+    ensures { IfSome result (λ n. IsNextCount reader.old n reader.new) }
 {
-    let mut fields = content(alloc, bytes)?;
-    let count = fields.number()?;
-    let texts = column(alloc, &mut fields, &WholeTexts, count)?;
-    Ok(texts)
+    match reader.var() {
+        Ok(count) => Some(count),
+        Err(_) => None,
+    }
 }
 
-// The content of a stripe, after its length.
-#[tactic(auto, unfolding(block_stripes::specs::StripeStarts::content_spot))]
-fn content<'a>(alloc: Global, bytes: &'a [u8]) -> Result<Fields<'a>, Break>
-    ensures { Answers (λ x. x) result (content_spot bytes.now) }
+// The bytes of the next text.
+fn next_text<'a>(reader: &mut Reader<'a>) -> Option<&'a [u8]>
+    ensures { IfSome result (λ x. IsNextText reader.old x.now reader.new) }
+{
+    let Ok(size) = reader.var() else {
+        return None;
+    };
+    match reader.raw(size) {
+        Ok(text) => Some(text),
+        Err(_) => None,
+    }
+}
+
+// A reader of the content of a stripe, after its length.
+fn content<'a>(alloc: Global, bytes: &'a [u8]) -> Option<Reader<'a>>
+    ensures { IfSome result (λ r. (s : Spot) → content_spot bytes.now ≡ Ok s → s.stand ≡ r) }
 {
     let mut reader = Reader::new(alloc, bytes);
-    let size = fixed64(&mut reader, false)?;
-    Ok(sized_content(alloc, bytes, size))
-}
-
-// A content of so many bytes.
-fn sized_content<'a>(alloc: Global, bytes: &'a [u8], size: u64) -> Fields<'a>
-    requires { 8 ≤ length bytes.now }
-    ensures { result ≡ content_part bytes.now size }
-{
-    let within = size <= bytes.len() as u64 - 8;
-    Fields::of(Reader::starting_at(alloc, front(bytes, size), 8), within)
+    match reader.fixed64() {
+        Ok(size) => Some(Reader::starting_at(alloc, front(bytes, size), 8)),
+        Err(_) => None,
+    }
 }
 
 // The bytes up to the end of a content of so many bytes, or all.
@@ -78,19 +87,5 @@ fn front(bytes: &[u8], size: u64) -> &[u8]
         &bytes[..8 + size as usize]
     } else {
         bytes
-    }
-}
-
-// Texts in full.
-#[derive(Drop)]
-struct WholeTexts;
-
-impl Kind for WholeTexts {
-    type Item = Text;
-
-    ghost reading = { λ _. whole_text_at };
-
-    fn read(&self, fields: &mut Fields) -> Result<Text, Break> {
-        fields.text()
     }
 }

@@ -16,4 +16,4 @@ returns-then-lacks_text-clause-answers c = λ rows read.
 
 pub returns-in-Ok-true-clause-answers : goal.returns-in-Ok-true-clause-answers
 returns-in-Ok-true-clause-answers c = λ rows read.
-    c.in-Ok-true.ensures.all rows (told_of_read c.args.form c.args.entry.now c.args.bytes.now rows c.in-Some.sketch c.in-Some.ensures read) c.in-Ok-true.field-0-test
+    c.in-Ok-true.ensures.all rows (told_of_read c.args.form c.args.entry.now c.args.bytes.now rows c.in-Some.glance c.in-Some.ensures.told read) c.in-Ok-true.field-0-test

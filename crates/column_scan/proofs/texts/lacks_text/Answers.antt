@@ -9,7 +9,7 @@ from_not : (b : Bool) → IsTrue (not b) → b ≡ false
 from_not true is = cc
 from_not false is = refl
 
-pub returns-in-Ok : goal.returns-in-Ok
-returns-in-Ok c = λ none.
-    none_picked c.args.hint.now c.in-Some.text c.args.bytes.now c.in-Ok.texts.items (cc) c.in-Ok.ensures
-    (ap (list_any (λ x. bytes_eq x c.in-Some.text)) (sym c.as_slice.ensures.value) ∙ sym c.is_among.ensures ∙ from_not c.is_among.result none)
+pub returns-in-Some-has_text : goal.returns-in-Some-has_text
+returns-in-Some-has_text c = λ none.
+    none_picked c.args.hint.now c.in-Some.text c.args.bytes.now (cc) (λ texts read.
+    ap (λ l. list_any (λ x. bytes_eq x l) texts) (sym (c.as_bytes.ensures.value ∙ c.as_str.ensures)) ∙ sym (c.in-Some-has_text.ensures texts read) ∙ from_not c.in-Some-has_text.found none)

@@ -2,7 +2,7 @@ use Rattle.std.proofs.Common.{sym, ◌∙◌, ap, ◌≡◌, false}
 use Rattle.moment_range.specs.Ranges.{is_within}
 use Rattle.column_scan.specs.declared.hints.Hint.{Hint}
 use Rattle.column_scan.proofs.Starts.{out_of_members, out_of_range}
-use Rattle.column_scan.proofs.sketched.add_start.Goals as goal
+use Rattle.column_scan.proofs.glanced.add_start.Goals as goal
 
 pub returns-then-not-holds-clause-found : goal.returns-then-not-holds-clause-found
 returns-then-not-holds-clause-found c = λ s is has.
