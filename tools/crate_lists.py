@@ -4,7 +4,7 @@ import re
 
 def listed(text):
     """The names that each line lists, by its crate."""
-    return {name: names.split() for name, names in re.findall(r"^(\w+):([^#\n]*)", text, re.M)}
+    return {name: names.split() for name, names in re.findall(r"^(\w+)[^:#\n]*:([^#\n]*)", text, re.M)}
 
 
 def below(lists, names):
