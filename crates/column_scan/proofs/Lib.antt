@@ -9,3 +9,4 @@ mod Starts
 mod StripeParts
 mod TextLaws
 mod TextSteps
+mod Parted

@@ -1,5 +1,5 @@
 -- Spans that are sifted by what is told of their stripe.
-use Rattle.std.proofs.Common.{◌≡◌, ℕ, ◌+◌, ◌<◌, ◌≤◌, Bool, true, false, ◌&&◌, List, [], ◌∷◌, ◌++◌, length, map, take, None, Some, Result, Ok, refl, sym, ◌∙◌, ap, subst, arith, get_or}
+use Rattle.std.proofs.Common.{◌≡◌, ℕ, zero, suc, ◌+◌, ◌<◌, ◌≤◌, Bool, true, false, ◌&&◌, List, [], ◌∷◌, ◌++◌, length, map, take, Option, None, Some, Ok, refl, sym, ◌∙◌, ap, subst, arith, get_or}
 use Rattle.std.specs.Prelude.{slice_get}
 use Rattle.std.specs.List.{list_any}
 use Rattle.std.specs.Option.{option_map}
@@ -15,6 +15,7 @@ use Rattle.block_stripes.specs.StripeReadings.{stripe_at}
 use Rattle.block_stripes.specs.Stripes.{is_extended}
 use Rattle.stripe_glances.specs.Glances.{IsGlance, TellsIfRead}
 use Rattle.stripe_glances.specs.declared.glances.Glance.{Glance}
+use Rattle.stripe_traces.specs.Wanted.{last_or, last_trace}
 use Rattle.column_scan.specs.declared.picks.Pick.{Pick}
 use Rattle.column_scan.specs.Candidates.{HaveLatest, hinted_by, is_hinted, pick_of, spans_of}
 use Rattle.column_scan.specs.Sieves.{SieveParts, meets_members, sifted_picks}
@@ -51,6 +52,30 @@ sifted_start sieve s pick picks new alone inside so is have =
     let hinted : is_hinted sieve.hint s ≡ true = by_start sieve s alone ∙ inside in
     let one : sifted_picks sieve (s ∷ []) ≡ pick ∷ [] = rw (so, hinted) (ap (λ (p : Pick). p ∷ []) is) in
     subst (λ l. HaveLatest (picks ++ l) new) (sym one) have
+
+-- ---- the last row
+
+pub last_id : (o : Option TraceId) (rows : List Row) (k : ℕ) (d : TraceId) → suc k ≡ length rows → last_or o rows ≡ Some (get_or (map (λ (r : Row). r.span.trace) rows) k d)
+last_id o [] k d e = absurd (omega (arith, e))
+last_id o (x ∷ []) zero d e = refl
+last_id o (x ∷ []) (suc k) d e = absurd (omega (arith, e))
+last_id o (x ∷ y ∷ rows) zero d e = absurd (omega (arith, e))
+last_id o (x ∷ y ∷ rows) (suc k) d e = last_id (Some x.span.trace) (y ∷ rows) k d (omega (arith, e))
+
+last_next : (o : Option TraceId) (rows : List Row) (i : ℕ) (d : Row) → i < length rows → last_or o (take (suc i) rows) ≡ Some (get_or rows i d).span.trace
+last_next o [] i d low = absurd (omega (arith, low))
+last_next o (x ∷ rows) zero d low = refl
+last_next o (x ∷ rows) (suc i) d low = last_next (Some x.span.trace) rows i d (omega (arith, low))
+
+pub last_more : (rows : List Row) (i : ℕ) (d : Row) → i < length rows → last_trace (take (i + 1) rows) ≡ Some (get_or rows i d).span.trace
+last_more rows i d low =
+    let next : i + 1 ≡ suc i = omega arith in
+    ap (λ (n : ℕ). last_trace (take n rows)) next ∙ last_next None rows i d low
+
+pub last_told : (rows : List Row) (glance : Glance) (k : ℕ) (id : TraceId) → IsGlance rows glance → suc k ≡ length glance.traces.items → id ≡ get_or glance.traces.items k id → last_trace rows ≡ Some id
+last_told rows glance k id told e is =
+    let size : suc k ≡ length rows = e ∙ ap length told.traces ∙ length-map rows (λ (r : Row). r.span.trace) in
+    last_id None rows k id size ∙ ap (λ (t : TraceId). Some t) (sym (is ∙ ap (λ l. get_or l k id) told.traces))
 
 -- ---- row by row
 

@@ -1,9 +1,9 @@
 -- The stripes of a block that are read, and their rows.
-use Rattle.std.proofs.Common.{◌≡◌, ℕ, ◌+◌, ◌*◌, ◌<◌, ◌≤◌, Bool, true, false, ◌&&◌, List, [], ◌∷◌, ◌++◌, length, map, take, drop, filter, Option, None, Some, refl, sym, ◌∙◌, ap, subst, arith, if◌then◌else◌, nat_le, nat_lt, get_or, Result, Err}
+use Rattle.std.proofs.Common.{◌≡◌, ℕ, ◌+◌, ◌-◌, ◌*◌, ◌<◌, ◌≤◌, Bool, true, false, ◌&&◌, List, [], ◌∷◌, ◌++◌, length, map, take, drop, filter, Option, None, Some, refl, sym, ◌∙◌, ap, subst, arith, if◌then◌else◌, nat_le, nat_lt, get_or, Result, Err}
 use Rattle.std.specs.Prelude.{slice_get}
 use Rattle.std.specs.List.{AllByRecursion}
 use Rattle.std.proofs.lemmas.Bool.{leb-false, leb-true, ltb-false, ltb-true}
-use Rattle.std.proofs.lemmas.List.{map-append, take_all}
+use Rattle.std.proofs.lemmas.List.{append_assoc, drop-drop, get_or-drop, length-drop, map-append, take_all}
 use Rattle.std.proofs.Math.Seq.{take-add}
 use Rattle.std.proofs.lemmas.List.Sums.{sum_by-cons, sum_by-take-le, sum_by_more}
 use Rattle.std.proofs.lemmas.Option.{slice_get-get_or}
@@ -21,7 +21,7 @@ use Rattle.block_read.proofs.DescribedLaws.{few_rows, stripe_share, stripes_stan
 use Rattle.column_scan.specs.declared.hints.Hint.{Hint}
 use Rattle.column_scan.specs.declared.picks.Pick.{Pick}
 use Rattle.column_scan.specs.Candidates.{HaveLatest, hinted_by, is_hinted, pick_of, spans_of}
-use Rattle.column_scan.specs.Scans.{FindsFit, may_scan, meets, scanned_by, scanned_pages}
+use Rattle.column_scan.specs.Scans.{FindsFit, may_scan, meets, rows_between, scanned_by, scanned_pages, stripes_between}
 use Rattle.column_scan.specs.Sieves.{SieveParts, sifted_picks}
 use Rattle.column_scan.proofs.Latest.{and_more, none_added, none_of_hint, sifted_append}
 
@@ -72,9 +72,6 @@ left_out sieve form stripe bytes rows picks out has =
 
 -- ---- stripe by stripe
 
-abbrev pub so_far : ℕ → List Row → List Span
-so_far i rows = spans_of (take (256 * i) rows)
-
 module _ (info : InfoParts) (bytes : List ℕ) (rows : List Row) (has : BlockHasInfo info bytes rows) (i : ℕ) (d : StripeInfo) (low : i < length info.stripes) where
   abbrev stripe : StripeInfo
   stripe = get_or info.stripes i d
@@ -86,21 +83,44 @@ module _ (info : InfoParts) (bytes : List ℕ) (rows : List Row) (has : BlockHas
   has_entry = subst (StripeHasEntry info.form stripe (part_of stripe.page stripe.pages bytes)) (stripe_share info bytes rows has i stripe there).here
       (stripes_stand info bytes rows has i stripe there)
 
-pub next_stripe : (sieve now : SieveParts) (rows : List Row) (picks new : List Pick) (i : ℕ) → now ≡ sieve → HaveLatest (sifted_picks sieve (so_far i rows)) picks
-    → HaveLatest (picks ++ sifted_picks now (spans_of (take 256 (drop (256 * i) rows)))) new → HaveLatest (sifted_picks sieve (so_far (i + 1) rows)) new
-next_stripe sieve now rows picks new i same have step =
-    let next : 256 * i + 256 ≡ 256 * (i + 1) = omega arith in
-    let parts : so_far (i + 1) rows ≡ so_far i rows ++ spans_of (take 256 (drop (256 * i) rows)) =
-    ap (λ k. spans_of (take k rows)) (sym next) ∙ ap spans_of (take-add (256 * i) 256 rows) ∙ map-append (λ (row : Row). row.span) (take (256 * i) rows) (take 256 (drop (256 * i) rows)) in
-    let whole = ap (sifted_picks sieve) parts ∙ sifted_append sieve (so_far i rows) (spans_of (take 256 (drop (256 * i) rows))) in
-    subst (λ l. HaveLatest l new) (sym whole) (and_more (sifted_picks sieve (so_far i rows)) (sifted_picks sieve (spans_of (take 256 (drop (256 * i) rows)))) picks new have
-    (subst (λ (p : SieveParts). HaveLatest (picks ++ sifted_picks p (spans_of (take 256 (drop (256 * i) rows)))) new) same step))
+one_more : (from i : ℕ) (rows : List Row) → from ≤ i → rows_between from (i + 1) rows ≡ rows_between from i rows ++ take 256 (drop (256 * i) rows)
+one_more from i rows low =
+    let next : 256 * (i + 1 - from) ≡ 256 * (i - from) + 256 = omega (arith, low) in
+    let place : 256 * from + 256 * (i - from) ≡ 256 * i = omega (arith, low) in
+    ap (λ (n : ℕ). take n (drop (256 * from) rows)) next ∙ take-add (256 * (i - from)) 256 (drop (256 * from) rows)
+    ∙ ap (λ (l : List Row). rows_between from i rows ++ take 256 l) (drop-drop (256 * (i - from)) (256 * from) rows ∙ ap (λ (n : ℕ). drop n rows) place)
 
+-- before the first stripe
+pub none_between : (sieve : SieveParts) (from : ℕ) (rows : List Row) (picks : List Pick) → HaveLatest (picks ++ sifted_picks sieve (spans_of (rows_between from from rows))) picks
+none_between sieve from rows picks =
+    let none : 256 * (from - from) ≡ 0 = omega arith in
+    none_added picks (sifted_picks sieve (spans_of (rows_between from from rows))) (ap (λ (n : ℕ). sifted_picks sieve (spans_of (take n (drop (256 * from) rows)))) none)
+
+pub next_stripe : (sieve now : SieveParts) (rows : List Row) (old picks new : List Pick) (from i : ℕ) → from ≤ i → now ≡ sieve → HaveLatest (old ++ sifted_picks sieve (spans_of (rows_between from i rows))) picks
+    → HaveLatest (picks ++ sifted_picks now (spans_of (take 256 (drop (256 * i) rows)))) new → HaveLatest (old ++ sifted_picks sieve (spans_of (rows_between from (i + 1) rows))) new
+next_stripe sieve now rows old picks new from i low same have step =
+    let part = spans_of (take 256 (drop (256 * i) rows)) in
+    let before = spans_of (rows_between from i rows) in
+    let parts : spans_of (rows_between from (i + 1) rows) ≡ before ++ part =
+    ap spans_of (one_more from i rows low) ∙ map-append (λ (row : Row). row.span) (rows_between from i rows) (take 256 (drop (256 * i) rows)) in
+    let whole : old ++ sifted_picks sieve (spans_of (rows_between from (i + 1) rows)) ≡ (old ++ sifted_picks sieve before) ++ sifted_picks sieve part =
+    ap (λ (l : List Span). old ++ sifted_picks sieve l) parts ∙ ap (λ (l : List Pick). old ++ l) (sifted_append sieve before part) ∙ sym (append_assoc old (sifted_picks sieve before) (sifted_picks sieve part)) in
+    subst (λ l. HaveLatest l new) (sym whole) (and_more (old ++ sifted_picks sieve before) (sifted_picks sieve part) picks new have
+    (subst (λ (p : SieveParts). HaveLatest (picks ++ sifted_picks p part) new) same step))
+
+-- no stripe is left
+pub none_left : (n i : ℕ) → (i < n → false ≡ true) → n ≤ i
+none_left n i none = (elim (nat_lt i n) as (λ b. nat_lt i n ≡ b → n ≤ i) [
+  | true ↦ λ t. let bad : false ≡ true = none (omega (arith, ltb-true i n t)) in cc
+  | false ↦ λ t. ltb-false i n t
+]) refl
+
+-- from the first stripe on, and up to the last one
 pub all_stripes : (sieve : SieveParts) (info : InfoParts) (bytes : List ℕ) (rows : List Row) (picks : List Pick) (i : ℕ) → BlockHasInfo info bytes rows → length info.stripes ≤ i
-    → HaveLatest (sifted_picks sieve (so_far i rows)) picks → HaveLatest (sifted_picks sieve (spans_of rows)) picks
+    → HaveLatest (sifted_picks sieve (spans_of (rows_between 0 i rows))) picks → HaveLatest (sifted_picks sieve (spans_of rows)) picks
 all_stripes sieve info bytes rows picks i has ended have =
     let few = few_rows info bytes rows has in
-    subst (λ l. HaveLatest (sifted_picks sieve (spans_of l)) picks) (take_all (256 * i) rows (omega (arith, few, ended))) have
+    subst (λ l. HaveLatest (sifted_picks sieve (spans_of l)) picks) (take_all (256 * (i - 0)) rows (omega (arith, few, ended))) have
 
 -- the same of the bytes, the stripes and the form as the code has them
 pub entry_there : (info : InfoParts) (bytes : List ℕ) (rows : List Row) → BlockHasInfo info bytes rows → (i : ℕ) (d : StripeInfo) → i < length info.stripes
@@ -114,20 +134,31 @@ entry_there info bytes rows has i d low form stripes now form_is same bytes_same
 
 -- ---- pages
 
-pub pages_more : (hint : Hint) (stripes items : List StripeInfo) (i : ℕ) (d : StripeInfo) → i < length stripes → items ≡ stripes
-    → scanned_pages hint (take (i + 1) stripes) ≡ scanned_pages hint (take i stripes) + scanned_pages hint (get_or items i d ∷ [])
-pages_more hint stripes items i d low same =
-    let pages = λ (stripe : StripeInfo). if may_scan hint stripe then stripe.pages else 0 in
-    let one = sum_by-cons pages (get_or stripes i d) [] in
-    let more : scanned_pages hint (take (i + 1) stripes) ≡ scanned_pages hint (take i stripes) + scanned_pages hint (get_or stripes i d ∷ []) = omega (arith, sum_by_more pages stripes i d low, one) in
-    subst (λ l. scanned_pages hint (take (i + 1) stripes) ≡ scanned_pages hint (take i stripes) + scanned_pages hint (get_or l i d ∷ [])) (sym same) more
+module _ (hint : Hint) (stripes : List StripeInfo) (from i : ℕ) (d : StripeInfo) (begun : from ≤ i) (low : i < length stripes) where
+  abbrev pages : StripeInfo → ℕ
+  pages = λ stripe. if may_scan hint stripe then stripe.pages else 0
 
-pub pages_within : (hint : Hint) (stripes items : List StripeInfo) (i : ℕ) (d : StripeInfo) → i < length stripes → items ≡ stripes
-    → scanned_pages hint (take i stripes) + scanned_pages hint (get_or items i d ∷ []) ≤ scanned_pages hint stripes
-pages_within hint stripes items i d low same =
-    let pages = λ (stripe : StripeInfo). if may_scan hint stripe then stripe.pages else 0 in
-    let most : scanned_pages hint (take (i + 1) stripes) ≤ scanned_pages hint stripes = sum_by-take-le pages stripes (i + 1) in
-    omega (arith, most, pages_more hint stripes items i d low same)
+  there_within : i - from < length (drop from stripes)
+  there_within = omega (arith, begun, low, length-drop from stripes)
+
+  same_stripe : get_or (drop from stripes) (i - from) d ≡ get_or stripes i d
+  same_stripe =
+      let place : from + (i - from) ≡ i = omega (arith, begun) in
+      get_or-drop from stripes (i - from) d ∙ ap (λ (k : ℕ). get_or stripes k d) place
+
+  pub pages_more : scanned_pages hint (stripes_between from (i + 1) stripes) ≡ scanned_pages hint (stripes_between from i stripes) + scanned_pages hint (get_or stripes i d ∷ [])
+  pages_more =
+      let next : i + 1 - from ≡ i - from + 1 = omega (arith, begun) in
+      let one = sum_by-cons pages (get_or stripes i d) [] in
+      let more = sum_by_more pages (drop from stripes) (i - from) d there_within in
+      let here : scanned_pages hint (stripes_between from (i + 1) stripes) ≡ scanned_pages hint (take (i - from + 1) (drop from stripes)) = ap (λ (n : ℕ). scanned_pages hint (take n (drop from stripes))) next in
+      let same : pages (get_or (drop from stripes) (i - from) d) ≡ pages (get_or stripes i d) = ap pages same_stripe in
+      omega (arith, here, more, one, same)
+
+  pub pages_within : scanned_pages hint (stripes_between from i stripes) + scanned_pages hint (get_or stripes i d ∷ []) ≤ scanned_pages hint (drop from stripes)
+  pages_within =
+      let most : scanned_pages hint (stripes_between from (i + 1) stripes) ≤ scanned_pages hint (drop from stripes) = sum_by-take-le pages (drop from stripes) (i + 1 - from) in
+      omega (arith, most, pages_more)
 
 -- ---- errors
 

@@ -1,8 +1,11 @@
 -- Private mechanism. How a sieve is kept and applied.
-use Rattle.std.specs.Prelude.{◌≡◌, true, List, [], length, map, Option, None, Some}
+use Rattle.std.specs.Prelude.{◌≡◌, ◌<◌, true, List, [], length, map, Option, None, Some, IfSome}
 use Rattle.std.specs.List.{list_all}
+use Rattle.span_types.specs.declared.ids.TraceId.{TraceId}
+use Rattle.span_types.specs.declared.spans.Row.{Row}
 use Rattle.span_types.specs.declared.spans.Span.{Span}
 use Rattle.stripe_glances.specs.declared.glances.Glance.{Glance}
+use Rattle.stripe_traces.specs.Wanted.{last_trace}
 use Rattle.traceql_syntax.specs.declared.field.FieldExpr.{FieldExpr}
 use Rattle.traceql_syntax.specs.Trees.{Tree, tree}
 use Rattle.traceql_types.specs.declared.checked.Checked.{Checked}
@@ -35,9 +38,14 @@ pub record HasColumns (s : Span) (columns : Columns) : Type 0 where
   pub start : s.start ≡ columns.start
   pub ended : s.«end» ≡ columns.«end»
 
--- Each column is of as many rows.
-pub record IsEven (glance : Glance) : Type 0 where
+-- There is a row, and each column is of as many rows.
+pub record HasRows (glance : Glance) : Type 0 where
+  pub some : 0 < length glance.traces.items
   pub kinds : length glance.kinds.items ≡ length glance.traces.items
   pub starts : length glance.starts.items ≡ length glance.traces.items
   pub ends : length glance.ends.items ≡ length glance.traces.items
   pub statuses : length glance.statuses.items ≡ length glance.traces.items
+
+-- if a trace is told, it is that of the last row
+abbrev pub TellsLast : List Row → Option TraceId → Type 0
+TellsLast rows last = IfSome last (λ id. last_trace rows ≡ Some id)

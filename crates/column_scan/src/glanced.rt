@@ -6,9 +6,10 @@ ghost use Rattle.span_types.specs.declared.spans.Row.{Row};
 ghost use Rattle.span_types.specs.declared.spans.Span.{Span};
 ghost use Rattle.block_stripes.specs.StripeReadings.{stripe_at};
 ghost use Rattle.stripe_glances.specs.Glances.{IsGlance, TellsIfRead};
+ghost use Rattle.stripe_traces.specs.Wanted.{last_trace};
 ghost use Rattle.column_scan.specs.Candidates.{HaveLatest, spans_of};
 ghost use Rattle.column_scan.specs.Sieves.{meets_members, sifted_picks};
-ghost use Rattle.column_scan.specs.Sifting.{HasColumns, IsEven};
+ghost use Rattle.column_scan.specs.Sifting.{HasColumns, HasRows};
 
 use crate::Pick;
 use crate::columns::Columns;
@@ -28,7 +29,7 @@ pub(crate) fn glance_of(
     sifter: &Sifter<'_, '_>,
 ) -> Option<Glance>
     ensures told { IfSome result (λ g. (extended : Bool) → TellsIfRead IsGlance (stripe_at extended bytes.now) g) }
-    ensures even { IfSome result IsEven }
+    ensures rows { IfSome result HasRows }
 {
     if sifter.hint().text.is_some() && sifter.is_hint() {
         return None;
@@ -43,20 +44,21 @@ pub(crate) fn glance_of(
 // Whether the columns can be those of a stripe with this entry. A malformed stripe is to be told as such, and what is told of it
 // mostly doesn't fit.
 fn fits(glance: &Glance, entry: &StripeInfo) -> bool
-    ensures { IsTrue result → IsEven glance.now }
+    ensures { IsTrue result → HasRows glance.now }
 {
     glance.traces.len() == entry.rows as usize
-        && is_even(glance)
+        && has_rows(glance)
         && start_within(glance.starts.as_slice(), entry)
         && ascend(glance.traces.as_slice())
 }
 
-// Whether each column is of as many rows.
-fn is_even(glance: &Glance) -> bool
-    ensures { IsTrue result → IsEven glance.now }
+// Whether there is a row, and each column is of as many rows.
+fn has_rows(glance: &Glance) -> bool
+    ensures { IsTrue result → HasRows glance.now }
 {
     let count = glance.traces.len();
-    glance.kinds.len() == count
+    count > 0
+        && glance.kinds.len() == count
         && glance.starts.len() == count
         && glance.ends.len() == count
         && glance.statuses.len() == count
@@ -76,13 +78,21 @@ fn ascend(ids: &[TraceId]) -> bool {
         .all(|(id, next)| id <= next)
 }
 
+/// The trace of the last row.
+pub(crate) fn last_of(glance: &Glance) -> TraceId
+    requires { HasRows glance.now }
+    ensures { (rows : List Row) → IsGlance rows glance.now → last_trace rows ≡ Some result }
+{
+    glance.traces[glance.traces.len() - 1]
+}
+
 /// Adds the traces of the rows that are sifted, for a hint that only asks when spans start.
 pub(crate) fn add_starts(
     sifter: &mut Sifter<'_, '_>,
     glance: &Glance,
     picks: &mut Vec<Pick>,
 ) -> Result<(), Memory>
-    requires even { IsEven glance.now }
+    requires rows { HasRows glance.now }
     requires alone { sifter.old.hint.text ≡ None }
     ensures found { (rows : List Row) → IsGlance rows glance.now → OnOk result (HaveLatest
         (picks.old.items ++ sifted_picks sifter.old (spans_of rows)) picks.new.items) }
@@ -123,7 +133,7 @@ fn add_start(
 
 /// Whether the members are so of one of the rows.
 pub(crate) fn some_meets(sifter: &mut Sifter<'_, '_>, glance: &Glance) -> Result<bool, Memory>
-    requires { IsEven glance.now }
+    requires { HasRows glance.now }
     ensures value { IfOk result (λ b. (rows : List Row) → IsGlance rows glance.now
         → b ≡ list_any (meets_members sifter.old) (spans_of rows)) }
     ensures same { sifter.new ≡ sifter.old }
@@ -138,7 +148,7 @@ pub(crate) fn some_meets(sifter: &mut Sifter<'_, '_>, glance: &Glance) -> Result
 
 // The columns of a row.
 fn columns_at(glance: &Glance, i: usize) -> Columns
-    requires even { IsEven glance.now }
+    requires rows { HasRows glance.now }
     requires there { i < length glance.now.traces.items }
     ensures { (rows : List Row) (row : Row) → IsGlance rows glance.now → slice_get rows i ≡ Some row
         → HasColumns row.span result }

@@ -21,7 +21,7 @@ use traceql_value::{EvalContext, Matchers};
 
 /// A sieve that is ready to test spans. The patterns of its query are made ready once, and not at all if it has no members.
 #[derive(Drop)]
-pub(crate) struct Sifter<'s, 'q> {
+pub struct Sifter<'s, 'q> {
     sieve: &'s Sieve<'q>,
     tester: Option<Tester<'s, 'q>>,
 }
@@ -42,8 +42,8 @@ impl<'s, 'q> Model for Sifter<'s, 'q> {
 }
 
 impl<'s, 'q> Sifter<'s, 'q> {
-    /// Makes a sieve ready.
-    pub(crate) fn of(alloc: Global, sieve: &'s Sieve<'q>) -> Result<Sifter<'s, 'q>, Memory>
+    /// Makes a sieve ready. The one error is want of memory.
+    pub fn of(alloc: Global, sieve: &'s Sieve<'q>) -> Result<Sifter<'s, 'q>, Memory>
         ensures { IfOk result (λ sifter. sifter ≡ sieve.now) }
     {
         let tester = tester_of(alloc, sieve)?;

@@ -3,7 +3,7 @@ use Rattle.std.specs.Prelude.{IsTrue}
 use Rattle.column_scan.specs.Candidates.{spans_of}
 use Rattle.column_scan.specs.Sieves.{sifted_picks}
 use Rattle.column_scan.proofs.Latest.{none_added, none_of_members}
-use Rattle.column_scan.proofs.blocks.add_glanced.Goals as goal
+use Rattle.column_scan.proofs.parts.add_glanced.Goals as goal
 
 from_not : (b : Bool) → IsTrue (not b) → b ≡ false
 from_not true is = cc
