@@ -6,3 +6,4 @@ pub mod Splits
 pub mod Joins
 pub mod Calls
 pub mod Files
+pub mod CoreLaws

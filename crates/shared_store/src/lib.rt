@@ -5,6 +5,7 @@
 #![tactic(auto)]
 
 mod asked;
+mod cores;
 mod flush_port;
 mod known;
 mod look_port;
@@ -15,6 +16,7 @@ mod shared;
 mod ticket;
 mod turn;
 
+pub use cores::{Seat, Shared, Ticket, a_core_is_unshared, entries_of_a_core_are_legal};
 pub use known::{Known, Past, Turns};
 pub use seat::PortSeat;
 pub use shared::SharedPort;
