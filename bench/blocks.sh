@@ -11,7 +11,7 @@ work=${TMPDIR:-/tmp}/vurnda-bench/blocks
 count=${1:-262144}
 program=$work/tree/crates/block_bench
 mkdir -p "$program/src"
-deps=$(sed -n 's/^block_read: /block_build block_read /p' "$here/../crates.txt")
+deps=$("$here/../tools/crates" below block_build block_read | tr '\n' ' ')
 for name in $deps; do # copies of what it stands on, with what is built
     [ -d "$here/../crates/$name" ] || continue
     rm -rf "$work/tree/crates/$name"

@@ -1,8 +1,8 @@
 #!/usr/bin/env bash
-# Look-ups and searches over an open store of TRACES traces (125,000) of 8 spans, flushed and compacted by an ingest, beside SQLite
-# over the same spans with an index on the trace's id: what each question takes, and how many pages a look-up reads
-# (queries/ask.py). `queries.sh PROGRAM` takes a built program, else the one that `./vurnda` builds. The folder is in TMPDIR, which
-# should lie on the disk that is meant and not in memory; KEEP=yes keeps it, and a kept one is used again.
+# Look-ups and searches over an open store of TRACES traces (125,000) of 8 spans, flushed and compacted by an ingest, beside SQLite, and
+# PostgreSQL if it is installed, over the same spans with an index on the trace's id: what each question takes, what memory, and how
+# many pages a look-up reads (queries/ask.py). `queries.sh PROGRAM` takes a built program, else the one that `./vurnda` builds. The
+# folder is in TMPDIR, which should lie on the disk that is meant and not in memory; KEEP=yes keeps it, and a kept one is used again.
 set -eo pipefail
 here=$(cd "$(dirname "$0")" && pwd)
 program=${1:-$here/../crates/vurnda/out/vurnda}

@@ -8,13 +8,13 @@ here=$(cd "$(dirname "$0")" && pwd)
 work=${TMPDIR:-/tmp}/vurnda-bench
 count=${1:-4000}
 mkdir -p "$work/tree/crates/stripe_bench/src"
-for name in block_stripes $(sed -n 's/^block_stripes: //p' "$here/../crates.txt"); do # copies of what it stands on, with what is built
+for name in $("$here/../tools/crates" below block_stripes); do # copies of what it stands on, with what is built
     [ -d "$here/../crates/$name" ] || continue
     rm -rf "$work/tree/crates/$name"
     tar -C "$here/../crates" --exclude=incremental -cf - "$name" | tar -C "$work/tree/crates" -xf -
 done
 for name in "$work/tree/crates"/*/; do grep "^$(basename "$name"):" "$here/../crates.txt" || true; done > "$work/tree/crates.txt"
-sed -n 's/^block_stripes: /stripe_bench: block_stripes serde_json /p' "$here/../crates.txt" >> "$work/tree/crates.txt"
+echo "stripe_bench: $("$here/../tools/crates" below block_stripes | tr '\n' ' ') serde_json" >> "$work/tree/crates.txt"
 cmp -s "$here/stripes/program.txt" "$work/tree/crates/stripe_bench/src/main.rt" || cp "$here/stripes/program.txt" "$work/tree/crates/stripe_bench/src/main.rt"
 input() { # LETTER COUNT FILE: what the program reads
     printf '%s' "$1"

@@ -1,9 +1,10 @@
 #!/usr/bin/env python3
-"""`ask.py PROGRAM FOLDER LINES TRACES` asks a session over a store, and SQLite over `FOLDER.sqlite` with the same spans, the same questions.
+"""`ask.py PROGRAM FOLDER LINES TRACES` asks a session over a store the same questions as SQLite over `FOLDER.sqlite`, and PostgreSQL if a
+server can be made, with the same spans.
 
 LINES are the push lines that the store took in, with one trace of 8 spans each; TRACES is how many of them. Each question is asked in
 turns, the least and the middle time of a question is told in milliseconds, and how many pages the session read for it (by strace, in
-a session of its own, if it is installed). The store and the database are open and warm: what each opening takes is told by itself."""
+a session of its own, if it is installed). Store and databases are open and warm: what each opening takes is told by itself."""
 import json
 import os
 import re
@@ -14,6 +15,8 @@ import subprocess
 import sys
 import tempfile
 import time
+
+import postgres
 
 LOOK_UPS = 200
 ROUNDS = 3
@@ -42,10 +45,15 @@ class Session:
         self.process.stdin.flush()
         return self.process.stdout.readline()
 
-    def memory(self):
-        """The most memory that it held, in MB."""
+    def memory(self, which):
+        """The memory that it holds (VmRSS), or the most that it held since `forget_peak` (VmHWM), in MB."""
         with open(f"/proc/{self.process.pid}/status", encoding="ascii") as file:
-            return int(re.search(r"VmHWM:\s+(\d+)", file.read())[1]) / 1024
+            return int(re.search(which + r":\s+(\d+)", file.read())[1]) / 1024
+
+    def forget_peak(self):
+        """Lets the most memory that it held be what it holds now, as proc(5) says of clear_refs."""
+        with open(f"/proc/{self.process.pid}/clear_refs", "w", encoding="ascii") as file:
+            file.write("5")
 
     def end(self):
         self.process.stdin.close()
@@ -58,10 +66,33 @@ def timed(call):
     return (time.perf_counter() - begun) * 1000
 
 
-def told(name, vurnda, sqlite, rest=""):
-    ratio = f"{min(sqlite) / min(vurnda):8.2f} times SQLite's speed" if sqlite else ""
-    other = f"SQLite {min(sqlite):10.3f} ({statistics.median(sqlite):.3f})" if sqlite else ""
-    print(f"{name:28} vurnda {min(vurnda):10.3f} ({statistics.median(vurnda):.3f}) ms  {other} {ratio} {rest}", flush=True)
+def told(name, vurnda, others, rest=""):
+    text = f"{name:30} vurnda {min(vurnda):10.3f} ({statistics.median(vurnda):.3f}) ms"
+    for other, times in others.items():
+        text += f"  {other} {min(times):10.3f} ({statistics.median(times):.3f}): {min(times) / min(vurnda):.2f} times its speed"
+    print(text + rest, flush=True)
+
+
+class Databases:
+    """SQLite, and PostgreSQL if a server can be made."""
+
+    def __init__(self, folder, room):
+        self.sqlite = sqlite3.connect(f"{folder}.sqlite")
+        self.sqlite.execute("pragma mmap_size = 0")
+        self.server = postgres.Server(f"{room}/postgres", f"{folder}.sqlite") if postgres.is_there() else None
+
+    def ask(self, times, statement, *values):
+        """Asks each of them, and adds what it took."""
+        times.setdefault("SQLite", []).append(timed(lambda: self.sqlite.execute(statement, values).fetchall()))
+        if self.server:
+            for it in values:
+                statement = statement.replace("?", f"'{it}'", 1)
+            times.setdefault("PostgreSQL", []).append(self.server.ask(statement.replace("attributes like", "attributes::text like")))
+
+    def end(self):
+        self.sqlite.close()
+        if self.server:
+            self.server.end()
 
 
 def pages_of(program, folder, lines):
@@ -97,32 +128,38 @@ def main():
     opening = []
     for _ in range(ROUNDS):
         opening.append(timed(lambda: Session(program, folder).end()))
-    told("an opening", opening, [])
+    told("an opening", opening, {})
 
+    with tempfile.TemporaryDirectory() as room:
+        os.chmod(room, 0o755)
+        databases = Databases(folder, room)
+        ask_all(program, folder, databases, ids, absent, {"a text that one span has": (path,), "a thousandth of the time": window})
+        databases.end()
+
+
+def ask_all(program, folder, databases, ids, absent, filled):
+    """The questions, in turns."""
     session = Session(program, folder)
-    base = sqlite3.connect(f"{folder}.sqlite")
-    base.execute("pragma mmap_size = 0")
-    opened = session.memory()
-    by_id = "select * from span where trace = ?"
     for name, given in (("a look-up", ids), ("a look-up that finds nothing", absent)):
-        ours, theirs = [], []
+        ours, theirs = [], {}
         for _ in range(ROUNDS):
             for it in given:
                 ours.append(timed(lambda: session.ask(f"trace {it}")))
-                theirs.append(timed(lambda: base.execute(by_id, (it,)).fetchall()))
+                databases.ask(theirs, "select * from span where trace = ?", it)
         pages = pages_of(program, folder, [f"trace {it}" for it in given[:10]])
-        most = "" if pages[0] is None else f" {max(pages)} pages at most"
-        told(name, ours, theirs, most)
+        told(name, ours, theirs, "" if pages[0] is None else f"  {max(pages)} pages at most")
     for name, line, statement in SEARCHES:
-        values = {"a text that one span has": (path,), "a thousandth of the time": window}.get(name, ())
+        values = filled.get(name, ())
         line, statement = line % values if values else line, statement % values if values else statement
         session.end()
         session = Session(program, folder)
-        ours, theirs = [], []
+        opened = session.memory("VmRSS")
+        session.forget_peak()
+        ours, theirs = [], {}
         for _ in range(ROUNDS):
             ours.append(timed(lambda: session.ask(line)))
-            theirs.append(timed(lambda: base.execute(statement).fetchall()))
-        told(name, ours, theirs, f" {session.memory() - opened:.0f} MB above the peak of the opening")
+            databases.ask(theirs, statement)
+        told(name, ours, theirs, f"  {session.memory('VmHWM') - opened:.0f} MB above the open store's {opened:.0f}")
     session.end()
 
 

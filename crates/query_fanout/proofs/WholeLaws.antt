@@ -25,7 +25,7 @@ use Rattle.spanset_eval.specs.Ranking.{AreFirst, rank_cmp}
 use Rattle.traceql_syntax.specs.Trees.{query_tree}
 use Rattle.search_answer.specs.Answers.{IsResult, NoneTwice, is_in_range}
 use Rattle.search_answer.specs.Best.{NoneGoesBefore}
-use Rattle.search_answer.specs.Keeping.{BestParts, comes_before_last, may_come, stands_before}
+use Rattle.search_answer.specs.Keeping.{BestParts, may_rank_before, may_come, ranks_after}
 use Rattle.search_answer.proofs.BestLaws.{kept_out, stays}
 use Rattle.search_answer.proofs.CutLaws.{cut_first, uncut_first}
 use Rattle.search_answer.proofs.Each.{each_is_answered}
@@ -128,8 +128,8 @@ none_out limit [] trace latest r sorted shut same early = tt
 none_out limit (x ∷ xs) trace latest r sorted shut same early =
     let last = slice_index_or (x ∷ xs) (length (x ∷ xs) - 1) x in
     let is : slice_get (x ∷ xs) (length (x ∷ xs) - 1) ≡ Some last = slice_get-get_or (x ∷ xs) (length (x ∷ xs) - 1) x (omega arith) in
-    let out = right_false (nat_lt (length (x ∷ xs)) limit) (comes_before_last trace latest (slice_get (x ∷ xs) (length (x ∷ xs) - 1))) shut in
-    kept_out (x ∷ xs) trace latest last r sorted is (so (stands_before trace latest last) (sym (ap (comes_before_last trace latest) is) ∙ out)) same early
+    let out = right_false (nat_lt (length (x ∷ xs)) limit) (may_rank_before trace latest (slice_get (x ∷ xs) (length (x ∷ xs) - 1))) shut in
+    kept_out (x ∷ xs) trace latest last r sorted is (so (ranks_after trace latest last) (sym (ap (may_rank_before trace latest) is) ∙ out)) same early
 
 -- none of these goes before one of the best if each of them by itself doesn't
 none_of_all : (kept others : List TraceResult) → All (λ s. NoneGoesBefore kept (s ∷ [])) others → NoneGoesBefore kept others
@@ -328,7 +328,7 @@ module _ (asked : Asked) (rows firsts : List Row) (is_first : IsFirstOf rows fir
     full : (p : Pick) → Contains picks p → length best.kept ≡ asked.limit
     full p among =
         let low = length_first (cut_all asked kept.all) asked.limit best.kept kept.first in
-        let not_less = left_false (nat_lt (length best.kept) best.limit) (comes_before_last p.trace p.latest (slice_get best.kept (length best.kept - 1))) (shut p among) in
+        let not_less = left_false (nat_lt (length best.kept) best.limit) (may_rank_before p.trace p.latest (slice_get best.kept (length best.kept - 1))) (shut p among) in
         let high = ltb-false (length best.kept) best.limit not_less in
         omega (arith, low, high, kept.limit)
 

@@ -15,7 +15,7 @@ use Rattle.spanset_eval.specs.Ranking.{AreFirst, rank_cmp}
 use Rattle.span_types.specs.Orders.{trace_cmp}
 use Rattle.span_types.specs.declared.ids.TraceId.{TraceId}
 use Rattle.search_answer.specs.Best.{FirstStays, NoneGoesBefore}
-use Rattle.search_answer.specs.Keeping.{stands_before}
+use Rattle.search_answer.specs.Keeping.{ranks_after}
 use Rattle.search_answer.proofs.RankLaws.{rank_total}
 use Rattle.search_answer.proofs.Sorting.{NotBefore, Pairs, pairs_append, pairs_at, sorted_of, sorted_pairs}
 
@@ -88,7 +88,7 @@ less_by_trace r last same low =
     let equal : (r.start == last.start) ≡ true = eq-eqb r.start last.start same in
     rw (none, equal) low
 
-ranks_before : (trace : TraceId) (latest : ℕ) (last r : TraceResult) → stands_before trace latest last ≡ true → r.trace ≡ trace → r.start ≤ latest → is_lt (rank_cmp last r) ≡ true
+ranks_before : (trace : TraceId) (latest : ℕ) (last r : TraceResult) → ranks_after trace latest last ≡ true → r.trace ≡ trace → r.start ≤ latest → is_lt (rank_cmp last r) ≡ true
 ranks_before trace latest last r stands same early = (elim (nat_lt latest last.start) as (λ b. nat_lt latest last.start ≡ b → is_lt (rank_cmp last r) ≡ true) [
   | true ↦ λ t. less_by_start r last (omega (arith, early, ltb-true latest last.start t))
   | false ↦ λ t.
@@ -107,7 +107,7 @@ some_there (y ∷ ys) i x is = omega arith
 
 -- the last of the best stands before the result, so each does
 pub kept_out : (kept : List TraceResult) (trace : TraceId) (latest : ℕ) (last r : TraceResult) → IsSorted rank_cmp kept → slice_get kept (length kept - 1) ≡ Some last
-    → stands_before trace latest last ≡ true → r.trace ≡ trace → r.start ≤ latest → NoneGoesBefore kept (r ∷ [])
+    → ranks_after trace latest last ≡ true → r.trace ≡ trace → r.start ≤ latest → NoneGoesBefore kept (r ∷ [])
 kept_out kept trace latest last r sorted is stands same early =
     let some = some_there kept (length kept - 1) last is in
     let before = λ (a b : TraceResult). is_lt (rank_cmp a b) in

@@ -9,16 +9,16 @@ pub record BestParts : Type 0 where
   pub limit : ℕ
   pub kept : List TraceResult
 
--- it stands before each result of the trace that starts at that moment or earlier
-abbrev pub stands_before : TraceId → ℕ → TraceResult → Bool
-stands_before trace latest r = nat_lt latest r.start || ((r.start == latest) && is_lt (trace_cmp r.trace trace))
+-- whatever result the trace has that starts at that moment or earlier, it ranks after this one
+abbrev pub ranks_after : TraceId → ℕ → TraceResult → Bool
+ranks_after trace latest r = nat_lt latest r.start || ((r.start == latest) && is_lt (trace_cmp r.trace trace))
 
--- a result of the trace that starts at that moment can come before this one, the last of all
-abbrev pub comes_before_last : TraceId → ℕ → Option TraceResult → Bool
-comes_before_last trace latest None = false
-comes_before_last trace latest (Some last) = not (stands_before trace latest last)
+-- a result of the trace that starts at that moment may rank before this one, the last of all
+abbrev pub may_rank_before : TraceId → ℕ → Option TraceResult → Bool
+may_rank_before trace latest None = false
+may_rank_before trace latest (Some last) = not (ranks_after trace latest last)
 
 -- A result of the trace that starts at that moment at the latest can come among the best: there are fewer than asked for, or it can
--- come before the last.
+-- rank before the last.
 abbrev pub may_come : BestParts → TraceId → ℕ → Bool
-may_come best trace latest = nat_lt (length best.kept) best.limit || comes_before_last trace latest (slice_get best.kept (length best.kept - 1))
+may_come best trace latest = nat_lt (length best.kept) best.limit || may_rank_before trace latest (slice_get best.kept (length best.kept - 1))

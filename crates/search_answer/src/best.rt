@@ -4,7 +4,7 @@ ghost use Rattle.std.specs.Prelude.{◌≡◌, ◌≤◌, [], ◌∷◌, ◌++�
 ghost use Rattle.spanset_eval.specs.Ranking.{AreFirst};
 ghost use Rattle.spanset_eval.specs.declared.results.TraceResult.{TraceResult as AnyResult};
 ghost use Rattle.search_answer.specs.Best.{NoneGoesBefore};
-ghost use Rattle.search_answer.specs.Keeping.{may_come, stands_before};
+ghost use Rattle.search_answer.specs.Keeping.{may_come, ranks_after};
 
 use span_types::{Memory, TraceId};
 use spanset_eval::{Results, TraceResult, rank};
@@ -68,7 +68,7 @@ impl Best {
         }
         match self.kept.as_slice().last() {
             None => false,
-            Some(last) => !stands_before(trace, latest, last),
+            Some(last) => !ranks_after(trace, latest, last),
         }
     }
 
@@ -90,9 +90,9 @@ fn joined(results: Results, more: Results) -> Result<Results, Memory>
     Ok(Results::of(all))
 }
 
-// Whether a result stands before each result of the trace that starts at that moment or earlier.
-fn stands_before(trace: TraceId, latest: u64, best: &TraceResult) -> bool
-    ensures { result ≡ stands_before trace latest best.now }
+// Whether each result of the trace that starts at that moment or earlier ranks after this one.
+fn ranks_after(trace: TraceId, latest: u64, best: &TraceResult) -> bool
+    ensures { result ≡ ranks_after trace latest best.now }
 {
     latest < best.start || (best.start == latest && best.trace.cmp(&trace).is_lt())
 }

@@ -1,0 +1,4 @@
+mod FieldLaws
+mod LandLaws
+mod RowLaws
+mod StripeLaws

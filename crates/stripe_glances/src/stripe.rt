@@ -1,10 +1,12 @@
-//! Going over the first columns of a stripe.
+//! A whole stripe.
 
 ghost use Rattle.std.specs.Prelude.{Bool, IfSome};
 ghost use Rattle.block_stripes.specs.StripeReadings.{stripe_at};
 ghost use Rattle.stripe_glances.specs.Glances.{IsGlance, TellsIfRead};
 
 use crate::glances::Glance;
+use crate::rows::content;
+use byte_fields::Reader;
 use std::alloc::Global;
 
 /// The columns of a fixed width of a stripe, in either form. Texts, resources, scopes and the columns between are jumped over, and what
@@ -12,6 +14,14 @@ use std::alloc::Global;
 pub fn glance(alloc: Global, bytes: &[u8]) -> Option<Glance>
     ensures { IfSome result (λ g. (extended : Bool) → TellsIfRead IsGlance (stripe_at extended bytes.now) g) }
 {
-    let _later = (alloc, bytes.len());
-    None
+    let mut reader = Reader::new(alloc, bytes);
+    let Ok(size) = reader.fixed64() else {
+        return None;
+    };
+    if bytes.len() < 8 || size > bytes.len() as u64 - 8 {
+        return None;
+    }
+    let end = 8 + size as usize;
+    let mut reader = Reader::starting_at(alloc, &bytes[..end], 8);
+    content(alloc, &mut reader)
 }

@@ -16,4 +16,4 @@ returns-in-Some-clause-kept_out c = λ out r same early.
     let last : slice_get c.args.self.now.kept (length c.args.self.now.kept - 1) ≡ Some c.in-Some.last.now =
     subst (λ l. slice_get l (length l - 1) ≡ Some c.in-Some.last.now) (c.as_slice.ensures ∙ kept_is) (sym c.in-Some.ensures.value) in
     kept_out c.args.self.now.kept c.args.trace c.args.latest c.in-Some.last.now r (subst (λ l. IsSorted rank_cmp l) kept_is c.self.invariant.1) last
-    (sym c.stands_before.ensures ∙ holds c.stands_before.result out) same early
+    (sym c.ranks_after.ensures ∙ holds c.ranks_after.result out) same early

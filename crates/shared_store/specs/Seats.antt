@@ -1,0 +1,108 @@
+-- What a seat shows as a port.
+use Rattle.std.specs.Prelude.{◌≡◌, ℕ, ◌+◌, Bool, true, false, List, [], ◌∷◌, ◌++◌, Option, Some, None, if◌then◌else◌}
+use Rattle.atomic_table.specs.Seated.{TableId}
+use Rattle.store_model.specs.Event.{Event, Reply}
+use Rattle.store_model.specs.Event.Event.{Push, BeginFlush, BeginCompact, WritePiece, CommitFlush, CommitCompact, Reclaim}
+use Rattle.store_model.specs.Event.Reply.{Count, Nothing, Refused}
+use Rattle.store_model.specs.Event.Refusal.{Fault}
+use Rattle.store_state.specs.Calls.{reclaim_calls}
+use Rattle.store_state.specs.Meaning.{View, Meaning, reads_of}
+use Rattle.port_history.specs.Entries.{Entry, own, history_from, AreEntries}
+use Rattle.shared_store.specs.Seen.{bytes_in, some_fails}
+use Rattle.shared_store.specs.declared.known.Known.{Known}
+
+-- the calls that the seat itself has made, in their order
+abbrev pub calls_of : {C : Type 0} → Known C → List Entry
+calls_of v = own v.seen.names v.seen.entries
+
+-- ---- counts
+
+abbrev pub one : Bool → ℕ
+one b = if b then 1 else 0
+
+abbrev pub is_fault : Reply → Bool
+is_fault (Refused Fault) = true
+is_fault _ = false
+
+-- a port's count of faults rises in a call, or stands at its last value, just where it answers a fault
+abbrev pub faults_in : List Entry → ℕ
+faults_in [] = 0
+faults_in (e ∷ es) = one (is_fault e.reply) + faults_in es
+
+abbrev pub reads_in : List Entry → ℕ
+reads_in [] = 0
+reads_in (e ∷ es) = reads_of e.event + reads_in es
+
+-- so many device calls a call makes at least
+abbrev pub least_calls : Event → Reply → ℕ
+least_calls (Push spans moment) (Count number) = 4
+least_calls Reclaim (Count files) = reclaim_calls files
+least_calls _ (Refused why) = 0
+least_calls _ Nothing = 0
+least_calls BeginFlush _ = 5
+least_calls BeginCompact _ = 2
+least_calls (WritePiece job file bytes) _ = 1
+least_calls (CommitFlush job rows) _ = 7
+least_calls (CommitCompact job rows) _ = 7
+least_calls _ _ = 0
+
+abbrev pub calls_in : List Entry → ℕ
+calls_in [] = 0
+calls_in (e ∷ es) = least_calls e.event e.reply + calls_in es
+
+-- ---- what it knows
+
+abbrev pub told_by : {C : Type 0} → Meaning C → Option C → Bool
+told_by m None = false
+told_by m (Some key) = m.tells key
+
+-- A seat knows the history that the calls which it has seen make of one that the port knew as it was first shared; and its own open
+-- looks and jobs.
+pub record SeatKnows {C : Type 0} (m : Meaning C) (v : Known C) (view : View) : Type 0 where
+  pub key : C
+  pub start : v.start ≡ Some key
+  pub from : View
+  pub known : m.knows key from
+  pub history : view.history ≡ history_from from.history v.seen.entries
+  pub holds : view.holds ≡ v.seen.holds
+
+-- Which store a seat is of, and what it knows.
+pub record Stand (C : Type 0) : Type 0 where
+  pub table : TableId
+  pub known : Known C
+
+abbrev pub stand_of : {C : Type 0} → TableId → Known C → Stand C
+stand_of table known = record { table = table; known = known }
+
+-- There is one order of all calls, up to this one: it begins with what the seat had seen, in between there is none of the seat's own,
+-- and it ends with this call and this reply. They are calls of the port as it was when it was first shared.
+pub record SeatDid {C : Type 0} (m : Meaning C) (v : Stand C) (event : Event) (reply : Reply) (w : Stand C) : Type 0 where
+  pub same_table : w.table ≡ v.table
+  pub key : C
+  pub start : v.known.start ≡ Some key
+  pub same_start : w.known.start ≡ v.known.start
+  pub parts : w.known.parts ≡ v.known.parts
+  pub between : List Entry
+  pub entry : Entry
+  pub its_event : entry.event ≡ event
+  pub its_reply : entry.reply ≡ reply
+  pub seen : w.known.seen.entries ≡ (v.known.seen.entries ++ between) ++ entry ∷ []
+  pub others : own v.known.seen.names between ≡ []
+  pub mine : calls_of w.known ≡ calls_of v.known ++ entry ∷ []
+  pub core : C
+  pub made : AreEntries m key w.known.seen.entries core
+
+abbrev pub seat_meaning : {C : Type 0} → Meaning C → Meaning (Stand C)
+seat_meaning {C} m = record {
+  knows = λ s. SeatKnows m s.known;
+  holds = λ s held. held ≡ s.known.seen.holds;
+  tells = λ s. told_by m s.known.start;
+  shows = λ s file. bytes_in s.known.seen.kept file;
+  lists = λ s infos. ⊥;
+  keeps = λ s kept. ⊥;
+  writes = λ s. some_fails (calls_of s.known) ≡ false;
+  faults = λ s. faults_in (calls_of s.known);
+  reads = λ s. reads_in (calls_of s.known);
+  calls = λ s. calls_in (calls_of s.known);
+  did = SeatDid m;
+}

@@ -1,0 +1,23 @@
+//! A store's port that several seats share in turns, and the one order of their calls.
+//!
+//! `specs/Rule.antt` has the rule of the table that they share and what each kind of step tells; `port_history` the calls in their
+//! order.
+#![tactic(auto)]
+
+mod asked;
+mod cores;
+mod flush_port;
+mod known;
+mod look_port;
+mod plays;
+mod port;
+mod seat;
+mod shared;
+mod ticket;
+mod turn;
+
+pub use cores::{Seat, Shared, Ticket, a_core_is_unshared, entries_of_a_core_are_legal};
+pub use known::{Known, Past, Turns};
+pub use seat::PortSeat;
+pub use shared::SharedPort;
+pub use ticket::PortTicket;
