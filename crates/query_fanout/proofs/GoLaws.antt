@@ -43,9 +43,9 @@ take_none X zero = refl
 take_none X (suc n) = refl
 
 split_take : {X : Type 0} (n m : ℕ) (xs : List X) → take (n + m) xs ≡ take n xs ++ take m (drop n xs)
-split_take zero m xs = ap (λ (k : ℕ). take k xs) (omega arith)
+split_take zero m xs = let same : zero + m ≡ m = omega arith in ap (λ (k : ℕ). take k xs) same
 split_take {X} (suc n) m [] = take_none X (suc n + m) ∙ sym (take_none X m)
-split_take (suc n) m (x ∷ xs) = ap (λ (k : ℕ). take k (x ∷ xs)) (omega arith) ∙ ap (λ l. x ∷ l) (split_take n m xs)
+split_take (suc n) m (x ∷ xs) = let same : suc n + m ≡ suc (n + m) = omega arith in ap (λ (k : ℕ). take k (x ∷ xs)) same ∙ ap (λ l. x ∷ l) (split_take n m xs)
 
 between : (from next : ℕ) → from ≤ next → 256 * next ≡ 256 * from + 256 * (next - from)
 between from next low = omega (arith, low)

@@ -17,8 +17,8 @@ returns-in-Err-picks_of_rows g c = not_searched g.P.LookPort.meaning c.args.look
 pub returns-in-Err-of : goal.returns-in-Err-of
 returns-in-Err-of g c = not_searched g.P.LookPort.meaning c.args.look.now c.args.asked.now c.args.port.now c.requires
 
-pub returns-in-Err-of-sifter : goal.returns-in-Err-of-sifter
-returns-in-Err-of-sifter g c = not_searched g.P.LookPort.meaning c.args.look.now c.args.asked.now c.args.port.now c.requires
+pub returns-in-Err-of-2 : goal.returns-in-Err-of-2
+returns-in-Err-of-2 g c = not_searched g.P.LookPort.meaning c.args.look.now c.args.asked.now c.args.port.now c.requires
 
 pub take_rounds-requires-clause-picks : goal.take_rounds-requires-clause-picks
 take_rounds-requires-clause-picks g c =
