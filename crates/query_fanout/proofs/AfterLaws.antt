@@ -1,5 +1,5 @@
 -- Picks that are taken after others.
-use Rattle.std.proofs.Common.{◌≡◌, List, [], ◌∷◌, ◌++◌, append-nil, append_assoc, ap, ap₂, refl, subst, sym, ◌∙◌, true}
+use Rattle.std.proofs.Common.{◌≡◌, List, [], ◌∷◌, ◌++◌, append-nil, append_assoc, ap, ap₂, subst, sym, ◌∙◌, true}
 use Rattle.std.specs.List.{flat_map}
 use Rattle.std.specs.List.Sorted.{IsPermutation}
 use Rattle.std.proofs.lemmas.Grind.{flat_map-append}

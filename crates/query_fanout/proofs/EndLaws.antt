@@ -1,5 +1,5 @@
 -- How a search in rounds ends.
-use Rattle.std.proofs.Common.{◌≡◌, ℕ, Bool, true, false, List, [], ◌∷◌, ◌++◌, All, Err, Ok, Result, append-nil, ap, drop, sym, subst, take, ◌∙◌}
+use Rattle.std.proofs.Common.{◌≡◌, true, false, List, [], ◌∷◌, ◌++◌, All, Err, Ok, Result, append-nil, ap, drop, sym, subst, take, ◌∙◌}
 use Rattle.std.specs.List.{flat_map}
 use Rattle.std.proofs.lemmas.List.{take-append-drop}
 use Rattle.std.proofs.lemmas.List.Elements.{All-append, All-head, All-nil, All-tail}
@@ -13,8 +13,8 @@ use Rattle.store_state.specs.Meaning.{IsOpen, Meaning}
 use Rattle.store_state.specs.declared.jobs.Look.{Look}
 use Rattle.query_fanout.specs.Bounds.{SearchReads}
 use Rattle.query_fanout.specs.Joined.{sifted_both}
-use Rattle.query_fanout.specs.Reading.{BlocksRead, PartsRead}
-use Rattle.query_fanout.specs.Rounds.{AnswersRows, AreScans, BrokenOff, IsGoneThrough, IsScan, Reached, all_waiting, is_all, is_below, rows_gone}
+use Rattle.query_fanout.specs.Reading.{BlocksRead}
+use Rattle.query_fanout.specs.Rounds.{AnswersRows, AreScans, BrokenOff, IsGoneThrough, Reached, all_waiting, is_all, is_below, rows_gone}
 use Rattle.query_fanout.specs.Taking.{TakenAnswerTheWhole, asked_hint, asked_sieve}
 use Rattle.query_fanout.specs.declared.error.QueryError.{QueryError}
 use Rattle.query_fanout.specs.declared.error.QueryError.TheVariants.{Memory}

@@ -1,5 +1,5 @@
 -- What a scan finds that goes on, as it is told of the rows between two stripes.
-use Rattle.std.proofs.Common.{◌≡◌, ℕ, zero, suc, ◌+◌, ◌-◌, ◌*◌, ◌<◌, ◌≤◌, Bool, true, false, List, [], ◌∷◌, ◌++◌, All, Contains, Err, None, Ok, Option, Result, Some, arith, ap, drop, length, refl, subst, sym, take, ◌∙◌}
+use Rattle.std.proofs.Common.{◌≡◌, ℕ, zero, suc, ◌+◌, ◌-◌, ◌*◌, ◌<◌, ◌≤◌, true, false, List, [], ◌∷◌, ◌++◌, All, Contains, Err, None, Ok, Option, Result, Some, arith, ap, drop, length, refl, subst, sym, take, ◌∙◌}
 use Rattle.std.specs.Prelude.{IfOk, IfSome, if◌then◌else◌, nat_lt, sum_by}
 use Rattle.std.specs.Ordering.{is_gt, is_lt, ordering_reverse}
 use Rattle.std.specs.declared.cmp.Ordering.{Ordering}
@@ -188,9 +188,12 @@ read_on meaning look sieve scan old new (Ok x) progress found h is onward info_i
     let pages : pages_gone sieve.hint found.scan ≡ pages_gone sieve.hint scan + scanned_pages sieve.hint (stripes_between scan.next progress.next stripes) =
     ap (λ i. scanned_pages sieve.hint (take found.scan.next i.now.stripes)) info_is ∙ ap (λ (k : ℕ). scanned_pages sieve.hint (take k stripes)) next_is ∙ pages_on sieve.hint stripes scan.next progress.next low in
     read_told meaning look (scan.info.now ∷ [])
-    (λ parts a b rose. (scanned_pages sieve.hint (stripes_between scan.next progress.next stripes), pages,
-    widened (scanned_pages sieve.hint (stripes_between scan.next x.next stripes)) (scanned_pages sieve.hint (stripes_between scan.next progress.next stripes)) scan.info.now parts a b
-    (subst (λ (p : Progress). scanned_pages sieve.hint (stripes_between scan.next x.next stripes) ≤ scanned_pages sieve.hint (stripes_between scan.next p.next stripes)) (sym same) (omega arith)) rose))
+    (λ parts a b rose. (
+      scanned_pages sieve.hint (stripes_between scan.next progress.next stripes),
+      pages,
+      widened (scanned_pages sieve.hint (stripes_between scan.next x.next stripes)) (scanned_pages sieve.hint (stripes_between scan.next progress.next stripes)) scan.info.now parts a b
+          (subst (λ (p : Progress). scanned_pages sieve.hint (stripes_between scan.next x.next stripes) ≤ scanned_pages sieve.hint (stripes_between scan.next p.next stripes)) (sym same) (omega arith)) rose,
+    ))
     old new x found h (λ rows none. none)
     (λ rows tells. subst (λ (p : Progress). Tells sieve scan found.picks.items rows p → GoesOn sieve rows scan found.scan found.picks.items) same
     (λ t. goes_on sieve rows scan found.scan progress.last progress.next found.picks.items t.few info_is next_is upto_is low t.latest t.parted) tells)

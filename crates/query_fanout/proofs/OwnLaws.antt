@@ -1,7 +1,7 @@
 -- Rows may be replaced by their first occurrences.
-use Rattle.std.proofs.Common.{Result, ◌≡◌, ℕ, Some, true, false, List, [], ◌∷◌, ◌++◌, All, Contains, refl, subst}
+use Rattle.std.proofs.Common.{◌≡◌, Some, true, false, List, [], ◌∷◌, All, Contains, refl, subst}
 use Rattle.std.specs.List.{AllByRecursion}
-use Rattle.std.proofs.lemmas.List.Elements.{All-append, All-contains_itself, All-from_recursion, All-weaker, Contains-append_left, Contains-append_right, recursion_from_All}
+use Rattle.std.proofs.lemmas.List.Elements.{All-contains_itself, All-from_recursion, All-weaker, recursion_from_All}
 use Rattle.span_types.specs.First.{IsFirstOf, first_at}
 use Rattle.span_types.specs.Keys.{row_key}
 use Rattle.span_types.specs.declared.spans.Row.{Row}

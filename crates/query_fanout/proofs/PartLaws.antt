@@ -4,18 +4,16 @@ use Rattle.std.specs.Prelude.{IsTrue}
 use Rattle.std.specs.List.{flat_map}
 use Rattle.span_types.specs.declared.spans.Row.{Row}
 use Rattle.block_info.specs.InfoParts.{InfoParts}
-use Rattle.block_format.specs.Blocks.{BlockHasInfo}
-use Rattle.store_model.specs.State.{is_among}
-use Rattle.store_state.specs.Given.{info_files, look_of}
-use Rattle.store_state.specs.Meaning.{IsOpen, Meaning}
+use Rattle.store_state.specs.Given.{info_files}
+use Rattle.store_state.specs.Meaning.{Meaning}
 use Rattle.store_state.specs.Written.{AreBlocksOf}
 use Rattle.store_state.specs.declared.jobs.Look.{Look}
-use Rattle.query_fanout.specs.Queries.{ComesOf, Sound, is_fault}
+use Rattle.query_fanout.specs.Queries.{Sound, is_fault}
 use Rattle.query_fanout.specs.Reading.{BlocksRead, PagesRead, PartsRead}
 use Rattle.query_fanout.specs.declared.error.QueryError.{QueryError}
 use Rattle.query_fanout.specs.declared.error.QueryError.TheVariants.{Fault, NotBlock, Memory}
 use Rattle.query_fanout.proofs.BlockLaws.{Split, blocks_stay, comes_error, sound_error, split_at}
-use Rattle.query_fanout.proofs.CallLaws.{pages_none, pages_then}
+use Rattle.query_fanout.proofs.CallLaws.{pages_then}
 
 -- ---- one form for another
 

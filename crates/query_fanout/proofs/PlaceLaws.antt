@@ -1,5 +1,5 @@
 -- The scans of a look's blocks, one at its place.
-use Rattle.std.proofs.Common.{◌≡◌, ℕ, zero, suc, ◌+◌, ◌<◌, ◌≤◌, Bool, true, false, List, [], ◌∷◌, ◌++◌, All, Contains, append-nil, arith, ap, drop, length, map, refl, slice_index_or, slice_set, subst, sym, take, ◌∙◌}
+use Rattle.std.proofs.Common.{◌≡◌, ℕ, zero, suc, ◌+◌, ◌<◌, true, false, List, [], ◌∷◌, ◌++◌, All, Contains, append-nil, arith, ap, drop, length, refl, slice_index_or, slice_set, subst, sym, take, ◌∙◌}
 use Rattle.std.proofs.lemmas.List.{get_or_default, length-take}
 use Rattle.std.proofs.lemmas.List.Elements.{All-cons, All-nil, All-weaker}
 use Rattle.std.proofs.lemmas.List.Sums.{sum_by-set}
@@ -16,7 +16,7 @@ use Rattle.query_fanout.specs.declared.rounds.Rounds.{Rounds}
 use Rattle.query_fanout.specs.declared.scans.Scan.{Scan}
 use Rattle.query_fanout.specs.declared.searching.Asked.{Asked}
 use Rattle.query_fanout.specs.declared.waits.Batch.{Batch}
-use Rattle.query_fanout.proofs.BlockLaws.{Next, next_at}
+use Rattle.query_fanout.proofs.BlockLaws.{next_at}
 
 info_there : (scans : List Scan) (at : ℕ) (scan : Scan) → at < length scans → scan ≡ slice_index_or scans at scan → scan.info.now ≡ slice_index_or (infos_of scans) at scan.info.now
 info_there [] at scan low is = absurd (omega (arith, low))

@@ -1,13 +1,12 @@
 -- A round: picks are taken, and a scan goes on.
-use Rattle.std.proofs.Common.{◌≡◌, inl, inr, ℕ, zero, suc, ◌+◌, ◌<◌, ◌≤◌, Bool, true, false, List, [], ◌∷◌, ◌++◌, All, Contains, append_assoc, arith, ap, drop, filter, length, map, refl, slice_index_or, slice_set, subst, sym, take, ◌∙◌}
+use Rattle.std.proofs.Common.{◌≡◌, inl, inr, true, false, List, [], ◌∷◌, ◌++◌, All, Contains, append_assoc, arith, ap, drop, filter, length, slice_index_or, slice_set, subst, sym, take, ◌∙◌}
 use Rattle.std.specs.List.{flat_map}
 use Rattle.std.specs.List.Sorted.{IsPermutation}
 use Rattle.std.specs.declared.cmp.Ordering.TheVariants.{Less}
 use Rattle.std.proofs.lemmas.Grind.{flat_map-append}
-use Rattle.std.proofs.lemmas.List.{take-append-drop}
 use Rattle.std.proofs.lemmas.List.Elements.{All-append, All-contains, All-contains_itself, All-drop, All-filter, All-head, All-map, All-tail, All-take, All-weaker, Contains-append_cases, Contains-append_left, Contains-append_right}
 use Rattle.std.proofs.lemmas.List.Kept.{AllPairs-cons}
-use Rattle.std.proofs.lemmas.List.Sorted.{All-permutation, Contains-permutation, IsPermutation-sym}
+use Rattle.std.proofs.lemmas.List.Sorted.{All-permutation, Contains-permutation}
 use Rattle.span_types.specs.Orders.{trace_cmp}
 use Rattle.span_types.specs.declared.spans.Row.{Row}
 use Rattle.span_types.specs.declared.spans.Span.{Span}
@@ -15,11 +14,11 @@ use Rattle.column_scan.specs.Candidates.{Ascend, HaveLatest, IsCovered, pick_of,
 use Rattle.column_scan.specs.Sieves.{SieveParts, is_sifted, sifted_picks}
 use Rattle.column_scan.specs.declared.picks.Pick.{Pick}
 use Rattle.query_fanout.specs.Joined.{sifted_both}
-use Rattle.query_fanout.specs.Rounds.{AllReach, AreParted, AreScans, GoesOn, IsBatch, IsScan, goes_to, is_below, rows_gone}
+use Rattle.query_fanout.specs.Rounds.{AllReach, AreScans, GoesOn, IsBatch, IsScan, goes_to, is_below, rows_gone}
 use Rattle.query_fanout.specs.declared.reach.Reach.{Reach}
 use Rattle.query_fanout.specs.declared.scans.Scan.{Scan}
 use Rattle.query_fanout.proofs.PicksExist.{head_first, tail_ascends}
-use Rattle.query_fanout.proofs.ReachLaws.{above_too, apart, wider}
+use Rattle.query_fanout.proofs.ReachLaws.{above_too, apart}
 
 -- ---- what is taken
 

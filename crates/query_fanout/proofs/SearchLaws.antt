@@ -1,5 +1,5 @@
 -- A search tells of the first occurrences of all rows, if the sifted ones are covered by what it picks.
-use Rattle.std.proofs.Common.{◌≡◌, ◌⊎◌, inl, inr, ℕ, ◌≤◌, List, [], ◌∷◌, ◌++◌, Bool, true, false, Result, Ok, Err, filter, map, refl, sym, ◌∙◌, ap, subst, arith, All, Contains}
+use Rattle.std.proofs.Common.{◌≡◌, ◌⊎◌, inl, inr, ℕ, ◌≤◌, List, ◌++◌, true, Ok, Err, filter, sym, ◌∙◌, ap, subst, arith, All, Contains}
 use Rattle.std.specs.List.{flat_map}
 use Rattle.std.specs.List.Sorted.{IsPermutation}
 use Rattle.std.proofs.lemmas.List.Elements.{All-append, All-contains, All-contains_itself, All-weaker, filter_passes}
@@ -22,12 +22,11 @@ use Rattle.store_state.specs.Given.{look_of}
 use Rattle.store_state.specs.Meaning.{IsOpen, Meaning}
 use Rattle.store_state.specs.declared.jobs.Look.{Look}
 use Rattle.query_fanout.specs.Bounds.{SearchReads, all_rows, hinted_pages, look_up_pages, search_pages}
-use Rattle.query_fanout.specs.Reading.{AtMost, BlocksRead, look_ups}
+use Rattle.query_fanout.specs.Reading.{BlocksRead, look_ups}
 use Rattle.query_fanout.specs.SearchAnswers.{IsSearchAnswer}
 use Rattle.query_fanout.specs.Rounds.{AnswersRows, PicksOf, ReadsFor}
 use Rattle.query_fanout.specs.Searching.{TookTheirs, TookWith}
-use Rattle.query_fanout.specs.Taking.{AnswersSearch, AreApart, AreCovered, TakenAnswerTheWhole, TakesEach, asked_hint, asked_sieve, no_best, traces_of}
-use Rattle.query_fanout.specs.declared.error.QueryError.{QueryError}
+use Rattle.query_fanout.specs.Taking.{AnswersSearch, AreCovered, TakenAnswerTheWhole, TakesEach, asked_hint, asked_sieve, no_best, traces_of}
 use Rattle.query_fanout.specs.declared.error.QueryError.TheVariants.{Memory}
 use Rattle.query_fanout.specs.declared.searching.Asked.{Asked}
 use Rattle.query_fanout.specs.declared.searching.SearchAnswer.{SearchAnswer}

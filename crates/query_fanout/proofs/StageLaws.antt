@@ -1,16 +1,14 @@
 -- How a search comes from one stage to the next.
-use Rattle.std.proofs.Common.{◌≡◌, ℕ, zero, suc, ◌+◌, ◌*◌, ◌<◌, ◌≤◌, Bool, true, false, List, [], ◌∷◌, ◌++◌, All, Contains, Err, Ok, Result, append-nil, append_assoc, arith, ap, drop, length, map, refl, slice_index_or, slice_set, subst, sym, take, ◌∙◌}
-use Rattle.std.specs.Prelude.{if◌then◌else◌, sum_by}
+use Rattle.std.proofs.Common.{◌≡◌, ℕ, zero, suc, ◌+◌, ◌*◌, ◌<◌, ◌≤◌, true, false, List, [], ◌∷◌, ◌++◌, All, Contains, Err, Ok, Result, append-nil, append_assoc, arith, ap, drop, length, refl, slice_index_or, slice_set, subst, sym, take, ◌∙◌}
+use Rattle.std.specs.Prelude.{if◌then◌else◌}
 use Rattle.std.specs.List.{flat_map}
-use Rattle.std.specs.List.Sorted.{IsPermutation}
-use Rattle.std.proofs.lemmas.List.Elements.{All-append, All-contains, All-contains_itself, All-head, All-nil, All-tail, All-weaker, Contains-append_left}
+use Rattle.std.proofs.lemmas.List.Elements.{All-append, All-contains, All-head, All-nil, All-tail, All-weaker, Contains-append_left}
 use Rattle.std.proofs.lemmas.List.Sorted.{IsPermutation-refl}
 use Rattle.std.proofs.lemmas.List.Sums.{sum_by-cons, sum_by-set, sum_by-take-drop, sum_by-take-le}
 use Rattle.span_types.specs.declared.ids.TraceId.{TraceId}
 use Rattle.span_types.specs.declared.spans.Row.{Row}
 use Rattle.block_info.specs.InfoParts.{InfoParts}
 use Rattle.block_info.specs.declared.info.StripeInfo.{StripeInfo}
-use Rattle.block_read.specs.Answers.{RoseAtMost}
 use Rattle.column_scan.specs.Candidates.{Ascend, HaveLatest, IsCovered, spans_of}
 use Rattle.column_scan.specs.Scans.{may_scan, scanned_pages}
 use Rattle.column_scan.specs.Sieves.{SieveParts, sifted_picks}

@@ -1,6 +1,5 @@
 -- Picks that are taken in another order.
 use Rattle.std.proofs.Common.{◌≡◌, List, ◌++◌, Result, ap, map, subst, sym, ◌∙◌}
-use Rattle.std.specs.Prelude.{sum_by}
 use Rattle.std.specs.List.{flat_map}
 use Rattle.std.specs.List.Sorted.{IsPermutation}
 use Rattle.std.proofs.lemmas.List.Sorted.{IsPermutation-map, IsPermutation-refl, IsPermutation-trans, sum_by-IsPermutation}

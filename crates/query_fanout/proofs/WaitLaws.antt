@@ -1,6 +1,5 @@
 -- Picks that wait, and those of them that are taken.
 use Rattle.std.proofs.Common.{◌≡◌, ℕ, zero, suc, ◌+◌, ◌<◌, ◌≤◌, Bool, true, false, not, List, [], ◌∷◌, ◌++◌, All, Contains, append-nil, append_assoc, arith, ap, drop, filter, length, refl, slice_index_or, subst, sym, ◌∙◌}
-use Rattle.std.specs.List.{flat_map}
 use Rattle.std.specs.List.Sorted.{IsPermutation}
 use Rattle.std.specs.declared.cmp.Ordering.TheVariants.{Less}
 use Rattle.std.proofs.lemmas.Grind.{flat_map-append}
@@ -12,7 +11,7 @@ use Rattle.span_types.specs.Orders.{trace_cmp}
 use Rattle.column_scan.specs.Candidates.{Ascend, HaveLatest, IsCovered}
 use Rattle.column_scan.specs.declared.picks.Pick.{Pick}
 use Rattle.column_scan.proofs.Latest.{contains_filter}
-use Rattle.query_fanout.specs.Rounds.{AreInBatches, AreParted, all_waiting, is_below, waiting}
+use Rattle.query_fanout.specs.Rounds.{AreParted, all_waiting, is_below, waiting}
 use Rattle.query_fanout.specs.declared.reach.Reach.{Reach}
 use Rattle.query_fanout.specs.declared.waits.Batch.{Batch}
 use Rattle.query_fanout.proofs.ReachLaws.{after_above}

@@ -1,5 +1,5 @@
 -- Private mechanism: what is read of blocks is joined. Lemmas that ghost members cite, and no clause.
-use Rattle.std.proofs.Common.{◌≡◌, List, [], ◌++◌, Contains, arith, refl, sym, ap, subst, ◌∙◌}
+use Rattle.std.proofs.Common.{◌≡◌, List, ◌++◌, Contains, arith, refl, sym, ap, ◌∙◌}
 use Rattle.std.proofs.lemmas.List.{map-append}
 use Rattle.std.proofs.lemmas.List.Elements.{All-append, All-contains_itself, All-weaker, Contains-append_left, Contains-append_right, filter-append}
 use Rattle.span_types.specs.declared.ids.TraceId.{TraceId}

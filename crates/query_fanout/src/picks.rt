@@ -9,11 +9,7 @@ use span_types::{Memory, Row, Span};
 use std::alloc::Global;
 
 /// The traces that have a sifted span among rows, each once, in ascending order.
-pub(crate) fn picks_of_rows(
-    alloc: Global,
-    rows: &[Row],
-    sieve: &Sieve,
-) -> Result<Vec<Pick>, Memory>
+pub(crate) fn picks_of_rows(alloc: Global, rows: &[Row], sieve: &Sieve) -> Result<Vec<Pick>, Memory>
     ensures { IfOk result (λ picks. AreSifted sieve.now (spans_of rows.now) picks.items) }
 {
     let spans = spans_of(alloc, rows)?;

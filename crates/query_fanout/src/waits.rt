@@ -24,11 +24,7 @@ pub(crate) struct Parted {
 }
 
 /// A batch of picks, but for those of traces that are gone through.
-pub(crate) fn batch_of(
-    alloc: Global,
-    picks: Vec<Pick>,
-    gone: Reach,
-) -> Result<Batch, Memory>
+pub(crate) fn batch_of(alloc: Global, picks: Vec<Pick>, gone: Reach) -> Result<Batch, Memory>
     ensures ascend { IfOk result (λ batch. Ascend batch.picks.items) }
     ensures whole { IfOk result (λ batch. All (λ p. is_below gone p.trace ≡ false
         → IsCovered (waiting batch) p) picks.items) }

@@ -1,4 +1,4 @@
-use Rattle.std.proofs.Common.{rules, refl, sym, ◌≡◌, ◌∙◌}
+use Rattle.std.proofs.Common.{rules, refl}
 use Rattle.std.proofs.lemmas.Result.{err_from_is_err_and}
 use Rattle.query_fanout.specs.declared.rounds.Rounds.{Rounds}
 use Rattle.query_fanout.proofs.ReachLaws.{no_further, to_itself}

@@ -1,4 +1,4 @@
-use Rattle.std.proofs.Common.{rules, ap, refl, subst, sym, ◌≡◌, ◌∙◌, Ok, Err}
+use Rattle.std.proofs.Common.{rules, ◌∙◌}
 use Rattle.std.proofs.lemmas.Result.{err_from_is_err_and}
 use Rattle.query_fanout.specs.declared.rounds.Rounds.{Rounds}
 use Rattle.query_fanout.proofs.EndLaws.{ends, ends_early, not_begun}

@@ -1,8 +1,7 @@
-use Rattle.std.proofs.Common.{rules, ap, refl, subst, sym, ◌≡◌, ◌∙◌, List, ◌∷◌, [], ◌++◌}
+use Rattle.std.proofs.Common.{rules, ap, refl, subst, sym, ◌∙◌}
 use Rattle.std.proofs.lemmas.List.Elements.{All-push}
 use Rattle.column_scan.specs.Candidates.{Ascend}
 use Rattle.query_fanout.specs.Rounds.{AreInBatches, all_waiting, waiting}
-use Rattle.query_fanout.specs.declared.waits.Batch.{Batch}
 use Rattle.query_fanout.proofs.WaitLaws.{one_more_waits}
 use Rattle.query_fanout.proofs.rounds.with_found.Goals as goal
 

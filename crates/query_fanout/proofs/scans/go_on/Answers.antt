@@ -1,4 +1,4 @@
-use Rattle.std.proofs.Common.{◌≡◌, ℕ, ◌*◌, ◌<◌, ◌≤◌, [], ◌∷◌, ◌++◌, List, Ok, Err, Some, ap, drop, false, length, refl, rules, subst, sym, take, ◌∙◌}
+use Rattle.std.proofs.Common.{◌≡◌, ℕ, ◌*◌, ◌<◌, ◌≤◌, [], ◌++◌, List, Ok, Err, Some, ap, drop, false, length, refl, rules, subst, take, ◌∙◌}
 use Rattle.std.specs.Prelude.{IfSome}
 use Rattle.block_read.specs.Answers.{is_fault}
 use Rattle.block_read.specs.Lookups.{IsInFile}

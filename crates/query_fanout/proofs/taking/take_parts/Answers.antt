@@ -1,4 +1,4 @@
-use Rattle.std.proofs.Common.{◌≡◌, List, ◌++◌, ap, map, subst, sym, ◌∙◌}
+use Rattle.std.proofs.Common.{◌≡◌, List, ◌++◌, ap, map, subst, ◌∙◌}
 use Rattle.std.specs.List.{flat_map}
 use Rattle.block_read.specs.Answers.{RoseAtMost}
 use Rattle.column_scan.specs.declared.picks.Pick.{Pick}

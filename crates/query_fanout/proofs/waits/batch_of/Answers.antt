@@ -1,4 +1,4 @@
-use Rattle.std.proofs.Common.{◌≡◌, rules}
+use Rattle.std.proofs.Common.{rules}
 use Rattle.query_fanout.proofs.WaitLaws.{kept_above, kept_ascend, kept_only, kept_whole}
 use Rattle.query_fanout.proofs.waits.batch_of.Goals as goal
 

@@ -1,4 +1,4 @@
-use Rattle.std.proofs.Common.{◌≡◌, ◌≤◌, List, [], ◌∷◌, ◌++◌, append-nil, ap, length, rules, subst, sym, ◌∙◌, arith}
+use Rattle.std.proofs.Common.{◌≡◌, ◌≤◌, List, [], ◌∷◌, ◌++◌, append-nil, ap, length, subst, sym, ◌∙◌, arith}
 use Rattle.std.proofs.lemmas.List.Elements.{All-push}
 use Rattle.column_scan.specs.Candidates.{Ascend}
 use Rattle.column_scan.specs.declared.picks.Pick.{Pick}
@@ -17,10 +17,11 @@ loop-batch-preserved-in-Continue-branch-2 c =
     let taken = c.take_below.new.few.items in
     let more = parted_more c.args.bound (all_waiting yielded) c.loop-batch.few.items (all_waiting left) (waiting batch) taken (waiting rest) so c.in_ok-rest.ensures.same
     (c.in_ok-rest.ensures.below so.few_are) c.in_ok-rest.ensures.above in
-    subst (λ (l : List Batch). AreParted c.args.bound (all_waiting (yielded ++ batch ∷ [])) taken (all_waiting l) × AreInBatches l) (sym c.in_ok-push.ensures.items)
-    (subst (λ (l : List Pick). AreParted c.args.bound l taken (all_waiting (left ++ rest ∷ []))) (sym (one_more_waits yielded batch))
-    (subst (λ (l : List Pick). AreParted c.args.bound (all_waiting yielded ++ waiting batch) taken l) (sym (one_more_waits left rest)) more),
-    All-push (λ b. Ascend b.picks.items) left rest c.loop-batch.invariant.1 c.in_ok-rest.ensures.ascend)
+    subst (λ (l : List Batch). AreParted c.args.bound (all_waiting (yielded ++ batch ∷ [])) taken (all_waiting l) × AreInBatches l) (sym c.in_ok-push.ensures.items) (
+      subst (λ (l : List Pick). AreParted c.args.bound l taken (all_waiting (left ++ rest ∷ []))) (sym (one_more_waits yielded batch))
+          (subst (λ (l : List Pick). AreParted c.args.bound (all_waiting yielded ++ waiting batch) taken l) (sym (one_more_waits left rest)) more),
+      All-push (λ b. Ascend b.picks.items) left rest c.loop-batch.invariant.1 c.in_ok-rest.ensures.ascend,
+    )
 
 pub loop-batch-preserved : goal.loop-batch-preserved
 loop-batch-preserved c =
@@ -33,7 +34,8 @@ loop-batch-preserved c =
     let low : length rest.picks.items ≤ rest.next = omega arith in
     let none : waiting rest ≡ [] = none_left rest.picks.items rest.next low in
     let more = parted_more c.args.bound (all_waiting yielded) c.loop-batch.few.items (all_waiting left) (waiting batch) taken (waiting rest) so c.in_ok-rest.ensures.same
-    (c.in_ok-rest.ensures.below so.few_are) c.in_ok-rest.ensures.above in
-    (subst (λ (l : List Pick). AreParted c.args.bound l taken (all_waiting left)) (sym (one_more_waits yielded batch))
-    (subst (λ (l : List Pick). AreParted c.args.bound (all_waiting yielded ++ waiting batch) taken l) (ap (λ l. all_waiting left ++ l) none ∙ append-nil (all_waiting left)) more),
-    c.loop-batch.invariant.1)
+    (c.in_ok-rest.ensures.below so.few_are) c.in_ok-rest.ensures.above in (
+      subst (λ (l : List Pick). AreParted c.args.bound l taken (all_waiting left)) (sym (one_more_waits yielded batch))
+          (subst (λ (l : List Pick). AreParted c.args.bound (all_waiting yielded ++ waiting batch) taken l) (ap (λ l. all_waiting left ++ l) none ∙ append-nil (all_waiting left)) more),
+      c.loop-batch.invariant.1,
+    )
