@@ -88,9 +88,6 @@ sifted_are sieve gone rows all =
 pub covered_more : (picks more : List Pick) (p : Pick) → IsCovered picks p → IsCovered (picks ++ more) p
 covered_more picks more p c = (c.0, Contains-append_left picks more c.0 c.1, c.2, c.3)
 
-covered_after : (picks more : List Pick) (p : Pick) → IsCovered more p → IsCovered (picks ++ more) p
-covered_after picks more p c = (c.0, Contains-append_right picks more c.0 c.1, c.2, c.3)
-
 pub scan_goes_on : (sieve : SieveParts) (gone : Reach) (picks found batch : List Pick) (rows : List Row) (scan next : Scan) → IsScan sieve gone picks rows scan → GoesOn sieve rows scan next found
     → IsBatch gone found batch → IsScan sieve gone (picks ++ batch) rows next
 scan_goes_on sieve gone picks found batch rows scan next is goes are =

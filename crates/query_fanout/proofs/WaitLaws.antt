@@ -3,7 +3,7 @@ use Rattle.std.proofs.Common.{◌≡◌, ℕ, zero, suc, ◌+◌, ◌<◌, ◌�
 use Rattle.std.specs.List.Sorted.{IsPermutation}
 use Rattle.std.specs.declared.cmp.Ordering.TheVariants.{Less}
 use Rattle.std.proofs.lemmas.Grind.{flat_map-append}
-use Rattle.std.proofs.lemmas.List.{drop_more, get_or-drop, get_or_default, length-drop}
+use Rattle.std.proofs.lemmas.List.{get_or-drop, get_or_default, length-drop}
 use Rattle.std.proofs.lemmas.List.Elements.{All-append, All-filter, All-weaker, filter_passes}
 use Rattle.std.proofs.lemmas.List.Kept.{AllPairs-filter}
 use Rattle.std.proofs.lemmas.List.Sorted.{IsPermutation-append_comm, IsPermutation-append_left, IsPermutation-append_right, IsPermutation-trans}
@@ -39,11 +39,6 @@ rest_above bound picks next up first = λ k d low. subst (λ (p : Pick). is_belo
     there zero d low = subst (λ (n : ℕ). is_below bound (slice_index_or picks n d).trace ≡ false) (omega arith) (at_first d (omega (arith, low)))
     there (suc k) d low =
         after_above bound (slice_index_or picks next d).trace (slice_index_or picks (next + suc k) d).trace (up next (next + suc k) d (omega arith) low) (at_first d (omega (arith, low)))
-
-pub moved_over : (few old picks : List Pick) (next from : ℕ) (d : Pick) → next < length picks → few ++ drop next picks ≡ old ++ drop from picks
-    → (few ++ slice_index_or picks next d ∷ []) ++ drop (next + 1) picks ≡ old ++ drop from picks
-moved_over few old picks next from d low is =
-    append_assoc few (slice_index_or picks next d ∷ []) (drop (next + 1) picks) ∙ ap (λ l. few ++ l) (sym (drop_more picks next d low)) ∙ is
 
 -- ---- a batch of picks
 
