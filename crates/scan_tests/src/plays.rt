@@ -192,6 +192,8 @@ fn searches_answer_over_all_rows(rt: HostRuntime) -> Result<(), Fail> {
         (12, 4, 6, 24),
         (40, 3, 60, 16),
         (2, 300, 200, 10),
+        // Blocks of more traces than a search picks in one round.
+        (3000, 1, 1500, 10),
     ] {
         let sizes = Sizes {
             traces,
