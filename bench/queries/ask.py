@@ -146,8 +146,10 @@ def ask_all(program, folder, databases, ids, absent, filled):
             for it in given:
                 ours.append(timed(lambda: session.ask(f"trace {it}")))
                 databases.ask(theirs, "select * from span where trace = ?", it)
+        session.end()  # one process has a folder at a time
         pages = pages_of(program, folder, [f"trace {it}" for it in given[:10]])
         told(name, ours, theirs, "" if pages[0] is None else f"  {max(pages)} pages at most")
+        session = Session(program, folder)
     for name, line, statement in SEARCHES:
         values = filled.get(name, ())
         line, statement = line % values if values else line, statement % values if values else statement
