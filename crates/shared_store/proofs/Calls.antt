@@ -1,8 +1,8 @@
 -- What a seat does is one call of its port.
-use Rattle.std.proofs.Common.{◌≡◌, ℕ, ◌+◌, ◌<◌, ◌==◌, zero, suc, List, [], ◌∷◌, ◌++◌, Bool, true, false, not, refl, sym, ◌∙◌, ap, subst, arith, length, filter, map, slice_index_or, if◌then◌else◌, Some, None, Result, Ok, Err}
+use Rattle.std.proofs.Common.{◌≡◌, ℕ, ◌+◌, ◌<◌, ◌==◌, zero, suc, List, [], ◌∷◌, ◌++◌, Bool, true, false, not, refl, sym, ◌∙◌, ap, subst, arith, length, filter, map, slice_index_or, if◌then◌else◌, Some, None, Result, Ok, Err, inl, inr}
 use Rattle.std.specs.Prelude.{IsTrue, IfOk, ◌||◌}
 use Rattle.std.specs.List.{Contains, flat_map}
-use Rattle.std.proofs.lemmas.List.Elements.{Contains-append_left, Contains-append_right}
+use Rattle.std.proofs.lemmas.List.Elements.{Contains-append_cases, Contains-append_left, Contains-append_right}
 use Rattle.std.proofs.lemmas.Option.{same_Some}
 use Rattle.span_types.specs.Faults.{Rose}
 use Rattle.span_types.specs.declared.spans.Row.{Row}
@@ -21,7 +21,7 @@ use Rattle.atomic_table.specs.Seated.{TableId}
 use Rattle.disk_model.specs.Counts.{RoseBy}
 use Rattle.store_state.specs.Calls.{MadeCalls, reclaim_calls}
 use Rattle.store_state.specs.Kept.{Kept, HasKept}
-use Rattle.store_state.specs.Meaning.{View, Meaning, Called, LeavesKept, Learns, Rewritten, reads_of}
+use Rattle.store_state.specs.Meaning.{View, Meaning, Called, IsOpen, LeavesKept, Learns, Rewritten, reads_of}
 use Rattle.store_state.specs.Given.{info_files, look_parts}
 use Rattle.store_state.specs.Replies.{look_reply}
 use Rattle.store_state.specs.Shown.{IsLookTaken, ShowsHistory}
@@ -35,7 +35,8 @@ use Rattle.shared_store.specs.Rule.{IsFound, IsOwn, IsKnown, IsAppended, showing
 use Rattle.shared_store.specs.Seats.{Stand, calls_of, one, is_fault, faults_in, reads_in, least_calls, calls_in, told_by, SeatKnows, seat_meaning}
 use Rattle.shared_store.specs.declared.known.Known.{Known}
 use Rattle.port_history.proofs.Chains.{history_append, from_is_grown}
-use Rattle.shared_store.proofs.Lists.{still_there, fails_left}
+use Rattle.store_state.proofs.HoldLaws.{opens_new, stays_open}
+use Rattle.shared_store.proofs.Lists.{still_there, fails_left, unended, was_there}
 use Rattle.shared_store.proofs.Appends.{first_among, later_among, from_shown}
 
 -- ---- the history
@@ -176,6 +177,15 @@ module _ {C : Type 0} (m : Meaning C) (key : C) (e : Event) (r : Reply) (before 
   stays_held : (hold : Hold) → Contains v.seen.holds hold → ends e r hold ≡ false → Contains w.seen.holds hold
   stays_held hold c n = rw app.holds (Contains-append_left (filter (λ x. not (ends e r x)) v.seen.holds) (opened r) hold (still_there (λ x. not (ends e r x)) v.seen.holds hold c (ap not n)))
 
+  -- what the seat holds is open in the port that the call left
+  still_open : (hold : Hold) → Contains w.seen.holds hold → IsOpen m core hold
+  still_open hold h =
+      elim (Contains-append_cases (filter (λ x. not (ends e r x)) v.seen.holds) (opened r) hold (subst (λ (hs : List Hold). Contains hs hold) app.holds h)) as (λ _. IsOpen m core hold) [
+        | inl l ↦ let there = was_there (λ x. not (ends e r x)) v.seen.holds hold l in
+            stays_open m before core e r hold called (found.are_open hold there.0) (unended (ends e r hold) there.1)
+        | inr o ↦ opens_new m before core e r hold called (found.held, found.holds) o
+      ]
+
   one_fault : faults_in (calls_of w) ≡ faults_in (calls_of v) + one (is_fault r)
   one_fault = ap faults_in app.mine ∙ faults_append (calls_of v) (app.entry ∷ [])
       ∙ ap (λ (x : Reply). faults_in (calls_of v) + (one (is_fault x) + 0)) app.its_reply ∙ omega arith
@@ -235,11 +245,15 @@ module _ {C : Type 0} (m : Meaning C) (key : C) (e : Event) (r : Reply) (before 
       entry = app.entry;
       its_event = app.its_event;
       its_reply = app.its_reply;
+      its_name = app.its_name;
+      names = app.names;
       seen = app.seen;
       others = app.others;
       mine = app.mine;
       core = core;
       made = app.made;
+      are_open = still_open;
+      kept = app.kept;
     };
     learns = learnt;
     holds = λ held is. sym (app.holds ∙ ap (holds_after e r) (sym is));

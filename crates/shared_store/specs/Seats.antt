@@ -1,14 +1,15 @@
 -- What a seat shows as a port.
-use Rattle.std.specs.Prelude.{◌≡◌, ℕ, ◌+◌, Bool, true, false, List, [], ◌∷◌, ◌++◌, Option, Some, None, if◌then◌else◌}
+use Rattle.std.specs.Prelude.{◌≡◌, ℕ, ◌+◌, Bool, true, false, List, [], ◌∷◌, ◌++◌, Contains, Option, Some, None, if◌then◌else◌, length}
 use Rattle.atomic_table.specs.Seated.{TableId}
 use Rattle.store_model.specs.Event.{Event, Reply}
 use Rattle.store_model.specs.Event.Event.{Push, BeginFlush, BeginCompact, WritePiece, CommitFlush, CommitCompact, Reclaim}
 use Rattle.store_model.specs.Event.Reply.{Count, Nothing, Refused}
 use Rattle.store_model.specs.Event.Refusal.{Fault}
+use Rattle.store_model.specs.Holds.{Hold}
 use Rattle.store_state.specs.Calls.{reclaim_calls}
-use Rattle.store_state.specs.Meaning.{View, Meaning, reads_of}
+use Rattle.store_state.specs.Meaning.{View, Meaning, IsOpen, reads_of}
 use Rattle.port_history.specs.Entries.{Entry, own, history_from, AreEntries}
-use Rattle.shared_store.specs.Seen.{bytes_in, some_fails}
+use Rattle.shared_store.specs.Seen.{bytes_in, kept_of, name_at, names_after, some_fails}
 use Rattle.shared_store.specs.declared.known.Known.{Known}
 
 -- the calls that the seat itself has made, in their order
@@ -75,7 +76,8 @@ abbrev pub stand_of : {C : Type 0} → TableId → Known C → Stand C
 stand_of table known = record { table = table; known = known }
 
 -- There is one order of all calls, up to this one: it begins with what the seat had seen, in between there is none of the seat's own,
--- and it ends with this call and this reply. They are calls of the port as it was when it was first shared.
+-- and it ends with this call and this reply. They are calls of the port as it was when it was first shared, and what the seat holds is
+-- open in the port that they left, whose bytes it shows.
 pub record SeatDid {C : Type 0} (m : Meaning C) (v : Stand C) (event : Event) (reply : Reply) (w : Stand C) : Type 0 where
   pub same_table : w.table ≡ v.table
   pub key : C
@@ -86,11 +88,15 @@ pub record SeatDid {C : Type 0} (m : Meaning C) (v : Stand C) (event : Event) (r
   pub entry : Entry
   pub its_event : entry.event ≡ event
   pub its_reply : entry.reply ≡ reply
+  pub its_name : entry.seat ≡ name_at (length (v.known.seen.entries ++ between)) v.known.seen.names
+  pub names : w.known.seen.names ≡ names_after (length (v.known.seen.entries ++ between)) v.known.seen.names
   pub seen : w.known.seen.entries ≡ (v.known.seen.entries ++ between) ++ entry ∷ []
   pub others : own v.known.seen.names between ≡ []
   pub mine : calls_of w.known ≡ calls_of v.known ++ entry ∷ []
   pub core : C
   pub made : AreEntries m key w.known.seen.entries core
+  pub are_open : (hold : Hold) → Contains w.known.seen.holds hold → IsOpen m core hold
+  pub kept : w.known.seen.kept ≡ kept_of (m.shows core) w.known.seen.holds
 
 abbrev pub seat_meaning : {C : Type 0} → Meaning C → Meaning (Stand C)
 seat_meaning {C} m = record {

@@ -10,18 +10,17 @@ use crate::shared::SharedPort;
 use crate::ticket::PortTicket;
 use crate::turn::{Place, Top};
 use std::marker::Model;
-use std::sync::Wait;
 use store_state::LookPort;
 
 /// A place at a shared port. Each call waits for the turn, makes one call of the port, appends it to the history of all calls and
 /// frees the turn.
-pub struct PortSeat<'a, Q: LookPort, R: Wait> {
+pub struct PortSeat<'a, Q: LookPort, R> {
     pub(crate) rt: &'a R,
     pub(crate) top: &'a Top<Q>,
     pub(crate) place: Place<Q>,
 }
 
-impl<'a, Q: LookPort, R: Wait> Model for PortSeat<'a, Q, R> {
+impl<'a, Q: LookPort, R> Model for PortSeat<'a, Q, R> {
     ghost use Rattle.std.specs.Prelude.{◌≡◌, Some};
     ghost use Rattle.shared_store.specs.Idle.{IsIdle};
     ghost use Rattle.shared_store.specs.Seats.{Stand};
@@ -33,7 +32,7 @@ impl<'a, Q: LookPort, R: Wait> Model for PortSeat<'a, Q, R> {
     ghost invariant = { λ s. IsIdle s.top.now.table_id s.top.now.key.value s.place.table_id s.place.me };
 }
 
-impl<'a, Q: LookPort, R: Wait> PortSeat<'a, Q, R> {
+impl<'a, Q: LookPort, R> PortSeat<'a, Q, R> {
     /// Takes the seat of a ticket.
     pub fn enter(rt: &'a R, shared: &'a SharedPort<Q>, ticket: PortTicket<Q>) -> PortSeat<'a, Q, R>
         requires { IsOf shared.now ticket }
