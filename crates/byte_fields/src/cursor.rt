@@ -105,12 +105,18 @@ impl<'a> Cursor<'a> {
     }
 
     /// A number in groups of seven bits.
-    #[tactic(auto, unfolding(crate::specs::Reading::var_at))]
+    #[tactic(auto, unfolding(crate::specs::Reading::var_at, crate::specs::Numbers::number_at))]
     pub fn var(&mut self) -> Result<u64, FieldError>
         ensures reads { Reads (λ x. x) result self.old self.new (var_at self.old) }
         ensures within { IsWithin self.old.whole self.old.at }
     {
         let bytes = self.bytes;
+        if let [group, ..] = &bytes[self.at..] {
+            if *group < 128 {
+                self.at += 1;
+                return Ok(u64::from(*group));
+            }
+        }
         match number_of(&bytes[self.at..], 9) {
             Ok((number, rest)) => {
                 self.at = bytes.len() - rest.len();
