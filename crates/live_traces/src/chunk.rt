@@ -8,7 +8,7 @@ use crate::group::{OfTrace, group_of};
 use crate::index::Spot;
 use crate::order::order_of;
 use crate::runs::HasRows;
-use span_types::{Batch, Memory, Place, Row, TraceId, TryCopy};
+use span_types::{Batch, Memory, Place, Row, Span, TraceId, TryCopy};
 use std::alloc::Global;
 use std::marker::Model;
 use std::sync::Arc;
@@ -84,6 +84,16 @@ impl Chunk {
         }
     }
 
+    /// A span.
+    pub fn span(&self, at: u32) -> &Span
+        requires { at < length self.now.spans }
+        ensures { result.now ≡ (row_of self.now at).span }
+    {
+        let body: &Body = &self.body;
+        let spans = body.batch.spans.as_slice();
+        &spans[at as usize]
+    }
+
     /// A copy of a span, as a row.
     pub fn copy_row(&self, at: u32) -> Result<Row, Memory>
         requires { at < length self.now.spans }
@@ -115,6 +125,15 @@ impl HasRows for Chunk {
         let count = self.len();
         for at in 0..count {
             let row = self.copy_row(at)?;
+            rows.push(row)?;
+        }
+        Ok(())
+    }
+
+    fn share_rows(&self, rows: &mut Vec<SharedRow>) -> Result<(), Memory> {
+        let count = self.len();
+        for at in 0..count {
+            let row = self.row(at)?;
             rows.push(row)?;
         }
         Ok(())
@@ -187,6 +206,13 @@ impl SharedRow {
         self.chunk.place(self.at)
     }
 
+    /// Its span.
+    pub fn span(&self) -> &Span
+        ensures { result.now ≡ self.now.span }
+    {
+        self.chunk.span(self.at)
+    }
+
     /// A copy of its span, as a row.
     pub fn copy_row(&self) -> Result<Row, Memory>
         ensures { IfOk result (λ row. row ≡ self.now) }
@@ -214,7 +240,17 @@ pub(crate) fn copy_all(shared: &[SharedRow], rows: &mut Vec<Row>) -> Result<(), 
     Ok(())
 }
 
-// The same of those of a trace, by a walk over all of them.
+// Adds rows to a list, which shares them.
+pub(crate) fn share_each(shared: &[SharedRow], rows: &mut Vec<SharedRow>) -> Result<(), Memory>
+    ensures { OnOk result (rows.new.items ≡ rows.old.items ++ shared.now) }
+{
+    for row in shared {
+        rows.push(row.copy()?)?;
+    }
+    Ok(())
+}
+
+// Adds copies of those of a trace, by a walk over all of them.
 pub(crate) fn copy_those_of(
     shared: &[SharedRow],
     trace: TraceId,

@@ -3,7 +3,7 @@
 ghost use Rattle.std.specs.Prelude.{◌≡◌, Some, IfOk};
 ghost use Rattle.live_traces.specs.ByTrace.{AreGroupsOf};
 
-use crate::chunk::{SharedRow, copy_all, copy_those_of};
+use crate::chunk::{SharedRow, copy_all, copy_those_of, share_each};
 use crate::group::sort_by_trace;
 use crate::run::Run;
 use crate::runs::HasRows;
@@ -74,9 +74,7 @@ fn shares_of(alloc: Global, rows: &[SharedRow]) -> Result<Vec<SharedRow>, Memory
     ensures { IfOk result (λ shares. shares.items ≡ rows.now) }
 {
     let mut shares = Vec::new(alloc);
-    for row in rows {
-        shares.push(row.copy()?)?;
-    }
+    share_each(rows, &mut shares)?;
     Ok(shares)
 }
 
@@ -85,6 +83,10 @@ impl HasRows for Rest {
 
     fn copy_rows(&self, rows: &mut Vec<Row>) -> Result<(), Memory> {
         copy_all(self.as_slice(), rows)
+    }
+
+    fn share_rows(&self, rows: &mut Vec<SharedRow>) -> Result<(), Memory> {
+        share_each(self.as_slice(), rows)
     }
 
     fn copy_rows_of(&self, trace: TraceId, rows: &mut Vec<Row>) -> Result<(), Memory> {

@@ -1,12 +1,13 @@
 //! Runs of rows: parts of shared lists of rows by trace.
 
 ghost use Rattle.std.specs.Prelude.{◌≡◌, ◌≤◌, ◌-◌, IfOk, length, take, drop};
+ghost use Rattle.rows_by_trace.specs.Traces.{rows_of_trace};
 ghost use Rattle.live_traces.specs.ByTrace.{AreByTrace};
 
-use crate::chunk::{SharedRow, copy_all};
+use crate::chunk::{SharedRow, copy_all, share_each};
 use crate::group::group_of;
 use crate::runs::HasRows;
-use span_types::{Memory, Row, Shared, TraceId, TryCopy};
+use span_types::{Memory, Row, Rows, Shared, TraceId, TryCopy};
 use std::alloc::Global;
 use std::marker::Model;
 
@@ -56,6 +57,15 @@ impl Run {
         &self.rows.get().as_slice()[self.from..self.to]
     }
 
+    /// Copies of its rows of a trace. It costs their number, and the logarithm of its length.
+    pub fn rows_of(&self, alloc: Global, trace: TraceId) -> Result<Rows, Memory>
+        ensures { IfOk result (λ rows. rows ≡ rows_of_trace trace self.now) }
+    {
+        let mut rows = Vec::new(alloc);
+        self.copy_rows_of(trace, &mut rows)?;
+        Ok(Rows::of(rows))
+    }
+
     /// Its first rows, so many, and the others. No row is copied.
     pub fn split(&self, at: usize) -> Result<(Run, Run), Memory>
         requires { at ≤ length self.now }
@@ -85,6 +95,10 @@ impl HasRows for Run {
 
     fn copy_rows(&self, rows: &mut Vec<Row>) -> Result<(), Memory> {
         copy_all(self.as_slice(), rows)
+    }
+
+    fn share_rows(&self, rows: &mut Vec<SharedRow>) -> Result<(), Memory> {
+        share_each(self.as_slice(), rows)
     }
 
     fn copy_rows_of(&self, trace: TraceId, rows: &mut Vec<Row>) -> Result<(), Memory> {

@@ -2,14 +2,17 @@
 
 ghost use Rattle.std.specs.Prelude.{◌≡◌, ◌++◌, List, IfOk, OnOk};
 ghost use Rattle.std.specs.List.{flat_map};
+ghost use Rattle.span_types.specs.declared.ids.TraceId.{TraceId as AnyTrace};
 ghost use Rattle.span_types.specs.declared.spans.Row.{Row};
 ghost use Rattle.rows_by_trace.specs.Traces.{rows_of_trace};
 ghost use Rattle.live_traces.specs.Rows.{push_rows, run_rows};
 
-use crate::chunk::Chunk;
+use crate::chunk::{Chunk, SharedRow};
+use crate::group::sort_by_trace;
 use crate::rest::Rest;
 use crate::run::Run;
 use span_types::{Memory, Row, Rows, TraceId};
+use std::alloc::Global;
 use std::marker::Model;
 
 /// What has a list of rows.
@@ -18,6 +21,10 @@ pub(crate) trait HasRows {
 
     /// Adds copies of its rows to a list.
     fn copy_rows(&self, rows: &mut Vec<Row>) -> Result<(), Memory>
+        ensures { OnOk result (rows.new.items ≡ rows.old.items ++ listed self.now) };
+
+    /// Adds its rows to a list, which shares them.
+    fn share_rows(&self, rows: &mut Vec<SharedRow>) -> Result<(), Memory>
         ensures { OnOk result (rows.new.items ≡ rows.old.items ++ listed self.now) };
 
     /// Adds copies of its rows of a trace to a list.
@@ -68,6 +75,27 @@ impl Runs {
         Ok(Rows::of(rows))
     }
 
+    /// All rows by trace, those of each trace in their order. They are shared and not copied. It costs a sort.
+    pub fn by_trace(&self, alloc: Global) -> Result<Run, Memory>
+        ensures groups { IfOk result (λ run. (trace : AnyTrace) → rows_of_trace trace run ≡ rows_of_trace trace self.now) }
+    {
+        let mut rows = self.shares(alloc)?;
+        sort_by_trace(&mut rows)?;
+        let run = Run::of(alloc, rows)?;
+        Ok(run)
+    }
+
+    // All rows again, in their order.
+    fn shares(&self, alloc: Global) -> Result<Vec<SharedRow>, Memory>
+        ensures { IfOk result (λ rows. rows.items ≡ self.now) }
+    {
+        let mut rows = Vec::new(alloc);
+        share_all(self.runs.as_slice(), &mut rows)?;
+        share_all(self.rests.as_slice(), &mut rows)?;
+        share_all(self.pushes.as_slice(), &mut rows)?;
+        Ok(rows)
+    }
+
     /// Copies of all rows, in their order.
     pub fn copy_rows(&self) -> Result<Rows, Memory>
         ensures { IfOk result (λ rows. rows ≡ self.now) }
@@ -86,6 +114,16 @@ fn add_all<T: HasRows>(parts: &[T], rows: &mut Vec<Row>) -> Result<(), Memory>
 {
     for part in parts {
         part.copy_rows(rows)?;
+    }
+    Ok(())
+}
+
+// Adds all rows, which are shared.
+fn share_all<T: HasRows>(parts: &[T], rows: &mut Vec<SharedRow>) -> Result<(), Memory>
+    ensures { OnOk result (rows.new.items ≡ rows.old.items ++ flat_map T.listed parts.now) }
+{
+    for part in parts {
+        part.share_rows(rows)?;
     }
     Ok(())
 }
