@@ -16,7 +16,7 @@ use Rattle.block_index.specs.Index.{AreAscending}
 use Rattle.block_read.proofs.DescribedLaws.{index_stands}
 use Rattle.block_read.proofs.TogetherLaws.{total}
 use Rattle.stripe_traces.specs.Wanted.{last_or, last_trace}
-use Rattle.column_scan.specs.Scans.{IsParted}
+use Rattle.column_scan.specs.Scans.{PartsRows}
 use Rattle.column_scan.specs.Sifting.{TellsLast}
 
 -- ---- rows in order
@@ -90,7 +90,7 @@ whole_last i rows id is =
 -- ---- after a stripe
 
 pub parted : (info : InfoParts) (bytes : List ℕ) (rows : List Row) → BlockHasInfo info bytes rows → (i : ℕ) (last : Option TraceId) → TellsLast (take 256 (drop (256 * i) rows)) last
-    → IfSome last (λ id. IsParted id (take (256 * (i + 1)) rows) (drop (256 * (i + 1)) rows))
+    → IfSome last (λ id. PartsRows id (take (256 * (i + 1)) rows) (drop (256 * (i + 1)) rows))
 parted info bytes rows has i None told = tt
 parted info bytes rows has i (Some id) told =
     let up = (index_stands info bytes rows has).ascending in

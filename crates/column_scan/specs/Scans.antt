@@ -57,6 +57,6 @@ gone_through from (Ok progress) stripes = stripes_between from progress.next str
 gone_through from (Err e) stripes = drop from stripes
 
 -- No row before is of a trace above this one, and no row after of one below it.
-pub record IsParted (id : TraceId) (before after : List Row) : Type 0 where
+pub record PartsRows (id : TraceId) (before after : List Row) : Type 0 where
   pub none_above : AllByRecursion (λ row. is_gt (trace_cmp row.span.trace id) ≡ false) before
   pub none_below : AllByRecursion (λ row. is_gt (trace_cmp id row.span.trace) ≡ false) after

@@ -71,11 +71,11 @@ fn start_within(starts: &[u64], entry: &StripeInfo) -> bool {
         .all(|start| entry.earliest <= *start && *start <= entry.latest)
 }
 
-// Whether no id comes after one that it is below.
+// Whether no id comes after one that it is below. Most are of the trace before them, which is seen at once.
 fn ascend(ids: &[TraceId]) -> bool {
     ids.iter()
         .zip(ids.iter().skip(1))
-        .all(|(id, next)| id <= next)
+        .all(|(id, next)| id == next || id < next)
 }
 
 /// The trace of the last row.

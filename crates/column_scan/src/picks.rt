@@ -21,7 +21,7 @@ pub struct Pick {
     pub latest: u64,
 }
 
-/// The traces that have a sifted span, each once, in ascending order. The one error is want of memory.
+/// The traces that have a sifted span, each once, in ascending order. The one error is out of memory.
 pub fn picks_of_spans(
     alloc: Global,
     sieve: &Sieve<'_>,

@@ -7,7 +7,7 @@ ghost use Rattle.block_read.specs.Answers.{RoseAtMost, is_fault};
 ghost use Rattle.block_read.specs.Lookups.{IsInFile};
 ghost use Rattle.block_read.specs.PageReads.{OnlyReads};
 ghost use Rattle.column_scan.specs.Candidates.{HaveLatest, spans_of};
-ghost use Rattle.column_scan.specs.Scans.{FindsFit, IsParted, gone_through, is_enough, rows_between, scanned_pages};
+ghost use Rattle.column_scan.specs.Scans.{FindsFit, PartsRows, gone_through, is_enough, rows_between, scanned_pages};
 ghost use Rattle.column_scan.specs.Sieves.{sifted_picks};
 
 use crate::Pick;
@@ -50,7 +50,7 @@ pub fn scan_stripes<P: Pages>(
     ensures last { IsTrue (P.tells pages.old) → (rows : List Row)
         → BlockHasInfo info.now (P.held pages.old block) rows
         → IfOk result (λ progress. IfSome progress.last (λ id.
-        IsParted id (take (256 * progress.next) rows) (drop (256 * progress.next) rows))) }
+        PartsRows id (take (256 * progress.next) rows) (drop (256 * progress.next) rows))) }
     ensures onward { IfOk result (λ progress. from ≤ progress.next) }
     ensures some { IfOk result (λ progress. is_enough most (length picks.old.items) ≡ false
         → from < length info.now.stripes → from < progress.next) }

@@ -42,7 +42,7 @@ impl<'s, 'q> Model for Sifter<'s, 'q> {
 }
 
 impl<'s, 'q> Sifter<'s, 'q> {
-    /// Makes a sieve ready. The one error is want of memory.
+    /// Makes a sieve ready. The one error is out of memory.
     pub fn of(alloc: Global, sieve: &'s Sieve<'q>) -> Result<Sifter<'s, 'q>, Memory>
         ensures { IfOk result (λ sifter. sifter ≡ sieve.now) }
     {
