@@ -243,3 +243,90 @@ fn each_read_fails(rt: HostRuntime) -> Result<(), Fail> {
     }
     Ok(())
 }
+
+/// Puts these bytes at an offset of the second stripe, and looks a trace up.
+fn in_second_stripe(
+    alloc: Global,
+    built: &BuiltBlock,
+    offset: u64,
+    new: &[u8],
+    id: TraceId,
+) -> Result<(Gave, u64), Memory> {
+    let first = second_stripe(&built.info);
+    let place = first.saturating_add(offset);
+    let bytes = changed(alloc, built.bytes.as_slice(), place, new)?;
+    let (gave, _) = looked_up(alloc, bytes.as_slice(), &built.info, id, &[])?;
+    Ok((gave, first))
+}
+
+/// Where the second stripe begins.
+fn second_stripe(info: &BlockInfo) -> u64 {
+    match info.stripes.as_slice().get(1) {
+        Some(stripe) => stripe.page.saturating_mul(4096),
+        None => 0,
+    }
+}
+
+#[test]
+fn a_stripe_that_breaks(rt: HostRuntime) -> Result<(), Fail> {
+    // Two traces of 200 rows each. The second stripe has the last 144 rows: one empty text from byte 8, one resource, one scope, the
+    // number of rows from byte 16, their traces from 18, and their spans' ids from 2,322.
+    let alloc = rt.alloc();
+    let built = block(alloc, 2, 200)?;
+    for (offset, new, broken) in [
+        // Another length.
+        (0, [255; 8].as_slice(), 0),
+        // One byte too many for the text's length, no rows, an id of zeros.
+        (9, [128, 0].as_slice(), 9),
+        (16, [0, 0].as_slice(), 0),
+        (2322, [0; 8].as_slice(), 2322),
+    ] {
+        let (gave, first) = in_second_stripe(alloc, &built, offset, new, trace(4))?;
+        assert_eq!(rt;
+            gave,
+            Gave::NotBlock(first.saturating_add(broken)),
+            "{offset}"
+        );
+        // A trace that lies in the first stripe alone is found.
+        let (gave, _) = in_second_stripe(alloc, &built, offset, new, trace(2))?;
+        assert_eq!(rt; gave, Gave::Rows(200), "{offset}");
+    }
+    Ok(())
+}
+
+/// Whether looking up each trace of the block gives all of its rows, none, or that an entry names rows that no stripe has, once these
+/// bytes stand at an offset of the index.
+fn are_theirs(alloc: Global, built: &BuiltBlock, offset: u64, new: &[u8]) -> Result<bool, Memory> {
+    let index = built.info.index_page.saturating_mul(4096);
+    let place = index.saturating_add(offset);
+    let bytes = changed(alloc, built.bytes.as_slice(), place, new)?;
+    for number in 0..344 {
+        let (gave, _) = looked_up(alloc, bytes.as_slice(), &built.info, trace(number), &[])?;
+        if !matches!(gave, Gave::Rows(0 | 3) | Gave::NotBlock(0)) {
+            return Ok(false);
+        }
+    }
+    Ok(true)
+}
+
+#[test]
+fn an_index_out_of_order(rt: HostRuntime) -> Result<(), Fail> {
+    // 171 traces of three rows: 170 entries of 24 bytes in the first page of the index, one in the second.
+    let alloc = rt.alloc();
+    let built = block(alloc, 171, 3)?;
+    let TraceId(last) = trace(342);
+    let TraceId(foreign) = trace(3);
+    for (offset, new) in [
+        // The first entry has the id of the last one, or one that no row has.
+        (0, last.as_slice()),
+        (0, foreign.as_slice()),
+        // Half of the first page, all of it, or the second one is zeros.
+        (0, [0; 2048].as_slice()),
+        (0, [0; 4096].as_slice()),
+        (4096, [0; 4096].as_slice()),
+        (2040, [255; 48].as_slice()),
+    ] {
+        assert!(rt; are_theirs(alloc, &built, offset, new)?, "{offset}");
+    }
+    Ok(())
+}

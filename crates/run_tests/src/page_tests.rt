@@ -102,3 +102,47 @@ fn pages_of_joined_blocks_are_not_told(rt: HostRuntime) -> Result<(), Memory> {
     assert!(rt; writes(&rt, alloc, &mut disk, input.as_str(), (wanted.as_str(), 0))?);
     Ok(())
 }
+
+// A push of one span of each of 600 traces, which are numbered from one on.
+fn push_from(alloc: Global, first: u32) -> Result<String, Memory> {
+    let mut line = String::from_str(
+        alloc,
+        "push {\"resourceSpans\":[{\"scopeSpans\":[{\"spans\":[",
+    )?;
+    let mut comma = "";
+    for number in first..first.saturating_add(600) {
+        let span = format!(in alloc;
+            "{comma}{{\"traceId\":\"{number:032x}\",\"spanId\":\"00000000000000b1\",\"name\":\"x\",\
+             \"startTimeUnixNano\":\"1\",\"endTimeUnixNano\":\"2\"}}"
+        )?;
+        line.push_str(span.as_str())?;
+        comma = ",";
+    }
+    line.push_str("]}]}]}")?;
+    Ok(line)
+}
+
+// Each block has three stripes, of 256, 256 and 88 rows of some 50 bytes: four, four and two pages. Its index has four pages, its filters have
+// one. A search by columns reads the stripes once, and one that makes all rows reads no page of either block twice.
+#[test]
+fn a_search_over_two_blocks_reads_no_page_twice(rt: HostRuntime) -> Result<(), Memory> {
+    let alloc = rt.alloc();
+    let mut disk = MemDisk::empty(alloc);
+    let (first, second) = (push_from(alloc, 1)?, push_from(alloc, 301)?);
+    let stored = format!(in alloc; "{first}\ncutall\nflush\n{second}\ncutall\nflush\nreclaim\n")?;
+    let flushed = "accepted=600 rejected=0 skipped=0\nok cutall moved=600\nok flush rows=600\n";
+    let told = format!(in alloc; "ok push 0 {flushed}ok push 1 {flushed}ok reclaim files=2\n")?;
+    assert!(rt; writes(&rt, alloc, &mut disk, stored.as_str(), (told.as_str(), 0))?);
+    let nothing = "ok search as_of=2 traces=0 {\"traces\":[]}\n";
+    for (input, least, most) in [
+        ("search { duration > 1s }", 20, 20),
+        ("search { traceDuration > 1s }", 20, 30),
+    ] {
+        let reads = reads_for(&rt, alloc, &mut disk, input, nothing)?;
+        assert!(rt;
+            matches!(reads, Some(reads) if least <= reads && reads <= most),
+            "{reads:?}"
+        );
+    }
+    Ok(())
+}

@@ -97,3 +97,38 @@ pub(crate) fn picked_in(alloc: Global, block: &BuiltBlock, hint: &Hint) -> Resul
         Err(_) => Err("the block is not read"),
     }
 }
+
+/// Where a block is malformed by a hint's candidates, once these bytes stand at an offset of its first stripe, if it is for them.
+pub(crate) fn broken_at(
+    alloc: Global,
+    block: &BuiltBlock,
+    offset: usize,
+    new: &[u8],
+    hint: &Hint,
+) -> Result<Option<u64>, Failure> {
+    let Ok(pages) = changed(alloc, block, offset, new) else {
+        return Err("no memory");
+    };
+    let mut pages = pages;
+    match candidates(alloc, &mut pages, FILE, &block.info, hint) {
+        Ok(_) => Ok(None),
+        Err(ReadError::NotBlock { file: FILE, at }) => Ok(Some(at)),
+        Err(_) => Err("the block is not read"),
+    }
+}
+
+// The bytes of a block as a file, with these at an offset of its first stripe, which is its second page.
+fn changed(
+    alloc: Global,
+    block: &BuiltBlock,
+    offset: usize,
+    new: &[u8],
+) -> Result<MemPages, Memory> {
+    let mut copy = Vec::new(alloc);
+    copy.extend_from_slice(block.bytes.as_slice())?;
+    let place = offset.saturating_add(4096);
+    for (old, byte) in copy.iter_mut().skip(place).zip(new.iter()) {
+        *old = *byte;
+    }
+    Ok(MemPages::new(FILE, Bytes::of(copy), Calls::of(Vec::new(alloc))))
+}

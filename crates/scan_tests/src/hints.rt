@@ -1,6 +1,6 @@
 //! The hints of queries, and what they pick in two blocks.
 
-use crate::blocks::{Picked, block_of, hint_of, picked_in};
+use crate::blocks::{Picked, block_of, broken_at, hint_of, picked_in};
 use span_types::Memory;
 use std::test::Fail;
 
@@ -152,5 +152,28 @@ fn candidates_in_a_range(rt: HostRuntime) -> Result<(), Fail> {
             reads: 1
         }
     );
+    Ok(())
+}
+
+// A stripe of one row that breaks is told where it is malformed if it is read, and not if it is out of the range.
+#[test]
+fn candidates_of_a_broken_stripe(rt: HostRuntime) -> Result<(), Fail> {
+    let alloc = rt.alloc();
+    let block = block_of(alloc, PARENT)?;
+    let any = hint_of(alloc, "{ }")?;
+    let named = hint_of(alloc, r#"{ name = "a" }"#)?;
+    let mut later = hint_of(alloc, "{ }")?;
+    later.range.from = 5;
+    // Another length; one byte too many for the length of the first text, which is empty.
+    for (offset, new, broken) in [(0, [255; 8].as_slice(), 4096), (9, &[128, 0], 4105)] {
+        for hint in [&any, &named] {
+            assert_eq!(rt;
+                broken_at(alloc, &block, offset, new, hint)?,
+                Some(broken),
+                "{offset}"
+            );
+        }
+        assert_eq!(rt; broken_at(alloc, &block, offset, new, &later)?, None);
+    }
     Ok(())
 }
