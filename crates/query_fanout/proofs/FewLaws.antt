@@ -168,7 +168,7 @@ at_row k x r h = by (is_eq (key_cmp (row_key x) k)) h
     by true e = cc
     by false e = cc
 
-pub first_among : (P : Row → Type 0) (k : Key) (rows : List Row) (r : Row) → AllByRecursion P rows → first_at k rows ≡ Some r → P r
+first_among : (P : Row → Type 0) (k : Key) (rows : List Row) (r : Row) → AllByRecursion P rows → first_at k rows ≡ Some r → P r
 first_among P k [] r all h = cc
 first_among P k (x ∷ xs) r all h = by (λ e. first_among P k xs r all.1 e) (lesser_either (row_at k x) (first_at k xs) r h)
   where

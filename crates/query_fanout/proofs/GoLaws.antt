@@ -17,7 +17,7 @@ use Rattle.block_read.specs.Answers.{RoseAtMost}
 use Rattle.block_read.specs.declared.error.ReadError.{ReadError}
 use Rattle.block_read.specs.declared.error.ReadError.TheVariants as unread
 use Rattle.column_scan.specs.Candidates.{HaveLatest, spans_of}
-use Rattle.column_scan.specs.Scans.{FindsFit, IsParted, gone_through, may_scan, rows_between, scanned_pages, stripes_between}
+use Rattle.column_scan.specs.Scans.{FindsFit, PartsRows, gone_through, may_scan, rows_between, scanned_pages, stripes_between}
 use Rattle.column_scan.specs.Sieves.{SieveParts, sifted_picks}
 use Rattle.column_scan.specs.declared.hints.Hint.{Hint}
 use Rattle.column_scan.specs.declared.picks.Pick.{Pick}
@@ -58,7 +58,7 @@ turned Equal is = refl
 turned Greater is = cc
 
 -- no row after the last one that was gone over is below it
-after_last : (last : Option TraceId) (before after : List Row) → IfSome last (λ id. IsParted id before after) → All (λ row. is_below (reach_of last) row.span.trace ≡ false) after
+after_last : (last : Option TraceId) (before after : List Row) → IfSome last (λ id. PartsRows id before after) → All (λ row. is_below (reach_of last) row.span.trace ≡ false) after
 after_last None before after parted = λ k d low. refl
 after_last (Some id) before after parted =
     All-weaker (λ (row : Row). is_gt (trace_cmp id row.span.trace) ≡ false) (λ (row : Row). is_lt (trace_cmp row.span.trace id) ≡ false)
@@ -66,7 +66,7 @@ after_last (Some id) before after parted =
     (All-from_recursion (λ (row : Row). is_gt (trace_cmp id row.span.trace) ≡ false) after parted.none_below)
 
 -- and at the end there is none
-above_reach : (last : Option TraceId) (next size : ℕ) (rows : List Row) → length rows ≤ 256 * size → IfSome last (λ id. IsParted id (take (256 * next) rows) (drop (256 * next) rows))
+above_reach : (last : Option TraceId) (next size : ℕ) (rows : List Row) → length rows ≤ 256 * size → IfSome last (λ id. PartsRows id (take (256 * next) rows) (drop (256 * next) rows))
     → All (λ row. is_below (reach_at next size last) row.span.trace ≡ false) (drop (256 * next) rows)
 above_reach last next size rows few parted = (elim (nat_lt next size) as (λ b. nat_lt next size ≡ b → All (λ row. is_below (reach_at next size last) row.span.trace ≡ false) (drop (256 * next) rows)) [
   | true ↦ λ t. rw t (after_last last (take (256 * next) rows) (drop (256 * next) rows) parted)
@@ -80,7 +80,7 @@ above_reach last next size rows few parted = (elim (nat_lt next size) as (λ b. 
 
 pub goes_on : (sieve : SieveParts) (rows : List Row) (scan next : Scan) (last : Option TraceId) (to : ℕ) (picks : List Pick) → length rows ≤ 256 * length scan.info.now.stripes
     → next.info ≡ scan.info → next.next ≡ to → next.upto ≡ reach_at to (length scan.info.now.stripes) last → scan.next ≤ to
-    → HaveLatest (sifted_picks sieve (spans_of (rows_between scan.next to rows))) picks → IfSome last (λ id. IsParted id (take (256 * to) rows) (drop (256 * to) rows))
+    → HaveLatest (sifted_picks sieve (spans_of (rows_between scan.next to rows))) picks → IfSome last (λ id. PartsRows id (take (256 * to) rows) (drop (256 * to) rows))
     → GoesOn sieve rows scan next picks
 goes_on sieve rows scan next last to picks few info_is next_is upto_is low have parted =
     let n = 256 * (to - scan.next) in
@@ -140,7 +140,7 @@ fewer_left scan next last to info_is next_is upto_is low moves goes_on =
 pub record Tells (sieve : SieveParts) (scan : Scan) (picks : List Pick) (rows : List Row) (progress : Progress) : Type 0 where
   pub few : length rows ≤ 256 * length scan.info.now.stripes
   pub latest : HaveLatest (sifted_picks sieve (spans_of (rows_between scan.next progress.next rows))) picks
-  pub parted : IfSome progress.last (λ id. IsParted id (take (256 * progress.next) rows) (drop (256 * progress.next) rows))
+  pub parted : IfSome progress.last (λ id. PartsRows id (take (256 * progress.next) rows) (drop (256 * progress.next) rows))
 
 pub finds_both : {A : Type 0} (one other both : A → Type 0) (r : Result A ReadError) → ((x : A) → one x → other x → both x) → FindsFit one r → IfOk r other → FindsFit both r
 finds_both one other both (Ok x) make a b = make x a b

@@ -22,7 +22,6 @@ mod EndLaws
 mod AfterLaws
 mod ReachLaws
 mod SearchLaws
-mod ByTraceLaws
 mod OwnLaws
 pub mod TakingLaws
 pub mod WholeLaws

@@ -4,10 +4,9 @@ use Rattle.std.specs.List.{flat_map}
 use Rattle.std.specs.List.Sorted.{IsPermutation}
 use Rattle.std.proofs.lemmas.List.Elements.{All-append, All-contains, All-contains_itself, All-weaker, filter_passes}
 use Rattle.std.proofs.lemmas.List.Sorted.{Contains-permutation}
-use Rattle.span_types.specs.First.{IsFirstOf}
 use Rattle.span_types.specs.declared.ids.TraceId.{TraceId}
 use Rattle.span_types.specs.declared.spans.Row.{Row}
-use Rattle.span_types.proofs.FirstLaws.{firsts_alike, firsts_more}
+use Rattle.span_types.proofs.FirstLaws.{firsts_alike}
 use Rattle.block_info.specs.InfoParts.{InfoParts}
 use Rattle.block_read.specs.Answers.{RoseAtMost}
 use Rattle.stripe_traces.specs.Wanted.{is_one_of, rows_of_traces}
@@ -25,14 +24,14 @@ use Rattle.query_fanout.specs.Bounds.{SearchReads, all_rows, hinted_pages, look_
 use Rattle.query_fanout.specs.Reading.{BlocksRead, look_ups}
 use Rattle.query_fanout.specs.SearchAnswers.{IsSearchAnswer}
 use Rattle.query_fanout.specs.Rounds.{AnswersRows, PicksOf, ReadsFor}
-use Rattle.query_fanout.specs.Searching.{TookTheirs, TookWith}
+use Rattle.query_fanout.specs.Searching.{AreAlikeByTrace, TookTheirs, TookWith}
 use Rattle.query_fanout.specs.Taking.{AnswersSearch, AreCovered, TakenAnswerTheWhole, TakesEach, asked_hint, asked_sieve, no_best, traces_of}
 use Rattle.query_fanout.specs.declared.error.QueryError.TheVariants.{Memory}
 use Rattle.query_fanout.specs.declared.searching.Asked.{Asked}
 use Rattle.query_fanout.specs.declared.searching.SearchAnswer.{SearchAnswer}
 use Rattle.query_fanout.proofs.ApartLaws.{parts_apart}
 use Rattle.query_fanout.proofs.BlockLaws.{read_nothing, read_told, rose_none, rose_twice}
-use Rattle.query_fanout.proofs.OwnLaws.{firsts_covered}
+use Rattle.query_fanout.proofs.OwnLaws.{firsts_beside, sifted_within}
 use Rattle.query_fanout.proofs.PicksExist.{candidates_exist}
 use Rattle.query_fanout.proofs.QueryLaws.{TellsFirsts}
 use Rattle.query_fanout.proofs.SiftedLaws.{sifted_sum}
@@ -135,28 +134,30 @@ not_searched meaning look asked port is_open =
 
 -- ---- the answer
 
--- what is found among first occurrences of a look's rows and the blocks' rows is what is found among all of them
-pub told_of_look : {P : Type 0} (meaning : Meaning P) (look : Look) (asked : Asked) (rows own : List Row) (old new : P) (best : BestParts) (answer : SearchAnswer) → rows ≡ look.rows → IsFirstOf rows own
+-- what is found among first occurrences of a look's rows by trace and the blocks' rows is what is found among all of them
+pub told_of_look : {P : Type 0} (meaning : Meaning P) (look : Look) (asked : Asked) (own : List Row) (old new : P) (best : BestParts) (answer : SearchAnswer) → AreAlikeByTrace own look.rows
     → answer.as_of ≡ look.as_of → answer.results ≡ best.kept
     → BlocksRead meaning look look.pin.blocks (λ more best. AnswersRows asked (own ++ more) best) (λ more best. AnswersRows asked (own ++ more) best) (SearchReads (asked_hint asked) look.rows look.pin.blocks) old
     (Ok best) new
     → BlocksRead meaning look look.pin.blocks (λ more found. IsSearchAnswer asked look.as_of (look.rows ++ more) found) (λ more found. IsSearchAnswer asked look.as_of (look.rows ++ more) found)
     (SearchReads (asked_hint asked) look.rows look.pin.blocks) old (Ok answer) new
-told_of_look meaning look asked rows own old new best answer are firsts count is h =
+told_of_look meaning look asked own old new best answer alike count is h =
     read_told meaning look look.pin.blocks (λ parts a b rose. rose) old new best answer h told told
   where
     told : (more : List Row) → AnswersRows asked (own ++ more) best → IsSearchAnswer asked look.as_of (look.rows ++ more) answer
     told more (all, all_are, found) = record {
       count = count;
       firsts = all;
-      are_first = subst (λ (l : List Row). IsFirstOf (l ++ more) all) are (firsts_more rows own more all firsts all_are);
+      are_first = firsts_beside own look.rows more all alike all_are;
       found = subst (AnswersSearch asked all) (sym is) found;
     }
 
--- what the look's rows pick
-pub picks_are : (asked : Asked) (sieve : SieveParts) (seen own all : List Row) (picks : List Pick) → sieve ≡ asked_sieve asked → seen ≡ all → IsFirstOf seen own → AreSifted sieve (spans_of seen) picks
-    → PicksOf (asked_sieve asked) all own picks
-picks_are asked sieve seen own all picks is same firsts are = record {
-  whole = firsts_covered (asked_sieve asked) picks seen own firsts (subst (λ s. All (IsCovered picks) (sifted_picks s (spans_of seen))) is are.latest.whole);
-  only = subst (λ (l : List Row). All (Contains (sifted_picks (asked_sieve asked) (spans_of l))) picks) same (subst (λ s. All (Contains (sifted_picks s (spans_of seen))) picks) is are.latest.only);
+-- what a look's rows by trace pick is what its rows pick
+pub picks_are : (asked : Asked) (sieve : SieveParts) (seen own rows : List Row) (picks : List Pick) → sieve ≡ asked_sieve asked → seen ≡ own → AreAlikeByTrace own rows → AreSifted sieve (spans_of seen) picks
+    → PicksOf (asked_sieve asked) rows own picks
+picks_are asked sieve seen own rows picks is same alike are = record {
+  whole = subst (λ (l : List Row). All (IsCovered picks) (sifted_picks (asked_sieve asked) (spans_of l))) same (subst (λ s. All (IsCovered picks) (sifted_picks s (spans_of seen))) is are.latest.whole);
+  only = All-weaker (Contains (sifted_picks (asked_sieve asked) (spans_of own))) (Contains (sifted_picks (asked_sieve asked) (spans_of rows)))
+      (λ p m. All-contains (Contains (sifted_picks (asked_sieve asked) (spans_of rows))) (sifted_picks (asked_sieve asked) (spans_of own)) p (sifted_within (asked_sieve asked) own rows alike) m) picks
+      (subst (λ (l : List Row). All (Contains (sifted_picks (asked_sieve asked) (spans_of l))) picks) same (subst (λ s. All (Contains (sifted_picks s (spans_of seen))) picks) is are.latest.only));
 }

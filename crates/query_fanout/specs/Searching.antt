@@ -4,11 +4,18 @@ use Rattle.std.specs.List.{flat_map}
 use Rattle.std.specs.List.Sorted.{IsPermutation}
 use Rattle.span_types.specs.declared.ids.TraceId.{TraceId}
 use Rattle.span_types.specs.declared.spans.Row.{Row}
+use Rattle.rows_by_trace.specs.Traces.{rows_of_trace}
 use Rattle.stripe_traces.specs.Wanted.{rows_of_traces}
 use Rattle.search_answer.specs.Keeping.{BestParts}
 use Rattle.column_scan.specs.declared.picks.Pick.{Pick}
 use Rattle.query_fanout.specs.Taking.{Answered, TakesEach, open_picks, traces_of}
 use Rattle.query_fanout.specs.declared.searching.Asked.{Asked}
+
+-- ---- a look's rows
+
+-- Of each trace both lists have the same rows, in the same order.
+abbrev pub AreAlikeByTrace : List Row → List Row → Type 0
+AreAlikeByTrace own rows = (id : TraceId) → rows_of_trace id own ≡ rows_of_trace id rows
 
 -- ---- a few traces
 

@@ -5,11 +5,16 @@ ghost use Rattle.column_scan.specs.Candidates.{spans_of};
 ghost use Rattle.column_scan.specs.Sieves.{AreSifted};
 
 use column_scan::{Pick, Sieve, picks_of_spans};
-use span_types::{Memory, Row, Span};
+use live_traces::SharedRow;
+use span_types::{Memory, Span};
 use std::alloc::Global;
 
-/// The traces that have a sifted span among rows, each once, in ascending order.
-pub(crate) fn picks_of_rows(alloc: Global, rows: &[Row], sieve: &Sieve) -> Result<Vec<Pick>, Memory>
+/// The traces that have a sifted span among rows, each once, in ascending order. No row is copied.
+pub(crate) fn picks_of_rows(
+    alloc: Global,
+    rows: &[SharedRow],
+    sieve: &Sieve,
+) -> Result<Vec<Pick>, Memory>
     ensures { IfOk result (λ picks. AreSifted sieve.now (spans_of rows.now) picks.items) }
 {
     let spans = spans_of(alloc, rows)?;
@@ -18,12 +23,12 @@ pub(crate) fn picks_of_rows(alloc: Global, rows: &[Row], sieve: &Sieve) -> Resul
 }
 
 // The spans of rows.
-fn spans_of<'r>(alloc: Global, rows: &'r [Row]) -> Result<Vec<&'r Span>, Memory>
+fn spans_of<'r>(alloc: Global, rows: &'r [SharedRow]) -> Result<Vec<&'r Span>, Memory>
     ensures { IfOk result (λ spans. map (λ s. s.now) spans.items ≡ spans_of rows.now) }
 {
     let mut spans = Vec::new(alloc);
     for row in rows {
-        spans.push(&row.span)?;
+        spans.push(row.span())?;
     }
     Ok(spans)
 }

@@ -1,7 +1,7 @@
 //! How far all is gone through.
 
 ghost use Rattle.std.specs.Prelude.{◌≡◌};
-ghost use Rattle.query_fanout.specs.Rounds.{goes_to, is_all, is_below, reach_of};
+ghost use Rattle.query_fanout.specs.Rounds.{goes_to, is_below, reach_of};
 
 use span_types::TraceId;
 
@@ -47,15 +47,5 @@ pub(crate) fn reach_of(last: Option<TraceId>) -> Reach
     match last {
         Some(id) => Reach::Upto(id),
         None => Reach::Nothing,
-    }
-}
-
-/// Whether these are all.
-pub(crate) fn is_all(reach: Reach) -> bool
-    ensures { result ≡ is_all reach }
-{
-    match reach {
-        Reach::Nothing | Reach::Upto(_) => false,
-        Reach::Whole => true,
     }
 }

@@ -52,8 +52,9 @@ pub struct SearchAnswer {
 /// picked that have a sifted span, one that the query's sieve lets through, each with the latest start among its sifted spans:
 /// in the look's rows, and in each block by the stripes that may have one. Those that are picked in a round are looked up and
 /// answered a few at a time, those of late moments first, but for those of which no result can come among the best so far;
-/// `bounded` says how many pages that is at most. No rows are kept but those of a few traces, beside a copy of the look's
-/// rows, and no picks but those of a round and those that wait for one. The look is given back in every case.
+/// `bounded` says how many pages that is at most. No rows are kept but those of a few traces, beside a list of the look's rows
+/// by trace, which shares them and copies none, and no picks but those of a round and those that wait for one. The look is
+/// given back in every case.
 pub fn search<P: FlushPort>(
     alloc: Global,
     port: &mut P,
@@ -90,16 +91,12 @@ fn search_of_look<P: FlushPort>(
         Ok(sieve) => sieve,
         Err(_) => return Err(QueryError::Memory),
     };
-    let rows = match look.rows.copy_rows() {
-        Ok(rows) => rows,
-        Err(_) => return Err(QueryError::Memory),
-    };
-    let picks = match picks_of_rows(alloc, rows.as_slice(), &sieve) {
-        Ok(picks) => picks,
+    let own = match Own::of(alloc, &look.rows) {
+        Ok(own) => own,
         Err(Memory) => return Err(QueryError::Memory),
     };
-    let own = match Own::of(alloc, rows) {
-        Ok(own) => own,
+    let picks = match picks_of_rows(alloc, own.as_slice(), &sieve) {
+        Ok(picks) => picks,
         Err(Memory) => return Err(QueryError::Memory),
     };
     let mut sifter = match Sifter::of(alloc, &sieve) {

@@ -4,7 +4,7 @@ use Rattle.block_read.specs.Answers.{is_fault}
 use Rattle.block_read.specs.Lookups.{IsInFile}
 use Rattle.block_read.proofs.DescribedLaws.{few_rows}
 use Rattle.column_scan.specs.Candidates.{HaveLatest, spans_of}
-use Rattle.column_scan.specs.Scans.{IsParted, gone_through, is_enough, rows_between, scanned_pages}
+use Rattle.column_scan.specs.Scans.{PartsRows, gone_through, is_enough, rows_between, scanned_pages}
 use Rattle.column_scan.specs.Sieves.{sifted_picks}
 use Rattle.column_scan.specs.declared.picks.Pick.{Pick}
 use Rattle.store_model.specs.State.{is_among}
@@ -37,7 +37,7 @@ returns-in-Ok-clause-read g c =
     (λ told rows has.
     let here = holds_here meaning look old info c.file_of-file.result rows c.file_of-file.ensures c.requires.pinned has in
     finds_both (λ x. HaveLatest (before ++ sifted_picks sieve (spans_of (rows_between scan.next x.next rows))) picks)
-    (λ x. IfSome x.last (λ id. IsParted id (take (256 * x.next) rows) (drop (256 * x.next) rows))) (Tells sieve scan picks rows) r
+    (λ x. IfSome x.last (λ id. PartsRows id (take (256 * x.next) rows) (drop (256 * x.next) rows))) (Tells sieve scan picks rows) r
     (λ x a b. record {
       few = few_rows info (meaning.shows old info.file) rows has;
       latest = subst (λ (l : List Pick). HaveLatest (l ++ sifted_picks sieve (spans_of (rows_between scan.next x.next rows))) picks) c.new-picks.ensures.items a;
@@ -68,7 +68,7 @@ returns-clause-read g c =
     (λ told rows has.
     let here = holds_here meaning look old info c.file_of-file.result rows c.file_of-file.ensures c.requires.pinned has in
     finds_both (λ x. HaveLatest (before ++ sifted_picks sieve (spans_of (rows_between scan.next x.next rows))) picks)
-    (λ x. IfSome x.last (λ id. IsParted id (take (256 * x.next) rows) (drop (256 * x.next) rows))) (Tells sieve scan picks rows) r
+    (λ x. IfSome x.last (λ id. PartsRows id (take (256 * x.next) rows) (drop (256 * x.next) rows))) (Tells sieve scan picks rows) r
     (λ x a b. record {
       few = few_rows info (meaning.shows old info.file) rows has;
       latest = subst (λ (l : List Pick). HaveLatest (l ++ sifted_picks sieve (spans_of (rows_between scan.next x.next rows))) picks) c.new-picks.ensures.items a;
