@@ -1,10 +1,11 @@
 #!/usr/bin/env python3
-"""`ask.py PROGRAM FOLDER LINES TRACES` asks a session over a store the same questions as SQLite over `FOLDER.sqlite`, and PostgreSQL if a
+"""`ask.py PROGRAM FOLDER LINES COUNT` asks a session over a store the same questions as SQLite over `FOLDER.sqlite`, and PostgreSQL if a
 server can be made, with the same spans.
 
-LINES are the push lines that the store took in, with one trace of 8 spans each; TRACES is how many of them. Each question is asked in
-turns, the least and the middle time of a question is told in milliseconds, and how many pages the session read for it (by strace, in
-a session of its own, if it is installed). Store and databases are open and warm: what each opening takes is told by itself."""
+LINES are the push lines that the store took in, of traces of 8 spans; COUNT is how many lines there are, and the first trace of some is looked
+up. Each question is asked in turns, the least and the middle time of a question is told in milliseconds, and how many pages the session
+read for it (by strace, in a session of its own, if it is installed). Store and databases are open and warm: what each opening takes is
+told by itself."""
 import json
 import os
 import re
@@ -112,11 +113,11 @@ def pages_of(program, folder, lines):
 
 
 def main():
-    program, folder, lines, traces = sys.argv[1], sys.argv[2], sys.argv[3], int(sys.argv[4])
+    program, folder, lines, count = sys.argv[1], sys.argv[2], sys.argv[3], int(sys.argv[4])
     ids, path, starts = [], None, []
     with open(lines, encoding="utf-8") as file:
         for number, line in enumerate(file):
-            if number % max(traces // LOOK_UPS, 1) == 0 and len(ids) < LOOK_UPS:
+            if number % max(count // LOOK_UPS, 1) == 0 and len(ids) < LOOK_UPS:
                 ids.append(re.search(r'"traceId":"([0-9a-f]{32})"', line)[1])
                 spans = json.loads(line.removeprefix("push "))["resourceSpans"][0]["scopeSpans"][0]["spans"]
                 starts.append(int(spans[0]["startTimeUnixNano"]))
