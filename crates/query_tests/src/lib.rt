@@ -6,6 +6,8 @@
 #[cfg(test)]
 mod checks;
 #[cfg(test)]
+mod metrics;
+#[cfg(test)]
 mod queries;
 #[cfg(test)]
 mod tokens;

@@ -421,7 +421,7 @@ const NEIGHBOURS: &str = r#"
 "#;
 
 /// A refusal and its offset, as the tables write it.
-fn refusal(alloc: Global, error: ParseError) -> Result<String, AllocError> {
+pub fn refusal(alloc: Global, error: ParseError) -> Result<String, AllocError> {
     match error {
         ParseError::BadChar { at } => format!(in alloc; "bad-char {at}"),
         ParseError::Unexpected { at } => format!(in alloc; "unexpected {at}"),

@@ -1,7 +1,9 @@
 //! The tokens of texts, worked out by hand.
 
 use std::test::Fail;
-use traceql_tokens::{TimeUnit, Token, TokenKind, one_reading, printed_tokens, tokens};
+use traceql_tokens::{
+    TimeUnit, Token, TokenKind, Tokens, metrics_tokens, one_reading, printed_tokens, tokens,
+};
 
 /// Texts and their tokens.
 const ROWS: [(&str, &str); 74] = [
@@ -114,6 +116,17 @@ const ROWS: [(&str, &str); 74] = [
     ),
 ];
 
+/// Texts and their tokens in a metrics query.
+const METRICS: [(&str, &str); 7] = [
+    ("rate", "0:rate"),
+    ("ratex", "0:rate 4:unknown"),
+    (".rate", "0:.[rate]"),
+    ("{ } | rate.x()", "0:{ 2:} 4:| 6:rate 10:.[x] 12:( 13:)"),
+    ("count_over_time()", "0:count_over_time 15:( 16:)"),
+    ("count()", "0:count 5:( 6:)"),
+    ("count_over", "0:count 5:unknown"),
+];
+
 /// A token as one word of the table: its place, and its class with its text or value.
 fn shown(rt: &HostRuntime, token: &Token) -> Result<String, Fail> {
     let at = token.at;
@@ -135,9 +148,8 @@ fn shown(rt: &HostRuntime, token: &Token) -> Result<String, Fail> {
     })
 }
 
-/// The tokens of a text with a bar between each two.
-fn listed(rt: &HostRuntime, text: &str) -> Result<String, Fail> {
-    let found = tokens(rt.alloc(), text)?;
+/// Tokens with a space between each two.
+fn listed(rt: &HostRuntime, found: &Tokens) -> Result<String, Fail> {
     let mut all = String::new(rt.alloc());
     for token in found.as_slice() {
         if !all.is_empty() {
@@ -151,7 +163,11 @@ fn listed(rt: &HostRuntime, text: &str) -> Result<String, Fail> {
 #[test]
 fn texts_have_the_tokens_that_hands_found(rt: HostRuntime) -> Result<(), Fail> {
     for (text, wanted) in ROWS {
-        let found = listed(&rt, text)?;
+        let found = listed(&rt, &tokens(rt.alloc(), text)?)?;
+        assert_eq!(&rt; found.as_str(), wanted, "{text}");
+    }
+    for (text, wanted) in METRICS {
+        let found = listed(&rt, &metrics_tokens(rt.alloc(), text)?)?;
         assert_eq!(&rt; found.as_str(), wanted, "{text}");
     }
     assert_eq!(&rt; TimeUnit::Millis.nanos(), 1_000_000);

@@ -11,7 +11,7 @@ use Rattle.traceql_parse.specs.Reading.{Answer, ◌>>=◌, next_sign, expect_sig
 use Rattle.traceql_parse.proofs.Items.{Shrinks, turns_stop, turns_on, items_stop, items_fail, items_step}
 use Rattle.traceql_parse.proofs.Laws.{Reader, Lang, Stops, deeper, Alike, alike_front, alike_healed, Took, IsSound, Keeps, Completes, Grows, Occurs, Starts, Viable, Fails, Bars, Barred, IsRefusing, bind_ok, Seq}
 use Rattle.traceql_parse.proofs.Base.{One, at_sign, placing, placing_before, sign_sound, ok_inj, err_inj, not_err, wrong}
-use Rattle.traceql_parse.proofs.Choices.{local_sign, local_behind}
+use Rattle.traceql_parse.proofs.Choices.{Local, local_sign, local_behind}
 
 -- Reading nothing.
 
@@ -48,6 +48,178 @@ pure_refuses {A = A} a n ts why rest e = not_err {A = A} (a, ts) (why, rest) e
 pub data Tail {A B : Type 0} (M : Lang B) (join : A → B → A) (n : ℕ) : A → A → List Token → Type 0 where
   done : {a : A} → Tail M join n a a []
   turn : {a c : A} {b : B} {ys zs ts : List Token} → ts ≡ ys ++ zs → M n b ys → Tail M join n (join a b) c zs → Tail M join n a c ts
+
+abbrev pub repeated : {A B : Type 0} → (List Token → Bool) → Reader B → (A → B → A) → A → Reader A
+repeated begin item join a n ts = items begin (item n) join a ts
+
+abbrev pub Repeated : {A B : Type 0} → Lang B → (A → B → A) → A → Lang A
+Repeated M join a n d ts = Tail M join n a d ts
+
+module _ {A B : Type 0} (begin : List Token → Bool) (local : Local begin) (item : Reader B) (M : Lang B) (join : A → B → A) (shrinks : (n : ℕ) → Shrinks (item n)) where
+  turns_keep : (n k : ℕ) (a : A) (ts : List Token) (x : A × List Token) → turns begin (item n) join k a ts ≡ Ok x → length x.1 ≤ length ts
+  turns_keep n zero a ts x e =
+      let same : ◌≡◌ {A = A × List Token} (a, ts) x = ok_inj {A = A} (Ok (a, ts)) (a, ts) x refl e in
+      let long : length ts ≡ length x.1 = ap (λ (z : A × List Token). length z.1) same in
+      omega arith
+  turns_keep n (suc k) a ts x e = keep_test n k a ts x e (begin ts) refl (turns_keep n k)
+    where
+      keep_item : (n k : ℕ) (a : A) (ts : List Token) (x : A × List Token) (r : Answer B) → item n ts ≡ r → (r >>= λ y. turns begin (item n) join k (join a y.0) y.1) ≡ Ok x → ((a : A) (ts : List Token) (x : A × List Token) → turns begin (item n) join k a ts ≡ Ok x → length x.1 ≤ length ts) → length x.1 ≤ length ts
+      keep_item n k a ts x (Ok y) h e again =
+          let one : length y.1 < length ts = shrinks n ts y h in
+          let two : length x.1 ≤ length y.1 = again (join a y.0) y.1 x e in
+          omega arith
+      keep_item n k a ts x (Err d) h e again = cc
+
+      keep_test : (n k : ℕ) (a : A) (ts : List Token) (x : A × List Token) → turns begin (item n) join (suc k) a ts ≡ Ok x → (b : Bool) → begin ts ≡ b → ((a : A) (ts : List Token) (x : A × List Token) → turns begin (item n) join k a ts ≡ Ok x → length x.1 ≤ length ts) → length x.1 ≤ length ts
+      keep_test n k a ts x e true t again = keep_item n k a ts x (item n ts) refl (sym (turns_on begin (item n) join k a ts (item n ts) t refl) ∙ e) again
+      keep_test n k a ts x e false t again =
+          let same : ◌≡◌ {A = A × List Token} (a, ts) x = ok_inj {A = A} (turns begin (item n) join (suc k) a ts) (a, ts) x (turns_stop begin (item n) join (suc k) a ts t) e in
+          let long : length ts ≡ length x.1 = ap (λ (z : A × List Token). length z.1) same in
+          omega arith
+
+  pub repeated_keeps : (a : A) → Keeps (repeated begin item join a)
+  unfolding items
+  repeated_keeps a n ts x e = turns_keep n (length ts) a ts x e
+
+  -- one turn, wherever more may be opened
+  step_at : (n : ℕ) (a : A) (b : B) (ys after : List Token) → begin (ys ++ after) ≡ true → item n (ys ++ after) ≡ Ok (b, after) → repeated begin item join a n (ys ++ after) ≡ repeated begin item join (join a b) n after
+  step_at n a b ys after t h = items_step begin (item n) join local.none (shrinks n) a (ys ++ after) (b, after) t h
+
+  begins_behind : (ts front rest other : List Token) → ts ≡ front ++ rest → begin ts ≡ true → Alike rest other → begin (front ++ other) ≡ true
+  begins_behind ts front rest other cut t like = local.same (front ++ rest) (front ++ other) (alike_front front rest other like) ∙ sym (ap begin cut) ∙ t
+
+  stopped : (n : ℕ) (a : A) (ts : List Token) (d : A) (rest : List Token) → begin ts ≡ false → ◌≡◌ {A = A × List Token} (a, ts) (d, rest) → Took (repeated begin item join a) (Repeated M join a) n ts d rest
+  stopped n a ts d rest t same =
+      subst (λ (z : A × List Token). Took (repeated begin item join a) (Repeated M join a) n ts z.0 z.1) same
+      (record { front = []; cut = refl; spelled = done; stable = (λ m other like. items_stop begin (item (deeper m n)) join a other (local.same ts other like ∙ t)) })
+
+  turned : (n : ℕ) (a : A) (ts : List Token) (b : B) (after : List Token) (d : A) (rest : List Token) → begin ts ≡ true → Took item M n ts b after → Took (repeated begin item join (join a b)) (Repeated M join (join a b)) n after d rest → Took (repeated begin item join a) (Repeated M join a) n ts d rest
+  turned n a ts b after d rest t one two = record {
+    front = one.front ++ two.front;
+    cut = one.cut ∙ ap (λ (z : List Token). one.front ++ z) two.cut ∙ sym (append_assoc one.front two.front rest);
+    spelled = turn refl one.spelled two.spelled;
+    stable = (λ m other like.
+        let behind : Alike after (two.front ++ other) = subst (λ (z : List Token). Alike z (two.front ++ other)) (sym two.cut) (alike_front two.front rest other like) in
+        ap (repeated begin item join a (deeper m n)) (append_assoc one.front two.front other)
+        ∙ step_at (deeper m n) a b one.front (two.front ++ other) (begins_behind ts one.front after (two.front ++ other) one.cut t behind) (one.stable m (two.front ++ other) behind)
+        ∙ two.stable m other like);
+  }
+
+  turns_took : (n : ℕ) → IsSound item M n → (k : ℕ) (a : A) (ts : List Token) (d : A) (rest : List Token) → length ts ≤ k → turns begin (item n) join k a ts ≡ Ok (d, rest) → Took (repeated begin item join a) (Repeated M join a) n ts d rest
+  turns_took n si zero a [] d rest long e = stopped n a [] d rest local.none (ok_inj {A = A} (Ok (a, [])) (a, []) (d, rest) refl e)
+  turns_took n si zero a (t ∷ ts) d rest long e = absurd (omega arith)
+  turns_took n si (suc k) a ts d rest long e = took_test (begin ts) refl (turns_took n si k)
+    where
+      took_item : (r : Answer B) → item n ts ≡ r → begin ts ≡ true → (r >>= λ y. turns begin (item n) join k (join a y.0) y.1) ≡ Ok (d, rest) → ((a : A) (ts : List Token) (d : A) (rest : List Token) → length ts ≤ k → turns begin (item n) join k a ts ≡ Ok (d, rest) → Took (repeated begin item join a) (Repeated M join a) n ts d rest) → Took (repeated begin item join a) (Repeated M join a) n ts d rest
+      took_item (Ok y) h t e again =
+          let less : length y.1 < length ts = shrinks n ts y h in
+          turned n a ts y.0 y.1 d rest t (si ts y.0 y.1 h) (again (join a y.0) y.1 d rest (omega arith) e)
+      took_item (Err x) h t e again = cc
+
+      took_test : (b : Bool) → begin ts ≡ b → ((a : A) (ts : List Token) (d : A) (rest : List Token) → length ts ≤ k → turns begin (item n) join k a ts ≡ Ok (d, rest) → Took (repeated begin item join a) (Repeated M join a) n ts d rest) → Took (repeated begin item join a) (Repeated M join a) n ts d rest
+      took_test true t again = took_item (item n ts) refl t (sym (turns_on begin (item n) join k a ts (item n ts) t refl) ∙ e) again
+      took_test false t again = stopped n a ts d rest t (ok_inj {A = A} (turns begin (item n) join (suc k) a ts) (a, ts) (d, rest) (turns_stop begin (item n) join (suc k) a ts t) e)
+
+  pub repeated_sound : (n : ℕ) → IsSound item M n → (a : A) → IsSound (repeated begin item join a) (Repeated M join a) n
+  unfolding items
+  repeated_sound n si a ts d rest e = turns_took n si (length ts) a ts d rest (omega arith) e
+
+  pub repeated_completes : (g h : TokenKind → Bool) → ((ts : List Token) → Stops h ts → begin ts ≡ false) → ((m : ℕ) (b : B) (ys more : List Token) → M m b ys → begin (ys ++ more) ≡ true) → (n : ℕ) → ((a d : A) (ys rest : List Token) → Repeated M join a n d ys → Stops h rest → Stops g (ys ++ rest)) → Completes item M g n → (a d : A) (ys rest : List Token) → Repeated M join a n d ys → Stops h rest → repeated begin item join a n (ys ++ rest) ≡ Ok (d, rest)
+  repeated_completes g h ends starts n apart ci a d ys rest done s = items_stop begin (item n) join a rest (ends rest s)
+  repeated_completes g h ends starts n apart ci a d ys rest (turn {b = b} {ys = xs} {zs = zs} e m more) s =
+      let after : List Token = zs ++ rest in
+      let again : repeated begin item join (join a b) n after ≡ Ok (d, rest) = repeated_completes g h ends starts n apart ci (join a b) d zs rest more s in
+      ap (repeated begin item join a n) (ap (λ (z : List Token). z ++ rest) e ∙ append_assoc xs zs rest)
+      ∙ step_at n a b xs after (starts n b xs after m) (ci b xs after m (apart (join a b) d zs rest more s))
+      ∙ again
+
+  grow_tail : Grows M → (n : ℕ) (a d : A) (ts : List Token) → Repeated M join a n d ts → Repeated M join a (suc n) d ts
+  grow_tail gi n a d ts done = done
+  grow_tail gi n a d ts (turn {b = b} {ys = ys} {zs = zs} e m more) = turn e (gi n b ys m) (grow_tail gi n (join a b) d zs more)
+
+  pub repeated_grows : Grows M → (a : A) → Grows (Repeated M join a)
+  repeated_grows gi a n d ts t = grow_tail gi n a d ts t
+
+  pub repeated_occurs : (a : A) → Occurs (Repeated M join a)
+  repeated_occurs a n = (a, [], done)
+
+  starts_item : (n : ℕ) (a : A) (front : List Token) → Starts M n front → Starts (Repeated M join a) n front
+  starts_item n a front s = (join a s.0, s.1, turn (sym (append-nil (front ++ s.1))) s.2 done)
+
+  starts_later : (n : ℕ) (a : A) (b : B) (xs front : List Token) → M n b xs → Starts (Repeated M join (join a b)) n front → Starts (Repeated M join a) n (xs ++ front)
+  starts_later n a b xs front m s = (s.0, s.1, turn (append_assoc xs front s.1) m s.2)
+
+  fails_item : (n : ℕ) (a : A) (ts : List Token) → begin ts ≡ true → (r : Answer B) → item n ts ≡ r → Fails r → Fails (repeated begin item join a n ts)
+  fails_item n a ts t (Ok x) h k = absurd k
+  fails_item n a ts t (Err e) h k = subst (λ (z : Answer A). Fails z) (sym (items_fail begin (item n) join local.none a ts e t h)) tt
+
+  item_bars : (n : ℕ) (a : A) (front rest : List Token) (why : Cause) → begin (front ++ rest) ≡ true → Bars item M n front rest why → Bars (repeated begin item join a) (Repeated M join a) n front rest why
+  item_bars n a front [] why h b = b
+  item_bars n a front (t ∷ rest) cause.Unfinished h b = b
+  item_bars n a front (t ∷ rest) cause.Unexpected h b = λ m more.
+      let ts : List Token = front ++ (healed t ∷ more) in
+      fails_item (deeper m n) a ts (local_behind begin local front rest t more ∙ h) (item (deeper m n) ts) refl (b m more)
+  item_bars n a front (t ∷ rest) cause.Faulty h b = (b.0, starts_item n a (front ++ (healed t ∷ [])) b.1)
+  item_bars n a front (t ∷ rest) cause.TooDeep h b = (
+    (λ more. let ts : List Token = front ++ (healed t ∷ more) in
+        fails_item n a ts (local_behind begin local front rest t more ∙ h) (item n ts) refl (b.0 more)),
+    starts_item (suc n) a (front ++ (healed t ∷ [])) b.1,
+  )
+
+  item_viable : (n : ℕ) (a : A) (front : List Token) → Viable M n front → Viable (Repeated M join a) n front
+  item_viable n a front (inl e) = inl e
+  item_viable n a front (inr s) = inr (starts_item n a front s)
+
+  module _ (gi : Grows M) where
+    fails_later : (n m : ℕ) (a : A) (ts : List Token) (b : B) (after front : List Token) (t : Token) (rest : List Token) (one : Took item M n ts b after) → begin ts ≡ true → after ≡ front ++ (t ∷ rest) → (more : List Token) → Fails (repeated begin item join (join a b) (deeper m n) (front ++ (healed t ∷ more))) → Fails (repeated begin item join a (deeper m n) ((one.front ++ front) ++ (healed t ∷ more)))
+    fails_later n m a ts b after front t rest one bt cut more k =
+        let tail : List Token = front ++ (healed t ∷ more) in
+        let like : Alike after tail = subst (λ (z : List Token). Alike z tail) (sym cut) (alike_healed front t rest more) in
+        subst (λ (z : Answer A). Fails z)
+        (sym (ap (repeated begin item join a (deeper m n)) (append_assoc one.front front (healed t ∷ more)) ∙ step_at (deeper m n) a b one.front tail (begins_behind ts one.front after tail one.cut bt like) (one.stable m tail like))) k
+
+    later_bars : (n : ℕ) (a : A) (ts : List Token) (b : B) (after front rest : List Token) (why : Cause) (one : Took item M n ts b after) → begin ts ≡ true → after ≡ front ++ rest → Bars (repeated begin item join (join a b)) (Repeated M join (join a b)) n front rest why → Bars (repeated begin item join a) (Repeated M join a) n (one.front ++ front) rest why
+    later_bars n a ts b after front [] why one bt cut k = k
+    later_bars n a ts b after front (t ∷ rest) cause.Unfinished one bt cut k = k
+    later_bars n a ts b after front (t ∷ rest) cause.Unexpected one bt cut k = λ m more. fails_later n m a ts b after front t rest one bt cut more (k m more)
+    later_bars n a ts b after front (t ∷ rest) cause.Faulty one bt cut k =
+        (k.0, subst (λ (z : List Token). Starts (Repeated M join a) n z) (sym (append_assoc one.front front (healed t ∷ []))) (starts_later n a b one.front (front ++ (healed t ∷ [])) one.spelled k.1))
+    later_bars n a ts b after front (t ∷ rest) cause.TooDeep one bt cut k = (
+      (λ more. fails_later n zero a ts b after front t rest one bt cut more (k.0 more)),
+      subst (λ (z : List Token). Starts (Repeated M join a) (suc n) z) (sym (append_assoc one.front front (healed t ∷ []))) (starts_later (suc n) a b one.front (front ++ (healed t ∷ [])) (gi n b one.front one.spelled) k.1),
+    )
+
+    later_viable : (n : ℕ) (a : A) (b : B) (xs front : List Token) → M n b xs → Viable (Repeated M join (join a b)) n front → Viable (Repeated M join a) n (xs ++ front)
+    later_viable n a b xs front m (inl e) =
+        inr (join a b, [], turn (append-nil (xs ++ front) ∙ ap (λ (z : List Token). xs ++ z) e) m done)
+    later_viable n a b xs front m (inr s) = inr (starts_later n a b xs front m s)
+
+    barred_later : (n : ℕ) (a : A) (ts : List Token) (b : B) (after : List Token) (why : Cause) (rest : List Token) → begin ts ≡ true → Took item M n ts b after → Barred (repeated begin item join (join a b)) (Repeated M join (join a b)) n after why rest → Barred (repeated begin item join a) (Repeated M join a) n ts why rest
+    barred_later n a ts b after why rest bt one k = record {
+      front = one.front ++ k.front;
+      cut = one.cut ∙ ap (λ (z : List Token). one.front ++ z) k.cut ∙ sym (append_assoc one.front k.front rest);
+      viable = later_viable n a b one.front k.front one.spelled k.viable;
+      bars = later_bars n a ts b after k.front rest why one bt k.cut k.bars;
+    }
+
+    turns_barred : (n : ℕ) → IsSound item M n → IsRefusing item M n → (k : ℕ) (a : A) (ts : List Token) (why : Cause) (rest : List Token) → turns begin (item n) join k a ts ≡ Err (why, rest) → Barred (repeated begin item join a) (Repeated M join a) n ts why rest
+    turns_barred n si ri zero a ts why rest e = not_err {A = A} (a, ts) (why, rest) e
+    turns_barred n si ri (suc k) a ts why rest e = barred_test (begin ts) refl (turns_barred n si ri k)
+      where
+        barred_item : (r : Answer B) → item n ts ≡ r → begin ts ≡ true → (r >>= λ y. turns begin (item n) join k (join a y.0) y.1) ≡ Err (why, rest) → ((a : A) (ts : List Token) (why : Cause) (rest : List Token) → turns begin (item n) join k a ts ≡ Err (why, rest) → Barred (repeated begin item join a) (Repeated M join a) n ts why rest) → Barred (repeated begin item join a) (Repeated M join a) n ts why rest
+        barred_item (Ok y) h t e again = barred_later n a ts y.0 y.1 why rest t (si ts y.0 y.1 h) (again (join a y.0) y.1 why rest e)
+        barred_item (Err x) h t e again =
+            let same : item n ts ≡ Err (why, rest) = h ∙ ap (λ (z : Cause × List Token). wrong {A = B} z) (err_inj {A = A} (wrong x) x (why, rest) refl e) in
+            let b = ri ts why rest same in
+            record { front = b.front; cut = b.cut; viable = item_viable n a b.front b.viable; bars = item_bars n a b.front rest why (sym (ap begin b.cut) ∙ t) b.bars }
+
+        barred_test : (b : Bool) → begin ts ≡ b → ((a : A) (ts : List Token) (why : Cause) (rest : List Token) → turns begin (item n) join k a ts ≡ Err (why, rest) → Barred (repeated begin item join a) (Repeated M join a) n ts why rest) → Barred (repeated begin item join a) (Repeated M join a) n ts why rest
+        barred_test true t again = barred_item (item n ts) refl t (sym (turns_on begin (item n) join k a ts (item n ts) t refl) ∙ e) again
+        barred_test false t again = not_err {A = A} (a, ts) (why, rest) (sym (turns_stop begin (item n) join (suc k) a ts t) ∙ e)
+
+    pub repeated_refuses : (n : ℕ) → IsSound item M n → IsRefusing item M n → (a : A) → IsRefusing (repeated begin item join a) (Repeated M join a) n
+    unfolding items
+    repeated_refuses n si ri a ts why rest e = turns_barred n si ri (length ts) a ts why rest e
 
 pub some_in_place : {V : Type 0} (at : ℕ) (us : List Token) (o : Option V) → is_some (placing_before at us o) ≡ is_some o
 some_in_place at us None = refl
@@ -95,73 +267,11 @@ module _ {A B V : Type 0} (f : Sign → Option V) (side : ℕ × V → Reader B)
       let two : length x.1 ≤ length w.0.1 = ks w.0.0 n w.0.1 x w.2 in
       omega arith
 
-  turns_keep : ((o : ℕ × V) → Keeps (side o)) → (n k : ℕ) (a : A) (ts : List Token) (x : A × List Token) → turns begin (one_item n) join k a ts ≡ Ok x → length x.1 ≤ length ts
-  turns_keep ks n zero a ts x e =
-      let same : ◌≡◌ {A = A × List Token} (a, ts) x = ok_inj {A = A} (Ok (a, ts)) (a, ts) x refl e in
-      let long : length ts ≡ length x.1 = ap (λ (z : A × List Token). length z.1) same in
-      omega arith
-  turns_keep ks n (suc k) a ts x e = keep_test ks n k a ts x e (begin ts) refl (turns_keep ks n k)
-    where
-      keep_item : ((o : ℕ × V) → Keeps (side o)) → (n k : ℕ) (a : A) (ts : List Token) (x : A × List Token) (r : Answer B) → one_item n ts ≡ r → (r >>= λ y. turns begin (one_item n) join k (join a y.0) y.1) ≡ Ok x → ((a : A) (ts : List Token) (x : A × List Token) → turns begin (one_item n) join k a ts ≡ Ok x → length x.1 ≤ length ts) → length x.1 ≤ length ts
-      keep_item ks n k a ts x (Ok y) h e again =
-          let one : length y.1 < length ts = item_shrinks ks n ts y h in
-          let two : length x.1 ≤ length y.1 = again (join a y.0) y.1 x e in
-          omega arith
-      keep_item ks n k a ts x (Err d) h e again = cc
-
-      keep_test : ((o : ℕ × V) → Keeps (side o)) → (n k : ℕ) (a : A) (ts : List Token) (x : A × List Token) → turns begin (one_item n) join (suc k) a ts ≡ Ok x → (b : Bool) → begin ts ≡ b → ((a : A) (ts : List Token) (x : A × List Token) → turns begin (one_item n) join k a ts ≡ Ok x → length x.1 ≤ length ts) → length x.1 ≤ length ts
-      keep_test ks n k a ts x e true t again = keep_item ks n k a ts x (one_item n ts) refl (sym (turns_on begin (one_item n) join k a ts (one_item n ts) t refl) ∙ e) again
-      keep_test ks n k a ts x e false t again =
-          let same : ◌≡◌ {A = A × List Token} (a, ts) x = ok_inj {A = A} (turns begin (one_item n) join (suc k) a ts) (a, ts) x (turns_stop begin (one_item n) join (suc k) a ts t) e in
-          let long : length ts ≡ length x.1 = ap (λ (z : A × List Token). length z.1) same in
-          omega arith
-
   pub tail_keeps : ((o : ℕ × V) → Keeps (side o)) → (a : A) → Keeps (tailing a)
-  unfolding items
-  tail_keeps ks a n ts x e = turns_keep ks n (length ts) a ts x e
-
-  -- one turn, wherever more may be opened
-  step_at : ((o : ℕ × V) → Keeps (side o)) → (n : ℕ) (a : A) (b : B) (ys after : List Token) → begin (ys ++ after) ≡ true → one_item n (ys ++ after) ≡ Ok (b, after) → tailing a n (ys ++ after) ≡ tailing (join a b) n after
-  step_at ks n a b ys after t h = items_step begin (one_item n) join refl (item_shrinks ks n) a (ys ++ after) (b, after) t h
-
-  begins_behind : (ts front rest other : List Token) → ts ≡ front ++ rest → begin ts ≡ true → Alike rest other → begin (front ++ other) ≡ true
-  begins_behind ts front rest other cut t like = (local_sign f).same (front ++ rest) (front ++ other) (alike_front front rest other like) ∙ sym (ap begin cut) ∙ t
-
-  stopped : (n : ℕ) (a : A) (ts : List Token) (d : A) (rest : List Token) → begin ts ≡ false → ◌≡◌ {A = A × List Token} (a, ts) (d, rest) → Took (tailing a) (Tailing a) n ts d rest
-  stopped n a ts d rest t same =
-      subst (λ (z : A × List Token). Took (tailing a) (Tailing a) n ts z.0 z.1) same
-      (record { front = []; cut = refl; spelled = done; stable = (λ m other like. items_stop begin (one_item (deeper m n)) join a other ((local_sign f).same ts other like ∙ t)) })
-
-  turned : ((o : ℕ × V) → Keeps (side o)) → (n : ℕ) (a : A) (ts : List Token) (b : B) (after : List Token) (d : A) (rest : List Token) → begin ts ≡ true → Took one_item ItemLang n ts b after → Took (tailing (join a b)) (Tailing (join a b)) n after d rest → Took (tailing a) (Tailing a) n ts d rest
-  turned ks n a ts b after d rest t one two = record {
-    front = one.front ++ two.front;
-    cut = one.cut ∙ ap (λ (z : List Token). one.front ++ z) two.cut ∙ sym (append_assoc one.front two.front rest);
-    spelled = turn refl one.spelled two.spelled;
-    stable = (λ m other like.
-        let behind : Alike after (two.front ++ other) = subst (λ (z : List Token). Alike z (two.front ++ other)) (sym two.cut) (alike_front two.front rest other like) in
-        ap (tailing a (deeper m n)) (append_assoc one.front two.front other)
-        ∙ step_at ks (deeper m n) a b one.front (two.front ++ other) (begins_behind ts one.front after (two.front ++ other) one.cut t behind) (one.stable m (two.front ++ other) behind)
-        ∙ two.stable m other like);
-  }
-
-  turns_took : ((o : ℕ × V) → Keeps (side o)) → (n : ℕ) → IsSound one_item ItemLang n → (k : ℕ) (a : A) (ts : List Token) (d : A) (rest : List Token) → length ts ≤ k → turns begin (one_item n) join k a ts ≡ Ok (d, rest) → Took (tailing a) (Tailing a) n ts d rest
-  turns_took ks n si zero a [] d rest long e = stopped n a [] d rest refl (ok_inj {A = A} (Ok (a, [])) (a, []) (d, rest) refl e)
-  turns_took ks n si zero a (t ∷ ts) d rest long e = absurd (omega arith)
-  turns_took ks n si (suc k) a ts d rest long e = took_test (begin ts) refl (turns_took ks n si k)
-    where
-      took_item : (r : Answer B) → one_item n ts ≡ r → begin ts ≡ true → (r >>= λ y. turns begin (one_item n) join k (join a y.0) y.1) ≡ Ok (d, rest) → ((a : A) (ts : List Token) (d : A) (rest : List Token) → length ts ≤ k → turns begin (one_item n) join k a ts ≡ Ok (d, rest) → Took (tailing a) (Tailing a) n ts d rest) → Took (tailing a) (Tailing a) n ts d rest
-      took_item (Ok y) h t e again =
-          let less : length y.1 < length ts = item_shrinks ks n ts y h in
-          turned ks n a ts y.0 y.1 d rest t (si ts y.0 y.1 h) (again (join a y.0) y.1 d rest (omega arith) e)
-      took_item (Err x) h t e again = cc
-
-      took_test : (b : Bool) → begin ts ≡ b → ((a : A) (ts : List Token) (d : A) (rest : List Token) → length ts ≤ k → turns begin (one_item n) join k a ts ≡ Ok (d, rest) → Took (tailing a) (Tailing a) n ts d rest) → Took (tailing a) (Tailing a) n ts d rest
-      took_test true t again = took_item (one_item n ts) refl t (sym (turns_on begin (one_item n) join k a ts (one_item n ts) t refl) ∙ e) again
-      took_test false t again = stopped n a ts d rest t (ok_inj {A = A} (turns begin (one_item n) join (suc k) a ts) (a, ts) (d, rest) (turns_stop begin (one_item n) join (suc k) a ts t) e)
+  tail_keeps ks = repeated_keeps begin (local_sign f) one_item ItemLang join (item_shrinks ks)
 
   pub tail_sound : ((o : ℕ × V) → Keeps (side o)) → (n : ℕ) → IsSound one_item ItemLang n → (a : A) → IsSound (tailing a) (Tailing a) n
-  unfolding items
-  tail_sound ks n si a ts d rest e = turns_took ks n si (length ts) a ts d rest (omega arith) e
+  tail_sound ks = repeated_sound begin (local_sign f) one_item ItemLang join (item_shrinks ks)
 
   pub item_starts : (n : ℕ) (b : B) (ys more : List Token) → ItemLang n b ys → (t : Token) × (us : List Token) × (v : V) × (ys ++ more ≡ t ∷ us) × (on_sign f t.kind ≡ Some v)
   item_starts n b ys more s =
@@ -191,98 +301,10 @@ module _ {A B V : Type 0} (f : Sign → Option V) (side : ℕ × V → Reader B)
       stops_at g (ys ++ rest) w.1 w.0 (ap (λ (z : List Token). z ++ rest) e ∙ append_assoc xs zs rest ∙ w.3) (fs.clash w.0.kind w.2 w.4)
 
   pub tail_completes : (g h : TokenKind → Bool) → Follows g f h → ((o : ℕ × V) → Keeps (side o)) → (n : ℕ) → Completes one_item ItemLang g n → (a d : A) (ys rest : List Token) → Tailing a n d ys → Stops h rest → tailing a n (ys ++ rest) ≡ Ok (d, rest)
-  tail_completes g h fs ks n ci a d ys rest done s = items_stop begin (one_item n) join a rest (stops_begin g h fs rest s)
-  tail_completes g h fs ks n ci a d ys rest (turn {b = b} {ys = xs} {zs = zs} e m more) s =
-      let after : List Token = zs ++ rest in
-      let again : tailing (join a b) n after ≡ Ok (d, rest) = tail_completes g h fs ks n ci (join a b) d zs rest more s in
-      ap (tailing a n) (ap (λ (z : List Token). z ++ rest) e ∙ append_assoc xs zs rest)
-      ∙ step_at ks n a b xs after (item_begins n b xs after m) (ci b xs after m (tail_stops g h fs n (join a b) d zs rest more s))
-      ∙ again
-
-  grow_tail : Grows ItemLang → (n : ℕ) (a d : A) (ts : List Token) → Tailing a n d ts → Tailing a (suc n) d ts
-  grow_tail gi n a d ts done = done
-  grow_tail gi n a d ts (turn {b = b} {ys = ys} {zs = zs} e m more) = turn e (gi n b ys m) (grow_tail gi n (join a b) d zs more)
-
-  pub tail_grows : Grows ItemLang → (a : A) → Grows (Tailing a)
-  tail_grows gi a n d ts t = grow_tail gi n a d ts t
+  tail_completes g h fs ks n = repeated_completes begin (local_sign f) one_item ItemLang join (item_shrinks ks) g h (stops_begin g h fs) item_begins n (tail_stops g h fs n)
 
   pub tail_occurs : (a : A) → Occurs (Tailing a)
   tail_occurs a n = (a, [], done)
 
-  starts_item : (n : ℕ) (a : A) (front : List Token) → Starts ItemLang n front → Starts (Tailing a) n front
-  starts_item n a front s = (join a s.0, s.1, turn (sym (append-nil (front ++ s.1))) s.2 done)
-
-  starts_later : (n : ℕ) (a : A) (b : B) (xs front : List Token) → ItemLang n b xs → Starts (Tailing (join a b)) n front → Starts (Tailing a) n (xs ++ front)
-  starts_later n a b xs front m s = (s.0, s.1, turn (append_assoc xs front s.1) m s.2)
-
-  fails_item : (n : ℕ) (a : A) (ts : List Token) → begin ts ≡ true → (r : Answer B) → one_item n ts ≡ r → Fails r → Fails (tailing a n ts)
-  fails_item n a ts t (Ok x) h k = absurd k
-  fails_item n a ts t (Err e) h k = subst (λ (z : Answer A). Fails z) (sym (items_fail begin (one_item n) join refl a ts e t h)) tt
-
-  item_bars : (n : ℕ) (a : A) (front rest : List Token) (why : Cause) → begin (front ++ rest) ≡ true → Bars one_item ItemLang n front rest why → Bars (tailing a) (Tailing a) n front rest why
-  item_bars n a front [] why h b = b
-  item_bars n a front (t ∷ rest) cause.Unfinished h b = b
-  item_bars n a front (t ∷ rest) cause.Unexpected h b = λ m more.
-      let ts : List Token = front ++ (healed t ∷ more) in
-      fails_item (deeper m n) a ts (local_behind begin (local_sign f) front rest t more ∙ h) (one_item (deeper m n) ts) refl (b m more)
-  item_bars n a front (t ∷ rest) cause.Faulty h b = (b.0, starts_item n a (front ++ (healed t ∷ [])) b.1)
-  item_bars n a front (t ∷ rest) cause.TooDeep h b = (
-    (λ more. let ts : List Token = front ++ (healed t ∷ more) in
-        fails_item n a ts (local_behind begin (local_sign f) front rest t more ∙ h) (one_item n ts) refl (b.0 more)),
-    starts_item (suc n) a (front ++ (healed t ∷ [])) b.1,
-  )
-
-  item_viable : (n : ℕ) (a : A) (front : List Token) → Viable ItemLang n front → Viable (Tailing a) n front
-  item_viable n a front (inl e) = inl e
-  item_viable n a front (inr s) = inr (starts_item n a front s)
-
-  module _ (ks : (o : ℕ × V) → Keeps (side o)) (gi : Grows ItemLang) where
-    fails_later : (n m : ℕ) (a : A) (ts : List Token) (b : B) (after front : List Token) (t : Token) (rest : List Token) (one : Took one_item ItemLang n ts b after) → begin ts ≡ true → after ≡ front ++ (t ∷ rest) → (more : List Token) → Fails (tailing (join a b) (deeper m n) (front ++ (healed t ∷ more))) → Fails (tailing a (deeper m n) ((one.front ++ front) ++ (healed t ∷ more)))
-    fails_later n m a ts b after front t rest one bt cut more k =
-        let tail : List Token = front ++ (healed t ∷ more) in
-        let like : Alike after tail = subst (λ (z : List Token). Alike z tail) (sym cut) (alike_healed front t rest more) in
-        subst (λ (z : Answer A). Fails z)
-        (sym (ap (tailing a (deeper m n)) (append_assoc one.front front (healed t ∷ more)) ∙ step_at ks (deeper m n) a b one.front tail (begins_behind ts one.front after tail one.cut bt like) (one.stable m tail like))) k
-
-    later_bars : (n : ℕ) (a : A) (ts : List Token) (b : B) (after front rest : List Token) (why : Cause) (one : Took one_item ItemLang n ts b after) → begin ts ≡ true → after ≡ front ++ rest → Bars (tailing (join a b)) (Tailing (join a b)) n front rest why → Bars (tailing a) (Tailing a) n (one.front ++ front) rest why
-    later_bars n a ts b after front [] why one bt cut k = k
-    later_bars n a ts b after front (t ∷ rest) cause.Unfinished one bt cut k = k
-    later_bars n a ts b after front (t ∷ rest) cause.Unexpected one bt cut k = λ m more. fails_later n m a ts b after front t rest one bt cut more (k m more)
-    later_bars n a ts b after front (t ∷ rest) cause.Faulty one bt cut k =
-        (k.0, subst (λ (z : List Token). Starts (Tailing a) n z) (sym (append_assoc one.front front (healed t ∷ []))) (starts_later n a b one.front (front ++ (healed t ∷ [])) one.spelled k.1))
-    later_bars n a ts b after front (t ∷ rest) cause.TooDeep one bt cut k = (
-      (λ more. fails_later n zero a ts b after front t rest one bt cut more (k.0 more)),
-      subst (λ (z : List Token). Starts (Tailing a) (suc n) z) (sym (append_assoc one.front front (healed t ∷ []))) (starts_later (suc n) a b one.front (front ++ (healed t ∷ [])) (gi n b one.front one.spelled) k.1),
-    )
-
-    later_viable : (n : ℕ) (a : A) (b : B) (xs front : List Token) → ItemLang n b xs → Viable (Tailing (join a b)) n front → Viable (Tailing a) n (xs ++ front)
-    later_viable n a b xs front m (inl e) =
-        inr (join a b, [], turn (append-nil (xs ++ front) ∙ ap (λ (z : List Token). xs ++ z) e) m done)
-    later_viable n a b xs front m (inr s) = inr (starts_later n a b xs front m s)
-
-    barred_later : (n : ℕ) (a : A) (ts : List Token) (b : B) (after : List Token) (why : Cause) (rest : List Token) → begin ts ≡ true → Took one_item ItemLang n ts b after → Barred (tailing (join a b)) (Tailing (join a b)) n after why rest → Barred (tailing a) (Tailing a) n ts why rest
-    barred_later n a ts b after why rest bt one k = record {
-      front = one.front ++ k.front;
-      cut = one.cut ∙ ap (λ (z : List Token). one.front ++ z) k.cut ∙ sym (append_assoc one.front k.front rest);
-      viable = later_viable n a b one.front k.front one.spelled k.viable;
-      bars = later_bars n a ts b after k.front rest why one bt k.cut k.bars;
-    }
-
-    turns_barred : (n : ℕ) → IsSound one_item ItemLang n → IsRefusing one_item ItemLang n → (k : ℕ) (a : A) (ts : List Token) (why : Cause) (rest : List Token) → turns begin (one_item n) join k a ts ≡ Err (why, rest) → Barred (tailing a) (Tailing a) n ts why rest
-    turns_barred n si ri zero a ts why rest e = not_err {A = A} (a, ts) (why, rest) e
-    turns_barred n si ri (suc k) a ts why rest e = barred_test (begin ts) refl (turns_barred n si ri k)
-      where
-        barred_item : (r : Answer B) → one_item n ts ≡ r → begin ts ≡ true → (r >>= λ y. turns begin (one_item n) join k (join a y.0) y.1) ≡ Err (why, rest) → ((a : A) (ts : List Token) (why : Cause) (rest : List Token) → turns begin (one_item n) join k a ts ≡ Err (why, rest) → Barred (tailing a) (Tailing a) n ts why rest) → Barred (tailing a) (Tailing a) n ts why rest
-        barred_item (Ok y) h t e again = barred_later n a ts y.0 y.1 why rest t (si ts y.0 y.1 h) (again (join a y.0) y.1 why rest e)
-        barred_item (Err x) h t e again =
-            let same : one_item n ts ≡ Err (why, rest) = h ∙ ap (λ (z : Cause × List Token). wrong {A = B} z) (err_inj {A = A} (wrong x) x (why, rest) refl e) in
-            let b = ri ts why rest same in
-            record { front = b.front; cut = b.cut; viable = item_viable n a b.front b.viable; bars = item_bars n a b.front rest why (sym (ap begin b.cut) ∙ t) b.bars }
-
-        barred_test : (b : Bool) → begin ts ≡ b → ((a : A) (ts : List Token) (why : Cause) (rest : List Token) → turns begin (one_item n) join k a ts ≡ Err (why, rest) → Barred (tailing a) (Tailing a) n ts why rest) → Barred (tailing a) (Tailing a) n ts why rest
-        barred_test true t again = barred_item (one_item n ts) refl t (sym (turns_on begin (one_item n) join k a ts (one_item n ts) t refl) ∙ e) again
-        barred_test false t again = not_err {A = A} (a, ts) (why, rest) (sym (turns_stop begin (one_item n) join (suc k) a ts t) ∙ e)
-
-    pub tail_refuses : (n : ℕ) → IsSound one_item ItemLang n → IsRefusing one_item ItemLang n → (a : A) → IsRefusing (tailing a) (Tailing a) n
-    unfolding items
-    tail_refuses n si ri a ts why rest e = turns_barred n si ri (length ts) a ts why rest e
+  pub tail_refuses : ((o : ℕ × V) → Keeps (side o)) → Grows ItemLang → (n : ℕ) → IsSound one_item ItemLang n → IsRefusing one_item ItemLang n → (a : A) → IsRefusing (tailing a) (Tailing a) n
+  tail_refuses ks = repeated_refuses begin (local_sign f) one_item ItemLang join (item_shrinks ks)

@@ -20,4 +20,7 @@ pub mod QueryLaws
 pub mod StageLoops
 pub mod Parsing
 pub mod Promises
+pub mod QueryParsing
+pub mod MetricsLaws
+pub mod MetricsLoops
 pub mod Nesting

@@ -14,6 +14,7 @@ use Rattle.traceql_syntax.specs.Trees.{Placed, SetTree, StageTree, Keep, By, Sel
 use Rattle.traceql_parse.specs.declared.lookahead.Delimiter.TheVariants as delimiter
 use Rattle.traceql_parse.specs.declared.lookahead.AggregateWord.{AggregateWord}
 use Rattle.traceql_parse.specs.Descent as read
+use Rattle.traceql_parse.specs.Descent.{by_word}
 use Rattle.traceql_parse.specs.Reading.{next_sign, next_word, delimits, expect_sign, expect_word}
 use Rattle.traceql_parse.proofs.Laws.{Reader, Lang, IsSound, Keeps, Completes, Grows, Occurs, IsRefusing, Seq, next, next_keeps, next_sound, next_completes, next_grows, next_refuses}
 use Rattle.traceql_parse.proofs.Base.{never, One, at_sign, one_grows, at_word, sign_sound, sign_completes, sign_refuses, word_keeps, word_sound, word_completes, word_refuses, same_keeps, same_sound, same_completes, same_refuses, Image, mapped, mapped_keeps, mapped_sound, mapped_completes, mapped_occurs, mapped_refuses}
@@ -29,32 +30,32 @@ use Rattle.traceql_parse.proofs.Braces.{r_braces, Braced, braces_keeps, braces_s
 use Rattle.traceql_parse.proofs.SetLaws.{r_all, OfSet, All, all_goes, set_goes, all_sound, all_completes, all_refuses, sets_grow, occurs_all}
 use Rattle.traceql_parse.proofs.Group.{Follows, item_shrinks}
 use Rattle.traceql_parse.proofs.Aggregates.{shifted, Shifted, shifted_sound, shifted_refuses, parens_of, Enclosed, enclosed_keeps, enclosed_sound, enclosed_completes, enclosed_refuses, enclosed_occurs, word_begins, other_word, word_no_sign, r_nothing, Nothing, aggregate_grows, aggregate_begins}
-use Rattle.traceql_parse.proofs.StageLaws.{threshold_grow, r_compare, CompareLang, compare_keeps, compare_sound, compare_completes, compare_refuses, comma, r_fields, FieldsOf, fields_keeps, fields_sound, fields_completes, fields_refuses, fields_occurs, never_goes, by_word, coalesce_word, select_word, is_by, is_coalesce, is_select, is_brace, r_by, ByLang, coalesced, r_coalesce, CoalesceLang, r_select, SelectLang, keep_view, r_keep, KeepLang, r_select_on, SelectOn, r_coalesce_on, CoalesceOn, r_by_on, ByOn, StageLang, r_stage, StageOf, stage_is, stage_to, stage_from}
+use Rattle.traceql_parse.proofs.StageLaws.{threshold_grow, r_compare, CompareLang, compare_keeps, compare_sound, compare_completes, compare_refuses, comma, r_fields, FieldsOf, fields_keeps, fields_sound, fields_completes, fields_refuses, fields_occurs, never_goes, coalesce_word, select_word, is_by, is_coalesce, is_select, is_brace, r_by, ByLang, coalesced, r_coalesce, CoalesceLang, r_select, SelectLang, keep_view, r_keep, KeepLang, r_select_on, SelectOn, r_coalesce_on, CoalesceOn, r_by_on, ByOn, StageLang, r_stage, StageOf, stage_is, stage_to, stage_from}
 
 -- The stages that begin with a word of their own.
 
 module _ {V A B : Type 0} (f : Word → Option V) (view : A → B) (p : Reader A) (P : Lang A) where
-  abbrev worded : Reader B
+  abbrev pub worded : Reader B
   worded = next (λ m us. expect_word f us) (λ w. mapped view (parens_of p))
 
-  abbrev Worded : Lang B
+  abbrev pub Worded : Lang B
   Worded = Seq (One (at_word f)) (λ w. Image view (Enclosed P))
 
   worded_keeps : Keeps p → Keeps worded
   worded_keeps k = next_keeps (λ m us. expect_word f us) (One (at_word f)) (λ w. mapped view (parens_of p)) (λ w. Image view (Enclosed P)) (word_keeps f) (λ w. mapped_keeps view (parens_of p) (Enclosed P) (enclosed_keeps p P k))
 
-  worded_sound : (n : ℕ) → IsSound p P n → IsSound worded Worded n
+  pub worded_sound : (n : ℕ) → IsSound p P n → IsSound worded Worded n
   worded_sound n s = next_sound (λ m us. expect_word f us) (One (at_word f)) (λ w. mapped view (parens_of p)) (λ w. Image view (Enclosed P)) n (word_sound f n) (λ w. mapped_sound view (parens_of p) (Enclosed P) n (enclosed_sound p P n s))
 
-  worded_completes : (g : TokenKind → Bool) → g (token.Mark sign.CloseParen) ≡ false → (n : ℕ) → Completes p P g n → Completes worded Worded never n
+  pub worded_completes : (g : TokenKind → Bool) → g (token.Mark sign.CloseParen) ≡ false → (n : ℕ) → Completes p P g n → Completes worded Worded never n
   worded_completes g h n c = next_completes (λ m us. expect_word f us) (One (at_word f)) (λ w. mapped view (parens_of p)) (λ w. Image view (Enclosed P)) never never n (word_completes f n)
       (λ w. mapped_completes view (parens_of p) (Enclosed P) never n (enclosed_completes p P g h n c)) (λ w b ys rest d s. stops_never (ys ++ rest))
 
-  worded_refuses : (n : ℕ) → Grows P → Occurs P → IsSound p P n → IsRefusing p P n → IsRefusing worded Worded n
+  pub worded_refuses : (n : ℕ) → Grows P → Occurs P → IsSound p P n → IsRefusing p P n → IsRefusing worded Worded n
   worded_refuses n gp op sp rp = next_refuses (λ m us. expect_word f us) (One (at_word f)) (λ w. mapped view (parens_of p)) (λ w. Image view (Enclosed P)) n (one_grows (at_word f))
       (λ w. mapped_occurs view (parens_of p) (Enclosed P) (enclosed_occurs p P op)) (word_sound f n) (word_refuses f n) (λ w. mapped_refuses view (parens_of p) (Enclosed P) n (enclosed_refuses p P n gp op sp rp))
 
-  worded_begins : (n : ℕ) (b : B) (front rest : List Token) → Worded n b front → is_some (next_word f (front ++ rest)) ≡ true
+  pub worded_begins : (n : ℕ) (b : B) (front rest : List Token) → Worded n b front → is_some (next_word f (front ++ rest)) ≡ true
   worded_begins n b front rest s =
       ap (λ (z : List Token). is_some (next_word f z)) (ap (λ (z : List Token). z ++ rest) s.cut ∙ append_assoc s.xs s.ys rest) ∙ word_begins f n s.first s.xs (s.ys ++ rest) s.left
 
@@ -119,7 +120,7 @@ keep_begins n a front rest i =
     let w = braces_begin (suc n) i.of front rest i.spelled in
     test_is (delimits delimiter.OpenBrace) (front ++ rest) w.0 (mark i.of.0 sign.OpenBrace) true w.1 refl
 
-nothing_occurs : Occurs Nothing
+pub nothing_occurs : Occurs Nothing
 nothing_occurs n = (tt, [], (refl, refl))
 
 -- Stages.
@@ -246,7 +247,7 @@ query_snoc n a d b ys zs done m = turn (sym (append-nil zs)) m done
 query_snoc n a d b ys zs (turn {b = c} {ys = us} {zs = vs} e k more) m =
     turn (ap (λ (z : List Token). z ++ zs) e ∙ append_assoc us vs zs) k (query_snoc n (read.add_stage a c) d b vs zs more m)
 
-query_from : (n : ℕ) (a : QueryTree) (ts : List Token) → QueryOf n a ts → QueryLang n a ts
+pub query_from : (n : ℕ) (a : QueryTree) (ts : List Token) → QueryOf n a ts → QueryLang n a ts
 query_from n a ts (rule.start {e = e} d) = record { first = e; xs = ts; ys = []; cut = sym (append-nil ts); left = d; right = done }
 query_from n a ts (rule.piped {q = q} {s = s} {xs = xs} {ys = ys} at d e) =
     let front = query_from n q xs d in
@@ -296,7 +297,7 @@ query_completes n = relabel_completes r_query QueryLang QueryOf query_from query
 piped_grows : Grows PipedItem
 piped_grows = next_grows (λ m us. expect_sign (delimits delimiter.Bar) us) (One (at_sign (delimits delimiter.Bar))) stage_side StageSide (one_grows (at_sign (delimits delimiter.Bar))) (λ o. stage_grows)
 
-all_grows : Grows AllDeeper
+pub all_grows : Grows AllDeeper
 all_grows n a ts d = sets_grow All (suc n) a ts d
 
 pub query_refuses : (n : ℕ) → IsRefusing r_query QueryOf n

@@ -18,6 +18,7 @@ use Rattle.traceql_tokens.specs.declared.fixed.Intrinsic.TheVariants as intrinsi
 use Rattle.traceql_syntax.specs.Trees.{Placed, AggregateTree, ThresholdTree, Aggregate, Number, StageTree, Keep, By, Coalesce, Select, Compare}
 use Rattle.traceql_parse.specs.declared.lookahead.Delimiter.TheVariants as delimiter
 use Rattle.traceql_parse.specs.Descent as read
+use Rattle.traceql_parse.specs.Descent.{by_word}
 use Rattle.traceql_parse.specs.Reading.{next_sign, next_word, delimits, expect, expect_sign, expect_word}
 use Rattle.traceql_parse.proofs.Laws.{Reader, Lang, IsSound, Keeps, Completes, Occurs, IsRefusing, Seq, next, next_keeps, next_sound, next_completes, next_grows, next_occurs, next_refuses}
 use Rattle.traceql_parse.proofs.Base.{never, One, at_sign, placing, one_keeps, one_sound, one_completes, one_grows, one_refuses, at_word, sign_keeps, sign_sound, sign_completes, sign_refuses, same_keeps, same_sound, same_completes, same_refuses, Image, mapped, mapped_keeps, mapped_sound, mapped_completes, mapped_occurs, mapped_refuses}
@@ -389,10 +390,6 @@ fields_occurs n = let o = field_occurs n in (o.0 ∷ [], o.2.t ∷ [], rule.only
 
 -- Stages.
 
-abbrev pub by_word : Word → Option (Unit {0})
-by_word word.By = Some tt
-by_word _ = None
-
 abbrev pub coalesce_word : Word → Option (Unit {0})
 coalesce_word word.Coalesce = Some tt
 coalesce_word _ = None
@@ -488,7 +485,7 @@ stage_is n (t ∷ us) = stage_at n t.at t.kind us
 recast_stage : (n : ℕ) (a b : StageTree) (ts us : List Token) → b ≡ a → us ≡ ts → SpellsStage n a ts → SpellsStage n b us
 recast_stage n a b ts us e k d = subst (λ (z : StageTree). SpellsStage n z us) (sym e) (subst (λ (z : List Token). SpellsStage n a z) (sym k) d)
 
-only_by : (w : Word) → by_word w ≡ Some tt → w ≡ word.By
+pub only_by : (w : Word) → by_word w ≡ Some tt → w ≡ word.By
 only_by word.By h = refl
 only_by _ h = cc
 

@@ -252,6 +252,11 @@ more_fields fs ts = items (begins delimiter.Comma) comma_field snoc fs ts
 unfoldable pub fields : List Token → Answer (List Field)
 fields ts = expect field_at ts >>= λ f. more_fields (f.0 ∷ []) f.1
 
+-- the word of the stage `by`
+abbrev pub by_word : Word → Option (Unit {0})
+by_word word.By = Some tt
+by_word _ = None
+
 -- what the first token says of the stage
 abbrev pub word_stage : Word → StageSign
 word_stage word.By = stage_sign.By

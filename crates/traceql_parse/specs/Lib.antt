@@ -1,4 +1,5 @@
 pub mod Reading
 pub mod Descent
+pub mod Metrics
 pub mod Code
 pub mod Outcome

@@ -5,9 +5,7 @@ use Rattle.traceql_tokens.specs.declared.kinds.TokenKind.{TokenKind}
 use Rattle.traceql_tokens.specs.declared.kinds.TokenKind.TheVariants as token
 use Rattle.traceql_syntax.specs.declared.errors.ParseError.{ParseError}
 use Rattle.traceql_syntax.specs.declared.errors.ParseError.TheVariants as error
-use Rattle.traceql_syntax.specs.declared.query.Query.{Query}
 use Rattle.traceql_syntax.specs.Refusals.{fault_error}
-use Rattle.traceql_syntax.specs.Trees.{QueryTree, query_tree}
 use Rattle.traceql_parse.specs.declared.stop.Cause.{Cause}
 use Rattle.traceql_parse.specs.declared.stop.Cause.TheVariants as cause
 use Rattle.traceql_parse.specs.Reading.{Answer}
@@ -24,14 +22,14 @@ abbrev pub error_of : Cause → ℕ → List Token → ParseError
 error_of why len [] = error.Unended len
 error_of why len (t ∷ ts) = token_error why t.at t.kind
 
--- a query is all of the tokens
-abbrev pub outcome : ℕ → Answer QueryTree → Result QueryTree ParseError
-outcome len (Ok (q, [])) = Ok q
-outcome len (Ok (q, (t ∷ ts))) = Err (token_error cause.Unexpected t.at t.kind)
+-- what was read is all of the tokens
+abbrev pub outcome : {A : Type 0} → ℕ → Answer A → Result A ParseError
+outcome len (Ok (x, [])) = Ok x
+outcome len (Ok (x, (t ∷ ts))) = Err (token_error cause.Unexpected t.at t.kind)
 outcome len (Err (why, rest)) = Err (error_of why len rest)
 
--- the code answers so, unless memory ran out
-abbrev pub Answers : Result Query ParseError → Result QueryTree ParseError → Type 0
-Answers (Ok q) expected = expected ≡ Ok (query_tree q)
-Answers (Err error.Memory) expected = Unit {0}
-Answers (Err e) expected = expected ≡ Err e
+-- the code, seen by view, answers so, unless memory ran out
+abbrev pub Answers : {X A : Type 0} → (X → A) → Result X ParseError → Result A ParseError → Type 0
+Answers view (Ok x) expected = expected ≡ Ok (view x)
+Answers view (Err error.Memory) expected = Unit {0}
+Answers view (Err e) expected = expected ≡ Err e

@@ -3,7 +3,8 @@
 ghost use Rattle.std.specs.Prelude.{◌≡◌, is_some, option_map, if◌then◌else◌, Some, None};
 ghost use Rattle.traceql_syntax.specs.declared.field.Level.TheVariants as level;
 ghost use Rattle.traceql_syntax.specs.Tables as tables;
-ghost use Rattle.traceql_parse.specs.Descent.{aggregate_word_of, item_sign_of, stage_sign_of, tail_of, word_stage};
+ghost use Rattle.traceql_parse.specs.Descent.{aggregate_word_of, by_word, item_sign_of, stage_sign_of, tail_of, word_stage};
+ghost use Rattle.traceql_parse.specs.Metrics.{stage_next};
 ghost use Rattle.traceql_parse.specs.Reading.{Gives, StopsAt, begins, delimits, expect_sign, next_sign, next_word, refusal_of};
 
 use crate::stop::{Cause, Stop};
@@ -382,5 +383,52 @@ pub fn after_first(tokens: &[Token]) -> &[Token]
     match tokens {
         [_, rest @ ..] => rest,
         [] => tokens,
+    }
+}
+
+/// Whether the word `by` stands at the front.
+pub fn begins_by(tokens: &[Token]) -> bool
+    ensures { result ≡ is_some (next_word by_word tokens.now) }
+{
+    match tokens {
+        [first, ..] => matches!(first.kind, TokenKind::Keyword(Word::By)),
+        [] => false,
+    }
+}
+
+/// Whether a word ends a metrics query, and then whether it asks for a rate.
+fn metrics_of(word: Word) -> Option<bool>
+    ensures { result ≡ tables.metrics_word word }
+{
+    match word {
+        Word::Rate => Some(true),
+        Word::CountOverTime => Some(false),
+        _ => None,
+    }
+}
+
+/// The word at the front that ends a metrics query.
+pub fn first_metrics(tokens: &[Token]) -> Option<(u64, bool, &[Token])>
+    ensures { option_map (λ x. ((x.0, x.1), x.2.now)) result ≡ next_word tables.metrics_word tokens.now }
+{
+    match tokens {
+        [first, rest @ ..] => match first.kind {
+            TokenKind::Keyword(word) => Some((first.at, metrics_of(word)?, rest)),
+            _ => None,
+        },
+        [] => None,
+    }
+}
+
+/// Whether another token than a word that ends a metrics query stands at the front.
+pub fn stage_follows(tokens: &[Token]) -> bool
+    ensures { result ≡ stage_next tokens.now }
+{
+    match tokens {
+        [first, ..] => match first.kind {
+            TokenKind::Keyword(word) => metrics_of(word).is_none(),
+            _ => true,
+        },
+        [] => false,
     }
 }

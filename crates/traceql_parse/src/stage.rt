@@ -22,7 +22,7 @@ use traceql_tokens::Token;
 
 /// An expression in parentheses.
 #[tactic(auto, unfolding(crate::specs::Descent::enclosed))]
-fn read_enclosed<'a>(
+pub fn read_enclosed<'a>(
     alloc: Global,
     tokens: &'a [Token],
     inner: u32,
@@ -36,7 +36,7 @@ fn read_enclosed<'a>(
 }
 
 /// Parentheses with nothing in them, and the tokens after them.
-fn read_empty_parens(tokens: &[Token]) -> Result<&[Token], Stop<'_>>
+pub fn read_empty_parens(tokens: &[Token]) -> Result<&[Token], Stop<'_>>
     ensures { Gives (λ x. (tt, x.now)) result (enclosed nothing tokens.now) }
 {
     let (_, rest) = take_delimiter(Delimiter::OpenParen, tokens)?;
@@ -182,7 +182,7 @@ fn read_worded<'a>(
 
 /// A stage: a filter, or one that begins with a word.
 #[tactic(auto, unfolding(crate::specs::Descent::stage))]
-fn read_stage<'a>(
+pub fn read_stage<'a>(
     alloc: Global,
     tokens: &'a [Token],
     inner: u32,
@@ -213,7 +213,7 @@ fn read_piped<'a>(
 
 /// An expression over spansets, of the loosest level.
 #[tactic(auto, unfolding(crate::specs::Descent::all_sets))]
-fn read_all_sets<'a>(
+pub fn read_all_sets<'a>(
     alloc: Global,
     tokens: &'a [Token],
     depth: u32,

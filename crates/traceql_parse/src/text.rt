@@ -16,7 +16,7 @@ use traceql_syntax::{ParseError, Query};
 use traceql_tokens::{Fault, Token, TokenKind, tokens};
 
 /// How many constructs may be open inside the parentheses of a stage: 64 in all.
-const INNER_DEPTH: u32 = 63;
+pub const INNER_DEPTH: u32 = 63;
 
 /// The refusal of a token for its fault.
 fn fault_error(at: u64, fault: Fault) -> ParseError
@@ -49,7 +49,7 @@ fn refused_token(cause: Cause, at: u64, kind: &TokenKind) -> ParseError
 }
 
 /// The refusal of the first of these tokens, or of the end of a text of this length.
-fn refused(cause: Cause, length: u64, rest: &[Token]) -> ParseError
+pub fn refused_at(cause: Cause, length: u64, rest: &[Token]) -> ParseError
     ensures { result ≡ error_of cause length rest.now }
 {
     match rest {
@@ -60,18 +60,18 @@ fn refused(cause: Cause, length: u64, rest: &[Token]) -> ParseError
 
 /// The query that a list of tokens is, all of it; the text has this length.
 fn parse_tokens(alloc: Global, tokens: &[Token], length: u64) -> Result<Query, ParseError>
-    ensures { Answers result (outcome length (read.query 63 tokens.now)) }
+    ensures { Answers query_tree result (outcome length (read.query 63 tokens.now)) }
 {
     match read_query(alloc, tokens, INNER_DEPTH) {
         Ok((query, rest)) => {
             if rest.is_empty() {
                 Ok(query)
             } else {
-                Err(refused(Cause::Unexpected, length, rest))
+                Err(refused_at(Cause::Unexpected, length, rest))
             }
         }
         Err(Stop::Memory) => Err(ParseError::Memory),
-        Err(Stop::Refused(cause, rest)) => Err(refused(cause, length, rest)),
+        Err(Stop::Refused(cause, rest)) => Err(refused_at(cause, length, rest)),
     }
 }
 

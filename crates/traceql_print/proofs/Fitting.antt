@@ -2,7 +2,7 @@
 use Rattle.std.proofs.Common.{◌≡◌, ℕ, ◌+◌, ◌<◌, append_assoc, Bool, true, false, List, [], ◌∷◌, ◌++◌, length, Option, Some, None, inl, inr, ap, sym, subst, ◌∙◌}
 use Rattle.std.specs.List.{AllByRecursion}
 use Rattle.traceql_tokens.specs.Numbers.{LIMIT}
-use Rattle.traceql_tokens.specs.Tokens.{IsToken, AreTokens}
+use Rattle.traceql_tokens.specs.Tokens.{IsToken, IsTokenOf, AreTokens, AreTokensOf}
 use Rattle.traceql_tokens.specs.declared.fixed.Sign.{Sign}
 use Rattle.traceql_tokens.specs.declared.fixed.Sign.TheVariants as sign
 use Rattle.traceql_tokens.specs.declared.fixed.Word.{Word}
@@ -12,14 +12,16 @@ use Rattle.traceql_tokens.specs.declared.kinds.TokenKind.{TokenKind}
 use Rattle.traceql_tokens.specs.declared.kinds.TokenKind.TheVariants as token
 use Rattle.traceql_syntax.specs.declared.field.Field.{Field}
 use Rattle.traceql_syntax.specs.declared.field.Literal.{Literal}
+use Rattle.traceql_syntax.specs.declared.query.AggregateOp.{AggregateOp}
+use Rattle.traceql_syntax.specs.declared.query.AggregateOp.TheVariants as aggregate
 use Rattle.traceql_syntax.specs.Grammar as rule
 use Rattle.traceql_syntax.specs.Grammar.{Class, Spells, SetClass, SpellsCondition, SpellsSet, SpellsAggregate, SpellsThreshold, SpellsFields, SpellsStage, SpellsQuery}
 use Rattle.traceql_syntax.specs.Tables as table
 use Rattle.traceql_syntax.specs.Trees.{Placed, SetTree, AggregateTree, ThresholdTree, StageTree, QueryTree}
-use Rattle.traceql_print.specs.Signs.{literal_kind, field_kind}
+use Rattle.traceql_print.specs.Signs.{aggregate_word, literal_kind, field_kind}
 use Rattle.traceql_print.specs.Kinds.{in_parens, operand, is_binary, expr_kinds, condition_kinds, is_join, set_kinds, aggregate_kinds, threshold_kinds, more_fields_kinds, fields_kinds, stage_kinds, stages_kinds, query_kinds}
 use Rattle.std.proofs.lemmas.Grind.{flat_map-append}
-use Rattle.traceql_print.proofs.Lexed.{Fits}
+use Rattle.traceql_print.proofs.Lexed.{IsQueryWord, Fits}
 use Rattle.traceql_print.proofs.Putting.{flat_map-single}
 use Rattle.traceql_print.proofs.SpelledQueries.{HasFields}
 
@@ -31,7 +33,7 @@ Sane (token.Duration n) = n < LIMIT
 Sane _ = Unit {0}
 
 token_sane : (at : ℕ) (text : List ℕ) (k : TokenKind) → IsToken at text k → Sane k
-unfolding IsToken
+unfolding IsTokenOf
 token_sane at text (token.Named s name) h = h.0
 token_sane at text (token.Number n) h = h.2
 token_sane at text (token.Duration n) h = h.3
@@ -47,7 +49,7 @@ abbrev pub AreSane : List Token → Type 0
 AreSane ts = AllByRecursion (λ (t : Token). Sane t.kind) ts
 
 pub tokens_sane : (at : ℕ) (text : List ℕ) (ts : List Token) → AreTokens at text ts → AreSane ts
-unfolding AreTokens
+unfolding AreTokensOf
 tokens_sane at text [] h = tt
 tokens_sane at text (t ∷ ts) h =
     elim h.5 [
@@ -183,9 +185,15 @@ set_fits (rule.set_left {a = a} {b = b} {xs = xs} l at s k d f) h =
     around_fits _ _ _ (operand_fits (is_join a) (set_kinds a) (set_fits d (front_sane xs _ h))) (operand_fits (is_join b) (set_kinds b) (set_fits f back.1))
 set_fits (rule.set_single l d) h = set_fits d h
 
+aggregate_word_fits : (op : AggregateOp) → IsQueryWord (aggregate_word op)
+aggregate_word_fits aggregate.Average = tt
+aggregate_word_fits aggregate.Least = tt
+aggregate_word_fits aggregate.Greatest = tt
+aggregate_word_fits aggregate.Sum = tt
+
 aggregate_fits : {n : ℕ} {a : AggregateTree} {ts : List Token} → SpellsAggregate n a ts → AreSane ts → AllFit (aggregate_kinds a)
 aggregate_fits (rule.count at opened closed) h = (tt, parens_fit [] tt)
-aggregate_fits (rule.of {e = e} {ts = ts} at w opened closed k d) h = (tt, parens_fit (expr_kinds e.1) (expr_fits d (front_sane ts _ h.1.1)))
+aggregate_fits (rule.of {op = op} {e = e} {ts = ts} at w opened closed k d) h = (aggregate_word_fits op, parens_fit (expr_kinds e.1) (expr_fits d (front_sane ts _ h.1.1)))
 
 threshold_fits : {n : ℕ} {b : ThresholdTree} {ts : List Token} → SpellsThreshold n b ts → AreSane ts → AllFit (threshold_kinds b)
 threshold_fits (rule.aggregate d) h = aggregate_fits d h

@@ -2,7 +2,7 @@
 use Rattle.std.proofs.Common.{◌≡◌, ℕ, ◌+◌, ◌-◌, ◌*◌, ◌/◌, ◌%◌, ◌^◌, ◌<◌, ◌≤◌, Bool, true, false, cond, eqb, List, [], ◌∷◌, ◌++◌, length, map, Option, Some, None, Ok, refl, ap, ap₂, sym, subst, ◌∙◌, inl, inr, arith, ◌&&◌, if◌then◌else◌, length-append, eqb-true, append-nil, codes}
 use Rattle.std.specs.Char.{is_ascii_digit}
 use Rattle.std.specs.Fmt.{decimal}
-use Rattle.std.specs.List.{list_all, AllByRecursion}
+use Rattle.std.specs.List.{Contains, list_all, AllByRecursion}
 use Rattle.std.proofs.lemmas.Fmt.{decimal_by_steps}
 use Rattle.std.proofs.lemmas.List.Sums.{fold-append}
 use Rattle.std.proofs.lemmas.List.Folds.{list_all-append}
@@ -12,8 +12,10 @@ use Rattle.traceql_tokens.specs.Fixed.{scope_text}
 use Rattle.traceql_tokens.specs.Numbers.{LIMIT, Part, IsDigitRun, IsDuration, AreNanos}
 use Rattle.traceql_tokens.specs.Printed.{Apart, at_end, at_space, at_paren, IsSound}
 use Rattle.traceql_tokens.specs.Strings.{is_plain, IsPiece, ArePieces, Means, IsWhole, whole_quoted, meaning}
-use Rattle.traceql_tokens.specs.Tokens.{IsName, IsToken, AreTokens}
+use Rattle.traceql_tokens.specs.Tokens.{IsName, IsToken, IsTokenOf, AreTokens, query_words}
 use Rattle.traceql_tokens.specs.declared.fixed.Sign.TheVariants as sign
+use Rattle.traceql_tokens.specs.declared.fixed.Word.{Word}
+use Rattle.traceql_tokens.specs.declared.fixed.Word.TheVariants as word
 use Rattle.traceql_tokens.specs.declared.kinds.Token.{Token}
 use Rattle.traceql_tokens.specs.declared.kinds.TokenKind.{TokenKind}
 use Rattle.traceql_tokens.specs.declared.kinds.TokenKind.TheVariants as token
@@ -21,13 +23,43 @@ use Rattle.traceql_tokens.specs.declared.units.TimeUnit.TheVariants as unit
 use Rattle.traceql_tokens.proofs.Printed.{printed_token, printed_space, printed_paren, printed_end}
 use Rattle.traceql_print.specs.Text.{piece_or, piece_of, escaped_text, quoted_text, name_text, kind_text, opens, closes, gap, text_from}
 
--- a token that a text can have: no fault, a name that isn't empty, and a number in range
+-- a word that isn't of metrics queries alone
+abbrev pub IsQueryWord : Word → Type 0
+IsQueryWord word.Rate = ⊥
+IsQueryWord word.CountOverTime = ⊥
+IsQueryWord _ = Unit {0}
+
+query_word : (w : Word) → IsQueryWord w → Contains query_words w
+query_word word.Unspecified h = (0, omega arith, refl)
+query_word word.Producer h = (1, omega arith, refl)
+query_word word.Consumer h = (2, omega arith, refl)
+query_word word.Internal h = (3, omega arith, refl)
+query_word word.Coalesce h = (4, omega arith, refl)
+query_word word.Server h = (5, omega arith, refl)
+query_word word.Client h = (6, omega arith, refl)
+query_word word.Select h = (7, omega arith, refl)
+query_word word.False h = (8, omega arith, refl)
+query_word word.Error h = (9, omega arith, refl)
+query_word word.Unset h = (10, omega arith, refl)
+query_word word.Count h = (11, omega arith, refl)
+query_word word.True h = (12, omega arith, refl)
+query_word word.Nil h = (13, omega arith, refl)
+query_word word.Avg h = (14, omega arith, refl)
+query_word word.Min h = (15, omega arith, refl)
+query_word word.Max h = (16, omega arith, refl)
+query_word word.Sum h = (17, omega arith, refl)
+query_word word.Fine h = (18, omega arith, refl)
+query_word word.By h = (19, omega arith, refl)
+query_word word.Rate h = absurd h
+query_word word.CountOverTime h = absurd h
+
+-- a token that a query's text can have: no fault, a word of queries, a name that isn't empty, and a number in range
 abbrev pub Fits : TokenKind → Type 0
 Fits (token.Broken c f) = ⊥
 Fits token.Nameless = ⊥
 Fits token.Unknown = ⊥
 Fits (token.Mark s) = Unit {0}
-Fits (token.Keyword w) = Unit {0}
+Fits (token.Keyword w) = IsQueryWord w
 Fits (token.Builtin i) = Unit {0}
 Fits (token.Named s name) = name ≡ [] → ⊥
 Fits (token.Quoted value) = Unit {0}
@@ -119,12 +151,12 @@ duration_right n h =
 
 -- each printed token is that token
 pub kind_right : (at : ℕ) (k : TokenKind) → Fits k → IsToken at (kind_text k) k
-unfolding kind_text IsToken
+unfolding kind_text IsTokenOf
 kind_right at (token.Broken c f) h = absurd h
 kind_right at token.Nameless h = absurd h
 kind_right at token.Unknown h = absurd h
 kind_right at (token.Mark s) h = refl
-kind_right at (token.Keyword w) h = refl
+kind_right at (token.Keyword w) h = (refl, query_word w h)
 kind_right at (token.Builtin i) h = refl
 kind_right at (token.Named s name) h = (h, record { rest = name_text name; written = refl; named = name_right (at + length (scope_text s)) name (list_all is_name_byte name) refl })
 kind_right at (token.Quoted value) h = quoted_whole value

@@ -22,8 +22,8 @@ use Rattle.traceql_syntax.specs.declared.query.AggregateOp.{AggregateOp}
 use Rattle.traceql_syntax.specs.declared.query.SpansetLevel.{SpansetLevel}
 use Rattle.traceql_syntax.specs.declared.query.SpansetLevel.TheVariants as set_level
 use Rattle.traceql_syntax.specs.declared.query.SpansetOp.{SpansetOp}
-use Rattle.traceql_syntax.specs.Trees.{Literally, Asks, Unary, Binary, Match, Placed, SetTree, Filter, Join, AggregateTree, Count, Of, ThresholdTree, Aggregate, StageTree, Keep, By, Coalesce, Select, Compare, QueryTree}
-use Rattle.traceql_syntax.specs.Tables.{prefix_sign, comparison_sign, level_sign, pattern_sign, set_sign, aggregate_word, literal_of, field_of, measure_of}
+use Rattle.traceql_syntax.specs.Trees.{Literally, Asks, Unary, Binary, Match, Placed, SetTree, Filter, Join, AggregateTree, Count, Of, ThresholdTree, Aggregate, StageTree, Keep, By, Coalesce, Select, Compare, QueryTree, MetricsTree}
+use Rattle.traceql_syntax.specs.Tables.{metrics_word, prefix_sign, comparison_sign, level_sign, pattern_sign, set_sign, aggregate_word, literal_of, field_of, measure_of}
 
 -- a sign and a word at a place
 abbrev pub mark : ℕ → Sign → Token
@@ -115,3 +115,9 @@ pub data SpellsStage : ℕ → StageTree → List Token → Type 0 where
 pub data SpellsQuery : ℕ → QueryTree → List Token → Type 0 where
   start : {n : ℕ} {e : SetTree} {ts : List Token} → SpellsSet n (Sets set_level.Union) e ts → SpellsQuery n (record { spansets = e; stages = [] }) ts
   piped : {n : ℕ} {q : QueryTree} {s : StageTree} {xs ys : List Token} (at : ℕ) → SpellsQuery n q xs → SpellsStage n s ys → SpellsQuery n (record { spansets = q.spansets; stages = q.stages ++ s ∷ [] }) (xs ++ mark at sign.Bar ∷ ys)
+
+-- A metrics query: a query, a bar, `rate ( )` or `count_over_time ( )`, and behind it, if the spans are split, `by` and an expression in
+-- parentheses.
+pub data SpellsMetrics : ℕ → MetricsTree → List Token → Type 0 where
+  whole : {n : ℕ} {q : QueryTree} {rate : Bool} {xs : List Token} (bar at opened closed : ℕ) (w : Word) → metrics_word w ≡ Some rate → SpellsQuery (suc n) q xs → SpellsMetrics (suc n) (record { query = q; rate = rate; by = None }) (xs ++ mark bar sign.Bar ∷ keyword at w ∷ in_parens opened [] closed)
+  split : {n : ℕ} {q : QueryTree} {rate : Bool} {e : Placed} {xs ys : List Token} (bar at opened closed by by_opened by_closed : ℕ) (w : Word) → metrics_word w ≡ Some rate → SpellsQuery (suc n) q xs → Spells n Whole_expression e ys → SpellsMetrics (suc n) (record { query = q; rate = rate; by = Some e }) (xs ++ mark bar sign.Bar ∷ keyword at w ∷ (in_parens opened [] closed ++ keyword by word.By ∷ in_parens by_opened ys by_closed))

@@ -121,6 +121,12 @@ aggregate_word word.Max = Some aggregate.Greatest
 aggregate_word word.Sum = Some aggregate.Sum
 aggregate_word _ = None
 
+-- the words that end a metrics query, and whether they ask for a rate
+abbrev pub metrics_word : Word → Option Bool
+metrics_word word.Rate = Some true
+metrics_word word.CountOverTime = Some false
+metrics_word _ = None
+
 -- the words that are literals
 abbrev pub literal_word : Word → Option Literal
 literal_word word.True = Some (literal.Truth true)

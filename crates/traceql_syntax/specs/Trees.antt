@@ -1,6 +1,6 @@
 -- Queries as trees, without where their parts lie in memory. A number `at` is a place: how many bytes of the text
 -- stand before it.
-use Rattle.std.specs.Prelude.{ℕ, Bool, List, Option, Some, None, map}
+use Rattle.std.specs.Prelude.{ℕ, Bool, List, [], ◌∷◌, ◌++◌, Option, Some, None, map}
 use Rattle.traceql_syntax.specs.declared.field.BinaryOp.{BinaryOp}
 use Rattle.traceql_syntax.specs.declared.field.Comparison.{Comparison}
 use Rattle.traceql_syntax.specs.declared.field.Field.{Field}
@@ -9,6 +9,7 @@ use Rattle.traceql_syntax.specs.declared.field.FieldExpr.TheVariants as expr
 use Rattle.traceql_syntax.specs.declared.field.Literal.{Literal}
 use Rattle.traceql_syntax.specs.declared.field.Operand.{Operand}
 use Rattle.traceql_syntax.specs.declared.field.UnaryOp.{UnaryOp}
+use Rattle.traceql_syntax.specs.declared.metrics.MetricsQuery.{MetricsQuery}
 use Rattle.traceql_syntax.specs.declared.query.Aggregate.{Aggregate as AggregateValue}
 use Rattle.traceql_syntax.specs.declared.query.Aggregate.TheVariants as aggregate
 use Rattle.traceql_syntax.specs.declared.query.AggregateOp.{AggregateOp}
@@ -58,6 +59,17 @@ pub record QueryTree : Type 0 where
   pub spansets : SetTree
   pub stages : List StageTree
 
+-- A metrics query: a query, whether its spans are told as a rate, and by which values they are split.
+pub record MetricsTree : Type 0 where
+  pub query : QueryTree
+  pub rate : Bool
+  pub by : Option Placed
+
+-- The query that is checked and run for a metrics query: its own, with the stage `by` behind it if it splits.
+abbrev pub run_query : QueryTree → Option Placed → QueryTree
+run_query q None = q
+run_query q (Some e) = record { spansets = q.spansets; stages = q.stages ++ By e ∷ [] }
+
 -- The trees of the code's values.
 
 abbrev pub tree : FieldExpr → Tree
@@ -96,6 +108,9 @@ stage_tree (stage.Compare left at op right) = Compare (aggregate_tree left) at o
 
 abbrev pub query_tree : Query → QueryTree
 query_tree q = record { spansets = set_tree q.spansets; stages = map stage_tree q.stages }
+
+abbrev pub metrics_tree : MetricsQuery → MetricsTree
+metrics_tree m = record { query = query_tree m.query; rate = m.rate; by = placed_option m.by }
 
 -- Trees without places: two queries are equal where these are.
 

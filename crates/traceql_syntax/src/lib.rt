@@ -6,10 +6,12 @@
 
 mod errors;
 mod field;
+mod metrics;
 mod query;
 
 pub use errors::ParseError;
 pub use field::{BinaryOp, Comparison, Field, FieldExpr, Level, Literal, Operand, UnaryOp};
+pub use metrics::MetricsQuery;
 pub use query::{
     Aggregate, AggregateOp, Fields, Query, Relation, Side, SpansetExpr, SpansetLevel, SpansetOp,
     Stage, Stages, Threshold,

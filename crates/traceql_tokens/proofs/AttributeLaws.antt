@@ -8,10 +8,11 @@ use Rattle.traceql_tokens.specs.Bytes.{ends_name, is_name_byte}
 use Rattle.traceql_tokens.specs.Fixed.{scope_text}
 use Rattle.traceql_tokens.specs.Strings.{IsString}
 use Rattle.traceql_tokens.specs.StringWalk.{string_at}
-use Rattle.traceql_tokens.specs.Tokens.{IsName, IsAttribute, IsToken}
+use Rattle.traceql_tokens.specs.Tokens.{IsName, IsAttribute, IsTokenOf}
 use Rattle.traceql_tokens.specs.Walk.{name_at, attribute_kind, attribute_at, word_at, token_at}
 use Rattle.traceql_tokens.specs.declared.fixed.AttributeScope.{AttributeScope}
 use Rattle.traceql_tokens.specs.declared.fixed.AttributeScope.TheVariants as scope
+use Rattle.traceql_tokens.specs.declared.fixed.Word.{Word}
 use Rattle.traceql_tokens.proofs.Prefixes.{both, starts_true}
 use Rattle.traceql_tokens.proofs.NumberSteps.{run_passes}
 use Rattle.traceql_tokens.proofs.StringLaws.{Value, string_sound}
@@ -70,11 +71,11 @@ pub name_sound : (at : ℕ) (bs : List ℕ) → Named at bs (name_at at bs)
 unfolding name_at
 name_sound at bs = name_by at bs (string_at at bs) refl
 
-attribute_is : (at : ℕ) (text : List ℕ) (s : AttributeScope) (v : Value) → IsAttribute at text s v → IsToken at text (attribute_kind s v)
-unfolding IsToken attribute_kind
-attribute_is at text s (Ok []) h = (s, h)
-attribute_is at text s (Ok (b ∷ bs)) h = ((λ z. absurd (cc)), h)
-attribute_is at text s (Err f) h = (s, h)
+attribute_is : (words : List Word) (at : ℕ) (text : List ℕ) (s : AttributeScope) (v : Value) → IsAttribute at text s v → IsTokenOf words at text (attribute_kind s v)
+unfolding IsTokenOf attribute_kind
+attribute_is words at text s (Ok []) h = (s, h)
+attribute_is words at text s (Ok (b ∷ bs)) h = ((λ z. absurd (cc)), h)
+attribute_is words at text s (Err f) h = (s, h)
 
 scope_some : (s : AttributeScope) → 0 < length (scope_text s)
 scope_some scope.Any = omega arith
@@ -82,9 +83,9 @@ scope_some scope.Span = omega arith
 scope_some scope.Resource = omega arith
 scope_some scope.Instrumentation = omega arith
 
-pub attribute_sound : (at : ℕ) (s : AttributeScope) (bs : List ℕ) → starts_with nat_eq bs (scope_text s) ≡ true → Tokened at bs (attribute_at at s bs)
+pub attribute_sound : (words : List Word) (at : ℕ) (s : AttributeScope) (bs : List ℕ) → starts_with nat_eq bs (scope_text s) ≡ true → Tokened words at bs (attribute_at at s bs)
 unfolding attribute_at
-attribute_sound at s bs h =
+attribute_sound words at s bs h =
     let t = scope_text s in
     let n = length t in
     let front : bs ≡ t ++ drop n bs = starts_true bs t h in
@@ -95,7 +96,7 @@ attribute_sound at s bs h =
       rest = found.rest;
       parted = front ∙ ap (λ x. t ++ x) found.parted ∙ sym (append_assoc t found.word found.rest);
       size = omega (arith, found.size, length-append t found.word);
-      is = attribute_is at (t ++ found.word) s v.0 (record { rest = found.word; written = refl; named = found.is });
+      is = attribute_is words at (t ++ found.word) s v.0 (record { rest = found.word; written = refl; named = found.is });
       end = end_behind bs n v.1 (omega (arith, ap length front, length-append t (drop n bs))) found.end;
       some = omega (arith, scope_some s);
     }
@@ -164,16 +165,16 @@ name_reach at w rest (Ok name) (inr s) = string_named at w rest (Ok name) (strin
 name_reach at w rest (Err f) s = string_named at w rest (Err f) (string_reach at w rest (Err f) s)
 
 -- the walk comes to the attributes
-pub scope_comes : (s : AttributeScope) (at : ℕ) (rest : List ℕ) → token_at at (scope_text s ++ rest) ≡ Some (attribute_at at s (scope_text s ++ rest))
+pub scope_comes : (s : AttributeScope) (words : List Word) (at : ℕ) (rest : List ℕ) → token_at words at (scope_text s ++ rest) ≡ Some (attribute_at at s (scope_text s ++ rest))
 unfolding token_at word_at string_at
-scope_comes scope.Any at rest = refl
-scope_comes scope.Span at rest = refl
-scope_comes scope.Resource at rest = refl
-scope_comes scope.Instrumentation at rest = refl
+scope_comes scope.Any words at rest = refl
+scope_comes scope.Span words at rest = refl
+scope_comes scope.Resource words at rest = refl
+scope_comes scope.Instrumentation words at rest = refl
 
-pub attribute_reach : (at : ℕ) (w rest : List ℕ) (s : AttributeScope) (v : Value) → IsAttribute at w s v → Reaches (token_at at) w rest (attribute_kind s v)
+pub attribute_reach : (words : List Word) (at : ℕ) (w rest : List ℕ) (s : AttributeScope) (v : Value) → IsAttribute at w s v → Reaches (token_at words at) w rest (attribute_kind s v)
 unfolding attribute_at
-attribute_reach at w rest s v a =
+attribute_reach words at w rest s v a =
     let t = scope_text s in
     let n = length t in
     let r = name_reach (at + n) a.rest rest v a.named in
@@ -183,7 +184,7 @@ attribute_reach at w rest s v a =
     let size : length w ≡ n + length a.rest = ap length a.written ∙ length-append t a.rest in
     record {
       found = (attribute_kind s found.0, n + found.1);
-      is = ap (token_at at) text ∙ scope_comes s at (a.rest ++ rest) ∙ ap (λ x. Some (attribute_kind s (name_at (at + n) x).0, n + (name_at (at + n) x).1)) left;
+      is = ap (token_at words at) text ∙ scope_comes s words at (a.rest ++ rest) ∙ ap (λ x. Some (attribute_kind s (name_at (at + n) x).0, n + (name_at (at + n) x).1)) left;
       far = omega (arith, r.far);
       same = λ z. ap (attribute_kind s) (r.same (omega arith));
     }

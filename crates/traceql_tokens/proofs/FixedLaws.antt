@@ -1,18 +1,18 @@
 -- The tables of the tokens whose text is fixed: where each entry stands, and that what is found is the longest.
 use Rattle.std.proofs.Common.{◌≡◌, ℕ, zero, suc, ◌<◌, ◌≤◌, Bool, true, false, not, ◌&&◌, ◌⊎◌, inl, inr, cond, eqb, nat_eq, nat_lt, List, [], ◌∷◌, ◌++◌, length, drop, Option, None, Some, option_map, find, slice_get, get_or, refl, ap, ap₂, sym, ◌∙◌, subst, arith, length-append}
-use Rattle.std.specs.List.{list_all, starts_with}
+use Rattle.std.specs.List.{Contains, list_all, starts_with}
 use Rattle.std.specs.Option.{is_none, option_or}
 use Rattle.std.proofs.lemmas.List.{get_or_at, get_or_append_left}
 use Rattle.std.proofs.lemmas.List.Sums.{AllPass-from_list_all}
 use Rattle.traceql_tokens.specs.Fixed.{sign_text, word_text, intrinsic_text}
 use Rattle.traceql_tokens.specs.Printed.{Apart, at_end, at_space, at_paren}
-use Rattle.traceql_tokens.specs.Tokens.{IsToken}
+use Rattle.traceql_tokens.specs.Tokens.{IsTokenOf}
 use Rattle.traceql_tokens.specs.StringWalk.{string_at}
-use Rattle.traceql_tokens.specs.Walk.{Measured, fixed_at, word_at, token_at}
-use Rattle.traceql_tokens.specs.declared.tables.TheConstants.{SIGNS, WORDS, INTRINSICS}
+use Rattle.traceql_tokens.specs.Walk.{Measured, in_order, IsTable, fixed_at, word_at, token_at}
+use Rattle.traceql_tokens.specs.declared.tables.TheConstants.{SIGNS, WORDS, METRICS_WORDS, INTRINSICS}
 use Rattle.traceql_tokens.specs.declared.kinds.TokenKind.{TokenKind}
 use Rattle.traceql_tokens.specs.declared.kinds.TokenKind.TheVariants as token
-use Rattle.traceql_tokens.proofs.Prefixes.{both, starts_true, starts_of, find_passes}
+use Rattle.traceql_tokens.proofs.Prefixes.{both, starts_true, starts_of, find_passes, find_there, place_of}
 use Rattle.traceql_tokens.proofs.StringReach.{Reaches}
 use Rattle.traceql_tokens.proofs.NumberLaws.{is_low, low_end}
 use Rattle.traceql_tokens.proofs.Ends.{Found}
@@ -22,11 +22,6 @@ use Rattle.traceql_tokens.specs.declared.fixed.Word.{Word}
 use Rattle.traceql_tokens.specs.declared.fixed.Word.TheVariants as word
 use Rattle.traceql_tokens.specs.declared.fixed.Intrinsic.{Intrinsic}
 use Rattle.traceql_tokens.specs.declared.fixed.Intrinsic.TheVariants as intrinsic
-
--- no entry begins a later one
-abbrev in_order : {X : Type 0} → (X → List ℕ) → List X → Bool
-in_order f [] = true
-in_order f (x ∷ xs) = list_all (λ y. not (starts_with nat_eq (f y) (f x))) xs && in_order f xs
 
 -- what begins a text and is no longer than its front begins the front
 starts_within : (a rest n : List ℕ) → starts_with nat_eq (a ++ rest) n ≡ true → length n ≤ length a → starts_with nat_eq a n ≡ true
@@ -128,73 +123,79 @@ sign_some : (x : Sign) → 0 < length (sign_text x)
 sign_some x = some_length (sign_text x) (sign_all (λ y. nat_lt 0 (length (sign_text y))) refl x)
 
 -- the walk comes to the tables
-sign_comes : (x : Sign) (at : ℕ) (rest : List ℕ) → token_at at (sign_text x ++ rest) ≡ fixed_at (sign_text x ++ rest)
+sign_comes : (x : Sign) (words : List Word) (at : ℕ) (rest : List ℕ) → token_at words at (sign_text x ++ rest) ≡ fixed_at words (sign_text x ++ rest)
 unfolding token_at word_at string_at
-sign_comes sign.BangGreaterGreater at rest = refl
-sign_comes sign.BangLessLess at rest = refl
-sign_comes sign.AmpGreaterGreater at rest = refl
-sign_comes sign.AmpLessLess at rest = refl
-sign_comes sign.BarBar at rest = refl
-sign_comes sign.AmpAmp at rest = refl
-sign_comes sign.GreaterGreater at rest = refl
-sign_comes sign.LessLess at rest = refl
-sign_comes sign.BangEqual at rest = refl
-sign_comes sign.BangTilde at rest = refl
-sign_comes sign.BangGreater at rest = refl
-sign_comes sign.BangLess at rest = refl
-sign_comes sign.AmpGreater at rest = refl
-sign_comes sign.AmpLess at rest = refl
-sign_comes sign.AmpTilde at rest = refl
-sign_comes sign.EqualTilde at rest = refl
-sign_comes sign.GreaterEqual at rest = refl
-sign_comes sign.LessEqual at rest = refl
-sign_comes sign.OpenBrace at rest = refl
-sign_comes sign.CloseBrace at rest = refl
-sign_comes sign.OpenParen at rest = refl
-sign_comes sign.CloseParen at rest = refl
-sign_comes sign.Comma at rest = refl
-sign_comes sign.Bar at rest = refl
-sign_comes sign.Amp at rest = refl
-sign_comes sign.Greater at rest = refl
-sign_comes sign.Less at rest = refl
-sign_comes sign.Tilde at rest = refl
-sign_comes sign.Bang at rest = refl
-sign_comes sign.Equal at rest = refl
-sign_comes sign.Plus at rest = refl
-sign_comes sign.Minus at rest = refl
-sign_comes sign.Star at rest = refl
-sign_comes sign.Slash at rest = refl
-sign_comes sign.Percent at rest = refl
-sign_comes sign.Caret at rest = refl
+sign_comes sign.BangGreaterGreater words at rest = refl
+sign_comes sign.BangLessLess words at rest = refl
+sign_comes sign.AmpGreaterGreater words at rest = refl
+sign_comes sign.AmpLessLess words at rest = refl
+sign_comes sign.BarBar words at rest = refl
+sign_comes sign.AmpAmp words at rest = refl
+sign_comes sign.GreaterGreater words at rest = refl
+sign_comes sign.LessLess words at rest = refl
+sign_comes sign.BangEqual words at rest = refl
+sign_comes sign.BangTilde words at rest = refl
+sign_comes sign.BangGreater words at rest = refl
+sign_comes sign.BangLess words at rest = refl
+sign_comes sign.AmpGreater words at rest = refl
+sign_comes sign.AmpLess words at rest = refl
+sign_comes sign.AmpTilde words at rest = refl
+sign_comes sign.EqualTilde words at rest = refl
+sign_comes sign.GreaterEqual words at rest = refl
+sign_comes sign.LessEqual words at rest = refl
+sign_comes sign.OpenBrace words at rest = refl
+sign_comes sign.CloseBrace words at rest = refl
+sign_comes sign.OpenParen words at rest = refl
+sign_comes sign.CloseParen words at rest = refl
+sign_comes sign.Comma words at rest = refl
+sign_comes sign.Bar words at rest = refl
+sign_comes sign.Amp words at rest = refl
+sign_comes sign.Greater words at rest = refl
+sign_comes sign.Less words at rest = refl
+sign_comes sign.Tilde words at rest = refl
+sign_comes sign.Bang words at rest = refl
+sign_comes sign.Equal words at rest = refl
+sign_comes sign.Plus words at rest = refl
+sign_comes sign.Minus words at rest = refl
+sign_comes sign.Star words at rest = refl
+sign_comes sign.Slash words at rest = refl
+sign_comes sign.Percent words at rest = refl
+sign_comes sign.Caret words at rest = refl
 
-word_order : in_order word_text WORDS ≡ true
+pub word_order : IsTable WORDS
 word_order = refl
 
-word_place : (x : Word) → (i : ℕ) × (slice_get WORDS i ≡ Some x)
-word_place word.Unspecified = (0, refl)
-word_place word.Producer = (1, refl)
-word_place word.Consumer = (2, refl)
-word_place word.Internal = (3, refl)
-word_place word.Coalesce = (4, refl)
-word_place word.Server = (5, refl)
-word_place word.Client = (6, refl)
-word_place word.Select = (7, refl)
-word_place word.False = (8, refl)
-word_place word.Error = (9, refl)
-word_place word.Unset = (10, refl)
-word_place word.Count = (11, refl)
-word_place word.True = (12, refl)
-word_place word.Nil = (13, refl)
-word_place word.Avg = (14, refl)
-word_place word.Min = (15, refl)
-word_place word.Max = (16, refl)
-word_place word.Sum = (17, refl)
-word_place word.Fine = (18, refl)
-word_place word.By = (19, refl)
+pub metrics_order : IsTable METRICS_WORDS
+metrics_order = refl
 
--- what a test says of every entry of the table
-word_all : (p : Word → Bool) → list_all p WORDS ≡ true → (x : Word) → p x ≡ true
-word_all p h x = all_at p WORDS (word_place x).0 x h (word_place x).1
+-- every word is one of metrics queries
+word_place : (x : Word) → (i : ℕ) × (slice_get METRICS_WORDS i ≡ Some x)
+word_place word.CountOverTime = (0, refl)
+word_place word.Unspecified = (1, refl)
+word_place word.Producer = (2, refl)
+word_place word.Consumer = (3, refl)
+word_place word.Internal = (4, refl)
+word_place word.Coalesce = (5, refl)
+word_place word.Server = (6, refl)
+word_place word.Client = (7, refl)
+word_place word.Select = (8, refl)
+word_place word.False = (9, refl)
+word_place word.Error = (10, refl)
+word_place word.Unset = (11, refl)
+word_place word.Count = (12, refl)
+word_place word.True = (13, refl)
+word_place word.Rate = (14, refl)
+word_place word.Nil = (15, refl)
+word_place word.Avg = (16, refl)
+word_place word.Min = (17, refl)
+word_place word.Max = (18, refl)
+word_place word.Sum = (19, refl)
+word_place word.Fine = (20, refl)
+word_place word.By = (21, refl)
+
+-- what a test says of every word
+word_all : (p : Word → Bool) → list_all p METRICS_WORDS ≡ true → (x : Word) → p x ≡ true
+word_all p h x = all_at p METRICS_WORDS (word_place x).0 x h (word_place x).1
 
 word_low : (x : Word) → list_all is_low (word_text x) ≡ true
 word_low = word_all (λ y. list_all is_low (word_text y)) refl
@@ -203,28 +204,30 @@ word_some : (x : Word) → 0 < length (word_text x)
 word_some x = some_length (word_text x) (word_all (λ y. nat_lt 0 (length (word_text y))) refl x)
 
 -- the walk comes to the tables
-word_comes : (x : Word) (at : ℕ) (rest : List ℕ) → token_at at (word_text x ++ rest) ≡ fixed_at (word_text x ++ rest)
+word_comes : (x : Word) (words : List Word) (at : ℕ) (rest : List ℕ) → token_at words at (word_text x ++ rest) ≡ fixed_at words (word_text x ++ rest)
 unfolding token_at word_at string_at
-word_comes word.Unspecified at rest = refl
-word_comes word.Producer at rest = refl
-word_comes word.Consumer at rest = refl
-word_comes word.Internal at rest = refl
-word_comes word.Coalesce at rest = refl
-word_comes word.Server at rest = refl
-word_comes word.Client at rest = refl
-word_comes word.Select at rest = refl
-word_comes word.False at rest = refl
-word_comes word.Error at rest = refl
-word_comes word.Unset at rest = refl
-word_comes word.Count at rest = refl
-word_comes word.True at rest = refl
-word_comes word.Nil at rest = refl
-word_comes word.Avg at rest = refl
-word_comes word.Min at rest = refl
-word_comes word.Max at rest = refl
-word_comes word.Sum at rest = refl
-word_comes word.Fine at rest = refl
-word_comes word.By at rest = refl
+word_comes word.Unspecified words at rest = refl
+word_comes word.Producer words at rest = refl
+word_comes word.Consumer words at rest = refl
+word_comes word.Internal words at rest = refl
+word_comes word.Coalesce words at rest = refl
+word_comes word.Server words at rest = refl
+word_comes word.Client words at rest = refl
+word_comes word.Select words at rest = refl
+word_comes word.False words at rest = refl
+word_comes word.Error words at rest = refl
+word_comes word.Unset words at rest = refl
+word_comes word.Count words at rest = refl
+word_comes word.True words at rest = refl
+word_comes word.Nil words at rest = refl
+word_comes word.Avg words at rest = refl
+word_comes word.Min words at rest = refl
+word_comes word.Max words at rest = refl
+word_comes word.Sum words at rest = refl
+word_comes word.Fine words at rest = refl
+word_comes word.By words at rest = refl
+word_comes word.Rate words at rest = refl
+word_comes word.CountOverTime words at rest = refl
 
 intrinsic_order : in_order intrinsic_text INTRINSICS ≡ true
 intrinsic_order = refl
@@ -263,29 +266,29 @@ intrinsic_some : (x : Intrinsic) → 0 < length (intrinsic_text x)
 intrinsic_some x = some_length (intrinsic_text x) (intrinsic_all (λ y. nat_lt 0 (length (intrinsic_text y))) refl x)
 
 -- the walk comes to the tables
-intrinsic_comes : (x : Intrinsic) (at : ℕ) (rest : List ℕ) → token_at at (intrinsic_text x ++ rest) ≡ fixed_at (intrinsic_text x ++ rest)
+intrinsic_comes : (x : Intrinsic) (words : List Word) (at : ℕ) (rest : List ℕ) → token_at words at (intrinsic_text x ++ rest) ≡ fixed_at words (intrinsic_text x ++ rest)
 unfolding token_at word_at string_at
-intrinsic_comes intrinsic.InstrumentationVersion at rest = refl
-intrinsic_comes intrinsic.InstrumentationName at rest = refl
-intrinsic_comes intrinsic.SpanStatusMessage at rest = refl
-intrinsic_comes intrinsic.TraceRootService at rest = refl
-intrinsic_comes intrinsic.RootServiceName at rest = refl
-intrinsic_comes intrinsic.TraceColonDuration at rest = refl
-intrinsic_comes intrinsic.TraceRootName at rest = refl
-intrinsic_comes intrinsic.StatusMessage at rest = refl
-intrinsic_comes intrinsic.SpanDuration at rest = refl
-intrinsic_comes intrinsic.SpanParentId at rest = refl
-intrinsic_comes intrinsic.TraceDuration at rest = refl
-intrinsic_comes intrinsic.SpanStatus at rest = refl
-intrinsic_comes intrinsic.SpanName at rest = refl
-intrinsic_comes intrinsic.SpanKind at rest = refl
-intrinsic_comes intrinsic.Duration at rest = refl
-intrinsic_comes intrinsic.TraceId at rest = refl
-intrinsic_comes intrinsic.RootName at rest = refl
-intrinsic_comes intrinsic.SpanId at rest = refl
-intrinsic_comes intrinsic.Status at rest = refl
-intrinsic_comes intrinsic.Name at rest = refl
-intrinsic_comes intrinsic.Kind at rest = refl
+intrinsic_comes intrinsic.InstrumentationVersion words at rest = refl
+intrinsic_comes intrinsic.InstrumentationName words at rest = refl
+intrinsic_comes intrinsic.SpanStatusMessage words at rest = refl
+intrinsic_comes intrinsic.TraceRootService words at rest = refl
+intrinsic_comes intrinsic.RootServiceName words at rest = refl
+intrinsic_comes intrinsic.TraceColonDuration words at rest = refl
+intrinsic_comes intrinsic.TraceRootName words at rest = refl
+intrinsic_comes intrinsic.StatusMessage words at rest = refl
+intrinsic_comes intrinsic.SpanDuration words at rest = refl
+intrinsic_comes intrinsic.SpanParentId words at rest = refl
+intrinsic_comes intrinsic.TraceDuration words at rest = refl
+intrinsic_comes intrinsic.SpanStatus words at rest = refl
+intrinsic_comes intrinsic.SpanName words at rest = refl
+intrinsic_comes intrinsic.SpanKind words at rest = refl
+intrinsic_comes intrinsic.Duration words at rest = refl
+intrinsic_comes intrinsic.TraceId words at rest = refl
+intrinsic_comes intrinsic.RootName words at rest = refl
+intrinsic_comes intrinsic.SpanId words at rest = refl
+intrinsic_comes intrinsic.Status words at rest = refl
+intrinsic_comes intrinsic.Name words at rest = refl
+intrinsic_comes intrinsic.Kind words at rest = refl
 
 word_no_sign : (x : Word) (rest : List ℕ) → find (λ y. starts_with nat_eq (word_text x ++ rest) (sign_text y)) SIGNS ≡ None
 word_no_sign x rest = none_there (find (λ y. starts_with nat_eq (word_text x ++ rest) (sign_text y)) SIGNS) (word_all (λ z. is_none (find (λ y. starts_with nat_eq (word_text z ++ rest) (sign_text y)) SIGNS)) refl x)
@@ -293,8 +296,19 @@ word_no_sign x rest = none_there (find (λ y. starts_with nat_eq (word_text x ++
 intrinsic_no_sign : (x : Intrinsic) (rest : List ℕ) → find (λ y. starts_with nat_eq (intrinsic_text x ++ rest) (sign_text y)) SIGNS ≡ None
 intrinsic_no_sign x rest = none_there (find (λ y. starts_with nat_eq (intrinsic_text x ++ rest) (sign_text y)) SIGNS) (intrinsic_all (λ z. is_none (find (λ y. starts_with nat_eq (intrinsic_text z ++ rest) (sign_text y)) SIGNS)) refl x)
 
-intrinsic_no_word : (x : Intrinsic) (rest : List ℕ) → find (λ y. starts_with nat_eq (intrinsic_text x ++ rest) (word_text y)) WORDS ≡ None
-intrinsic_no_word x rest = none_there (find (λ y. starts_with nat_eq (intrinsic_text x ++ rest) (word_text y)) WORDS) (intrinsic_all (λ z. is_none (find (λ y. starts_with nat_eq (intrinsic_text z ++ rest) (word_text y)) WORDS)) refl x)
+not_true : (b : Bool) → not b ≡ true → b ≡ false
+not_true true h = absurd (cc)
+not_true false h = refl
+
+-- a text that no word begins has none of a table in front
+no_word : (bs : List ℕ) → list_all (λ w. not (starts_with nat_eq bs (word_text w))) METRICS_WORDS ≡ true → (words : List Word) → find (λ w. starts_with nat_eq bs (word_text w)) words ≡ None
+no_word bs h [] = refl
+no_word bs h (w ∷ ws) =
+    let other : starts_with nat_eq bs (word_text w) ≡ false = not_true (starts_with nat_eq bs (word_text w)) (word_all (λ w. not (starts_with nat_eq bs (word_text w))) h w) in
+    ap (λ b. cond b (Some w) (find (λ w. starts_with nat_eq bs (word_text w)) ws)) other ∙ no_word bs h ws
+
+intrinsic_no_word : (words : List Word) (x : Intrinsic) (rest : List ℕ) → find (λ y. starts_with nat_eq (intrinsic_text x ++ rest) (word_text y)) words ≡ None
+intrinsic_no_word words x rest = no_word (intrinsic_text x ++ rest) (intrinsic_all (λ z. list_all (λ w. not (starts_with nat_eq (intrinsic_text z ++ rest) (word_text w))) METRICS_WORDS) refl x) words
 
 abbrev by_tables : Option Sign → Option Word → Option Intrinsic → Option Measured
 by_tables a b c =
@@ -302,47 +316,48 @@ by_tables a b c =
     (option_or (option_map (λ w. (token.Keyword w, length (word_text w))) b)
     (option_map (λ i. (token.Builtin i, length (intrinsic_text i))) c))
 
-pub sign_reach : (at : ℕ) (s : Sign) (rest : List ℕ) → Reaches (token_at at) (sign_text s) rest (token.Mark s)
+pub sign_reach : (words : List Word) (at : ℕ) (s : Sign) (rest : List ℕ) → Reaches (token_at words at) (sign_text s) rest (token.Mark s)
 unfolding fixed_at
-sign_reach at s rest =
+sign_reach words at s rest =
     let bs = sign_text s ++ rest in
     let f = firsts sign_text SIGNS (sign_place s).0 s rest sign_order (sign_place s).1 in
     record {
       found = (token.Mark f.0, length (sign_text f.0));
-      is = sign_comes s at rest ∙ ap (λ o. by_tables o (find (λ x. starts_with nat_eq bs (word_text x)) WORDS) (find (λ x. starts_with nat_eq bs (intrinsic_text x)) INTRINSICS)) f.1;
+      is = sign_comes s words at rest ∙ ap (λ o. by_tables o (find (λ x. starts_with nat_eq bs (word_text x)) words) (find (λ x. starts_with nat_eq bs (intrinsic_text x)) INTRINSICS)) f.1;
       far = f.2;
       same = λ z. ap token.Mark (f.3 z);
     }
 
-pub word_reach : (at : ℕ) (w : Word) (rest : List ℕ) → Reaches (token_at at) (word_text w) rest (token.Keyword w)
+pub word_reach : (words : List Word) → IsTable words → (at : ℕ) (w : Word) → Contains words w → (rest : List ℕ) → Reaches (token_at words at) (word_text w) rest (token.Keyword w)
 unfolding fixed_at
-word_reach at w rest =
+word_reach words ordered at w has rest =
     let bs = word_text w ++ rest in
-    let f = firsts word_text WORDS (word_place w).0 w rest word_order (word_place w).1 in
+    let place = place_of w words has in
+    let f = firsts word_text words place.0 w rest ordered place.1 in
     record {
       found = (token.Keyword f.0, length (word_text f.0));
-      is = word_comes w at rest ∙ ap₂ (λ a b. by_tables a b (find (λ x. starts_with nat_eq bs (intrinsic_text x)) INTRINSICS)) (word_no_sign w rest) f.1;
+      is = word_comes w words at rest ∙ ap₂ (λ a b. by_tables a b (find (λ x. starts_with nat_eq bs (intrinsic_text x)) INTRINSICS)) (word_no_sign w rest) f.1;
       far = f.2;
       same = λ z. ap token.Keyword (f.3 z);
     }
 
-pub intrinsic_reach : (at : ℕ) (i : Intrinsic) (rest : List ℕ) → Reaches (token_at at) (intrinsic_text i) rest (token.Builtin i)
+pub intrinsic_reach : (words : List Word) (at : ℕ) (i : Intrinsic) (rest : List ℕ) → Reaches (token_at words at) (intrinsic_text i) rest (token.Builtin i)
 unfolding fixed_at
-intrinsic_reach at i rest =
+intrinsic_reach words at i rest =
     let bs = intrinsic_text i ++ rest in
     let f = firsts intrinsic_text INTRINSICS (intrinsic_place i).0 i rest intrinsic_order (intrinsic_place i).1 in
     record {
       found = (token.Builtin f.0, length (intrinsic_text f.0));
-      is = intrinsic_comes i at rest ∙ ap₂ (λ a b. by_tables a b (find (λ x. starts_with nat_eq bs (intrinsic_text x)) INTRINSICS)) (intrinsic_no_sign i rest) (intrinsic_no_word i rest) ∙ ap (λ c. by_tables None None c) f.1;
+      is = intrinsic_comes i words at rest ∙ ap₂ (λ a b. by_tables a b (find (λ x. starts_with nat_eq bs (intrinsic_text x)) INTRINSICS)) (intrinsic_no_sign i rest) (intrinsic_no_word words i rest) ∙ ap (λ c. by_tables None None c) f.1;
       far = f.2;
       same = λ z. ap token.Builtin (f.3 z);
     }
 
-abbrev pub Tokened : ℕ → List ℕ → Measured → Type 0
-Tokened at bs r = Found bs r.1 (λ w. IsToken at w r.0)
+abbrev pub Tokened : List Word → ℕ → List ℕ → Measured → Type 0
+Tokened words at bs r = Found bs r.1 (λ w. IsTokenOf words at w r.0)
 
-fixed_found : (at : ℕ) (bs text : List ℕ) (k : TokenKind) → starts_with nat_eq bs text ≡ true → list_all is_low text ≡ true → 0 < length text → IsToken at text k → Tokened at bs (k, length text)
-fixed_found at bs text k h low some is = record {
+fixed_found : (words : List Word) (at : ℕ) (bs text : List ℕ) (k : TokenKind) → starts_with nat_eq bs text ≡ true → list_all is_low text ≡ true → 0 < length text → IsTokenOf words at text k → Tokened words at bs (k, length text)
+fixed_found words at bs text k h low some is = record {
   word = text;
   rest = drop (length text) bs;
   parted = starts_true bs text h;
@@ -352,25 +367,31 @@ fixed_found at bs text k h low some is = record {
   some = some;
 }
 
-found_by : (at : ℕ) (bs : List ℕ) (r : Measured) (a : Option Sign) (b : Option Word) (c : Option Intrinsic)
-    → find (λ x. starts_with nat_eq bs (sign_text x)) SIGNS ≡ a → find (λ x. starts_with nat_eq bs (word_text x)) WORDS ≡ b → find (λ x. starts_with nat_eq bs (intrinsic_text x)) INTRINSICS ≡ c
-    → by_tables a b c ≡ Some r → Tokened at bs r
-unfolding IsToken
-found_by at bs r (Some s) b c ea eb ec h =
+found_by : (words : List Word) (at : ℕ) (bs : List ℕ) (r : Measured) (a : Option Sign) (b : Option Word) (c : Option Intrinsic)
+    → find (λ x. starts_with nat_eq bs (sign_text x)) SIGNS ≡ a → find (λ x. starts_with nat_eq bs (word_text x)) words ≡ b → find (λ x. starts_with nat_eq bs (intrinsic_text x)) INTRINSICS ≡ c
+    → by_tables a b c ≡ Some r → Tokened words at bs r
+unfolding IsTokenOf
+found_by words at bs r (Some s) b c ea eb ec h =
     let same : (token.Mark s, length (sign_text s)) ≡ r = cc in
-    subst (Tokened at bs) same (fixed_found at bs (sign_text s) (token.Mark s) (find_passes (λ x. starts_with nat_eq bs (sign_text x)) s SIGNS ea) (sign_low s) (sign_some s) refl)
-found_by at bs r None (Some w) c ea eb ec h =
+    subst (Tokened words at bs) same (fixed_found words at bs (sign_text s) (token.Mark s) (find_passes (λ x. starts_with nat_eq bs (sign_text x)) s SIGNS ea) (sign_low s) (sign_some s) refl)
+found_by words at bs r None (Some w) c ea eb ec h =
     let same : (token.Keyword w, length (word_text w)) ≡ r = cc in
-    subst (Tokened at bs) same (fixed_found at bs (word_text w) (token.Keyword w) (find_passes (λ x. starts_with nat_eq bs (word_text x)) w WORDS eb) (word_low w) (word_some w) refl)
-found_by at bs r None None (Some i) ea eb ec h =
+    subst (Tokened words at bs) same (fixed_found words at bs (word_text w) (token.Keyword w) (find_passes (λ x. starts_with nat_eq bs (word_text x)) w words eb) (word_low w) (word_some w) (refl, find_there (λ x. starts_with nat_eq bs (word_text x)) w words eb))
+found_by words at bs r None None (Some i) ea eb ec h =
     let same : (token.Builtin i, length (intrinsic_text i)) ≡ r = cc in
-    subst (Tokened at bs) same (fixed_found at bs (intrinsic_text i) (token.Builtin i) (find_passes (λ x. starts_with nat_eq bs (intrinsic_text x)) i INTRINSICS ec) (intrinsic_low i) (intrinsic_some i) refl)
-found_by at bs r None None None ea eb ec h = absurd (cc)
+    subst (Tokened words at bs) same (fixed_found words at bs (intrinsic_text i) (token.Builtin i) (find_passes (λ x. starts_with nat_eq bs (intrinsic_text x)) i INTRINSICS ec) (intrinsic_low i) (intrinsic_some i) refl)
+found_by words at bs r None None None ea eb ec h = absurd (cc)
 
-pub fixed_sound : (at : ℕ) (bs : List ℕ) (r : Measured) → fixed_at bs ≡ Some r → Tokened at bs r
+pub fixed_sound : (words : List Word) (at : ℕ) (bs : List ℕ) (r : Measured) → fixed_at words bs ≡ Some r → Tokened words at bs r
 unfolding fixed_at
-fixed_sound at bs r h =
-    found_by at bs r (find (λ x. starts_with nat_eq bs (sign_text x)) SIGNS) (find (λ x. starts_with nat_eq bs (word_text x)) WORDS) (find (λ x. starts_with nat_eq bs (intrinsic_text x)) INTRINSICS) refl refl refl h
+fixed_sound words at bs r h =
+    found_by words at bs r (find (λ x. starts_with nat_eq bs (sign_text x)) SIGNS) (find (λ x. starts_with nat_eq bs (word_text x)) words) (find (λ x. starts_with nat_eq bs (intrinsic_text x)) INTRINSICS) refl refl refl h
+
+-- what none of the tables has in front is no token of fixed text
+pub unfixed : (words : List Word) (bs : List ℕ) → find (λ x. starts_with nat_eq bs (sign_text x)) SIGNS ≡ None → list_all (λ w. not (starts_with nat_eq bs (word_text w))) METRICS_WORDS ≡ true → find (λ x. starts_with nat_eq bs (intrinsic_text x)) INTRINSICS ≡ None
+    → fixed_at words bs ≡ None
+unfolding fixed_at
+unfixed words bs signs others intrinsics = ap₂ (λ a b. by_tables a b (find (λ x. starts_with nat_eq bs (intrinsic_text x)) INTRINSICS)) signs (no_word bs others words) ∙ ap (λ c. by_tables None None c) intrinsics
 
 -- a byte that is neither a space nor a closing parenthesis
 abbrev is_calm : ℕ → Bool
@@ -415,31 +436,32 @@ intrinsic_calm : (x : Intrinsic) → list_all is_calm (drop 1 (intrinsic_text x)
 intrinsic_calm = intrinsic_all (λ y. list_all is_calm (drop 1 (intrinsic_text y))) refl
 
 -- a sign, a word or an intrinsic is found as it stands before what keeps it apart
-pub sign_exact : (at : ℕ) (s : Sign) (rest : List ℕ) → Apart rest → token_at at (sign_text s ++ rest) ≡ Some (token.Mark s, length (sign_text s))
+pub sign_exact : (words : List Word) (at : ℕ) (s : Sign) (rest : List ℕ) → Apart rest → token_at words at (sign_text s ++ rest) ≡ Some (token.Mark s, length (sign_text s))
 unfolding fixed_at
-sign_exact at s rest a =
+sign_exact words at s rest a =
     let bs = sign_text s ++ rest in
     let f = firsts sign_text SIGNS (sign_place s).0 s rest sign_order (sign_place s).1 in
-    sign_comes s at rest ∙ ap (λ o. by_tables o (find (λ x. starts_with nat_eq bs (word_text x)) WORDS) (find (λ x. starts_with nat_eq bs (intrinsic_text x)) INTRINSICS)) f.1
+    sign_comes s words at rest ∙ ap (λ o. by_tables o (find (λ x. starts_with nat_eq bs (word_text x)) words) (find (λ x. starts_with nat_eq bs (intrinsic_text x)) INTRINSICS)) f.1
     ∙ ap (λ y. Some (token.Mark y, length (sign_text y))) (exact_first sign_text SIGNS s rest f sign_calm (sign_some s) a)
 
-pub word_exact : (at : ℕ) (w : Word) (rest : List ℕ) → Apart rest → token_at at (word_text w ++ rest) ≡ Some (token.Keyword w, length (word_text w))
+pub word_exact : (words : List Word) → IsTable words → (at : ℕ) (w : Word) → Contains words w → (rest : List ℕ) → Apart rest → token_at words at (word_text w ++ rest) ≡ Some (token.Keyword w, length (word_text w))
 unfolding fixed_at
-word_exact at w rest a =
+word_exact words ordered at w has rest a =
     let bs = word_text w ++ rest in
-    let f = firsts word_text WORDS (word_place w).0 w rest word_order (word_place w).1 in
-    word_comes w at rest ∙ ap₂ (λ a b. by_tables a b (find (λ x. starts_with nat_eq bs (intrinsic_text x)) INTRINSICS)) (word_no_sign w rest) f.1
-    ∙ ap (λ y. Some (token.Keyword y, length (word_text y))) (exact_first word_text WORDS w rest f word_calm (word_some w) a)
+    let place = place_of w words has in
+    let f = firsts word_text words place.0 w rest ordered place.1 in
+    word_comes w words at rest ∙ ap₂ (λ a b. by_tables a b (find (λ x. starts_with nat_eq bs (intrinsic_text x)) INTRINSICS)) (word_no_sign w rest) f.1
+    ∙ ap (λ y. Some (token.Keyword y, length (word_text y))) (exact_first word_text words w rest f word_calm (word_some w) a)
 
-pub intrinsic_exact : (at : ℕ) (i : Intrinsic) (rest : List ℕ) → Apart rest → token_at at (intrinsic_text i ++ rest) ≡ Some (token.Builtin i, length (intrinsic_text i))
+pub intrinsic_exact : (words : List Word) (at : ℕ) (i : Intrinsic) (rest : List ℕ) → Apart rest → token_at words at (intrinsic_text i ++ rest) ≡ Some (token.Builtin i, length (intrinsic_text i))
 unfolding fixed_at
-intrinsic_exact at i rest a =
+intrinsic_exact words at i rest a =
     let bs = intrinsic_text i ++ rest in
     let f = firsts intrinsic_text INTRINSICS (intrinsic_place i).0 i rest intrinsic_order (intrinsic_place i).1 in
-    intrinsic_comes i at rest ∙ ap₂ (λ a b. by_tables a b (find (λ x. starts_with nat_eq bs (intrinsic_text x)) INTRINSICS)) (intrinsic_no_sign i rest) (intrinsic_no_word i rest) ∙ ap (λ c. by_tables None None c) f.1
+    intrinsic_comes i words at rest ∙ ap₂ (λ a b. by_tables a b (find (λ x. starts_with nat_eq bs (intrinsic_text x)) INTRINSICS)) (intrinsic_no_sign i rest) (intrinsic_no_word words i rest) ∙ ap (λ c. by_tables None None c) f.1
     ∙ ap (λ y. Some (token.Builtin y, length (intrinsic_text y))) (exact_first intrinsic_text INTRINSICS i rest f intrinsic_calm (intrinsic_some i) a)
 
 -- nothing lengthens an opening parenthesis
-pub paren_exact : (at : ℕ) (rest : List ℕ) → token_at at (40 ∷ rest) ≡ Some (token.Mark sign.OpenParen, 1)
+pub paren_exact : (words : List Word) (at : ℕ) (rest : List ℕ) → token_at words at (40 ∷ rest) ≡ Some (token.Mark sign.OpenParen, 1)
 unfolding token_at word_at fixed_at string_at
-paren_exact at rest = refl
+paren_exact words at rest = refl

@@ -9,7 +9,7 @@ use Rattle.traceql_tokens.specs.Fixed.{sign_text, word_text, intrinsic_text, sco
 use Rattle.traceql_tokens.specs.StringWalk.{string_at}
 use Rattle.traceql_tokens.specs.NumberWalk.{number_at}
 use Rattle.traceql_tokens.specs.Walk.{Measured, name_at, attribute_kind, attribute_at, literal_kind, fixed_at, word_at, token_at}
-use Rattle.traceql_tokens.specs.declared.tables.TheConstants.{SIGNS, WORDS, INTRINSICS, SCOPES}
+use Rattle.traceql_tokens.specs.declared.tables.TheConstants.{SIGNS, INTRINSICS, SCOPES}
 use Rattle.traceql_tokens.specs.declared.fixed.AttributeScope.{AttributeScope}
 use Rattle.traceql_tokens.specs.declared.fixed.AttributeScope.TheVariants as scope
 use Rattle.traceql_tokens.specs.declared.fixed.Sign.{Sign}
@@ -69,45 +69,45 @@ attribute_named at n s bs v h = ap (λ (r : Value × ℕ). (attribute_kind s r.0
 
 pub ruleset attribute_cases = (attribute_named)
 
-pub fixed_sign : (bs : List ℕ) (s : Sign) → find (λ x. starts_with nat_eq bs (sign_text x)) SIGNS ≡ Some s → fixed_at bs ≡ Some (token.Mark s, length (sign_text s))
+pub fixed_sign : (words : List Word) (bs : List ℕ) (s : Sign) → find (λ x. starts_with nat_eq bs (sign_text x)) SIGNS ≡ Some s → fixed_at words bs ≡ Some (token.Mark s, length (sign_text s))
 unfolding fixed_at
-fixed_sign bs s h = ap (λ o. option_or (option_map (λ (s : Sign). (token.Mark s, length (sign_text s))) o) (option_or (option_map (λ (w : Word). (token.Keyword w, length (word_text w))) (find (λ x. starts_with nat_eq bs (word_text x)) WORDS)) (option_map (λ (i : Intrinsic). (token.Builtin i, length (intrinsic_text i))) (find (λ x. starts_with nat_eq bs (intrinsic_text x)) INTRINSICS)))) h
+fixed_sign words bs s h = ap (λ o. option_or (option_map (λ (s : Sign). (token.Mark s, length (sign_text s))) o) (option_or (option_map (λ (w : Word). (token.Keyword w, length (word_text w))) (find (λ x. starts_with nat_eq bs (word_text x)) words)) (option_map (λ (i : Intrinsic). (token.Builtin i, length (intrinsic_text i))) (find (λ x. starts_with nat_eq bs (intrinsic_text x)) INTRINSICS)))) h
 
-pub fixed_word : (bs : List ℕ) (w : Word) → find (λ x. starts_with nat_eq bs (sign_text x)) SIGNS ≡ None → find (λ x. starts_with nat_eq bs (word_text x)) WORDS ≡ Some w → fixed_at bs ≡ Some (token.Keyword w, length (word_text w))
+pub fixed_word : (words : List Word) (bs : List ℕ) (w : Word) → find (λ x. starts_with nat_eq bs (sign_text x)) SIGNS ≡ None → find (λ x. starts_with nat_eq bs (word_text x)) words ≡ Some w → fixed_at words bs ≡ Some (token.Keyword w, length (word_text w))
 unfolding fixed_at
-fixed_word bs w h k =
+fixed_word words bs w h k =
     ap₂ (λ o p. option_or (option_map (λ (s : Sign). (token.Mark s, length (sign_text s))) o) (option_or (option_map (λ (w : Word). (token.Keyword w, length (word_text w))) p) (option_map (λ (i : Intrinsic). (token.Builtin i, length (intrinsic_text i))) (find (λ x. starts_with nat_eq bs (intrinsic_text x)) INTRINSICS)))) h k
 
-pub fixed_intrinsic : (bs : List ℕ) → find (λ x. starts_with nat_eq bs (sign_text x)) SIGNS ≡ None → find (λ x. starts_with nat_eq bs (word_text x)) WORDS ≡ None → fixed_at bs ≡ option_map (λ (i : Intrinsic). (token.Builtin i, length (intrinsic_text i))) (find (λ x. starts_with nat_eq bs (intrinsic_text x)) INTRINSICS)
+pub fixed_intrinsic : (words : List Word) (bs : List ℕ) → find (λ x. starts_with nat_eq bs (sign_text x)) SIGNS ≡ None → find (λ x. starts_with nat_eq bs (word_text x)) words ≡ None → fixed_at words bs ≡ option_map (λ (i : Intrinsic). (token.Builtin i, length (intrinsic_text i))) (find (λ x. starts_with nat_eq bs (intrinsic_text x)) INTRINSICS)
 unfolding fixed_at
-fixed_intrinsic bs h k =
+fixed_intrinsic words bs h k =
     ap₂ (λ o p. option_or (option_map (λ (s : Sign). (token.Mark s, length (sign_text s))) o) (option_or (option_map (λ (w : Word). (token.Keyword w, length (word_text w))) p) (option_map (λ (i : Intrinsic). (token.Builtin i, length (intrinsic_text i))) (find (λ x. starts_with nat_eq bs (intrinsic_text x)) INTRINSICS)))) h k
 
 pub ruleset fixed_cases = (fixed_sign, fixed_word, fixed_intrinsic)
 
-abbrev else_at : ℕ → List ℕ → Option Measured
-else_at at bs = cond (eqb (prefix_len is_ascii_digit bs) 0) (word_at at bs) (Some (number_at bs))
+abbrev else_at : List Word → ℕ → List ℕ → Option Measured
+else_at words at bs = cond (eqb (prefix_len is_ascii_digit bs) 0) (word_at words at bs) (Some (number_at bs))
 
-pub token_string : (at n : ℕ) (bs : List ℕ) (v : Value) → string_at at bs ≡ Some (v, n) → token_at at bs ≡ Some (literal_kind v, n)
+pub token_string : (words : List Word) (at n : ℕ) (bs : List ℕ) (v : Value) → string_at at bs ≡ Some (v, n) → token_at words at bs ≡ Some (literal_kind v, n)
 unfolding token_at
-token_string at n bs v h = ap (λ o. option_or (option_map (λ (found : Value × ℕ). (literal_kind found.0, found.1)) o) (else_at at bs)) h
+token_string words at n bs v h = ap (λ o. option_or (option_map (λ (found : Value × ℕ). (literal_kind found.0, found.1)) o) (else_at words at bs)) h
 
-no_string : (at : ℕ) (bs : List ℕ) → string_at at bs ≡ None → token_at at bs ≡ else_at at bs
+no_string : (words : List Word) (at : ℕ) (bs : List ℕ) → string_at at bs ≡ None → token_at words at bs ≡ else_at words at bs
 unfolding token_at
-no_string at bs h = ap (λ o. option_or (option_map (λ (found : Value × ℕ). (literal_kind found.0, found.1)) o) (else_at at bs)) h
+no_string words at bs h = ap (λ o. option_or (option_map (λ (found : Value × ℕ). (literal_kind found.0, found.1)) o) (else_at words at bs)) h
 
-pub token_number : (at : ℕ) (bs : List ℕ) → string_at at bs ≡ None → 0 < prefix_len is_ascii_digit bs → token_at at bs ≡ Some (number_at bs)
-token_number at bs h k = no_string at bs h ∙ ap (λ b. cond b (word_at at bs) (Some (number_at bs))) (ne_eqb (prefix_len is_ascii_digit bs) 0 (λ z. absurd (omega arith)))
+pub token_number : (words : List Word) (at : ℕ) (bs : List ℕ) → string_at at bs ≡ None → 0 < prefix_len is_ascii_digit bs → token_at words at bs ≡ Some (number_at bs)
+token_number words at bs h k = no_string words at bs h ∙ ap (λ b. cond b (word_at words at bs) (Some (number_at bs))) (ne_eqb (prefix_len is_ascii_digit bs) 0 (λ z. absurd (omega arith)))
 
-worded : (at : ℕ) (bs : List ℕ) → string_at at bs ≡ None → prefix_len is_ascii_digit bs ≡ 0 → token_at at bs ≡ word_at at bs
-worded at bs h k = no_string at bs h ∙ ap (λ b. cond b (word_at at bs) (Some (number_at bs))) (eq-eqb (prefix_len is_ascii_digit bs) 0 k)
+worded : (words : List Word) (at : ℕ) (bs : List ℕ) → string_at at bs ≡ None → prefix_len is_ascii_digit bs ≡ 0 → token_at words at bs ≡ word_at words at bs
+worded words at bs h k = no_string words at bs h ∙ ap (λ b. cond b (word_at words at bs) (Some (number_at bs))) (eq-eqb (prefix_len is_ascii_digit bs) 0 k)
 
-pub token_scope : (at : ℕ) (bs : List ℕ) (s : AttributeScope) → string_at at bs ≡ None → prefix_len is_ascii_digit bs ≡ 0 → find (λ x. starts_with nat_eq bs (scope_text x)) SCOPES ≡ Some s → token_at at bs ≡ Some (attribute_at at s bs)
+pub token_scope : (words : List Word) (at : ℕ) (bs : List ℕ) (s : AttributeScope) → string_at at bs ≡ None → prefix_len is_ascii_digit bs ≡ 0 → find (λ x. starts_with nat_eq bs (scope_text x)) SCOPES ≡ Some s → token_at words at bs ≡ Some (attribute_at at s bs)
 unfolding word_at
-token_scope at bs s h k f = worded at bs h k ∙ ap (λ o. option_or (option_map (λ s. attribute_at at s bs) o) (fixed_at bs)) f
+token_scope words at bs s h k f = worded words at bs h k ∙ ap (λ o. option_or (option_map (λ s. attribute_at at s bs) o) (fixed_at words bs)) f
 
-pub token_fixed : (at : ℕ) (bs : List ℕ) → string_at at bs ≡ None → prefix_len is_ascii_digit bs ≡ 0 → find (λ x. starts_with nat_eq bs (scope_text x)) SCOPES ≡ None → token_at at bs ≡ fixed_at bs
+pub token_fixed : (words : List Word) (at : ℕ) (bs : List ℕ) → string_at at bs ≡ None → prefix_len is_ascii_digit bs ≡ 0 → find (λ x. starts_with nat_eq bs (scope_text x)) SCOPES ≡ None → token_at words at bs ≡ fixed_at words bs
 unfolding word_at
-token_fixed at bs h k f = worded at bs h k ∙ ap (λ o. option_or (option_map (λ s. attribute_at at s bs) o) (fixed_at bs)) f
+token_fixed words at bs h k f = worded words at bs h k ∙ ap (λ o. option_or (option_map (λ s. attribute_at at s bs) o) (fixed_at words bs)) f
 
 pub ruleset token_cases = (token_string, token_number, token_scope, token_fixed)

@@ -11,7 +11,8 @@ use Rattle.traceql_tokens.specs.Bytes.{AreDigits, decimal}
 use Rattle.traceql_tokens.specs.Fixed.{unit_text}
 use Rattle.traceql_tokens.specs.Numbers.{LIMIT, IsDigitRun, Part, IsPart, part_text, fraction_text, places, scaled, IsDuration, IsBareDecimal}
 use Rattle.traceql_tokens.specs.NumberWalk.{whole_at, after_whole, after_fraction, fraction_at, part_at, part_len, parts_from, parts_within, parts, number_kind, duration_kind, duration_of, duration_at, plain_at, plain_of, number_at}
-use Rattle.traceql_tokens.specs.Tokens.{IsToken}
+use Rattle.traceql_tokens.specs.Tokens.{IsTokenOf}
+use Rattle.traceql_tokens.specs.declared.fixed.Word.{Word}
 use Rattle.traceql_tokens.specs.declared.kinds.Class.TheVariants as class
 use Rattle.traceql_tokens.specs.declared.kinds.Fault.TheVariants as fault
 use Rattle.traceql_tokens.specs.declared.kinds.TokenKind.{TokenKind}
@@ -98,17 +99,17 @@ row (suc n) bs = row_from n bs (part_at bs) refl (λ p. row n (drop (part_len p)
 abbrev kind_by : ℕ → ℕ → Bool → Bool → TokenKind
 kind_by k s b c = cond b (token.Broken class.Duration fault.NumberRange) (cond c (token.Duration (s / 10 ^ k)) (token.Broken class.Duration fault.FractionLiteral))
 
-duration_by : (at : ℕ) (w : List ℕ) (ps : List Part) (b c : Bool) → IsDuration w ps → nat_le (LIMIT * 10 ^ places ps) (scaled (places ps) ps) ≡ b → eqb (scaled (places ps) ps % 10 ^ places ps) 0 ≡ c → IsToken at w (kind_by (places ps) (scaled (places ps) ps) b c)
-unfolding IsToken
-duration_by at w ps true c d eb ec = (ps, d, grind (arith, nat_tests))
-duration_by at w ps false true d eb ec =
+duration_by : (words : List Word) (at : ℕ) (w : List ℕ) (ps : List Part) (b c : Bool) → IsDuration w ps → nat_le (LIMIT * 10 ^ places ps) (scaled (places ps) ps) ≡ b → eqb (scaled (places ps) ps % 10 ^ places ps) 0 ≡ c → IsTokenOf words at w (kind_by (places ps) (scaled (places ps) ps) b c)
+unfolding IsTokenOf
+duration_by words at w ps true c d eb ec = (ps, d, grind (arith, nat_tests))
+duration_by words at w ps false true d eb ec =
     let k = places ps in
     let s = scaled k ps in
     let small : s < LIMIT * 10 ^ k = grind (arith, nat_tests) in
     let zero_rest : s % 10 ^ k ≡ 0 = eqb-true (s % 10 ^ k) 0 ec in
     let split = div-add-mod' s (10 ^ k) in
     (ps, d, omega arith, div_below s (10 ^ k) LIMIT (power_some k) small)
-duration_by at w ps false false d eb ec =
+duration_by words at w ps false false d eb ec =
     let k = places ps in
     let s = scaled k ps in
     let small : s < LIMIT * 10 ^ k = grind (arith, nat_tests) in (
@@ -120,12 +121,12 @@ duration_by at w ps false false d eb ec =
           eqb-false (s % 10 ^ k) 0 ec (ap (λ x. x % 10 ^ k) (sym z) ∙ mod-mul-add n (10 ^ k) 0 (power_some k))),
     )
 
-duration_is : (at : ℕ) (w : List ℕ) (ps : List Part) → IsDuration w ps → IsToken at w (duration_kind (places ps) (scaled (places ps) ps))
+duration_is : (words : List Word) (at : ℕ) (w : List ℕ) (ps : List Part) → IsDuration w ps → IsTokenOf words at w (duration_kind (places ps) (scaled (places ps) ps))
 unfolding duration_kind
-duration_is at w ps d = duration_by at w ps (nat_le (LIMIT * 10 ^ places ps) (scaled (places ps) ps)) (eqb (scaled (places ps) ps % 10 ^ places ps) 0) d refl refl
+duration_is words at w ps d = duration_by words at w ps (nat_le (LIMIT * 10 ^ places ps) (scaled (places ps) ps)) (eqb (scaled (places ps) ps % 10 ^ places ps) 0) d refl refl
 
 abbrev pub Numbered : List ℕ → TokenKind × ℕ → Type 0
-Numbered bs r = Found bs r.1 (λ w. (at : ℕ) → IsToken at w r.0)
+Numbered bs r = Found bs r.1 (λ w. (words : List Word) (at : ℕ) → IsTokenOf words at w r.0)
 
 text_some : (p : Part) (ps : List Part) → 0 < length (flat_map part_text (p ∷ ps))
 text_some p ps = omega (arith, length-append (part_text p) (flat_map part_text ps), part_some p)
@@ -136,23 +137,23 @@ durations_found bs p ps r = record {
   rest = r.rest;
   parted = r.parted;
   size = refl;
-  is = λ at. duration_is at (flat_map part_text (p ∷ ps)) (p ∷ ps) (record { each = r.each; some = λ z. absurd (cc); written = refl });
+  is = λ words at. duration_is words at (flat_map part_text (p ∷ ps)) (p ∷ ps) (record { each = r.each; some = λ z. absurd (cc); written = refl });
   end = low_end bs (flat_map part_text (p ∷ ps)) r.rest r.parted (parts_low (p ∷ ps) r.each) (text_some p ps);
   some = text_some p ps;
 }
 
-number_by : (at : ℕ) (w : List ℕ) (b : Bool) → IsDigitRun w → nat_lt (decimal w) LIMIT ≡ b → IsToken at w (cond b (token.Number (decimal w)) (token.Broken class.Number fault.NumberRange))
-unfolding IsToken
-number_by at w true d e = (d, refl, grind (arith, nat_tests))
-number_by at w false d e = (d, grind (arith, nat_tests))
+number_by : (words : List Word) (at : ℕ) (w : List ℕ) (b : Bool) → IsDigitRun w → nat_lt (decimal w) LIMIT ≡ b → IsTokenOf words at w (cond b (token.Number (decimal w)) (token.Broken class.Number fault.NumberRange))
+unfolding IsTokenOf
+number_by words at w true d e = (d, refl, grind (arith, nat_tests))
+number_by words at w false d e = (d, grind (arith, nat_tests))
 
-number_is : (at : ℕ) (w : List ℕ) → IsDigitRun w → IsToken at w (number_kind (decimal w))
+number_is : (words : List Word) (at : ℕ) (w : List ℕ) → IsDigitRun w → IsTokenOf words at w (number_kind (decimal w))
 unfolding number_kind
-number_is at w d = number_by at w (nat_lt (decimal w) LIMIT) d refl
+number_is words at w d = number_by words at w (nat_lt (decimal w) LIMIT) d refl
 
-bare_is : (at : ℕ) (w : List ℕ) → IsBareDecimal w → IsToken at w (token.Broken class.Number fault.FractionLiteral)
-unfolding IsToken
-bare_is at w h = h
+bare_is : (words : List Word) (at : ℕ) (w : List ℕ) → IsBareDecimal w → IsTokenOf words at w (token.Broken class.Number fault.FractionLiteral)
+unfolding IsTokenOf
+bare_is words at w h = h
 
 list_some : (xs : List ℕ) → (xs ≡ [] → ⊥) → 0 < length xs
 list_some [] h = absurd (h refl)
@@ -166,7 +167,7 @@ plain_found bs [] e some =
       rest = after_whole bs;
       parted = whole_front bs;
       size = n;
-      is = λ at. number_is at (whole_at bs) (digits_pass bs, some);
+      is = λ words at. number_is words at (whole_at bs) (digits_pass bs, some);
       end = subst (End bs) (sym n) (low_end bs (whole_at bs) (after_whole bs) (whole_front bs) (digits_low (whole_at bs) (digits_pass bs)) (list_some (whole_at bs) some));
       some = omega (arith, n, list_some (whole_at bs) some);
     }
@@ -182,7 +183,7 @@ plain_found bs (d ∷ ds) e some =
       rest = after_fraction (after_whole bs);
       parted = parted;
       size = n;
-      is = λ at. bare_is at (w ++ 46 ∷ d ∷ ds) (w, d ∷ ds, (digits_pass bs, some), (digits, λ z. absurd (cc)), refl);
+      is = λ words at. bare_is words at (w ++ 46 ∷ d ∷ ds) (w, d ∷ ds, (digits_pass bs, some), (digits, λ z. absurd (cc)), refl);
       end = subst (End bs) (sym n) (low_end bs (w ++ 46 ∷ d ∷ ds) (after_fraction (after_whole bs)) parted (all_append is_low w (46 ∷ d ∷ ds) (digits_low w (digits_pass bs)) (digits_low (d ∷ ds) digits)) (omega arith));
       some = omega arith;
     }

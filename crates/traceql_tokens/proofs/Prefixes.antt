@@ -1,6 +1,6 @@
 -- Lists that begin with others, and the first of a table that passes.
-use Rattle.std.proofs.Common.{◌≡◌, ℕ, ◌≤◌, Bool, true, false, ◌&&◌, cond, eqb, List, [], ◌∷◌, ◌++◌, length, drop, Some, find, nat_eq, refl, ap₂, sym, arith, eqb-true, eq-eqb, subst}
-use Rattle.std.specs.List.{starts_with}
+use Rattle.std.proofs.Common.{◌≡◌, ℕ, zero, suc, ◌≤◌, Bool, true, false, ◌&&◌, cond, eqb, List, [], ◌∷◌, ◌++◌, length, drop, slice_get, Some, find, nat_eq, refl, ap, ap₂, sym, arith, eqb-true, eq-eqb, subst}
+use Rattle.std.specs.List.{Contains, starts_with}
 
 pub both : (x y : Bool) → (x && y) ≡ true → (x ≡ true) × (y ≡ true)
 both true true h = (refl, refl)
@@ -32,3 +32,18 @@ by_head p x y xs false e h rest = rest h
 pub find_passes : {X : Type 0} (p : X → Bool) (y : X) (xs : List X) → find p xs ≡ Some y → p y ≡ true
 find_passes p y [] h = absurd (cc)
 find_passes p y (x ∷ xs) h = by_head p x y xs (p x) refl h (find_passes p y xs)
+
+there_by : {X : Type 0} (p : X → Bool) (x y : X) (xs : List X) (t : Bool) → cond t (Some x) (find p xs) ≡ Some y → (find p xs ≡ Some y → Contains xs y) → Contains (x ∷ xs) y
+there_by p x y xs true h rest = let same : x ≡ y = cc in (0, omega arith, same)
+there_by p x y xs false h rest = let there = rest h in (suc there.0, omega (arith, there.1), there.2)
+
+-- and stands in the table
+pub find_there : {X : Type 0} (p : X → Bool) (y : X) (xs : List X) → find p xs ≡ Some y → Contains xs y
+find_there p y [] h = absurd (cc)
+find_there p y (x ∷ xs) h = there_by p x y xs (p x) h (find_there p y xs)
+
+-- where an entry stands
+pub place_of : {X : Type 0} (x : X) (xs : List X) → Contains xs x → (i : ℕ) × (slice_get xs i ≡ Some x)
+place_of x [] h = absurd (omega (arith, h.1))
+place_of x (y ∷ ys) (zero, lt, e) = (0, ap Some e)
+place_of x (y ∷ ys) (suc i, lt, e) = let later = place_of x ys (i, omega arith, e) in (suc later.0, later.1)

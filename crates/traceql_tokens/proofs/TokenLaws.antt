@@ -9,10 +9,11 @@ use Rattle.traceql_tokens.specs.Numbers.{IsDigitRun, Part, IsPart, part_text, fr
 use Rattle.traceql_tokens.specs.Fixed.{unit_text}
 use Rattle.traceql_tokens.specs.NumberWalk.{number_at}
 use Rattle.traceql_tokens.specs.StringWalk.{string_at}
-use Rattle.traceql_tokens.specs.Tokens.{IsToken}
-use Rattle.traceql_tokens.specs.Walk.{Measured, literal_kind, attribute_kind, attribute_at, fixed_at, word_at, token_at}
+use Rattle.traceql_tokens.specs.Tokens.{IsTokenOf}
+use Rattle.traceql_tokens.specs.Walk.{Measured, IsTable, literal_kind, attribute_kind, attribute_at, fixed_at, word_at, token_at}
 use Rattle.traceql_tokens.specs.declared.tables.TheConstants.{SCOPES}
 use Rattle.traceql_tokens.specs.declared.fixed.AttributeScope.{AttributeScope}
+use Rattle.traceql_tokens.specs.declared.fixed.Word.{Word}
 use Rattle.traceql_tokens.specs.declared.kinds.Class.{Class}
 use Rattle.traceql_tokens.specs.declared.kinds.Class.TheVariants as class
 use Rattle.traceql_tokens.specs.declared.kinds.Fault.{Fault}
@@ -27,42 +28,42 @@ use Rattle.traceql_tokens.proofs.NumberReach.{number_walk, reach_number, reach_l
 use Rattle.traceql_tokens.proofs.FixedLaws.{Tokened, sign_reach, word_reach, intrinsic_reach, fixed_sound}
 use Rattle.traceql_tokens.proofs.AttributeLaws.{attribute_sound, attribute_reach}
 
-string_token : (at : ℕ) (bs : List ℕ) (r : Value × ℕ) → string_at at bs ≡ Some r → Tokened at bs (literal_kind r.0, r.1)
-unfolding IsToken literal_kind
-string_token at bs (Ok value, n) e = let f = string_sound at bs (Ok value, n) e in record { word = f.word; rest = f.rest; parted = f.parted; size = f.size; is = f.is; end = f.end; some = f.some }
-string_token at bs (Err g, n) e = let f = string_sound at bs (Err g, n) e in record { word = f.word; rest = f.rest; parted = f.parted; size = f.size; is = f.is; end = f.end; some = f.some }
+string_token : (words : List Word) (at : ℕ) (bs : List ℕ) (r : Value × ℕ) → string_at at bs ≡ Some r → Tokened words at bs (literal_kind r.0, r.1)
+unfolding IsTokenOf literal_kind
+string_token words at bs (Ok value, n) e = let f = string_sound at bs (Ok value, n) e in record { word = f.word; rest = f.rest; parted = f.parted; size = f.size; is = f.is; end = f.end; some = f.some }
+string_token words at bs (Err g, n) e = let f = string_sound at bs (Err g, n) e in record { word = f.word; rest = f.rest; parted = f.parted; size = f.size; is = f.is; end = f.end; some = f.some }
 
-number_token : (at : ℕ) (bs : List ℕ) → eqb (prefix_len is_ascii_digit bs) 0 ≡ false → Tokened at bs (number_at bs)
-number_token at bs h = let f = number_sound bs h in record { word = f.word; rest = f.rest; parted = f.parted; size = f.size; is = f.is at; end = f.end; some = f.some }
+number_token : (words : List Word) (at : ℕ) (bs : List ℕ) → eqb (prefix_len is_ascii_digit bs) 0 ≡ false → Tokened words at bs (number_at bs)
+number_token words at bs h = let f = number_sound bs h in record { word = f.word; rest = f.rest; parted = f.parted; size = f.size; is = f.is words at; end = f.end; some = f.some }
 
-scoped : (at : ℕ) (bs : List ℕ) (r : Measured) (o : Option AttributeScope) → find (λ x. starts_with nat_eq bs (scope_text x)) SCOPES ≡ o → option_or (option_map (λ s. attribute_at at s bs) o) (fixed_at bs) ≡ Some r → Tokened at bs r
-scoped at bs r None e h = fixed_sound at bs r h
-scoped at bs r (Some s) e h =
+scoped : (words : List Word) (at : ℕ) (bs : List ℕ) (r : Measured) (o : Option AttributeScope) → find (λ x. starts_with nat_eq bs (scope_text x)) SCOPES ≡ o → option_or (option_map (λ s. attribute_at at s bs) o) (fixed_at words bs) ≡ Some r → Tokened words at bs r
+scoped words at bs r None e h = fixed_sound words at bs r h
+scoped words at bs r (Some s) e h =
     let same : attribute_at at s bs ≡ r = cc in
-    subst (Tokened at bs) same (attribute_sound at s bs (find_passes (λ x. starts_with nat_eq bs (scope_text x)) s SCOPES e))
+    subst (Tokened words at bs) same (attribute_sound words at s bs (find_passes (λ x. starts_with nat_eq bs (scope_text x)) s SCOPES e))
 
-worded : (at : ℕ) (bs : List ℕ) (r : Measured) → word_at at bs ≡ Some r → Tokened at bs r
+worded : (words : List Word) (at : ℕ) (bs : List ℕ) (r : Measured) → word_at words at bs ≡ Some r → Tokened words at bs r
 unfolding word_at
-worded at bs r h = scoped at bs r (find (λ x. starts_with nat_eq bs (scope_text x)) SCOPES) refl h
+worded words at bs r h = scoped words at bs r (find (λ x. starts_with nat_eq bs (scope_text x)) SCOPES) refl h
 
-digit_test : (at : ℕ) (bs : List ℕ) (r : Measured) (b : Bool) → eqb (prefix_len is_ascii_digit bs) 0 ≡ b → cond b (word_at at bs) (Some (number_at bs)) ≡ Some r → Tokened at bs r
-digit_test at bs r true e h = worded at bs r h
-digit_test at bs r false e h = let same : number_at bs ≡ r = cc in subst (Tokened at bs) same (number_token at bs e)
+digit_test : (words : List Word) (at : ℕ) (bs : List ℕ) (r : Measured) (b : Bool) → eqb (prefix_len is_ascii_digit bs) 0 ≡ b → cond b (word_at words at bs) (Some (number_at bs)) ≡ Some r → Tokened words at bs r
+digit_test words at bs r true e h = worded words at bs r h
+digit_test words at bs r false e h = let same : number_at bs ≡ r = cc in subst (Tokened words at bs) same (number_token words at bs e)
 
-string_test : (at : ℕ) (bs : List ℕ) (r : Measured) (o : Option (Value × ℕ)) → string_at at bs ≡ o → option_or (option_map (λ found. (literal_kind found.0, found.1)) o) (cond (eqb (prefix_len is_ascii_digit bs) 0) (word_at at bs) (Some (number_at bs))) ≡ Some r → Tokened at bs r
-string_test at bs r None e h = digit_test at bs r (eqb (prefix_len is_ascii_digit bs) 0) refl h
-string_test at bs r (Some q) e h = let same : (literal_kind q.0, q.1) ≡ r = cc in subst (Tokened at bs) same (string_token at bs q e)
+string_test : (words : List Word) (at : ℕ) (bs : List ℕ) (r : Measured) (o : Option (Value × ℕ)) → string_at at bs ≡ o → option_or (option_map (λ found. (literal_kind found.0, found.1)) o) (cond (eqb (prefix_len is_ascii_digit bs) 0) (word_at words at bs) (Some (number_at bs))) ≡ Some r → Tokened words at bs r
+string_test words at bs r None e h = digit_test words at bs r (eqb (prefix_len is_ascii_digit bs) 0) refl h
+string_test words at bs r (Some q) e h = let same : (literal_kind q.0, q.1) ≡ r = cc in subst (Tokened words at bs) same (string_token words at bs q e)
 
 -- what is found is a token there
-pub token_sound : (at : ℕ) (bs : List ℕ) (r : Measured) → token_at at bs ≡ Some r → Tokened at bs r
+pub token_sound : (words : List Word) (at : ℕ) (bs : List ℕ) (r : Measured) → token_at words at bs ≡ Some r → Tokened words at bs r
 unfolding token_at
-token_sound at bs r h = string_test at bs r (string_at at bs) refl h
+token_sound words at bs r h = string_test words at bs r (string_at at bs) refl h
 
 -- a string that is reached is a token that is reached
-literal_reach : (at : ℕ) (w rest : List ℕ) (v : Value) → Reaches (string_at at) w rest v → Reaches (token_at at) w rest (literal_kind v)
+literal_reach : (words : List Word) (at : ℕ) (w rest : List ℕ) (v : Value) → Reaches (string_at at) w rest v → Reaches (token_at words at) w rest (literal_kind v)
 unfolding token_at
-literal_reach at w rest v r =
-    let other = cond (eqb (prefix_len is_ascii_digit (w ++ rest)) 0) (word_at at (w ++ rest)) (Some (number_at (w ++ rest))) in
+literal_reach words at w rest v r =
+    let other = cond (eqb (prefix_len is_ascii_digit (w ++ rest)) 0) (word_at words at (w ++ rest)) (Some (number_at (w ++ rest))) in
     record {
       found = (literal_kind r.found.0, r.found.1);
       is = ap (λ o. option_or (option_map (λ (found : Value × ℕ). (literal_kind found.0, found.1)) o) other) r.is;
@@ -84,25 +85,25 @@ digit_some b tl h = ap (λ t. eqb (cond t (1 + prefix_len is_ascii_digit tl) 0) 
     more : (n : ℕ) → eqb (1 + n) 0 ≡ false
     more n = grind (arith, nat_tests)
 
-pub digit_comes : (at : ℕ) (ds t : List ℕ) → IsDigitRun ds → token_at at (ds ++ t) ≡ Some (number_at (ds ++ t))
+pub digit_comes : (words : List Word) (at : ℕ) (ds t : List ℕ) → IsDigitRun ds → token_at words at (ds ++ t) ≡ Some (number_at (ds ++ t))
 unfolding token_at
-digit_comes at [] t d = absurd (d.1 refl)
-digit_comes at (x ∷ xs) t d =
+digit_comes words at [] t d = absurd (d.1 refl)
+digit_comes words at (x ∷ xs) t d =
     let first = (both (is_ascii_digit x) (list_all is_ascii_digit xs) d.0).0 in
     let bs = x ∷ (xs ++ t) in
-    ap (λ o. option_or (option_map (λ (found : Value × ℕ). (literal_kind found.0, found.1)) o) (cond (eqb (prefix_len is_ascii_digit bs) 0) (word_at at bs) (Some (number_at bs)))) (digit_no_string at x (xs ++ t) first)
-    ∙ ap (λ b. cond b (word_at at bs) (Some (number_at bs))) (digit_some x (xs ++ t) first)
+    ap (λ o. option_or (option_map (λ (found : Value × ℕ). (literal_kind found.0, found.1)) o) (cond (eqb (prefix_len is_ascii_digit bs) 0) (word_at words at bs) (Some (number_at bs)))) (digit_no_string at x (xs ++ t) first)
+    ∙ ap (λ b. cond b (word_at words at bs) (Some (number_at bs))) (digit_some x (xs ++ t) first)
 
 -- a text in front of which digits stand
 abbrev pub Fronted : List ℕ → Type 0
 Fronted w = (ds t : List ℕ) × IsDigitRun ds × (w ≡ ds ++ t)
 
-number_reach : (at : ℕ) (w rest : List ℕ) (k : TokenKind) → Fronted w → Reaches number_walk w rest k → Reaches (token_at at) w rest k
-number_reach at w rest k f r =
+number_reach : (words : List Word) (at : ℕ) (w rest : List ℕ) (k : TokenKind) → Fronted w → Reaches number_walk w rest k → Reaches (token_at words at) w rest k
+number_reach words at w rest k f r =
     let text : w ++ rest ≡ f.0 ++ (f.1 ++ rest) = ap (λ x. x ++ rest) f.3 ∙ append_assoc f.0 f.1 rest in
     record {
       found = r.found;
-      is = ap (token_at at) text ∙ digit_comes at f.0 (f.1 ++ rest) f.2 ∙ ap (λ x. Some (number_at x)) (sym text) ∙ r.is;
+      is = ap (token_at words at) text ∙ digit_comes words at f.0 (f.1 ++ rest) f.2 ∙ ap (λ x. Some (number_at x)) (sym text) ∙ r.is;
       far = r.far;
       same = r.same;
     }
@@ -118,34 +119,34 @@ parts_front (p ∷ ps) h each =
 pub duration_front : (w : List ℕ) (ps : List Part) → IsDuration w ps → Fronted w
 duration_front w ps d = subst Fronted (sym d.written) (parts_front ps d.some d.each)
 
-broken_reach : (at : ℕ) (w rest : List ℕ) (c : Class) (f : Fault) → IsToken at w (token.Broken c f) → Reaches (token_at at) w rest (token.Broken c f)
-unfolding IsToken literal_kind attribute_kind
-broken_reach at w rest class.Quoted f h = literal_reach at w rest (Err f) (string_reach at w rest (Err f) h)
-broken_reach at w rest class.Attribute f h = attribute_reach at w rest h.0 (Err f) h.1
-broken_reach at w rest class.Number fault.NumberRange h = number_reach at w rest (token.Broken class.Number fault.NumberRange) (digits_front w h.0) (reach_large w rest h.0 h.1)
-broken_reach at w rest class.Number fault.FractionLiteral h = number_reach at w rest (token.Broken class.Number fault.FractionLiteral) (h.0, 46 ∷ h.1, h.2, h.4) (reach_decimal w rest h)
-broken_reach at w rest class.Number (fault.Unended p) h = absurd h
-broken_reach at w rest class.Number (fault.UnknownEscape p) h = absurd h
-broken_reach at w rest class.Duration fault.NumberRange h = number_reach at w rest (token.Broken class.Duration fault.NumberRange) (duration_front w h.0 h.1) (reach_many w rest h.0 h.1 h.2)
-broken_reach at w rest class.Duration fault.FractionLiteral h = number_reach at w rest (token.Broken class.Duration fault.FractionLiteral) (duration_front w h.0 h.1) (reach_part w rest h.0 h.1 h.2 h.3)
-broken_reach at w rest class.Duration (fault.Unended p) h = absurd h
-broken_reach at w rest class.Duration (fault.UnknownEscape p) h = absurd h
+broken_reach : (words : List Word) (at : ℕ) (w rest : List ℕ) (c : Class) (f : Fault) → IsTokenOf words at w (token.Broken c f) → Reaches (token_at words at) w rest (token.Broken c f)
+unfolding IsTokenOf literal_kind attribute_kind
+broken_reach words at w rest class.Quoted f h = literal_reach words at w rest (Err f) (string_reach at w rest (Err f) h)
+broken_reach words at w rest class.Attribute f h = attribute_reach words at w rest h.0 (Err f) h.1
+broken_reach words at w rest class.Number fault.NumberRange h = number_reach words at w rest (token.Broken class.Number fault.NumberRange) (digits_front w h.0) (reach_large w rest h.0 h.1)
+broken_reach words at w rest class.Number fault.FractionLiteral h = number_reach words at w rest (token.Broken class.Number fault.FractionLiteral) (h.0, 46 ∷ h.1, h.2, h.4) (reach_decimal w rest h)
+broken_reach words at w rest class.Number (fault.Unended p) h = absurd h
+broken_reach words at w rest class.Number (fault.UnknownEscape p) h = absurd h
+broken_reach words at w rest class.Duration fault.NumberRange h = number_reach words at w rest (token.Broken class.Duration fault.NumberRange) (duration_front w h.0 h.1) (reach_many w rest h.0 h.1 h.2)
+broken_reach words at w rest class.Duration fault.FractionLiteral h = number_reach words at w rest (token.Broken class.Duration fault.FractionLiteral) (duration_front w h.0 h.1) (reach_part w rest h.0 h.1 h.2 h.3)
+broken_reach words at w rest class.Duration (fault.Unended p) h = absurd h
+broken_reach words at w rest class.Duration (fault.UnknownEscape p) h = absurd h
 
-named_reach : (at : ℕ) (w rest : List ℕ) (s : AttributeScope) (name : List ℕ) → IsToken at w (token.Named s name) → Reaches (token_at at) w rest (token.Named s name)
-unfolding IsToken attribute_kind
-named_reach at w rest s [] h = absurd (h.0 refl)
-named_reach at w rest s (b ∷ bs) h = attribute_reach at w rest s (Ok (b ∷ bs)) h.1
+named_reach : (words : List Word) (at : ℕ) (w rest : List ℕ) (s : AttributeScope) (name : List ℕ) → IsTokenOf words at w (token.Named s name) → Reaches (token_at words at) w rest (token.Named s name)
+unfolding IsTokenOf attribute_kind
+named_reach words at w rest s [] h = absurd (h.0 refl)
+named_reach words at w rest s (b ∷ bs) h = attribute_reach words at w rest s (Ok (b ∷ bs)) h.1
 
 -- a token that stands in front is reached
-pub token_reach : (at : ℕ) (w rest : List ℕ) (k : TokenKind) → IsToken at w k → Reaches (token_at at) w rest k
-unfolding IsToken literal_kind attribute_kind
-token_reach at w rest (token.Mark s) h = subst (λ t. Reaches (token_at at) t rest (token.Mark s)) (sym h) (sign_reach at s rest)
-token_reach at w rest (token.Keyword x) h = subst (λ t. Reaches (token_at at) t rest (token.Keyword x)) (sym h) (word_reach at x rest)
-token_reach at w rest (token.Builtin i) h = subst (λ t. Reaches (token_at at) t rest (token.Builtin i)) (sym h) (intrinsic_reach at i rest)
-token_reach at w rest (token.Named s name) h = named_reach at w rest s name h
-token_reach at w rest token.Nameless h = attribute_reach at w rest h.0 (Ok []) h.1
-token_reach at w rest (token.Quoted value) h = literal_reach at w rest (Ok value) (string_reach at w rest (Ok value) h)
-token_reach at w rest (token.Number n) h = number_reach at w rest (token.Number n) (digits_front w h.0) (reach_number w rest n h.0 h.1 h.2)
-token_reach at w rest (token.Duration n) h = number_reach at w rest (token.Duration n) (duration_front w h.0 h.1) (reach_nanos w rest n h.0 h.1 h.2 h.3)
-token_reach at w rest (token.Broken c f) h = broken_reach at w rest c f h
-token_reach at w rest token.Unknown h = absurd h
+pub token_reach : (words : List Word) → IsTable words → (at : ℕ) (w rest : List ℕ) (k : TokenKind) → IsTokenOf words at w k → Reaches (token_at words at) w rest k
+unfolding IsTokenOf literal_kind attribute_kind
+token_reach words ordered at w rest (token.Mark s) h = subst (λ t. Reaches (token_at words at) t rest (token.Mark s)) (sym h) (sign_reach words at s rest)
+token_reach words ordered at w rest (token.Keyword x) h = subst (λ t. Reaches (token_at words at) t rest (token.Keyword x)) (sym h.0) (word_reach words ordered at x h.1 rest)
+token_reach words ordered at w rest (token.Builtin i) h = subst (λ t. Reaches (token_at words at) t rest (token.Builtin i)) (sym h) (intrinsic_reach words at i rest)
+token_reach words ordered at w rest (token.Named s name) h = named_reach words at w rest s name h
+token_reach words ordered at w rest token.Nameless h = attribute_reach words at w rest h.0 (Ok []) h.1
+token_reach words ordered at w rest (token.Quoted value) h = literal_reach words at w rest (Ok value) (string_reach at w rest (Ok value) h)
+token_reach words ordered at w rest (token.Number n) h = number_reach words at w rest (token.Number n) (digits_front w h.0) (reach_number w rest n h.0 h.1 h.2)
+token_reach words ordered at w rest (token.Duration n) h = number_reach words at w rest (token.Duration n) (duration_front w h.0 h.1) (reach_nanos w rest n h.0 h.1 h.2 h.3)
+token_reach words ordered at w rest (token.Broken c f) h = broken_reach words at w rest c f h
+token_reach words ordered at w rest token.Unknown h = absurd h

@@ -72,6 +72,8 @@ word_text word.Avg = codes "avg"
 word_text word.Min = codes "min"
 word_text word.Max = codes "max"
 word_text word.Sum = codes "sum"
+word_text word.Rate = codes "rate"
+word_text word.CountOverTime = codes "count_over_time"
 
 -- how an intrinsic is written
 abbrev pub intrinsic_text : Intrinsic → List ℕ

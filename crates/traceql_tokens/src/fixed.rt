@@ -170,6 +170,10 @@ pub enum Word {
     Max,
     /// `sum`
     Sum,
+    /// `rate`, in metrics queries alone
+    Rate,
+    /// `count_over_time`, in metrics queries alone
+    CountOverTime,
 }
 
 impl Word {
@@ -198,6 +202,8 @@ impl Word {
             Word::Min => "min",
             Word::Max => "max",
             Word::Sum => "sum",
+            Word::Rate => "rate",
+            Word::CountOverTime => "count_over_time",
         }
     }
 }

@@ -2,17 +2,18 @@
 
 ghost use Rattle.std.specs.Prelude.{◌≡◌, ◌+◌, ◌^◌, ◌<◌, ◌≤◌, ℕ, IfOk, IsTrue, List, length, nat_eq};
 ghost use Rattle.traceql_tokens.specs.Printed.{ReadsToken, ReadsParen, ReadsSpace, ReadsEnd};
-ghost use Rattle.traceql_tokens.specs.Tokens.{AreTokens};
+ghost use Rattle.traceql_tokens.specs.Tokens.{AreTokens, AreTokensOf};
 ghost use Rattle.traceql_tokens.specs.Fixed.{scope_text};
-ghost use Rattle.traceql_tokens.specs.Walk.{name_at, attribute_kind, attribute_at, literal_kind, fixed_at, token_at};
+ghost use Rattle.traceql_tokens.specs.Walk.{name_at, attribute_kind, attribute_at, literal_kind, IsTable, fixed_at, token_at};
+ghost use Rattle.traceql_tokens.specs.declared.tables.TheConstants.{METRICS_WORDS};
 ghost use Rattle.std.specs.List.{starts_with};
 ghost use Rattle.traceql_tokens.specs.declared.kinds.Token.{Token};
 
 use crate::numbers::number_at;
 use crate::runs::{blank_len, digits_len, name_len};
 use crate::strings::{Value, string_at};
-use crate::tables::{intrinsic_at, scope_at, sign_at, word_at};
-use crate::{AttributeScope, Class, Token, TokenKind, Tokens};
+use crate::tables::{METRICS_WORDS, WORDS, intrinsic_at, scope_at, sign_at, word_at};
+use crate::{AttributeScope, Class, Token, TokenKind, Tokens, Word};
 use span_types::{Memory, Text};
 use std::alloc::Global;
 
@@ -76,13 +77,13 @@ fn literal_kind(value: Value) -> TokenKind
 
 /// The sign, the word or the intrinsic that the bytes begin with.
 #[tactic(auto, using(crate::proofs::LexerCases::fixed_cases))]
-fn fixed_at(bytes: &[u8]) -> Option<Measured>
-    ensures { result ≡ fixed_at bytes.now }
+fn fixed_at(words: &[Word], bytes: &[u8]) -> Option<Measured>
+    ensures { result ≡ fixed_at words.now bytes.now }
 {
     if let Some(sign) = sign_at(bytes) {
         return Some((TokenKind::Mark(sign), sign.text().len()));
     }
-    if let Some(word) = word_at(bytes) {
+    if let Some(word) = word_at(words, bytes) {
         return Some((TokenKind::Keyword(word), word.text().len()));
     }
     let intrinsic = intrinsic_at(bytes)?;
@@ -91,9 +92,14 @@ fn fixed_at(bytes: &[u8]) -> Option<Measured>
 
 /// The longest token that the text begins with.
 #[tactic(auto, using(crate::proofs::LexerCases::token_cases))]
-fn token_at(alloc: Global, text: &str, at: usize) -> Result<Option<Measured>, Memory>
+fn token_at(
+    alloc: Global,
+    words: &[Word],
+    text: &str,
+    at: usize,
+) -> Result<Option<Measured>, Memory>
     requires { at + length text.now < 2 ^ 63 }
-    ensures { IfOk result (λ r. r ≡ token_at at text.now) }
+    ensures { IfOk result (λ r. r ≡ token_at words.now at text.now) }
 {
     let bytes = text.as_bytes();
     if let Some((value, len)) = string_at(alloc, text, at)? {
@@ -104,13 +110,14 @@ fn token_at(alloc: Global, text: &str, at: usize) -> Result<Option<Measured>, Me
     }
     match scope_at(bytes) {
         Some(scope) => Ok(Some(attribute_at(alloc, scope, text, at)?)),
-        None => Ok(fixed_at(bytes)),
+        None => Ok(fixed_at(words, bytes)),
     }
 }
 
-/// The tokens of a text as they come.
-fn listed(alloc: Global, text: &str) -> Result<Vec<Token>, Memory>
-    ensures { IfOk result (λ found. AreTokens 0 text.now found.items) }
+/// The tokens of a text as they come, in a language with these words.
+fn listed(alloc: Global, words: &[Word], text: &str) -> Result<Vec<Token>, Memory>
+    requires { IsTable words.now }
+    ensures { IfOk result (λ found. AreTokensOf words.now 0 text.now found.items) }
 {
     let mut found = Vec::new(alloc);
     let mut at = 0;
@@ -119,7 +126,7 @@ fn listed(alloc: Global, text: &str) -> Result<Vec<Token>, Memory>
         if start == text.len() {
             return Ok(found);
         }
-        let Some((kind, len)) = token_at(alloc, &text[start..], start)? else {
+        let Some((kind, len)) = token_at(alloc, words, &text[start..], start)? else {
             found.push(Token {
                 at: start as u64,
                 kind: TokenKind::Unknown,
@@ -141,13 +148,25 @@ pub fn tokens(alloc: Global, text: &str) -> Result<Tokens, Memory>
     ensures found { IfOk result (λ ts. AreTokens 0 text.now ts) }
     ensures only { (ts : List Token) → AreTokens 0 text.now ts → IfOk result (λ us. us ≡ ts) }
 {
-    let found = listed(alloc, text)?;
+    let found = listed(alloc, &WORDS, text)?;
     Ok(Tokens::of(found))
 }
 
-/// A text has one list of tokens: a law over the definition, which `tokens` rests on.
+/// The tokens of the text of a metrics query, which has the words `rate` and `count_over_time` besides. It fails only
+/// for want of memory.
+pub fn metrics_tokens(alloc: Global, text: &str) -> Result<Tokens, Memory>
+    ensures found { IfOk result (λ ts. AreTokensOf METRICS_WORDS 0 text.now ts) }
+    ensures only { (ts : List Token) → AreTokensOf METRICS_WORDS 0 text.now ts → IfOk result (λ us. us ≡ ts) }
+{
+    let found = listed(alloc, &METRICS_WORDS, text)?;
+    Ok(Tokens::of(found))
+}
+
+/// A text has one list of tokens, and one as a metrics query: laws over the definition, which `tokens` and
+/// `metrics_tokens` rest on.
 pub fn one_reading()
-    ensures { (at : ℕ) (text : List ℕ) (ts us : List Token) → AreTokens at text ts → AreTokens at text us → ts ≡ us }
+    ensures query { (at : ℕ) (text : List ℕ) (ts us : List Token) → AreTokens at text ts → AreTokens at text us → ts ≡ us }
+    ensures metrics { (at : ℕ) (text : List ℕ) (ts us : List Token) → AreTokensOf METRICS_WORDS at text ts → AreTokensOf METRICS_WORDS at text us → ts ≡ us }
 {}
 
 /// Nothing lengthens a token across the end, a space or a closing parenthesis, so a text in which these keep the tokens

@@ -12,5 +12,5 @@ mod units;
 
 pub use fixed::{AttributeScope, Intrinsic, Sign, Word};
 pub use kinds::{Class, Fault, Token, TokenKind, Tokens};
-pub use lexer::{one_reading, printed_tokens, tokens};
+pub use lexer::{metrics_tokens, one_reading, printed_tokens, tokens};
 pub use units::TimeUnit;

@@ -46,8 +46,8 @@ const SIGNS: [Sign; 36] = [
     Sign::Caret,
 ];
 
-/// The words.
-const WORDS: [Word; 20] = [
+/// The words of a query.
+pub(crate) const WORDS: [Word; 20] = [
     Word::Unspecified,
     Word::Producer,
     Word::Consumer,
@@ -61,6 +61,32 @@ const WORDS: [Word; 20] = [
     Word::Unset,
     Word::Count,
     Word::True,
+    Word::Nil,
+    Word::Avg,
+    Word::Min,
+    Word::Max,
+    Word::Sum,
+    Word::Fine,
+    Word::By,
+];
+
+/// The words of a metrics query, a longer one before each that it begins with.
+pub(crate) const METRICS_WORDS: [Word; 22] = [
+    Word::CountOverTime,
+    Word::Unspecified,
+    Word::Producer,
+    Word::Consumer,
+    Word::Internal,
+    Word::Coalesce,
+    Word::Server,
+    Word::Client,
+    Word::Select,
+    Word::False,
+    Word::Error,
+    Word::Unset,
+    Word::Count,
+    Word::True,
+    Word::Rate,
     Word::Nil,
     Word::Avg,
     Word::Min,
@@ -123,11 +149,11 @@ pub(crate) fn sign_at(bytes: &[u8]) -> Option<Sign>
         .find(|x| bytes.starts_with(x.text().as_bytes()))
 }
 
-/// The longest word that the bytes begin with.
-pub(crate) fn word_at(bytes: &[u8]) -> Option<Word>
-    ensures { result ≡ find (λ x. starts_with nat_eq bytes.now (word_text x)) WORDS }
+/// The first of these words that the bytes begin with.
+pub(crate) fn word_at(words: &[Word], bytes: &[u8]) -> Option<Word>
+    ensures { result ≡ find (λ x. starts_with nat_eq bytes.now (word_text x)) words.now }
 {
-    WORDS
+    words
         .iter()
         .copied()
         .find(|x| bytes.starts_with(x.text().as_bytes()))

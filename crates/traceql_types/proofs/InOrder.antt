@@ -3,17 +3,21 @@ use Rattle.std.proofs.Common.{◌≡◌, ℕ, ◌+◌, ◌<◌, ◌≤◌, List,
 use Rattle.std.specs.List.{AllByRecursion, flat_map}
 use Rattle.std.proofs.lemmas.Grind.{flat_map-append}
 use Rattle.traceql_tokens.specs.declared.fixed.Sign.TheVariants as sign
+use Rattle.traceql_tokens.specs.declared.fixed.Word.TheVariants as word
 use Rattle.traceql_tokens.specs.declared.kinds.Token.{Token}
 use Rattle.traceql_tokens.specs.declared.kinds.TokenKind.{TokenKind}
 use Rattle.traceql_tokens.specs.declared.kinds.TokenKind.TheVariants as token
-use Rattle.traceql_tokens.specs.Tokens.{AreTokens}
+use Rattle.traceql_tokens.specs.declared.fixed.Word.{Word}
+use Rattle.traceql_tokens.specs.Tokens.{AreTokensOf, metrics_words, query_words}
+use Rattle.traceql_tokens.specs.Walk.{IsTable}
+use Rattle.traceql_tokens.proofs.FixedLaws.{word_order, metrics_order}
 use Rattle.traceql_tokens.proofs.TokenLaws.{token_sound}
 use Rattle.traceql_tokens.proofs.TokensLaws.{Step, goes, stops, steps, blanks_of, left_of}
 use Rattle.traceql_syntax.specs.Grammar as rule
-use Rattle.traceql_syntax.specs.Grammar.{mark, Class, Spells, SpellsCondition, SetClass, SpellsSet, SpellsAggregate, SpellsThreshold, SpellsStage, SpellsQuery}
-use Rattle.traceql_syntax.specs.Refusals.{Reads}
+use Rattle.traceql_syntax.specs.Grammar.{in_parens, keyword, mark, Class, Spells, SpellsCondition, SetClass, SpellsSet, SpellsAggregate, SpellsThreshold, SpellsStage, SpellsQuery, SpellsMetrics}
+use Rattle.traceql_syntax.specs.Refusals.{Reads, ReadsMetrics}
 use Rattle.traceql_syntax.specs.Tables.{measure_of}
-use Rattle.traceql_syntax.specs.Trees.{Placed, SetTree, AggregateTree, ThresholdTree, Number, Duration, StageTree, QueryTree}
+use Rattle.traceql_syntax.specs.Trees.{Placed, SetTree, AggregateTree, ThresholdTree, Number, Duration, StageTree, QueryTree, MetricsTree, By, run_query}
 use Rattle.traceql_types.specs.Asked.{PlacedText, in_expr, in_filter, in_set, in_aggregate, in_threshold, in_stage, asked_patterns}
 use Rattle.traceql_types.specs.Checks.{Ascends}
 use Rattle.traceql_types.proofs.Calls.{all-weaker}
@@ -25,20 +29,21 @@ abbrev Rises : List Token → Type 0
 Rises [] = Unit {0}
 Rises (t ∷ ts) = AllByRecursion (λ (u : Token). t.at < u.at) ts × Rises ts
 
-rises : (at : ℕ) (text : List ℕ) (ts : List Token) → AreTokens at text ts → AllByRecursion (λ (t : Token). at ≤ t.at) ts × Rises ts
-rises at text [] h = (tt, tt)
-rises at text (t ∷ ts) h = by_step (λ next later more. rises next later ts more) (steps at text t ts h)
-  where
-    by_step : ((next : ℕ) (later : List ℕ) → AreTokens next later ts → AllByRecursion (λ (u : Token). next ≤ u.at) ts × Rises ts)
-        → Step at text t ts → AllByRecursion (λ (u : Token). at ≤ u.at) (t ∷ ts) × Rises (t ∷ ts)
-    by_step rest (goes r found here kind more) =
-        let ahead = rest (at + blanks_of text + r.1) (drop r.1 (left_of text)) more in
-        let some : 0 < r.1 = (token_sound (at + blanks_of text) (left_of text) r found).some in
-        let far = λ (P : Token → Type 0) (w : (u : Token) → at + blanks_of text + r.1 ≤ u.at → P u). all-weaker (λ (u : Token). at + blanks_of text + r.1 ≤ u.at) P w ts ahead.0 in (
-          (omega (arith, here), far (λ u. at ≤ u.at) (λ u low. omega (arith, low))),
-          (far (λ u. t.at < u.at) (λ u low. omega (arith, low, here, some)), ahead.1),
-        )
-    by_step rest (stops none more here kind end) = subst (λ us. AllByRecursion (λ (u : Token). at ≤ u.at) (t ∷ us) × Rises (t ∷ us)) (sym end) ((omega (arith, here), tt), (tt, tt))
+module _ (words : List Word) (ordered : IsTable words) where
+  rises : (at : ℕ) (text : List ℕ) (ts : List Token) → AreTokensOf words at text ts → AllByRecursion (λ (t : Token). at ≤ t.at) ts × Rises ts
+  rises at text [] h = (tt, tt)
+  rises at text (t ∷ ts) h = by_step (λ next later more. rises next later ts more) (steps words ordered at text t ts h)
+    where
+      by_step : ((next : ℕ) (later : List ℕ) → AreTokensOf words next later ts → AllByRecursion (λ (u : Token). next ≤ u.at) ts × Rises ts)
+          → Step words at text t ts → AllByRecursion (λ (u : Token). at ≤ u.at) (t ∷ ts) × Rises (t ∷ ts)
+      by_step rest (goes r found here kind more) =
+          let ahead = rest (at + blanks_of text + r.1) (drop r.1 (left_of text)) more in
+          let some : 0 < r.1 = (token_sound words (at + blanks_of text) (left_of text) r found).some in
+          let far = λ (P : Token → Type 0) (w : (u : Token) → at + blanks_of text + r.1 ≤ u.at → P u). all-weaker (λ (u : Token). at + blanks_of text + r.1 ≤ u.at) P w ts ahead.0 in (
+            (omega (arith, here), far (λ u. at ≤ u.at) (λ u low. omega (arith, low))),
+            (far (λ u. t.at < u.at) (λ u low. omega (arith, low, here, some)), ahead.1),
+          )
+      by_step rest (stops none more here kind end) = subst (λ us. AllByRecursion (λ (u : Token). at ≤ u.at) (t ∷ us) × Rises (t ∷ us)) (sym end) ((omega (arith, here), tt), (tt, tt))
 
 -- Patterns that stand among tokens, in their order.
 data Among : List PlacedText → List Token → Type 0 where
@@ -129,4 +134,14 @@ query_among (rule.piped {q = q} {s = s} {xs = xs} {ys = ys} at d f) =
     subst (λ z. Among z (xs ++ mark at sign.Bar ∷ ys)) (sym (stages_more q s)) (joined (query_among d) (skip _ (stage_among f)))
 
 pub reads_ascend : (depth : ℕ) (text : List ℕ) (q : QueryTree) → Reads depth text q → Ascends (asked_patterns q)
-reads_ascend depth text q r = ascends (query_among r.spelled) (rises 0 text r.tokens r.lexed).1
+reads_ascend depth text q r = ascends (query_among r.spelled) (rises query_words word_order 0 text r.tokens r.lexed).1
+
+-- The patterns of the query that is run for a metrics query stand among its tokens, those of `by` behind the others.
+metrics_among : {n : ℕ} {m : MetricsTree} {ts : List Token} → SpellsMetrics n m ts → Among (asked_patterns (run_query m.query m.by)) ts
+metrics_among (rule.whole bar at opened closed w h d) = longer _ (query_among d)
+metrics_among (rule.split {q = q} {e = e} {xs = xs} {ys = ys} bar at opened closed by by_opened by_closed w h d f) =
+    subst (λ z. Among z (xs ++ mark bar sign.Bar ∷ keyword at w ∷ (in_parens opened [] closed ++ keyword by word.By ∷ in_parens by_opened ys by_closed))) (sym (stages_more q (By e)))
+    (joined (query_among d) (skip _ (skip _ (skip _ (skip _ (skip _ (skip _ (longer _ (expr_among f)))))))))
+
+pub metrics_ascend : (depth : ℕ) (text : List ℕ) (m : MetricsTree) → ReadsMetrics depth text m → Ascends (asked_patterns (run_query m.query m.by))
+metrics_ascend depth text m r = ascends (metrics_among r.spelled) (rises metrics_words metrics_order 0 text r.tokens r.lexed).1

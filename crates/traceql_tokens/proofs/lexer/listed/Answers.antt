@@ -1,6 +1,6 @@
 use Rattle.std.proofs.Common.{◌≡◌, ◌+◌, ◌<◌, ◌≤◌, [], ◌∷◌, ◌++◌, None, Some, length, drop, ap, sym, subst, ◌∙◌, arith, append-nil, append_assoc}
 use Rattle.std.proofs.lemmas.Str.{IsCharBoundary-start}
-use Rattle.traceql_tokens.specs.Tokens.{AreTokens}
+use Rattle.traceql_tokens.specs.Tokens.{AreTokensOf}
 use Rattle.traceql_tokens.specs.Walk.{token_at}
 use Rattle.traceql_tokens.specs.declared.kinds.Token.{Token}
 use Rattle.traceql_tokens.specs.declared.kinds.TokenKind.TheVariants as token
@@ -9,7 +9,7 @@ use Rattle.traceql_tokens.proofs.lexer.listed.Goals as goal
 
 pub loop-at-init : goal.loop-at-init
 loop-at-init c =
-    (IsCharBoundary-start c.args.text.now c.utf8.text, λ ts h. subst (λ xs. AreTokens 0 c.args.text.now (xs ++ ts)) (sym c.new-found.ensures.items) h)
+    (IsCharBoundary-start c.args.text.now c.utf8.text, λ ts h. subst (λ xs. AreTokensOf c.args.words.now 0 c.args.text.now (xs ++ ts)) (sym c.new-found.ensures.items) h)
 
 pub overflow_add-start : goal.overflow_add-start
 overflow_add-start c =
@@ -29,7 +29,7 @@ returns-then-start-text c =
     let blank : n ≡ blanks_of (drop A T) = blank_is T c.as_bytes.result.now A n c.blank_len.ensures c.as_bytes.ensures.value in
     let cut = blank_boundary T A n c.utf8.text c.loop-at.invariant.0 blank in
     let within : A + n ≤ length T = cut.0 in
-    subst (AreTokens 0 T) (append-nil c.loop-at.found.items) (c.loop-at.invariant.1 [] (goes_end T A n blank (omega arith)))
+    subst (AreTokensOf c.args.words.now 0 T) (append-nil c.loop-at.found.items) (c.loop-at.invariant.1 [] (goes_end c.args.words.now c.requires T A n blank (omega arith)))
 
 pub range_from-requires : goal.range_from-requires
 range_from-requires c =
@@ -49,9 +49,9 @@ returns-in_default c =
     let blank : n ≡ blanks_of (drop A T) = blank_is T c.as_bytes.result.now A n c.blank_len.ensures c.as_bytes.ensures.value in
     let cut = blank_boundary T A n c.utf8.text c.loop-at.invariant.0 blank in
     let within : A + n ≤ length T = cut.0 in
-    let none : token_at (A + n) (drop (A + n) T) ≡ None = ap (token_at (A + n)) (sym c.range_from.ensures.value) ∙ sym c.in_ok-kind.ensures ∙ c.in_default.is in
+    let none : token_at c.args.words.now (A + n) (drop (A + n) T) ≡ None = ap (token_at c.args.words.now (A + n)) (sym c.range_from.ensures.value) ∙ sym c.in_ok-kind.ensures ∙ c.in_default.is in
     let before : A + n < length T = omega arith in
-    subst (AreTokens 0 T) (sym c.in_ok-push.ensures.items) (c.loop-at.invariant.1 (record { at = A + n; kind = token.Unknown } ∷ []) (goes_none T A n blank none before))
+    subst (AreTokensOf c.args.words.now 0 T) (sym c.in_ok-push.ensures.items) (c.loop-at.invariant.1 (record { at = A + n; kind = token.Unknown } ∷ []) (goes_none c.args.words.now c.requires T A n blank none before))
 
 pub overflow_add-at : goal.overflow_add-at
 overflow_add-at c =
@@ -63,8 +63,8 @@ overflow_add-at c =
     let within : A + n ≤ length T = cut.0 in
     let k = c.in-Some.kind in
     let len = c.in-Some.len in
-    let found : token_at (A + n) (drop (A + n) T) ≡ Some (k, len) = ap (token_at (A + n)) (sym c.range_from.ensures.value) ∙ sym c.in_ok-kind.ensures ∙ c.in-Some.is in
-    let ends = token_boundary T (A + n) (A + n) len k c.utf8.text within found in
+    let found : token_at c.args.words.now (A + n) (drop (A + n) T) ≡ Some (k, len) = ap (token_at c.args.words.now (A + n)) (sym c.range_from.ensures.value) ∙ sym c.in_ok-kind.ensures ∙ c.in-Some.is in
+    let ends = token_boundary c.args.words.now T (A + n) (A + n) len k c.utf8.text within found in
     let fits : A + n + len ≤ length T = ends.0.0 in
     let some : 0 < len = ends.1 in
     omega arith
@@ -79,8 +79,8 @@ loop-at-smaller c =
     let within : A + n ≤ length T = cut.0 in
     let k = c.in-Some.kind in
     let len = c.in-Some.len in
-    let found : token_at (A + n) (drop (A + n) T) ≡ Some (k, len) = ap (token_at (A + n)) (sym c.range_from.ensures.value) ∙ sym c.in_ok-kind.ensures ∙ c.in-Some.is in
-    let ends = token_boundary T (A + n) (A + n) len k c.utf8.text within found in
+    let found : token_at c.args.words.now (A + n) (drop (A + n) T) ≡ Some (k, len) = ap (token_at c.args.words.now (A + n)) (sym c.range_from.ensures.value) ∙ sym c.in_ok-kind.ensures ∙ c.in-Some.is in
+    let ends = token_boundary c.args.words.now T (A + n) (A + n) len k c.utf8.text within found in
     let fits : A + n + len ≤ length T = ends.0.0 in
     let some : 0 < len = ends.1 in
     omega arith
@@ -95,16 +95,16 @@ loop-at-preserved c =
     let within : A + n ≤ length T = cut.0 in
     let k = c.in-Some.kind in
     let len = c.in-Some.len in
-    let found : token_at (A + n) (drop (A + n) T) ≡ Some (k, len) = ap (token_at (A + n)) (sym c.range_from.ensures.value) ∙ sym c.in_ok-kind.ensures ∙ c.in-Some.is in
-    let ends = token_boundary T (A + n) (A + n) len k c.utf8.text within found in
+    let found : token_at c.args.words.now (A + n) (drop (A + n) T) ≡ Some (k, len) = ap (token_at c.args.words.now (A + n)) (sym c.range_from.ensures.value) ∙ sym c.in_ok-kind.ensures ∙ c.in-Some.is in
+    let ends = token_boundary c.args.words.now T (A + n) (A + n) len k c.utf8.text within found in
     let fits : A + n + len ≤ length T = ends.0.0 in
     let some : 0 < len = ends.1 in
     let t : Token = record { at = A + n; kind = k } in (
       ends.0,
       λ ts more.
-          subst (AreTokens 0 T) (sym (ap (λ xs. xs ++ ts) c.in_ok-push-2.ensures.items ∙ append_assoc c.loop-at.found.items (t ∷ []) ts)) (c.loop-at.invariant.1 (t ∷ ts) (goes_on T A n len k ts blank found more)),
+          subst (AreTokensOf c.args.words.now 0 T) (sym (ap (λ xs. xs ++ ts) c.in_ok-push-2.ensures.items ∙ append_assoc c.loop-at.found.items (t ∷ []) ts)) (c.loop-at.invariant.1 (t ∷ ts) (goes_on c.args.words.now c.requires T A n len k ts blank found more)),
     )
 
 pub returns : goal.returns
 returns c =
-    subst (AreTokens 0 c.args.text.now) (append-nil c.loop-at.found.items) (c.loop-at.invariant.1 [] (nothing_left c.args.text.now c.loop-at.at (omega arith)))
+    subst (AreTokensOf c.args.words.now 0 c.args.text.now) (append-nil c.loop-at.found.items) (c.loop-at.invariant.1 [] (nothing_left c.args.words.now c.requires c.args.text.now c.loop-at.at (omega arith)))
