@@ -12,6 +12,7 @@ mod ranking;
 mod relate;
 mod results;
 mod select;
+mod series;
 mod show;
 mod stages;
 
@@ -19,3 +20,4 @@ pub use laws::{least_and_greatest, split_is_a_partition};
 pub use outcome::{evaluate, evaluate_rows};
 pub use ranking::rank;
 pub use results::{Hit, Hits, Results, SetResult, Sets, TraceResult};
+pub use series::{Count, Counts, Series, SeriesList};

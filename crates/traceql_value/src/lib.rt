@@ -21,6 +21,7 @@ mod value_ref;
 mod whole;
 
 pub use context::{EvalContext, field_value};
+pub use divisor::common_divisor;
 pub use laws::{
     one_ratio, root_is_first, strings_are_answered, trace_is_bounded, values_in_order,
     whole_without_division,

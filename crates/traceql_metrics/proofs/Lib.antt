@@ -1,0 +1,7 @@
+mod Moments
+mod Counts
+mod Groups
+mod Orders
+mod Zips
+mod Whole
+mod Rates
