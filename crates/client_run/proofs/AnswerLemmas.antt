@@ -18,6 +18,7 @@ use Rattle.query_fanout.specs.declared.trace.TraceAnswer.{TraceAnswer}
 use Rattle.session_text.specs.declared.reply.Reply.{Reply}
 use Rattle.session_text.specs.declared.reply.Reply.TheVariants.{Cut, CutAll}
 use Rattle.session_text.specs.declared.request.Request.TheVariants as request
+use Rattle.session_text.specs.declared.request.Metrics.{Metrics}
 use Rattle.session_text.specs.declared.request.Search.{Search}
 use Rattle.store_model.specs.Event.{Event as event}
 use Rattle.store_state.specs.Meaning.{Meaning, Called, View}
@@ -25,7 +26,7 @@ use Rattle.store_state.specs.Replies.{count_reply, push_reply, reclaim_reply}
 use Rattle.store_state.specs.declared.errors.PushError.{PushError}
 use Rattle.store_state.specs.declared.errors.ReclaimError.{ReclaimError}
 use Rattle.store_state.specs.declared.rounds.Round.{Round}
-use Rattle.client_run.specs.Answers.{HasReplied, IsSearchTold, asked_of, compact_reply, cut_reply, flush_reply, pushed_reply, reclaimed_reply, trace_reply}
+use Rattle.client_run.specs.Answers.{HasReplied, IsMetricsTold, IsSearchTold, asked_of, compact_reply, counted_of, cut_reply, flush_reply, pushed_reply, reclaimed_reply, trace_reply}
 use Rattle.store_state.specs.Made.{AreMade, Call, call}
 
 -- of a request whose reply tells nothing of the history
@@ -106,4 +107,14 @@ search_replied {P} meaning old new s asked answer r same has is =
       made = one.made;
       answered = (answer, told, one.asked);
       told = λ tells v known. let last = one.told tells v known in (last.0, last.1, last.2, (answer, told, last.3));
+    }
+
+pub metrics_replied : {P : Type 0} (meaning : Meaning P) (old new : P) (m : Metrics) (asked : Asked) (answer : Result SearchAnswer QueryError) (r : Reply) → asked ≡ counted_of m
+    → HasAsked meaning old (IsSearchAnswer asked) answer new → IsMetricsTold m answer r → HasReplied meaning old (request.Metrics m) r new
+metrics_replied {P} meaning old new m asked answer r same has is =
+    let one : HasAsked {P = P} meaning old (IsSearchAnswer (counted_of m)) answer new = subst (λ (a : Asked). HasAsked meaning old (IsSearchAnswer a) answer new) same has in record {
+      calls = one.calls;
+      made = one.made;
+      answered = (answer, is, one.asked);
+      told = λ tells v known. let last = one.told tells v known in (last.0, last.1, last.2, (answer, is, last.3));
     }

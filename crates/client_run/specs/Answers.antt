@@ -1,5 +1,5 @@
 -- What a request is answered over a port, and which calls of the port it makes.
-use Rattle.std.specs.Prelude.{◌≡◌, ◌⊎◌, ℕ, List, [], ◌∷◌, length, IsTrue, Result, Ok, Err}
+use Rattle.std.specs.Prelude.{◌≡◌, ◌⊎◌, ℕ, Bool, List, [], ◌∷◌, length, IsTrue, Some, Result, Ok, Err}
 use Rattle.compactor.specs.Rounds.{FoundBlocks, IsCompactRound}
 use Rattle.flusher.specs.Rounds.{IsFlushRound}
 use Rattle.span_types.specs.declared.errors.Memory.{Memory}
@@ -16,10 +16,12 @@ use Rattle.search_text.specs.Fields.{printed_fields}
 use Rattle.session_text.specs.declared.refusal.Refusal.{Refusal}
 use Rattle.session_text.specs.declared.refusal.Refusal.TheVariants as refusal
 use Rattle.session_text.specs.declared.reply.Reply.{Reply}
-use Rattle.session_text.specs.declared.reply.Reply.TheVariants.{Pushed, Traced, Searched, Cut, CutAll, Flushed, NothingFlushed, Compacted, NothingCompacted, Reclaimed, Refused}
+use Rattle.session_text.specs.declared.reply.Reply.TheVariants.{Pushed, Traced, Searched, Measured, Cut, CutAll, Flushed, NothingFlushed, Compacted, NothingCompacted, Reclaimed, Refused}
 use Rattle.session_text.specs.declared.request.Request.{Request}
 use Rattle.session_text.specs.declared.request.Request.TheVariants as request
+use Rattle.session_text.specs.declared.request.Metrics.{Metrics}
 use Rattle.session_text.specs.declared.request.Search.{Search}
+use Rattle.spanset_eval.specs.declared.series.Series.{Series}
 use Rattle.store_model.specs.Event.{Event as event}
 use Rattle.store_model.specs.History.{History}
 use Rattle.store_state.specs.Replies.{count_reply, push_reply, reclaim_reply}
@@ -31,6 +33,7 @@ use Rattle.store_state.specs.declared.errors.ReclaimError.TheVariants as reclaim
 use Rattle.store_state.specs.declared.rounds.Refusal.TheVariants as round_refusal
 use Rattle.store_state.specs.declared.rounds.Round.{Round}
 use Rattle.store_state.specs.declared.rounds.Round.TheVariants as round
+use Rattle.traceql_metrics.specs.Series.{AreSeries}
 use Rattle.traceql_syntax.specs.Trees.{query_tree}
 use Rattle.store_state.specs.Made.{Call, AreMade, call}
 
@@ -70,6 +73,26 @@ abbrev pub IsSearchTold : Asked → Result SearchAnswer QueryError → Reply →
 IsSearchTold asked (Ok answer) r =
     (r ≡ Searched answer.as_of (printed_fields (query_tree asked.checked.query)) answer.results) ⊎ (r ≡ Refused refusal.Memory)
 IsSearchTold asked (Err error) r = r ≡ Refused (query_refusal error)
+
+-- What a metrics query asks of a store: what a search over its range finds, with the greatest limits.
+abbrev pub counted_of : Metrics → Asked
+counted_of m = record {
+  checked = m.checked;
+  range = record { from = m.start; until = Some m.end };
+  limit = 4294967295;
+  spans_per_set = 4294967295;
+}
+
+-- The series of what is found are told, or why not. Where there is no memory for them it is refused for that.
+abbrev pub AreSeriesTold : ℕ → ℕ → ℕ → Bool → Result SearchAnswer QueryError → Reply → Type 0
+AreSeriesTold start end step rate (Ok answer) r =
+    ((series : List Series) × AreSeries answer.results start end step rate series × (r ≡ Measured answer.as_of series))
+    ⊎ (r ≡ Refused refusal.Memory)
+AreSeriesTold start end step rate (Err error) r = r ≡ Refused (query_refusal error)
+
+-- A metrics query is told the series of what is found for it, or why not.
+abbrev pub IsMetricsTold : Metrics → Result SearchAnswer QueryError → Reply → Type 0
+IsMetricsTold m answer r = AreSeriesTold m.start m.end m.step m.rate answer r
 
 -- ---- upkeep
 
@@ -115,6 +138,8 @@ IsRequestAnswered (request.Trace id) r calls =
     (answer : Result TraceAnswer QueryError) × (r ≡ trace_reply answer) × IsAsked (IsTraceAnswer id) answer calls
 IsRequestAnswered (request.Search s) r calls =
     (answer : Result SearchAnswer QueryError) × IsSearchTold (asked_of s) answer r × IsAsked (IsSearchAnswer (asked_of s)) answer calls
+IsRequestAnswered (request.Metrics m) r calls =
+    (answer : Result SearchAnswer QueryError) × IsMetricsTold m answer r × IsAsked (IsSearchAnswer (counted_of m)) answer calls
 IsRequestAnswered (request.Cut moment) r calls =
     (answer : Result ℕ Memory) × (r ≡ cut_reply Cut answer) × (calls ≡ call (event.Cut moment) (count_reply answer) ∷ [])
 IsRequestAnswered request.CutAll r calls =
@@ -131,6 +156,8 @@ TellsHistory h later (request.Trace id) r =
     (answer : Result TraceAnswer QueryError) × (r ≡ trace_reply answer) × Sound (TellsOf (IsTraceAnswer id) h later) answer
 TellsHistory h later (request.Search s) r =
     (answer : Result SearchAnswer QueryError) × IsSearchTold (asked_of s) answer r × Sound (TellsOf (IsSearchAnswer (asked_of s)) h later) answer
+TellsHistory h later (request.Metrics m) r =
+    (answer : Result SearchAnswer QueryError) × IsMetricsTold m answer r × Sound (TellsOf (IsSearchAnswer (counted_of m)) h later) answer
 TellsHistory h later request.Compact r = (round : Round) × (r ≡ compact_reply round) × FoundBlocks round
 TellsHistory h later _ r = Unit {0}
 

@@ -1,27 +1,30 @@
 //! What a request is answered over a port.
 
-ghost use Rattle.std.specs.Prelude.{◌≡◌, ◌^◌, ◌<◌, List, length};
+ghost use Rattle.std.specs.Prelude.{◌≡◌, ◌^◌, ◌<◌, ◌≤◌, List, length};
 ghost use Rattle.store_model.specs.Holds.{Hold};
-ghost use Rattle.session_text.specs.declared.request.Request.TheVariants.{Push as AsksPush, Trace as AsksTrace, Search as AsksSearch, Cut as AsksCut, CutAll as AsksCutAll, Flush as AsksFlush, Compact as AsksCompact, Reclaim as AsksReclaim};
-ghost use Rattle.client_run.specs.Answers.{HasReplied, IsSearchTold, asked_of, compact_reply, flush_reply, query_refusal, reclaim_cause, refusal_of, trace_reply};
+ghost use Rattle.session_text.specs.declared.request.Request.TheVariants.{Push as AsksPush, Trace as AsksTrace, Search as AsksSearch, Metrics as AsksMetrics, Cut as AsksCut, CutAll as AsksCutAll, Flush as AsksFlush, Compact as AsksCompact, Reclaim as AsksReclaim};
+ghost use Rattle.traceql_metrics.specs.Series.{bucket_count, most_buckets};
+ghost use Rattle.client_run.specs.Answers.{AreSeriesTold, HasReplied, IsSearchTold, asked_of, compact_reply, counted_of, flush_reply, query_refusal, reclaim_cause, refusal_of, trace_reply};
 
 use compactor::compact_round;
 use flusher::flush_round;
 use io_edges::Gate;
+use moment_range::Range;
 use otlp_spans::Reading;
 use query_fanout::{Asked, QueryError, SearchAnswer, TraceAnswer, find_trace};
 use search_text::printed_fields;
-use session_text::{Refusal, Reply, Request, Search};
+use session_text::{Metrics, Refusal, Reply, Request, Search};
 use span_types::{Batch, Memory, TraceId};
 use std::alloc::Global;
 use store_state::{FlushPort, LookPort, Port, PushError, ReclaimError, Round};
+use traceql_metrics::series;
 
 /// Answers a request over a port, for the client with this number.
 ///
 /// A push, a cut and the emptying of loose files are one call each, and a flush and a compaction are one round each. A
-/// look-up or a search takes one look, reads the blocks that it pins and gives it back. Out of memory a request is
+/// look-up, a search or a metrics query takes one look, reads the blocks that it pins and gives it back. Out of memory a request is
 /// refused for that; whether a push was refused the port says. The gate is passed at twice the client's number before a
-/// search is evaluated, and at one more after each push that was accepted.
+/// search or a metrics query is evaluated, and at one more after each push that was accepted.
 pub fn answer_request<P: Port, G: Gate>(
     alloc: Global,
     port: &mut P,
@@ -39,6 +42,10 @@ pub fn answer_request<P: Port, G: Gate>(
         Request::Search(asks) => {
             gate.pass(2 * client);
             search(alloc, port, asks)
+        }
+        Request::Metrics(asks) => {
+            gate.pass(2 * client);
+            metrics(alloc, port, asks)
         }
         Request::Cut { moment } => cut(port, moment),
         Request::CutAll => cut_all(port),
@@ -245,6 +252,61 @@ fn search_reply(alloc: Global, asked: &Asked, answer: Result<SearchAnswer, Query
             },
             Err(Memory) => Reply::Refused(Refusal::Memory),
         },
+        Err(error) => Reply::Refused(query_refusal(error)),
+    }
+}
+
+// Tells how many of the spans that a query finds begin in each bucket.
+fn metrics<P: FlushPort>(alloc: Global, port: &mut P, asks: Metrics) -> Reply
+    requires { (held : List Hold) × P.meaning.holds port.old held }
+    ensures { HasReplied P.meaning port.old (AsksMetrics asks) result port.new }
+{
+    let (start, end, step, rate) = (asks.start, asks.end, asks.step, asks.rate);
+    let asked = counted_of(asks);
+    let answer = query_fanout::search(alloc, port, &asked);
+    series_reply(alloc, start, end, step, rate, answer)
+}
+
+// What a metrics query asks of a store.
+fn counted_of(asks: Metrics) -> Asked
+    ensures { result ≡ counted_of asks }
+{
+    let range = Range {
+        from: asks.start,
+        until: Some(asks.end),
+    };
+    Asked {
+        checked: asks.checked,
+        range,
+        limit: u32::MAX,
+        spans_per_set: u32::MAX,
+    }
+}
+
+// What is told of the series of what was found.
+fn series_reply(
+    alloc: Global,
+    start: u64,
+    end: u64,
+    step: u64,
+    rate: bool,
+    answer: Result<SearchAnswer, QueryError>,
+) -> Reply
+    requires ordered { start < end }
+    requires stepped { 0 < step }
+    requires few { bucket_count start end step ≤ most_buckets }
+    ensures { AreSeriesTold start end step rate answer result }
+{
+    match answer {
+        Ok(SearchAnswer { as_of, results }) => {
+            match series(alloc, &results, start, end, step, rate) {
+                Ok(found) => Reply::Measured {
+                    as_of,
+                    series: found,
+                },
+                Err(Memory) => Reply::Refused(Refusal::Memory),
+            }
+        }
         Err(error) => Reply::Refused(query_refusal(error)),
     }
 }

@@ -17,10 +17,10 @@ items_plain : {A : Type 0} (f : A → Data) → ((x : A) → has_float (f x) ≡
 items_plain f plain [] = refl
 items_plain f plain (x ∷ xs) = rw (plain x) (items_plain f plain xs)
 
-list_plain : {A : Type 0} (f : A → Data) → ((x : A) → has_float (f x) ≡ false) → (xs : List A) → has_float (list_json f xs) ≡ false
+pub list_plain : {A : Type 0} (f : A → Data) → ((x : A) → has_float (f x) ≡ false) → (xs : List A) → has_float (list_json f xs) ≡ false
 list_plain f plain xs = items_plain f plain xs
 
-either : (b : Bool) (x y : Data) → has_float x ≡ false → has_float y ≡ false → has_float (if b then x else y) ≡ false
+pub either : (b : Bool) (x y : Data) → has_float x ≡ false → has_float y ≡ false → has_float (if b then x else y) ≡ false
 either true x y of_x of_y = of_x
 either false x y of_x of_y = of_y
 
@@ -28,7 +28,7 @@ number_plain : (r : Fraction) → has_float (number_json r) ≡ false
 unfolding number_json
 number_plain r = either (r.denominator == 1) _ _ refl refl
 
-value_plain : (v : Value) → has_float (value_json v) ≡ false
+pub value_plain : (v : Value) → has_float (value_json v) ≡ false
 unfolding value_json
 value_plain Nil = refl
 value_plain (Truth truth) = refl

@@ -10,16 +10,20 @@ use Rattle.query_fanout.specs.SearchAnswers.{IsSearchAnswer}
 use Rattle.query_fanout.specs.TraceAnswers.{IsTraceAnswer}
 use Rattle.query_fanout.specs.declared.error.QueryError.{QueryError}
 use Rattle.query_fanout.specs.declared.error.QueryError.TheVariants as error
+use Rattle.query_fanout.specs.declared.searching.Asked.{Asked}
 use Rattle.query_fanout.specs.declared.searching.SearchAnswer.{SearchAnswer}
 use Rattle.query_fanout.specs.declared.trace.TraceAnswer.{TraceAnswer}
 use Rattle.search_text.specs.Fields.{printed_fields}
 use Rattle.spanset_eval.specs.declared.results.TraceResult.{TraceResult}
+use Rattle.spanset_eval.specs.declared.series.Series.{Series}
+use Rattle.traceql_metrics.specs.Series.{AreSeries}
 use Rattle.traceql_syntax.specs.Trees.{query_tree}
 use Rattle.session_text.specs.declared.reply.Reply.{Reply}
-use Rattle.session_text.specs.declared.reply.Reply.TheVariants.{Refused, Searched, Traced}
+use Rattle.session_text.specs.declared.reply.Reply.TheVariants.{Measured, Refused, Searched, Traced}
 use Rattle.session_text.specs.declared.refusal.Refusal.{Refusal}
 use Rattle.session_text.specs.declared.refusal.Refusal.TheVariants.{DiskFault, Memory, Round}
 use Rattle.session_text.specs.declared.request.Request.TheVariants as request
+use Rattle.session_text.specs.declared.request.Metrics.{Metrics}
 use Rattle.session_text.specs.declared.request.Search.{Search}
 use Rattle.session_text.specs.Items.{Item}
 use Rattle.store_model.specs.Cut.{is_idle}
@@ -37,18 +41,18 @@ use Rattle.store_state.specs.Made.{Call, call}
 use Rattle.store_state.specs.declared.rounds.Refusal.TheVariants as cause
 use Rattle.store_state.specs.declared.rounds.Round.{Round as RoundEnd}
 use Rattle.store_state.specs.declared.rounds.Round.TheVariants as round_is
-use Rattle.client_run.specs.Answers.{IsSearchTold, TellsHistory, asked_of, compact_reply, query_refusal, trace_reply}
+use Rattle.client_run.specs.Answers.{IsMetricsTold, IsSearchTold, TellsHistory, asked_of, compact_reply, counted_of, query_refusal, trace_reply}
 use Rattle.compactor.specs.Rounds.{FoundBlocks}
 use Rattle.client_run.specs.CoreRuns.{AreSteps}
 use Rattle.session_meaning.specs.Answering.{AreItemsAnswered, CallsLead, IsItemAnswered}
 use Rattle.session_meaning.specs.At.{At, IsStep, IsStill, IsUnchanged, history_of}
 use Rattle.session_meaning.specs.Causes.{HasQueryCause, is_disk_fault}
 use Rattle.session_meaning.specs.Rounds.{IsTold}
-use Rattle.session_meaning.specs.Session.{IsAnswered, IsAnsweredOrRefused, IsSure, Session}
+use Rattle.session_meaning.specs.Session.{IsAnswered, IsAnsweredOrRefused, IsFound, IsSure, Session}
 use Rattle.session_meaning.specs.Upkeep.{IsClosed}
 use Rattle.session_meaning.proofs.CutLaws.{cut_closes, cuts_all, cuts_idle}
 use Rattle.session_meaning.proofs.Firsts.{trace_alike}
-use Rattle.session_meaning.proofs.QueryLaws.{Says, asked_says, told_exactly}
+use Rattle.session_meaning.proofs.QueryLaws.{Says, asked_says, told_at, told_exactly}
 use Rattle.session_meaning.proofs.ReclaimLaws.{reclaim_closes}
 use Rattle.session_meaning.proofs.RoundLaws.{round_closes, round_keeps}
 use Rattle.session_meaning.proofs.RoundSteps.IsBegin.{OfCompaction, OfFlush}
@@ -118,6 +122,14 @@ trace_told id before after later grows r (Err error.Memory) other is still any a
 
 -- ---- a search
 
+-- What is found in rows that have the first occurrences of a history is found at the history.
+found_at : (asked : Asked) (h : History) (rows : List Row) (answer : SearchAnswer) → SameFirsts rows (history_rows h) → IsSearchAnswer asked (count_of h) rows answer → IsFound asked h answer.results
+found_at asked h rows answer same tells = record {
+  rows = tells.firsts;
+  firsts = firsts_alike rows (history_rows h) tells.firsts same tells.are_first;
+  answer = tells.found;
+}
+
 abbrev fields_of : Search → List (List ℕ)
 fields_of s = printed_fields (query_tree s.checked.query)
 
@@ -127,11 +139,7 @@ found : (told : Bool) (s : Search) (before after : At) (r : Reply) (rows : List 
 found told s before after r rows answer is still same tells =
     inl (
       answer.results,
-      (λ sure. record {
-        rows = tells.firsts;
-        firsts = firsts_alike rows (history_rows (history_of before)) tells.firsts (same sure) tells.are_first;
-        answer = tells.found;
-      }),
+      (λ sure. found_at (asked_of s) (history_of before) rows answer (same sure) tells),
       is ∙ ap (λ (n : ℕ). Searched n (fields_of s) answer.results) tells.count,
       still,
     )
@@ -179,6 +187,62 @@ search_told s before after later grows r (Err (error.NotBlock file at)) (Err err
 search_told s before after later grows r (Err (error.NotBlock file at)) (Err (error.NotBlock f a)) is still among also sound = absurd sound
 search_told s before after later grows r (Err (error.NotBlock file at)) (Err error.Memory) is still among also sound = let bad : ⊥ = (let e = sym is ∙ also in cc) in absurd bad
 search_told s before after later grows r (Err error.Memory) other is still any also sound = not_found true s before after r Memory is tt still
+
+-- ---- a metrics query
+
+measured : (told : Bool) (m : Metrics) (before after : At) (r : Reply) (rows : List Row) (answer : SearchAnswer) (series : List Series) → AreSeries answer.results m.start m.end m.step m.rate series
+    → r ≡ Measured answer.as_of series → IsStill before after → (IsSure told before → SameFirsts rows (history_rows (history_of before)))
+    → IsSearchAnswer (counted_of m) (count_of (history_of before)) rows answer → IsAnsweredOrRefused told (Ok (request.Metrics m)) before r after
+measured told m before after r rows answer series are is still same tells =
+    inl (
+      answer.results,
+      series,
+      (λ sure. found_at (counted_of m) (history_of before) rows answer (same sure) tells),
+      are,
+      is ∙ ap (λ (n : ℕ). Measured n series) tells.count,
+      still,
+    )
+
+not_measured : (told : Bool) (m : Metrics) (before after : At) (r : Reply) (why : Refusal) → r ≡ Refused why → HasQueryCause told why before after → IsUnchanged (is_disk_fault why) before after
+    → IsAnsweredOrRefused told (Ok (request.Metrics m)) before r after
+not_measured told m before after r why is holds still = inr (why, is, holds, still)
+
+metrics_means : (m : Metrics) (before after : At) (r : Reply) (answer : Result SearchAnswer QueryError) → IsMetricsTold m answer r → IsUnchanged (is_fault answer) before after
+    → Says (IsSearchAnswer (counted_of m)) answer before after → IsAnsweredOrRefused false (Ok (request.Metrics m)) before r after
+metrics_means m before after r (Ok answer) (inl (series, are, is)) still (rows, same, tells) = measured false m before after r rows answer series are is still (unsure before same) tells
+metrics_means m before after r (Ok answer) (inr is) still says = not_measured false m before after r Memory is tt still
+metrics_means m before after r (Err error.Fault) is still rose = not_measured false m before after r DiskFault is rose still
+metrics_means m before after r (Err (error.NotBlock file at)) is still among = not_measured false m before after r (Round (cause.NotBlock file at)) is (refl, among) still
+metrics_means m before after r (Err error.Memory) is still any = not_measured false m before after r Memory is tt still
+
+same_measured : (a b : ℕ) (series more : List Series) → Measured a series ≡ Measured b more → a ≡ b
+same_measured a b series more e = cc
+
+measured_not_refused : (as_of : ℕ) (series : List Series) (why : Refusal) → Measured as_of series ≡ Refused why → ⊥
+measured_not_refused as_of series why e = cc
+
+-- The series may be those of other results than were found, but these are found at the history too, since the counts are one.
+metrics_told : (m : Metrics) (before after : At) (later : History) (grows : IsGrown (history_of before) later) (r : Reply) (answer other : Result SearchAnswer QueryError) → IsMetricsTold m answer r → IsUnchanged (is_fault answer) before after
+    → Says (IsSearchAnswer (counted_of m)) answer before after → IsMetricsTold m other r → Sound (TellsOf (IsSearchAnswer (counted_of m)) (history_of before) later) other
+    → IsAnsweredOrRefused true (Ok (request.Metrics m)) before r after
+metrics_told m before after later grows r (Ok answer) (Ok other) (inl (series, are, is)) still (rows, same, tells) (inl (more, are_more, also)) sound =
+    let h : History = history_of before in
+    let count : other.as_of ≡ count_of h = sym (same_measured answer.as_of other.as_of series more (sym is ∙ also)) ∙ tells.count in
+    measured true m before after r (history_rows h) other more are_more also still (λ sure k. refl)
+    (told_at (IsSearchAnswer (counted_of m)) (λ (x : SearchAnswer). x.as_of) (λ n rs x t. t.count) h later other grows count sound)
+metrics_told m before after later grows r (Ok answer) (Ok other) (inl (series, are, is)) still says (inr also) sound =
+    absurd (measured_not_refused answer.as_of series Memory (sym is ∙ also))
+metrics_told m before after later grows r (Ok answer) (Err why) (inl (series, are, is)) still says also sound =
+    absurd (measured_not_refused answer.as_of series (query_refusal why) (sym is ∙ also))
+metrics_told m before after later grows r (Ok answer) other (inr is) still says also sound = not_measured true m before after r Memory is tt still
+metrics_told m before after later grows r (Err error.Fault) other is still rose also sound = not_measured true m before after r DiskFault is rose still
+metrics_told m before after later grows r (Err (error.NotBlock file at)) (Ok other) is still among (inl (more, are_more, also)) sound =
+    absurd (measured_not_refused other.as_of more (query_refusal (error.NotBlock file at)) (sym also ∙ is))
+metrics_told m before after later grows r (Err (error.NotBlock file at)) (Ok other) is still among (inr also) sound = let bad : ⊥ = (let e = sym is ∙ also in cc) in absurd bad
+metrics_told m before after later grows r (Err (error.NotBlock file at)) (Err error.Fault) is still among also sound = let bad : ⊥ = (let e = sym is ∙ also in cc) in absurd bad
+metrics_told m before after later grows r (Err (error.NotBlock file at)) (Err (error.NotBlock f a)) is still among also sound = absurd sound
+metrics_told m before after later grows r (Err (error.NotBlock file at)) (Err error.Memory) is still among also sound = let bad : ⊥ = (let e = sym is ∙ also in cc) in absurd bad
+metrics_told m before after later grows r (Err error.Memory) other is still any also sound = not_measured true m before after r Memory is tt still
 
 -- ---- any item
 
@@ -230,6 +294,7 @@ untold h item r after e = let bad : ⊥ = cc in absurd bad
 abbrev pub IsQuery : Item → Type 0
 IsQuery (Ok (request.Trace id)) = ⊤
 IsQuery (Ok (request.Search s)) = ⊤
+IsQuery (Ok (request.Metrics m)) = ⊤
 IsQuery _ = ⊥
 
 pub line_means : (told : Bool) (item : Item) (before after : At) (r : Reply) (calls : List Call) → (IsQuery item → ⊥) → TellsBlocks told (history_of before) item r after
@@ -238,6 +303,7 @@ line_means told (Ok (request.Push reading moment)) before after r calls none tel
     (answer, is, by_call (event.Push reading.batch.spans moment) (push_reply answer) before after calls are lead)
 line_means told (Ok (request.Trace id)) before after r calls none tells a lead = absurd (none tt)
 line_means told (Ok (request.Search s)) before after r calls none tells a lead = absurd (none tt)
+line_means told (Ok (request.Metrics m)) before after r calls none tells a lead = absurd (none tt)
 line_means told (Ok (request.Cut moment)) before after r calls none tells (answer, is, are) lead =
     (answer, is, by_call (event.Cut moment) (count_reply answer) before after calls are lead)
 line_means told (Ok request.CutAll) before after r calls none tells (answer, is, are) lead =
@@ -257,6 +323,8 @@ item_means (Ok (request.Trace id)) before after r calls agrees (answer, is, aske
     let says = asked_says (IsTraceAnswer id) answer before after calls agrees asked lead in trace_means id before after r answer is says.0 says.1
 item_means (Ok (request.Search s)) before after r calls agrees (answer, is, asked) lead =
     let says = asked_says (IsSearchAnswer (asked_of s)) answer before after calls agrees asked lead in search_means s before after r answer is says.0 says.1
+item_means (Ok (request.Metrics m)) before after r calls agrees (answer, is, asked) lead =
+    let says = asked_says (IsSearchAnswer (counted_of m)) answer before after calls agrees asked lead in metrics_means m before after r answer is says.0 says.1
 item_means (Ok (request.Cut moment)) before after r calls agrees a lead = inl (line_means false (Ok (request.Cut moment)) before after r calls (λ q. q) (untold (history_of before) (Ok (request.Cut moment)) r after) a lead)
 item_means (Ok request.CutAll) before after r calls agrees a lead = inl (line_means false (Ok request.CutAll) before after r calls (λ q. q) (untold (history_of before) (Ok request.CutAll) r after) a lead)
 item_means (Ok request.Flush) before after r calls agrees a lead = inl (line_means false (Ok request.Flush) before after r calls (λ q. q) (untold (history_of before) (Ok request.Flush) r after) a lead)
@@ -272,6 +340,8 @@ item_means_told (Ok (request.Trace id)) before after r calls agrees (answer, is,
     let says = asked_says (IsTraceAnswer id) answer before after calls agrees asked lead in trace_told id before after later grows r answer other is says.0 says.1 also sound
 item_means_told (Ok (request.Search s)) before after r calls agrees (answer, is, asked) lead (later, grows, (other, also, sound)) are =
     let says = asked_says (IsSearchAnswer (asked_of s)) answer before after calls agrees asked lead in search_told s before after later grows r answer other is says.0 says.1 also sound
+item_means_told (Ok (request.Metrics m)) before after r calls agrees (answer, is, asked) lead (later, grows, (other, also, sound)) are =
+    let says = asked_says (IsSearchAnswer (counted_of m)) answer before after calls agrees asked lead in metrics_told m before after later grows r answer other is says.0 says.1 also sound
 item_means_told (Ok (request.Cut moment)) before after r calls agrees a lead t are = inl (line_means true (Ok (request.Cut moment)) before after r calls (λ q. q) (λ sure. (t, are)) a lead)
 item_means_told (Ok request.CutAll) before after r calls agrees a lead t are = inl (line_means true (Ok request.CutAll) before after r calls (λ q. q) (λ sure. (t, are)) a lead)
 item_means_told (Ok request.Flush) before after r calls agrees a lead t are = inl (line_means true (Ok request.Flush) before after r calls (λ q. q) (λ sure. (t, are)) a lead)
@@ -293,6 +363,8 @@ item_keeps P keeps told (Ok (request.Trace id)) before after r (inl (rows, found
 item_keeps P keeps told (Ok (request.Trace id)) before after r (inr (why, is, holds, still)) has = subst P (sym still.0) has
 item_keeps P keeps told (Ok (request.Search s)) before after r (inl (results, found, is, still)) has = subst P (sym still.0) has
 item_keeps P keeps told (Ok (request.Search s)) before after r (inr (why, is, holds, still)) has = subst P (sym still.0) has
+item_keeps P keeps told (Ok (request.Metrics m)) before after r (inl (results, series, found, are, is, still)) has = subst P (sym still.0) has
+item_keeps P keeps told (Ok (request.Metrics m)) before after r (inr (why, is, holds, still)) has = subst P (sym still.0) has
 item_keeps P keeps told (Ok (request.Cut moment)) before after r (inl (answer, is, step)) has =
     keeps before.faults after.faults before.machine after.machine (event.Cut moment) (count_reply answer) step.1 has
 item_keeps P keeps told (Ok request.CutAll) before after r (inl (answer, is, step)) has =
@@ -331,6 +403,8 @@ item_closes told (Ok (request.Trace id)) before after r (inl (rows, found, is, s
 item_closes told (Ok (request.Trace id)) before after r (inr (why, is, holds, still)) closed = subst IsClosed (sym still.0) closed
 item_closes told (Ok (request.Search s)) before after r (inl (results, found, is, still)) closed = subst IsClosed (sym still.0) closed
 item_closes told (Ok (request.Search s)) before after r (inr (why, is, holds, still)) closed = subst IsClosed (sym still.0) closed
+item_closes told (Ok (request.Metrics m)) before after r (inl (results, series, found, are, is, still)) closed = subst IsClosed (sym still.0) closed
+item_closes told (Ok (request.Metrics m)) before after r (inr (why, is, holds, still)) closed = subst IsClosed (sym still.0) closed
 item_closes told (Ok (request.Cut moment)) before after r (inl (answer, is, step)) closed =
     let m = before.machine in
     cut_closes (is_idle moment m.state.live) m (count_reply answer) after.machine (cuts_idle before.faults after.faults m after.machine moment (count_reply answer) step.1) closed

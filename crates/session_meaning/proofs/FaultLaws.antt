@@ -177,6 +177,8 @@ module _ (r : Reply) (before after : At) where
   item_counts sure (Ok (request.Trace id)) (inr (w, is, holds, still)) none = by_still (is_disk_fault w) (Refused w) is refl still
   item_counts sure (Ok (request.Search s)) (inl (results, found, is, still)) none = by_still false _ is refl still
   item_counts sure (Ok (request.Search s)) (inr (w, is, holds, still)) none = by_still (is_disk_fault w) (Refused w) is refl still
+  item_counts sure (Ok (request.Metrics m)) (inl (results, series, found, are, is, still)) none = by_still false _ is refl still
+  item_counts sure (Ok (request.Metrics m)) (inr (w, is, holds, still)) none = by_still (is_disk_fault w) (Refused w) is refl still
   item_counts sure (Ok (request.Cut moment)) (inl (answer, is, step)) none =
       by_step (event.Cut moment) (count_reply answer) (cut_reply Cut answer) is (cut_fault answer) step
   item_counts sure (Ok (request.Cut moment)) (inr bad) none = absurd bad

@@ -20,8 +20,9 @@ use Rattle.session_text.specs.declared.request.Request.{Request}
 use Rattle.session_text.specs.declared.request.Request.TheVariants as request
 use Rattle.session_text.specs.Items.{Item}
 use Rattle.session_text.specs.Lines.{first_part, other_parts}
+use Rattle.session_text.specs.MetricsLines.{MetricsLine, metrics_parts}
 use Rattle.session_text.specs.Options.{SearchLine, search_parts}
-use Rattle.session_text.specs.Requests.{Answers, AsksAt, AsksPush, Line, alone, line_of, other_line, plain, push_of, push_with, pushed, request_by, search_with, searched, trace_with, with_id}
+use Rattle.session_text.specs.Requests.{Answers, AsksAt, AsksPush, Line, alone, buckets_of, line_of, measured, metrics_with, other_line, plain, push_of, push_with, pushed, request_by, search_with, searched, trace_with, with_id}
 use Rattle.session_text.specs.Searches.{of_check, of_parse}
 use Rattle.session_meaning.specs.declared.ending.Ending.TheVariants.{NotOpened}
 use Rattle.session_meaning.specs.Asked.{AreAsked, after_moment}
@@ -33,9 +34,10 @@ use Rattle.session_meaning.proofs.FaultLaws.{rose_none, session_counts}
 
 -- ---- one line
 
--- it is a search, or a line that isn't refused for that
+-- it is a search or a metrics query, or a line that isn't refused for that
 abbrev IsNone : Line → Type 0
 IsNone (searched line) = ⊤
+IsNone (measured line) = ⊤
 IsNone (plain answer) = blames_disk answer ≡ false
 
 either : (b : Bool) (x y : Line) → IsNone x → IsNone y → IsNone (if b then x else y)
@@ -69,15 +71,20 @@ search_none : (read : Result SearchLine ℕ) → IsNone (search_with read)
 search_none (Ok line) = tt
 search_none (Err at) = refl
 
+metrics_none : (read : Result MetricsLine ℕ) → IsNone (metrics_with read)
+metrics_none (Ok line) = either (nat_le (buckets_of line) 1000) _ _ tt refl
+metrics_none (Err at) = refl
+
 other_none : (moment : ℕ) (word line : List ℕ) (rest : Option (List ℕ)) → IsNone (other_line moment word line rest)
 other_none moment word line rest =
     either (bytes_eq word (codes "trace")) _ _ (trace_none (length line) rest)
     (either (bytes_eq word (codes "search")) _ _ (search_none (search_parts (length line) rest))
+    (either (bytes_eq word (codes "metrics")) _ _ (metrics_none (metrics_parts (length line) rest))
     (either (bytes_eq word (codes "cut")) _ _ (alone_none word rest (request.Cut moment))
     (either (bytes_eq word (codes "cutall")) _ _ (alone_none word rest request.CutAll)
     (either (bytes_eq word (codes "flush")) _ _ (alone_none word rest request.Flush)
     (either (bytes_eq word (codes "compact")) _ _ (alone_none word rest request.Compact)
-    (either (bytes_eq word (codes "reclaim")) _ _ (alone_none word rest request.Reclaim) refl))))))
+    (either (bytes_eq word (codes "reclaim")) _ _ (alone_none word rest request.Reclaim) refl)))))))
 
 request_none : (moment : ℕ) (word line : List ℕ) (rest : Option (List ℕ)) → IsNone (request_by moment word line rest)
 request_none moment word line rest =
@@ -115,7 +122,9 @@ check_none type.Memory = refl
 answers_none : (line : Line) (refused : List (List ℕ)) (item : Item) → IsNone line → Answers line refused item → blames_disk item ≡ false
 answers_none line refused (Ok r) none a = refl
 answers_none (searched line) refused (Err why) none (inl (no_query, clean)) = ap is_disk_fault no_query.is ∙ parse_none no_query.why
-answers_none (searched line) refused (Err why) none (inr unfit) = ap is_disk_fault unfit.is ∙ check_none unfit.why
+answers_none (searched line) refused (Err why) none (inr unfit) = ap is_disk_fault unfit.misfit.is ∙ check_none unfit.misfit.why
+answers_none (measured line) refused (Err why) none (inl (no_query, clean)) = ap is_disk_fault no_query.is ∙ parse_none no_query.why
+answers_none (measured line) refused (Err why) none (inr unfit) = ap is_disk_fault unfit.misfit.is ∙ check_none unfit.misfit.why
 answers_none (plain answer) refused (Err why) none (inl is, clean) = ap blames_disk is ∙ none
 answers_none (plain answer) refused (Err why) none (inr is, clean) = ap blames_disk is
 

@@ -151,10 +151,15 @@ asked_says {A} tells r before after calls agrees (inr (look, reads, are, pages, 
 
 -- ---- what is told of the history
 
+-- What is told of a later history as of this one's length is told of this one.
+pub told_at : {A : Type 0} (tells : ℕ → List Row → A → Type 0) (as_of : A → ℕ) → ((n : ℕ) (rows : List Row) (x : A) → tells n rows x → as_of x ≡ n)
+    → (h later : History) (x : A) → IsGrown h later → as_of x ≡ count_of h → TellsOf tells h later x → tells (count_of h) (history_rows h) x
+told_at tells as_of counts h later x grows is (n, low, high, its) =
+    let same : n ≡ count_of h = sym (counts n (history_rows (up_to n later)) x its) ∙ is in
+    subst (λ (g : History). tells (count_of h) (history_rows g) x) (as_it_was h later n grows same)
+    (subst (λ (k : ℕ). tells k (history_rows (up_to n later)) x) same its)
+
 -- What is told of a later history is told of this one, if it is told as of its length.
 pub told_exactly : {A : Type 0} (tells : ℕ → List Row → A → Type 0) (as_of : A → ℕ) → ((n : ℕ) (rows : List Row) (x : A) → tells n rows x → as_of x ≡ n)
     → (h later : History) (rows : List Row) (x : A) → IsGrown h later → tells (count_of h) rows x → TellsOf tells h later x → tells (count_of h) (history_rows h) x
-told_exactly tells as_of counts h later rows x grows own (n, low, high, its) =
-    let same : n ≡ count_of h = sym (counts n (history_rows (up_to n later)) x its) ∙ counts (count_of h) rows x own in
-    subst (λ (g : History). tells (count_of h) (history_rows g) x) (as_it_was h later n grows same)
-    (subst (λ (k : ℕ). tells k (history_rows (up_to n later)) x) same its)
+told_exactly tells as_of counts h later rows x grows own its = told_at tells as_of counts h later x grows (counts (count_of h) rows x own) its

@@ -51,6 +51,8 @@ item_since start told (Ok (request.Trace id)) before after r (inl (rows, found, 
 item_since start told (Ok (request.Trace id)) before after r (inr (why, is, cause, still)) since = by_still start (is_disk_fault why) before after still since
 item_since start told (Ok (request.Search s)) before after r (inl (results, found, is, still)) since = by_still start false before after still since
 item_since start told (Ok (request.Search s)) before after r (inr (why, is, cause, still)) since = by_still start (is_disk_fault why) before after still since
+item_since start told (Ok (request.Metrics m)) before after r (inl (results, series, found, are, is, still)) since = by_still start false before after still since
+item_since start told (Ok (request.Metrics m)) before after r (inr (why, is, cause, still)) since = by_still start (is_disk_fault why) before after still since
 item_since start told (Ok (request.Cut moment)) before after r (inl (answer, is, step)) since = by_step start before after (Cut moment) (count_reply answer) step since
 item_since start told (Ok (request.Cut moment)) before after r (inr bad) since = absurd bad
 item_since start told (Ok request.CutAll) before after r (inl (answer, is, step)) since = by_step start before after CutAll (count_reply answer) step since

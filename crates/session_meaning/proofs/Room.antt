@@ -55,6 +55,8 @@ item_later told (Ok (request.Trace id)) before after r (inl (rows, found, is, st
 item_later told (Ok (request.Trace id)) before after r (inr (why, is, cause, still)) = still.1
 item_later told (Ok (request.Search s)) before after r (inl (results, found, is, still)) = still.1
 item_later told (Ok (request.Search s)) before after r (inr (why, is, cause, still)) = still.1
+item_later told (Ok (request.Metrics m)) before after r (inl (results, series, found, are, is, still)) = still.1
+item_later told (Ok (request.Metrics m)) before after r (inr (why, is, cause, still)) = still.1
 item_later told (Ok (request.Cut moment)) before after r (inl (answer, is, step)) = step.0
 item_later told (Ok (request.Cut moment)) before after r (inr bad) = absurd bad
 item_later told (Ok request.CutAll) before after r (inl (answer, is, step)) = step.0
@@ -228,6 +230,7 @@ query_plain (refusal.BadQuery fault) before after cause well = absurd cause
 query_plain (refusal.BadType fault) before after cause well = absurd cause
 query_plain (refusal.BadPattern n) before after cause well = absurd cause
 query_plain (refusal.PatternTooBig n) before after cause well = absurd cause
+query_plain (refusal.TooManyBuckets n) before after cause well = absurd cause
 query_plain (refusal.LiveFull n) before after cause well = absurd cause
 query_plain (refusal.StoreFull n) before after cause well = absurd cause
 query_plain (refusal.ReadOnly n) before after cause well = absurd cause
@@ -256,6 +259,10 @@ item_goes_on (Ok (request.Search s)) items before after r (inl (results, found, 
     (ap is_refusal is, same_room (Ok (request.Search s)) items before.machine after.machine still.0 room)
 item_goes_on (Ok (request.Search s)) items before after r (inr (why, is, cause, still)) well none room =
     (ap is_refusal is ∙ query_plain why before after cause well, same_room (Ok (request.Search s)) items before.machine after.machine still.0 room)
+item_goes_on (Ok (request.Metrics m)) items before after r (inl (results, series, found, are, is, still)) well none room =
+    (ap is_refusal is, same_room (Ok (request.Metrics m)) items before.machine after.machine still.0 room)
+item_goes_on (Ok (request.Metrics m)) items before after r (inr (why, is, cause, still)) well none room =
+    (ap is_refusal is ∙ query_plain why before after cause well, same_room (Ok (request.Metrics m)) items before.machine after.machine still.0 room)
 item_goes_on (Ok (request.Cut moment)) items before after r (inl (answer, is, step)) well none room =
     let m = before.machine in
     let cuts = cuts_idle before.faults after.faults m after.machine moment (count_reply answer) step.1 in (

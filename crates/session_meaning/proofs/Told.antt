@@ -3,7 +3,7 @@ use Rattle.std.proofs.Common.{Bool, ◌≡◌, inl, inr, ℕ, ◌+◌, ◌<◌, 
 use Rattle.std.specs.List.{Contains}
 use Rattle.otlp_spans.specs.declared.read.Reading.{Reading}
 use Rattle.session_text.specs.declared.reply.Reply.{Reply}
-use Rattle.session_text.specs.declared.reply.Reply.TheVariants.{Compacted, Cut, CutAll, Flushed, NothingCompacted, NothingFlushed, Pushed, Refused, Searched, Traced}
+use Rattle.session_text.specs.declared.reply.Reply.TheVariants.{Compacted, Cut, CutAll, Flushed, Measured, NothingCompacted, NothingFlushed, Pushed, Refused, Searched, Traced}
 use Rattle.session_text.specs.declared.request.Request.TheVariants as request
 use Rattle.session_text.specs.Items.{Item}
 use Rattle.store_entries.specs.declared.entry.Entry.{Entry}
@@ -65,6 +65,8 @@ item_grows told (Ok (request.Trace id)) before after r (inl (rows, found, is, st
 item_grows told (Ok (request.Trace id)) before after r (inr (why, is, cause, still)) = still_grown before after (accepted_entry (Ok (request.Trace id)) r) refl still.0
 item_grows told (Ok (request.Search s)) before after r (inl (results, found, is, still)) = still_grown before after (accepted_entry (Ok (request.Search s)) r) refl still.0
 item_grows told (Ok (request.Search s)) before after r (inr (why, is, cause, still)) = still_grown before after (accepted_entry (Ok (request.Search s)) r) refl still.0
+item_grows told (Ok (request.Metrics m)) before after r (inl (results, series, found, are, is, still)) = still_grown before after (accepted_entry (Ok (request.Metrics m)) r) refl still.0
+item_grows told (Ok (request.Metrics m)) before after r (inr (why, is, cause, still)) = still_grown before after (accepted_entry (Ok (request.Metrics m)) r) refl still.0
 item_grows told (Ok (request.Cut moment)) before after r (inl (answer, is, step)) =
     called_grown before after (event.Cut moment) (count_reply answer) (accepted_entry (Ok (request.Cut moment)) r) refl tt step
 item_grows told (Ok (request.Cut moment)) before after r (inr bad) = absurd bad
@@ -141,6 +143,9 @@ item_knows told (Ok (request.Trace id)) before after r n (inr (why, is, cause, s
 item_knows told (Ok (request.Search s)) before after r n (inl (results, found, is, still)) known =
     sym (some_same (count_of (history_of before)) n (by_reply r (Searched (count_of (history_of before)) (printed_fields (query_tree s.checked.query)) results) n known is))
 item_knows told (Ok (request.Search s)) before after r n (inr (why, is, cause, still)) known = absurd (none_some n (by_reply r (Refused why) n known is))
+item_knows told (Ok (request.Metrics m)) before after r n (inl (results, series, found, are, is, still)) known =
+    sym (some_same (count_of (history_of before)) n (by_reply r (Measured (count_of (history_of before)) series) n known is))
+item_knows told (Ok (request.Metrics m)) before after r n (inr (why, is, cause, still)) known = absurd (none_some n (by_reply r (Refused why) n known is))
 item_knows told (Ok (request.Cut moment)) before after r n (inl (answer, is, step)) known =
     absurd (cut_unknown Cut answer n (λ moved. refl) (by_reply r (cut_reply Cut answer) n known is))
 item_knows told (Ok (request.Cut moment)) before after r n (inr bad) known = absurd bad
@@ -206,6 +211,8 @@ push_numbers told (Ok (request.Trace id)) before after number kept rejected skip
 push_numbers told (Ok (request.Trace id)) before after number kept rejected skipped (inr (why, is, cause, still)) = let bad : ⊥ = cc in absurd bad
 push_numbers told (Ok (request.Search s)) before after number kept rejected skipped (inl (results, found, is, still)) = let bad : ⊥ = cc in absurd bad
 push_numbers told (Ok (request.Search s)) before after number kept rejected skipped (inr (why, is, cause, still)) = let bad : ⊥ = cc in absurd bad
+push_numbers told (Ok (request.Metrics m)) before after number kept rejected skipped (inl (results, series, found, are, is, still)) = let bad : ⊥ = cc in absurd bad
+push_numbers told (Ok (request.Metrics m)) before after number kept rejected skipped (inr (why, is, cause, still)) = let bad : ⊥ = cc in absurd bad
 push_numbers told (Ok (request.Cut moment)) before after number kept rejected skipped (inl (answer, is, step)) =
     absurd (not_pushed Cut answer number kept rejected skipped (λ moved e. cc) is)
 push_numbers told (Ok (request.Cut moment)) before after number kept rejected skipped (inr bad) = absurd bad

@@ -17,7 +17,7 @@ use Rattle.store_state.specs.declared.errors.PushError.TheVariants as push
 use Rattle.store_core.specs.Events.{unsure_after}
 use Rattle.query_fanout.specs.SearchAnswers.{IsSearchAnswer}
 use Rattle.query_fanout.specs.TraceAnswers.{IsTraceAnswer}
-use Rattle.client_run.specs.Answers.{asked_of, pushed_reply}
+use Rattle.client_run.specs.Answers.{asked_of, counted_of, pushed_reply}
 use Rattle.store_state.specs.Made.{Call, call}
 use Rattle.session_meaning.specs.Answering.{AreItemsAnswered, IsItemAnswered}
 use Rattle.session_meaning.specs.Pushes.{unsure_entry, unsure_or}
@@ -85,6 +85,7 @@ module _ (after : List Call → Unsure → Unsure) (none : (u : Unsure) → afte
       ∙ ap (λ (x : Reply). first_unsure u (unsure_or (Ok (request.Push reading moment)) x None)) (sym told)
   item_unsure (Ok (request.Trace id)) r calls u (answer, told, asked) = upkeep_unsure calls u (query_pushes_nothing (IsTraceAnswer id) answer calls asked) ∙ first_none u
   item_unsure (Ok (request.Search s)) r calls u (answer, told, asked) = upkeep_unsure calls u (query_pushes_nothing (IsSearchAnswer (asked_of s)) answer calls asked) ∙ first_none u
+  item_unsure (Ok (request.Metrics m)) r calls u (answer, told, asked) = upkeep_unsure calls u (query_pushes_nothing (IsSearchAnswer (counted_of m)) answer calls asked) ∙ first_none u
   item_unsure (Ok (request.Cut moment)) r calls u (answer, told, are) =
       ap (λ (cs : List Call). after cs u) are ∙ upkeep_unsure (call (Cut moment) (count_reply answer) ∷ []) u (tt, tt) ∙ first_none u
   item_unsure (Ok request.CutAll) r calls u (answer, told, are) =

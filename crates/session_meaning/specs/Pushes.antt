@@ -3,7 +3,7 @@ use Rattle.std.specs.Prelude.{◌≡◌, ℕ, ◌+◌, ◌*◌, ◌<◌, ◌≤�
 use Rattle.session_text.specs.declared.request.Request.TheVariants.{Compact, Flush, Push}
 use Rattle.session_text.specs.declared.refusal.Refusal.TheVariants.{DiskFault}
 use Rattle.session_text.specs.declared.reply.Reply.{Reply}
-use Rattle.session_text.specs.declared.reply.Reply.TheVariants.{Pushed, Traced, Searched, Refused}
+use Rattle.session_text.specs.declared.reply.Reply.TheVariants.{Pushed, Traced, Searched, Measured, Refused}
 use Rattle.session_text.specs.Items.{Item}
 use Rattle.store_entries.specs.declared.entry.Entry.{Entry}
 use Rattle.store_model.specs.History.{count_of, push_of}
@@ -38,6 +38,7 @@ unsure_entry (item ∷ items) (reply ∷ replies) = unsure_or item reply (unsure
 abbrev pub known_pushes : Reply → Option ℕ
 known_pushes (Traced as_of rows) = Some as_of
 known_pushes (Searched as_of fields results) = Some as_of
+known_pushes (Measured as_of series) = Some as_of
 known_pushes _ = None
 
 -- whether it is a push, as a number

@@ -7,14 +7,15 @@ use Rattle.span_types.specs.declared.ids.TraceId.{TraceId}
 use Rattle.span_types.specs.declared.spans.Row.{Row}
 use Rattle.span_types.specs.First.{IsFirstOf}
 use Rattle.rows_by_trace.specs.Traces.{rows_of_trace}
+use Rattle.query_fanout.specs.declared.searching.Asked.{Asked}
 use Rattle.spanset_eval.specs.declared.results.TraceResult.{TraceResult}
+use Rattle.spanset_eval.specs.declared.series.Series.{Series}
 use Rattle.search_answer.specs.Answers.{IsAnswer}
 use Rattle.search_text.specs.Fields.{printed_fields}
 use Rattle.traceql_syntax.specs.Trees.{query_tree}
 use Rattle.session_text.specs.declared.request.Request.TheVariants as request
-use Rattle.session_text.specs.declared.request.Search.{Search}
 use Rattle.session_text.specs.declared.reply.Reply.{Reply}
-use Rattle.session_text.specs.declared.reply.Reply.TheVariants.{Cut, CutAll, Refused, Searched, Traced}
+use Rattle.session_text.specs.declared.reply.Reply.TheVariants.{Cut, CutAll, Measured, Refused, Searched, Traced}
 use Rattle.session_text.specs.declared.refusal.Refusal.{Refusal}
 use Rattle.session_text.specs.declared.refusal.Refusal.TheVariants as refusal
 use Rattle.session_text.specs.Items.{Item}
@@ -27,7 +28,8 @@ use Rattle.store_state.specs.declared.errors.PushError.{PushError}
 use Rattle.store_state.specs.declared.errors.ReclaimError.{ReclaimError}
 use Rattle.store_state.specs.declared.rounds.Refusal.TheVariants as round
 use Rattle.store_state.specs.declared.rounds.Round.{Round}
-use Rattle.client_run.specs.Answers.{compact_reply, cut_reply, flush_reply, pushed_reply, reclaimed_reply}
+use Rattle.traceql_metrics.specs.Series.{AreSeries}
+use Rattle.client_run.specs.Answers.{asked_of, compact_reply, counted_of, cut_reply, flush_reply, pushed_reply, reclaimed_reply}
 use Rattle.session_meaning.specs.At.{At, IsStep, IsStill, IsUnchanged, history_of}
 use Rattle.session_meaning.specs.Causes.{HasQueryCause, is_disk_fault}
 use Rattle.session_meaning.specs.Rounds.{IsCompacted, IsFlushed}
@@ -41,11 +43,11 @@ use Rattle.session_meaning.specs.declared.ending.Ending.TheVariants as ending
 abbrev pub IsTraceIn : TraceId → History → List Row → Type 0
 IsTraceIn id history rows = IsFirstOf (rows_of_trace id (history_rows history)) rows
 
--- What a search finds at a history: its answer over the first occurrences of all spans in it.
-pub record IsFound (s : Search) (history : History) (results : List TraceResult) : Type 0 where
+-- What is found at a history if this is asked of a store: the answer to the search over the first occurrences of all spans in it.
+pub record IsFound (asked : Asked) (history : History) (results : List TraceResult) : Type 0 where
   pub rows : List Row
   pub firsts : AreFirstIn history rows
-  pub answer : IsAnswer s.checked.patterns (query_tree s.checked.query) s.range s.limit s.spans_per_set rows results
+  pub answer : IsAnswer asked.checked.patterns (query_tree asked.checked.query) asked.range asked.limit asked.spans_per_set rows results
 
 -- What a query tells is sure where what the blocks hold is told, which is what `told` says, or where the store lists no block.
 abbrev pub IsSure : Bool → At → Type 0
@@ -54,7 +56,8 @@ IsSure told at = (told ≡ true) ⊎ (at.machine.state.blocks ≡ [])
 -- What is asked is answered so, and leaves that.
 -- A push is a step of the store. Accepted, it is told how many pushes came before it, how many of its spans are kept and were
 -- rejected, and how much was skipped, and its spans are appended to the history. Refused, it is told a cause that holds.
--- A look-up is told how many pushes there were, and what it finds in all of them. So is a search. They change nothing.
+-- A look-up is told how many pushes there were, and what it finds in all of them. So is a search; and a metrics query is told the
+-- series of what is found for it. They change nothing.
 -- A cut is a step of the store that moves the rows of some traces to the head, and is told how many these are; or memory was
 -- wanted. A flush makes a block of rows that wait in the head, and is told how many it has, or that none waited, or why not. A
 -- compaction joins blocks, and is told how many these are and how many rows the new one has, or that no two fit together, or why not.
@@ -69,8 +72,12 @@ IsAnswered told (Ok (request.Trace id)) before reply after =
     (rows : List Row) × (IsSure told before → IsTraceIn id (history_of before) rows)
     × (reply ≡ Traced (count_of (history_of before)) rows) × IsStill before after
 IsAnswered told (Ok (request.Search s)) before reply after =
-    (results : List TraceResult) × (IsSure told before → IsFound s (history_of before) results)
+    (results : List TraceResult) × (IsSure told before → IsFound (asked_of s) (history_of before) results)
     × (reply ≡ Searched (count_of (history_of before)) (printed_fields (query_tree s.checked.query)) results)
+    × IsStill before after
+IsAnswered told (Ok (request.Metrics m)) before reply after =
+    (results : List TraceResult) × (series : List Series) × (IsSure told before → IsFound (counted_of m) (history_of before) results)
+    × AreSeries results m.start m.end m.step m.rate series × (reply ≡ Measured (count_of (history_of before)) series)
     × IsStill before after
 IsAnswered told (Ok (request.Cut moment)) before reply after =
     (answer : Result ℕ Memory) × (reply ≡ cut_reply Cut answer) × IsStep before (event.Cut moment) (count_reply answer) after
@@ -93,6 +100,7 @@ IsQueryRefused told before reply after =
 abbrev pub IsRefused : Bool → Item → At → Reply → At → Type 0
 IsRefused told (Ok (request.Trace id)) before reply after = IsQueryRefused told before reply after
 IsRefused told (Ok (request.Search s)) before reply after = IsQueryRefused told before reply after
+IsRefused told (Ok (request.Metrics m)) before reply after = IsQueryRefused told before reply after
 IsRefused told _ before reply after = ⊥
 
 abbrev pub IsAnsweredOrRefused : Bool → Item → At → Reply → At → Type 0

@@ -132,6 +132,70 @@ refused bad-request at=6
 "#,
 );
 
+/// Metrics of two spans of a trace that start at 1 and 5, in whole buckets and in one that the end cuts short, for each name, and where
+/// none starts in the range.
+const METRICS: (&str, &str) = (
+    r#"metrics start=0 end=10 step=4 { } | count_over_time()
+push {"resourceSpans":[{"scopeSpans":[{"spans":[{"traceId":"000000000000000000000000000000a1","spanId":"00000000000000b1","parentSpanId":"","name":"x","startTimeUnixNano":"1","endTimeUnixNano":"2"},{"traceId":"000000000000000000000000000000a1","spanId":"00000000000000b2","parentSpanId":"","name":"y","startTimeUnixNano":"5","endTimeUnixNano":"6"}]}]}]}
+metrics start=0 end=10 step=4 { } | count_over_time()
+metrics start=0 end=2000000000 step=2000000000 { } | rate() by (name)
+metrics start=5 end=6 step=1 { name = "x" } | count_over_time()
+metrics start=5 end=6 step=9 { } | count_over_time() by (name)
+"#,
+    r#"ok metrics as_of=0 series=0 {"series":[]}
+ok push 0 accepted=2 rejected=0 skipped=0
+ok metrics as_of=1 series=1 {"series":[{"by":[],"values":[{"intValue":"1"},{"intValue":"1"},{"intValue":"0"}]}]}
+ok metrics as_of=1 series=2 {"series":[{"by":[{"stringValue":"x"}],"values":[{"ratioValue":"1/2"}]},{"by":[{"stringValue":"y"}],"values":[{"ratioValue":"1/2"}]}]}
+ok metrics as_of=1 series=0 {"series":[]}
+ok metrics as_of=1 series=1 {"series":[{"by":[{"stringValue":"y"}],"values":[{"intValue":"1"}]}]}
+"#,
+);
+
+/// Metrics of four spans of one spanset that were pushed twice, with a flush between: the last one starts at the end of the first range, and
+/// each has a value of another kind.
+const METRICS_OF_REPEATS: (&str, &str) = (
+    r#"push {"resourceSpans":[{"scopeSpans":[{"spans":[{"traceId":"000000000000000000000000000000a1","spanId":"00000000000000b1","parentSpanId":"","name":"x","startTimeUnixNano":"4","endTimeUnixNano":"5"},{"traceId":"000000000000000000000000000000a1","spanId":"00000000000000b2","parentSpanId":"","name":"x","startTimeUnixNano":"4","endTimeUnixNano":"5","attributes":[{"key":"v","value":{"boolValue":true}}]},{"traceId":"000000000000000000000000000000a1","spanId":"00000000000000b3","parentSpanId":"","name":"x","startTimeUnixNano":"7","endTimeUnixNano":"8","attributes":[{"key":"v","value":{"intValue":"1"}}]},{"traceId":"000000000000000000000000000000a1","spanId":"00000000000000b4","parentSpanId":"","name":"x","startTimeUnixNano":"8","endTimeUnixNano":"9","attributes":[{"key":"v","value":{"stringValue":"a"}}]}]}]}]}
+cutall
+flush
+push {"resourceSpans":[{"scopeSpans":[{"spans":[{"traceId":"000000000000000000000000000000a1","spanId":"00000000000000b1","parentSpanId":"","name":"x","startTimeUnixNano":"4","endTimeUnixNano":"5"},{"traceId":"000000000000000000000000000000a1","spanId":"00000000000000b2","parentSpanId":"","name":"x","startTimeUnixNano":"4","endTimeUnixNano":"5","attributes":[{"key":"v","value":{"boolValue":true}}]},{"traceId":"000000000000000000000000000000a1","spanId":"00000000000000b3","parentSpanId":"","name":"x","startTimeUnixNano":"7","endTimeUnixNano":"8","attributes":[{"key":"v","value":{"intValue":"1"}}]},{"traceId":"000000000000000000000000000000a1","spanId":"00000000000000b4","parentSpanId":"","name":"x","startTimeUnixNano":"8","endTimeUnixNano":"9","attributes":[{"key":"v","value":{"stringValue":"a"}}]}]}]}]}
+metrics start=0 end=8 step=4 { } | count_over_time()
+metrics start=4 end=9 step=4 { } | rate() by (.v)
+"#,
+    r#"ok push 0 accepted=4 rejected=0 skipped=0
+ok cutall moved=4
+ok flush rows=4
+ok push 1 accepted=4 rejected=0 skipped=0
+ok metrics as_of=2 series=1 {"series":[{"by":[],"values":[{"intValue":"0"},{"intValue":"3"}]}]}
+ok metrics as_of=2 series=4 {"series":[{"by":[null],"values":[{"intValue":"250000000"},{"intValue":"0"}]},{"by":[{"boolValue":true}],"values":[{"intValue":"250000000"},{"intValue":"0"}]},{"by":[{"intValue":"1"}],"values":[{"intValue":"250000000"},{"intValue":"0"}]},{"by":[{"stringValue":"a"}],"values":[{"intValue":"0"},{"intValue":"250000000"}]}]}
+"#,
+);
+
+/// Metrics lines that are refused.
+const METRICS_REFUSED: (&str, &str) = (
+    r#"metrics start=0 end=2000000000 step=1 { } | rate() by (name)
+metrics
+metrics { }
+metrics start=0 end=0 step=1 { } | rate()
+metrics start=0 end=1 step=0 { } | rate()
+metrics start=0 end=1 step=1
+metrics start=0 end=1001 step=1 ?
+metrics start=0 end=1 step=1 { }
+metrics start=0 end=1 step=1 { rate = 1 } | rate()
+metrics start=0 end=1 step=1 { } | count_over_time() by (rate)
+"#,
+    r#"refused too-many-buckets count=2000000000
+refused bad-request at=7
+refused bad-request at=8
+refused bad-request at=16
+refused bad-request at=22
+refused bad-request at=28
+refused too-many-buckets count=1001
+refused bad-query unended at=3
+refused bad-query unexpected at=2
+refused bad-query unexpected at=28
+"#,
+);
+
 /// Each operator over a chain `a`, `b`, `c` with a sibling `s` of `b`, a ring of `p` and `q` with a tail `t`, the orphans `o` and `n` of one parent, and `l` alone.
 const OPERATORS: (&str, &str) = (
     r#"push {"resourceSpans":[{"scopeSpans":[{"spans":[{"traceId":"000000000000000000000000000000a1","spanId":"0000000000000001","parentSpanId":"","name":"a","startTimeUnixNano":"1","endTimeUnixNano":"2"},{"traceId":"000000000000000000000000000000a1","spanId":"0000000000000002","parentSpanId":"0000000000000001","name":"b","startTimeUnixNano":"1","endTimeUnixNano":"2"},{"traceId":"000000000000000000000000000000a1","spanId":"0000000000000003","parentSpanId":"0000000000000002","name":"c","startTimeUnixNano":"1","endTimeUnixNano":"2"},{"traceId":"000000000000000000000000000000a1","spanId":"0000000000000004","parentSpanId":"0000000000000001","name":"s","startTimeUnixNano":"1","endTimeUnixNano":"2"},{"traceId":"000000000000000000000000000000a1","spanId":"0000000000000005","parentSpanId":"0000000000000006","name":"p","startTimeUnixNano":"1","endTimeUnixNano":"2"},{"traceId":"000000000000000000000000000000a1","spanId":"0000000000000006","parentSpanId":"0000000000000005","name":"q","startTimeUnixNano":"1","endTimeUnixNano":"2"},{"traceId":"000000000000000000000000000000a1","spanId":"0000000000000007","parentSpanId":"0000000000000005","name":"t","startTimeUnixNano":"1","endTimeUnixNano":"2"},{"traceId":"000000000000000000000000000000a1","spanId":"0000000000000008","parentSpanId":"0000000000000099","name":"o","startTimeUnixNano":"1","endTimeUnixNano":"2"},{"traceId":"000000000000000000000000000000a1","spanId":"0000000000000009","parentSpanId":"0000000000000099","name":"n","startTimeUnixNano":"1","endTimeUnixNano":"2"},{"traceId":"000000000000000000000000000000a1","spanId":"000000000000000a","parentSpanId":"","name":"l","startTimeUnixNano":"1","endTimeUnixNano":"2"}]}]}]}
@@ -174,10 +238,19 @@ ok search as_of=1 traces=1 {"traces":[{"durationNanos":"1","rootName":"a","rootS
 fn searches_are_answered(rt: HostRuntime) -> Result<(), Memory> {
     let alloc = rt.alloc();
     let session = ["session"];
-    for (input, wanted) in [RANKED, MISSING, RINGS, SUMS, GROUPS, OPERATORS] {
+    for (input, wanted) in [
+        RANKED,
+        MISSING,
+        RINGS,
+        SUMS,
+        GROUPS,
+        METRICS,
+        METRICS_OF_REPEATS,
+        OPERATORS,
+    ] {
         check(&rt, alloc, &session, input, FINE, wanted, 0)?;
     }
-    for (input, wanted) in [AVERAGES, REFUSED] {
+    for (input, wanted) in [AVERAGES, REFUSED, METRICS_REFUSED] {
         check(&rt, alloc, &session, input, FINE, wanted, 7)?;
     }
     Ok(())

@@ -1,15 +1,18 @@
 //! Lines and replies with their exact bytes, worked out by hand.
 
 use search_text::Texts;
-use session_text::{QueryFault, Refusal, Reply, Request, Search, read_request, write_reply};
+use session_text::{
+    Metrics, QueryFault, Refusal, Reply, Request, Search, read_request, write_reply,
+};
 use span_types::{Calls, Memory, Rows, Text};
-use spanset_eval::Results;
+use spanset_eval::{Count, Counts, Results, Series, SeriesList};
 use std::alloc::Global;
 use std::process::Abort;
 use std::test::Fail;
 use store_state::Refusal as RoundRefusal;
 use traceql_print::print_query;
 use traceql_types::ScriptedMaker;
+use traceql_value::Values;
 
 /// What a search asks: its counts, its range, how many patterns it has, and its query as it is printed.
 fn told(alloc: Global, search: &Search) -> Result<Text, Memory> {
@@ -24,6 +27,20 @@ fn told(alloc: Global, search: &Search) -> Result<Text, Memory> {
     let spans = search.spans_per_set;
     Ok(Text::of(format!(in alloc;
         "search {limit} {spans} {from} {until} {patterns} {}\n",
+        query.as_str()
+    )?))
+}
+
+/// What a metrics query asks: its rate or count, its times, how many patterns it has, and the query that is run, as it is printed.
+fn measured(alloc: Global, asked: &Metrics) -> Result<Text, Memory> {
+    let query = print_query(alloc, &asked.checked.query)?;
+    let patterns = asked.checked.patterns.len();
+    let tells = if asked.rate { "rate" } else { "count" };
+    Ok(Text::of(format!(in alloc;
+        "metrics {tells} {} {} {} {patterns} {}\n",
+        asked.start,
+        asked.end,
+        asked.step,
         query.as_str()
     )?))
 }
@@ -46,6 +63,7 @@ fn asked(alloc: Global, line: &[u8]) -> Result<Text, Memory> {
             Ok(Text::of(format!(in alloc; "trace {digits}\n")?))
         }
         Ok(Request::Search(search)) => told(alloc, &search),
+        Ok(Request::Metrics(asked)) => measured(alloc, &asked),
         Ok(Request::Cut { moment }) => Ok(Text::of(format!(in alloc; "cut at {moment}\n")?)),
         Ok(Request::CutAll) => Ok(Text::of(String::from_str(alloc, "cutall\n")?)),
         Ok(Request::Flush) => Ok(Text::of(String::from_str(alloc, "flush\n")?)),
@@ -170,6 +188,32 @@ search_{_}_|_avg(duration_/_2)_>_1 => refused bad-type division-in-aggregate at=
 search_{_}_|_avg(name)_>_1 => refused bad-type not-number at=10
 search_limit=5_{_.a_=~_"("_} => refused bad-pattern at=8
 search_{_.a_=~_"x"_&&_.b_=~_"y"_} => refused pattern-too-big at=21
+metrics => refused bad-request at=7
+metrics_ => refused bad-request at=8
+metrics_{_} => refused bad-request at=8
+metrics_start=x_end=1_step=1_{_}_|_rate() => refused bad-request at=8
+metrics_end=1_step=1_{_}_|_rate() => refused bad-request at=8
+metrics_start=0 => refused bad-request at=15
+metrics_start=0_step=1_{_}_|_rate() => refused bad-request at=16
+metrics_start=0_end=0_step=1_{_}_|_rate() => refused bad-request at=16
+metrics_start=5_end=4_step=0 => refused bad-request at=16
+metrics_start=0_end=1 => refused bad-request at=21
+metrics_start=0_end=1_{_}_|_rate() => refused bad-request at=22
+metrics_start=0_end=1_step=0_{_}_|_rate() => refused bad-request at=22
+metrics_start=0_end=1_step=18446744073709551616_{_}_|_rate() => refused bad-request at=22
+metrics_start=0_end=1_step=1 => refused bad-request at=28
+metrics_start=0_end=1_step=1_ => refused bad-query unended at=0
+metrics_start=0_end=1000_step=1_? => refused bad-query bad-char at=0
+metrics_start=0_end=1001_step=1_? => refused too-many-buckets count=1001
+metrics_start=1_end=2002_step=2_? => refused too-many-buckets count=1001
+metrics_start=0_end=18446744073709551615_step=1_ => refused too-many-buckets count=18446744073709551615
+metrics_start=0_end=1_step=1_{_} => refused bad-query unended at=3
+metrics_start=0_end=1_step=1_{_rate_=_1_}_|_rate() => refused bad-query unexpected at=2
+metrics_start=0_end=1_step=1_{_name_=_1_}_|_rate() => refused bad-type kind-clash at=7
+metrics_start=0_end=1_step=1_{_.a_=~_"x"_}_|_rate()_by_(.b_=~_"y") => refused pattern-too-big at=33
+metrics_start=1970-01-01T00:00:00Z_end=10_step=04_{_}_|_rate() => metrics rate 0 10 4 0 { }
+metrics_start=0_end=1_step=18446744073709551615_{_.a_=~_"x"_}_|_rate()_by_(name) => metrics rate 0 1 18446744073709551615 1 { .a =~ "x" } | by(name)
+search_{_}_|_rate() => refused bad-query unexpected at=6
 "#;
 
 fn check_line(rt: &(impl Abort + AllocGlobal), line: &[u8], wanted: &str) -> Result<(), Memory> {
@@ -270,6 +314,34 @@ fn a_search_without_results_is_written(rt: HostRuntime) -> Result<(), Fail> {
 }
 
 #[test]
+fn series_are_written(rt: HostRuntime) -> Result<(), Fail> {
+    let alloc = rt.alloc();
+    let counts = [
+        Count {
+            numerator: 0,
+            denominator: 1,
+        },
+        Count {
+            numerator: 1_000_000_000,
+            denominator: 7,
+        },
+    ];
+    let mut list = Vec::new(alloc);
+    list.push(Series {
+        by: Values::of(Vec::new(alloc)),
+        values: Counts::of(Vec::from_slice(alloc, &counts)?),
+    })?;
+    let measured = Reply::Measured {
+        as_of: 5,
+        series: SeriesList::of(list),
+    };
+    let wanted =
+        "ok metrics as_of=5 series=1 {\"series\":[{\"by\":[],\"values\":[{\"intValue\":\"0\"},{\"ratioValue\":\"1000000000/7\"}]}]}\n";
+    check_reply(&rt, &measured, wanted)?;
+    Ok(())
+}
+
+#[test]
 fn lines_of_upkeep_are_acknowledged(rt: HostRuntime) -> Result<(), Fail> {
     check_reply(&rt, &Reply::Cut { moved: 0 }, "ok cut moved=0\n")?;
     let all = Reply::CutAll { moved: 262_144 };
@@ -305,6 +377,8 @@ fn refusals_are_written(rt: HostRuntime) -> Result<(), Fail> {
     check_refusal(&rt, Refusal::Memory, "refused memory\n")?;
     let spans = Refusal::TooMany { spans: 16_385 };
     check_refusal(&rt, spans, "refused too-many spans=16385\n")?;
+    let buckets = Refusal::TooManyBuckets { count: 1001 };
+    check_refusal(&rt, buckets, "refused too-many-buckets count=1001\n")?;
     Ok(())
 }
 

@@ -40,14 +40,15 @@ no_word word text not = go (bytes_eq word text) refl
     go false is = refl
 
 -- what a line is whose first part is no word of a request
-pub of_other : (moment : ℕ) (line word first : List ℕ) (rest : Option (List ℕ)) → word ≡ first → (word ≡ codes "trace" → ⊥) → (word ≡ codes "search" → ⊥) → (word ≡ codes "cut" → ⊥)
+pub of_other : (moment : ℕ) (line word first : List ℕ) (rest : Option (List ℕ)) → word ≡ first → (word ≡ codes "trace" → ⊥) → (word ≡ codes "search" → ⊥) → (word ≡ codes "metrics" → ⊥) → (word ≡ codes "cut" → ⊥)
     → (word ≡ codes "cutall" → ⊥) → (word ≡ codes "flush" → ⊥) → (word ≡ codes "compact" → ⊥)
     → (word ≡ codes "reclaim" → ⊥) → other_line moment first line rest ≡ plain (Err (BadRequest 0))
-of_other moment line word first rest is no_trace no_search no_cut no_cut_all no_flush no_compact no_reclaim =
+of_other moment line word first rest is no_trace no_search no_metrics no_cut no_cut_all no_flush no_compact no_reclaim =
     subst (λ (w : List ℕ). other_line moment w line rest ≡ plain (Err (BadRequest 0))) is
     (rw (
       no_word word (codes "trace") no_trace,
       no_word word (codes "search") no_search,
+      no_word word (codes "metrics") no_metrics,
       no_word word (codes "cut") no_cut,
       no_word word (codes "cutall") no_cut_all,
       no_word word (codes "flush") no_flush,

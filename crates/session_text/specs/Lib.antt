@@ -1,5 +1,6 @@
 pub mod Lines
 pub mod Options
+pub mod MetricsLines
 pub mod Parsed
 pub mod Searches
 pub mod Requests

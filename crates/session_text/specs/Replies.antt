@@ -2,14 +2,15 @@
 use Rattle.std.specs.Prelude.{ℕ, List, [], ◌∷◌, ◌++◌, length, codes, decimal}
 use Rattle.otlp_spans.specs.Writing.{spans_in, trace_text}
 use Rattle.search_text.specs.Results.{results_text}
+use Rattle.search_text.specs.Series.{series_text}
 use Rattle.session_text.specs.declared.refusal.KindFault.{KindFault}
 use Rattle.session_text.specs.declared.refusal.KindFault.TheVariants as kind
 use Rattle.session_text.specs.declared.refusal.QueryFault.{QueryFault}
 use Rattle.session_text.specs.declared.refusal.QueryFault.TheVariants as query
 use Rattle.session_text.specs.declared.refusal.Refusal.{Refusal}
-use Rattle.session_text.specs.declared.refusal.Refusal.TheVariants.{TooLong, BadRequest, BadJson, BadOtlp, TooMany, BadQuery, BadType, BadPattern, PatternTooBig, LiveFull, StoreFull, ReadOnly, DiskFault, Round, NotStore, Memory}
+use Rattle.session_text.specs.declared.refusal.Refusal.TheVariants.{TooLong, BadRequest, BadJson, BadOtlp, TooMany, BadQuery, BadType, BadPattern, PatternTooBig, TooManyBuckets, LiveFull, StoreFull, ReadOnly, DiskFault, Round, NotStore, Memory}
 use Rattle.session_text.specs.declared.reply.Reply.{Reply}
-use Rattle.session_text.specs.declared.reply.Reply.TheVariants.{Pushed, Traced, Searched, Cut, CutAll, Flushed, NothingFlushed, Compacted, NothingCompacted, Reclaimed, Refused}
+use Rattle.session_text.specs.declared.reply.Reply.TheVariants.{Pushed, Traced, Searched, Measured, Cut, CutAll, Flushed, NothingFlushed, Compacted, NothingCompacted, Reclaimed, Refused}
 use Rattle.store_state.specs.declared.rounds.Refusal.{Refusal as RoundRefusal}
 use Rattle.store_state.specs.declared.rounds.Refusal.TheVariants as round
 
@@ -34,6 +35,11 @@ traced_text as_of spans json = texts (
 abbrev pub searched_text : ℕ → ℕ → List ℕ → List ℕ
 searched_text as_of traces json = texts (
     codes "ok search as_of=" ∷ decimal as_of ∷ codes " traces=" ∷ decimal traces ∷ codes " " ∷ json ∷ codes "\n" ∷ [])
+
+-- A metrics query at a count of pushes: how many series there are, and their JSON.
+abbrev pub measured_text : ℕ → ℕ → List ℕ → List ℕ
+measured_text as_of series json = texts (
+    codes "ok metrics as_of=" ∷ decimal as_of ∷ codes " series=" ∷ decimal series ∷ codes " " ∷ json ∷ codes "\n" ∷ [])
 
 -- A cut of idle traces or of all: how many rows it moved.
 abbrev pub cut_text : ℕ → List ℕ
@@ -102,6 +108,7 @@ refusal_text (BadQuery fault) = query_text fault
 refusal_text (BadType fault) = kind_text fault
 refusal_text (BadPattern at) = refused_text (codes "bad-pattern at=") (decimal at)
 refusal_text (PatternTooBig at) = refused_text (codes "pattern-too-big at=") (decimal at)
+refusal_text (TooManyBuckets count) = refused_text (codes "too-many-buckets count=") (decimal count)
 refusal_text (LiveFull held) = refused_text (codes "live-full held=") (decimal held)
 refusal_text (StoreFull pushes) = refused_text (codes "store-full pushes=") (decimal pushes)
 refusal_text (ReadOnly faults) = refused_text (codes "read-only faults=") (decimal faults)
@@ -115,6 +122,7 @@ abbrev pub reply_text : Reply → List ℕ
 reply_text (Pushed number accepted rejected skipped) = pushed_text number accepted rejected skipped
 reply_text (Traced as_of rows) = traced_text as_of (length rows) (trace_text (spans_in rows))
 reply_text (Searched as_of fields results) = searched_text as_of (length results) (results_text fields results)
+reply_text (Measured as_of series) = measured_text as_of (length series) (series_text series)
 reply_text (Cut moved) = cut_text moved
 reply_text (CutAll moved) = cut_all_text moved
 reply_text (Flushed rows) = flushed_text rows

@@ -9,12 +9,14 @@ use Rattle.otlp_spans.specs.Forms.{path_text}
 use Rattle.otlp_spans.specs.Reading.{Given, NoJson, TooManySpans, WrongForm, reading_of}
 use Rattle.otlp_spans.specs.Reading as otlp
 use Rattle.session_text.specs.declared.refusal.Refusal.{Refusal}
-use Rattle.session_text.specs.declared.refusal.Refusal.TheVariants.{TooLong, BadRequest, BadJson, BadOtlp, TooMany, Memory}
+use Rattle.session_text.specs.declared.refusal.Refusal.TheVariants.{TooLong, BadRequest, BadJson, BadOtlp, TooMany, TooManyBuckets, Memory}
 use Rattle.session_text.specs.declared.request.Request.{Request}
-use Rattle.session_text.specs.declared.request.Request.TheVariants.{Push, Trace, Search, Cut, CutAll, Flush, Compact, Reclaim}
+use Rattle.session_text.specs.declared.request.Request.TheVariants.{Push, Trace, Search, Metrics, Cut, CutAll, Flush, Compact, Reclaim}
 use Rattle.session_text.specs.Lines.{first_part, other_parts}
+use Rattle.session_text.specs.MetricsLines.{MetricsLine, metrics_parts}
 use Rattle.session_text.specs.Options.{SearchLine, search_parts}
-use Rattle.session_text.specs.Searches.{ReadsSearch}
+use Rattle.session_text.specs.Searches.{MeasuresLine, ReadsSearch}
+use Rattle.traceql_metrics.specs.Series.{bucket_count, most_buckets}
 
 -- Why what is pushed gives nothing.
 abbrev pub refusal_of : otlp.Refusal → Refusal
@@ -49,10 +51,11 @@ abbrev pub alone : List ℕ → Option (List ℕ) → Request → Result Request
 alone word None request = Ok request
 alone word (Some more) request = Err (BadRequest (length word + 1))
 
--- What a line is: a search, which may be answered in more than one way, since the patterns that are made of a query
--- aren't told by its text; or one that asks this or is refused so.
+-- What a line is: a search or a metrics query, which may be answered in more than one way, since the patterns that are made of a
+-- query aren't told by its text; or one that asks this or is refused so.
 pub data Line : Type 0 where
   searched : SearchLine → Line
+  measured : MetricsLine → Line
   plain : Result Request Refusal → Line
 
 -- A search is the word `search`, its options and its query.
@@ -60,11 +63,21 @@ abbrev pub search_with : Result SearchLine ℕ → Line
 search_with (Ok line) = searched line
 search_with (Err at) = plain (Err (BadRequest at))
 
+-- how many buckets a line wants
+abbrev pub buckets_of : MetricsLine → ℕ
+buckets_of line = bucket_count line.start line.end line.step
+
+-- A metrics query is the word `metrics`, its options and its query. It may have 1,000 buckets.
+abbrev pub metrics_with : Result MetricsLine ℕ → Line
+metrics_with (Ok line) = if nat_le (buckets_of line) most_buckets then measured line else plain (Err (TooManyBuckets (buckets_of line)))
+metrics_with (Err at) = plain (Err (BadRequest at))
+
 -- A line of UTF-8 that is no push, read at a moment.
 abbrev pub other_line : ℕ → List ℕ → List ℕ → Option (List ℕ) → Line
 other_line moment word line rest =
     if bytes_eq word (codes "trace") then plain (trace_with (length line) rest)
     else if bytes_eq word (codes "search") then search_with (search_parts (length line) rest)
+    else if bytes_eq word (codes "metrics") then metrics_with (metrics_parts (length line) rest)
     else if bytes_eq word (codes "cut") then plain (alone word rest (Cut moment))
     else if bytes_eq word (codes "cutall") then plain (alone word rest CutAll)
     else if bytes_eq word (codes "flush") then plain (alone word rest Flush)
@@ -94,9 +107,16 @@ AsksSearch line refused (Ok (Search s)) = ReadsSearch line refused (Ok s)
 AsksSearch line refused (Ok other) = ⊥
 AsksSearch line refused (Err e) = ReadsSearch line refused (Err e)
 
+-- a metrics query as an answer to a line
+abbrev pub AsksMetrics : MetricsLine → List (List ℕ) → Result Request Refusal → Type 0
+AsksMetrics line refused (Ok (Metrics m)) = MeasuresLine line refused (Ok m)
+AsksMetrics line refused (Ok other) = ⊥
+AsksMetrics line refused (Err e) = MeasuresLine line refused (Err e)
+
 -- what may be answered to a line of which this is known; want of memory may take the place of any answer
 abbrev pub Answers : Line → List (List ℕ) → Result Request Refusal → Type 0
 Answers (searched line) refused result = AsksSearch line refused result
+Answers (measured line) refused result = AsksMetrics line refused result
 Answers (plain answer) refused result = ((result ≡ answer) ⊎ (result ≡ Err Memory)) × (refused ≡ [])
 
 -- What a line asks that was read at a moment, or why it asks nothing, where the maker of patterns refused these texts: none,

@@ -79,7 +79,7 @@ fn count_first<'a>(
 
 /// An option with a time that may stand first in what is left, and what is left then.
 #[tactic(auto, unfolding(crate::specs::Options::option_first))]
-fn time_first<'a>(
+pub(crate) fn time_first<'a>(
     name: &str,
     length: u64,
     left: Option<&'a str>,
@@ -111,7 +111,7 @@ pub(crate) fn split_text(text: &str) -> (&str, Option<&str>)
 }
 
 /// What follows a name at the beginning of a text.
-fn behind<'a>(name: &str, text: &'a str) -> Option<&'a str>
+pub(crate) fn behind<'a>(name: &str, text: &'a str) -> Option<&'a str>
     ensures { left_parsed result ≡ behind name.now text.now }
 {
     text.strip_prefix(name)
@@ -125,7 +125,7 @@ fn all_digits(text: &str) -> bool
 }
 
 /// Decimal digits alone, of a number below 2^64.
-fn digits(text: &str) -> Option<u64>
+pub(crate) fn digits(text: &str) -> Option<u64>
     ensures { result ≡ moment_of text.now }
 {
     if !all_digits(text) {

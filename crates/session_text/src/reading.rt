@@ -4,16 +4,20 @@ ghost use Rattle.std.specs.Prelude.{◌≡◌, ◌⊎◌, ℕ, List, IfOk, Err, 
 ghost use Rattle.traceql_types.specs.Makers.{RefusesOnly};
 ghost use Rattle.session_text.specs.declared.refusal.Refusal.TheVariants.{Memory};
 ghost use Rattle.session_text.specs.Lines.{first_part, other_parts};
+ghost use Rattle.session_text.specs.MetricsLines.{metrics_parts};
 ghost use Rattle.session_text.specs.Options.{search_parts};
-ghost use Rattle.session_text.specs.Requests.{Answers, AsksAt, AsksPush, HasFewSpans, alone, line_of, other_line, push_with, search_with, trace_with, with_id};
+ghost use Rattle.session_text.specs.Requests.{Answers, AsksAt, AsksPush, HasFewSpans, alone, line_of, metrics_with, other_line, push_with, search_with, trace_with, with_id};
 ghost use Rattle.session_text.specs.Parsed.{left_parsed};
 
+use crate::measuring::metrics;
+use crate::metrics_line::metrics_parts;
 use crate::options::{search_parts, split_text};
 use crate::searching::search;
 use crate::{Refusal, Request};
 use otlp_spans::{OtlpError, read_line, read_trace_id};
 use span_types::{MOST_LINE_BYTES, TraceId};
 use std::alloc::Global;
+use traceql_metrics::{MOST_BUCKETS, buckets};
 use traceql_types::PatternMaker;
 
 /// How many bytes a line may have.
@@ -29,6 +33,8 @@ const PUSH_WORD: u64 = 5;
 /// - `search [limit=n] [spss=n] [start=T] [end=T] QUERY`: a search. The options stand in this order, each n is a number
 ///   from 1 to 1,000 and each T a count of nanoseconds or a timestamp. The QUERY is the rest of the line. The maker
 ///   makes its patterns.
+/// - `metrics start=T end=T step=n QUERY`: a metrics query. The options all stand there in this order, the end is above the
+///   start, n is a number from 1 on, and there are at most 1,000 buckets. The QUERY is the rest of the line.
 /// - `cut`, `cutall`, `flush`, `compact`, `reclaim`: a cut at the moment, a cut of all, a flush, a compaction, and the
 ///   emptying of loose files. Nothing stands behind the word.
 ///
@@ -106,6 +112,7 @@ fn asked_by<P: PatternMaker>(
     match word {
         "trace" => trace_with(line.len() as u64, rest),
         "search" => search_with(alloc, line.len() as u64, rest, maker),
+        "metrics" => metrics_with(alloc, line.len() as u64, rest, maker),
         "cut" => alone(word, rest, Request::Cut { moment }),
         "cutall" => alone(word, rest, Request::CutAll),
         "flush" => alone(word, rest, Request::Flush),
@@ -188,4 +195,27 @@ fn search_with<P: PatternMaker>(
     };
     let found = search(alloc, line, maker)?;
     Ok(Request::Search(found))
+}
+
+/// A metrics query, in a line of this length.
+fn metrics_with<P: PatternMaker>(
+    alloc: Global,
+    length: u64,
+    rest: Option<&str>,
+    maker: &mut P,
+) -> Result<Request, Refusal>
+    ensures asked { (refused : List (List ℕ)) × RefusesOnly P.makes maker.old maker.new refused
+        × Answers (metrics_with (metrics_parts length (left_parsed rest.entry))) refused result }
+    ensures few { IfOk result (λ request. HasFewSpans request) }
+{
+    let line = match metrics_parts(length, rest) {
+        Ok(line) => line,
+        Err(at) => return Err(Refusal::BadRequest { at }),
+    };
+    let count = buckets(line.start, line.end, line.step);
+    if count > MOST_BUCKETS {
+        return Err(Refusal::TooManyBuckets { count });
+    }
+    let found = metrics(alloc, line, maker)?;
+    Ok(Request::Metrics(found))
 }

@@ -41,6 +41,11 @@ pub enum Refusal {
         /// The first byte of its string, counted in the query.
         at: u64,
     },
+    /// A metrics query asks for more than 1,000 buckets.
+    TooManyBuckets {
+        /// How many it asks for.
+        count: u64,
+    },
     /// With the push the store would hold more than 262,144 rows outside of blocks.
     LiveFull {
         /// How many it holds.

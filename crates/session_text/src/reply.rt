@@ -3,7 +3,7 @@
 use crate::Refusal;
 use search_text::Texts;
 use span_types::Rows;
-use spanset_eval::Results;
+use spanset_eval::{Results, SeriesList};
 
 /// What a line is answered.
 #[derive(Drop)]
@@ -34,6 +34,13 @@ pub enum Reply {
         fields: Texts,
         /// What the query leaves of each trace, in the order in which the traces are told.
         results: Results,
+    },
+    /// The series of a metrics query.
+    Measured {
+        /// How many pushes the answer takes account of: those numbered below it.
+        as_of: u64,
+        /// The series, in the order of their values.
+        series: SeriesList,
     },
     /// The idle traces were moved to the head.
     Cut {

@@ -1,5 +1,8 @@
 //! What a line may ask.
 
+ghost use Rattle.std.specs.Prelude.{◌<◌, ◌≤◌};
+ghost use Rattle.traceql_metrics.specs.Series.{bucket_count, most_buckets};
+
 use moment_range::Range;
 use otlp_spans::Reading;
 use span_types::TraceId;
@@ -19,6 +22,8 @@ pub enum Request {
     Trace(TraceId),
     /// `search .. QUERY`: the traces of which the query leaves something are to be told.
     Search(Search),
+    /// `metrics .. QUERY`: how many spans that the query finds begin in each bucket of time is to be told.
+    Metrics(Metrics),
     /// `cut`: the traces to which nothing came for some time are to be moved to the head.
     Cut {
         /// When the line was read, in nanoseconds.
@@ -45,4 +50,22 @@ pub struct Search {
     pub limit: u32,
     /// How many spans of a spanset are told at most, from 1 to 1,000.
     pub spans_per_set: u32,
+}
+
+/// A metrics query, with at most 1,000 buckets.
+#[derive(Drop)]
+pub struct Metrics {
+    /// The query whose spans are counted, with the stage `by` behind it if they are split. Its kinds fit, and it has its patterns.
+    pub checked: Checked,
+    /// Whether a rate for a second is told and not the count itself.
+    pub rate: bool,
+    /// The first moment that counts.
+    pub start: u64,
+    /// The moment behind the last one that counts.
+    pub end: u64,
+    /// How long a bucket is; the last one ends with the range.
+    pub step: u64,
+    ghost ordered: { start < end },
+    ghost stepped: { 0 < step },
+    ghost few: { bucket_count start end step ≤ most_buckets },
 }

@@ -1,9 +1,12 @@
 //! What a search's line asks, from its parts.
 
-ghost use Rattle.std.specs.Prelude.{◌≡◌, ℕ, List, IfOk, IfErr};
+ghost use Rattle.std.specs.Prelude.{◌≡◌, ℕ, List, [], IfOk, IfErr, MatchResult};
+ghost use Rattle.traceql_syntax.specs.Refusals.{IsRefusal};
 ghost use Rattle.traceql_syntax.specs.Trees.{query_tree};
+ghost use Rattle.traceql_types.specs.Asked.{asked_patterns};
+ghost use Rattle.traceql_types.specs.Checks.{Ascends};
 ghost use Rattle.traceql_types.specs.Makers.{RefusesOnly};
-ghost use Rattle.session_text.specs.Searches.{DoesNotFit, IsNoQuery, IsQuery, ReadsSearch, of_check, of_parse};
+ghost use Rattle.session_text.specs.Searches.{IsMisfit, IsNoQuery, IsQuery, ReadsSearch, of_check, of_parse};
 ghost use Rattle.session_text.specs.Parsed.{parts_parsed};
 
 use crate::options::SearchLine;
@@ -11,10 +14,10 @@ use crate::{KindFault, QueryFault, Refusal, Search};
 use std::alloc::Global;
 use traceql_parse::parse;
 use traceql_syntax::{ParseError, Query};
-use traceql_types::{PatternMaker, TypeError, check};
+use traceql_types::{Checked, PatternMaker, TypeError, check};
 
 /// The refusal of a text that is no query.
-fn of_parse(error: ParseError) -> Refusal
+pub(crate) fn of_parse(error: ParseError) -> Refusal
     ensures { result ≡ of_parse error }
 {
     match error {
@@ -51,11 +54,27 @@ fn of_check(error: TypeError) -> Refusal
 /// The query that a text is.
 fn query_of(alloc: Global, text: &str) -> Result<Query, Refusal>
     ensures query { IfOk result (λ q. IsQuery text.now (query_tree q)) }
-    ensures refused { IfErr result (IsNoQuery text.now) }
+    ensures refused { IfErr result (IsNoQuery IsRefusal text.now) }
 {
     match parse(alloc, text) {
         Ok(query) => Ok(query),
         Err(error) => Err(of_parse(error)),
+    }
+}
+
+/// A query with its patterns, if its kinds fit and they can be made.
+pub(crate) fn fitted<P: PatternMaker>(
+    alloc: Global,
+    query: Query,
+    maker: &mut P,
+) -> Result<Checked, Refusal>
+    requires { Ascends (asked_patterns (query_tree query)) }
+    ensures { (refused : List (List ℕ)) × RefusesOnly P.makes maker.old maker.new refused
+        × MatchResult result (λ checked. (checked.query ≡ query) × (refused ≡ [])) (IsMisfit (query_tree query) refused) }
+{
+    match check(alloc, query, maker) {
+        Ok(checked) => Ok(checked),
+        Err(error) => Err(of_check(error)),
     }
 }
 
@@ -69,13 +88,11 @@ pub(crate) fn search<P: PatternMaker>(
         × ReadsSearch (parts_parsed line.entry) refused result }
 {
     let query = query_of(alloc, line.query)?;
-    match check(alloc, query, maker) {
-        Ok(checked) => Ok(Search {
-            checked,
-            range: line.range,
-            limit: line.limit,
-            spans_per_set: line.spans_per_set,
-        }),
-        Err(error) => Err(of_check(error)),
-    }
+    let checked = fitted(alloc, query, maker)?;
+    Ok(Search {
+        checked,
+        range: line.range,
+        limit: line.limit,
+        spans_per_set: line.spans_per_set,
+    })
 }

@@ -1,14 +1,14 @@
 //! The texts of replies.
 
 ghost use Rattle.std.specs.Prelude.{◌≡◌, IfOk, codes, string_bytes};
-ghost use Rattle.session_text.specs.declared.reply.Reply.TheVariants.{Searched, Traced};
-ghost use Rattle.session_text.specs.Replies.{compacted_text, cut_all_text, cut_text, flushed_text, kind_text, not_block_text, not_store_text, pushed_text, query_text, reclaimed_text, refusal_text, refused_text, reply_text, round_text, searched_text, traced_text};
+ghost use Rattle.session_text.specs.declared.reply.Reply.TheVariants.{Measured, Searched, Traced};
+ghost use Rattle.session_text.specs.Replies.{compacted_text, cut_all_text, cut_text, flushed_text, kind_text, measured_text, not_block_text, not_store_text, pushed_text, query_text, reclaimed_text, refusal_text, refused_text, reply_text, round_text, searched_text, traced_text};
 
 use crate::{KindFault, QueryFault, Refusal, Reply};
 use otlp_spans::write_trace;
-use search_text::{Texts, write_results};
+use search_text::{Texts, write_results, write_series};
 use span_types::{Memory, Rows, Text};
-use spanset_eval::Results;
+use spanset_eval::{Results, SeriesList};
 use std::alloc::{AllocError, Global};
 use store_state::Refusal as RoundRefusal;
 
@@ -38,6 +38,7 @@ fn text_of(alloc: Global, reply: &Reply) -> Result<String, Memory>
             fields,
             results,
         } => write_searched(alloc, *as_of, fields, results),
+        Reply::Measured { as_of, series } => write_measured(alloc, *as_of, series),
         Reply::Cut { moved } => Ok(cut(alloc, *moved)?),
         Reply::CutAll { moved } => Ok(cut_all(alloc, *moved)?),
         Reply::Flushed { rows } => Ok(flushed(alloc, *rows)?),
@@ -99,6 +100,21 @@ fn searched(alloc: Global, as_of: u64, traces: usize, json: &str) -> Result<Stri
     format!(in alloc; "ok search as_of={as_of} traces={traces} {json}\n")
 }
 
+/// The reply to a metrics query.
+fn write_measured(alloc: Global, as_of: u64, series: &SeriesList) -> Result<String, Memory>
+    ensures { IfOk result (λ text. string_bytes text ≡ reply_text (Measured as_of series.now)) }
+{
+    let json = write_series(alloc, series)?;
+    let text = measured(alloc, as_of, series.len(), json.as_str())?;
+    Ok(text)
+}
+
+fn measured(alloc: Global, as_of: u64, series: usize, json: &str) -> Result<String, AllocError>
+    ensures { IfOk result (λ text. string_bytes text ≡ measured_text as_of series json.now) }
+{
+    format!(in alloc; "ok metrics as_of={as_of} series={series} {json}\n")
+}
+
 /// The reply to a cut of idle traces.
 fn cut(alloc: Global, moved: u64) -> Result<String, AllocError>
     ensures { IfOk result (λ text. string_bytes text ≡ cut_text moved) }
@@ -148,6 +164,9 @@ fn refused(alloc: Global, why: &Refusal) -> Result<String, AllocError>
         Refusal::BadType(fault) => bad_type(alloc, *fault),
         Refusal::BadPattern { at } => format!(in alloc; "refused bad-pattern at={at}\n"),
         Refusal::PatternTooBig { at } => format!(in alloc; "refused pattern-too-big at={at}\n"),
+        Refusal::TooManyBuckets { count } => {
+            format!(in alloc; "refused too-many-buckets count={count}\n")
+        }
         Refusal::LiveFull { held } => format!(in alloc; "refused live-full held={held}\n"),
         Refusal::StoreFull { pushes } => format!(in alloc; "refused store-full pushes={pushes}\n"),
         Refusal::ReadOnly { faults } => format!(in alloc; "refused read-only faults={faults}\n"),

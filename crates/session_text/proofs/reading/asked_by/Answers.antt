@@ -12,6 +12,6 @@ returns-in_default-clause-asked g c = (
   refuses-none g.P.PatternMaker.makes c.args.maker.now c.args.maker.now c.args.maker.now,
   subst (λ (l : Line). Answers l [] (Err (BadRequest 0)))
       (sym (of_other c.args.moment c.args.line.now c.split_text.result.0.now (first_part c.args.line.now) (other_parts c.args.line.now) c.split_text.ensures.first
-      c.in_default.not-trace c.in_default.not-search c.in_default.not-cut c.in_default.not-cutall c.in_default.not-flush c.in_default.not-compact c.in_default.not-reclaim))
+      c.in_default.not-trace c.in_default.not-search c.in_default.not-metrics c.in_default.not-cut c.in_default.not-cutall c.in_default.not-flush c.in_default.not-compact c.in_default.not-reclaim))
       (inl refl, refl),
 )
