@@ -9,9 +9,10 @@ import re
 from pathlib import Path
 from typing import Iterable, Iterator
 
+from show_chart import chart
 from show_replies import (
-    Event, Found, Hit, Link, Part, Passed, Row, Search, Trace, Value,
-    clean, duration, moment, offset,
+    Event, Found, Hit, Link, Metrics, Part, Passed, Row, Search, Trace, Value,
+    clean, duration, greatest, moment, offset,
 )
 
 TEMPLATE = Path(__file__).resolve().parent / "show.html"
@@ -105,6 +106,17 @@ def search_page(search: Search) -> Iterator[str]:
         yield from found_page(found)
 
 
+def metrics_page(metrics: Metrics) -> Iterator[str]:
+    yield element("h2", metrics.told())
+    shown = metrics.shown()
+    whole = greatest(shown)
+    for series in shown:
+        yield f"<h3>by {', '.join(map(isolated, series.head()))}</h3>" if series.by else element("h3", "all spans")
+        yield from chart(series.numbers, whole)
+    if metrics.left_out():
+        yield element("p", metrics.left_out())
+
+
 def other_page(lines: list[str]) -> str:
     rows = (element("span", line, "refused" if line.startswith("refused") else "") for line in lines)
     return "<section><pre>" + "\n".join(rows) + "</pre></section>"
@@ -125,6 +137,8 @@ def page_sections(parts: Iterable[Part], traces: list[dict]) -> Iterator[str]:
             traces.append(trace_data(part))
         elif isinstance(part, Search):
             yield '<section class="search">' + "\n".join(search_page(part)) + "</section>"
+        elif isinstance(part, Metrics):
+            yield '<section class="metrics">' + "\n".join(metrics_page(part)) + "</section>"
         else:
             yield other_page([part.no_spans()] if isinstance(part, Trace) else part.told())
     if others:

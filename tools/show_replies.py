@@ -1,4 +1,4 @@
-"""Reads the replies of the program: traces with their tree, searches, and runs of the replies of pushes and upkeep."""
+"""Reads the replies of the program: traces with their tree, searches, metrics, runs of replies to pushes and upkeep."""
 from __future__ import annotations
 
 import json
@@ -9,6 +9,7 @@ import unicodedata
 from collections import Counter
 from dataclasses import dataclass, field
 from datetime import datetime, timedelta, timezone
+from fractions import Fraction
 from functools import lru_cache
 from typing import Iterable, Iterator, Union
 
@@ -17,6 +18,7 @@ from typing import Iterable, Iterator, Union
 KINDS = ("", "internal", "server", "client", "producer", "consumer")
 FAILED = 2  # the status code of a span that failed
 REFUSALS = 10  # how many texts of refusals a summary tells
+SERIES_SHOWN = 10  # of the series of metrics, how many are drawn
 MARKS_SHOWN = 8  # of the marks that stand on one character, how many are drawn
 GUIDES = 64  # how many columns of a deep span's guides are kept
 
@@ -85,6 +87,18 @@ def pad(text: str, columns: int) -> str:
 
 def count(number: int, noun: str, plural: str = "") -> str:
     return f"{number:,} {noun if number == 1 else plural or noun + 's'}"
+
+
+Number = Union[int, Fraction]  # whole ones are int, which is faster by far
+
+
+def number(value: Number) -> str:
+    """A number that isn't negative, in few digits: below 1,000 a fraction has four, and from 10^12 on each number."""
+    if value >= 10**12:
+        return f"{float(value):.4g}"
+    if value.denominator == 1 or value >= 1000:
+        return f"{round(value):,}"
+    return f"{float(value):,.4g}"
 
 
 def duration(nanos: int) -> str:
@@ -269,6 +283,48 @@ class Search:
         return f"search: {count(len(self.traces), 'trace')}, as of {count(self.pushes, 'push', 'pushes')}"
 
 
+@dataclass(frozen=True)
+class Series:
+    """What metrics tell of the spans that have the same values of `by`: a number for each bucket."""
+
+    by: list[Value]
+    numbers: list[Number]
+
+    def head(self) -> list[str]:
+        """The values of `by` as texts."""
+        return [value.quoted() for value in self.by]
+
+
+@dataclass(frozen=True)
+class Metrics:
+    pushes: int  # how many were accepted when they were told
+    series: list[Series]
+
+    def told(self) -> str:
+        """What a line says of all series. Counts aren't told from rates if all are whole."""
+        as_of = f"as of {count(self.pushes, 'push', 'pushes')}"
+        all_of = f"metrics: {count(len(self.series), 'series', 'series')}"
+        if not self.series:
+            return f"{all_of}, {as_of}"
+        is_rate = any(it.denominator > 1 for series in self.series for it in series.numbers)
+        unit = "spans a second" if is_rate else "spans or spans a second"
+        return f"{all_of} of {count(len(self.series[0].numbers), 'bucket')}, {as_of}, in {unit}"
+
+    def shown(self) -> list[Series]:
+        """The series with the greatest sums, in the reply's order."""
+        places = sorted(range(len(self.series)), key=lambda place: -sum(self.series[place].numbers))
+        return [self.series[place] for place in sorted(places[:SERIES_SHOWN])]
+
+    def left_out(self) -> str:
+        more = len(self.series) - SERIES_SHOWN
+        return f"and {more:,} more series, none with a greater sum" if more > 0 else ""
+
+
+def greatest(series: list[Series]) -> Fraction:
+    """The greatest number of the series, to which all are scaled; 1 if there is none above 0."""
+    return Fraction(max((value for it in series for value in it.numbers), default=0) or 1)
+
+
 @dataclass
 class Summary:
     """A run of replies to pushes and upkeep, and of the refusals between them."""
@@ -320,11 +376,12 @@ class Passed:
     line: bytes
 
 
-Part = Union[Trace, Search, Summary, Passed]
+Part = Union[Trace, Search, Metrics, Summary, Passed]
 
 # Reading.
 
-DRAWN = re.compile(rb"ok (trace|search) as_of=(\d+) (?:spans|traces)=\d+ (\{.*)", re.DOTALL)
+DRAWN = re.compile(rb"ok (trace|search|metrics) as_of=(\d+) (?:spans|traces|series)=\d+ (\{.*)", re.DOTALL)
+NUMBER = re.compile("[0-9]{1,39}(/[1-9][0-9]{0,19})?")
 COUNTED = (
     ("push", re.compile(r"ok push \d+ accepted=(?P<accepted>\d+) rejected=(?P<rejected>\d+) skipped=(?P<skipped>\d+)")),
     ("cut", re.compile(r"ok cut(?:all)? moved=(?P<moved>\d+)")),
@@ -410,14 +467,42 @@ def read_found(trace: dict) -> Found:
     return Found(word(trace["traceId"]), root or "no root", start, length, sets)
 
 
-def read_drawn(line: bytes) -> Trace | Search | None:
-    """The trace or search that a reply tells; None if it is another reply. A broken one raises some error."""
+@lru_cache(maxsize=4096)
+def number_of(text: str) -> Number:
+    if not NUMBER.fullmatch(text):
+        raise ValueError(f"{text} is no number of a bucket")
+    return int(text) if "/" not in text else Fraction(text)
+
+
+def read_number(value: dict) -> Number:
+    ((kind, text),) = value.items()
+    if kind not in ("intValue", "ratioValue"):
+        raise ValueError(f"{kind} is no number of a bucket")
+    return number_of(text)
+
+
+def read_series(series: dict) -> Series:
+    return Series([read_value("", value) for value in series["by"]], [read_number(it) for it in series["values"]])
+
+
+def read_metrics(pushes: int, said: dict) -> Metrics:
+    series = [read_series(it) for it in said["series"]]
+    lengths = {len(it.numbers) for it in series}
+    if len(lengths) > 1 or 0 in lengths:
+        raise ValueError("series have the same buckets, and at least one")
+    return Metrics(pushes, series)
+
+
+def read_drawn(line: bytes) -> Trace | Search | Metrics | None:
+    """The trace, search or metrics that a reply tells; None if it is another reply. A broken one raises some error."""
     match = DRAWN.fullmatch(line.rstrip(b"\r\n"))
     if not match:
         return None
     pushes, said = int(match[2]), json.loads(match[3])
     if match[1] == b"trace":
         return read_trace(pushes, said)
+    if match[1] == b"metrics":
+        return read_metrics(pushes, said)
     return Search(pushes, [read_found(trace) for trace in said["traces"]])
 
 

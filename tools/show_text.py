@@ -2,16 +2,19 @@
 from __future__ import annotations
 
 from dataclasses import dataclass
-from itertools import cycle
+from fractions import Fraction
+from itertools import cycle, groupby
 from typing import BinaryIO, Iterable, Iterator
 
 from show_replies import (
-    GUIDES, Found, Part, Passed, Row, Search, Span, Summary, Trace,
-    clean, count, duration, fit, moment, offset, one_line, pad, width_of,
+    GUIDES, Found, Metrics, Number, Part, Passed, Row, Search, Series, Span, Summary, Trace,
+    clean, count, duration, fit, greatest, moment, number, offset, one_line, pad, width_of,
 )
 
 KIND, LENGTH = 8, 12  # how many columns a kind and a duration take at most
 DETAILS = 5  # how many events, and how many links, of a span are drawn
+ZEROS = 10  # so many buckets of nothing, one after another, are one line
+EIGHTHS = ("", "▏", "▎", "▍", "▌", "▋", "▊", "▉")
 RED, BOLD, DIM = "31", "1", "2"
 SERVICE_COLOURS = ("36", "33", "34", "32", "35", "96", "93", "94", "92", "95")
 
@@ -150,11 +153,50 @@ def search_lines(search: Search, look: Look) -> Iterator[str]:
         yield from found_lines(found, look)
 
 
-def part_lines(part: Trace | Search | Summary, look: Look) -> Iterator[str]:
+def share_bar(value: Number, whole: Fraction, columns: int) -> str:
+    """A bar as long as the value's share of so many columns. Of each value above 0 something is seen."""
+    eighths = max(round(value * columns * 8 / whole), 1) if value else 0
+    return "█" * (eighths // 8) + EIGHTHS[eighths % 8]
+
+
+def bucket_rows(series: Series, look: Look) -> list[tuple[str, Number]]:
+    """What is drawn of a series, line by line: which buckets, from 1, and their number."""
+    rows, first = [], 1
+    for value, run in groupby(series.numbers):
+        end = first + len(list(run))
+        if value == 0 and end - first >= ZEROS and not look.full:
+            rows.append((f"{first}-{end - 1}", value))
+        else:
+            rows += [(str(bucket), value) for bucket in range(first, end)]
+        first = end
+    return rows
+
+
+def metrics_lines(metrics: Metrics, look: Look) -> Iterator[str]:
+    yield look.paint(fit(metrics.told(), look.width), BOLD)
+    shown = metrics.series if look.full else metrics.shown()
+    rows = [bucket_rows(series, look) for series in shown]
+    bucket = max((len(where) for of_one in rows for where, _ in of_one), default=0)
+    size = max((len(number(value)) for of_one in rows for _, value in of_one), default=0)
+    whole, columns = greatest(shown), look.width - bucket - size - 6
+    for series, of_one, colour in zip(shown, rows, cycle(SERVICE_COLOURS)):
+        yield ""
+        yield fit(f"by {', '.join(series.head())}" if series.by else "all spans", look.width)
+        for where, value in of_one:
+            bar = look.paint(share_bar(value, whole, columns), colour)
+            yield f"  {where:>{bucket}}  {number(value):>{size}}  {bar}".rstrip()
+    if not look.full and metrics.left_out():
+        yield ""
+        yield metrics.left_out()
+
+
+def part_lines(part: Trace | Search | Metrics | Summary, look: Look) -> Iterator[str]:
     if isinstance(part, Trace):
         return trace_lines(part, look)
     if isinstance(part, Search):
         return search_lines(part, look)
+    if isinstance(part, Metrics):
+        return metrics_lines(part, look)
     return (look.paint(line, RED) if line.startswith("refused") else line for line in part.told())
 
 

@@ -20,8 +20,8 @@ def main(folder, word, *words):
         replies, status = story[10:], 0
     else:
         asked = sys.stdin.readlines()
-        name = min(("first", "search", "quick-look"), key=lambda it: lines(f"{it}.txt") != asked)
-        replies, status = lines(f"{name}.replies"), 7 * (name == "search")
+        name = min(("first", "search", "metrics", "quick-look"), key=lambda it: lines(f"{it}.txt") != asked)
+        replies, status = lines(f"{name}.replies"), 7 * (name in ("search", "metrics"))
     sys.stdout.writelines(replies)
     return status
 

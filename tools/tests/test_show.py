@@ -14,6 +14,8 @@ import subprocess
 import sys
 import tempfile
 import unittest
+import xml.etree.ElementTree as ElementTree
+from fractions import Fraction
 from pathlib import Path
 from urllib.parse import unquote
 
@@ -24,6 +26,7 @@ DATA = TOOLS / "tests" / "data"
 CHROMIUM = shutil.which("chromium")
 sys.path.insert(0, str(TOOLS))
 
+import show_chart
 import show_page
 import show_replies as replies
 import show_text
@@ -60,6 +63,17 @@ def many_spans(number: int) -> bytes:
         parent = at - 1 if at % 10 != 1 else min(at - 1, 1)
         spans.append(span(at, parent, f"GET /orders/{at}", at * 1000, 10**7 - at * 100, attributes=attributes))
     return reply(*spans)
+
+
+def metrics(*series: tuple[list, list]) -> bytes:
+    """A reply of metrics. A series is its values of `by` as they are written, and its numbers; a text is a fraction."""
+    told = [{"by": by, "values": [{"ratioValue" if isinstance(it, str) else "intValue": str(it)} for it in numbers]}
+            for by, numbers in series]
+    return f"ok metrics as_of=2 series={len(series)} {json.dumps({'series': told})}\n".encode()
+
+
+def text_value(text: str) -> dict:
+    return {"stringValue": text}
 
 
 def run(*words: str, given: bytes = b"", **environment: str) -> subprocess.CompletedProcess:
@@ -169,15 +183,16 @@ class Trees(unittest.TestCase):
 
 class Drawing(unittest.TestCase):
     def test_examples_are_drawn_as_stored(self):
-        for name in ("collector", "first", "search"):
+        for name in ("collector", "first", "search", "metrics"):
             with self.subTest(name):
                 text = drawn(example(name), width=100)
                 self.assertEqual(text, (DATA / f"{name}.drawn").read_text(encoding="utf-8"))
 
     def test_all_widths_are_kept(self):
         for width in (40, 60, 80, 132, 300):
-            for name in ("collector", "first", "search"):
-                told = [line for line in example(name).splitlines(True) if line.startswith((b"ok trace", b"ok search"))]
+            for name in ("collector", "first", "search", "metrics"):
+                drawn_alone = (b"ok trace", b"ok search", b"ok metrics")
+                told = [line for line in example(name).splitlines(True) if line.startswith(drawn_alone)]
                 lines = drawn(b"".join(told), width).splitlines()
                 self.assertLessEqual(max(map(replies.width_of, lines)), width)
 
@@ -220,6 +235,112 @@ class Drawing(unittest.TestCase):
         text = run(given=given).stdout.decode()
         self.assertLess(processor_time() - before, 3)
         self.assertEqual(len(text.splitlines()), 10_003)
+
+
+class Metrics(unittest.TestCase):
+    def test_numbers(self):
+        told = {
+            "0": "0", "7": "7", "1234567": "1,234,567", "1/2": "0.5", "1/3": "0.3333", "20/3": "6.667",
+            "3999/4": "999.8", "1999999/2000": "1,000", "12345/2": "6,172", "12347/2": "6,174", "1/86400": "1.157e-05",
+            "999999999999": "999,999,999,999", "1000000000000": "1e+12", "123456000000000000000": "1.235e+20",
+        }
+        self.assertEqual({value: replies.number(Fraction(value)) for value in told}, told)
+
+    def test_bars(self):
+        """In eight columns one column is an eighth of the whole, and the parts of columns are eighths of it."""
+        told = {"0": "", "8": "█" * 8, "4": "████", "1": "█", "1/8": "▏", "1/100": "▏", "9/8": "█▏",
+                "63/8": "█" * 7 + "▉", "3/2": "█▌", "5/3": "█▋"}
+        self.assertEqual({value: show_text.share_bar(Fraction(value), Fraction(8), 8) for value in told}, told)
+
+    def test_counts(self):
+        given = metrics(([text_value("x")], [1, 0, 4]), ([None], [2, 0, 0]))
+        self.assertEqual(drawn(given, width=40).splitlines(), [
+            "metrics: 2 series of 3 buckets, as of 2…", "",
+            'by "x"', "  1  1  ████████", "  2  0", "  3  4  " + "█" * 32, "",
+            "by nil", "  1  2  " + "█" * 16, "  2  0", "  3  0",
+        ])
+        self.assertIn("2 series of 3 buckets, as of 2 pushes, in spans or spans a second", drawn(given))
+
+    def test_rates(self):
+        self.assertEqual(drawn(metrics(([], ["1/4", 0, "1/2"]))).splitlines(), [
+            "metrics: 1 series of 3 buckets, as of 2 pushes, in spans a second", "",
+            "all spans", "  1  0.25  " + "█" * 34 + "▌", "  2     0", "  3   0.5  " + "█" * 69,
+        ])
+
+    def test_no_series(self):
+        self.assertEqual(drawn(metrics()), "metrics: 0 series, as of 2 pushes\n")
+
+    def test_ten_buckets_of_nothing_are_one_line(self):
+        rows = [*([0] * 9), 1, *([0] * 10), 1, *([0] * 79)]
+        told = drawn(metrics(([], rows))).splitlines()[3:]
+        self.assertEqual([line.split()[0] for line in told], [*map(str, range(1, 11)), "11-20", "21", "22-100"])
+        self.assertEqual(told[-1], "  22-100  0")
+        self.assertEqual(len(drawn(metrics(([], rows)), full=True).splitlines()), 103)
+
+    def test_the_ten_greatest_sums_are_drawn_in_order(self):
+        """Series 5 has the sum 1 and series 8 the sum 2, all others 3."""
+        numbers = {5: [1, 0], 8: [0, 2]}
+        given = metrics(*(([text_value(f"s{at}")], numbers.get(at, [3, 0])) for at in range(1, 13)))
+        heads = [line for line in drawn(given).splitlines() if line.startswith("by")]
+        self.assertEqual(heads, [f'by "s{at}"' for at in range(1, 13) if at not in numbers])
+        self.assertEqual(drawn(given).splitlines()[-1], "and 2 more series, none with a greater sum")
+        self.assertEqual(sum(line.startswith("by") for line in drawn(given, full=True).splitlines()), 12)
+        page = page_of(given)
+        self.assertEqual((page.count("<svg"), page.count("and 2 more series, none with a greater sum")), (10, 1))
+
+    def test_of_equal_sums_the_first_are_drawn(self):
+        given = metrics(*(([text_value(f"s{at}")], [1]) for at in range(1, 12)))
+        heads = [line for line in drawn(given).splitlines() if line.startswith("by")]
+        self.assertEqual(heads, [f'by "s{at}"' for at in range(1, 11)])
+        self.assertEqual(drawn(given).splitlines()[-1], "and 1 more series, none with a greater sum")
+
+    def test_broken_metrics_pass_with_a_note(self):
+        series = ('{"by":[]}', '{"by":7,"values":[]}', '{"by":[],"values":[]}', '{"by":[],"values":[7]}',
+                  '{"by":[],"values":[{"intValue":1}]}', '{"by":[],"values":[{"intValue":"-1"}]}',
+                  '{"by":[],"values":[{"ratioValue":"1/0"}]}', '{"by":[],"values":[{"boolValue":"1"}]}',
+                  '{"by":[],"values":[{"intValue":"' + "9" * 400 + '"}]}', '{"by":[],"values":[{"intValue":"１"}]}',
+                  '{"by":[],"values":[{"intValue":"1"}]},{"by":[null],"values":[{"intValue":"1"},{"intValue":"1"}]}')
+        shapes = ("{}", '{"series":7}', *(f'{{"series":[{it}]}}' for it in series))
+        given = b"".join(f"ok metrics as_of=1 series=1 {shape}\n".encode() for shape in shapes)
+        done = run(given=given)
+        self.assertEqual((done.stdout, done.returncode), (given, 1))
+        self.assertEqual(len(done.stderr.splitlines()), len(shapes))
+
+    def test_a_chart(self):
+        """Two buckets, the whole 2: the axes are 636 by 110, so a bucket is 318 wide and its bar 254.4."""
+        (svg,) = [ElementTree.fromstring("".join(show_chart.chart([Fraction(1), Fraction(2)], Fraction(2))))]
+        bars = [{**bar.attrib, "title": bar[0].text} for bar in svg.iter("rect")]
+        self.assertEqual(bars, [
+            {"x": "107.8", "y": "67", "width": "254.4", "height": "55", "title": "bucket 1: 1"},
+            {"x": "425.8", "y": "12", "width": "254.4", "height": "110", "title": "bucket 2: 2"},
+        ])
+        self.assertEqual([text.text for text in svg.iter("text")], ["0", "1", "2", "1", "2", "bucket"])
+        self.assertEqual(svg.get("aria-label"), "2 buckets, the most 2 in bucket 2")
+
+    def test_labels_of_buckets(self):
+        self.assertEqual(show_chart.labelled(1), [1])
+        self.assertEqual(show_chart.labelled(12), list(range(1, 13)))
+        self.assertEqual(show_chart.labelled(13), [1, 2, 4, 6, 8, 10, 12])
+        self.assertEqual(show_chart.labelled(1000), [1, *range(100, 1001, 100)])
+
+    def test_levels(self):
+        told = {"1": ["0", "1"], "2": ["0", "1", "2"], "7": ["0", "7"], "1/2": ["0", "1/4", "1/2"]}
+        self.assertEqual({whole: [str(level) for level in show_chart.levels(Fraction(whole))] for whole in told}, told)
+
+    def test_its_page_has_a_chart_for_each_series(self):
+        page = page_of(example("metrics")).partition("<main>")[2].partition("</main>")[0]
+        charts = re.findall(r"<svg.*?</svg>", page, re.DOTALL)
+        self.assertEqual(len(charts), 3 + 1 + 2 + 1)
+        for one in charts:
+            ElementTree.fromstring(one)
+        self.assertIn("<h3>by <bdi>&quot;payments&quot;</bdi>, <bdi>error</bdi></h3>", page)
+        self.assertIn("<title>bucket 4: 0.3</title>", page)
+
+    def test_many_series_are_quick(self):
+        given = metrics(*(([text_value(f"s{at}")], [at % 7, "1/3"] * 500) for at in range(300)))
+        before = processor_time()
+        self.assertEqual(len(run(given=given).stdout.splitlines()), 3 + 10 * 1002)
+        self.assertLess(processor_time() - before, 5)
 
 
 class Other(unittest.TestCase):
