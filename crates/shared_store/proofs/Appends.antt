@@ -1,5 +1,5 @@
 -- The step that appends a call keeps the rule of the table.
-use Rattle.std.proofs.Common.{◌≡◌, ◌≢◌, ℕ, ◌+◌, ◌%◌, ◌^◌, ◌<◌, ◌==◌, suc, List, [], ◌∷◌, ◌++◌, Bool, true, false, not, refl, sym, ◌∙◌, ap, subst, arith, length, length-append, filter, map, get_or, set, ⊎_elim, inl, inr, Option, Some}
+use Rattle.std.proofs.Common.{◌≡◌, ◌≢◌, ℕ, ◌+◌, ◌%◌, ◌^◌, ◌<◌, ◌==◌, suc, List, [], ◌∷◌, ◌++◌, Bool, true, false, not, refl, sym, ◌∙◌, ap, subst, arith, length, length-append, filter, map, get_or, set, ⊎_elim, inl, inr, if◌then◌else◌, Option, Some, None}
 use Rattle.std.specs.Prelude.{IsTrue, ◌||◌, ◌⊎◌}
 use Rattle.std.specs.List.{Contains, flat_map}
 use Rattle.std.proofs.lemmas.List.{append-nil, append_assoc}
@@ -16,16 +16,17 @@ use Rattle.store_model.specs.Holds.{Hold, ends, opened, holds_after, files_of}
 use Rattle.store_model.specs.State.{is_among}
 use Rattle.store_model.specs.Told.{history_after, TellsLength}
 use Rattle.store_model.proofs.Numbers.{equal_itself, map_append, same_number}
-use Rattle.store_state.specs.Meaning.{Meaning, Called}
+use Rattle.store_state.specs.Meaning.{Meaning, Called, IsOpen}
 use Rattle.port_history.specs.Entries.{Entry, own, open_from, AreEntries, history_from}
-use Rattle.shared_store.specs.Seen.{with_bytes, kept_of, names_after, name_at}
-use Rattle.shared_store.specs.Apart.{AreStrangers}
+use Rattle.shared_store.specs.Seen.{bytes_in, with_bytes, kept_of, names_after, name_at}
+use Rattle.shared_store.specs.Apart.{AllLeave, AreStrangers, Leaves}
 use Rattle.shared_store.specs.declared.known.Known.{Known}
 use Rattle.shared_store.specs.Rule.{Fits, AreOfTwo, IsKept, IsOwn, IsAppended, appended, showing}
 use Rattle.shared_store.specs.Rule.Turn.{taken}
 use Rattle.port_history.proofs.Chains.{history_append, holds_chain, made_snoc, open_append, own_append, tells_chain}
 use Rattle.shared_store.proofs.Lists.{knows_chain, own_one, own_none, own_nobody, own_strangers, was_there, still_there, strangers_filter, strangers_append, inside, parts_set}
-use Rattle.shared_store.proofs.Events.{ends_one, not_written, opened_strangers, turned}
+use Rattle.shared_store.proofs.Events.{opened_strangers, turned}
+use Rattle.shared_store.proofs.Leaves.{bytes_left, first_left, later_left, one_left, own_leaves}
 use Rattle.shared_store.proofs.Keeps.{changed, changed_two, shorter, Holding, holding}
 
 -- ---- what is kept of files
@@ -55,6 +56,23 @@ same_kept f g (x ∷ hs) h =
     let rest = same_kept f g hs (λ hold c. h hold (suc c.0, omega (arith, c.1), c.2)) in
     map_append (with_bytes f) (files_of x) (flat_map files_of hs) ∙ (λ i. one i ++ rest i)
     ∙ sym (map_append (with_bytes g) (files_of x) (flat_map files_of hs))
+
+-- calls that leave what is held leave the bytes of its files
+pub kept_left : {P : Type 0} (m : Meaning P) (held : List Hold) (old new : P) (es : List Entry) → AreEntries m old es new → AllLeave held es
+    → ((hold : Hold) → Contains held hold → IsOpen m old hold) → IsTrue (m.tells old) → kept_of (m.shows new) held ≡ kept_of (m.shows old) held
+kept_left {P} m held old new [] made left are told = ap (λ (p : P). kept_of (m.shows p) held) made
+kept_left m held old new (e ∷ es) made left are told =
+    let one = first_left held e es left in
+    kept_left m held made.0 new es made.4 (later_left held e es left) (one_left m held old made.0 e.event e.reply made.1 one are)
+    (subst IsTrue (sym made.1.telling) told)
+    ∙ same_kept (m.shows made.0) (m.shows old) held (λ hold c file among. bytes_left m held old made.0 e.event e.reply made.1 one told hold c (are hold c) file among)
+
+pub bytes_found : (f : ℕ → List ℕ) (files : List ℕ) (file : ℕ) → is_among file files ≡ true → bytes_in (map (with_bytes f) files) file ≡ f file
+bytes_found f [] file h = cc
+bytes_found f (x ∷ xs) file h = elim (x == file) as (λ t. (x == file) ≡ t → (t || is_among file xs) ≡ true → (if t then f x else bytes_in (map (with_bytes f) xs) file) ≡ f file) [
+  | true ↦ λ e g. ap f (same_number x file e)
+  | false ↦ λ e g. bytes_found f xs file g
+] refl h
 
 -- ---- names
 
@@ -114,7 +132,7 @@ module _ {C : Type 0} (m : Meaning C) (key : C) (s : State (Option C) (Known C))
   entries' = k.entries ++ entry ∷ []
 
   abbrev w : K
-  w = record { start = v.start; shown = Some core'; parts = v.parts; seen = record { entries = entries'; names = names'; holds = holds'; kept = kept_of (m.shows core') holds'; joined = [] } }
+  w = record { start = v.start; shown = Some core'; parts = v.parts; seen = record { entries = entries'; names = names'; holds = holds'; kept = kept_of (m.shows core') holds'; joined = None } }
 
   abbrev has : Holding m key s k id core
   has = holding m key s k id v core at shows
@@ -147,26 +165,14 @@ module _ {C : Type 0} (m : Meaning C) (key : C) (s : State (Option C) (Known C))
     abbrev two : AreOfTwo v u
     two = k.two id i v u (λ p. other (sym p)) at at_u
 
-    -- the call ends none of theirs
-    stays : (hold : Hold) → Contains u.seen.holds hold → ends event reply hold ≡ false
-    stays hold c = by_test (ends event reply hold) refl
-      where
-        by_test : (t : Bool) → ends event reply hold ≡ t → ends event reply hold ≡ false
-        by_test true e = let o = mine.ended hold e in absurd (ends_one event reply o.0 hold o.2 e (two.holds o.0 hold o.1 c))
-        by_test false e = e
+    -- the call ends nothing of theirs, and writes no file of it
+    left : Leaves u.seen.holds event reply
+    left = own_leaves v.seen.holds u.seen.holds event reply mine two.holds
 
     same_bytes : IsTrue (m.tells key) → (hold : Hold) → Contains u.seen.holds hold → (file : ℕ) → is_among file (files_of hold) ≡ true → m.shows core' file ≡ m.shows core file
-    same_bytes told hold c file among =
-        not_written event reply file (m.shows core file) (m.shows core' file)
-        (called.bytes (subst IsTrue (sym (tells_chain m key core k.entries (subst (λ (x : C). AreEntries m key k.entries x) has.core_is k.made))) told) hold (open_now, held, theirs.are_open hold c) (stays hold c) file among)
-        (λ n a bytes is. let o = mine.written n a bytes is in
-        other_file a file (files_of hold) among ((two.holds o.0 hold o.1 c).writes a o.2))
-      where
-        other_file : (a file : ℕ) (files : List ℕ) → is_among file files ≡ true → is_among a files ≡ false → (a == file) ≡ false
-        other_file a file files there away = elim (a == file) as (λ t. (a == file) ≡ t → t ≡ false) [
-          | true ↦ λ e. let both : true ≡ false = sym there ∙ ap (λ (f : ℕ). is_among f files) (sym (same_number a file e)) ∙ away in cc
-          | false ↦ λ e. refl
-        ] refl
+    same_bytes told hold c file among = bytes_left m u.seen.holds core core' event reply called left
+        (subst IsTrue (sym (tells_chain m key core k.entries (subst (λ (x : C). AreEntries m key k.entries x) has.core_is k.made))) told)
+        hold c (open_now, held, theirs.are_open hold c) file among
 
     -- the entry stands under none of their names
     not_theirs : is_among entry.seat u.seen.names ≡ false
@@ -185,11 +191,13 @@ module _ {C : Type 0} (m : Meaning C) (key : C) (s : State (Option C) (Known C))
       spent = theirs.spent;
       rest = theirs.rest ++ entry ∷ [];
       begins = ap (λ (es : List Entry). es ++ entry ∷ []) theirs.begins ∙ append_assoc u.seen.entries theirs.rest (entry ∷ []);
+      leaves = λ e c. ⊎_elim (λ (old : Contains theirs.rest e). theirs.leaves e old)
+          (λ (new : entry ≡ e). subst (λ (x : Entry). Leaves u.seen.holds x.event x.reply) new left) (Contains-push_cases theirs.rest entry e c);
       others = own_append u.seen.names theirs.rest (entry ∷ []) ∙ (λ j. theirs.others j ++ own_none u.seen.names entry not_theirs j);
       named = λ n h. omega (arith, theirs.named n h, fewer);
       are_open = λ hold c. rw (open_append [] k.entries (entry ∷ []))
           (Contains-append_left (filter (λ x. not (ends event reply x)) open_now) (opened reply) hold
-          (still_there (λ x. not (ends event reply x)) open_now hold (theirs.are_open hold c) (ap not (stays hold c))));
+          (still_there (λ x. not (ends event reply x)) open_now hold (theirs.are_open hold c) (ap not (left.ends_none hold c))));
       strangers = theirs.strangers;
       kept = λ told. theirs.kept told ∙ ap (λ (c : C). kept_of (m.shows c) u.seen.holds) has.core_is
           ∙ same_kept (m.shows core) (m.shows core') u.seen.holds (λ hold c file among. sym (same_bytes told hold c file among));
@@ -226,6 +234,7 @@ module _ {C : Type 0} (m : Meaning C) (key : C) (s : State (Option C) (Known C))
     rest = [];
     begins = sym (append-nil entries');
     others = refl;
+    leaves = λ e c. absurd (omega (arith, c.1));
     named = λ n h. ⊎_elim (λ (old : is_among n v.seen.names ≡ true). omega (arith, fits.named n old, fewer)) (λ (new : (v.seen.names ≡ []) × (place ≡ n)). omega (arith, new.1, fewer)) (names_cases place n v.seen.names h);
     are_open = λ hold c. rw (open_append [] k.entries (entry ∷ [])) (⊎_elim
         (λ (old : Contains (filter (λ x. not (ends event reply x)) v.seen.holds) hold).
@@ -239,7 +248,7 @@ module _ {C : Type 0} (m : Meaning C) (key : C) (s : State (Option C) (Known C))
         (λ old new c d. turned new old (k.unshared.apart core core' event reply called open_now held new old d
         (fits.are_open old (was_there (λ x. not (ends event reply x)) v.seen.holds old c).0)));
     kept = λ told. refl;
-    joined = λ x c. absurd (omega (arith, c.1));
+    joined = λ one other is. cc;
   }
 
   keeps_rule : IsKept m key record { words = set s.words 1 ((get_or s.words 1 0 + 1) % 2 ^ 64); homes = s.homes; views = set s.views id w }
@@ -296,6 +305,8 @@ module _ {C : Type 0} (m : Meaning C) (key : C) (s : State (Option C) (Known C))
     its_name = ap (λ (n : ℕ). name_at n v.seen.names) (ap length fits.begins);
     seen = ap (λ (es : List Entry). es ++ entry ∷ []) fits.begins;
     others = fits.others;
+    leaves = fits.leaves;
+    earlier = subst (λ (es : List Entry). AreEntries m key es core) fits.begins (subst (λ (c : C). AreEntries m key k.entries c) has.core_is k.made);
     names = ap (λ (n : ℕ). names_after n v.seen.names) (ap length fits.begins);
     mine = own_after v.seen.names k.entries entry refl small
         ∙ ap (λ (es : List Entry). es ++ entry ∷ []) (ap (own v.seen.names) fits.begins ∙ own_append v.seen.names v.seen.entries fits.rest ∙ ap (λ (es : List Entry). own v.seen.names v.seen.entries ++ es) fits.others ∙ append-nil (own v.seen.names v.seen.entries));
@@ -351,6 +362,8 @@ appended_shown m key before core event reply v w u shown is a = subst (λ (x : K
   its_name = a.its_name;
   seen = a.seen;
   others = a.others;
+  leaves = a.leaves;
+  earlier = a.earlier;
   names = a.names;
   mine = a.mine;
   holds = a.holds;
@@ -372,6 +385,8 @@ from_shown m key before core event reply v u w shown is a =
       its_name = b.its_name;
       seen = b.seen;
       others = b.others;
+      leaves = b.leaves;
+      earlier = b.earlier;
       names = b.names;
       mine = b.mine;
       holds = b.holds;

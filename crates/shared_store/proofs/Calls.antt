@@ -1,5 +1,5 @@
 -- What a seat does is one call of its port.
-use Rattle.std.proofs.Common.{◌≡◌, ℕ, ◌+◌, ◌<◌, ◌==◌, zero, suc, List, [], ◌∷◌, ◌++◌, Bool, true, false, not, refl, sym, ◌∙◌, ap, subst, arith, length, filter, map, slice_index_or, if◌then◌else◌, Some, None, Result, Ok, Err, inl, inr}
+use Rattle.std.proofs.Common.{◌≡◌, ℕ, ◌+◌, ◌<◌, ◌==◌, zero, suc, List, [], ◌∷◌, ◌++◌, Bool, true, false, not, refl, sym, ◌∙◌, ap, subst, arith, length, filter, slice_index_or, Some, None, Result, Ok, Err, inl, inr}
 use Rattle.std.specs.Prelude.{IsTrue, IfOk, ◌||◌}
 use Rattle.std.specs.List.{Contains, flat_map}
 use Rattle.std.proofs.lemmas.List.Elements.{Contains-append_cases, Contains-append_left, Contains-append_right}
@@ -16,7 +16,6 @@ use Rattle.store_model.specs.Holds.{Hold, ends, opened, own_files, holds_after, 
 use Rattle.store_model.specs.Holds.Hold.{OpenLook, OpenFlush, OpenCompact}
 use Rattle.store_model.specs.State.{is_among}
 use Rattle.store_model.specs.Told.{history_after, TellsLength}
-use Rattle.store_model.proofs.Numbers.{same_number}
 use Rattle.atomic_table.specs.Seated.{TableId}
 use Rattle.disk_model.specs.Counts.{RoseBy}
 use Rattle.store_state.specs.Calls.{MadeCalls, reclaim_calls}
@@ -30,14 +29,14 @@ use Rattle.store_state.specs.declared.jobs.Look.{Look as GivenLook}
 use Rattle.span_types.specs.declared.errors.Memory.{Memory as NoMemory}
 use Rattle.block_info.specs.InfoParts.{InfoParts}
 use Rattle.port_history.specs.Entries.{Entry, history_from, added_by}
-use Rattle.shared_store.specs.Seen.{with_bytes, kept_of, bytes_in, some_fails}
+use Rattle.shared_store.specs.Seen.{kept_of, bytes_in, some_fails}
 use Rattle.shared_store.specs.Rule.{IsFound, IsOwn, IsKnown, IsAppended, showing, with_seen}
 use Rattle.shared_store.specs.Seats.{Stand, calls_of, one, is_fault, faults_in, reads_in, least_calls, calls_in, told_by, SeatKnows, seat_meaning}
 use Rattle.shared_store.specs.declared.known.Known.{Known}
 use Rattle.port_history.proofs.Chains.{history_append, from_is_grown}
 use Rattle.store_state.proofs.HoldLaws.{opens_new, stays_open}
 use Rattle.shared_store.proofs.Lists.{still_there, fails_left, unended, was_there}
-use Rattle.shared_store.proofs.Appends.{first_among, later_among, from_shown}
+use Rattle.shared_store.proofs.Appends.{bytes_found, first_among, later_among, from_shown}
 
 -- ---- the history
 
@@ -66,13 +65,6 @@ among_files : (hs : List Hold) (hold : Hold) (file k : ℕ) → k < length hs �
 among_files [] hold file k l e h = absurd (omega arith)
 among_files (x ∷ hs) hold file zero l e h = among_left file (files_of x) (flat_map files_of hs) (ap (λ (y : Hold). is_among file (files_of y)) e ∙ h)
 among_files (x ∷ hs) hold file (suc k) l e h = among_right file (files_of x) (flat_map files_of hs) (among_files hs hold file k (omega (arith, l)) e h)
-
-bytes_found : (f : ℕ → List ℕ) (files : List ℕ) (file : ℕ) → is_among file files ≡ true → bytes_in (map (with_bytes f) files) file ≡ f file
-bytes_found f [] file h = cc
-bytes_found f (x ∷ xs) file h = elim (x == file) as (λ t. (x == file) ≡ t → (t || is_among file xs) ≡ true → (if t then f x else bytes_in (map (with_bytes f) xs) file) ≡ f file) [
-  | true ↦ λ e g. ap f (same_number x file e)
-  | false ↦ λ e g. bytes_found f xs file g
-] refl h
 
 -- what is kept of a file is what the port shows of it
 pub kept_shows : (f : ℕ → List ℕ) (kept : List (ℕ × List ℕ)) (hs : List Hold) (hold : Hold) (file : ℕ) → kept ≡ kept_of f hs → Contains hs hold → is_among file (files_of hold) ≡ true
@@ -250,7 +242,13 @@ module _ {C : Type 0} (m : Meaning C) (key : C) (e : Event) (r : Reply) (before 
       seen = app.seen;
       others = app.others;
       mine = app.mine;
+      leaves = app.leaves;
+      before = before;
+      earlier = app.earlier;
+      were_open = found.are_open;
+      had = found.kept;
       core = core;
+      called = called;
       made = app.made;
       are_open = still_open;
       kept = app.kept;

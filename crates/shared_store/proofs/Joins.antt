@@ -1,14 +1,16 @@
 -- Two seats that are made one keep the rule of the table.
-use Rattle.std.proofs.Common.{◌≡◌, ◌≢◌, ℕ, ◌<◌, ◌≤◌, ◌==◌, zero, suc, List, [], ◌∷◌, ◌++◌, Bool, true, false, refl, sym, ◌∙◌, ap, subst, arith, length, length-set, map, get_or, set, slice_index_or, if◌then◌else◌, ⊎_elim, inl, inr, Option, Some, None}
+use Rattle.std.proofs.Common.{◌≡◌, ◌≢◌, ℕ, ◌<◌, ◌≤◌, ◌==◌, List, [], ◌∷◌, ◌++◌, Bool, true, false, refl, sym, ◌∙◌, ap, subst, arith, length, length-set, map, get_or, set, if◌then◌else◌, ⊎_elim, inl, inr, Option, Some, None}
 use Rattle.std.specs.Prelude.{nat_le, ◌||◌, ◌⊎◌}
 use Rattle.std.specs.List.{Contains, flat_map}
 use Rattle.std.proofs.lemmas.Bool.{leb-true, leb-false}
 use Rattle.std.proofs.lemmas.List.{append-nil, append_assoc}
-use Rattle.std.proofs.lemmas.List.Elements.{Contains-append_cases}
+use Rattle.std.proofs.lemmas.Option.{same_Some}
+use Rattle.std.proofs.lemmas.List.Elements.{Contains-append_cases, Contains-append_right}
 use mathlib.Core.Logic.{dite}
 use mathlib.Core.Option.{some, none, some-injective}
 use native.Mathlib.Decide.{ℕ_discrete}
 use lib.ListN.{get_elem?}
+use Rattle.atomic_table.specs.Seated.{TableId}
 use Rattle.atomic_table.specs.Table.{State, Me, step, Joins, keeps, Allows}
 use Rattle.atomic_table.proofs.Lists.{at_set, set_here, set_else}
 use Rattle.store_model.specs.Holds.{Hold, files_of}
@@ -17,12 +19,15 @@ use Rattle.store_model.proofs.Numbers.{map_append}
 use Rattle.store_state.specs.Meaning.{Meaning}
 use Rattle.port_history.specs.Entries.{Entry, own}
 use Rattle.port_history.proofs.Chains.{own_append}
-use Rattle.shared_store.specs.Seen.{GoesOn, joined_names, kept_of, longer, with_bytes}
+use Rattle.shared_store.specs.Seen.{AreJoined, GoesOn, Half, ShareNone, bytes_in, half_of, joined_names, kept_of, longer, with_bytes}
 use Rattle.shared_store.specs.declared.known.Known.{Known}
 use Rattle.shared_store.specs.Rule.{Fits, AreOfTwo, Turn, IsKept, recalled, spent_view, together}
 use Rattle.shared_store.specs.Rule.Turn.{free, taken}
 use Rattle.shared_store.proofs.Lists.{inside, own_nobody, own_strangers, still_there, strangers_append}
+use Rattle.shared_store.specs.Seats.{Stand, stand_of, told_by}
+use Rattle.shared_store.proofs.Appends.{bytes_found}
 use Rattle.shared_store.proofs.Keeps.{changed, same_state}
+use Rattle.shared_store.proofs.Leaves.{both_left, nothing_held}
 use Rattle.shared_store.proofs.Splits.{parts_less}
 
 -- ---- the longer of two beginnings
@@ -47,11 +52,13 @@ none_of : (xs ys : List Entry) → xs ++ ys ≡ [] → (xs ≡ []) × (ys ≡ []
 none_of [] ys e = (refl, e)
 none_of (x ∷ xs) ys e = cc
 
-record Longer (ns ms : List ℕ) (a b all longest : List Entry) : Type 0 where
+record Longer (ns ms : List ℕ) (a r b q all longest : List Entry) : Type 0 where
   rest : List Entry
   begins : all ≡ longest ++ rest
   left : own ns rest ≡ []
   right : own ms rest ≡ []
+  in_first : (e : Entry) → Contains rest e → Contains r e
+  in_second : (e : Entry) → Contains rest e → Contains q e
   first : GoesOn ns a longest
   second : GoesOn ms b longest
 
@@ -63,7 +70,7 @@ goes_on ns a mid b is alone = record {
   mine = ap (own ns) is ∙ own_append ns a mid ∙ ap (λ (xs : List Entry). own ns a ++ xs) alone ∙ append-nil (own ns a);
 }
 
-to_longer : (ns ms : List ℕ) (a r b q all : List Entry) → all ≡ a ++ r → all ≡ b ++ q → own ns r ≡ [] → own ms q ≡ [] → length a ≤ length b → Longer ns ms a b all b
+to_longer : (ns ms : List ℕ) (a r b q all : List Entry) → all ≡ a ++ r → all ≡ b ++ q → own ns r ≡ [] → own ms q ≡ [] → length a ≤ length b → Longer ns ms a r b q all b
 to_longer ns ms a r b q all e f h k l =
     let s = suffix a r b q (sym e ∙ f) l in
     let parts = none_of (own ns s.0) (own ns q) (sym (own_append ns s.0 q) ∙ ap (own ns) (sym s.2) ∙ h) in record {
@@ -71,17 +78,28 @@ to_longer ns ms a r b q all e f h k l =
       begins = f;
       left = parts.1;
       right = k;
+      in_first = λ x c. subst (λ (es : List Entry). Contains es x) (sym s.2) (Contains-append_right s.0 q x c);
+      in_second = λ x c. c;
       first = goes_on ns a s.0 b s.1 parts.0;
       second = goes_on ms b [] b (sym (append-nil b)) refl;
     }
 
-turned_round : (ns ms : List ℕ) (a b all l : List Entry) → Longer ms ns b a all l → Longer ns ms a b all l
-turned_round ns ms a b all l h = record { rest = h.rest; begins = h.begins; left = h.right; right = h.left; first = h.second; second = h.first }
+turned_round : (ns ms : List ℕ) (a r b q all l : List Entry) → Longer ms ns b q a r all l → Longer ns ms a r b q all l
+turned_round ns ms a r b q all l h = record {
+  rest = h.rest;
+  begins = h.begins;
+  left = h.right;
+  right = h.left;
+  in_first = h.in_second;
+  in_second = h.in_first;
+  first = h.second;
+  second = h.first;
+}
 
-longest_of : (ns ms : List ℕ) (a r b q all : List Entry) → all ≡ a ++ r → all ≡ b ++ q → own ns r ≡ [] → own ms q ≡ [] → Longer ns ms a b all (longer a b)
-longest_of ns ms a r b q all e f h k = elim (nat_le (length a) (length b)) as (λ t. nat_le (length a) (length b) ≡ t → Longer ns ms a b all (if t then b else a)) [
+longest_of : (ns ms : List ℕ) (a r b q all : List Entry) → all ≡ a ++ r → all ≡ b ++ q → own ns r ≡ [] → own ms q ≡ [] → Longer ns ms a r b q all (longer a b)
+longest_of ns ms a r b q all e f h k = elim (nat_le (length a) (length b)) as (λ t. nat_le (length a) (length b) ≡ t → Longer ns ms a r b q all (if t then b else a)) [
   | true ↦ λ g. to_longer ns ms a r b q all e f h k (leb-true (length a) (length b) g)
-  | false ↦ λ g. turned_round ns ms a b all a (to_longer ms ns b q a r all f e k h (let l = leb-false (length a) (length b) g in omega (arith, l)))
+  | false ↦ λ g. turned_round ns ms a r b q all a (to_longer ms ns b q a r all f e k h (let l = leb-false (length a) (length b) g in omega (arith, l)))
 ] refl
 
 -- ---- names of both
@@ -150,13 +168,28 @@ kept_append f (x ∷ hs) gs =
     ∙ sym (append_assoc (map (with_bytes f) (files_of x)) (kept_of f hs) (kept_of f gs))
     ∙ ap (λ (r : List (ℕ × List ℕ)). r ++ kept_of f gs) (sym (map_append (with_bytes f) (files_of x) (flat_map files_of hs)))
 
-of_both : (a b x : List ℕ × List Entry) (L : List Entry) → GoesOn a.0 a.1 L → GoesOn b.0 b.1 L → Contains (a ∷ b ∷ []) x → GoesOn x.0 x.1 L
-of_both a b x L first second c = which c.0 c.1 c.2
-  where
-    which : (n : ℕ) → n < length (a ∷ b ∷ []) → slice_index_or (a ∷ b ∷ []) n x ≡ x → GoesOn x.0 x.1 L
-    which zero l e = subst (λ (y : List ℕ × List Entry). GoesOn y.0 y.1 L) e first
-    which (suc zero) l e = subst (λ (y : List ℕ × List Entry). GoesOn y.0 y.1 L) e second
-    which (suc (suc n)) l e = absurd (omega (arith, l))
+-- where both have the bytes of one port, so has what is joined
+all_bytes : (f : ℕ → List ℕ) (files more : List ℕ) (kept also : List (ℕ × List ℕ)) → kept ≡ map (with_bytes f) files → also ≡ map (with_bytes f) more
+    → (file : ℕ) → is_among file (files ++ more) ≡ true → bytes_in (kept ++ also) file ≡ f file
+all_bytes f files more kept also k l file h =
+    ap (λ (xs : List (ℕ × List ℕ)). bytes_in xs file) ((λ i. k i ++ l i) ∙ sym (map_append (with_bytes f) files more))
+    ∙ bytes_found f (files ++ more) file h
+
+own_bytes : (f : ℕ → List ℕ) (files : List ℕ) (kept : List (ℕ × List ℕ)) → kept ≡ map (with_bytes f) files → (file : ℕ) → is_among file files ≡ true
+    → bytes_in kept file ≡ f file
+own_bytes f files kept k file h = ap (λ (xs : List (ℕ × List ℕ)). bytes_in xs file) k ∙ bytes_found f files file h
+
+first_bytes : (f : ℕ → List ℕ) (files more : List ℕ) (kept also : List (ℕ × List ℕ)) → kept ≡ map (with_bytes f) files → also ≡ map (with_bytes f) more
+    → (file : ℕ) → is_among file files ≡ true → bytes_in (kept ++ also) file ≡ bytes_in kept file
+first_bytes f files more kept also k l file h =
+    all_bytes f files more kept also k l file (among_append file files more ∙ ap (λ (t : Bool). t || is_among file more) h)
+    ∙ sym (own_bytes f files kept k file h)
+
+second_bytes : (f : ℕ → List ℕ) (files more : List ℕ) (kept also : List (ℕ × List ℕ)) → kept ≡ map (with_bytes f) files → also ≡ map (with_bytes f) more
+    → (file : ℕ) → is_among file more ≡ true → bytes_in (kept ++ also) file ≡ bytes_in also file
+second_bytes f files more kept also k l file h =
+    all_bytes f files more kept also k l file (among_append file files more ∙ ap (λ (t : Bool). is_among file files || t) h ∙ or_true (is_among file files))
+    ∙ sym (own_bytes f more also l file h)
 
 -- ---- the views
 
@@ -183,13 +216,20 @@ module _ {C : Type 0} (m : Meaning C) (key : C) where
         begins = l.begins;
         others = own_strangers (joined_names v.seen.names w.seen.names) l.rest (λ e c. joined_neither e.seat v.seen.names w.seen.names
             (none_named v.seen.names l.rest e l.left c) (none_named w.seen.names l.rest e l.right c));
+        leaves = λ e c. both_left v.seen.holds w.seen.holds e.event e.reply (f.leaves e (l.in_first e c)) (g.leaves e (l.in_second e c));
         named = λ n h. ⊎_elim (λ (a : is_among n v.seen.names ≡ true). f.named n a) (λ (b : is_among n w.seen.names ≡ true). g.named n b)
             (joined_cases n v.seen.names w.seen.names h);
         are_open = λ hold c. ⊎_elim (λ (a : Contains v.seen.holds hold). f.are_open hold a) (λ (b : Contains w.seen.holds hold). g.are_open hold b)
             (Contains-append_cases v.seen.holds w.seen.holds hold c);
         strangers = strangers_append v.seen.holds w.seen.holds f.strangers g.strangers two.holds;
         kept = λ told. (λ i. f.kept told i ++ g.kept told i) ∙ sym (kept_append (m.shows core) v.seen.holds w.seen.holds);
-        joined = λ x c. of_both (v.seen.names, v.seen.entries) (w.seen.names, w.seen.entries) x (longer v.seen.entries w.seen.entries) l.first l.second c;
+        joined = λ one other is. subst (λ (p : Half × Half). AreJoined (m.tells key) p.0 p.1 (together v w).seen) (same_Some (half_of v.seen, half_of w.seen) (one, other) is) record {
+          apart = two.names;
+          first = l.first;
+          second = l.second;
+          shows_first = λ told. first_bytes (m.shows core) (flat_map files_of v.seen.holds) (flat_map files_of w.seen.holds) v.seen.kept w.seen.kept (f.kept told) (g.kept told);
+          shows_second = λ told. second_bytes (m.shows core) (flat_map files_of v.seen.holds) (flat_map files_of w.seen.holds) v.seen.kept w.seen.kept (f.kept told) (g.kept told);
+        };
       }
 
   spent_fits : (es : List Entry) (core : C) → Fits m key es core spent_view
@@ -199,11 +239,12 @@ module _ {C : Type 0} (m : Meaning C) (key : C) where
     rest = es;
     begins = refl;
     others = own_nobody es;
+    leaves = λ e c. nothing_held e.event e.reply;
     named = λ n h. cc;
     are_open = λ hold c. absurd (omega (arith, c.1));
     strangers = tt;
     kept = λ told. refl;
-    joined = λ x c. absurd (omega (arith, c.1));
+    joined = λ one other is. cc;
   }
 
   of_spent : (u : K) → AreOfTwo spent_view u × AreOfTwo u spent_view
@@ -314,12 +355,33 @@ module _ {C : Type 0} (m : Meaning C) (key : C) where
 
   -- ---- what the rule knows of them is told
 
-  pub recalls : (slots id : ℕ) (me : Me (Option C) K) → Allows (IsKept m key) slots id me 0 (λ n. n) (recalled (step slots 0 0 0 none) me)
+  pub recalls : (slots id : ℕ) (me : Me (Option C) K) → Allows (IsKept m key) slots id me 0 (λ n. n) (recalled m (step slots 0 0 0 none) me)
   recalls slots id me s k deep at small = (
     me.0,
     keeps,
     tt,
     same_state m key s k id me.0 (set s.words 0 (get_or s.words 0 0)) at
         (ap (λ (ws : List ℕ). set ws 0 (get_or ws 0 0)) k.words ∙ sym k.words),
-    (refl, (k.each id me.0 at).joined),
+    (
+      refl,
+      λ known one other start is. subst (λ (c : C). AreJoined (m.tells c) one other me.0.seen) (sym ((k.each id me.0 at).start known start))
+          ((k.each id me.0 at).joined one other is),
+    ),
   )
+
+-- what two loads tell of two seats that were made one
+pub tells_of_both : {C : Type 0} (m : Meaning C) (key : C) (v w j u : Known C) → j ≡ together v w → u ≡ j → v.start ≡ Some key
+    → ((known : C) (one other : Half) → j.start ≡ Some known → j.seen.joined ≡ Some (one, other) → AreJoined (m.tells known) one other j.seen)
+    → AreJoined (told_by m u.start) (half_of v.seen) (half_of w.seen) u.seen
+tells_of_both {C} m key v w j u is same start tells =
+    let starts : j.start ≡ Some key = ap (λ (x : Known _). x.start) is ∙ start in
+    let joined : j.seen.joined ≡ Some (half_of v.seen, half_of w.seen) = ap (λ (x : Known _). x.seen.joined) is in
+    subst (λ (x : Bool × Known C). AreJoined x.0 (half_of v.seen) (half_of w.seen) x.1.seen)
+    (λ i. (ap (told_by m) (sym starts ∙ sym (ap (λ (x : Known _). x.start) same)) i, sym same i))
+    (tells key (half_of v.seen) (half_of w.seen) starts joined)
+
+-- the same of what callers see of two seats
+pub apart_at : {C : Type 0} (v w : Known C) (a b : Stand C) (table table' : TableId) → stand_of table v ≡ a → stand_of table' w ≡ b
+    → ShareNone v.seen.names w.seen.names → ShareNone a.known.seen.names b.known.seen.names
+apart_at {C} v w a b table table' first second apart =
+    subst (λ (s : Stand C × Stand C). ShareNone s.0.known.seen.names s.1.known.seen.names) (λ i. (first i, second i)) apart

@@ -90,6 +90,7 @@ module _ {C : Type 0} (m : Meaning C) (key : C) where
     rest = f.rest;
     begins = f.begins;
     others = f.others;
+    leaves = f.leaves;
     named = f.named;
     are_open = f.are_open;
     strangers = f.strangers;

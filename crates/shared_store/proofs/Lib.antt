@@ -1,5 +1,6 @@
 pub mod Lists
 pub mod Events
+pub mod Leaves
 pub mod Keeps
 pub mod Appends
 pub mod Splits
@@ -7,3 +8,4 @@ pub mod Joins
 pub mod Calls
 pub mod Files
 pub mod CoreLaws
+pub mod Crossing

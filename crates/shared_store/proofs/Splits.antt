@@ -16,6 +16,7 @@ use Rattle.shared_store.specs.Rule.{Fits, AreOfTwo, IsKept, all_parts, first_vie
 use Rattle.shared_store.specs.Rule.Turn.{free, taken}
 use Rattle.shared_store.proofs.Lists.{own_nobody, inside}
 use Rattle.shared_store.proofs.Keeps.{changed, changed_two}
+use Rattle.shared_store.proofs.Leaves.{nothing_held}
 
 pub parts_less : {C : Type 0} (views : List (Known C)) (i : ℕ) (v w : Known C) → get_elem? views i ≡ some v → all_parts (set views i w) + v.parts ≡ all_parts views + w.parts
 parts_less [] i v w e = absurd (some-ne-none v (sym e))
@@ -48,11 +49,12 @@ module _ {C : Type 0} (m : Meaning C) (key : C) where
     rest = f.rest;
     begins = f.begins;
     others = own_nobody f.rest;
+    leaves = λ e c. nothing_held e.event e.reply;
     named = λ n h. cc;
     are_open = λ hold c. absurd (omega (arith, c.1));
     strangers = tt;
     kept = λ told. refl;
-    joined = λ x c. absurd (omega (arith, c.1));
+    joined = λ one other is. cc;
   }
 
   less_fits : (es : List Entry) (core : C) (v : K) → 2 ≤ v.parts → Fits m key es core v → Fits m key es core (one_less v)
@@ -62,6 +64,7 @@ module _ {C : Type 0} (m : Meaning C) (key : C) where
     rest = f.rest;
     begins = f.begins;
     others = f.others;
+    leaves = f.leaves;
     named = f.named;
     are_open = f.are_open;
     strangers = f.strangers;
@@ -145,11 +148,12 @@ module _ {C : Type 0} (m : Meaning C) (key : C) where
       rest = [];
       begins = refl;
       others = refl;
+      leaves = λ e c. absurd (omega (arith, c.1));
       named = λ n h. cc;
       are_open = λ hold c. absurd (omega (arith, c.1));
       strangers = tt;
       kept = λ told. refl;
-      joined = λ x c. absurd (omega (arith, c.1));
+      joined = λ one other is. cc;
     };
     two = λ i j v w apart e f. absurd (apart (at_zero i v e ∙ sym (at_zero j w f)));
     parts = refl;

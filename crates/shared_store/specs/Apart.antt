@@ -6,11 +6,12 @@ use Rattle.store_model.specs.Event.Event.{WritePiece}
 use Rattle.store_model.specs.Event.Reply.{Refused}
 use Rattle.store_model.specs.Event.Refusal.{Fault}
 use Rattle.store_model.specs.Fresh.{pin_of, job_of}
-use Rattle.store_model.specs.Holds.{Hold, opened, holds_after, files_of}
+use Rattle.store_model.specs.Holds.{Hold, ends, opened, holds_after, files_of}
 use Rattle.store_model.specs.Holds.Hold.{OpenLook, OpenFlush, OpenCompact}
 use Rattle.store_model.specs.State.{is_among}
 use Rattle.store_model.specs.Told.{history_after, TellsLength}
 use Rattle.store_state.specs.Meaning.{View, Meaning, Called}
+use Rattle.port_history.specs.Entries.{Entry}
 
 -- the file that a job writes
 abbrev pub written_by : Hold → List ℕ
@@ -29,6 +30,16 @@ pub record AreStrangers (one other : Hold) : Type 0 where
 abbrev pub AllStrangers : List Hold → Type 0
 AllStrangers [] = Unit {0}
 AllStrangers (one ∷ others) = ((other : Hold) → Contains others other → AreStrangers one other) × AllStrangers others
+
+-- A call that ends none of these looks and jobs, and writes no file of them.
+pub record Leaves (holds : List Hold) (event : Event) (reply : Reply) : Type 0 where
+  pub ends_none : (hold : Hold) → Contains holds hold → ends event reply hold ≡ false
+  pub writes_none : (number file : ℕ) (bytes : List ℕ) → event ≡ WritePiece number file bytes
+      → (hold : Hold) → Contains holds hold → is_among file (files_of hold) ≡ false
+
+-- all these calls do so
+abbrev pub AllLeave : List Hold → List Entry → Type 0
+AllLeave holds entries = (e : Entry) → Contains entries e → Leaves holds e.event e.reply
 
 -- Nobody but its caller uses the port: each call changes the history just as its own reply says, what it opens is apart from all that
 -- was open, and once a piece wasn't written for a fault nothing is written any more.

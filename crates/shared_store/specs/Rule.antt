@@ -15,8 +15,8 @@ use Rattle.store_model.specs.State.{is_among}
 use Rattle.store_model.specs.Told.{TellsLength}
 use Rattle.store_state.specs.Meaning.{View, Meaning, IsOpen}
 use Rattle.port_history.specs.Entries.{Entry, history_from, own, open_from, AreEntries}
-use Rattle.shared_store.specs.Seen.{GoesOn, joined_names, longer, some_fails, nothing_seen, kept_of, names_after, name_at}
-use Rattle.shared_store.specs.Apart.{AllStrangers, AreStrangers, IsUnshared, written_by}
+use Rattle.shared_store.specs.Seen.{AreJoined, Half, ShareNone, half_of, joined_names, longer, some_fails, nothing_seen, kept_of, names_after, name_at}
+use Rattle.shared_store.specs.Apart.{AllLeave, AllStrangers, AreStrangers, IsUnshared, written_by}
 use Rattle.shared_store.specs.declared.known.Known.{Known}
 
 -- ---- a view
@@ -28,15 +28,16 @@ pub record Fits {C : Type 0} (m : Meaning C) (key : C) (entries : List Entry) (c
   pub rest : List Entry
   pub begins : entries ≡ v.seen.entries ++ rest
   pub others : own v.seen.names rest ≡ []
+  pub leaves : AllLeave v.seen.holds rest
   pub named : (n : ℕ) → is_among n v.seen.names ≡ true → n < length entries
   pub are_open : (hold : Hold) → Contains v.seen.holds hold → Contains (open_from [] entries) hold
   pub strangers : AllStrangers v.seen.holds
   pub kept : IsTrue (m.tells key) → v.seen.kept ≡ kept_of (m.shows core) v.seen.holds
-  pub joined : (x : List ℕ × List Entry) → Contains v.seen.joined x → GoesOn x.0 x.1 v.seen.entries
+  pub joined : (one other : Half) → v.seen.joined ≡ Some (one, other) → AreJoined (m.tells key) one other v.seen
 
 -- Two seats share no name, and their looks and jobs are apart.
 pub record AreOfTwo {C : Type 0} (v w : Known C) : Type 0 where
-  pub names : (n : ℕ) → is_among n v.seen.names ≡ true → is_among n w.seen.names ≡ false
+  pub names : ShareNone v.seen.names w.seen.names
   pub holds : (one other : Hold) → Contains v.seen.holds one → Contains w.seen.holds other → AreStrangers one other
 
 -- The turn is free, the port at home, and no seat shows it; or one seat has the turn and shows the port.
@@ -77,7 +78,7 @@ split_off v = record {
   start = v.start;
   shown = None;
   parts = 1;
-  seen = record { entries = v.seen.entries; names = []; holds = []; kept = []; joined = [] };
+  seen = record { entries = v.seen.entries; names = []; holds = []; kept = []; joined = None };
 }
 
 abbrev pub one_less : {C : Type 0} → Known C → Known C
@@ -94,7 +95,7 @@ together v w = record {
     names = joined_names v.seen.names w.seen.names;
     holds = v.seen.holds ++ w.seen.holds;
     kept = v.seen.kept ++ w.seen.kept;
-    joined = (v.seen.names, v.seen.entries) ∷ (w.seen.names, w.seen.entries) ∷ [];
+    joined = Some (half_of v.seen, half_of w.seen);
   };
 }
 
@@ -103,9 +104,11 @@ abbrev pub spent_view : {C : Type 0} → Known C
 spent_view = record { start = None; shown = None; parts = 0; seen = nothing_seen }
 
 -- A look at the turn's word tells what the rule knows of two seats that were made one.
-abbrev pub recalled : {C : Type 0} → Step (Option C) → Me (Option C) (Known C) → ℕ → Me (Option C) (Known C) → Type 0
-recalled step me n after =
-    (after ≡ me) × ((x : List ℕ × List Entry) → Contains me.0.seen.joined x → GoesOn x.0 x.1 me.0.seen.entries)
+abbrev pub recalled : {C : Type 0} → Meaning C → Step (Option C) → Me (Option C) (Known C) → ℕ → Me (Option C) (Known C) → Type 0
+recalled {C} m step me n after =
+    (after ≡ me)
+    × ((key : C) (one other : Half) → me.0.start ≡ Some key → me.0.seen.joined ≡ Some (one, other)
+    → AreJoined (m.tells key) one other me.0.seen)
 
 -- ---- the turn
 
@@ -172,6 +175,8 @@ pub record IsAppended {C : Type 0} (m : Meaning C) (key : C) (event : Event) (re
   pub its_name : entry.seat ≡ name_at (length (v.seen.entries ++ between)) v.seen.names
   pub seen : w.seen.entries ≡ (v.seen.entries ++ between) ++ entry ∷ []
   pub others : own v.seen.names between ≡ []
+  pub leaves : AllLeave v.seen.holds between
+  pub earlier : AreEntries m key (v.seen.entries ++ between) before
   pub names : w.seen.names ≡ names_after (length (v.seen.entries ++ between)) v.seen.names
   pub mine : own w.seen.names w.seen.entries ≡ own v.seen.names v.seen.entries ++ entry ∷ []
   pub holds : w.seen.holds ≡ holds_after event reply v.seen.holds

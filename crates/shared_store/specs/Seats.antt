@@ -1,5 +1,5 @@
 -- What a seat shows as a port.
-use Rattle.std.specs.Prelude.{◌≡◌, ℕ, ◌+◌, Bool, true, false, List, [], ◌∷◌, ◌++◌, Contains, Option, Some, None, if◌then◌else◌, length}
+use Rattle.std.specs.Prelude.{◌≡◌, ℕ, ◌+◌, Bool, true, false, List, [], ◌∷◌, ◌++◌, Contains, Option, Some, None, if◌then◌else◌, length, IsTrue}
 use Rattle.atomic_table.specs.Seated.{TableId}
 use Rattle.store_model.specs.Event.{Event, Reply}
 use Rattle.store_model.specs.Event.Event.{Push, BeginFlush, BeginCompact, WritePiece, CommitFlush, CommitCompact, Reclaim}
@@ -7,9 +7,10 @@ use Rattle.store_model.specs.Event.Reply.{Count, Nothing, Refused}
 use Rattle.store_model.specs.Event.Refusal.{Fault}
 use Rattle.store_model.specs.Holds.{Hold}
 use Rattle.store_state.specs.Calls.{reclaim_calls}
-use Rattle.store_state.specs.Meaning.{View, Meaning, IsOpen, reads_of}
+use Rattle.store_state.specs.Meaning.{View, Meaning, Called, IsOpen, reads_of}
 use Rattle.port_history.specs.Entries.{Entry, own, history_from, AreEntries}
-use Rattle.shared_store.specs.Seen.{bytes_in, kept_of, name_at, names_after, some_fails}
+use Rattle.shared_store.specs.Apart.{AllLeave}
+use Rattle.shared_store.specs.Seen.{SameBytes, bytes_in, kept_of, name_at, names_after, some_fails}
 use Rattle.shared_store.specs.declared.known.Known.{Known}
 
 -- the calls that the seat itself has made, in their order
@@ -75,9 +76,14 @@ pub record Stand (C : Type 0) : Type 0 where
 abbrev pub stand_of : {C : Type 0} → TableId → Known C → Stand C
 stand_of table known = record { table = table; known = known }
 
+-- Where bytes are told, the second shows of the files of what the first holds the bytes that the first shows.
+abbrev pub ShowsStill : {C : Type 0} → Meaning C → Stand C → Stand C → Type 0
+ShowsStill m v w = IsTrue (told_by m w.known.start) → SameBytes v.known.seen.holds v.known.seen.kept w.known.seen.kept
+
 -- There is one order of all calls, up to this one: it begins with what the seat had seen, in between there is none of the seat's own,
 -- and it ends with this call and this reply. They are calls of the port as it was when it was first shared, and what the seat holds is
--- open in the port that they left, whose bytes it shows.
+-- open in the port that they left, whose bytes it shows. Those in between ended nothing that the seat held and wrote no file of it: the
+-- call found it open, with the bytes that the seat showed.
 pub record SeatDid {C : Type 0} (m : Meaning C) (v : Stand C) (event : Event) (reply : Reply) (w : Stand C) : Type 0 where
   pub same_table : w.table ≡ v.table
   pub key : C
@@ -93,7 +99,13 @@ pub record SeatDid {C : Type 0} (m : Meaning C) (v : Stand C) (event : Event) (r
   pub seen : w.known.seen.entries ≡ (v.known.seen.entries ++ between) ++ entry ∷ []
   pub others : own v.known.seen.names between ≡ []
   pub mine : calls_of w.known ≡ calls_of v.known ++ entry ∷ []
+  pub leaves : AllLeave v.known.seen.holds between
+  pub before : C
+  pub earlier : AreEntries m key (v.known.seen.entries ++ between) before
+  pub were_open : (hold : Hold) → Contains v.known.seen.holds hold → IsOpen m before hold
+  pub had : IsTrue (m.tells key) → v.known.seen.kept ≡ kept_of (m.shows before) v.known.seen.holds
   pub core : C
+  pub called : Called m before event reply core
   pub made : AreEntries m key w.known.seen.entries core
   pub are_open : (hold : Hold) → Contains w.known.seen.holds hold → IsOpen m core hold
   pub kept : w.known.seen.kept ≡ kept_of (m.shows core) w.known.seen.holds

@@ -1,12 +1,20 @@
 -- What a seat has seen.
-use Rattle.std.specs.Prelude.{◌≡◌, ℕ, List, [], ◌∷◌, ◌++◌, length, map, Bool, true, false, ◌||◌, if◌then◌else◌, ◌==◌, nat_le}
+use Rattle.std.specs.Prelude.{◌≡◌, ℕ, List, [], ◌∷◌, ◌++◌, length, map, Bool, true, false, ◌||◌, if◌then◌else◌, ◌==◌, nat_le, Option, None, IsTrue}
 use Rattle.std.specs.List.{flat_map}
 use Rattle.store_model.specs.Event.{Event, Reply}
 use Rattle.store_model.specs.Event.Event.{WritePiece}
 use Rattle.store_model.specs.Event.Reply.{Refused}
 use Rattle.store_model.specs.Event.Refusal.{Fault}
 use Rattle.store_model.specs.Holds.{Hold, files_of}
+use Rattle.store_model.specs.State.{is_among}
 use Rattle.port_history.specs.Entries.{Entry, own}
+
+-- What one of two seats had when they were made one: its calls, names, looks and jobs, and their files.
+pub record Half : Type 0 where
+  pub entries : List Entry
+  pub names : List ℕ
+  pub holds : List Hold
+  pub kept : List (ℕ × List ℕ)
 
 pub record Seen : Type 0 where
   -- all calls up to its own last one, and what it has been told of besides
@@ -17,11 +25,11 @@ pub record Seen : Type 0 where
   pub holds : List Hold
   -- the files of these, with their bytes
   pub kept : List (ℕ × List ℕ)
-  -- of two seats that were made this one since its last call: the names and the calls that each had seen
-  pub joined : List (List ℕ × List Entry)
+  -- the two seats of which it was made, if that was since its last call
+  pub joined : Option (Half × Half)
 
 abbrev pub nothing_seen : Seen
-nothing_seen = record { entries = []; names = []; holds = []; kept = []; joined = [] }
+nothing_seen = record { entries = []; names = []; holds = []; kept = []; joined = None }
 
 -- a file with its bytes
 abbrev pub with_bytes : (ℕ → List ℕ) → ℕ → ℕ × List ℕ
@@ -51,6 +59,26 @@ pub record GoesOn (names : List ℕ) (seen entries : List Entry) : Type 0 where
   pub begins : entries ≡ seen ++ later
   pub others : own names later ≡ []
   pub mine : own names entries ≡ own names seen
+
+-- No name is among both.
+abbrev pub ShareNone : List ℕ → List ℕ → Type 0
+ShareNone names others = (n : ℕ) → is_among n names ≡ true → is_among n others ≡ false
+
+-- The files of these looks and jobs have the bytes that they had.
+abbrev pub SameBytes : List Hold → List (ℕ × List ℕ) → List (ℕ × List ℕ) → Type 0
+SameBytes holds old new = (file : ℕ) → is_among file (flat_map files_of holds) ≡ true → bytes_in new file ≡ bytes_in old file
+
+-- Of two seats that were made one: they shared no name, its history goes on with that of each, and where bytes are told it shows
+-- what each showed.
+pub record AreJoined (told : Bool) (one other : Half) (seen : Seen) : Type 0 where
+  pub apart : ShareNone one.names other.names
+  pub first : GoesOn one.names one.entries seen.entries
+  pub second : GoesOn other.names other.entries seen.entries
+  pub shows_first : IsTrue told → SameBytes one.holds one.kept seen.kept
+  pub shows_second : IsTrue told → SameBytes other.holds other.kept seen.kept
+
+abbrev pub half_of : Seen → Half
+half_of s = record { entries = s.entries; names = s.names; holds = s.holds; kept = s.kept }
 
 -- the longer of two
 abbrev pub longer : List Entry → List Entry → List Entry

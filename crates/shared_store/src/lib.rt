@@ -7,6 +7,7 @@
 mod asked;
 mod cores;
 mod flush_port;
+mod held;
 mod known;
 mod look_port;
 mod plays;
@@ -16,7 +17,10 @@ mod shared;
 mod ticket;
 mod turn;
 
-pub use cores::{Seat, Shared, Ticket, a_core_is_unshared, entries_of_a_core_are_legal};
+pub use cores::{
+    Seat, Shared, Ticket, a_core_crosses, a_core_is_unshared, entries_of_a_core_are_legal,
+};
+pub use held::{a_call_leaves_what_others_hold, others_leave_what_is_held};
 pub use known::{Known, Past, Turns};
 pub use seat::PortSeat;
 pub use shared::SharedPort;

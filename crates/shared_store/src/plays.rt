@@ -71,6 +71,6 @@ impl<Q> Join<Known<Q>> for Together {
 // What two seats that were made one had seen.
 pub(crate) struct Recall;
 
-impl<Q> Play<Option<Q>, Known<Q>> for Recall {
-    ghost then = { recalled };
+impl<Q: LookPort> Play<Option<Q>, Known<Q>> for Recall {
+    ghost then = { recalled Q.meaning };
 }

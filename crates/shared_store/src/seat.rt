@@ -2,8 +2,8 @@
 ghost use Rattle.std.specs.Prelude.{◌≡◌, ◌≤◌, IfOk, IsOk};
 ghost use Rattle.shared_store.specs.Idle.{IsOf};
 ghost use Rattle.shared_store.specs.Rule.{one_less, split_off, together};
-ghost use Rattle.shared_store.specs.Seats.{stand_of};
-ghost use Rattle.shared_store.specs.Seen.{GoesOn};
+ghost use Rattle.shared_store.specs.Seats.{ShowsStill, stand_of};
+ghost use Rattle.shared_store.specs.Seen.{GoesOn, ShareNone};
 
 use crate::plays::{Off, Recall, Together};
 use crate::shared::SharedPort;
@@ -82,8 +82,11 @@ impl<'a, Q: LookPort, R> PortSeat<'a, Q, R> {
     pub fn join(self, other: PortSeat<'a, Q, R>) -> PortSeat<'a, Q, R>
         requires { other.table ≡ self.table }
         ensures both { result ≡ stand_of self.entry.table (together self.entry.known other.entry.known) }
+        ensures apart { ShareNone self.entry.known.seen.names other.entry.known.seen.names }
         ensures first { GoesOn self.entry.known.seen.names self.entry.known.seen.entries result.known.seen.entries }
         ensures second { GoesOn other.entry.known.seen.names other.entry.known.seen.entries result.known.seen.entries }
+        ensures shows_first { ShowsStill Q.meaning self.entry result }
+        ensures shows_second { ShowsStill Q.meaning other.entry result }
     {
         let PortSeat { rt, top, place } = self;
         let PortSeat {
