@@ -45,3 +45,13 @@ same_store_all m v w (c ∷ cs) made =
 -- A seat stays one of its store.
 pub stays_of : {C : Type 0} (m : Meaning C) (store : Store C) (v w : Stand C) → IsOf store v → GoesTo (seat_meaning m) v w → IsOf store w
 stays_of m store v w is goes = let same = same_store_all m v w goes.0 goes.1 in (same.0 ∙ is.0, same.1 ∙ is.1)
+
+-- What a seat says is open in it.
+pub says : {C : Type 0} (m : Meaning C) (v : Stand C) → (held : List Hold) × (seat_meaning m).holds v held
+says m v = (v.known.seen.holds, refl)
+
+-- A ticket that was entered, used and left is one of its store.
+pub left_of : {C : Type 0} (m : Meaning C) (store : Store C) (ticket seat used left : Stand C) → IsOf store ticket → seat ≡ ticket → GoesTo (seat_meaning m) seat used → left ≡ used
+    → IsOf store left
+left_of m store ticket seat used left is entered goes same =
+    subst (λ (v : Stand _). IsOf store v) (sym same) (stays_of m store seat used (subst (λ (v : Stand _). IsOf store v) (sym entered) is) goes)

@@ -5,4 +5,10 @@
 #[cfg(test)]
 mod batches;
 #[cfg(test)]
+mod failing;
+#[cfg(test)]
+mod flushing;
+#[cfg(test)]
 mod pushing;
+#[cfg(test)]
+mod upkeep;

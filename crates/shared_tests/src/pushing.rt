@@ -142,12 +142,12 @@ pub(crate) fn pushed<R: Threads + Wait + Sync>(
     pushed_by_two(rt, alloc, core, asked)
 }
 
-fn looked<P: LookPort>(port: &mut P) -> Result<Look, Memory> {
+pub(crate) fn looked<P: LookPort>(port: &mut P) -> Result<Look, Memory> {
     port.look()
 }
 
 // Whether the numbers of both are those from 0 on, each once.
-fn are_all(alloc: Global, one: &Told, other: &Told) -> Result<bool, Memory> {
+pub(crate) fn are_all(alloc: Global, one: &Told, other: &Told) -> Result<bool, Memory> {
     let mut numbers = Vec::new(alloc);
     numbers.extend_from_slice(one.numbers.as_slice())?;
     numbers.extend_from_slice(other.numbers.as_slice())?;
