@@ -212,8 +212,8 @@ metrics_start=0_end=1_step=1_{_rate_=_1_}_|_rate() => refused bad-query unexpect
 metrics_start=0_end=1_step=1_{_name_=_1_}_|_rate() => refused bad-type kind-clash at=7
 metrics_start=0_end=1_step=1_{_.a_=~_"x"_}_|_rate()_by_(.b_=~_"y") => refused pattern-too-big at=33
 metrics_start=1970-01-01T00:00:00Z_end=10_step=04_{_}_|_rate() => metrics rate 0 10 4 0 { }
-metrics_start=0_end=1_step=18446744073709551615_{_.a_=~_"x"_}_|_rate()_by_(name) => metrics rate 0 1 18446744073709551615 1 { .a =~ "x" } | by(name)
-search_{_}_|_rate() => refused bad-query unexpected at=6
+metrics_start=0_end=1_step=18446744073709551615_{_.a_=~_"x"_}_|_rate()_by_(name) => metrics rate 0 1 18446744073709551615 1 { .a =~ "x" } | by (name)
+search_{_}_|_rate() => refused bad-query bad-char at=6
 "#;
 
 fn check_line(rt: &(impl Abort + AllocGlobal), line: &[u8], wanted: &str) -> Result<(), Memory> {
