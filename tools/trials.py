@@ -9,14 +9,16 @@ import re
 import resource
 import shutil
 import subprocess
+from collections import Counter
 from dataclasses import dataclass
 from typing import Callable, Dict, List, Optional, Sequence
 
 TOP = os.path.dirname(os.path.dirname(os.path.realpath(__file__)))
 PROGRAM = f"{TOP}/crates/vurnda/out/vurnda"
 Files = Dict[str, bytes]
-FINE, FAULT, NO_STORE, NO_MEMORY, REFUSED = 0, 4, 5, 6, 7
+FINE, OUTPUT, INPUT, FAULT, NO_STORE, NO_MEMORY, REFUSED = 0, 1, 3, 4, 5, 6, 7
 MEMORY = "refused memory"
+MOST_TOLD = 20
 # The replies of docs/LINE-PROTOCOL.md; # stands for a number.
 FORMS = """ok push # accepted=# rejected=# skipped=#|ok trace as_of=# spans=# {.*}|ok search as_of=# traces=# {.*}
 ok metrics as_of=# series=# {.*}|ok (cut|cutall) moved=#|ok flush (rows=#|nothing)|ok compact (blocks=# rows=#|nothing)
@@ -57,8 +59,9 @@ def run(words: Sequence[str], lines: Sequence[str], seconds: float, before: Call
                not text or text.endswith("\n"), said.decode(errors="replace"))
 
 
-def why_not_documented(ran: Ran, asked: int) -> Optional[str]:
-    """Why a session of so many lines didn't end and answer as docs/LINE-PROTOCOL.md says; None if it did."""
+def why_not_documented(ran: Ran, asked: int, streams: Sequence[int] = ()) -> Optional[str]:
+    """Why a session of so many lines didn't end and answer as docs/LINE-PROTOCOL.md says; None if it did. `streams` are the statuses
+    that say that a standard stream failed, if one may."""
     if ran.status is None:
         return f"it had not ended in time, after {len(ran.replies)} replies"
     if ran.status < 0:
@@ -77,10 +80,36 @@ def why_not_documented(ran: Ran, asked: int) -> Optional[str]:
         REFUSED: len(ran.replies) == asked and any(it != MEMORY for it in refusals),
         NO_MEMORY: len(ran.replies) < asked or (refusals and all(it == MEMORY for it in refusals)),
         FAULT: not ran.replies,
+        **{status: len(ran.replies) <= asked for status in streams},
     }
     if not fits.get(ran.status):
         return f"status {ran.status} with {len(ran.replies)} of {asked} replies, {len(refusals)} of them refusals"
     return None
+
+
+class Tally:
+    """What came of the trials: it prints the first ones that failed, and counts by kind."""
+
+    def __init__(self) -> None:
+        self.passed, self.failed = 0, 0
+        self.kinds: Dict[str, Counter] = {}
+
+    def add(self, of: str, what: str, kind: str, why: Optional[str]) -> None:
+        self.kinds.setdefault(of, Counter())[kind] += 1
+        self.passed, self.failed = self.passed + (why is None), self.failed + (why is not None)
+        if why and self.failed <= MOST_TOLD:
+            print(f"FAILED {of}, {what}: {why[:500]}", flush=True)
+
+    def tell(self) -> None:
+        """Prints the counts since the last time."""
+        for of, counts in self.kinds.items():
+            print(f"{of}: " + ", ".join(f"{count} {kind}" for kind, count in counts.most_common()), flush=True)
+        self.kinds = {}
+
+    def end(self) -> int:
+        """Prints the last line, and gives the exit status."""
+        print(f"{self.passed} passed, {self.failed} failed")
+        return 1 if self.failed else 0
 
 
 # ---- files
