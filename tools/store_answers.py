@@ -1,4 +1,5 @@
-"""What the files of a trace store answer to a look-up, by docs/*-FORMAT.md and docs/OTLP.md, without the program.
+"""What the files of a trace store answer to a look-up and to a few counts, by docs/*-FORMAT.md, docs/OTLP.md and docs/TRACEQL.md,
+without the program.
 
 Nothing here is proved, and nothing here is the program's code: it is a second reading of the same pages, as tools/inspect is.
 Each file that the list names has to be well formed.
@@ -7,14 +8,31 @@ from __future__ import annotations
 
 import json
 from dataclasses import dataclass
+from functools import lru_cache
 from itertools import groupby
-from typing import Dict, List
+from typing import Callable, Dict, List
 
 from block_format import check_block
 from store_format import TEXT, WHOLE, Attributes, Row, Scope, SegmentFacts, Span, newer, read_segment, read_slot
 from store_report import Folder
 
 VALUES = {TEXT: "stringValue", WHOLE: "intValue"}
+LAST = 2**64 - 1
+COUNTED = f"metrics start=0 end={LAST} step={LAST} "
+# Queries of which the pages say at once which spans they select: by columns, by texts, and by values that every row has to be made for.
+QUERIES: Dict[str, Callable[[Span], bool]] = {
+    "{ }": lambda it: True,
+    "{ status = error && kind = server }": lambda it: (it.status, it.kind) == (2, 2),
+    "{ duration > 500ms }": lambda it: 5 * 10**8 < it.end - it.start < 2**63,
+    '{ name = "bank" }': lambda it: it.name == "bank",
+    '{ resource.service.name = "svc-1" }': lambda it: ("service.name", TEXT, "svc-1") in it.resource,
+    "{ span.code > 100 }": lambda it: any(key == "code" and kind == WHOLE and value > 100 for key, kind, value in it.attrs),
+}
+
+
+def counts() -> List[str]:
+    """The queries, each as a line that asks how many spans it selects."""
+    return [f"{COUNTED}{query} | count_over_time()" for query in QUERIES]
 
 
 @dataclass
@@ -24,11 +42,28 @@ class Stored:
     pushes: int
     traces: Dict[bytes, Dict[bytes, Row]]
 
-    def reply(self, trace: str) -> str:
-        """The reply to `trace ID`."""
-        spans = [row.span for row in self.traces.get(bytes.fromhex(trace), {}).values()]
+    def reply(self, question: str) -> str:
+        """The reply to `trace ID`, or to one of the queries that are counted."""
+        if question.startswith(COUNTED):
+            return self.count(QUERIES[question[len(COUNTED) :].removesuffix(" | count_over_time()")])
+        spans = [row.span for row in self.traces.get(bytes.fromhex(question.split()[1]), {}).values()]
         spans.sort(key=lambda it: (it.start, it.id))
         return f"ok trace as_of={self.pushes} spans={len(spans)} {text_of(spans)}"
+
+    def count(self, holds: Callable[[Span], bool]) -> str:
+        spans = [row.span for rows in self.traces.values() for row in rows.values()]
+        found = sum(holds(it) for it in spans if it.start < LAST)
+        series = [{"by": [], "values": [{"intValue": str(found)}]}] if found else []
+        text = json.dumps({"series": series}, separators=(",", ":"))
+        return f"ok metrics as_of={self.pushes} series={len(series)} {text}"
+
+
+@lru_cache(maxsize=16)
+def rows_of(block: bytes, listed: int) -> List[Row]:
+    """The rows of a block. Those that were read last are known."""
+    rows: List[Row] = []
+    check_block(block, listed, rows.append)
+    return rows
 
 
 def stored(path: str) -> Stored:
@@ -47,7 +82,8 @@ def stored(path: str) -> Stored:
         return found
     body = lists[counting]
     for block in body.blocks:
-        check_block(folder.read(block.file), block.rows, keep)
+        for row in rows_of(folder.read(block.file), block.rows):
+            keep(row)
     for segment in body.segments:
         facts = SegmentFacts(segment.first)
         read_segment(folder.read(segment.file), facts, lambda row: keep(row) if row.push >= body.floor else None)

@@ -107,8 +107,8 @@ class Store:
 
     def answer(self, line):
         word, _, rest = line.partition(" ")
-        if word == "trace":
-            return self.held.reply(rest)
+        if word in ("trace", "metrics"):
+            return self.held.reply(line)
         if self.faults and word in ("compact", "reclaim"):
             return f"refused read-only faults={self.faults}"
         answers = {"cutall": "ok cutall moved=0", "compact": "ok compact nothing", "reclaim": "ok reclaim files=0"}

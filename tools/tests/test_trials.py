@@ -55,13 +55,13 @@ class Answers(unittest.TestCase):
                 held = store_answers.stored(folder)
                 for line, reply in zip(asked, told):
                     if line.startswith("trace ") and f"as_of={len(pushes)} " in reply:
-                        self.assertEqual(held.reply(line.split()[1]), reply)
+                        self.assertEqual(held.reply(line), reply)
 
     def test_the_first_copy_counts(self) -> None:
         spans = [[writer.span(1, name="b")], [writer.span(1, name="a"), writer.span(1, 0xB2)]]
         with tempfile.TemporaryDirectory() as folder:
             writer.write(folder, {0: writer.slot(0, 3, 0, [(2, 0)]), 2: writer.segment(0, spans)})
-            reply = store_answers.stored(folder).reply(f"{1:032x}")
+            reply = store_answers.stored(folder).reply(f"trace {1:032x}")
         self.assertTrue(reply.startswith("ok trace as_of=2 spans=2 "))
         self.assertEqual(re.findall('"name":"(.)"', reply), ["b"])
 
