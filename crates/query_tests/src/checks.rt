@@ -3,7 +3,6 @@
 use span_types::Calls;
 use std::alloc::{AllocError, Global};
 use std::process::Abort;
-use std::test::Fail;
 use traceql_parse::parse;
 use traceql_types::{
     PatternMaker, Patterns, RegexMaker, ScriptedMaker, TypeError, check, checked_crosses,
@@ -47,19 +46,14 @@ fn outcome<P: PatternMaker>(
     Ok(out)
 }
 
-fn check_rows(rt: &(impl Abort + AllocGlobal), rows: &str) -> Result<(), AllocError> {
-    let mut maker = RegexMaker::new(rt.alloc());
-    for row in rows.lines() {
-        if let Some((text, wanted)) = row.split_once(" => ") {
-            let got = outcome(rt.alloc(), text, &mut maker)?;
-            assert!(rt; got.as_str() == wanted, "{text} gives {got}");
-        }
-    }
-    Ok(())
+/// Compares what the check of a row's query answers with what the row says.
+fn check_row<P: PatternMaker>(rt: &(impl Abort + AllocGlobal), row: &str, maker: &mut P) {
+    let (text, wanted) = row.split_once(" => ").expect(rt, row);
+    let got = outcome(rt.alloc(), text, maker).expect(rt, "memory");
+    assert!(rt; got.as_str() == wanted, "{text} gives {got}");
 }
 
-const INTRINSICS: &str = r#"
-{ name = "a" && name = 1 } => kind-clash 21
+const INTRINSICS: &str = r#"{ name = "a" && name = 1 } => kind-clash 21
 { span:name = "a" && span:name = 1 } => kind-clash 31
 { statusMessage = "a" && statusMessage = 1 } => kind-clash 39
 { span:statusMessage = "a" && span:statusMessage = 1 } => kind-clash 49
@@ -80,11 +74,9 @@ const INTRINSICS: &str = r#"
 { span:status = unset && span:status = 1 } => kind-clash 37
 { kind = server && kind = 1 } => kind-clash 24
 { span:kind = internal && span:kind = 1 } => kind-clash 36
-{ .a = 1 && .a = "a" && .a = true && .a = ok && .a = server && .a } => fine
-"#;
+{ .a = 1 && .a = "a" && .a = true && .a = ok && .a = server && .a } => fine"#;
 
-const COMPARISONS: &str = r#"
-{ } => fine
+const COMPARISONS: &str = r#"{ } => fine
 { true = false } => fine
 { 2 ^ 3 ^ 2 = 512 } => fine
 { 1 < 1s && "a" <= "b" && .a > .b && .a >= 1 } => fine
@@ -118,11 +110,9 @@ const COMPARISONS: &str = r#"
 { kind !~ "a" } => kind-clash 7
 { name =~ "a" !~ "b" } => kind-clash 14
 { nil =~ "a" } => kind-clash 2
-{ (nil) !~ "a" } => kind-clash 3
-"#;
+{ (nil) !~ "a" } => kind-clash 3"#;
 
-const OPERANDS: &str = r#"
-{ .a && ! .b || (.c = 1) } => fine
+const OPERANDS: &str = r#"{ .a && ! .b || (.c = 1) } => fine
 { 1 } => not-truth 2
 { ("a") } => not-truth 2
 { duration + 1 } => not-truth 2
@@ -156,11 +146,10 @@ const OPERANDS: &str = r#"
 { - (.a && .b) = 1 } => not-number 4
 { - nil = 1 } => kind-clash 4
 { nil + 1 = 1 } => kind-clash 2
-{ 1 * (nil) = 1 } => kind-clash 7
-"#;
+{ 1 * (nil) = 1 } => kind-clash 7"#;
 
-const STAGES: &str = r#"
-{ } | by(name) | by(.a / 2) | by(.a = nil) | select(.a , name) | coalesce() | count() > 1 => fine
+const STAGES: &str =
+    r#"{ } | by(name) | by(.a / 2) | by(.a = nil) | select(.a , name) | coalesce() | count() > 1 => fine
 { } | sum(duration) > 1s | avg(.a) < min(.b * 2 - 1) | max(- .a) = -1 => fine
 { } | by(nil) => kind-clash 9
 { } | by("a" + 1) => not-number 9
@@ -172,11 +161,9 @@ const STAGES: &str = r#"
 { } | sum(.a / 2) > 1 => division 13
 { } | avg(- (.a / 2) + 1) > 1 => division 16
 { } | min(1 ^ (1 / 2 / 3)) > 1 => division 17
-{ } | count() > max(.a * .b / 2) => division 28
-"#;
+{ } | count() > max(.a * .b / 2) => division 28"#;
 
-const SEVERAL: &str = r#"
-{ 1 && nil = nil } => not-truth 2
+const SEVERAL: &str = r#"{ 1 && nil = nil } => not-truth 2
 { nil = nil && 1 } => kind-clash 6
 { name + 1 = "a" } => not-number 2
 { true = name + 1 } => kind-clash 7
@@ -202,24 +189,25 @@ const SEVERAL: &str = r#"
 { name =~ "(" !~ "b" } => bad-pattern 10
 { name =~ "a" !~ "(" } => kind-clash 14
 { } | by(name =~ "*") | { 1 } => bad-pattern 17
-{ } | sum(name =~ "(") > 1 => not-number 10
-"#;
+{ } | sum(name =~ "(") > 1 => not-number 10"#;
+
+static TABLES: [&str; 5] = [INTRINSICS, COMPARISONS, OPERANDS, STAGES, SEVERAL];
 
 #[test]
-fn queries_are_checked_as_worked_out(rt: HostRuntime) -> Result<(), Fail> {
-    check_rows(&rt, INTRINSICS)?;
-    check_rows(&rt, COMPARISONS)?;
-    check_rows(&rt, OPERANDS)?;
-    check_rows(&rt, STAGES)?;
-    check_rows(&rt, SEVERAL)?;
+fn queries_are_checked_as_worked_out(rt: HostRuntime) {
+    let mut maker = RegexMaker::new(rt.alloc());
+    for table in &TABLES {
+        for row in table.lines() {
+            check_row(&rt, row, &mut maker);
+        }
+    }
     checked_crosses();
     patterns_in_order();
     refusals_are_counted();
-    Ok(())
 }
 
 /// The calls to refuse, counted from 1; a query; what its check answers; and the maker's refusals afterwards.
-const SCRIPTS: [(&[u64], &str, &str, u64); 8] = [
+static SCRIPTS: [(&[u64], &str, &str, u64); 8] = [
     (&[1], "{ name =~ \"a\" }", "too-big 10", 1),
     (&[2], "{ name =~ \"a\" }", "fine a", 0),
     (&[2], "{ name =~ \"a\" && .b !~ \"c\" }", "too-big 23", 1),
@@ -235,49 +223,55 @@ const SCRIPTS: [(&[u64], &str, &str, u64); 8] = [
     ),
 ];
 
-#[test]
-fn listed_calls_are_refused(rt: HostRuntime) -> Result<(), Fail> {
-    for (refused, text, wanted, refusals) in SCRIPTS {
-        let calls = Calls::of(Vec::from_slice(rt.alloc(), refused)?);
-        let mut maker = ScriptedMaker::new(rt.alloc(), calls);
-        let got = outcome(rt.alloc(), text, &mut maker)?;
-        assert!(&rt; got.as_str() == wanted, "{text} gives {got}");
-        assert_eq!(&rt; maker.refusals(), refusals, "{text}");
-    }
-    Ok(())
+/// What a query's check answers under a maker that refuses these calls, and how many it refused.
+fn scripted(alloc: Global, refused: &[u64], text: &str) -> Result<(String, u64), AllocError> {
+    let calls = Vec::from_slice(alloc, refused)?;
+    let mut maker = ScriptedMaker::new(alloc, Calls::of(calls));
+    let got = outcome(alloc, text, &mut maker)?;
+    Ok((got, maker.refusals()))
 }
 
 #[test]
-fn patterns_match_whole_texts(rt: HostRuntime) -> Result<(), Fail> {
-    let mut maker = RegexMaker::new(rt.alloc());
-    let mut made = Vec::new(rt.alloc());
-    made.push(maker.make("a|bc")?)?;
-    let patterns = Patterns::of(made);
-    assert_eq!(&rt; patterns.len(), 1);
-    for pattern in patterns.into_vec() {
-        let mut matcher = pattern.matcher(rt.alloc())?;
-        for (text, wanted) in [("a", true), ("bc", true), ("abc", false), ("", false)] {
-            assert_eq!(&rt; matcher.is_match(text), wanted, "{text}");
-        }
+fn listed_calls_are_refused(rt: HostRuntime) {
+    for (refused, text, wanted, refusals) in &SCRIPTS {
+        let (got, counted) = scripted(rt.alloc(), refused, text).expect(&rt, "memory");
+        assert!(&rt;
+            got.as_str() == *wanted && counted == *refusals,
+            "{text} gives {got}"
+        );
     }
-    assert_eq!(&rt; maker.refusals(), 0);
-    Ok(())
+}
+
+static MATCHED: [(&str, bool); 4] = [("a", true), ("bc", true), ("abc", false), ("", false)];
+
+#[test]
+fn patterns_match_whole_texts(rt: HostRuntime) {
+    let mut maker = RegexMaker::new(rt.alloc());
+    let pattern = maker.make("a|bc").expect(&rt, "a pattern");
+    let mut matcher = pattern.matcher(rt.alloc()).expect(&rt, "memory");
+    for (text, wanted) in &MATCHED {
+        assert!(&rt; matcher.is_match(text) == *wanted, "{text}");
+    }
+    assert!(&rt; maker.refusals() == 0);
+}
+
+/// What the check of a query with a pattern under 260 brackets answers.
+fn of_brackets<P: PatternMaker>(alloc: Global, maker: &mut P) -> Result<String, AllocError> {
+    let (open, close) = ("(".repeat(alloc, 260)?, ")".repeat(alloc, 260)?);
+    let text = format!(in alloc; "{{ name =~ `{open}a{close}` }}")?;
+    outcome(alloc, text.as_str(), maker)
 }
 
 #[test]
-fn large_and_deep_patterns_are_refused(rt: HostRuntime) -> Result<(), Fail> {
+fn large_and_deep_patterns_are_refused(rt: HostRuntime) {
     let mut maker = RegexMaker::new(rt.alloc());
-    let large = outcome(
-        rt.alloc(),
-        "{ .a && name !~ `(\\w{200}){200}` }",
+    check_row(
+        &rt,
+        "{ .a && name !~ `(\\w{200}){200}` } => too-big 16",
         &mut maker,
-    )?;
-    assert_eq!(&rt; large.as_str(), "too-big 16");
-    assert_eq!(&rt; maker.refusals(), 1);
-    let (open, close) = ("(".repeat(rt.alloc(), 260)?, ")".repeat(rt.alloc(), 260)?);
-    let text = format!(in rt.alloc(); "{{ name =~ `{}a{}` }}", open.as_str(), close.as_str())?;
-    let deep = outcome(rt.alloc(), text.as_str(), &mut maker)?;
-    assert_eq!(&rt; deep.as_str(), "bad-pattern 10");
-    assert_eq!(&rt; maker.refusals(), 1);
-    Ok(())
+    );
+    assert!(&rt; maker.refusals() == 1);
+    let deep = of_brackets(rt.alloc(), &mut maker).expect(&rt, "memory");
+    assert!(&rt; deep.as_str() == "bad-pattern 10");
+    assert!(&rt; maker.refusals() == 1);
 }

@@ -1,13 +1,14 @@
 //! Texts, and the metrics query that each is read as, or its refusal and the offset: worked out by hand.
 
 use crate::queries::refusal;
-use span_types::Text;
-use std::test::Fail;
+use span_types::{Memory, Text};
+use std::alloc::Global;
 use traceql_parse::{one_metrics_query, parse_metrics};
 use traceql_print::print_query;
+use traceql_syntax::MetricsQuery;
 
 /// A text; whether it asks for a rate; and the printed form of the query that is run, or the refusal.
-const READ: [(&str, bool, &str); 17] = [
+static READ: [(&str, bool, &str); 17] = [
     ("{ } | rate()", true, "{ }"),
     ("{}|count_over_time()", false, "{ }"),
     ("{ } | rate() by (name)", true, "{ } | by (name)"),
@@ -39,22 +40,27 @@ const READ: [(&str, bool, &str); 17] = [
     ),
 ];
 
+/// Whether a text asks for a rate, and the printed form of the query that is run, or the refusal.
+fn read(alloc: Global, text: &str) -> Result<(bool, Text), Memory> {
+    match parse_metrics(alloc, text) {
+        Ok(metrics) => Ok((metrics.rate, printed(alloc, metrics)?)),
+        Err(error) => Ok((false, Text::of(refusal(alloc, error)?))),
+    }
+}
+
+fn printed(alloc: Global, metrics: MetricsQuery) -> Result<Text, Memory> {
+    print_query(alloc, &metrics.into_query()?)
+}
+
 #[test]
-fn metrics_queries_are_read_as_worked_out(rt: HostRuntime) -> Result<(), Fail> {
+fn metrics_queries_are_read_as_worked_out(rt: HostRuntime) {
     one_metrics_query();
-    for (text, rate, wanted) in READ {
-        let (is_rate, got) = match parse_metrics(rt.alloc(), text) {
-            Ok(metrics) => (
-                metrics.rate,
-                print_query(rt.alloc(), &metrics.into_query()?)?,
-            ),
-            Err(error) => (false, Text::of(refusal(rt.alloc(), error)?)),
-        };
+    for (text, rate, wanted) in &READ {
+        let (is_rate, got) = read(rt.alloc(), text).expect(&rt, "memory");
         assert!(&rt;
-            is_rate == rate && got.as_str() == wanted,
+            is_rate == *rate && got.as_str() == *wanted,
             "{text} gives {}",
             got.as_str()
         );
     }
-    Ok(())
 }

@@ -1,17 +1,15 @@
 //! Texts, and the printed form of the query that each is read as, or its refusal and the offset: worked out by hand.
 
-use span_types::{MOST_QUERY_BYTES, SpanKind, StatusCode, Text};
+use span_types::{MOST_QUERY_BYTES, Memory, SpanKind, StatusCode, Text};
 use std::alloc::{AllocError, Global};
 use std::process::Abort;
-use std::test::Fail;
 use traceql_parse::{ParseError, depth_is_nesting, one_query, parse};
 use traceql_print::{kind_word, print_field, print_query, printed_once, read_back, status_word};
 use traceql_syntax::{Field, Query, Stage, Threshold};
 use traceql_tokens::{AttributeScope, Intrinsic};
 
 /// Field expressions.
-const FIELDS: &str = r#"
-{ } => { }
+const FIELDS: &str = r#"{ } => { }
 {} => { }
 { true } => { true }
 { false } => { false }
@@ -93,12 +91,10 @@ const FIELDS: &str = r#"
 { .a || .b && .c } => { (.a || .b) && .c }
 { .a && .b || .c } => { (.a && .b) || .c }
 { .a || (.b && .c) } => { .a || (.b && .c) }
-{ .a = 1 && .b = 2 } => { (.a = 1) && (.b = 2) }
-"#;
+{ .a = 1 && .b = 2 } => { (.a = 1) && (.b = 2) }"#;
 
 /// Spansets and stages.
-const PIPELINES: &str = r#"
-{ } && { } => { } && { }
+const PIPELINES: &str = r#"{ } && { } => { } && { }
 { } || { } && { } => ({ } || { }) && { }
 { } > { } => { } > { }
 { } >> { } => { } >> { }
@@ -133,12 +129,10 @@ const PIPELINES: &str = r#"
 { } | sum(.a) >= - 1 => { } | sum (.a) >= - 1
 { } | count() < -1s => { } | count () < - 1000000000ns
 { } | sum(.a / 2) > count() => { } | sum (.a / 2) > count ()
-{ } | by(name) | coalesce() | { .a } => { } | by (name) | coalesce () | { .a }
-"#;
+{ } | by(name) | coalesce() | { .a } => { } | by (name) | coalesce () | { .a }"#;
 
 /// Refusals.
-const REFUSALS: &str = r#"
- => unended 0
+const REFUSALS: &str = r#" => unended 0
 { => unended 1
 { name => unended 6
 { name  => unended 7
@@ -189,12 +183,10 @@ $ => bad-char 0
 "a => unexpected 0
 {"a => unended 1
 {}|by("a => unended 6
-{"\x"} => bad-char 2
-"#;
+{"\x"} => bad-char 2"#;
 
 /// What the printed form settles: spaces, quotes, escapes, parentheses, units.
-const PRINTED: &str = r#"
-{ true} => { true }
+const PRINTED: &str = r#"{ true} => { true }
 {5}|{5ns} => { 5 } | { 5ns }
 { 1h1m1.5us } => { 3660000001500ns }
 { 007 = .a } => { 7 = .a }
@@ -224,12 +216,10 @@ const PRINTED: &str = r#"
 { } | select(.a,name,span."b c") => { } | select (.a , name , span."b c")
 { }|count()>-5 => { } | count () > - 5
 { } | max(.a *2)<=-1us => { } | max (.a * 2) <= - 1000ns
-{ } | avg(-.a) = sum(!.b) => { } | avg (- .a) = sum (! .b)
-"#;
+{ } | avg(-.a) = sum(!.b) => { } | avg (- .a) = sum (! .b)"#;
 
 /// Every operator beside its neighbours without a space.
-const NEIGHBOURS: &str = r#"
-{1<-1} => { 1 < - 1 }
+const NEIGHBOURS: &str = r#"{1<-1} => { 1 < - 1 }
 {1<!1} => { 1 < ! 1 }
 {(1)<(1)} => { 1 < 1 }
 {1<=-1} => { 1 <= - 1 }
@@ -417,8 +407,7 @@ const NEIGHBOURS: &str = r#"
 {}|count()>--1 => unexpected 12
 {}|count()>!1 => unexpected 11
 {}|select(,.a) => unexpected 10
-{}|select(.a,,.b) => unexpected 13
-"#;
+{}|select(.a,,.b) => unexpected 13"#;
 
 /// A refusal and its offset, as the tables write it.
 pub fn refusal(alloc: Global, error: ParseError) -> Result<String, AllocError> {
@@ -435,38 +424,42 @@ pub fn refusal(alloc: Global, error: ParseError) -> Result<String, AllocError> {
 }
 
 /// A text's query, printed, or why it is none.
-fn outcome(alloc: Global, text: &str) -> Result<Text, Fail> {
+fn outcome(alloc: Global, text: &str) -> Result<Text, Memory> {
     match parse(alloc, text) {
-        Ok(query) => Ok(print_query(alloc, &query)?),
+        Ok(query) => print_query(alloc, &query),
         Err(error) => Ok(Text::of(refusal(alloc, error)?)),
     }
 }
 
-/// Compares what each text of a table is with what its row says. What is printed is printed again as itself.
-fn check_rows(rt: &(impl Abort + AllocGlobal), rows: &str) -> Result<(), Fail> {
-    for row in rows.lines() {
-        if let Some((text, wanted)) = row.split_once(" => ") {
-            let got = outcome(rt.alloc(), text)?;
-            assert!(rt; got.as_str() == wanted, "{text} gives {}", got.as_str());
-            if let Ok(query) = parse(rt.alloc(), wanted) {
-                let read = read_back(rt.alloc(), &query)?;
-                let again = print_query(rt.alloc(), &read)?;
-                assert!(rt; again.as_str() == wanted, "{wanted}");
-            }
-        }
+/// Compares the printed form of a query's printed form with itself.
+fn check_again(rt: &(impl Abort + AllocGlobal), text: &str) {
+    if let Ok(query) = parse(rt.alloc(), text) {
+        let read = read_back(rt.alloc(), &query).expect(rt, text);
+        let again = print_query(rt.alloc(), &read).expect(rt, "memory");
+        assert!(rt; again.as_str() == text, "{text}");
     }
-    Ok(())
 }
 
+/// Compares what a row's text is with what the row says. What is printed is printed again as itself.
+fn check_row(rt: &(impl Abort + AllocGlobal), row: &str) {
+    let (text, wanted) = row.split_once(" => ").expect(rt, row);
+    let got = outcome(rt.alloc(), text).expect(rt, "memory");
+    assert!(rt; got.as_str() == wanted, "{text} gives {}", got.as_str());
+    check_again(rt, wanted);
+}
+
+static TABLES: [&str; 5] = [FIELDS, PIPELINES, REFUSALS, PRINTED, NEIGHBOURS];
+
 #[test]
-fn texts_are_read_and_printed_as_worked_out(rt: HostRuntime) -> Result<(), Fail> {
-    for rows in [FIELDS, PIPELINES, REFUSALS, PRINTED, NEIGHBOURS] {
-        check_rows(&rt, rows)?;
+fn texts_are_read_and_printed_as_worked_out(rt: HostRuntime) {
+    for table in &TABLES {
+        for row in table.lines() {
+            check_row(&rt, row);
+        }
     }
     one_query();
     printed_once();
     depth_is_nesting();
-    Ok(())
 }
 
 /// The offset of the number or duration that the first stage of a query compares with, and whether it is negative.
@@ -484,7 +477,7 @@ fn threshold_of(query: &Query) -> Option<(u64, bool)> {
 }
 
 /// Texts, and what `threshold_of` gives.
-const THRESHOLDS: [(&str, Option<(u64, bool)>); 4] = [
+static THRESHOLDS: [(&str, Option<(u64, bool)>); 4] = [
     ("{ } | count() > 12", Some((16, false))),
     ("{ } | count() > - 12", Some((18, true))),
     ("{ }|avg(duration)>=-5ms", Some((20, true))),
@@ -492,16 +485,15 @@ const THRESHOLDS: [(&str, Option<(u64, bool)>); 4] = [
 ];
 
 #[test]
-fn thresholds_keep_their_offsets(rt: HostRuntime) -> Result<(), Fail> {
-    for (text, wanted) in THRESHOLDS {
-        let query = parse(rt.alloc(), text)?;
-        assert!(&rt; threshold_of(&query) == wanted, "{text}");
+fn thresholds_keep_their_offsets(rt: HostRuntime) {
+    for (text, wanted) in &THRESHOLDS {
+        let query = parse(rt.alloc(), text).expect(&rt, text);
+        assert!(&rt; threshold_of(&query) == *wanted, "{text}");
     }
-    Ok(())
 }
 
 /// The text `before`, `part` so many times, and `after`; and what it is: its refusal, or nothing where it is a query.
-const LIMITS: [(&str, &str, u64, &str, &str); 10] = [
+static LIMITS: [(&str, &str, u64, &str, &str); 10] = [
     ("{ }", " ", MOST_QUERY_BYTES - 3, "", ""),
     ("{ }", " ", MOST_QUERY_BYTES - 2, "", "too-long 8193"),
     ("{ ", "(", 64, "1", "unended 67"),
@@ -514,37 +506,38 @@ const LIMITS: [(&str, &str, u64, &str, &str); 10] = [
     ("{ 1", "+1", 4000, " }", ""),
 ];
 
-#[test]
-fn the_limits_hold(rt: HostRuntime) -> Result<(), Fail> {
-    for (before, part, times, after, wanted) in LIMITS {
-        let mut text = String::from_str(rt.alloc(), before)?;
-        for _ in 0..times {
-            text.push_str(part)?;
-        }
-        text.push_str(after)?;
-        let got = match parse(rt.alloc(), text.as_str()) {
-            Ok(_) => String::new(rt.alloc()),
-            Err(error) => refusal(rt.alloc(), error)?,
-        };
-        assert!(&rt;
-            got.as_str() == wanted,
-            "{before}{part} {times} times gives {got}"
-        );
+/// Why a text is refused, or nothing.
+fn told(alloc: Global, text: &str) -> Result<String, AllocError> {
+    match parse(alloc, text) {
+        Ok(_) => Ok(String::new(alloc)),
+        Err(error) => refusal(alloc, error),
     }
-    Ok(())
 }
 
 #[test]
-fn fields_are_printed_as_worked_out(rt: HostRuntime) -> Result<(), Fail> {
-    let name = Text::of(String::from_str(rt.alloc(), "http status")?);
-    let quoted = print_field(
-        rt.alloc(),
-        &Field::Attribute(AttributeScope::Resource, name),
-    )?;
-    assert!(rt; quoted.as_str() == "resource.\"http status\"");
-    let intrinsic = print_field(rt.alloc(), &Field::Intrinsic(Intrinsic::SpanParentId))?;
-    assert!(rt; intrinsic.as_str() == "span:parentID");
-    assert!(rt; status_word(StatusCode::Fine).text() == "ok");
-    assert!(rt; kind_word(SpanKind::Consumer).text() == "consumer");
-    Ok(())
+fn the_limits_hold(rt: HostRuntime) {
+    for (before, part, times, after, wanted) in &LIMITS {
+        let middle = part
+            .repeat(rt.alloc(), *times as usize)
+            .expect(&rt, "memory");
+        let text = format!(in rt.alloc(); "{before}{middle}{after}").expect(&rt, "memory");
+        let got = told(rt.alloc(), text.as_str()).expect(&rt, "memory");
+        assert!(&rt;
+            got.as_str() == *wanted,
+            "{before}{part} {times} times gives {got}"
+        );
+    }
+}
+
+#[test]
+fn fields_are_printed_as_worked_out(rt: HostRuntime) {
+    let name = String::from_str(rt.alloc(), "http status").expect(&rt, "memory");
+    let field = Field::Attribute(AttributeScope::Resource, Text::of(name));
+    let quoted = print_field(rt.alloc(), &field).expect(&rt, "memory");
+    assert!(&rt; quoted.as_str() == "resource.\"http status\"");
+    let parent = Field::Intrinsic(Intrinsic::SpanParentId);
+    let intrinsic = print_field(rt.alloc(), &parent).expect(&rt, "memory");
+    assert!(&rt; intrinsic.as_str() == "span:parentID");
+    assert!(&rt; status_word(StatusCode::Fine).text() == "ok");
+    assert!(&rt; kind_word(SpanKind::Consumer).text() == "consumer");
 }

@@ -1,12 +1,13 @@
 //! The tokens of texts, worked out by hand.
 
-use std::test::Fail;
+use std::alloc::{AllocError, Global};
+use std::process::Abort;
 use traceql_tokens::{
     TimeUnit, Token, TokenKind, Tokens, metrics_tokens, one_reading, printed_tokens, tokens,
 };
 
 /// Texts and their tokens.
-const ROWS: [(&str, &str); 74] = [
+static ROWS: [(&str, &str); 74] = [
     ("", ""),
     (" \t\r\n", ""),
     ("{ }", "0:{ 2:}"),
@@ -117,7 +118,7 @@ const ROWS: [(&str, &str); 74] = [
 ];
 
 /// Texts and their tokens in a metrics query.
-const METRICS: [(&str, &str); 7] = [
+static METRICS: [(&str, &str); 7] = [
     ("rate", "0:rate"),
     ("ratex", "0:rate 4:unknown"),
     (".rate", "0:.[rate]"),
@@ -127,51 +128,54 @@ const METRICS: [(&str, &str); 7] = [
     ("count_over", "0:count 5:unknown"),
 ];
 
-/// A token as one word of the table: its place, and its class with its text or value.
-fn shown(rt: &HostRuntime, token: &Token) -> Result<String, Fail> {
-    let at = token.at;
-    Ok(match &token.kind {
-        TokenKind::Mark(sign) => format!(in rt.alloc(); "{at}:{}", sign.text())?,
-        TokenKind::Keyword(word) => format!(in rt.alloc(); "{at}:{}", word.text())?,
-        TokenKind::Builtin(intrinsic) => format!(in rt.alloc(); "{at}:{}", intrinsic.text())?,
-        TokenKind::Named(scope, name) => format!(in rt.alloc();
-            "{at}:{}[{}]",
-            scope.text(),
-            name.as_str()
-        )?,
-        TokenKind::Quoted(value) => format!(in rt.alloc(); "{at}:'{}'", value.as_str())?,
-        TokenKind::Number(number) => format!(in rt.alloc(); "{at}:{number}")?,
-        TokenKind::Duration(nanos) => format!(in rt.alloc(); "{at}:{nanos}ns")?,
-        TokenKind::Broken(class, fault) => format!(in rt.alloc(); "{at}:{class:?}/{fault:?}")?,
-        TokenKind::Nameless => format!(in rt.alloc(); "{at}:nameless")?,
-        TokenKind::Unknown => format!(in rt.alloc(); "{at}:unknown")?,
-    })
+/// Adds a token as one word of the table: its place, and its class with its text or value.
+fn add(told: &mut String, token: &Token) -> Result<(), AllocError> {
+    write!(told, "{}:", token.at)?;
+    match &token.kind {
+        TokenKind::Mark(sign) => told.push_str(sign.text()),
+        TokenKind::Keyword(word) => told.push_str(word.text()),
+        TokenKind::Builtin(intrinsic) => told.push_str(intrinsic.text()),
+        TokenKind::Named(scope, name) => write!(told, "{}[{}]", scope.text(), name.as_str()),
+        TokenKind::Quoted(value) => write!(told, "'{}'", value.as_str()),
+        TokenKind::Number(number) => write!(told, "{number}"),
+        TokenKind::Duration(nanos) => write!(told, "{nanos}ns"),
+        TokenKind::Broken(class, fault) => write!(told, "{class:?}/{fault:?}"),
+        TokenKind::Nameless => told.push_str("nameless"),
+        TokenKind::Unknown => told.push_str("unknown"),
+    }
 }
 
 /// Tokens with a space between each two.
-fn listed(rt: &HostRuntime, found: &Tokens) -> Result<String, Fail> {
-    let mut all = String::new(rt.alloc());
-    for token in found.as_slice() {
-        if !all.is_empty() {
-            all.push_str(" ")?;
-        }
-        all.push_str(shown(rt, token)?.as_str())?;
+fn listed(alloc: Global, found: &Tokens) -> Result<String, AllocError> {
+    let mut told = String::new(alloc);
+    for (i, token) in found.as_slice().iter().enumerate() {
+        told.push_str(if i == 0 { "" } else { " " })?;
+        add(&mut told, token)?;
     }
-    Ok(all)
+    Ok(told)
+}
+
+/// Compares a text's tokens with what its row says.
+fn check(rt: &(impl Abort + AllocGlobal), text: &str, found: &Tokens, wanted: &str) {
+    let got = listed(rt.alloc(), found).expect(rt, "memory");
+    assert!(rt; got.as_str() == wanted, "{text} gives {got}");
 }
 
 #[test]
-fn texts_have_the_tokens_that_hands_found(rt: HostRuntime) -> Result<(), Fail> {
-    for (text, wanted) in ROWS {
-        let found = listed(&rt, &tokens(rt.alloc(), text)?)?;
-        assert_eq!(&rt; found.as_str(), wanted, "{text}");
+fn texts_have_the_tokens_that_hands_found(rt: HostRuntime) {
+    for (text, wanted) in &ROWS {
+        let found = tokens(rt.alloc(), text).expect(&rt, "memory");
+        check(&rt, text, &found, wanted);
     }
-    for (text, wanted) in METRICS {
-        let found = listed(&rt, &metrics_tokens(rt.alloc(), text)?)?;
-        assert_eq!(&rt; found.as_str(), wanted, "{text}");
-    }
-    assert_eq!(&rt; TimeUnit::Millis.nanos(), 1_000_000);
+    assert!(&rt; TimeUnit::Millis.nanos() == 1_000_000);
     one_reading();
     printed_tokens();
-    Ok(())
+}
+
+#[test]
+fn metrics_have_the_tokens_that_hands_found(rt: HostRuntime) {
+    for (text, wanted) in &METRICS {
+        let found = metrics_tokens(rt.alloc(), text).expect(&rt, "memory");
+        check(&rt, text, &found, wanted);
+    }
 }
