@@ -48,13 +48,14 @@ class Source:
         assert len(made) == int(found[1]), name
         return made
 
-    def body(self, function: str) -> str:
-        found = re.search(rf"fn {function}\(.*?\n}}\n", self.text, re.S)
-        assert found, function
+    def body(self, name: str) -> str:
+        """A function, or a table of its own."""
+        found = re.search(rf"fn {name}\(.*?\n}}\n|static {name}: .*?\n\];\n", self.text, re.S)
+        assert found, name
         return found[0]
 
     def rows(self, function: str, form: str) -> List[Tuple[str, ...]]:
-        """The rows of a function's table that have this form: in it N is a number, X a text of bytes and W a word."""
+        """The rows of a table, or of a function's, that have this form: in it N is a number, X a text of bytes and W a word."""
         pattern = form.replace("(", r"\(").replace(")", r"\)").replace("N", f"({NUMBER}|SOUND)")
         pattern = pattern.replace("X", '"([^"]*)"').replace("W", "([A-Z][a-z]+)").replace(" ", r"\s*")
         found = [it.groups() for it in re.finditer(pattern, self.body(function))]
@@ -105,12 +106,9 @@ class Stripes(unittest.TestCase):
 
     def test_malformed(self) -> None:
         data = self.SOURCE.page("STRIPE")
-        for function in ("a_length_or_a_count", "a_field", "what_is_seen_behind_it"):
-            for at, new, offset in self.OTHER.rows(function, "(N, X, N)"):
-                self.assertEqual(stripe(put(data, number(at), bytes.fromhex(new)), 2), number(offset), (function, at))
-        for place, last in self.OTHER.rows("an_id_of_zeros", "(N, N)"):
-            self.assertEqual(stripe(put(data, number(last), b"\0"), 2), number(place))
-        for at, new, other, also, offset in self.OTHER.rows("in_two_places", "(N, X, N, X, N)"):
+        for at, new, offset in self.OTHER.rows("ONE", "(N, X, N)"):
+            self.assertEqual(stripe(put(data, number(at), bytes.fromhex(new)), 2), number(offset), at)
+        for at, new, other, also, offset in self.OTHER.rows("TWO", "(N, X, N, X, N)"):
             twice = put(put(data, number(at), bytes.fromhex(new)), number(other), bytes.fromhex(also))
             self.assertEqual(stripe(twice, 2), number(offset), (at, other))
 
@@ -122,7 +120,7 @@ class Blocks(unittest.TestCase):
     def block(self) -> bytes:
         filters = bytearray(PAGE)
         indexed = Source("blocks_tests", "src", "indexed.rt").text
-        for at, value in re.findall(r"\((\d+), (0x[0-9a-f]+)\)", re.search(r"const BLOOM.*?;\n", indexed)[0]):
+        for at, value in re.findall(r"\((\d+), (0x[0-9a-f]+)\)", re.search(r"static BLOOM.*?;\n", indexed)[0]):
             filters[int(at)] = int(value, 16)
         return self.HEADERS.page("ONE") + self.WHOLE.page("ROW") + self.WHOLE.page("INDEX") + bytes(filters)
 
@@ -130,7 +128,7 @@ class Blocks(unittest.TestCase):
         return breaks_at(lambda: block_format.check_block(data, rows))
 
     def test_headers(self) -> None:
-        for at, new, offset in self.HEADERS.rows("malformed_in_one_place", "(N, X, N)"):
+        for at, new, offset in self.HEADERS.rows("CHANGES", "(N, X, N)"):
             data = put(self.HEADERS.page("ONE"), number(at), bytes.fromhex(new))
             self.assertEqual(breaks_at(lambda: block_format.read_header(data)), told(offset), at)
         three = block_format.read_header(self.HEADERS.page("THREE"))
@@ -148,12 +146,12 @@ class Blocks(unittest.TestCase):
 
     def test_two_places(self) -> None:
         data = self.block()
-        for at, new, other, also, offset in self.WHOLE.rows("malformed_in_two_places", "( (N, X) , (N, X) , N )"):
+        for at, new, other, also, offset in self.WHOLE.rows("TWO", "( (N, X) , (N, X) , N )"):
             twice = put(put(data, number(at), bytes.fromhex(new)), number(other), bytes.fromhex(also))
             self.assertEqual(self.check(twice), number(offset), (at, other))
-        for at, new, offset in self.WHOLE.rows("cut_within_a_length", "(N, X, N)"):
+        for at, new, offset in self.WHOLE.rows("CUT", "(N, X, N)"):
             self.assertEqual(self.check(put(data, number(at), bytes.fromhex(new))[:4100]), number(offset), at)
-        for rows, length, offset in self.WHOLE.rows("cut_or_longer_or_of_other_rows", "(N, N, N)"):
+        for rows, length, offset in self.WHOLE.rows("SIZES", "(N, N, N)"):
             self.assertEqual(self.check(data.ljust(16385, b"\0")[: number(length)], number(rows)), told(offset))
 
 

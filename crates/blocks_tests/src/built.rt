@@ -11,7 +11,7 @@ use span_types::{
     SpanKind, StatusCode, Text, TraceId,
 };
 use std::alloc::Global;
-use std::test::Fail;
+use std::process::Abort;
 
 const TRACE: TraceId = TraceId([0, 0, 0, 0, 0, 0, 0, 0, 0, 0, 0, 0, 0, 0, 0, 0xa1]);
 
@@ -34,14 +34,20 @@ pub(crate) fn row_of(alloc: Global, trace: TraceId, number: u32) -> Result<Row, 
     requires { all_zero trace.0 ≡ false }
 {
     let [a, b, c, d] = number.to_be_bytes();
-    let resource = Resource {
-        attrs: Attrs::none(alloc),
-    };
-    let scope = Scope {
-        name: no_text(alloc),
-        version: no_text(alloc),
-        attrs: Attrs::none(alloc),
-    };
+    let resource = Shared::of(
+        alloc,
+        Resource {
+            attrs: Attrs::none(alloc),
+        },
+    )?;
+    let scope = Shared::of(
+        alloc,
+        Scope {
+            name: no_text(alloc),
+            version: no_text(alloc),
+            attrs: Attrs::none(alloc),
+        },
+    )?;
     let span = Span {
         trace,
         id: SpanId([1, 0, 0, 0, a, b, c, d]),
@@ -53,8 +59,8 @@ pub(crate) fn row_of(alloc: Global, trace: TraceId, number: u32) -> Result<Row, 
         status: StatusCode::Unset,
         message: no_text(alloc),
         attrs: Attrs::none(alloc),
-        resource: Shared::of(alloc, resource)?,
-        scope: Shared::of(alloc, scope)?,
+        resource,
+        scope,
         events: Events::none(alloc),
         links: Links::none(alloc),
     };
@@ -65,44 +71,35 @@ pub(crate) fn row_of(alloc: Global, trace: TraceId, number: u32) -> Result<Row, 
     Ok(Row { place, span })
 }
 
-/// The block of these rows, if there is one.
-fn built(alloc: Global, rows: Vec<Row>) -> Result<Option<BuiltBlock>, Memory> {
-    if rows.len() == 0 || rows.len() > 1_048_576 {
-        return Ok(None);
-    }
-    Ok(Some(build(alloc, Rows::of(rows))?))
+/// The block of these rows.
+fn built(rt: &(impl Abort + AllocGlobal), rows: Vec<Row>) -> BuiltBlock {
+    assert!(rt; 0 < rows.len() && rows.len() <= 1_048_576);
+    build(rt.alloc(), Rows::of(rows)).expect(rt, "memory")
 }
 
-/// The block of so many rows of the trace, if there is one.
-fn block(alloc: Global, count: u32) -> Result<Option<BuiltBlock>, Memory> {
-    let mut rows = Vec::new(alloc);
+/// The block of so many rows of the trace.
+fn block(rt: &(impl Abort + AllocGlobal), count: u32) -> BuiltBlock {
+    let mut rows = Vec::new(rt.alloc());
     for number in 0..count {
-        rows.push(row(alloc, number)?)?;
+        rows.push(row(rt.alloc(), number).expect(rt, "memory"))
+            .expect(rt, "memory");
     }
-    built(alloc, rows)
+    built(rt, rows)
 }
 
 /// How many rows are read of a block: all of them, those of the trace, and those of another trace.
-fn counts(alloc: Global, pages: &mut MemPages, info: &BlockInfo) -> Result<[usize; 3], Memory> {
-    Ok([
-        count(all_rows(alloc, pages, FILE, info))?,
-        count(trace_rows(alloc, pages, FILE, info, TRACE))?,
-        count(trace_rows(alloc, pages, FILE, info, OTHER))?,
-    ])
+fn counts(alloc: Global, pages: &mut MemPages, info: &BlockInfo) -> [Option<usize>; 3] {
+    [
+        count(all_rows(alloc, pages, FILE, info)),
+        count(trace_rows(alloc, pages, FILE, info, TRACE)),
+        count(trace_rows(alloc, pages, FILE, info, OTHER)),
+    ]
 }
 
-fn count(read: Result<Rows, ReadError>) -> Result<usize, Memory> {
+fn count(read: Result<Rows, ReadError>) -> Option<usize> {
     match read {
-        Ok(rows) => Ok(rows.len()),
-        Err(_) => Err(Memory),
-    }
-}
-
-/// The same of a file of so many bytes that is to be a block of 257 rows.
-fn checked_counts(alloc: Global, pages: &mut MemPages, length: u64) -> Result<[usize; 3], Memory> {
-    match check_block(alloc, pages, FILE, 3, 257, length) {
-        Ok(info) => counts(alloc, pages, &info),
-        Err(_) => Err(Memory),
+        Ok(rows) => Some(rows.len()),
+        Err(_) => None,
     }
 }
 
@@ -120,44 +117,51 @@ fn index_entry(built: &BuiltBlock) -> Option<&[u8]> {
     built.bytes.as_slice().get(page..)?.get(16..24)
 }
 
-#[test]
-fn one_trace_over_two_stripes(rt: HostRuntime) -> Result<(), Fail> {
-    let alloc = rt.alloc();
-    let Some(built) = block(alloc, 257)? else {
-        return Err(Fail::from("there are to be rows"));
-    };
-    assert_eq!(rt; index_entry(&built), Some(&[0, 0, 0, 0, 1, 1, 0, 0][..]));
-    assert_eq!(rt; stripe_rows(&built.info), Some((256, 1)));
+/// What is known of the bytes of a block of so many rows, which are read back.
+fn read_back(
+    rt: &(impl Abort + AllocGlobal),
+    built: BuiltBlock,
+    rows: u32,
+) -> (MemPages, BlockInfo) {
     let length = built.bytes.len() as u64;
-    let mut pages = MemPages::new(FILE, built.bytes, Calls::none(alloc));
-    assert_eq!(rt; checked_counts(alloc, &mut pages, length)?, [257, 257, 0]);
-    Ok(())
-}
-
-/// The block of the rows of the trace with these numbers, if there is one.
-fn block_of(alloc: Global, numbers: &[u32]) -> Result<Option<BuiltBlock>, Memory> {
-    let mut rows = Vec::new(alloc);
-    for number in numbers {
-        rows.push(row(alloc, *number)?)?;
-    }
-    built(alloc, rows)
-}
-
-/// Whether the blocks of the rows with these numbers have the same bytes.
-fn are_alike(alloc: Global, numbers: &[u32], others: &[u32]) -> Result<bool, Memory> {
-    match (block_of(alloc, numbers)?, block_of(alloc, others)?) {
-        (Some(one), Some(other)) => Ok(one.bytes.as_slice() == other.bytes.as_slice()),
-        _ => Ok(false),
-    }
+    let mut pages = MemPages::new(FILE, built.bytes, Calls::none(rt.alloc()));
+    let info = check_block(rt.alloc(), &mut pages, FILE, 3, rows, length);
+    (pages, info.expect(rt, "a block"))
 }
 
 #[test]
-fn rows_in_another_order_and_twice(rt: HostRuntime) -> Result<(), Fail> {
-    let alloc = rt.alloc();
-    assert!(rt; are_alike(alloc, &[2, 0, 1], &[0, 1, 2])?);
-    assert!(rt; are_alike(alloc, &[1, 0, 1, 2, 0], &[0, 1, 2])?);
-    assert!(rt; !are_alike(alloc, &[0, 1], &[0, 1, 2])?);
-    Ok(())
+fn one_trace_over_two_stripes(rt: HostRuntime) {
+    let built = block(&rt, 257);
+    assert!(&rt; index_entry(&built) == Some(&[0, 0, 0, 0, 1, 1, 0, 0][..]));
+    assert!(&rt; stripe_rows(&built.info) == Some((256, 1)));
+    let (mut pages, info) = read_back(&rt, built, 257);
+    assert!(&rt; counts(rt.alloc(), &mut pages, &info) == [Some(257), Some(257), Some(0)]);
+}
+
+/// The block of the rows of the trace with these numbers.
+fn block_of(rt: &(impl Abort + AllocGlobal), numbers: &[u32]) -> BuiltBlock {
+    let mut rows = Vec::new(rt.alloc());
+    for number in numbers {
+        rows.push(row(rt.alloc(), *number).expect(rt, "memory"))
+            .expect(rt, "memory");
+    }
+    built(rt, rows)
+}
+
+/// The numbers of rows, and whether their block has the bytes of the block of the rows 0 to 2.
+static ORDERS: [(&[u32], bool); 3] = [
+    (&[2, 0, 1], true),
+    (&[1, 0, 1, 2, 0], true),
+    (&[0, 1], false),
+];
+
+#[test]
+fn rows_in_another_order_and_twice(rt: HostRuntime) {
+    let all = block_of(&rt, &[0, 1, 2]);
+    for (numbers, wanted) in &ORDERS {
+        let built = block_of(&rt, numbers);
+        assert!(&rt; (built.bytes.as_slice() == all.bytes.as_slice()) == *wanted);
+    }
 }
 
 /// Whether this is known of the block of 1,048,576 rows, of which the first one starts at 0 and each other a nanosecond
@@ -190,19 +194,11 @@ fn is_largest(info: &BlockInfo) -> bool {
 }
 
 #[test]
-fn as_many_rows_as_a_block_has(rt: HostRuntime) -> Result<(), Fail> {
-    let alloc = rt.alloc();
-    let Some(built) = block(alloc, 1_048_576)? else {
-        return Err(Fail::from("there are to be rows"));
-    };
-    assert_eq!(rt; index_entry(&built), Some(&[0, 0, 0, 0, 0, 0, 0x10, 0][..]));
-    assert!(rt; is_largest(&built.info));
-    let length = built.bytes.len() as u64;
-    assert_eq!(rt; length, 67_252_224);
-    let mut pages = MemPages::new(FILE, built.bytes, Calls::none(alloc));
-    match check_block(alloc, &mut pages, FILE, 3, 1_048_576, length) {
-        Ok(info) => assert!(rt; is_largest(&info)),
-        Err(_) => return Err(Fail::from("the bytes are to be a block")),
-    }
-    Ok(())
+fn as_many_rows_as_a_block_has(rt: HostRuntime) {
+    let built = block(&rt, 1_048_576);
+    assert!(&rt; index_entry(&built) == Some(&[0, 0, 0, 0, 0, 0, 0x10, 0][..]));
+    assert!(&rt; is_largest(&built.info));
+    assert!(&rt; built.bytes.len() == 67_252_224);
+    let (_pages, info) = read_back(&rt, built, 1_048_576);
+    assert!(&rt; is_largest(&info));
 }

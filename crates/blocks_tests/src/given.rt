@@ -39,6 +39,13 @@ pub(crate) fn page(alloc: Global, words: &str) -> Result<Vec<u8>, Memory> {
     Ok(bytes)
 }
 
+/// Puts these bytes there.
+pub(crate) fn put(bytes: &mut [u8], place: usize, new: &[u8]) {
+    for (old, byte) in bytes.iter_mut().skip(place).zip(new.iter()) {
+        *old = *byte;
+    }
+}
+
 /// The same page, but for these bytes from that place on.
 pub(crate) fn overwritten(
     alloc: Global,
@@ -48,9 +55,7 @@ pub(crate) fn overwritten(
 ) -> Result<Vec<u8>, Memory> {
     let mut bytes = page(alloc, words)?;
     let new = bytes_of(alloc, new)?;
-    for (old, byte) in bytes.iter_mut().skip(place).zip(new.iter()) {
-        *old = *byte;
-    }
+    put(bytes.as_mut_slice(), place, new.as_slice());
     Ok(bytes)
 }
 

@@ -8,7 +8,7 @@ use block_format::{FormatError, Header, read_header, write_header};
 use block_info::{StripeInfo, Stripes};
 use span_types::Memory;
 use std::alloc::Global;
-use std::test::Fail;
+use std::process::Abort;
 
 /// The header of a block of one row that starts at 1, up to the fill. Each part has a page.
 pub(crate) const ONE: &str = "
@@ -76,11 +76,10 @@ fn told(alloc: Global, bytes: &[u8]) -> Result<u64, Memory> {
 }
 
 /// Whether the bytes are those of this header.
-fn are_of(alloc: Global, bytes: &[u8], header: &Header) -> Result<bool, Memory> {
+fn are_of(alloc: Global, bytes: &[u8], header: &Header) -> bool {
     match read_header(alloc, bytes) {
-        Ok(read) => Ok(is_same(&read, header)),
-        Err(FormatError::NotBlock { .. }) => Ok(false),
-        Err(FormatError::Memory) => Err(Memory),
+        Ok(read) => is_same(&read, header),
+        Err(_) => false,
     }
 }
 
@@ -91,60 +90,65 @@ fn is_same(read: &Header, header: &Header) -> bool {
 }
 
 #[test]
-fn written_and_read(rt: HostRuntime) -> Result<(), Fail> {
+fn written_and_read(rt: HostRuntime) {
     let alloc = rt.alloc();
-    let bytes = page(alloc, THREE)?;
-    let header = three(alloc)?;
-    let written = write_header(alloc, &header)?;
-    assert_eq!(rt; written.as_slice(), bytes.as_slice());
-    assert!(rt; are_of(alloc, bytes.as_slice(), &header)?);
-    Ok(())
+    let bytes = page(alloc, THREE).expect(&rt, "memory");
+    let header = three(alloc).expect(&rt, "memory");
+    let written = write_header(alloc, &header).expect(&rt, "memory");
+    assert!(&rt; written.as_slice() == bytes.as_slice());
+    assert!(&rt; are_of(alloc, bytes.as_slice(), &header));
+}
+
+/// Compares the offset that is told of bytes.
+fn check(rt: &(impl Abort + AllocGlobal), bytes: &[u8], offset: u64) {
+    let got = told(rt.alloc(), bytes).expect(rt, "memory");
+    assert!(rt; got == offset, "{got} and {offset}");
 }
 
 #[test]
-fn cut_or_longer(rt: HostRuntime) -> Result<(), Fail> {
-    let alloc = rt.alloc();
-    let mut bytes = page(alloc, ONE)?;
-    assert_eq!(rt; told(alloc, bytes.as_slice())?, SOUND);
-    assert_eq!(rt; bytes.len(), 4096);
-    for len in 0..bytes.len() {
-        assert_eq!(rt; told(alloc, &bytes.as_slice()[..len])?, len as u64);
+fn cut_or_longer(rt: HostRuntime) {
+    let mut bytes = page(rt.alloc(), ONE).expect(&rt, "memory");
+    check(&rt, bytes.as_slice(), SOUND);
+    for len in 0..4096u64 {
+        let cut = bytes.as_slice().get(..len as usize).expect(&rt, "a page");
+        check(&rt, cut, len);
     }
-    bytes.push(0)?;
-    assert_eq!(rt; told(alloc, bytes.as_slice())?, 4096);
-    Ok(())
+    bytes.push(0).expect(&rt, "memory");
+    check(&rt, bytes.as_slice(), 4096);
 }
 
+/// A place of the header, the bytes that stand there, and the offset.
+static CHANGES: [(usize, &str, u64); 17] = [
+    // Other letters, and a form that there isn't.
+    (0, "55", 0),
+    (3, "33", 0),
+    // Too many pages, too few for 128 stripes or 4,096 of them, and no stripe.
+    (4, "02", 4),
+    (8, "80", 4),
+    (8, "00 10", 4),
+    (8, "00", 8),
+    // 33 pages for 4,097 stripes.
+    (4, "21 00 00 00 01 10", 8),
+    // The stripe ends at page 2^51, and behind it.
+    (20, "ff ff ff ff ff ff 07", SOUND),
+    (20, "00 00 00 00 00 00 08", 20),
+    // Of two stripes the first one has not 256 rows; no row, 256 of them, and more than a stripe has.
+    (8, "02", 28),
+    (28, "00", 28),
+    (28, "00 01", SOUND),
+    (28, "01 01", 28),
+    // Nothing is asked of the moments and of the other parts.
+    (12, "00 00 00 00 ff ff ff ff", SOUND),
+    (36, "02", SOUND),
+    // The fill.
+    (52, "01", 52),
+    (4095, "01", 4095),
+];
+
 #[test]
-fn malformed_in_one_place(rt: HostRuntime) -> Result<(), Fail> {
-    for (place, new, offset) in [
-        // Other letters, and a form that there isn't.
-        (0, "55", 0),
-        (3, "33", 0),
-        // Too many pages, too few for 128 stripes or 4,096 of them, and no stripe.
-        (4, "02", 4),
-        (8, "80", 4),
-        (8, "00 10", 4),
-        (8, "00", 8),
-        // 33 pages for 4,097 stripes.
-        (4, "21 00 00 00 01 10", 8),
-        // The stripe ends at page 2^51, and behind it.
-        (20, "ff ff ff ff ff ff 07", SOUND),
-        (20, "00 00 00 00 00 00 08", 20),
-        // Of two stripes the first one has not 256 rows; no row, 256 of them, and more than a stripe has.
-        (8, "02", 28),
-        (28, "00", 28),
-        (28, "00 01", SOUND),
-        (28, "01 01", 28),
-        // Nothing is asked of the moments and of the other parts.
-        (12, "00 00 00 00 ff ff ff ff", SOUND),
-        (36, "02", SOUND),
-        // The fill.
-        (52, "01", 52),
-        (4095, "01", 4095),
-    ] {
-        let bytes = overwritten(rt.alloc(), ONE, place, new)?;
-        assert_eq!(rt; told(rt.alloc(), bytes.as_slice())?, offset, "at {place}");
+fn malformed_in_one_place(rt: HostRuntime) {
+    for (place, new, offset) in &CHANGES {
+        let bytes = overwritten(rt.alloc(), ONE, *place, new).expect(&rt, "memory");
+        check(&rt, bytes.as_slice(), *offset);
     }
-    Ok(())
 }

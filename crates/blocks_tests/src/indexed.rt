@@ -2,9 +2,8 @@
 
 use crate::given::{page, with_bytes};
 use block_index::{Found, bloom_pages, find_in_page, index_pages, may_hold};
-use span_types::{Bytes, Ids, Memory, TraceId};
+use span_types::{Ids, Memory, TraceId};
 use std::alloc::Global;
-use std::test::Fail;
 
 /// The index of 257 rows of the trace `a1`, up to its fill.
 const INDEX: &str = "
@@ -13,7 +12,7 @@ const INDEX: &str = "
     rows: 01 01 00 00";
 
 /// The bytes of the Bloom filters of the trace `a1` that aren't zero, by their place in the page.
-pub(crate) const BLOOM: [(usize, u8); 4] = [(217, 0x02), (1279, 0x80), (2454, 0x01), (2587, 0x80)];
+pub(crate) static BLOOM: [(usize, u8); 4] = [(217, 0x02), (1279, 0x80), (2454, 0x01), (2587, 0x80)];
 
 /// The trace whose id ends so, behind zeros.
 fn trace(last: u8) -> TraceId {
@@ -29,22 +28,6 @@ fn ids(alloc: Global) -> Result<Ids, Memory> {
     Ok(Ids::of(ids))
 }
 
-/// The index of these rows, of which there are few.
-fn index(alloc: Global, ids: &Ids) -> Result<Bytes, Memory> {
-    if ids.len() > 257 {
-        return Err(Memory);
-    }
-    index_pages(alloc, ids)
-}
-
-/// The Bloom filters of these rows, of which there are few.
-fn filters(alloc: Global, ids: &Ids) -> Result<Bytes, Memory> {
-    if ids.len() > 257 {
-        return Err(Memory);
-    }
-    bloom_pages(alloc, ids)
-}
-
 /// The first page of these bytes.
 fn first_page(bytes: &[u8]) -> [u8; 4096] {
     let mut page = [0; 4096];
@@ -54,34 +37,44 @@ fn first_page(bytes: &[u8]) -> [u8; 4096] {
     page
 }
 
-#[test]
-fn the_index(rt: HostRuntime) -> Result<(), Fail> {
-    let alloc = rt.alloc();
-    let ids = ids(alloc)?;
-    let written = index(alloc, &ids)?;
-    let wanted = page(alloc, INDEX)?;
-    assert_eq!(rt; written.as_slice(), wanted.as_slice());
-    let page = first_page(written.as_slice());
-    let here = Found::Here {
-        first_row: 0,
-        rows: 257,
-    };
-    for (last, found) in [(0xa0, Found::Before), (0xa1, here), (0xa2, Found::After)] {
-        assert_eq!(rt; find_in_page(&page, trace(last)), found);
-    }
-    Ok(())
-}
+/// The last byte of a trace's id, and where the trace stands to the page of the index.
+static FOUND: [(u8, Found); 3] = [
+    (0xa0, Found::Before),
+    (
+        0xa1,
+        Found::Here {
+            first_row: 0,
+            rows: 257,
+        },
+    ),
+    (0xa2, Found::After),
+];
 
 #[test]
-fn the_filters(rt: HostRuntime) -> Result<(), Fail> {
-    let alloc = rt.alloc();
-    let ids = ids(alloc)?;
-    let written = filters(alloc, &ids)?;
-    let wanted = with_bytes(alloc, &BLOOM)?;
-    assert_eq!(rt; written.as_slice(), wanted.as_slice());
+fn the_index(rt: HostRuntime) {
+    let ids = ids(rt.alloc()).expect(&rt, "memory");
+    assert!(&rt; ids.len() <= 257);
+    let written = index_pages(rt.alloc(), &ids).expect(&rt, "memory");
+    let wanted = page(rt.alloc(), INDEX).expect(&rt, "memory");
+    assert!(&rt; written.as_slice() == wanted.as_slice());
     let page = first_page(written.as_slice());
-    for (last, holds) in [(0xa0, false), (0xa1, true), (0xa2, false)] {
-        assert_eq!(rt; may_hold(&page, trace(last)), holds);
+    for (last, found) in &FOUND {
+        assert!(&rt; find_in_page(&page, trace(*last)) == *found, "{last}");
     }
-    Ok(())
+}
+
+/// The last byte of a trace's id, and whether the filters may hold the trace.
+static HELD: [(u8, bool); 3] = [(0xa0, false), (0xa1, true), (0xa2, false)];
+
+#[test]
+fn the_filters(rt: HostRuntime) {
+    let ids = ids(rt.alloc()).expect(&rt, "memory");
+    assert!(&rt; ids.len() <= 257);
+    let written = bloom_pages(rt.alloc(), &ids).expect(&rt, "memory");
+    let wanted = with_bytes(rt.alloc(), &BLOOM).expect(&rt, "memory");
+    assert!(&rt; written.as_slice() == wanted.as_slice());
+    let page = first_page(written.as_slice());
+    for (last, holds) in &HELD {
+        assert!(&rt; may_hold(&page, trace(*last)) == *holds, "{last}");
+    }
 }

@@ -4,7 +4,7 @@ use crate::given::{SOUND, bytes_of, offsets, page};
 use block_stripes::{FormatError, can_be_stripe, read_stripe, write_stripe};
 use span_types::{Attr, AttrValue, Memory, Row, Rows, Span, SpanId, SpanKind, StatusCode, TraceId};
 use std::alloc::Global;
-use std::test::Fail;
+use std::process::Abort;
 use stripe_skims::skim;
 
 /// Two rows in form 2, up to the fill.
@@ -206,61 +206,72 @@ fn changes(alloc: Global, words: &str, form: u8, bit: u8) -> Result<Vec<u64>, Me
     Ok(found)
 }
 
-/// The first length below `end` at which a cut isn't told where the bytes end, or `end`.
-fn first_untold_cut(alloc: Global, bytes: &[u8], end: usize, form: u8) -> Result<usize, Memory> {
-    for len in 0..end {
-        if told(alloc, cut(bytes, len), form)? != len as u64 {
-            return Ok(len);
-        }
-    }
-    Ok(end)
-}
-
-/// So many of the bytes, or all.
-fn cut(bytes: &[u8], len: usize) -> &[u8] {
-    bytes.get(..len).unwrap_or(bytes)
-}
+/// The fields of a stripe, its form, a bit, and what is told where that bit is another one.
+static TURNED: [(&str, u8, u8, &str); 3] = [
+    (STRIPE, 2, 1, LOWEST),
+    (STRIPE, 2, 128, HIGHEST),
+    (PLAIN, 1, 1, PLAIN_LOWEST),
+];
 
 #[test]
-fn one_byte_is_another_one(rt: HostRuntime) -> Result<(), Fail> {
-    let alloc = rt.alloc();
-    for (bit, table) in [(1, LOWEST), (128, HIGHEST)] {
-        let found = changes(alloc, STRIPE, 2, bit)?;
-        assert_eq!(rt; found.as_slice(), offsets(alloc, table)?.as_slice());
-    }
-    let found = changes(alloc, PLAIN, 1, 1)?;
-    assert_eq!(rt; found.as_slice(), offsets(alloc, PLAIN_LOWEST)?.as_slice());
-    Ok(())
-}
-
-#[test]
-fn cut_or_with_another_fill(rt: HostRuntime) -> Result<(), Fail> {
-    let alloc = rt.alloc();
-    for (words, form, count) in [(STRIPE, 2, 210), (PLAIN, 1, 164)] {
-        let mut bytes = page(alloc, words)?;
-        assert_eq!(rt; told(alloc, bytes.as_slice(), form)?, SOUND);
-        assert_eq!(rt;
-            first_untold_cut(alloc, bytes.as_slice(), 4096, form)?,
-            4096
+fn one_byte_is_another_one(rt: HostRuntime) {
+    for (words, form, bit, table) in &TURNED {
+        let found = changes(rt.alloc(), words, *form, *bit).expect(&rt, "memory");
+        let wanted = offsets(rt.alloc(), table).expect(&rt, "memory");
+        assert!(&rt;
+            found.as_slice() == wanted.as_slice(),
+            "form {form}, bit {bit}"
         );
-        for place in count..4096 {
-            flip(bytes.as_mut_slice(), place, 1);
-            assert_eq!(rt; told(alloc, bytes.as_slice(), form)?, place as u64);
-            flip(bytes.as_mut_slice(), place, 1);
-        }
-        bytes.push(0)?;
-        assert_eq!(rt; told(alloc, bytes.as_slice(), form)?, 4096);
     }
-    Ok(())
+}
+
+/// Compares the offset that is told of bytes.
+fn check(rt: &(impl Abort + AllocGlobal), bytes: &[u8], form: u8, offset: u64) {
+    let got = told(rt.alloc(), bytes, form).expect(rt, "memory");
+    assert!(rt; got == offset, "{got} and {offset}");
+}
+
+/// Asserts that each cut of a stripe is told where the bytes end.
+fn check_cuts(rt: &(impl Abort + AllocGlobal), bytes: &[u8], form: u8) {
+    for len in 0..4096u64 {
+        let cut = bytes.get(..len as usize).expect(rt, "a page");
+        check(rt, cut, form, len);
+    }
+}
+
+/// Asserts that each other byte of the fill is told, which begins there.
+fn check_fill(rt: &(impl Abort + AllocGlobal), bytes: &mut [u8], form: u8, fill: u64) {
+    for place in fill..4096 {
+        flip(bytes, place as usize, 1);
+        check(rt, bytes, form, place);
+        flip(bytes, place as usize, 1);
+    }
+}
+
+/// The fields of a stripe, its form, and how many bytes they have.
+static WHOLE: [(&str, u8, u64); 2] = [(STRIPE, 2, 210), (PLAIN, 1, 164)];
+
+#[test]
+fn cut_or_with_another_fill(rt: HostRuntime) {
+    for (words, form, count) in &WHOLE {
+        let mut bytes = page(rt.alloc(), words).expect(&rt, "memory");
+        check(&rt, bytes.as_slice(), *form, SOUND);
+        check_cuts(&rt, bytes.as_slice(), *form);
+        check_fill(&rt, bytes.as_mut_slice(), *form, *count);
+        bytes.push(0).expect(&rt, "memory");
+        check(&rt, bytes.as_slice(), *form, 4096);
+    }
 }
 
 /// In form 1 nothing refers to the text of the event, and in form 2 the count of events is missing.
+static OTHER_FORM: [(&str, u8, u64); 2] = [(STRIPE, 1, 29), (PLAIN, 2, 164)];
+
 #[test]
-fn read_in_the_other_form(rt: HostRuntime) -> Result<(), Fail> {
-    let alloc = rt.alloc();
-    assert_eq!(rt; told(alloc, page(alloc, STRIPE)?.as_slice(), 1)?, 29);
-    assert_eq!(rt; told(alloc, page(alloc, PLAIN)?.as_slice(), 2)?, 164);
-    Ok(())
+fn read_in_the_other_form(rt: HostRuntime) {
+    for (words, form, offset) in &OTHER_FORM {
+        let bytes = page(rt.alloc(), words).expect(&rt, "memory");
+        check(&rt, bytes.as_slice(), *form, *offset);
+    }
 }
 
 fn is_whole(attr: &Attr, key: &str, number: i64) -> bool {
@@ -359,15 +370,15 @@ fn are_the_rows(rows: &[Row], form: u8) -> bool {
     places && names && owners && none && is_first(first) && is_second(second) && some == (form == 2)
 }
 
+/// The fields of the rows' stripe in both forms.
+static BOTH: [(&str, u8); 2] = [(STRIPE, 2), (PLAIN, 1)];
+
 #[test]
-fn rows_with_every_kind_of_part(rt: HostRuntime) -> Result<(), Fail> {
-    let alloc = rt.alloc();
-    for (words, form) in [(STRIPE, 2), (PLAIN, 1)] {
-        let bytes = page(alloc, words)?;
-        match rows_of(alloc, bytes.as_slice(), form)? {
-            Ok(rows) => assert!(rt; are_the_rows(rows.as_slice(), form)),
-            Err(_) => return Err(Fail::from("the bytes are to be a stripe")),
-        }
+fn rows_with_every_kind_of_part(rt: HostRuntime) {
+    for (words, form) in &BOTH {
+        let bytes = page(rt.alloc(), words).expect(&rt, "memory");
+        let read = rows_of(rt.alloc(), bytes.as_slice(), *form).expect(&rt, "memory");
+        let rows = read.expect(&rt, "a stripe");
+        assert!(&rt; are_the_rows(rows.as_slice(), *form), "form {form}");
     }
-    Ok(())
 }

@@ -1,6 +1,6 @@
 //! A whole block of one row by its bytes, worked out by hand: where it is malformed, and what is read of it.
 
-use crate::given::{SOUND, bytes_of, offsets, page, with_bytes};
+use crate::given::{SOUND, bytes_of, offsets, page, put, with_bytes};
 use crate::headers::ONE;
 use crate::indexed::BLOOM;
 use block_build::build;
@@ -8,7 +8,7 @@ use block_info::{BlockInfo, StripeInfo};
 use block_read::{MemPages, Pages, ReadError, all_rows, check_block};
 use span_types::{Bytes, Calls, Failed, Memory, Rows};
 use std::alloc::Global;
-use std::test::Fail;
+use std::process::Abort;
 
 /// The stripe of a row of which little is said, up to the fill: `first`, from 1 to 2.
 const ROW: &str = "
@@ -69,35 +69,28 @@ fn block(alloc: Global) -> Result<Vec<u8>, Memory> {
     Ok(bytes)
 }
 
-/// These bytes as a file, of which the reads with these numbers fail.
+/// The block as a file, of which the reads with these numbers fail.
 fn file(alloc: Global, bytes: &[u8], failing: &[u64]) -> Result<MemPages, Memory> {
-    let mut copy = Vec::new(alloc);
-    copy.extend_from_slice(bytes)?;
-    let mut calls = Vec::new(alloc);
-    calls.extend_from_slice(failing)?;
-    Ok(MemPages::new(FILE, Bytes::of(copy), Calls::of(calls)))
+    let calls = Calls::of(Vec::from_slice(alloc, failing)?);
+    let copy = Vec::from_slice(alloc, bytes)?;
+    Ok(MemPages::new(FILE, Bytes::of(copy), calls))
 }
 
-/// The offset at which so many bytes of a file are no block of so many rows, or that they are one.
-fn told(alloc: Global, pages: &mut MemPages, rows: u32, length: u64) -> Result<u64, Memory> {
+/// The offset at which so many bytes of a file are no block of so many rows, or that they are one. None where a read fails or memory
+/// runs out.
+fn told(alloc: Global, pages: &mut MemPages, rows: u32, length: u64) -> Option<u64> {
     match check_block(alloc, pages, FILE, 3, rows, length) {
-        Ok(_) => Ok(SOUND),
-        Err(ReadError::NotBlock { at, .. }) => Ok(at),
-        Err(ReadError::Fault) | Err(ReadError::Memory) => Err(Memory),
+        Ok(_) => Some(SOUND),
+        Err(ReadError::NotBlock { at, .. }) => Some(at),
+        Err(ReadError::Fault) | Err(ReadError::Memory) => None,
     }
 }
 
-/// The same of these bytes, as a file of one row and of the block's length.
-fn told_of(alloc: Global, bytes: &[u8]) -> Result<u64, Memory> {
-    let mut pages = file(alloc, bytes, &[])?;
-    told(alloc, &mut pages, 1, 16384)
-}
-
-/// Puts these bytes there.
-fn put(bytes: &mut [u8], place: usize, new: &[u8]) {
-    for (old, byte) in bytes.iter_mut().skip(place).zip(new.iter()) {
-        *old = *byte;
-    }
+/// Compares the offset that is told of these bytes, as a file of one row and of that length.
+fn check(rt: &(impl Abort + AllocGlobal), bytes: &[u8], length: u64, offset: u64) {
+    let mut pages = file(rt.alloc(), bytes, &[]).expect(rt, "memory");
+    let got = told(rt.alloc(), &mut pages, 1, length).expect(rt, "a file");
+    assert!(rt; got == offset, "{got} and {offset}");
 }
 
 /// Makes the byte at that place one more.
@@ -127,139 +120,100 @@ fn wanted(place: usize, header: &[u64], row: &[u64]) -> u64 {
     }
 }
 
-/// The first place of the block where another byte isn't told as it is to be, or the end of the block.
-fn first_untold(alloc: Global) -> Result<usize, Memory> {
-    let header = offsets(alloc, HEADER_CHANGES)?;
-    let row = offsets(alloc, ROW_CHANGES)?;
-    let mut bytes = block(alloc)?;
-    for place in 0..bytes.len() {
+#[test]
+fn one_byte_is_another_one(rt: HostRuntime) {
+    let header = offsets(rt.alloc(), HEADER_CHANGES).expect(&rt, "memory");
+    let row = offsets(rt.alloc(), ROW_CHANGES).expect(&rt, "memory");
+    let mut bytes = block(rt.alloc()).expect(&rt, "memory");
+    check(&rt, bytes.as_slice(), 16384, SOUND);
+    for place in 0..16384 {
         raise(bytes.as_mut_slice(), place);
-        let at = told_of(alloc, bytes.as_slice())?;
+        let offset = wanted(place, header.as_slice(), row.as_slice());
+        check(&rt, bytes.as_slice(), 16384, offset);
         lower(bytes.as_mut_slice(), place);
-        if at != wanted(place, header.as_slice(), row.as_slice()) {
-            return Ok(place);
-        }
     }
-    Ok(bytes.len())
 }
+
+/// How many rows and bytes a file of the block is to have, and what is told of it.
+static SIZES: [(u32, u64, u64); 4] = [
+    (1, 16384, SOUND),
+    (1, 16385, 16384),
+    (2, 16384, 0),
+    (2, 16383, 16383),
+];
 
 #[test]
-fn one_byte_is_another_one(rt: HostRuntime) -> Result<(), Fail> {
-    let alloc = rt.alloc();
-    let bytes = block(alloc)?;
-    assert_eq!(rt; told_of(alloc, bytes.as_slice())?, SOUND);
-    assert_eq!(rt; first_untold(alloc)?, 16384);
-    Ok(())
-}
-
-/// The first length at which a cut isn't told where the bytes end, or the length of the block.
-fn first_untold_cut(alloc: Global) -> Result<u64, Memory> {
-    let bytes = block(alloc)?;
-    let mut pages = file(alloc, bytes.as_slice(), &[])?;
+fn cut_or_longer_or_of_other_rows(rt: HostRuntime) {
+    let bytes = block(rt.alloc()).expect(&rt, "memory");
+    let mut pages = file(rt.alloc(), bytes.as_slice(), &[]).expect(&rt, "memory");
     for length in 0..16384 {
-        if told(alloc, &mut pages, 1, length)? != length {
-            return Ok(length);
-        }
+        assert!(&rt;
+            told(rt.alloc(), &mut pages, 1, length) == Some(length),
+            "{length}"
+        );
     }
-    Ok(16384)
+    for (rows, length, at) in &SIZES {
+        assert!(&rt;
+            told(rt.alloc(), &mut pages, *rows, *length) == Some(*at),
+            "{rows} {length}"
+        );
+    }
 }
 
-#[test]
-fn cut_or_longer_or_of_other_rows(rt: HostRuntime) -> Result<(), Fail> {
-    let alloc = rt.alloc();
-    assert_eq!(rt; first_untold_cut(alloc)?, 16384);
-    let bytes = block(alloc)?;
-    let mut pages = file(alloc, bytes.as_slice(), &[])?;
-    for (rows, length, at) in [
-        (1, 16384, SOUND),
-        (1, 16385, 16384),
-        (2, 16384, 0),
-        (2, 16383, 16383),
-    ] {
-        assert_eq!(rt; told(alloc, &mut pages, rows, length)?, at);
-    }
-    Ok(())
-}
+/// Two places of the block, the bytes that stand there, and the offset.
+static TWO: [((usize, &str), (usize, &str), u64); 13] = [
+    // The stripe disagrees with its entry, and a field behind what tells so is malformed, or its fill.
+    ((36, "02"), (4164, "09"), 4096),
+    ((44, "00"), (4169, "01"), 4096),
+    ((28, "02"), (4146, "09"), 4096),
+    ((20, "02"), (4164, "09"), 4096),
+    // No stripe agrees with an entry whose earliest start is after its latest, nor with one of one row whose
+    // earliest start is before its latest, whatever stands in the stripe.
+    ((36, "02"), (4104, "82 00"), 4096),
+    ((44, "02"), (4104, "82 00"), 4096),
+    // A field before what would tell that the stripe disagrees is malformed.
+    ((36, "02 00 00 00 00 00 00 00 02"), (4146, "09"), 4146),
+    ((28, "02"), (4116, "09"), 4116),
+    // Stripes come before the counts of index pages and of Bloom pages, and these before what they count.
+    ((12, "02"), (4164, "09"), 4164),
+    ((12, "02"), (16, "02"), 12),
+    ((16, "02"), (8192, "01"), 16),
+    ((8200, "01"), (12288, "01"), 8200),
+    // Form 2, and no event or link in it.
+    ((3, "32"), (4096, "43"), 0),
+];
 
-/// What is told where bytes differ from the block's in two places.
-fn two_changes(alloc: Global, first: (usize, &str), second: (usize, &str)) -> Result<u64, Memory> {
-    let mut bytes = block(alloc)?;
-    for (place, words) in [first, second] {
-        let new = bytes_of(alloc, words)?;
-        put(bytes.as_mut_slice(), place, new.as_slice());
-    }
-    told_of(alloc, bytes.as_slice())
-}
-
-#[test]
-fn malformed_in_two_places(rt: HostRuntime) -> Result<(), Fail> {
-    for (first, second, offset) in [
-        // The stripe disagrees with its entry, and a field behind what tells so is malformed, or its fill.
-        ((36, "02"), (4164, "09"), 4096),
-        ((44, "00"), (4169, "01"), 4096),
-        ((28, "02"), (4146, "09"), 4096),
-        ((20, "02"), (4164, "09"), 4096),
-        // No stripe agrees with an entry whose earliest start is after its latest, nor with one of one row whose
-        // earliest start is before its latest, whatever stands in the stripe.
-        ((36, "02"), (4104, "82 00"), 4096),
-        ((44, "02"), (4104, "82 00"), 4096),
-        // A field before what would tell that the stripe disagrees is malformed.
-        ((36, "02 00 00 00 00 00 00 00 02"), (4146, "09"), 4146),
-        ((28, "02"), (4116, "09"), 4116),
-        // Stripes come before the counts of index pages and of Bloom pages, and these before what they count.
-        ((12, "02"), (4164, "09"), 4164),
-        ((12, "02"), (16, "02"), 12),
-        ((16, "02"), (8192, "01"), 16),
-        ((8200, "01"), (12288, "01"), 8200),
-        // Form 2, and no event or link in it.
-        ((3, "32"), (4096, "43"), 0),
-    ] {
-        assert_eq!(rt; two_changes(rt.alloc(), first, second)?, offset);
-    }
-    Ok(())
-}
-
-/// What is told of a file that ends within the length of its stripe, and differs from the block in one place.
-fn cut_in_length(alloc: Global, place: usize, words: &str) -> Result<u64, Memory> {
-    let mut bytes = block(alloc)?;
-    let new = bytes_of(alloc, words)?;
+/// The block with other bytes at a place.
+fn changed(rt: &(impl Abort + AllocGlobal), place: usize, words: &str) -> Vec<u8> {
+    let mut bytes = block(rt.alloc()).expect(rt, "memory");
+    let new = bytes_of(rt.alloc(), words).expect(rt, "memory");
     put(bytes.as_mut_slice(), place, new.as_slice());
-    let mut pages = file(alloc, bytes.as_slice(), &[])?;
-    told(alloc, &mut pages, 1, 4100)
+    bytes
 }
 
 #[test]
-fn cut_within_a_length(rt: HostRuntime) -> Result<(), Fail> {
-    // Entries with which no stripe agrees, and one with which another stripe would.
-    for (place, words, at) in [
-        (36, "02", 4096),
-        (44, "02", 4096),
-        (36, "02 00 00 00 00 00 00 00 02", 4100),
-    ] {
-        assert_eq!(rt; cut_in_length(rt.alloc(), place, words)?, at);
-    }
-    Ok(())
-}
-
-/// The rows that are read of these bytes, if they are a block of one row.
-fn rows_of(alloc: Global, bytes: &[u8]) -> Result<Option<Rows>, Memory> {
-    let mut pages = file(alloc, bytes, &[])?;
-    let Ok(info) = check_block(alloc, &mut pages, FILE, 3, 1, 16384) else {
-        return Ok(None);
-    };
-    match all_rows(alloc, &mut pages, FILE, &info) {
-        Ok(rows) => Ok(Some(rows)),
-        Err(_) => Ok(None),
+fn malformed_in_two_places(rt: HostRuntime) {
+    for ((place, words), (other, also), offset) in &TWO {
+        let mut bytes = changed(&rt, *place, words);
+        let second = bytes_of(rt.alloc(), also).expect(&rt, "memory");
+        put(bytes.as_mut_slice(), *other, second.as_slice());
+        check(&rt, bytes.as_slice(), 16384, *offset);
     }
 }
 
-/// Whether rows have been built to these bytes, and to what is known of them.
-fn is_built(alloc: Global, rows: Rows, bytes: &[u8]) -> Result<bool, Memory> {
-    if rows.len() != 1 {
-        return Ok(false);
+/// Entries with which no stripe agrees, and one with which another stripe would, where the file ends within the length of its stripe.
+static CUT: [(usize, &str, u64); 3] = [
+    (36, "02", 4096),
+    (44, "02", 4096),
+    (36, "02 00 00 00 00 00 00 00 02", 4100),
+];
+
+#[test]
+fn cut_within_a_length(rt: HostRuntime) {
+    for (place, words, at) in &CUT {
+        let bytes = changed(&rt, *place, words);
+        check(&rt, bytes.as_slice(), 4100, *at);
     }
-    let built = build(alloc, rows)?;
-    Ok(built.bytes.as_slice() == bytes && is_known(&built.info))
 }
 
 /// Whether this is known of the block: it has four pages, of which the one at 1 is its stripe, the one at 2 its index, and the
@@ -276,45 +230,38 @@ fn is_known(info: &BlockInfo) -> bool {
     parts && info.stripes.as_slice() == [stripe].as_slice()
 }
 
-/// Whether that is read of these bytes.
-fn is_read(alloc: Global, bytes: &[u8]) -> Result<bool, Memory> {
-    let mut pages = file(alloc, bytes, &[])?;
-    match check_block(alloc, &mut pages, FILE, 3, 1, 16384) {
-        Ok(info) => Ok(info.level == 3 && info.file == FILE && is_known(&info)),
-        Err(_) => Ok(false),
-    }
+/// Asserts that rows are built to these bytes, and to what is known of them.
+fn check_built(rt: &(impl Abort + AllocGlobal), rows: Rows, bytes: &[u8]) {
+    assert!(rt; rows.len() == 1);
+    let built = build(rt.alloc(), rows).expect(rt, "memory");
+    assert!(rt; built.bytes.as_slice() == bytes && is_known(&built.info));
 }
 
 #[test]
-fn read_and_built_again(rt: HostRuntime) -> Result<(), Fail> {
-    let alloc = rt.alloc();
-    let bytes = block(alloc)?;
-    assert!(rt; is_read(alloc, bytes.as_slice())?);
-    match rows_of(alloc, bytes.as_slice())? {
-        Some(rows) => assert!(rt; is_built(alloc, rows, bytes.as_slice())?),
-        None => return Err(Fail::from("the bytes are to be a block")),
-    }
-    Ok(())
+fn read_and_built_again(rt: HostRuntime) {
+    let bytes = block(rt.alloc()).expect(&rt, "memory");
+    let mut pages = file(rt.alloc(), bytes.as_slice(), &[]).expect(&rt, "memory");
+    let read = check_block(rt.alloc(), &mut pages, FILE, 3, 1, 16384);
+    let info = read.expect(&rt, "a block");
+    assert!(&rt; info.level == 3 && info.file == FILE && is_known(&info));
+    let rows = all_rows(rt.alloc(), &mut pages, FILE, &info).expect(&rt, "a block");
+    check_built(&rt, rows, bytes.as_slice());
 }
 
 /// Whether a read of a page in mid-stream is answered as a fault.
-fn is_fault(alloc: Global, bytes: &[u8]) -> Result<bool, Memory> {
-    let mut pages = file(alloc, bytes, &[3])?;
-    match check_block(alloc, &mut pages, FILE, 3, 1, 16384) {
-        Err(ReadError::Fault) => Ok(true),
-        _ => Ok(false),
-    }
+fn is_fault(rt: &(impl Abort + AllocGlobal), bytes: &[u8]) -> bool {
+    let mut pages = file(rt.alloc(), bytes, &[3]).expect(rt, "memory");
+    let read = check_block(rt.alloc(), &mut pages, FILE, 3, 1, 16384);
+    matches!(read, Err(ReadError::Fault))
 }
 
 #[test]
-fn a_read_fails(rt: HostRuntime) -> Result<(), Fail> {
-    let alloc = rt.alloc();
-    let bytes = block(alloc)?;
-    assert!(rt; is_fault(alloc, bytes.as_slice())?);
-    let mut pages = file(alloc, bytes.as_slice(), &[2])?;
+fn a_read_fails(rt: HostRuntime) {
+    let bytes = block(rt.alloc()).expect(&rt, "memory");
+    assert!(&rt; is_fault(&rt, bytes.as_slice()));
+    let mut pages = file(rt.alloc(), bytes.as_slice(), &[2]).expect(&rt, "memory");
     let mut buf = [0; 4096];
-    assert!(rt; pages.page(FILE, 0, &mut buf) == Ok(()));
-    assert_eq!(rt; &buf[..4], [0x54, 0x53, 0x42, 0x31].as_slice());
-    assert!(rt; pages.page(FILE, 1, &mut buf) == Err(Failed));
-    Ok(())
+    assert!(&rt; pages.page(FILE, 0, &mut buf).is_ok());
+    assert!(&rt; buf.starts_with(b"TSB1"));
+    assert!(&rt; matches!(pages.page(FILE, 1, &mut buf), Err(Failed)));
 }
