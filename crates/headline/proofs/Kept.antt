@@ -1,0 +1,115 @@
+-- The disk keeps the history that replies tell.
+use Rattle.std.proofs.Common.{true, ◌≡◌, ◌⊎◌, inl, inr, ◌∙◌, ℕ, List, [], ◌∷◌, Ok, IsTrue, ap, append-nil, arith, refl, sym, subst}
+use Rattle.disk_model.specs.Crash.{Reached}
+use Rattle.disk_model.specs.Images.{Image}
+use Rattle.disk_model.specs.declared.disk.Device.{Ghosts}
+use Rattle.session_text.specs.declared.reply.Reply.{Reply}
+use Rattle.session_text.specs.declared.request.Request.{Request}
+use Rattle.session_text.specs.Items.{Item}
+use Rattle.store_core.specs.Cores.{unsure_of}
+use Rattle.store_core.specs.Past.{StandsSince}
+use Rattle.store_core.specs.Port.{port_of}
+use Rattle.store_core.specs.Stood.{StoodFor}
+use Rattle.store_core.specs.declared.store.Core.{Core}
+use Rattle.store_core.proofs.Past.{stands_since_now}
+use Rattle.store_entries.specs.declared.entry.Entry.{Entry}
+use Rattle.store_images.specs.Stored.{ImageStandsFor, KeepsStored, MayStandFor}
+use Rattle.store_model.specs.History.{History, count_of, grown, up_to}
+use Rattle.store_model.specs.Step.{Machine}
+use Rattle.client_run.specs.Answers.{HasReplied}
+use Rattle.session_meaning.specs.Answering.{at_core}
+use Rattle.session_meaning.specs.At.{history_of}
+use Rattle.session_meaning.specs.Pushes.{accepted_entries, accepted_entry, unsure_entry}
+use Rattle.session_meaning.specs.Progress.{AreAnsweredOver}
+use Rattle.session_meaning.specs.Runs.{Edges, IsRunOf, Outcome}
+use Rattle.session_meaning.specs.Session.{Session}
+use Rattle.session_meaning.specs.Stops.{Recovers, StandsWithin}
+use Rattle.session_meaning.proofs.CoreSessions.{since_means}
+use Rattle.session_meaning.proofs.Told.{session_grows}
+use Rattle.headline.specs.Headline.{KeepsTheHistory}
+use Rattle.headline.specs.Requests.{HasHistory, KeepsFrom}
+use Rattle.headline.proofs.Telling.{session_tells}
+use Rattle.headline.proofs.Histories.{as_before, no_shorter, told_grows}
+
+module _ {D : Type 0} (g : Ghosts D) where
+  -- ---- a run
+
+  pub run_keeps : (disk later : D) (words : List (List ℕ)) (o : Outcome) (old new : Edges) → IsRunOf true words o old new → Recovers g disk later o → IsTrue o.opened
+      → KeepsTheHistory g disk later o.items o.replies (history_of o.first) (history_of o.last)
+  run_keeps disk later words o old new run recovers opened = record {
+    told = session_tells o.items o.replies o.first o.last run.session;
+    stored = recovers.returned opened;
+    any_moment = λ image since. within image (recovers.any_moment image since);
+  }
+    where
+      within : (image : Image) → Reached KeepsStored (g.may_leave disk) image ⊎ (IsTrue o.opened × StandsWithin o image)
+          → Reached KeepsStored (g.may_leave disk) image ⊎ StoodFor (count_of (history_of o.first)) (history_of o.last) (unsure_entry o.items o.replies) image
+      within image (inl kept) = inl kept
+      within image (inr was) = inr was.1
+
+  pub some_history : (disk later : D) (words : List (List ℕ)) (o : Outcome) (old new : Edges) → IsRunOf true words o old new → Recovers g disk later o → IsTrue o.opened
+      → (first last : History) × ImageStandsFor (g.held disk) first × KeepsTheHistory g disk later o.items o.replies first last
+  some_history disk later words o old new run recovers opened =
+      (history_of o.first, history_of o.last, (recovers.begins opened).stored, run_keeps disk later words o old new run recovers opened)
+
+  -- Where all that could be left at first stood for the first history.
+  pub kept_throughout : (disk later : D) (items : List Item) (replies : List Reply) (first last : History) → KeepsTheHistory g disk later items replies first last
+      → ((image : Image) → g.may_leave disk image → ImageStandsFor image first) → (image : Image) → g.left_since later (g.moment disk) image
+      → StoodFor (count_of first) last (unsure_entry items replies) image
+  kept_throughout disk later items replies first last kept at_first image since = elim (kept.any_moment image since) [
+    | inl was ↦ begun was
+    | inr stood ↦ stood
+  ]
+    where
+      grows : last ≡ grown first (accepted_entries items replies)
+      grows = told_grows items replies first last kept.told
+
+      front : up_to (count_of first) last ≡ first
+      front = ap (up_to (count_of first)) grows ∙ as_before first (accepted_entries items replies)
+
+      begun : Reached KeepsStored (g.may_leave disk) image → StoodFor (count_of first) last (unsure_entry items replies) image
+      begun was = inl (
+        count_of first,
+        omega arith,
+        no_shorter first last (accepted_entries items replies) grows,
+        subst (λ (h : History). ImageStandsFor image h) (sym front) (was.2.stands first (at_first was.0 was.1)),
+      )
+
+  -- ---- lines over a core
+
+  module _ (only_now : (disk : D) (image : Image) → g.left_since disk (g.moment disk) image → g.may_leave disk image) where
+    pub lines_keep : (old new : Core D) (h : History) (items : List Item) (replies : List Reply) → HasHistory g old h → IsTrue (g.tells old.disk)
+        → AreAnsweredOver (port_of g) old items replies new → KeepsFrom g old new h (grown h (accepted_entries items replies))
+    lines_keep old new h items replies (m, stands, is) tells answered = record {
+      stands = (later, since.stands, grows);
+      any_moment = λ image left.
+          subst (λ (n : ℕ). StoodFor n next (unsure_of new.state) image) (ap count_of is)
+          (subst (λ (x : History). StoodFor (count_of m.history) x (unsure_of new.state) image) grows ((since.past tells_on).each image left));
+      now = λ image left. subst (λ (x : History). MayStandFor x (unsure_of new.state) image) grows (since.stands.stands.now tells_on image left);
+    }
+      where
+        all : (m' : Machine) × (StandsSince g old.disk (count_of m.history) new m' × IsTrue (g.tells new.disk)) × Session true (at_core g old m) items replies (at_core g new m')
+        all = since_means g old.disk (count_of m.history) items replies old new m (stands_since_now g only_now old m stands, tells) answered
+
+        later : Machine
+        later = all.0
+
+        since : StandsSince g old.disk (count_of m.history) new later
+        since = all.1.0
+
+        tells_on : IsTrue (g.tells new.disk)
+        tells_on = all.1.1
+
+        next : History
+        next = grown h (accepted_entries items replies)
+
+        grows : later.history ≡ next
+        grows =
+            session_grows true items replies (at_core g old m) (at_core g new later) all.2
+            ∙ ap (λ (x : History). grown x (accepted_entries items replies)) is
+
+    pub request_keeps : (old new : Core D) (h : History) (asked : Request) (reply : Reply) → HasHistory g old h → IsTrue (g.tells old.disk) → HasReplied (port_of g) old asked reply new
+        → KeepsFrom g old new h (grown h (accepted_entry (Ok asked) reply))
+    request_keeps old new h asked reply has tells replied =
+        subst (λ (es : List Entry). KeepsFrom g old new h (grown h es)) (append-nil (accepted_entry (Ok asked) reply))
+        (lines_keep old new h (Ok asked ∷ []) (reply ∷ []) has tells (new, replied, (refl, refl)))

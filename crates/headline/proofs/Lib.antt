@@ -1,0 +1,6 @@
+mod Histories
+mod Telling
+mod Counts
+mod Stopped
+mod Written
+mod Kept

@@ -1,0 +1,12 @@
+use Rattle.headline.proofs.Telling.{session_tells}
+use Rattle.headline.proofs.Kept.{kept_throughout, some_history}
+use Rattle.headline.proofs.laws.the_headline.Goals as goal
+
+pub returns-clause-answers : goal.returns-clause-answers
+returns-clause-answers g c = λ words o old new run. session_tells o.items o.replies o.first o.last run.session
+
+pub returns-clause-stored : goal.returns-clause-stored
+returns-clause-stored g c = some_history g.D.Device c.args.disk.now c.args.later.now
+
+pub returns-clause-at_any_moment : goal.returns-clause-at_any_moment
+returns-clause-at_any_moment g c = kept_throughout g.D.Device c.args.disk.now c.args.later.now

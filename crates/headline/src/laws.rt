@@ -1,0 +1,115 @@
+//! The headline, and what goes with it.
+
+ghost use Rattle.std.specs.Prelude.{Bool, IsTrue, true, ◌≡◌, ◌<◌, ◌≤◌, ◌+◌, ◌++◌, List, [], ◌∷◌, Some, Ok, length, ℕ};
+ghost use Rattle.std.specs.List.{Contains};
+ghost use Rattle.command_words.specs.Commands.{Command, Spells};
+ghost use Rattle.disk_model.specs.Images.{Image};
+ghost use Rattle.io_edges.specs.Devices.{AppendsPrefix};
+ghost use Rattle.otlp_spans.specs.declared.read.Reading.{Reading};
+ghost use Rattle.session_text.specs.declared.refusal.Refusal.{Refusal};
+ghost use Rattle.session_text.specs.declared.reply.Reply.{Reply};
+ghost use Rattle.session_text.specs.declared.reply.Reply.TheVariants.{Pushed, Refused};
+ghost use Rattle.session_text.specs.declared.request.Request.{Request};
+ghost use Rattle.session_text.specs.declared.request.Request.TheVariants.{Push};
+ghost use Rattle.session_text.specs.Items.{Item};
+ghost use Rattle.store_core.specs.Past.{StoodFor};
+ghost use Rattle.store_core.specs.Port.{port_of};
+ghost use Rattle.store_images.specs.Stored.{ImageStandsFor};
+ghost use Rattle.store_model.specs.History.{History, count_of, grown};
+ghost use Rattle.client_run.specs.Answers.{HasReplied};
+ghost use Rattle.session_meaning.specs.At.{At, history_of};
+ghost use Rattle.session_meaning.specs.Progress.{AreAnsweredOver};
+ghost use Rattle.session_meaning.specs.Pushes.{accepted_entries, accepted_entry, known_pushes, unsure_entry};
+ghost use Rattle.session_meaning.specs.Runs.{Edges, IsRunOf, Outcome, TellsAll};
+ghost use Rattle.session_meaning.specs.Session.{Session, reply_texts};
+ghost use Rattle.session_meaning.specs.Stops.{Recovers};
+ghost use Rattle.headline.specs.Headline.{KeepsTheHistory, TellTheHistory, TellsFront};
+ghost use Rattle.headline.specs.Requests.{HasHistory, KeepsFrom};
+ghost use Rattle.headline.specs.Stopped.{AreToldReadOnly, StopsWriting};
+
+use disk_model::Device;
+use session_meaning::pushes_have_their_causes;
+use store_core::Core;
+
+/// The headline. Every answer of a run is TraceQL's meaning over the first occurrences of the spans in one front of the history
+/// of pushes. That front has each push that was acknowledged before. Whatever a crash leaves of the disk afterwards stands for
+/// that history to its end. `trace_shell::run` ensures the premises; `true` says that the disk tells its bytes.
+pub fn the_headline<D: Device>(disk: &D, later: &D)
+    ensures answers { (words : List (List ℕ)) (o : Outcome) (old new : Edges) → IsRunOf true words o old new
+        → TellTheHistory (history_of o.first) o.items o.replies (history_of o.last) }
+    // And the disk keeps the history that they tell, from one on for which its bytes stood.
+    ensures stored { (words : List (List ℕ)) (o : Outcome) (old new : Edges) → IsRunOf true words o old new
+        → Recovers D.Device.own disk.now later.now o → IsTrue o.opened
+        → (first last : History) × ImageStandsFor (D.held disk.now) first
+        × KeepsTheHistory D.Device.own disk.now later.now o.items o.replies first last }
+    // Where all that a crash could leave at first stood for the first history, all that one left at any moment stands for it
+    // with the first few accepted pushes, or as it may stand after the last line.
+    ensures at_any_moment { (items : List Item) (replies : List Reply) (first last : History)
+        → KeepsTheHistory D.Device.own disk.now later.now items replies first last
+        → ((image : Image) → D.may_leave disk.now image → ImageStandsFor image first)
+        → (image : Image) → D.left_since later.now (D.moment disk.now) image
+        → StoodFor (count_of first) last (unsure_entry items replies) image }
+{}
+
+/// What is written in a store that was opened is the text of these replies, or a first part of it.
+pub fn replies_are_written()
+    ensures { (told : Bool) (words : List (List ℕ)) (c : Command) (o : Outcome) (old new : Edges) → Spells words c
+        → IsRunOf told words o old new → TellsAll c old → IsTrue o.opened
+        → AppendsPrefix old.taken new.taken (reply_texts o.replies) }
+{}
+
+/// Where replies tell a history, each tells one front of the last one: with each push that was accepted before, and no other.
+pub fn each_answer_is_of_a_front()
+    ensures { (first last : History) (before after : List Item) (item : Item) (earlier later : List Reply) (reply : Reply)
+        → length before ≡ length earlier
+        → TellTheHistory first (before ++ item ∷ after) (earlier ++ reply ∷ later) last
+        → TellsFront first last before earlier item reply }
+{}
+
+/// The counts of pushes that a session tells never fall.
+pub fn counts_grow()
+    // `as_of` never falls.
+    ensures as_of { (told : Bool) (items : List Item) (earlier later : List Reply) (one other : Reply)
+        → (first last : At) (count further : ℕ)
+        → Session told first items (earlier ++ one ∷ later) last → Contains later other
+        → known_pushes one ≡ Some count → known_pushes other ≡ Some further → count ≤ further }
+    // An acknowledged push is counted by each later answer.
+    ensures acknowledged { (told : Bool) (items : List Item) (earlier later : List Reply) (other : Reply) (first last : At)
+        → (number accepted rejected skipped further : ℕ)
+        → Session told first items (earlier ++ Pushed number accepted rejected skipped ∷ later) last
+        → Contains later other → known_pushes other ≡ Some further → number < further }
+    // Accepted pushes are numbered one after another.
+    ensures numbered { (told : Bool) (items : List Item) (earlier later : List Reply) (first last : At)
+        → (number accepted rejected skipped : ℕ)
+        → Session told first items (earlier ++ Pushed number accepted rejected skipped ∷ later) last
+        → number ≡ count_of (history_of first) + length (accepted_entries items earlier) }
+{}
+
+/// A store that writes no more stays so to the end of a session, and accepts no push.
+pub fn read_only_stays()
+    ensures stays { (told : Bool) (items : List Item) (replies : List Reply) (first last : At) (faults : ℕ)
+        → Session told first items replies last → first.machine.read_only ≡ Some faults
+        → (last.machine.read_only ≡ Some faults) × AreToldReadOnly faults items replies }
+    // So it is after a push that is refused as `read-only` or `disk-fault`.
+    ensures from_a_push { (told : Bool) (before after : List Item) (reading : Reading) (moment : ℕ)
+        → (earlier later : List Reply) (why : Refusal) (first last : At) → length before ≡ length earlier
+        → Session told first (before ++ Ok (Push reading moment) ∷ after) (earlier ++ Refused why ∷ later) last
+        → StopsWriting why → (faults : ℕ) × (last.machine.read_only ≡ Some faults) × AreToldReadOnly faults after later }
+    // And where lines are told so no push is accepted.
+    ensures accepts_none { (faults : ℕ) (items : List Item) (replies : List Reply) → AreToldReadOnly faults items replies
+        → accepted_entries items replies ≡ [] }
+{
+    pushes_have_their_causes();
+}
+
+/// A core keeps what was stored before a request, at every moment of it, and what the request is told to be accepted.
+pub fn a_request_keeps_what_is_stored<D: Device>(old: &Core<D>, new: &Core<D>)
+    ensures of_a_request { (h : History) (asked : Request) (reply : Reply) → HasHistory D.Device.own old.now h
+        → IsTrue (D.tells old.now.disk) → HasReplied (port_of D.Device.own) old.now asked reply new.now
+        → KeepsFrom D.Device.own old.now new.now h (grown h (accepted_entry (Ok asked) reply)) }
+    // The same of lines, one after another. So whatever a crash left since some line was answered has all that was accepted by
+    // then.
+    ensures of_lines { (h : History) (items : List Item) (replies : List Reply) → HasHistory D.Device.own old.now h
+        → IsTrue (D.tells old.now.disk) → AreAnsweredOver (port_of D.Device.own) old.now items replies new.now
+        → KeepsFrom D.Device.own old.now new.now h (grown h (accepted_entries items replies)) }
+{}

@@ -1,0 +1,11 @@
+//! The headline: a run's replies and its disk tell one history (`specs/Headline.antt`), and laws that go with it.
+//!
+//! The crate has definitions and laws. Nothing here runs.
+#![tactic(auto)]
+
+mod laws;
+
+pub use laws::{
+    a_request_keeps_what_is_stored, counts_grow, each_answer_is_of_a_front, read_only_stays,
+    replies_are_written, the_headline,
+};
