@@ -38,7 +38,7 @@ line_grows h (Ok (request.Push reading moment)) (Pushed number accepted rejected
 line_grows h _ _ = sym (same_grown h)
 
 -- a line after which others added more
-one_more : (h last : History) (item : Item) (r : Reply) (more : List Entry) → last ≡ grown (after_reply h item r) more → last ≡ grown h (accepted_entry item r ++ more)
+pub one_more : (h last : History) (item : Item) (r : Reply) (more : List Entry) → last ≡ grown (after_reply h item r) more → last ≡ grown h (accepted_entry item r ++ more)
 one_more h last item r more is = is ∙ ap (λ (x : History). grown x more) (line_grows h item r) ∙ grown_twice h (accepted_entry item r) more
 
 -- The last history is the first one with all that was accepted.

@@ -4,3 +4,4 @@ mod Counts
 mod Stopped
 mod Written
 mod Kept
+mod Alike

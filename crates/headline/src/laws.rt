@@ -1,6 +1,6 @@
 //! The headline, and what goes with it.
 
-ghost use Rattle.std.specs.Prelude.{Bool, IsTrue, true, ◌≡◌, ◌<◌, ◌≤◌, ◌+◌, ◌++◌, List, [], ◌∷◌, Some, Ok, length, ℕ};
+ghost use Rattle.std.specs.Prelude.{Bool, IsTrue, true, ◌≡◌, ◌⊎◌, ◌<◌, ◌≤◌, ◌+◌, ◌++◌, List, [], ◌∷◌, Some, Ok, length, ℕ};
 ghost use Rattle.std.specs.List.{Contains};
 ghost use Rattle.command_words.specs.Commands.{Command, Spells};
 ghost use Rattle.disk_model.specs.Images.{Image};
@@ -15,7 +15,7 @@ ghost use Rattle.session_text.specs.Items.{Item};
 ghost use Rattle.store_core.specs.Past.{StoodFor};
 ghost use Rattle.store_core.specs.Port.{port_of};
 ghost use Rattle.store_images.specs.Stored.{ImageStandsFor};
-ghost use Rattle.store_model.specs.History.{History, count_of, grown};
+ghost use Rattle.store_model.specs.History.{History, count_of, grown, up_to, with_entry};
 ghost use Rattle.client_run.specs.Answers.{HasReplied};
 ghost use Rattle.session_meaning.specs.At.{At, history_of};
 ghost use Rattle.session_meaning.specs.Progress.{AreAnsweredOver};
@@ -49,6 +49,41 @@ pub fn the_headline<D: Device>(disk: &D, later: &D)
         → ((image : Image) → D.may_leave disk.now image → ImageStandsFor image first)
         → (image : Image) → D.left_since later.now (D.moment disk.now) image
         → StoodFor (count_of first) last (unsure_entry items replies) image }
+{}
+
+/// Whatever history the disk's bytes stood for, the run goes on from it: so it matters to no reply and to no later image which of
+/// them is meant.
+pub fn each_stored_history_goes_on<D: Device>(disk: &D, later: &D)
+    ensures { (words : List (List ℕ)) (o : Outcome) (old new : Edges) → IsRunOf true words o old new
+        → Recovers D.Device.own disk.now later.now o → IsTrue o.opened
+        → (first : History) → ImageStandsFor (D.held disk.now) first
+        → KeepsTheHistory D.Device.own disk.now later.now o.items o.replies
+        first (grown first (accepted_entries o.items o.replies)) }
+{}
+
+/// A run on what an earlier one left goes on with the history that the earlier one kept.
+pub fn the_next_run_goes_on<D: Device>(begun: &D, left: &D, disk: &D, later: &D)
+    // After it ended: with all of that history, with or without the first push that was answered `disk-fault`.
+    ensures after_its_end { (items : List Item) (replies : List Reply) (first last : History)
+        → KeepsTheHistory D.Device.own begun.now left.now items replies first last
+        → (words : List (List ℕ)) (o : Outcome) (old new : Edges) → IsRunOf true words o old new
+        → Recovers D.Device.own disk.now later.now o → IsTrue o.opened
+        → D.may_leave left.now (D.held disk.now)
+        → (start : History) × ((start ≡ last) ⊎ (start ≡ with_entry (unsure_entry items replies) last))
+        × KeepsTheHistory D.Device.own disk.now later.now o.items o.replies
+        start (grown start (accepted_entries o.items o.replies)) }
+    // After a crash at any moment of it: with a front of that history which has all that was stored before it. It is supposed
+    // that all that a crash could leave as it began stood for the same history.
+    ensures after_a_crash { (items : List Item) (replies : List Reply) (first last : History)
+        → KeepsTheHistory D.Device.own begun.now left.now items replies first last
+        → (words : List (List ℕ)) (o : Outcome) (old new : Edges) → IsRunOf true words o old new
+        → Recovers D.Device.own disk.now later.now o → IsTrue o.opened
+        → ((image : Image) → D.may_leave begun.now image → ImageStandsFor image first)
+        → D.left_since left.now (D.moment begun.now) (D.held disk.now)
+        → (start : History) × (((n : ℕ) × (count_of first ≤ n) × (start ≡ up_to n last))
+        ⊎ (start ≡ with_entry (unsure_entry items replies) last))
+        × KeepsTheHistory D.Device.own disk.now later.now o.items o.replies
+        start (grown start (accepted_entries o.items o.replies)) }
 {}
 
 /// What is written in a store that was opened is the text of these replies, or a first part of it.
