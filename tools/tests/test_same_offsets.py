@@ -49,13 +49,13 @@ class Source:
         return made
 
     def body(self, name: str) -> str:
-        """A function, or a table of its own."""
-        found = re.search(rf"fn {name}\(.*?\n}}\n|static {name}: .*?\n\];\n", self.text, re.S)
+        """A function, or a table that is a constant or a static."""
+        found = re.search(rf"fn {name}\(.*?\n}}\n|(?:const|static) {name}: .*?\n\];\n", self.text, re.S)
         assert found, name
         return found[0]
 
     def rows(self, function: str, form: str) -> List[Tuple[str, ...]]:
-        """The rows of a table, or of a function's, that have this form: in it N is a number, X a text of bytes and W a word."""
+        """The rows of a table, or of a function with one, of this form: N is a number, X a text of bytes, W a word."""
         pattern = form.replace("(", r"\(").replace(")", r"\)").replace("N", f"({NUMBER}|SOUND)")
         pattern = pattern.replace("X", '"([^"]*)"').replace("W", "([A-Z][a-z]+)").replace(" ", r"\s*")
         found = [it.groups() for it in re.finditer(pattern, self.body(function))]
@@ -162,13 +162,14 @@ class Lists(unittest.TestCase):
         second = self.SOURCE.array("SECOND")
         self.assertEqual(store_format.read_slot(0, self.SOURCE.array("NEW_STORE")).next_file, 3)
         self.assertEqual(store_format.read_slot(1, second, 0).next_file, 6)
-        for at, new, offset in self.SOURCE.rows("each_rule_breaks_at_its_field", "(N, N, N)"):
+        for at, new, offset in self.SOURCE.rows("RULES", "(N, N, N)"):
             data = put(second, number(at), bytes([number(new)]))
             self.assertEqual(breaks_at(lambda: store_format.read_slot(1, data, 0)), number(offset), (at, new))
 
 
 class Logs(unittest.TestCase):
     SOURCE = Source("disk_tests", "src", "log.rt")
+    BODIES = Source("disk_tests", "src", "batches.rt")
 
     def scan(self, data: bytes) -> Tuple[str, int]:
         facts = SegmentFacts(7)
@@ -179,12 +180,11 @@ class Logs(unittest.TestCase):
         return bytes([1, 1, len(body), 0, 0, 0, 0, 0, 0, 0]) + body + b"\0"
 
     def test_one_place(self) -> None:
-        tables = (("broken_in_one_place", "TWO_RESOURCES"), ("extended_bodies_that_are_malformed", "EXTENDED"))
-        for function, name in tables:
-            data = self.segment(self.SOURCE.array(name))
-            for at, count, byte, way, offset in self.SOURCE.rows(function, "(N, N, N, W(N))"):
+        for name in ("TWO_RESOURCES", "EXTENDED"):
+            data = self.segment(self.BODIES.array(name))
+            for at, count, byte, way, offset in self.SOURCE.rows(f"{name}_CHANGES", "(N, N, N, W(N))"):
                 new = put(data, number(at), bytes([number(byte)]) * number(count))
-                self.assertEqual(self.scan(new), (way, number(offset)), (function, at))
+                self.assertEqual(self.scan(new), (way, number(offset)), (name, at))
 
     def cases(self, function: str) -> Iterator[Tuple[int, Tuple[str, int]]]:
         """The places of a match's arms, with what is said of each."""
@@ -195,7 +195,7 @@ class Logs(unittest.TestCase):
                     yield at, (way, int(offset))
 
     def test_two_records(self) -> None:
-        data = bytes([1, 1, 129, 0, 0, 0, 0, 0, 0, 0]) + self.SOURCE.array("TWO_SPANS")
+        data = bytes([1, 1, 129, 0, 0, 0, 0, 0, 0, 0]) + self.BODIES.array("TWO_SPANS")
         data += bytes([1, 9, 0, 0, 0, 0, 0, 0, 0, 8, 0, 0, 0, 0, 0, 0, 0, 0, 0])
         wanted = dict(self.cases("other_bit_of_spans"))
         wanted.update(self.cases("other_bit"))

@@ -1,107 +1,272 @@
-//! A disk in a folder of the system.
+//! A disk in a folder of the system: what it keeps, what it refuses, and how it makes what it makes.
 
+use crate::calls::{Call, ends, has, is_refused, passes};
 use disk_model::Device;
 use folder_disk::FolderDisk;
 use span_types::Failed;
 use std::alloc::AllocError;
+use std::fs::Metadata;
+use std::os::unix::fs::{MetadataExt, symlink};
 use std::test::Fail;
-use std::{env, fs, process};
+use std::{env, fs, io, process};
 
-/// What is done with a disk, or found.
+/// What is made at a path by the system.
+#[derive(Clone, Copy)]
+enum Thing {
+    /// So many ones.
+    File(usize),
+    LinkTo(&'static str),
+    Folder,
+    /// A file is removed.
+    Nothing,
+}
+
+/// What is at a path by the system.
+#[derive(Clone, Copy)]
+enum Found {
+    Nothing,
+    /// So many bytes.
+    Len(u64),
+    Folder,
+    /// Who may read, write and use it.
+    Mode(u32),
+}
+
+/// What is done with a disk or its folder, or found.
+#[derive(Clone, Copy)]
 enum Step {
-    /// Calls that pass.
-    Write(u32, u64, &'static [u8]),
-    Cut(u32, u64),
-    Sync(u32),
-    /// A write that fails.
-    Refuse(u32, u64, &'static [u8]),
+    Passes(Call),
+    Fails(Call),
+    /// Each kind of call of a file fails.
+    Refused(u32),
     /// All bytes of a file, by the disk's calls.
     Read(u32, &'static [u8]),
     /// Nothing is read of a file from an offset on.
     End(u32, u64),
-    /// Whether the folder is there.
-    Made(bool),
-    /// How many bytes a file of the folder has, by the system, and `None` where it isn't there.
-    Found(&'static str, Option<u64>),
+    /// So many files are written, of which each second is synced, and each has what was written.
+    Keeps(u32),
     /// How many calls have failed.
     Faults(u64),
+    /// At a name in the folder.
+    Make(&'static str, Thing),
+    Found(&'static str, Found),
+    /// The folder in which it lies.
+    MakeAbove,
 }
 
+/// What is done with a disk; with another one of the same folder; with the first one again; and, once that is closed, with
+/// the other one.
+type Turns = [&'static [Step]; 4];
+
 /// Each case in a folder of its own, which isn't there before.
-const CASES: [(&str, &[Step]); 6] = [
+static CASES: [(&str, Turns); 13] = [
     (
         "a file that is missing is empty",
-        &[
-            Step::Made(false),
-            Step::Read(7, &[]),
-            Step::Made(true),
-            Step::Found("lock", Some(256)),
-            Step::Cut(7, 3),
-            Step::Write(7, 5, &[]),
-            Step::Sync(7),
-            Step::Read(7, &[]),
-            Step::Found("7.dat", None),
+        [
+            &[
+                Step::Found("", Found::Nothing),
+                Step::Read(7, &[]),
+                Step::Found("", Found::Folder),
+                Step::Found("lock", Found::Len(256)),
+                Step::Passes(Call::Cut(7, 3)),
+                Step::Passes(Call::Write(7, 5, &[])),
+                Step::Passes(Call::Sync(7)),
+                Step::Read(7, &[]),
+                Step::Found("7.dat", Found::Nothing),
+            ],
+            &[],
+            &[],
+            &[],
         ],
     ),
     (
         "what is written is read",
-        &[
-            Step::Write(3, 0, &[5, 6, 7, 8]),
-            Step::Write(3, 1, &[9]),
-            Step::Read(3, &[5, 9, 7, 8]),
-            Step::Write(3, 6, &[4]),
-            Step::Read(3, &[5, 9, 7, 8, 0, 0, 4]),
-            Step::Found("3.dat", Some(7)),
+        [
+            &[
+                Step::Passes(Call::Write(3, 0, &[5, 6, 7, 8])),
+                Step::Passes(Call::Write(3, 1, &[9])),
+                Step::Read(3, &[5, 9, 7, 8]),
+                Step::Passes(Call::Write(3, 6, &[4])),
+                Step::Read(3, &[5, 9, 7, 8, 0, 0, 4]),
+                Step::Found("3.dat", Found::Len(7)),
+            ],
+            &[],
+            &[],
+            &[],
         ],
     ),
     (
         "nothing is read past the end",
-        &[
-            Step::Write(3, 0, &[5, 6, 7]),
-            Step::End(3, 3),
-            Step::End(3, 4),
-            Step::End(3, (1 << 63) - 1),
-            Step::End(3, 1 << 63),
-            Step::End(3, u64::MAX),
+        [
+            &[
+                Step::Passes(Call::Write(3, 0, &[5, 6, 7])),
+                Step::End(3, 3),
+                Step::End(3, 4),
+                Step::End(3, (1 << 63) - 1),
+                Step::End(3, 1 << 63),
+                Step::End(3, u64::MAX),
+            ],
+            &[],
+            &[],
+            &[],
         ],
     ),
     (
         "a cut makes no file longer",
-        &[
-            Step::Write(3, 0, &[5, 6, 7]),
-            Step::Cut(3, 2),
-            Step::Read(3, &[5, 6]),
-            Step::Cut(3, 100),
-            Step::Read(3, &[5, 6]),
-            // What was cut isn't there again.
-            Step::Write(3, 3, &[8]),
-            Step::Read(3, &[5, 6, 0, 8]),
+        [
+            &[
+                Step::Passes(Call::Write(3, 0, &[5, 6, 7])),
+                Step::Passes(Call::Cut(3, 2)),
+                Step::Read(3, &[5, 6]),
+                Step::Passes(Call::Cut(3, 100)),
+                Step::Read(3, &[5, 6]),
+                // What was cut isn't there again.
+                Step::Passes(Call::Write(3, 3, &[8])),
+                Step::Read(3, &[5, 6, 0, 8]),
+            ],
+            &[],
+            &[],
+            &[],
         ],
     ),
     (
         "a write that ends too far changes nothing",
-        &[
-            Step::Refuse(0, (1 << 63) - 1, &[1]),
-            Step::Refuse(0, 1 << 63, &[]),
-            Step::Refuse(0, u64::MAX, &[1]),
-            Step::Faults(3),
-            Step::Made(false),
+        [
+            &[
+                Step::Fails(Call::Write(0, (1 << 63) - 1, &[1])),
+                Step::Fails(Call::Write(0, 1 << 63, &[])),
+                Step::Fails(Call::Write(0, u64::MAX, &[1])),
+                Step::Faults(3),
+                Step::Found("", Found::Nothing),
+            ],
+            &[],
+            &[],
+            &[],
         ],
     ),
     (
         "a synced file without bytes is removed",
-        &[
-            Step::Write(2, 0, &[1, 2]),
-            Step::Sync(2),
-            Step::Cut(2, 0),
-            Step::Found("2.dat", Some(0)),
-            Step::Sync(2),
-            Step::Found("2.dat", None),
-            Step::Read(2, &[]),
-            Step::Write(2, 1, &[8]),
-            Step::Sync(2),
-            Step::Read(2, &[0, 8]),
-            Step::Faults(0),
+        [
+            &[
+                Step::Passes(Call::Write(2, 0, &[1, 2])),
+                Step::Passes(Call::Sync(2)),
+                Step::Passes(Call::Cut(2, 0)),
+                Step::Found("2.dat", Found::Len(0)),
+                Step::Passes(Call::Sync(2)),
+                Step::Found("2.dat", Found::Nothing),
+                Step::Read(2, &[]),
+                Step::Passes(Call::Write(2, 1, &[8])),
+                Step::Passes(Call::Sync(2)),
+                Step::Read(2, &[0, 8]),
+                Step::Faults(0),
+            ],
+            &[],
+            &[],
+            &[],
+        ],
+    ),
+    (
+        "more files are written than stay open",
+        [&[Step::Keeps(300)], &[], &[], &[]],
+    ),
+    (
+        "a folder has one disk at a time",
+        [
+            &[Step::Passes(Call::Write(0, 0, &[1, 2, 3])), Step::Faults(0)],
+            &[
+                Step::Fails(Call::Len(0)),
+                Step::Fails(Call::Write(0, 0, &[9])),
+                Step::Fails(Call::Sync(0)),
+            ],
+            &[Step::Read(0, &[1, 2, 3]), Step::Faults(0)],
+            &[Step::Read(0, &[1, 2, 3]), Step::Faults(3)],
+        ],
+    ),
+    (
+        "a folder that cannot be made/is a fault",
+        [
+            &[
+                Step::Fails(Call::Write(0, 0, &[1])),
+                Step::Faults(1),
+                Step::MakeAbove,
+                Step::Passes(Call::Write(0, 0, &[1])),
+                Step::Passes(Call::Sync(0)),
+                Step::Faults(1),
+            ],
+            &[],
+            &[],
+            &[],
+        ],
+    ),
+    (
+        "a link or a folder is no file",
+        [
+            &[
+                Step::Make("", Thing::Folder),
+                Step::Make("target", Thing::File(3)),
+                Step::Make("0.dat", Thing::LinkTo("target")),
+                Step::Make("3.dat", Thing::LinkTo("nothing")),
+                Step::Make("4.dat", Thing::Folder),
+                Step::Refused(0),
+                Step::Refused(3),
+                Step::Refused(4),
+                // Other files can be used beside them.
+                Step::Passes(Call::Write(1, 0, &[5])),
+                Step::Passes(Call::Sync(1)),
+                Step::Found("target", Found::Len(3)),
+                Step::Found("4.dat", Found::Folder),
+                Step::Found("nothing", Found::Nothing),
+            ],
+            &[],
+            &[],
+            &[],
+        ],
+    ),
+    (
+        "a link is no lock",
+        [
+            &[
+                Step::Make("", Thing::Folder),
+                Step::Make("lock", Thing::LinkTo("other")),
+                Step::Refused(0),
+                Step::Found("other", Found::Nothing),
+            ],
+            &[],
+            &[],
+            &[],
+        ],
+    ),
+    (
+        "what is made is its owner's alone",
+        [
+            &[
+                Step::Passes(Call::Write(0, 0, &[5])),
+                Step::Found("", Found::Mode(0o700)),
+                Step::Found("lock", Found::Mode(0o600)),
+                Step::Found("0.dat", Found::Mode(0o600)),
+            ],
+            &[],
+            &[],
+            &[],
+        ],
+    ),
+    (
+        "a lock that was taken away is noticed",
+        [
+            &[
+                Step::Passes(Call::Write(0, 0, &[5])),
+                Step::Passes(Call::Sync(0)),
+                Step::Passes(Call::Write(0, 0, &[6])),
+                Step::Make("lock", Thing::Nothing),
+            ],
+            &[Step::Passes(Call::Len(0))],
+            // The first one makes nothing last any more, opens nothing and makes nothing.
+            &[
+                Step::Fails(Call::Sync(0)),
+                Step::Fails(Call::Len(1)),
+                Step::Fails(Call::Write(1, 0, &[7])),
+            ],
+            &[Step::Read(1, &[])],
         ],
     ),
 ];
@@ -115,9 +280,15 @@ fn unused(rt: HostRuntime, name: &str) -> Result<String, Fail> {
     Ok(path)
 }
 
+/// The part of a path before `/is a fault`, or all.
+fn top_of(path: &str) -> &str {
+    path.strip_suffix("/is a fault").unwrap_or(path)
+}
+
 fn remove(rt: HostRuntime, path: &str) -> Result<(), Fail> {
-    if fs::exists(&rt, path)? {
-        fs::remove_dir_all(&rt, path)?;
+    let top = top_of(path);
+    if fs::exists(&rt, top)? {
+        fs::remove_dir_all(&rt, top)?;
     }
     Ok(())
 }
@@ -127,94 +298,8 @@ fn disk_in(rt: HostRuntime, path: &str) -> Result<FolderDisk<HostRuntime>, Alloc
     Ok(FolderDisk::new(rt, rt.alloc(), path))
 }
 
-/// The length of the file `{path}/{name}`, where it is there.
-fn file_len(rt: HostRuntime, path: &str, name: &str) -> Result<Option<u64>, Fail> {
-    let path = format!(in rt.alloc(); "{path}/{name}")?;
-    if fs::exists(&rt, path.as_str())? {
-        Ok(Some(fs::metadata(&rt, path.as_str())?.len()))
-    } else {
-        Ok(None)
-    }
-}
-
-/// Whether a file has just these bytes, fewer than 16.
-fn has<D: Device>(disk: &mut D, file: u32, bytes: &[u8]) -> Result<bool, Failed> {
-    let mut buf = [9u8; 16];
-    let count = disk.read(file, 0, &mut buf)?;
-    Ok(disk.len(file)? == bytes.len() as u64 && buf.get(..count) == Some(bytes))
-}
-
-/// Whether nothing is read from an offset on, and the buffer stays as it is.
-fn ends<D: Device>(disk: &mut D, file: u32, at: u64) -> bool {
-    let mut buf = [9u8; 4];
-    disk.read(file, at, &mut buf) == Ok(0) && buf == [9; 4]
-}
-
-/// Whether the step goes as it says.
-fn goes<D: Device>(rt: HostRuntime, disk: &mut D, path: &str, step: &Step) -> Result<bool, Fail> {
-    Ok(match *step {
-        Step::Write(file, at, bytes) => disk.write(file, at, bytes).is_ok(),
-        Step::Cut(file, len) => disk.cut(file, len).is_ok(),
-        Step::Sync(file) => disk.sync(file).is_ok(),
-        Step::Refuse(file, at, bytes) => disk.write(file, at, bytes).is_err(),
-        Step::Read(file, bytes) => has(disk, file, bytes)?,
-        Step::End(file, at) => ends(disk, file, at),
-        Step::Made(made) => fs::exists(&rt, path)? == made,
-        Step::Found(name, len) => file_len(rt, path, name)? == len,
-        Step::Faults(count) => disk.faults() == count,
-    })
-}
-
-/// The place of the first step that doesn't go as it says.
-fn stray<D: Device>(
-    rt: HostRuntime,
-    disk: &mut D,
-    path: &str,
-    steps: &[Step],
-) -> Result<Option<usize>, Fail> {
-    for (i, step) in steps.iter().enumerate() {
-        if !goes(rt, disk, path, step)? {
-            return Ok(Some(i));
-        }
-    }
-    Ok(None)
-}
-
-#[test]
-fn files_lie_in_a_folder(rt: HostRuntime) -> Result<(), Fail> {
-    for (name, steps) in CASES {
-        let path = unused(rt, name)?;
-        let mut disk = disk_in(rt, path.as_str())?;
-        assert_eq!(rt; stray(rt, &mut disk, path.as_str(), steps)?, None, "{name}");
-        drop(disk);
-        remove(rt, path.as_str())?;
-    }
-    Ok(())
-}
-
-/// Whether each call fails, three of them.
-fn is_refused<D: Device>(disk: &mut D) -> bool {
-    disk.len(0).is_err() && disk.write(0, 0, &[9]).is_err() && disk.sync(0).is_err()
-}
-
-const HELD: &[Step] = &[Step::Write(0, 0, &[1, 2, 3]), Step::Faults(0)];
-
-const LEFT: &[Step] = &[Step::Read(0, &[1, 2, 3]), Step::Faults(0)];
-
-const OPENED: &[Step] = &[Step::Read(0, &[1, 2, 3]), Step::Faults(3)];
-
-#[test]
-fn a_folder_has_one_disk_at_a_time(rt: HostRuntime) -> Result<(), Fail> {
-    let path = unused(rt, "locked")?;
-    let mut first = disk_in(rt, path.as_str())?;
-    let mut second = disk_in(rt, path.as_str())?;
-    assert_eq!(rt; stray(rt, &mut first, path.as_str(), HELD)?, None);
-    assert!(rt; is_refused(&mut second));
-    assert_eq!(rt; stray(rt, &mut first, path.as_str(), LEFT)?, None);
-    drop(first);
-    assert_eq!(rt; stray(rt, &mut second, path.as_str(), OPENED)?, None);
-    drop(second);
-    remove(rt, path.as_str())
+fn path_of(rt: HostRuntime, folder: &str, name: &str) -> Result<String, AllocError> {
+    format!(in rt.alloc(); "{folder}/{name}")
 }
 
 /// Writes so many files, of which each second is synced, and says whether each has what was written.
@@ -225,35 +310,199 @@ fn keeps<D: Device>(disk: &mut D, files: u32) -> Result<bool, Failed> {
             disk.sync(file)?;
         }
     }
+    let mut same = true;
     for file in 0..files {
-        if !has(disk, file, &file.to_le_bytes())? {
-            return Ok(false);
-        }
+        same &= has(disk, file, &file.to_le_bytes())?;
     }
-    Ok(true)
+    Ok(same)
+}
+
+fn puts(rt: HostRuntime, path: &str, len: usize) -> bool {
+    match vec![in rt.alloc(); 1u8; len] {
+        Ok(bytes) => fs::write(&rt, path, bytes.as_slice()).is_ok(),
+        Err(_) => false,
+    }
+}
+
+fn makes(rt: HostRuntime, path: &str, thing: Thing) -> bool {
+    match thing {
+        Thing::File(len) => puts(rt, path, len),
+        Thing::LinkTo(target) => symlink(&rt, target, path).is_ok(),
+        Thing::Folder => fs::create_dir(&rt, path).is_ok(),
+        Thing::Nothing => fs::remove_file(&rt, path).is_ok(),
+    }
+}
+
+fn makes_in(rt: HostRuntime, folder: &str, name: &str, thing: Thing) -> bool {
+    match path_of(rt, folder, name) {
+        Ok(path) => makes(rt, path.as_str(), thing),
+        Err(_) => false,
+    }
+}
+
+fn is(metadata: &Metadata, found: Found) -> bool {
+    match found {
+        Found::Nothing => false,
+        Found::Len(len) => metadata.len() == len,
+        Found::Folder => metadata.is_dir(),
+        Found::Mode(mode) => metadata.mode() & 0o777 == mode,
+    }
+}
+
+fn finds(rt: HostRuntime, path: &str, found: Found) -> bool {
+    match fs::exists(&rt, path) {
+        Ok(true) => match fs::metadata(&rt, path) {
+            Ok(metadata) => is(&metadata, found),
+            Err(_) => false,
+        },
+        Ok(false) => matches!(found, Found::Nothing),
+        Err(_) => false,
+    }
+}
+
+fn finds_in(rt: HostRuntime, folder: &str, name: &str, found: Found) -> bool {
+    match path_of(rt, folder, name) {
+        Ok(path) => finds(rt, path.as_str(), found),
+        Err(_) => false,
+    }
+}
+
+/// Whether the step goes as it says.
+fn goes<D: Device>(rt: HostRuntime, disk: &mut D, folder: &str, step: Step) -> bool {
+    match step {
+        Step::Passes(call) => passes(disk, call),
+        Step::Fails(call) => !passes(disk, call),
+        Step::Refused(file) => is_refused(disk, file),
+        Step::Read(file, bytes) => has(disk, file, bytes) == Ok(true),
+        Step::End(file, at) => ends(disk, file, at),
+        Step::Keeps(files) => keeps(disk, files) == Ok(true),
+        Step::Faults(count) => disk.faults() == count,
+        Step::Make(name, thing) => makes_in(rt, folder, name, thing),
+        Step::Found(name, found) => finds_in(rt, folder, name, found),
+        Step::MakeAbove => makes(rt, top_of(folder), Thing::Folder),
+    }
+}
+
+/// Whether each step goes as it says.
+fn go<D: Device>(rt: HostRuntime, disk: &mut D, folder: &str, steps: &[Step]) -> bool {
+    let mut same = true;
+    for step in steps {
+        same = same && goes(rt, disk, folder, *step);
+    }
+    same
+}
+
+/// Which turns go as they say.
+fn turns_gone(rt: HostRuntime, folder: &str, turns: &Turns) -> Result<[bool; 4], AllocError> {
+    let mut first = disk_in(rt, folder)?;
+    let mut second = disk_in(rt, folder)?;
+    let one = go(rt, &mut first, folder, turns[0]);
+    let two = go(rt, &mut second, folder, turns[1]);
+    let three = go(rt, &mut first, folder, turns[2]);
+    drop(first);
+    let four = go(rt, &mut second, folder, turns[3]);
+    Ok([one, two, three, four])
+}
+
+fn case_gone(rt: HostRuntime, name: &str, turns: &Turns) -> Result<[bool; 4], Fail> {
+    let folder = unused(rt, name)?;
+    let gone = turns_gone(rt, folder.as_str(), turns)?;
+    remove(rt, folder.as_str())?;
+    Ok(gone)
 }
 
 #[test]
-fn more_files_are_written_than_stay_open(rt: HostRuntime) -> Result<(), Fail> {
-    let path = unused(rt, "many")?;
-    let mut disk = disk_in(rt, path.as_str())?;
-    assert!(rt; keeps(&mut disk, 300)?);
-    drop(disk);
-    remove(rt, path.as_str())
+fn files_lie_in_a_folder(rt: HostRuntime) -> Result<(), Fail> {
+    for (name, turns) in &CASES {
+        let gone = case_gone(rt, name, turns)?;
+        assert!(rt; gone == [true; 4], "{name}: {gone:?}");
+    }
+    Ok(())
 }
 
-const NONE: &[Step] = &[Step::Refuse(0, 0, &[1]), Step::Faults(1)];
+/// Files of a folder by name and length, and whether a disk takes them for a store's, or for none at all.
+static FOLDERS: [(&[(&str, usize)], bool); 12] = [
+    (&[], true),
+    (&[("notes.txt", 7), ("lock", 0), ("x.dat", 9)], true),
+    // What is left where a program was killed as it made a new store.
+    (&[("2.dat", 0)], true),
+    (&[("2.dat", 2)], true),
+    (&[("0.dat", 0), ("2.dat", 2)], true),
+    (&[("0.dat", 0), ("1.dat", 0)], true),
+    (&[("0.dat", 42), ("2.dat", 2)], true),
+    (&[("1.dat", 42), ("7.dat", 5)], true),
+    // What no program leaves.
+    (&[("2.dat", 3)], false),
+    (&[("2.dat", 2), ("3.dat", 0)], false),
+    (&[("0.dat", 0), ("2.dat", 2), ("9.dat", 1)], false),
+    (&[("lock", 0), ("17.dat", 5)], false),
+];
 
-const MADE: &[Step] = &[Step::Write(0, 0, &[1]), Step::Sync(0), Step::Faults(1)];
+/// Makes a folder with these files.
+fn fills(rt: HostRuntime, folder: &str, files: &[(&str, usize)]) -> bool {
+    let mut made = makes(rt, folder, Thing::Folder);
+    for (name, len) in files {
+        made &= makes_in(rt, folder, name, Thing::File(*len));
+    }
+    made
+}
+
+/// How many files there are in a folder. None where one is neither the lock nor one of these.
+fn count_in(rt: HostRuntime, folder: &str, files: &[(&str, usize)]) -> io::Result<Option<usize>> {
+    let mut count = 0usize;
+    for entry in fs::read_dir(&rt, folder)? {
+        let entry = entry?;
+        let len = entry.metadata()?.len() as usize;
+        if entry.file_name() != "lock" && !files.contains(&(entry.file_name(), len)) {
+            return Ok(None);
+        }
+        count = count.saturating_add(1);
+    }
+    Ok(Some(count))
+}
+
+fn takes<D: Device>(disk: &mut D) -> bool {
+    disk.len(5).is_ok()
+}
+
+fn refuses<D: Device>(disk: &mut D) -> bool {
+    disk.len(5).is_err() && is_refused(disk, 0) && is_refused(disk, 17)
+}
+
+/// Whether a disk takes a folder or not, and makes nothing but its lock, and that in no folder that it doesn't take.
+fn treats(
+    rt: HostRuntime,
+    folder: &str,
+    files: &[(&str, usize)],
+    is_taken: bool,
+) -> Result<bool, Fail> {
+    let mut disk = disk_in(rt, folder)?;
+    let same = if is_taken {
+        takes(&mut disk)
+    } else {
+        refuses(&mut disk)
+    };
+    let made = is_taken && !files.contains(&("lock", 0));
+    let count = files.len().saturating_add(usize::from(made));
+    Ok(same && count_in(rt, folder, files)? == Some(count))
+}
+
+fn fills_and_treats(
+    rt: HostRuntime,
+    files: &[(&str, usize)],
+    is_taken: bool,
+) -> Result<bool, Fail> {
+    let folder = unused(rt, "slots")?;
+    let filled = fills(rt, folder.as_str(), files);
+    let treated = treats(rt, folder.as_str(), files, is_taken)?;
+    remove(rt, folder.as_str())?;
+    Ok(filled && treated)
+}
 
 #[test]
-fn a_folder_that_cannot_be_made_is_a_fault(rt: HostRuntime) -> Result<(), Fail> {
-    let above = unused(rt, "above")?;
-    let path = format!(in rt.alloc(); "{above}/deeper")?;
-    let mut disk = disk_in(rt, path.as_str())?;
-    assert_eq!(rt; stray(rt, &mut disk, path.as_str(), NONE)?, None);
-    fs::create_dir(&rt, above.as_str())?;
-    assert_eq!(rt; stray(rt, &mut disk, path.as_str(), MADE)?, None);
-    drop(disk);
-    remove(rt, above.as_str())
+fn files_of_a_store_without_a_slot_are_refused(rt: HostRuntime) -> Result<(), Fail> {
+    for (files, is_taken) in &FOLDERS {
+        assert!(rt; fills_and_treats(rt, files, *is_taken)?, "{files:?}");
+    }
+    Ok(())
 }

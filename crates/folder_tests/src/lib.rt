@@ -2,11 +2,11 @@
 #![tactic(auto)]
 
 #[cfg(test)]
+mod calls;
+#[cfg(test)]
 mod clock;
 #[cfg(test)]
 mod folder;
-#[cfg(test)]
-mod kinds;
 #[cfg(test)]
 mod machine;
 #[cfg(test)]

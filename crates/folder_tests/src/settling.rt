@@ -1,11 +1,153 @@
 //! A disk in a folder over a system that fails: what it reads afterwards is there after a power cut too.
 
+use crate::calls::{Call, has, passes};
 use crate::machine::Machine;
 use disk_model::Device;
 use folder_disk::FolderDisk;
 use span_types::Failed;
 use std::alloc::AllocError;
 use std::test::Fail;
+
+/// What is done with a machine and the disk of the program that runs on it, or found.
+#[derive(Clone, Copy)]
+enum Step {
+    Passes(Call),
+    Fails(Call),
+    /// Bytes are written and synced.
+    Put(u32, &'static [u8]),
+    /// All bytes of a file.
+    Read(u32, &'static [u8]),
+    /// How many calls of the disk have failed.
+    Faults(u64),
+    /// So many of the machine's next syncs or writes fail.
+    SyncsFail(usize),
+    WritesFail(usize),
+    /// So many files may be open.
+    MostOpen(usize),
+    /// So many writes were made since the program began.
+    Writes(usize),
+    /// Each of the files 0 to 5, read ten times in turn, has its number, and that makes so many writes.
+    ReadsSix(usize),
+    /// A program ends, and another one begins.
+    NewProgram,
+    /// The same, and between them the machine is started anew.
+    PowerCut,
+}
+
+static CASES: [(&str, &[Step]); 6] = [
+    (
+        "what a program reads lasts after a sync that failed before it",
+        &[
+            Step::Put(0, &[1, 2, 3]),
+            Step::SyncsFail(1),
+            Step::Passes(Call::Write(0, 0, &[7, 7, 7, 7])),
+            Step::Fails(Call::Sync(0)),
+            Step::NewProgram,
+            Step::Passes(Call::Sync(0)),
+            Step::Read(0, &[7, 7, 7, 7]),
+            Step::PowerCut,
+            Step::Read(0, &[7, 7, 7, 7]),
+        ],
+    ),
+    (
+        "what a disk reads lasts after its own failed sync",
+        &[
+            Step::Put(0, &[1, 2, 3]),
+            Step::SyncsFail(1),
+            Step::Passes(Call::Write(0, 0, &[7, 7, 7, 7])),
+            Step::Fails(Call::Sync(0)),
+            Step::Passes(Call::Sync(0)),
+            Step::Read(0, &[7, 7, 7, 7]),
+            Step::PowerCut,
+            Step::Read(0, &[7, 7, 7, 7]),
+        ],
+    ),
+    (
+        "a failed write is settled",
+        &[
+            Step::Put(0, &[1, 2, 3]),
+            Step::WritesFail(1),
+            Step::Fails(Call::Write(0, 1, &[8])),
+            // The call that settles the file fails in its turn, and the next one settles it.
+            Step::SyncsFail(1),
+            Step::Fails(Call::Len(0)),
+            Step::Faults(2),
+            Step::Read(0, &[1, 8, 3]),
+            Step::PowerCut,
+            Step::Read(0, &[1, 8, 3]),
+        ],
+    ),
+    (
+        "a file in doubt is written again once",
+        &[
+            Step::Put(0, &[0]),
+            Step::Put(1, &[1]),
+            Step::Put(2, &[2]),
+            Step::Put(3, &[3]),
+            Step::Put(4, &[4]),
+            Step::Put(5, &[5]),
+            Step::MostOpen(4),
+            Step::NewProgram,
+            Step::ReadsSix(0),
+            Step::NewProgram,
+            Step::Passes(Call::Write(3, 0, &[3])),
+            Step::SyncsFail(1),
+            Step::Fails(Call::Sync(3)),
+            Step::NewProgram,
+            Step::ReadsSix(1),
+            Step::NewProgram,
+            Step::ReadsSix(0),
+        ],
+    ),
+    (
+        "a file that was not settled is settled by a later program",
+        &[
+            Step::Put(0, &[1]),
+            Step::Put(1, &[2]),
+            Step::NewProgram,
+            Step::SyncsFail(1),
+            Step::Passes(Call::Write(0, 0, &[1])),
+            Step::Fails(Call::Sync(0)),
+            // After that failure the other file is written again too, which fails.
+            Step::WritesFail(1),
+            Step::Fails(Call::Len(1)),
+            Step::NewProgram,
+            Step::Read(0, &[1]),
+            Step::Read(1, &[2]),
+            Step::Writes(2),
+        ],
+    ),
+    (
+        "files without changes are closed where no descriptor is left",
+        &[
+            // The lock and three files.
+            Step::MostOpen(4),
+            Step::Put(0, &[0, 5]),
+            Step::Put(1, &[1, 5]),
+            Step::Put(2, &[2, 5]),
+            Step::Put(3, &[3, 5]),
+            Step::Put(4, &[4, 5]),
+            Step::Put(5, &[5, 5]),
+            Step::Put(6, &[6, 5]),
+            Step::Put(7, &[7, 5]),
+            Step::Read(0, &[0, 5]),
+            Step::Read(1, &[1, 5]),
+            Step::Read(2, &[2, 5]),
+            Step::Read(3, &[3, 5]),
+            Step::Read(4, &[4, 5]),
+            Step::Read(5, &[5, 5]),
+            Step::Read(6, &[6, 5]),
+            Step::Read(7, &[7, 5]),
+            // Files with changes stay open, so a fourth one can't be opened.
+            Step::Passes(Call::Write(0, 0, &[9])),
+            Step::Passes(Call::Write(1, 0, &[9])),
+            Step::Passes(Call::Write(2, 0, &[9])),
+            Step::Fails(Call::Len(3)),
+            Step::Passes(Call::Sync(1)),
+            Step::Read(3, &[3, 5]),
+        ],
+    ),
+];
 
 /// A disk as a program has it that is started now.
 fn disk_on<'a>(
@@ -16,150 +158,60 @@ fn disk_on<'a>(
     Ok(FolderDisk::new(machine, rt.alloc(), path))
 }
 
-/// Whether a file has just these bytes, fewer than 8.
-fn has<D: Device>(disk: &mut D, file: u32, bytes: &[u8]) -> Result<bool, Failed> {
-    let mut buf = [9u8; 8];
-    let count = disk.read(file, 0, &mut buf)?;
-    Ok(disk.len(file)? == bytes.len() as u64 && buf.get(..count) == Some(bytes))
-}
-
-/// Writes bytes and makes them last.
 fn put<D: Device>(disk: &mut D, file: u32, bytes: &[u8]) -> Result<(), Failed> {
     disk.write(file, 0, bytes)?;
     disk.sync(file)
 }
 
-/// Whether a file has just these bytes, now and after a power cut.
-fn keeps(
-    rt: HostRuntime,
-    machine: &Machine,
-    disk: FolderDisk<&Machine>,
-    file: u32,
-    bytes: &[u8],
-) -> Result<bool, Fail> {
-    let mut disk = disk;
-    let now = has(&mut disk, file, bytes)?;
-    drop(disk);
-    machine.restart();
-    Ok(now && has(&mut disk_on(rt, machine)?, file, bytes)?)
-}
-
-#[test]
-fn what_a_program_reads_lasts_after_a_sync_that_failed_before_it(
-    rt: HostRuntime,
-) -> Result<(), Fail> {
-    let machine = Machine::new();
-    let mut first = disk_on(rt, &machine)?;
-    put(&mut first, 0, &[1, 2, 3])?;
-    machine.failing_syncs.set(1);
-    assert!(rt; put(&mut first, 0, &[7, 7, 7, 7]).is_err());
-    drop(first);
-    let mut second = disk_on(rt, &machine)?;
-    second.sync(0)?;
-    assert!(rt; keeps(rt, &machine, second, 0, &[7, 7, 7, 7])?);
-    Ok(())
-}
-
-#[test]
-fn what_a_disk_reads_lasts_after_its_own_failed_sync(rt: HostRuntime) -> Result<(), Fail> {
-    let machine = Machine::new();
-    let mut disk = disk_on(rt, &machine)?;
-    put(&mut disk, 0, &[1, 2, 3])?;
-    machine.failing_syncs.set(1);
-    assert!(rt; put(&mut disk, 0, &[7, 7, 7, 7]).is_err());
-    disk.sync(0)?;
-    assert!(rt; keeps(rt, &machine, disk, 0, &[7, 7, 7, 7])?);
-    Ok(())
-}
-
-#[test]
-fn a_failed_write_is_settled(rt: HostRuntime) -> Result<(), Fail> {
-    let machine = Machine::new();
-    let mut disk = disk_on(rt, &machine)?;
-    put(&mut disk, 0, &[1, 2, 3])?;
-    machine.failing_writes.set(1);
-    assert!(rt; disk.write(0, 1, &[8]).is_err());
-    // The call that settles the file fails in its turn, and the next one settles it.
-    machine.failing_syncs.set(1);
-    assert!(rt; disk.len(0).is_err());
-    assert_eq!(rt; disk.faults(), 2);
-    assert!(rt; keeps(rt, &machine, disk, 0, &[1, 8, 3])?);
-    Ok(())
-}
-
-/// Whether a program that is started now reads six files in turns as they are, and how many writes that makes.
-fn reads_all(rt: HostRuntime, machine: &Machine) -> Result<(bool, usize), Fail> {
-    machine.writes.set(0);
-    let mut disk = disk_on(rt, machine)?;
+fn reads_six<D: Device>(disk: &mut D) -> Result<bool, Failed> {
     let mut same = true;
     for turn in 0..60u8 {
         let file = turn % 6;
-        same &= has(&mut disk, u32::from(file), &[file])?;
+        same &= has(disk, u32::from(file), &[file])?;
     }
-    Ok((same, machine.writes.get()))
+    Ok(same)
+}
+
+/// Whether the step goes as it says.
+fn goes<D: Device>(machine: &Machine, disk: &mut D, step: Step) -> bool {
+    match step {
+        Step::Passes(call) => return passes(disk, call),
+        Step::Fails(call) => return !passes(disk, call),
+        Step::Put(file, bytes) => return put(disk, file, bytes).is_ok(),
+        Step::Read(file, bytes) => return has(disk, file, bytes) == Ok(true),
+        Step::Faults(count) => return disk.faults() == count,
+        Step::Writes(count) => return machine.writes.get() == count,
+        Step::ReadsSix(writes) => {
+            return reads_six(disk) == Ok(true) && machine.writes.get() == writes;
+        }
+        Step::SyncsFail(count) => machine.failing_syncs.set(count),
+        Step::WritesFail(count) => machine.failing_writes.set(count),
+        Step::MostOpen(count) => machine.most_open.set(count),
+        Step::PowerCut => machine.restart(),
+        Step::NewProgram => machine.writes.set(0),
+    }
+    true
+}
+
+/// The place of the first step that doesn't go as it says.
+fn stray(rt: HostRuntime, machine: &Machine, steps: &[Step]) -> Result<Option<usize>, AllocError> {
+    let mut disk = disk_on(rt, machine)?;
+    for (place, step) in steps.iter().enumerate() {
+        if matches!(step, Step::NewProgram | Step::PowerCut) {
+            disk = disk_on(rt, machine)?;
+        }
+        if !goes(machine, &mut disk, *step) {
+            return Ok(Some(place));
+        }
+    }
+    Ok(None)
 }
 
 #[test]
-fn a_file_in_doubt_is_written_again_once(rt: HostRuntime) -> Result<(), Fail> {
-    let machine = Machine::new();
-    let mut first = disk_on(rt, &machine)?;
-    for file in 0..6u8 {
-        put(&mut first, u32::from(file), &[file])?;
+fn what_is_read_lasts(rt: HostRuntime) -> Result<(), Fail> {
+    for (name, steps) in &CASES {
+        let place = stray(rt, &Machine::new(), steps)?;
+        assert!(rt; place.is_none(), "{name}: {place:?}");
     }
-    drop(first);
-    machine.most_open.set(4);
-    assert!(rt; reads_all(rt, &machine)? == (true, 0));
-    let mut second = disk_on(rt, &machine)?;
-    second.write(3, 0, &[3])?;
-    machine.failing_syncs.set(1);
-    assert!(rt; second.sync(3).is_err());
-    drop(second);
-    assert!(rt; reads_all(rt, &machine)? == (true, 1));
-    assert!(rt; reads_all(rt, &machine)? == (true, 0));
-    Ok(())
-}
-
-#[test]
-fn a_file_that_was_not_settled_is_settled_by_a_later_program(rt: HostRuntime) -> Result<(), Fail> {
-    let machine = Machine::new();
-    let mut first = disk_on(rt, &machine)?;
-    put(&mut first, 0, &[1])?;
-    put(&mut first, 1, &[2])?;
-    drop(first);
-    let mut second = disk_on(rt, &machine)?;
-    machine.failing_syncs.set(1);
-    assert!(rt; put(&mut second, 0, &[1]).is_err());
-    // After that failure the other file is written again too, which fails.
-    machine.failing_writes.set(1);
-    assert!(rt; second.len(1).is_err());
-    drop(second);
-    machine.writes.set(0);
-    let mut third = disk_on(rt, &machine)?;
-    assert!(rt; has(&mut third, 0, &[1])? && has(&mut third, 1, &[2])?);
-    assert_eq!(rt; machine.writes.get(), 2);
-    Ok(())
-}
-
-#[test]
-fn files_without_changes_are_closed_where_no_descriptor_is_left(
-    rt: HostRuntime,
-) -> Result<(), Fail> {
-    let machine = Machine::new();
-    // The lock and three files.
-    machine.most_open.set(4);
-    let mut disk = disk_on(rt, &machine)?;
-    for file in 0..8u8 {
-        put(&mut disk, u32::from(file), &[file, 5])?;
-    }
-    for file in 0..8u8 {
-        assert!(rt; has(&mut disk, u32::from(file), &[file, 5])?);
-    }
-    // Files with changes stay open, so a fourth one can't be opened.
-    for file in 0..3 {
-        disk.write(file, 0, &[9])?;
-    }
-    assert!(rt; disk.len(3).is_err());
-    disk.sync(1)?;
-    assert_eq!(rt; disk.len(3)?, 2);
     Ok(())
 }
