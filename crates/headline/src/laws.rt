@@ -51,7 +51,7 @@ pub fn the_headline<D: Device>(disk: &D, later: &D)
         → StoodFor (count_of first) last (unsure_entry items replies) image }
 {}
 
-/// Whatever history the disk's bytes stood for, the run goes on from it: so it matters to no reply and to no later image which of
+/// Whatever history the disk's bytes stood for, the run goes on from it: it matters to no reply and to no later image which of
 /// them is meant.
 pub fn each_stored_history_goes_on<D: Device>(disk: &D, later: &D)
     ensures { (words : List (List ℕ)) (o : Outcome) (old new : Edges) → IsRunOf true words o old new
@@ -95,7 +95,8 @@ pub fn replies_are_written()
 
 /// Where replies tell a history, each tells one front of the last one: with each push that was accepted before, and no other.
 pub fn each_answer_is_of_a_front()
-    ensures { (first last : History) (before after : List Item) (item : Item) (earlier later : List Reply) (reply : Reply)
+    ensures { (first last : History) (before after : List Item) (item : Item) (earlier later : List Reply)
+        → (reply : Reply)
         → length before ≡ length earlier
         → TellTheHistory first (before ++ item ∷ after) (earlier ++ reply ∷ later) last
         → TellsFront first last before earlier item reply }
@@ -109,8 +110,8 @@ pub fn counts_grow()
         → Session told first items (earlier ++ one ∷ later) last → Contains later other
         → known_pushes one ≡ Some count → known_pushes other ≡ Some further → count ≤ further }
     // An acknowledged push is counted by each later answer.
-    ensures acknowledged { (told : Bool) (items : List Item) (earlier later : List Reply) (other : Reply) (first last : At)
-        → (number accepted rejected skipped further : ℕ)
+    ensures acknowledged { (told : Bool) (items : List Item) (earlier later : List Reply) (other : Reply)
+        → (first last : At) (number accepted rejected skipped further : ℕ)
         → Session told first items (earlier ++ Pushed number accepted rejected skipped ∷ later) last
         → Contains later other → known_pushes other ≡ Some further → number < further }
     // Accepted pushes are numbered one after another.
@@ -129,10 +130,11 @@ pub fn read_only_stays()
     ensures from_a_push { (told : Bool) (before after : List Item) (reading : Reading) (moment : ℕ)
         → (earlier later : List Reply) (why : Refusal) (first last : At) → length before ≡ length earlier
         → Session told first (before ++ Ok (Push reading moment) ∷ after) (earlier ++ Refused why ∷ later) last
-        → StopsWriting why → (faults : ℕ) × (last.machine.read_only ≡ Some faults) × AreToldReadOnly faults after later }
+        → StopsWriting why
+        → (faults : ℕ) × (last.machine.read_only ≡ Some faults) × AreToldReadOnly faults after later }
     // And where lines are told so no push is accepted.
-    ensures accepts_none { (faults : ℕ) (items : List Item) (replies : List Reply) → AreToldReadOnly faults items replies
-        → accepted_entries items replies ≡ [] }
+    ensures accepts_none { (faults : ℕ) (items : List Item) (replies : List Reply)
+        → AreToldReadOnly faults items replies → accepted_entries items replies ≡ [] }
 {
     pushes_have_their_causes();
 }
