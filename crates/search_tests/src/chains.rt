@@ -1,10 +1,7 @@
 //! Long chains of operators on a small stack.
 
-use crate::lines::{Failure, firsts_of, query_of, rows_of};
-use moment_range::Range;
-use search_answer::{Bounds, answer};
+use crate::lines::{ALL, ALWAYS, query_of, results_of};
 use std::alloc::{AllocError, Global};
-use std::test::Fail;
 use std::thread::Builder;
 use traceql_print::print_query;
 
@@ -16,7 +13,7 @@ const LINE: &str =
     r#"{"resourceSpans":[{"scopeSpans":[{"spans":[{"traceId":"000000000000000000000000000000d1","spanId":"0000000000000001","parentSpanId":"","name":"a","startTimeUnixNano":"1","endTimeUnixNano":"2","attributes":[{"key":"v","value":{"intValue":"1"}}]}]}]}]}"#;
 
 /// Queries that find the span: how each begins, what comes again and again, how many times, and how it ends.
-const CHAINS: [(&str, &str, usize, &str); 6] = [
+static CHAINS: [(&str, &str, usize, &str); 6] = [
     ("{.v ", "+1", 4_000, "=4001}"),
     ("{} | by(.v ", "-1", 4_000, ")"),
     ("{.v=1", "&&true", 1_300, "}"),
@@ -25,57 +22,42 @@ const CHAINS: [(&str, &str, usize, &str); 6] = [
     ("{}", "!>{}", 2_000, ""),
 ];
 
-// A text, so many times another one, and an end.
-fn repeated(
+// Whether a query is printed.
+fn is_printed(alloc: Global, text: &str) -> bool {
+    match query_of(alloc, text) {
+        Some(checked) => print_query(alloc, &checked.query).is_ok(),
+        None => false,
+    }
+}
+
+// Whether a query finds one trace. It is read, checked, answered, printed and dropped here.
+fn finds_one(alloc: Global, text: &str) -> bool {
+    match results_of(alloc, text, ALWAYS, ALL, &[LINE]) {
+        Some(results) => results.len() == 1 && is_printed(alloc, text),
+        None => false,
+    }
+}
+
+// A chain as one text.
+fn chain(
     alloc: Global,
     first: &str,
     more: &str,
     times: usize,
     end: &str,
 ) -> Result<String, AllocError> {
-    let mut text = String::from_str(alloc, first)?;
-    for _ in 0..times {
-        text.push_str(more)?;
-    }
-    text.push_str(end)?;
-    Ok(text)
-}
-
-// How many traces a query finds, which is read, checked, printed and dropped here.
-fn search(alloc: Global, text: &str) -> Result<usize, Failure> {
-    let checked = query_of(alloc, text)?;
-    if print_query(alloc, &checked.query).is_err() {
-        return Err("no memory");
-    }
-    let rows = firsts_of(alloc, rows_of(alloc, &[LINE])?)?;
-    let range = Range {
-        from: 0,
-        until: None,
-    };
-    let bounds = Bounds {
-        limit: 20,
-        spans_per_set: 20,
-    };
-    match answer(alloc, &checked, range, bounds, rows.as_slice()) {
-        Ok(results) => Ok(results.len()),
-        Err(_) => Err("no memory"),
-    }
-}
-
-// Whether a query finds one trace.
-fn finds_one(alloc: Global, text: &str) -> bool {
-    matches!(search(alloc, text), Ok(1))
+    let middle = more.repeat(alloc, times)?;
+    format!(in alloc; "{first}{middle}{end}")
 }
 
 #[test]
-fn chains_need_little_stack(rt: HostRuntime) -> Result<(), Fail> {
+fn chains_need_little_stack(rt: HostRuntime) {
     let alloc = rt.alloc();
-    for (first, more, times, end) in CHAINS {
-        let text = repeated(alloc, first, more, times, end)?;
+    for (first, more, times, end) in &CHAINS {
+        let text = chain(alloc, first, more, *times, end).expect(&rt, "memory");
         let small = Builder::new().stack_size(STACK);
-        let thread = small.spawn(&rt, move || finds_one(alloc, text.as_str()))?;
-        let found = thread.join(&rt);
-        assert!(rt; found, "the chain of {more}");
+        let thread = small.spawn(&rt, move || finds_one(alloc, text.as_str()));
+        let found = thread.expect(&rt, "a thread").join(&rt);
+        assert!(&rt; found, "the chain of {more}");
     }
-    Ok(())
 }

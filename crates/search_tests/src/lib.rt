@@ -18,4 +18,6 @@ mod searches;
 #[cfg(test)]
 mod texts;
 #[cfg(test)]
+mod told;
+#[cfg(test)]
 mod values;

@@ -1,22 +1,31 @@
-//! Rows of lines, and queries of texts, as the tests of this crate take them.
+//! Rows of lines, queries of texts, and what searches give, as the tests of this crate take them. They are none if a text is
+//! refused or memory runs out.
 
-ghost use Rattle.std.specs.Prelude.{List, IfOk};
-ghost use Rattle.span_types.specs.First.{IsFirstOf};
-ghost use Rattle.span_types.specs.declared.spans.Row.{Row};
-
+use moment_range::Range;
 use otlp_spans::read_line;
-use span_types::{Memory, Place, Row, Rows, first_rows};
+use search_answer::{Bounds, answer};
+use span_types::{Place, Row, Rows, first_rows};
+use spanset_eval::Results;
 use std::alloc::Global;
 use traceql_parse::parse;
 use traceql_types::{Checked, RegexMaker, check};
 
-/// What failed. It may be handed from thread to thread, and becomes a test's failure by `?`.
-pub type Failure = &'static str;
+/// All moments.
+pub const ALWAYS: Range = Range {
+    from: 0,
+    until: None,
+};
+
+/// More than there is.
+pub const ALL: Bounds = Bounds {
+    limit: 20,
+    spans_per_set: 20,
+};
 
 /// Adds the rows of a line, as those of the first push.
-fn add_rows(alloc: Global, line: &str, rows: &mut Vec<Row>) -> Result<(), Failure> {
+fn add_rows(alloc: Global, line: &str, rows: &mut Vec<Row>) -> Option<()> {
     let Ok(reading) = read_line(alloc, line.as_bytes()) else {
-        return Err("the line is not read");
+        return None;
     };
     let mut position = 0u32;
     for span in reading.batch.spans.into_vec() {
@@ -25,37 +34,60 @@ fn add_rows(alloc: Global, line: &str, rows: &mut Vec<Row>) -> Result<(), Failur
             position,
         };
         if rows.push(Row { place, span }).is_err() {
-            return Err("no memory");
+            return None;
         }
         position = position.saturating_add(1);
     }
-    Ok(())
+    Some(())
 }
 
 /// The rows of lines in the order in which they came.
-pub fn rows_of(alloc: Global, lines: &[&str]) -> Result<Rows, Failure> {
+pub fn rows_of(alloc: Global, lines: &[&str]) -> Option<Rows> {
     let mut rows = Vec::new(alloc);
     for line in lines {
-        add_rows(alloc, line, &mut rows)?;
+        if add_rows(alloc, line, &mut rows).is_none() {
+            return None;
+        }
     }
-    Ok(Rows::of(rows))
-}
-
-/// First occurrences, as a search takes them.
-pub fn firsts_of(alloc: Global, rows: Rows) -> Result<Rows, Failure>
-    ensures { IfOk result (λ firsts. (all : List Row) × IsFirstOf all firsts) }
-{
-    match first_rows(alloc, rows) {
-        Ok(firsts) => Ok(firsts),
-        Err(Memory) => Err("no memory"),
-    }
+    Some(Rows::of(rows))
 }
 
 /// A text's query.
-pub fn query_of(alloc: Global, text: &str) -> Result<Checked, Failure> {
+pub fn query_of(alloc: Global, text: &str) -> Option<Checked> {
     let Ok(query) = parse(alloc, text) else {
-        return Err("the query is not read");
+        return None;
     };
     let mut maker = RegexMaker::new(alloc);
-    check(alloc, query, &mut maker).map_err(|_| "the query is refused")
+    check(alloc, query, &mut maker).ok()
+}
+
+/// What a query answers over the first occurrences of the rows of lines.
+fn answered(
+    alloc: Global,
+    checked: &Checked,
+    range: Range,
+    bounds: Bounds,
+    lines: &[&str],
+) -> Option<Results> {
+    let Some(rows) = rows_of(alloc, lines) else {
+        return None;
+    };
+    let Ok(rows) = first_rows(alloc, rows) else {
+        return None;
+    };
+    answer(alloc, checked, range, bounds, rows.as_slice()).ok()
+}
+
+/// The same of a text's query.
+pub fn results_of(
+    alloc: Global,
+    text: &str,
+    range: Range,
+    bounds: Bounds,
+    lines: &[&str],
+) -> Option<Results> {
+    let Some(checked) = query_of(alloc, text) else {
+        return None;
+    };
+    answered(alloc, &checked, range, bounds, lines)
 }

@@ -5,16 +5,17 @@ ghost use Rattle.span_tree.specs.Nodes.{IsOneTrace};
 
 use crate::lines::query_of;
 use rows_by_trace::rows_of;
+use search_text::{Texts, write_results};
 use span_tree::{Steps, Tree};
 use span_types::{
     Attrs, Events, Links, Marks, Memory, Place, Resource, Row, Rows, Scope, SharedResource,
     SharedScope, Span, SpanId, SpanKind, StatusCode, Text, TraceId,
 };
-use spanset_eval::{TraceResult, evaluate};
+use spanset_eval::{Results, evaluate};
 use std::alloc::Global;
 use std::marker::Brand;
+use std::process::Abort;
 use std::sync::ledger::{Blank, Ledger};
-use std::test::Fail;
 
 /// A span that is alone in its trace.
 fn span(alloc: Global) -> Result<Span, Memory> {
@@ -59,56 +60,50 @@ fn alone(alloc: Global) -> Result<Rows, Memory>
     Ok(Rows::of(rows))
 }
 
-/// Whether it is what the query for all spans answers of that trace.
-fn is_whole(found: &TraceResult) -> bool {
-    let [set] = found.sets.as_slice() else {
-        return false;
-    };
-    let [hit] = set.spans.as_slice() else {
-        return false;
-    };
-    found.start == 5
-        && found.duration == 4
-        && set.matched == 1
-        && set.by.len() == 0
-        && hit.name.as_str() == "GET /"
-        && hit.start == 5
-        && hit.duration == 4
-        && hit.fields.len() == 0
+/// What the query for all spans answers of that trace.
+const WRITTEN: &str =
+    r#"{"traces":[{"durationNanos":"4","rootName":"GET /","rootService":null,"spanSets":[{"by":[],"matched":1,"spans":[{"attributes":[],"durationNanos":"4","name":"GET /","spanId":"0101010101010101","startTimeUnixNano":"5"}]}],"startTimeUnixNano":"5","traceId":"07070707070707070707070707070707"}]}"#;
+
+/// What it does answer, as text.
+fn written(rt: &(impl Abort + AllocGlobal), rows: &Rows) -> Text
+    requires { IsOneTrace rows.now }
+{
+    let checked = query_of(rt.alloc(), "{ }").expect(rt, "a query");
+    let found = evaluate(rt.alloc(), &checked, rows).expect(rt, "memory");
+    let results = vec![in rt.alloc(); found.expect(rt, "a result")].expect(rt, "memory");
+    let fields = Texts::of(Vec::new(rt.alloc()));
+    write_results(rt.alloc(), &fields, &Results::of(results)).expect(rt, "memory")
 }
 
-/// Whether the span of the trace is its own child.
-fn has_child<L: Ledger>(alloc: Global, rows: &Rows, blank: Blank) -> Result<bool, Memory>
+/// Whether the span of the trace is its own child. None if memory runs out.
+fn has_child<L: Ledger>(alloc: Global, rows: &Rows, blank: Blank) -> Option<bool>
     requires one_trace { IsOneTrace rows.now }
     requires one { length rows.now ≡ 1 }
     requires name { blank.name ≡ L.name }
     requires parts { blank.parts ≡ L.parts }
     requires some { 0 < L.parts }
 {
-    let tree = Tree::of(alloc, rows)?;
+    let Ok(tree) = Tree::of(alloc, rows) else {
+        return None;
+    };
+    let Ok(marked) = vec![in alloc; true; 1] else {
+        return None;
+    };
     let mut steps: Steps<L> = Steps::of(blank);
-    let marked = Marks::of(vec![in alloc; true; 1]?);
-    let found = tree.mark_children(&marked, &mut steps)?;
-    Ok(found.as_slice().contains(&true))
+    match tree.mark_children(&Marks::of(marked), &mut steps) {
+        Ok(found) => Some(found.as_slice().contains(&true)),
+        Err(_) => None,
+    }
 }
 
 #[test]
-fn one_span_is_found(rt: HostRuntime) -> Result<(), Fail> {
-    let alloc = rt.alloc();
-    let Ok(rows) = alone(alloc) else {
-        return Err(Fail::new("no memory"));
+fn one_span_is_found(rt: HostRuntime) {
+    let Ok(rows) = alone(rt.alloc()) else {
+        assert!(&rt; false, "out of memory");
+        return;
     };
-    let Ok(Some(found)) = evaluate(alloc, &query_of(alloc, "{ }")?, &rows) else {
-        return Err(Fail::new("nothing is found"));
-    };
-    assert!(&rt; is_whole(&found));
-    let Ok(child) = has_child::<Brand>(alloc, &rows, Blank::new(1)) else {
-        return Err(Fail::new("no memory"));
-    };
-    assert_eq!(&rt; child, false);
-    let Ok(copies) = rows_of(alloc, rows.as_slice(), TraceId([7; 16])) else {
-        return Err(Fail::new("no memory"));
-    };
-    assert_eq!(&rt; copies.len(), 1);
-    Ok(())
+    assert!(&rt; written(&rt, &rows).as_str() == WRITTEN);
+    assert!(&rt; has_child::<Brand>(rt.alloc(), &rows, Blank::new(1)) == Some(false));
+    let found = rows_of(rt.alloc(), rows.as_slice(), TraceId([7; 16])).expect(&rt, "memory");
+    assert!(&rt; found.len() == 1);
 }

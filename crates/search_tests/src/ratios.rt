@@ -1,7 +1,7 @@
 //! Fractions worked out by hand.
 
 use std::cmp::Ordering;
-use std::test::Fail;
+use std::process::Abort;
 use traceql_value::Ratio;
 
 const LEAST: i64 = i64::MIN;
@@ -9,7 +9,7 @@ const LEAST: i64 = i64::MIN;
 const GREATEST: i64 = i64::MAX;
 
 /// Two numbers with an operator between them, and the result in lowest terms.
-const ROWS: [((i64, i64), char, (i64, i64), Option<(i64, u64)>); 41] = [
+static ROWS: [((i64, i64), char, (i64, i64), Option<(i64, u64)>); 41] = [
     ((1, 2), '+', (1, 3), Some((5, 6))),
     ((1, 6), '+', (1, 3), Some((1, 2))),
     ((GREATEST, 1), '+', (1, 1), None),
@@ -54,7 +54,10 @@ const ROWS: [((i64, i64), char, (i64, i64), Option<(i64, u64)>); 41] = [
 ];
 
 /// Two numbers, and how the first stands to the second.
-const COMPARED: [((i64, i64), (i64, i64), Ordering); 5] = [
+static COMPARED: [((i64, i64), (i64, i64), Ordering); 8] = [
+    ((LEAST, 1), (1, 1), Ordering::Less),
+    ((1, 1), (LEAST, 1), Ordering::Greater),
+    ((1, 1), (1, 1), Ordering::Equal),
     ((1, GREATEST), (1, GREATEST - 1), Ordering::Less),
     ((LEAST, GREATEST), (LEAST, GREATEST - 1), Ordering::Greater),
     ((2, 4), (1, 2), Ordering::Equal),
@@ -63,48 +66,55 @@ const COMPARED: [((i64, i64), (i64, i64), Ordering); 5] = [
 ];
 
 /// A fraction that is within the bounds.
-fn fraction(up: i64, down: i64) -> Result<Ratio, Fail> {
-    match Ratio::whole(up).div(Ratio::whole(down)) {
-        Some(ratio) => Ok(ratio),
-        None => Err(Fail::new("an operand is no fraction")),
+fn fraction(rt: &impl Abort, up: i64, down: i64) -> Ratio {
+    Ratio::whole(up)
+        .div(Ratio::whole(down))
+        .expect(rt, "a fraction")
+}
+
+#[test]
+fn fractions_compare(rt: HostRuntime) {
+    for ((up, down), (other_up, other_down), wanted) in &COMPARED {
+        let order = fraction(&rt, *up, *down).compare(fraction(&rt, *other_up, *other_down));
+        assert!(&rt; order == *wanted, "{up}/{down} and {other_up}/{other_down}");
+    }
+}
+
+/// What an operator makes of two numbers.
+fn met(left: Ratio, sign: char, right: Ratio) -> Option<Ratio> {
+    match sign {
+        '+' => left.add(right),
+        '-' => left.sub(right),
+        '*' => left.mul(right),
+        '/' => left.div(right),
+        '%' => left.rem(right),
+        _ => left.pow(right),
+    }
+}
+
+/// Whether that is a fraction with these parts, which are in lowest terms, or there is to be none.
+fn is_that(got: Option<Ratio>, wanted: &Option<(i64, u64)>) -> bool {
+    match (got, wanted) {
+        (Some(ratio), Some((up, down))) => ratio.numerator() == *up && ratio.denominator() == *down,
+        (None, None) => true,
+        _ => false,
     }
 }
 
 #[test]
-fn fractions_compare(rt: HostRuntime) -> Result<(), Fail> {
-    for ((up, down), (other_up, other_down), wanted) in COMPARED {
-        let order = fraction(up, down)?.compare(fraction(other_up, other_down)?);
-        assert_eq!(rt; order, wanted, "{up}/{down} and {other_up}/{other_down}");
+fn fractions_meet(rt: HostRuntime) {
+    for ((up, down), sign, (other_up, other_down), wanted) in &ROWS {
+        let left = fraction(&rt, *up, *down);
+        let got = met(left, *sign, fraction(&rt, *other_up, *other_down));
+        assert!(&rt;
+            is_that(got, wanted),
+            "{up}/{down} {sign} {other_up}/{other_down}"
+        );
     }
-    Ok(())
 }
 
 #[test]
-fn fractions_meet(rt: HostRuntime) -> Result<(), Fail> {
-    for ((up, down), sign, (other_up, other_down), wanted) in ROWS {
-        let left = fraction(up, down)?;
-        let right = fraction(other_up, other_down)?;
-        let result = match sign {
-            '+' => left.add(right),
-            '-' => left.sub(right),
-            '*' => left.mul(right),
-            '/' => left.div(right),
-            '%' => left.rem(right),
-            _ => left.pow(right),
-        };
-        let shown = result.map(|r| (r.numerator(), r.denominator()));
-        assert_eq!(rt; shown, wanted, "{up}/{down} {sign} {other_up}/{other_down}");
-    }
-    Ok(())
-}
-
-#[test]
-fn signs_and_order(rt: HostRuntime) {
-    let (one, least) = (Ratio::whole(1), Ratio::whole(LEAST));
-    let minus = one.neg().map(Ratio::numerator);
-    assert_eq!(rt; minus, Some(-1));
-    assert!(rt; least.neg().is_none());
-    assert_eq!(rt; least.compare(one), Ordering::Less);
-    assert_eq!(rt; one.compare(least), Ordering::Greater);
-    assert_eq!(rt; one.compare(one), Ordering::Equal);
+fn numbers_are_negated(rt: HostRuntime) {
+    assert!(&rt; is_that(Ratio::whole(1).neg(), &Some((-1, 1))));
+    assert!(&rt; Ratio::whole(LEAST).neg().is_none());
 }

@@ -1,17 +1,10 @@
 //! The five relations over traces that were worked out by hand: chains, several roots, rings with and without a tail, spans
 //! that are their own parents, and spans whose parent isn't there.
 
-ghost use Rattle.std.specs.Prelude.{List};
-ghost use Rattle.span_types.specs.First.{IsFirstOf};
-ghost use Rattle.span_types.specs.declared.spans.Row.{Row};
-
-use crate::lines::{firsts_of, query_of, rows_of};
-use moment_range::Range;
-use search_answer::{Bounds, answer};
-use span_types::Rows;
+use crate::lines::{ALL, ALWAYS, results_of};
 use spanset_eval::{Results, TraceResult};
 use std::alloc::{AllocError, Global};
-use std::test::Fail;
+use std::process::Abort;
 
 /// A trace, whose spans have the ids from 1 on, as the ids of their parents, 0 where there is none; its marked spans; and
 /// their children, descendants, parents, ancestors and siblings.
@@ -60,24 +53,20 @@ static CASES: [Case; 13] = [
 ];
 
 /// The operators that give children, descendants, parents, ancestors and siblings.
-const SIGNS: [&str; 5] = [">", ">>", "<", "<<", "~"];
+static SIGNS: [&str; 5] = [">", ">>", "<", "<<", "~"];
 
 /// Adds a span to others, which stand between commas. It is named `m` where it is marked, and `n` else.
 fn add_span(spans: &mut String, id: u64, parent: u64, mark: u8) -> Result<(), AllocError> {
+    let comma = if id == 1 { "" } else { "," };
     let name = if mark == b'1' { "m" } else { "n" };
-    spans.push_str(if id == 1 { "" } else { "," })?;
     write!(
         spans,
-        r#"{{"traceId":"000000000000000000000000000000a1","spanId":"{id:016}","parentSpanId":""#
+        r#"{comma}{{"traceId":"000000000000000000000000000000a1","spanId":"{id:016}","name":"{name}","parentSpanId":""#
     )?;
     if parent > 0 {
         write!(spans, "{parent:016}")?;
     }
-    write!(
-        spans,
-        r#"","name":"{name}","startTimeUnixNano":"1","endTimeUnixNano":"2"}}"#
-    )?;
-    Ok(())
+    spans.push_str(r#"","startTimeUnixNano":"1","endTimeUnixNano":"2"}"#)
 }
 
 /// The line of a trace.
@@ -91,65 +80,61 @@ fn line_of(alloc: Global, parents: &[u64], marked: &str) -> Result<String, Alloc
     format!(in alloc; r#"{{"resourceSpans":[{{"scopeSpans":[{{"spans":[{spans}]}}]}}]}}"#)
 }
 
-/// Adds the last bytes of the ids of the spans that a result shows.
-fn add_ids(found: &TraceResult, ids: &mut Vec<u8>) -> Result<(), AllocError> {
+/// Whether a trace's result shows a span whose id ends in that byte.
+fn shows(found: &TraceResult, id: u8) -> bool {
     for set in found.sets.as_slice() {
         for hit in set.spans.as_slice() {
-            ids.push(hit.id.0[7])?;
+            if hit.id.0[7] == id {
+                return true;
+            }
         }
     }
-    Ok(())
+    false
 }
 
-/// `1` for each span that is among the results, and `0` for each other.
-fn marks_of(alloc: Global, results: &Results, count: usize) -> Result<String, AllocError> {
-    let mut ids = Vec::new(alloc);
+/// The same of results.
+fn show(results: &Results, id: u8) -> bool {
     for found in results.as_slice() {
-        add_ids(found, &mut ids)?;
+        if shows(found, id) {
+            return true;
+        }
     }
-    let mut marks = String::new(alloc);
+    false
+}
+
+/// Whether results show each span that has the mark `1`, and no other.
+fn are_marked(results: &Results, marks: &str) -> bool {
     let mut id = 1u8;
-    for _ in 0..count {
-        marks.push_str(if ids.as_slice().contains(&id) {
-            "1"
-        } else {
-            "0"
-        })?;
+    for mark in marks.as_bytes() {
+        if show(results, id) != (*mark == b'1') {
+            return false;
+        }
         id = id.saturating_add(1);
     }
-    Ok(marks)
+    true
 }
 
-/// The spans that stand in a relation to the marked ones.
-fn related(alloc: Global, sign: &str, rows: &Rows) -> Result<String, Fail>
-    requires { (all : List Row) × IsFirstOf all rows.now }
-{
-    let text = format!(in alloc; "{{ name = \"m\" }} {sign} {{ }}")?;
-    let checked = query_of(alloc, text.as_str())?;
-    let always = Range {
-        from: 0,
-        until: None,
+/// The spans of a line that stand in a relation to the marked ones.
+fn related(alloc: Global, sign: &str, line: &str) -> Option<Results> {
+    let Ok(text) = format!(in alloc; "{{ name = \"m\" }} {sign} {{ }}") else {
+        return None;
     };
-    let bounds = Bounds {
-        limit: 20,
-        spans_per_set: 20,
-    };
-    let Ok(results) = answer(alloc, &checked, always, bounds, rows.as_slice()) else {
-        return Err(Fail::new("no memory"));
-    };
-    Ok(marks_of(alloc, &results, rows.len())?)
+    results_of(alloc, text.as_str(), ALWAYS, ALL, &[line])
+}
+
+/// Compares each relation of a case.
+fn check_case(rt: &(impl Abort + AllocGlobal), case: &Case) {
+    let (parents, marked, expected) = case;
+    let line = line_of(rt.alloc(), parents, marked).expect(rt, "memory");
+    for (sign, marks) in SIGNS.iter().zip(expected) {
+        let results = related(rt.alloc(), sign, line.as_str()).expect(rt, "results");
+        assert!(rt; are_marked(&results, marks), "{line} {sign}");
+    }
 }
 
 #[test]
-fn relations_worked_out_by_hand(rt: HostRuntime) -> Result<(), Fail> {
-    let alloc = rt.alloc();
-    for (parents, marked, expected) in &CASES {
-        let line = line_of(alloc, parents, marked)?;
-        let rows = firsts_of(alloc, rows_of(alloc, &[line.as_str()])?)?;
-        for (sign, wanted) in SIGNS.iter().zip(expected) {
-            let got = related(alloc, sign, &rows)?;
-            assert!(rt; got.as_str() == *wanted, "{line} {sign} gives {got}");
-        }
+fn relations_worked_out_by_hand(rt: HostRuntime) {
+    for case in &CASES {
+        check_case(&rt, case);
     }
-    Ok(())
 }

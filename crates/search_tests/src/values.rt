@@ -1,14 +1,13 @@
 //! Expressions over a small trace, worked out by hand.
 
 use crate::lines::{query_of, rows_of};
-use span_types::{Memory, Rows, SpanKind, StatusCode, Text, TryCopy};
-use std::alloc::{AllocError, Global};
+use crate::told::add_value;
+use span_types::{Row, Rows, TryCopy};
+use std::alloc::Global;
 use std::process::Abort;
-use std::test::Fail;
-use traceql_syntax::{Field, FieldExpr, Stage};
-use traceql_tokens::Intrinsic;
+use traceql_syntax::{FieldExpr, Stage};
 use traceql_types::Checked;
-use traceql_value::{EvalContext, Matchers, Ratio, Value, Values, field_value};
+use traceql_value::{EvalContext, Matchers, Value, Values, field_value};
 
 /// Five spans of one trace. The first has no parent, and neither have the second and the third, which begin before it and
 /// together; of these two the third has the lesser id. The fourth's parent is missing, and it ends before it begins. The
@@ -17,8 +16,7 @@ const LINE: &str =
     r#"{"resourceSpans":[{"resource":{"attributes":[{"key":"service.name","value":{"stringValue":"shop"}},{"key":"v","value":{"stringValue":"far"}},{"key":"only","value":{"stringValue":"res"}}]},"scopeSpans":[{"scope":{"name":"lib","version":"","attributes":[{"key":"lang","value":{"stringValue":"rust"}}]},"spans":[{"traceId":"000102030405060708090a0b0c0d0e0f","spanId":"0000000000000001","name":"later","startTimeUnixNano":"200","endTimeUnixNano":"400"},{"traceId":"000102030405060708090a0b0c0d0e0f","spanId":"0000000000000003","name":"first","startTimeUnixNano":"100","endTimeUnixNano":"110"},{"traceId":"000102030405060708090a0b0c0d0e0f","spanId":"0000000000000002","name":"second","startTimeUnixNano":"100","endTimeUnixNano":"390"},{"traceId":"000102030405060708090a0b0c0d0e0f","spanId":"0000000000000004","parentSpanId":"00000000000000ff","name":"orphan","startTimeUnixNano":"50","endTimeUnixNano":"40"},{"traceId":"000102030405060708090a0b0c0d0e0f","spanId":"00000000000000ab","parentSpanId":"0000000000000002","name":"pay","startTimeUnixNano":"120","endTimeUnixNano":"150","kind":3,"status":{"code":2,"message":"late"},"attributes":[{"key":"v","value":{"intValue":"7"}},{"key":"w","value":{"stringValue":"a"}},{"key":"flag","value":{"boolValue":true}},{"key":"neg","value":{"intValue":"-7"}},{"key":"least","value":{"intValue":"-9223372036854775808"}}]}]}]}]}"#;
 
 /// What expressions are for the fifth span.
-const FIFTH: &str = r#"
-.v => 7
+const FIFTH: &str = r#".v => 7
 span.v => 7
 resource.v => "far"
 .only => "res"
@@ -126,295 +124,175 @@ trace:rootName => "second"
 rootServiceName => "shop"
 trace:rootService => "shop"
 instrumentation:name => "lib"
-instrumentation:version => nil
-"#;
+instrumentation:version => nil"#;
 
 /// What expressions are for the fourth span.
-const FOURTH: &str = r#"
-duration => 0
+const FOURTH: &str = r#"duration => 0
 span:parentID => "00000000000000ff"
 status => unset
 kind => unspecified
 statusMessage => ""
-.v => "far"
-"#;
+.v => "far""#;
 
 /// A root that lasts 2^63 - 1 nanoseconds, of no service and no scope.
 const LONG: &str =
     r#"{"resourceSpans":[{"scopeSpans":[{"spans":[{"traceId":"000102030405060708090a0b0c0d0e0f","spanId":"0000000000000001","name":"long","startTimeUnixNano":"1","endTimeUnixNano":"9223372036854775808"}]}]}]}"#;
 
 /// What expressions are for the span of the long trace.
-const OF_LONG: &str = r#"
-duration => 9223372036854775807
+const OF_LONG: &str = r#"duration => 9223372036854775807
 traceDuration => 9223372036854775807
 span:parentID => nil
 rootName => "long"
 rootServiceName => nil
-instrumentation:name => nil
-"#;
+instrumentation:name => nil"#;
 
 /// A span that lasts 2^63 nanoseconds, whose parent is missing.
 const LONGER: &str =
     r#"{"resourceSpans":[{"resource":{"attributes":[{"key":"service.name","value":{"stringValue":"shop"}}]},"scopeSpans":[{"spans":[{"traceId":"000102030405060708090a0b0c0d0e0f","spanId":"0000000000000001","parentSpanId":"00000000000000ff","startTimeUnixNano":"1","endTimeUnixNano":"9223372036854775809"}]}]}]}"#;
 
 /// What expressions are for the span of the longer trace.
-const OF_LONGER: &str = r#"
-duration => nil
+const OF_LONGER: &str = r#"duration => nil
 traceDuration => nil
 rootName => nil
 rootServiceName => nil
-resource.service.name => "shop"
-"#;
+resource.service.name => "shop""#;
 
 /// A root whose service is a number.
 const NUMBERED: &str =
     r#"{"resourceSpans":[{"resource":{"attributes":[{"key":"service.name","value":{"intValue":"7"}}]},"scopeSpans":[{"spans":[{"traceId":"000102030405060708090a0b0c0d0e0f","spanId":"0000000000000001","startTimeUnixNano":"1","endTimeUnixNano":"1"}]}]}]}"#;
 
 /// What expressions are for the span of the trace whose service is a number.
-const OF_NUMBERED: &str = r#"
-resource.service.name => 7
+const OF_NUMBERED: &str = r#"resource.service.name => 7
 rootServiceName => nil
-rootName => ""
-"#;
+rootName => """#;
+
+/// A trace's line, the position of one of its spans, and what expressions are for that.
+static TABLES: [(&str, u64, &str); 5] = [
+    (LINE, 4, FIFTH),
+    (LINE, 3, FOURTH),
+    (LONG, 0, OF_LONG),
+    (LONGER, 0, OF_LONGER),
+    (NUMBERED, 0, OF_NUMBERED),
+];
 
 /// The query that groups by an expression.
-fn grouping(alloc: Global, expr: &str) -> Result<Checked, Fail> {
-    let text = format!(in alloc; "{{ }} | by({expr})")?;
-    Ok(query_of(alloc, text.as_str())?)
+fn grouping(alloc: Global, expr: &str) -> Option<Checked> {
+    let Ok(text) = format!(in alloc; "{{ }} | by({expr})") else {
+        return None;
+    };
+    query_of(alloc, text.as_str())
 }
 
-/// A value as a text.
-fn shown(alloc: Global, value: &Value) -> Result<String, AllocError> {
-    match value {
-        Value::Nil => String::from_str(alloc, "nil"),
-        Value::Truth(truth) => format!(in alloc; "{truth}"),
-        Value::Number(number) => {
-            if number.denominator() == 1 {
-                format!(in alloc; "{}", number.numerator())
-            } else {
-                format!(in alloc; "{}/{}", number.numerator(), number.denominator())
-            }
-        }
-        Value::Text(text) => format!(in alloc; "\"{}\"", text.as_str()),
-        Value::Status(StatusCode::Error) => String::from_str(alloc, "error"),
-        Value::Status(StatusCode::Fine) => String::from_str(alloc, "ok"),
-        Value::Status(StatusCode::Unset) => String::from_str(alloc, "unset"),
-        Value::Kind(SpanKind::Client) => String::from_str(alloc, "client"),
-        Value::Kind(SpanKind::Unspecified) => String::from_str(alloc, "unspecified"),
-        Value::Kind(_) => String::from_str(alloc, "another kind"),
+/// The expression that a query groups by.
+fn operand_of(checked: &Checked) -> Option<&FieldExpr> {
+    match checked.query.stages.as_slice() {
+        [Stage::By(operand)] => Some(&operand.expr),
+        _ => None,
     }
 }
 
 /// What an expression is for the span at this position.
-fn outcome(alloc: Global, expr: &str, trace: &Rows, position: u64) -> Result<String, Fail> {
-    let checked = grouping(alloc, expr)?;
-    let [Stage::By(operand)] = checked.query.stages.as_slice() else {
-        return Err(Fail::new("the query has another stage"));
+fn value_of(alloc: Global, expr: &str, trace: &Rows, position: u64) -> Option<Value> {
+    let Some(checked) = grouping(alloc, expr) else {
+        return None;
+    };
+    let Some(operand) = operand_of(&checked) else {
+        return None;
     };
     if position >= trace.len() as u64 {
-        return Err(Fail::new("the trace is shorter"));
+        return None;
     }
-    let Ok(value) = field_value(alloc, &operand.expr, &checked, trace, position) else {
-        return Err(Fail::new("no memory"));
-    };
-    Ok(shown(alloc, &value)?)
+    field_value(alloc, operand, &checked, trace, position).ok()
 }
 
 /// Compares what a row's expression is for a span with what the row says.
-fn check_row(
-    rt: &(impl Abort + AllocGlobal),
-    row: &str,
-    trace: &Rows,
-    position: u64,
-) -> Result<(), Fail> {
-    let Some((expr, wanted)) = row.split_once(" => ") else {
-        return Err(Fail::new("a row says no value"));
-    };
-    let got = outcome(rt.alloc(), expr, trace, position)?;
+fn check_row(rt: &(impl Abort + AllocGlobal), row: &str, trace: &Rows, position: u64) {
+    let (expr, wanted) = row.split_once(" => ").expect(rt, row);
+    let value = value_of(rt.alloc(), expr, trace, position).expect(rt, expr);
+    let mut got = String::new(rt.alloc());
+    add_value(&mut got, &value).expect(rt, "memory");
     assert!(rt; got.as_str() == wanted, "{expr} gives {got}");
-    Ok(())
 }
 
 /// Compares each row of a table for the span at this position of a line's trace.
-fn check_rows(
-    rt: &(impl Abort + AllocGlobal),
-    line: &str,
-    table: &str,
-    position: u64,
-) -> Result<(), Fail> {
-    let trace = rows_of(rt.alloc(), &[line])?;
+fn check_rows(rt: &(impl Abort + AllocGlobal), line: &str, position: u64, table: &str) {
+    let trace = rows_of(rt.alloc(), &[line]).expect(rt, "a line");
     for row in table.lines() {
-        if !row.is_empty() {
-            check_row(rt, row, &trace, position)?;
-        }
+        check_row(rt, row, &trace, position);
     }
-    Ok(())
 }
 
 #[test]
-fn fifth_span(rt: HostRuntime) -> Result<(), Fail> {
-    check_rows(&rt, LINE, FIFTH, 4)
-}
-
-#[test]
-fn fourth_span(rt: HostRuntime) -> Result<(), Fail> {
-    check_rows(&rt, LINE, FOURTH, 3)
-}
-
-#[test]
-fn spans_alone(rt: HostRuntime) -> Result<(), Fail> {
-    check_rows(&rt, LONG, OF_LONG, 0)?;
-    check_rows(&rt, LONGER, OF_LONGER, 0)?;
-    check_rows(&rt, NUMBERED, OF_NUMBERED, 0)
-}
-
-/// Adds what a condition is for each span of a line's trace, and gives the matchers back.
-fn add_truths<'q>(
-    alloc: Global,
-    matchers: Matchers<'q>,
-    condition: &FieldExpr,
-    line: &str,
-    so: &mut Vec<bool>,
-) -> Result<Matchers<'q>, Fail> {
-    let trace = rows_of(alloc, &[line])?;
-    let mut context = EvalContext::of(alloc, matchers, trace.as_slice());
-    for row in trace.as_slice() {
-        let Ok(truth) = context.is_so(condition, &row.span) else {
-            return Err(Fail::new("no memory"));
-        };
-        so.push(truth)?;
+fn expressions_worked_out_by_hand(rt: HostRuntime) {
+    for (line, position, table) in &TABLES {
+        check_rows(&rt, line, *position, table);
     }
-    Ok(context.leave())
 }
 
-#[test]
-fn matchers_go_on(rt: HostRuntime) -> Result<(), Fail> {
-    let alloc = rt.alloc();
-    let checked = grouping(
-        alloc,
-        r#"name =~ "p.*" || name =~ "lo.*" || .none =~ "p.*""#,
-    )?;
-    let [Stage::By(operand)] = checked.query.stages.as_slice() else {
-        return Err(Fail::new("the query has another stage"));
-    };
-    let Ok(mut matchers) = Matchers::of(alloc, &checked) else {
-        return Err(Fail::new("no memory"));
-    };
-    let mut so = Vec::new(alloc);
-    for line in [LINE, LONG, LINE] {
-        matchers = add_truths(alloc, matchers, &operand.expr, line, &mut so)?;
-    }
-    let wanted = [
-        false, false, false, false, true, true, false, false, false, false, true,
-    ];
-    assert!(rt; so.as_slice() == wanted.as_slice());
-    Ok(())
+/// What an expression is for the last span of a context's trace.
+fn last_value(rt: &impl Abort, context: &mut EvalContext<'_, '_>, expr: &FieldExpr) -> Value {
+    let row = context.rows().last().expect(rt, "a row");
+    context.value(expr, &row.span).expect(rt, "memory")
 }
 
-/// Adds a value to a text.
-fn add_value(alloc: Global, value: Result<Value, Memory>, told: &mut String) -> Result<(), Fail> {
-    let Ok(value) = value else {
-        return Err(Fail::new("no memory"));
-    };
-    told.push_str(shown(alloc, &value)?.as_str())?;
-    Ok(())
-}
-
-/// Adds what an expression is for each span of a context's trace, and `!` where it is true as a condition.
-fn add_values(
-    alloc: Global,
-    context: &mut EvalContext<'_, '_>,
-    expr: &FieldExpr,
-    told: &mut String,
-) -> Result<(), Fail> {
-    for row in context.rows() {
-        add_value(alloc, context.value(expr, &row.span), told)?;
-        let Ok(truth) = context.is_so(expr, &row.span) else {
-            return Err(Fail::new("no memory"));
-        };
-        told.push_str(if truth { "!" } else { " " })?;
-    }
-    Ok(())
-}
-
-#[test]
-fn context_of_a_trace(rt: HostRuntime) -> Result<(), Fail> {
-    let alloc = rt.alloc();
-    let trace = rows_of(alloc, &[LINE])?;
-    let checked = grouping(alloc, ".flag")?;
-    let [Stage::By(operand)] = checked.query.stages.as_slice() else {
-        return Err(Fail::new("the query has another stage"));
-    };
-    let Ok(matchers) = Matchers::of(alloc, &checked) else {
-        return Err(Fail::new("no memory"));
-    };
-    let mut context = EvalContext::of(alloc, matchers, trace.as_slice());
-    let mut told = String::new(alloc);
-    add_values(alloc, &mut context, &operand.expr, &mut told)?;
-    assert!(rt; told.as_str() == "nil nil nil nil true!");
+/// Asserts that the expression is true for the last span of the first line's trace, when that trace starts, and how long it lasts.
+fn check_context(rt: &(impl Abort + AllocGlobal), checked: &Checked, trace: &[Row]) {
+    let operand = operand_of(checked).expect(rt, "an expression");
+    let matchers = Matchers::of(rt.alloc(), checked).expect(rt, "memory");
+    let mut context = EvalContext::of(rt.alloc(), matchers, trace);
     assert!(rt; context.start() == 50 && context.nanos() == 350);
-    Ok(())
-}
-
-/// What the root of a context's trace is called, and its service, and the name of each span.
-fn names(alloc: Global, context: &EvalContext<'_, '_>) -> Result<String, Fail> {
-    let mut told = String::new(alloc);
-    add_value(alloc, context.root_name(), &mut told)?;
-    add_value(alloc, context.root_service(), &mut told)?;
-    let name = Field::Intrinsic(Intrinsic::Name);
-    for row in context.rows() {
-        add_value(alloc, context.field(&name, &row.span), &mut told)?;
-    }
-    Ok(told)
+    let value = last_value(rt, &mut context, operand);
+    assert!(rt; matches!(value, Value::Truth(true)));
 }
 
 #[test]
-fn names_in_a_context(rt: HostRuntime) -> Result<(), Fail> {
-    let alloc = rt.alloc();
-    let trace = rows_of(alloc, &[LINE])?;
-    let checked = query_of(alloc, "{ }")?;
-    let Ok(matchers) = Matchers::of(alloc, &checked) else {
-        return Err(Fail::new("no memory"));
-    };
-    let context = EvalContext::of(alloc, matchers, trace.as_slice());
-    let told = names(alloc, &context)?;
-    assert!(rt; told.as_str() == "\"second\"\"shop\"\"later\"\"first\"\"second\"\"orphan\"\"pay\"");
-    Ok(())
+fn context_of_a_trace(rt: HostRuntime) {
+    let trace = rows_of(rt.alloc(), &[LINE]).expect(&rt, "a line");
+    let checked = grouping(rt.alloc(), ".flag").expect(&rt, "a query");
+    check_context(&rt, &checked, trace.as_slice());
 }
 
 /// A value of each kind and more, in order.
-fn in_order(alloc: Global, half: Ratio) -> Result<Values, AllocError> {
-    let a = Text::of(String::from_str(alloc, "a")?);
-    let values = vec![in alloc;
-        Value::Nil,
-        Value::Truth(false),
-        Value::Truth(true),
-        Value::Number(Ratio::whole(-1)),
-        Value::Number(half),
-        Value::Number(Ratio::whole(1)),
-        Value::Text(Text::of(String::new(alloc))),
-        Value::Text(a),
-        Value::Status(StatusCode::Unset),
-        Value::Status(StatusCode::Error),
-        Value::Kind(SpanKind::Unspecified),
-        Value::Kind(SpanKind::Consumer),
-    ]?;
-    Ok(Values::of(values))
+const ORDERED: &str = r#".none
+false
+true
+-1
+1 / 2
+1
+""
+"a"
+unset
+error
+unspecified
+consumer"#;
+
+/// What these expressions are.
+fn in_order(rt: &(impl Abort + AllocGlobal)) -> Values {
+    let trace = rows_of(rt.alloc(), &[LINE]).expect(rt, "a line");
+    let mut values = Vec::new(rt.alloc());
+    for expr in ORDERED.lines() {
+        let value = value_of(rt.alloc(), expr, &trace, 4).expect(rt, expr);
+        values.push(value).expect(rt, "memory");
+    }
+    Values::of(values)
+}
+
+/// Compares how the value at a position stands to each one.
+fn check_order(rt: &impl Abort, at: usize, value: &Value, values: &Values) {
+    for (other, right) in values.as_slice().iter().enumerate() {
+        assert!(rt;
+            value.order(right) == at.cmp(&other),
+            "the values at {at} and {other}"
+        );
+    }
 }
 
 #[test]
-fn values_stand_in_order(rt: HostRuntime) -> Result<(), Fail> {
-    let half = Ratio::whole(1).div(Ratio::whole(2)).expect(&rt, "a half");
-    let values = in_order(rt.alloc(), half)?;
-    let Ok(copies) = values.copy() else {
-        return Err(Fail::new("no memory"));
-    };
-    assert_eq!(rt; values.len(), 12);
-    for (i, left) in values.as_slice().iter().enumerate() {
-        for (j, right) in copies.as_slice().iter().enumerate() {
-            let order = left.order(right);
-            assert!(rt; order == i.cmp(&j), "the values at {i} and {j}");
-        }
+fn values_stand_in_order(rt: HostRuntime) {
+    let values = in_order(&rt);
+    let copies = values.copy().expect(&rt, "memory");
+    assert!(&rt; copies.len() == 12);
+    for (at, value) in values.as_slice().iter().enumerate() {
+        check_order(&rt, at, value, &copies);
     }
-    Ok(())
 }
