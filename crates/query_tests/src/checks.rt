@@ -4,6 +4,7 @@ use span_types::Calls;
 use std::alloc::{AllocError, Global};
 use std::process::Abort;
 use traceql_parse::parse;
+use traceql_syntax::Query;
 use traceql_types::{
     PatternMaker, Patterns, RegexMaker, ScriptedMaker, TypeError, check, checked_crosses,
     patterns_in_order, refusals_are_counted,
@@ -29,20 +30,30 @@ fn fine(out: &mut String, patterns: &Patterns) -> Result<(), AllocError> {
     Ok(())
 }
 
+/// Adds what a query's check answers.
+fn add_checked<P: PatternMaker>(
+    alloc: Global,
+    out: &mut String,
+    query: Query,
+    maker: &mut P,
+) -> Result<(), AllocError> {
+    match check(alloc, query, maker) {
+        Ok(checked) => fine(out, &checked.patterns),
+        Err(error) => refusal(out, error),
+    }
+}
+
 /// What a query's check answers: the texts of its patterns, or the refusal and the place.
 fn outcome<P: PatternMaker>(
     alloc: Global,
     text: &str,
     maker: &mut P,
 ) -> Result<String, AllocError> {
+    let Ok(query) = parse(alloc, text) else {
+        return String::from_str(alloc, "no query");
+    };
     let mut out = String::new(alloc);
-    match parse(alloc, text) {
-        Err(_) => out.push_str("no query")?,
-        Ok(query) => match check(alloc, query, maker) {
-            Ok(checked) => fine(&mut out, &checked.patterns)?,
-            Err(error) => refusal(&mut out, error)?,
-        },
-    }
+    add_checked(alloc, &mut out, query, maker)?;
     Ok(out)
 }
 
@@ -255,11 +266,11 @@ fn patterns_match_whole_texts(rt: HostRuntime) {
     assert!(&rt; maker.refusals() == 0);
 }
 
-/// What the check of a query with a pattern under 260 brackets answers.
-fn of_brackets<P: PatternMaker>(alloc: Global, maker: &mut P) -> Result<String, AllocError> {
-    let (open, close) = ("(".repeat(alloc, 260)?, ")".repeat(alloc, 260)?);
-    let text = format!(in alloc; "{{ name =~ `{open}a{close}` }}")?;
-    outcome(alloc, text.as_str(), maker)
+/// A query with a pattern under 260 brackets, and what its check answers.
+fn of_brackets(alloc: Global) -> Result<String, AllocError> {
+    let open = "(".repeat(alloc, 260)?;
+    let close = ")".repeat(alloc, 260)?;
+    format!(in alloc; "{{ name =~ `{open}a{close}` }} => bad-pattern 10")
 }
 
 #[test]
@@ -271,7 +282,7 @@ fn large_and_deep_patterns_are_refused(rt: HostRuntime) {
         &mut maker,
     );
     assert!(&rt; maker.refusals() == 1);
-    let deep = of_brackets(rt.alloc(), &mut maker).expect(&rt, "memory");
-    assert!(&rt; deep.as_str() == "bad-pattern 10");
+    let row = of_brackets(rt.alloc()).expect(&rt, "memory");
+    check_row(&rt, row.as_str(), &mut maker);
     assert!(&rt; maker.refusals() == 1);
 }
