@@ -10,6 +10,7 @@ use otlp_spans::{Reading, read_line};
 use query_fanout::{TraceAnswer, find_trace};
 use span_types::{Batch, Memory, Rows, TraceId};
 use std::alloc::Global;
+use std::process::Abort;
 use store_core::{Core, a_shown_core_is_a_port};
 use store_state::{Round, Step};
 
@@ -194,23 +195,22 @@ impl Play {
     }
 }
 
-// The number of the first reply that is another one than it was to be, and the disk. No reply is missing, and none is
-// too much.
-fn wrong_reply(
-    alloc: Global,
-    disk: MemDisk,
+// Plays the events on an empty disk, and asserts that each reply is as it was to be. No reply is missing, and none is too much.
+fn check_play(
+    rt: &(impl Abort + AllocGlobal),
     play: Play,
     known: &mut Vec<Known>,
-) -> Result<(Option<usize>, MemDisk), Memory> {
+    seed: u64,
+) -> MemDisk {
     let Play { events, wanted } = play;
-    let (replies, disk) = ran(alloc, disk, &Events::of(events));
-    let Some(replies) = replies else {
-        return Ok((Some(0), disk));
-    };
-    let wrong = first_wrong(alloc, &replies, wanted.as_slice(), known)?;
-    Ok((wrong, disk))
+    let (replies, disk) = ran(rt.alloc(), MemDisk::empty(rt.alloc()), &Events::of(events));
+    let replies = replies.expect(rt, "a store");
+    let wrong = first_wrong(rt.alloc(), &replies, wanted.as_slice(), known).expect(rt, "memory");
+    assert!(rt; wrong.is_none() && disk.starved() == 0, "{seed}: {wrong:?}");
+    disk
 }
 
+// The number of the first reply that is another one than it was to be.
 fn first_wrong(
     alloc: Global,
     replies: &Replies,
@@ -238,27 +238,27 @@ const SECOND: &str =
     r#"{"resourceSpans":[{"scopeSpans":[{"spans":[{"traceId":"000000000000000000000000000000a1","spanId":"00000000000000b1","parentSpanId":"","name":"second","startTimeUnixNano":"1","endTimeUnixNano":"2"}]}]}]}"#;
 
 // The header of a block of one row that starts at 1, whose other parts have a page each.
-const HEADER: [u8; 52] = [
+static HEADER: [u8; 52] = [
     0x54, 0x53, 0x42, 0x31, 1, 0, 0, 0, 1, 0, 0, 0, 1, 0, 0, 0, 1, 0, 0, 0, 1, 0, 0, 0, 0, 0, 0, 0,
     1, 0, 0, 0, 0, 0, 0, 0, 1, 0, 0, 0, 0, 0, 0, 0, 1, 0, 0, 0, 0, 0, 0, 0,
 ];
 
 // The stripe of the first push's span: the texts are the empty one and `first`.
-const FIRST_STRIPE: [u8; 73] = [
+static FIRST_STRIPE: [u8; 73] = [
     0x41, 0, 0, 0, 0, 0, 0, 0, 2, 0, 5, 0x66, 0x69, 0x72, 0x73, 0x74, 1, 0, 1, 0, 0, 0, 1, 0, 0, 0,
     0, 0, 0, 0, 0, 0, 0, 0, 0, 0, 0, 0, 0xa1, 0, 0, 0, 0, 0, 0, 0, 0xb1, 0, 0, 0, 1, 0, 1, 0, 0, 0,
     0, 0, 0, 0, 2, 0, 0, 0, 0, 0, 0, 0, 0, 0, 0, 0, 0,
 ];
 
 // That of the second one's: the name has a byte more, and the push is 1.
-const SECOND_STRIPE: [u8; 74] = [
+static SECOND_STRIPE: [u8; 74] = [
     0x42, 0, 0, 0, 0, 0, 0, 0, 2, 0, 6, 0x73, 0x65, 0x63, 0x6f, 0x6e, 0x64, 1, 0, 1, 0, 0, 0, 1, 0,
     0, 0, 0, 0, 0, 0, 0, 0, 0, 0, 0, 0, 0, 0, 0xa1, 0, 0, 0, 0, 0, 0, 0, 0xb1, 0, 1, 0, 1, 0, 1, 0,
     0, 0, 0, 0, 0, 0, 2, 0, 0, 0, 0, 0, 0, 0, 0, 0, 0, 0, 0,
 ];
 
 // The index: the trace a1 has the row 0, one of them.
-const INDEX: [u8; 24] = [
+static INDEX: [u8; 24] = [
     0, 0, 0, 0, 0, 0, 0, 0, 0, 0, 0, 0, 0, 0, 0, 0xa1, 0, 0, 0, 0, 1, 0, 0, 0,
 ];
 
@@ -360,23 +360,25 @@ fn add_ends(play: &mut Play) -> Result<(), Memory> {
     play.add(Event::Done { look: 0 }, Wanted::Idle)
 }
 
+// Two flushes, a look, a compaction, and what follows it.
+fn look_play(rt: &(impl Abort + AllocGlobal)) -> Play {
+    let mut play = Play::new(rt.alloc());
+    add_flush(rt.alloc(), &mut play, FIRST, 0).expect(rt, "memory");
+    add_flush(rt.alloc(), &mut play, SECOND, 1).expect(rt, "memory");
+    play.add(Event::Look, Wanted::Looked(2, Vec::new(rt.alloc())))
+        .expect(rt, "memory");
+    add_compaction(&mut play).expect(rt, "memory");
+    add_ends(&mut play).expect(rt, "memory");
+    play
+}
+
 #[test]
-fn a_look_keeps_the_blocks_that_are_joined(rt: HostRuntime) -> Result<(), Memory> {
-    let alloc = rt.alloc();
-    let mut play = Play::new(alloc);
-    add_flush(alloc, &mut play, FIRST, 0)?;
-    add_flush(alloc, &mut play, SECOND, 1)?;
-    play.add(Event::Look, Wanted::Looked(2, Vec::new(alloc)))?;
-    add_compaction(&mut play)?;
-    add_ends(&mut play)?;
-    let mut known = Vec::new(alloc);
-    add_block(alloc, &mut known, 3, &FIRST_STRIPE)?;
-    add_block(alloc, &mut known, 5, &SECOND_STRIPE)?;
-    let (wrong, disk) = wrong_reply(alloc, MemDisk::empty(alloc), play, &mut known)?;
-    assert_eq!(rt; wrong, None);
-    assert_eq!(rt; disk.starved(), 0);
-    assert_eq!(rt; known.len(), 8);
-    Ok(())
+fn a_look_keeps_the_blocks_that_are_joined(rt: HostRuntime) {
+    let mut known = Vec::new(rt.alloc());
+    add_block(rt.alloc(), &mut known, 3, &FIRST_STRIPE).expect(&rt, "memory");
+    add_block(rt.alloc(), &mut known, 5, &SECOND_STRIPE).expect(&rt, "memory");
+    let _disk = check_play(&rt, look_play(&rt), &mut known, 0);
+    assert!(&rt; known.len() == 8);
 }
 
 // ---- random lists of events
@@ -679,27 +681,34 @@ fn is_left(
     model: &Model,
     known: &mut Vec<Known>,
 ) -> Result<bool, Memory> {
-    let mut disk = disk;
     let listed = model.listed()?;
+    let mut disk = disk;
     let blocks = has_blocks(alloc, &mut disk, listed.as_slice(), known)?;
     let empty = are_empty(&mut disk, model.emptied.as_slice());
     Ok(blocks && empty && holds(alloc, disk, model)?)
 }
 
-#[test]
-fn events_are_answered_as_they_are_meant(rt: HostRuntime) -> Result<(), Memory> {
-    let alloc = rt.alloc();
-    for seed in 0..4 {
-        let mut random = Random::new(alloc, seed)?;
-        for _ in 0..400 {
-            random.event()?;
-        }
-        let Random { model, play, .. } = random;
-        let mut known = headers(alloc, model.headers.as_slice())?;
-        let (wrong, disk) = wrong_reply(alloc, MemDisk::empty(alloc), play, &mut known)?;
-        assert_eq!(rt; wrong, None, "{seed}");
-        assert_eq!(rt; disk.starved(), 0, "{seed}");
-        assert!(rt; is_left(alloc, disk, &model, &mut known)?, "{seed}");
+// 400 random events.
+fn random_of(alloc: Global, seed: u64) -> Result<Random, Memory> {
+    let mut random = Random::new(alloc, seed)?;
+    for _ in 0..400 {
+        random.event()?;
     }
-    Ok(())
+    Ok(random)
+}
+
+fn check_random(rt: &(impl Abort + AllocGlobal), seed: u64) {
+    let random = random_of(rt.alloc(), seed).expect(rt, "memory");
+    let Random { model, play, .. } = random;
+    let mut known = headers(rt.alloc(), model.headers.as_slice()).expect(rt, "memory");
+    let disk = check_play(rt, play, &mut known, seed);
+    let is_left = is_left(rt.alloc(), disk, &model, &mut known).expect(rt, "memory");
+    assert!(rt; is_left, "{seed}");
+}
+
+#[test]
+fn events_are_answered_as_they_are_meant(rt: HostRuntime) {
+    for seed in 0..4 {
+        check_random(&rt, seed);
+    }
 }

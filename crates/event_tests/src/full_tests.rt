@@ -22,11 +22,11 @@ fn full_batch(alloc: Global, number: u64) -> Result<Batch, Memory> {
     for position in 0..SPANS {
         let trace = position % 1_024 + 1;
         let span = number.saturating_mul(SPANS).saturating_add(position + 1);
-        let text = format!(in alloc;
+        write!(
+            line,
             "{comma}{{\"traceId\":\"{trace:032x}\",\"spanId\":\"{span:016x}\",\
              \"startTimeUnixNano\":{position},\"endTimeUnixNano\":{position}}}"
         )?;
-        line.push_str(text.as_str())?;
         comma = ",";
     }
     line.push_str("]}]}]}")?;
@@ -134,14 +134,10 @@ fn is_kept(alloc: Global, replies: &Replies) -> Result<bool, Memory> {
 }
 
 #[test]
-fn a_look_at_a_full_store_keeps_its_rows(rt: HostRuntime) -> Result<(), Memory> {
-    let alloc = rt.alloc();
-    let events = full_events(alloc)?;
-    let (replies, disk) = ran(alloc, MemDisk::empty(alloc), &events);
-    assert_eq!(rt; disk.starved(), 0);
-    match replies {
-        Some(replies) => assert!(rt; is_kept(alloc, &replies)?),
-        None => return Err(Memory),
-    }
-    Ok(())
+fn a_look_at_a_full_store_keeps_its_rows(rt: HostRuntime) {
+    let events = full_events(rt.alloc()).expect(&rt, "memory");
+    let (replies, disk) = ran(rt.alloc(), MemDisk::empty(rt.alloc()), &events);
+    assert!(&rt; disk.starved() == 0);
+    let replies = replies.expect(&rt, "a store");
+    assert!(&rt; is_kept(rt.alloc(), &replies).expect(&rt, "memory"));
 }

@@ -7,6 +7,10 @@ mod compact_tests;
 #[cfg(test)]
 mod durable_tests;
 #[cfg(test)]
+mod filled;
+#[cfg(test)]
 mod flush_tests;
 #[cfg(test)]
 mod page_tests;
+#[cfg(test)]
+mod series;

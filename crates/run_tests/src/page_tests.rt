@@ -1,148 +1,138 @@
-//! How many pages of the disk look-ups and searches read in whole runs: few for a trace, fewer for one that isn't there, none twice, and
-//! none for a range that meets no stripe.
+//! How many pages of the disk look-ups and searches read in whole sessions: few for a trace, fewer for one that isn't there, none twice,
+//! and none for a range that meets no stripe.
 
+use crate::filled::check;
 use disk_model::MemDisk;
-use run_support::{LOOK_A1, PUSH_X, PUSH_Y, PUSHED_0, TRACE_X, writes};
-use span_types::Memory;
-use std::alloc::Global;
+use std::alloc::{AllocError, Global};
+use std::process::Abort;
 use std::sync::Wait;
 use std::thread::Threads;
 
-const LOOK_A2: &str = "trace 000000000000000000000000000000a2";
-
-// How many more reads of the disk a session over the input makes than one that only opens the store; none if it doesn't write just that text.
-fn reads_for<R: Threads + Wait + Sync>(
+// How many more reads of the disk a session over the lines makes than one that only opens the store. It is to write just that text.
+fn reads_for<R: Threads + Wait + Sync + Abort + AllocGlobal>(
     rt: &R,
-    alloc: Global,
     disk: &mut MemDisk,
-    input: &str,
+    lines: &str,
     wanted: &str,
-) -> Result<Option<u64>, Memory> {
+) -> u64 {
     let begun = disk.reads();
-    let is_open = writes(rt, alloc, disk, "", ("", 0))?;
+    check(rt, disk, "", ("", 0));
     let opened = disk.reads();
-    let is_told = writes(rt, alloc, disk, input, (wanted, 0))?;
+    check(rt, disk, lines, (wanted, 0));
     let opening = opened.saturating_sub(begun);
-    let all = disk.reads().saturating_sub(opened);
-    Ok((is_open && is_told).then_some(all.saturating_sub(opening)))
+    disk.reads().saturating_sub(opened).saturating_sub(opening)
 }
 
-// A look-up in a block of one span reads a page of the filters, one of the index and one of the stripe, and then no page again. A trace that
-// isn't there costs two at most.
+/// The lines of a session, what it writes, and how many pages it reads, at least and at most.
+type Case = (&'static str, &'static str, u64, u64);
+
+const NO_TRACE: &str = "ok search as_of=1 traces=0 {\"traces\":[]}\n";
+
+/// Sessions on a disk with a block of one span. A look-up reads a page of the filters, one of the index and one of the stripe, and then no
+/// page again; a trace that isn't there costs two at most. A search reads the block's stripe if some moment of it can be in its range or if
+/// it asks for a text, and looks up what it finds there.
+static ONE_BLOCK: [Case; 10] = [
+    (
+        "trace 000000000000000000000000000000a2",
+        "ok trace as_of=1 spans=0 {\"resourceSpans\":[]}\n",
+        1,
+        2,
+    ),
+    ("$look", "ok trace as_of=1 spans=1 $trace\n", 3, 3),
+    (
+        "$look\n$look\n$look\n",
+        "ok trace as_of=1 spans=1 $trace\nok trace as_of=1 spans=1 $trace\nok trace as_of=1 spans=1 $trace\n",
+        3,
+        3,
+    ),
+    (
+        "search start=1970-01-01T00:00:00.000000009Z { }",
+        NO_TRACE,
+        0,
+        0,
+    ),
+    (
+        "search end=1970-01-01T00:00:00.000000001Z { }",
+        NO_TRACE,
+        0,
+        0,
+    ),
+    ("search { name = \"y\" }", NO_TRACE, 1, 1),
+    ("search { duration > 1s }", NO_TRACE, 1, 1),
+    ("search { duration > 1s && .v = 1 }", NO_TRACE, 1, 1),
+    ("search { traceDuration > 1s }", NO_TRACE, 3, 3),
+    (
+        "search start=1970-01-01T00:00:00.000000001Z { duration > 1s }",
+        NO_TRACE,
+        3,
+        3,
+    ),
+];
+
+fn check_case<R: Threads + Wait + Sync + Abort + AllocGlobal>(
+    rt: &R,
+    disk: &mut MemDisk,
+    case: &Case,
+) {
+    let (lines, wanted, least, most) = case;
+    let reads = reads_for(rt, disk, lines, wanted);
+    assert!(rt; *least <= reads && reads <= *most, "{lines} reads {reads}");
+}
+
 #[test]
-fn a_look_up_reads_few_pages_and_none_twice(rt: HostRuntime) -> Result<(), Memory> {
-    let alloc = rt.alloc();
-    let mut disk = MemDisk::empty(alloc);
-    let stored = format!(in alloc; "{PUSH_X}\ncutall\nflush\nreclaim\n")?;
-    let told = format!(in alloc;
-        "{PUSHED_0}ok cutall moved=1\nok flush rows=1\nok reclaim files=1\n"
-    )?;
-    assert!(rt; writes(&rt, alloc, &mut disk, stored.as_str(), (told.as_str(), 0))?);
-
-    let nothing = "ok trace as_of=1 spans=0 {\"resourceSpans\":[]}\n";
-    let absent = reads_for(&rt, alloc, &mut disk, LOOK_A2, nothing)?;
-    assert!(rt; matches!(absent, Some(1 | 2)), "{absent:?}");
-
-    let found = format!(in alloc; "ok trace as_of=1 spans=1 {TRACE_X}\n")?;
-    let twice = format!(in alloc; "{LOOK_A1}\n{LOOK_A1}\n{LOOK_A1}\n")?;
-    let told_twice = format!(in alloc; "{found}{found}{found}")?;
-    for (input, wanted) in [
-        (LOOK_A1, found.as_str()),
-        (twice.as_str(), told_twice.as_str()),
-    ] {
-        let reads = reads_for(&rt, alloc, &mut disk, input, wanted)?;
-        assert_eq!(rt; reads, Some(3), "{input}");
+fn few_pages_are_read_and_none_twice(rt: HostRuntime) {
+    let mut disk = MemDisk::empty(rt.alloc());
+    let stored = "$x\ncutall\nflush\nreclaim\n";
+    let told = "$0ok cutall moved=1\nok flush rows=1\nok reclaim files=1\n";
+    check(&rt, &mut disk, stored, (told, 0));
+    for case in &ONE_BLOCK {
+        check_case(&rt, &mut disk, case);
     }
-    Ok(())
 }
 
-// A search reads a block's stripes if some moment of them can be in its range or if it asks for a text, and looks up what it finds there.
-#[test]
-fn a_search_reads_what_may_match(rt: HostRuntime) -> Result<(), Memory> {
-    let alloc = rt.alloc();
-    let mut disk = MemDisk::empty(alloc);
-    let stored = format!(in alloc; "{PUSH_X}\ncutall\nflush\nreclaim\n")?;
-    let told = format!(in alloc;
-        "{PUSHED_0}ok cutall moved=1\nok flush rows=1\nok reclaim files=1\n"
-    )?;
-    assert!(rt; writes(&rt, alloc, &mut disk, stored.as_str(), (told.as_str(), 0))?);
-    let nothing = "ok search as_of=1 traces=0 {\"traces\":[]}\n";
-    for (input, most) in [
-        ("search start=1970-01-01T00:00:00.000000009Z { }", 0),
-        ("search end=1970-01-01T00:00:00.000000001Z { }", 0),
-        ("search { name = \"y\" }", 1),
-        ("search { duration > 1s }", 1),
-        ("search { duration > 1s && .v = 1 }", 1),
-        ("search { traceDuration > 1s }", 3),
-        (
-            "search start=1970-01-01T00:00:00.000000001Z { duration > 1s }",
-            3,
-        ),
-    ] {
-        let reads = reads_for(&rt, alloc, &mut disk, input, nothing)?;
-        assert_eq!(rt; reads, Some(most), "{input}");
-    }
-    Ok(())
-}
-
-// After a compaction the pages of the blocks that it joined aren't told any more, and those of the new block are read.
-#[test]
-fn pages_of_joined_blocks_are_not_told(rt: HostRuntime) -> Result<(), Memory> {
-    let alloc = rt.alloc();
-    let mut disk = MemDisk::empty(alloc);
-    let input = format!(in alloc;
-        "{PUSH_X}\ncutall\nflush\n{LOOK_A1}\n{PUSH_Y}\ncutall\nflush\n{LOOK_A1}\ncompact\nreclaim\n{LOOK_A1}\n{PUSH_Y}\ncutall\nflush\n{LOOK_A1}\n"
-    )?;
-    let wanted = format!(in alloc;
-        "{PUSHED_0}ok cutall moved=1\nok flush rows=1\nok trace as_of=1 spans=1 {TRACE_X}\n\
-         ok push 1 accepted=1 rejected=0 skipped=0\nok cutall moved=1\nok flush rows=1\nok trace as_of=2 spans=1 {TRACE_X}\n\
-         ok compact blocks=2 rows=1\nok reclaim files=4\nok trace as_of=2 spans=1 {TRACE_X}\n\
-         ok push 2 accepted=1 rejected=0 skipped=0\nok cutall moved=1\nok flush rows=1\nok trace as_of=3 spans=1 {TRACE_X}\n"
-    )?;
-    assert!(rt; writes(&rt, alloc, &mut disk, input.as_str(), (wanted.as_str(), 0))?);
-    Ok(())
-}
-
-// A push of one span of each of 600 traces, which are numbered from one on.
-fn push_from(alloc: Global, first: u32) -> Result<String, Memory> {
-    let mut line = String::from_str(
-        alloc,
-        "push {\"resourceSpans\":[{\"scopeSpans\":[{\"spans\":[",
-    )?;
+// Adds a push of one span of each of 600 traces, which are numbered from there on, and a flush.
+fn add_push(lines: &mut String, first: u32) -> Result<(), AllocError> {
+    lines.push_str("push {\"resourceSpans\":[{\"scopeSpans\":[{\"spans\":[")?;
     let mut comma = "";
     for number in first..first.saturating_add(600) {
-        let span = format!(in alloc;
+        write!(
+            lines,
             "{comma}{{\"traceId\":\"{number:032x}\",\"spanId\":\"00000000000000b1\",\"name\":\"x\",\
              \"startTimeUnixNano\":\"1\",\"endTimeUnixNano\":\"2\"}}"
         )?;
-        line.push_str(span.as_str())?;
         comma = ",";
     }
-    line.push_str("]}]}]}")?;
-    Ok(line)
+    lines.push_str("]}]}]}\ncutall\nflush\n")
 }
 
-// Each block has three stripes, of 256, 256 and 88 rows of some 50 bytes: four, four and two pages. Its index has four pages, its filters have
-// one. A search by columns reads the stripes once, and one that makes all rows reads no page of either block twice.
+// Two pushes that share 300 traces.
+fn two_blocks(alloc: Global) -> Result<String, AllocError> {
+    let mut lines = String::new(alloc);
+    add_push(&mut lines, 1)?;
+    add_push(&mut lines, 301)?;
+    lines.push_str("reclaim\n")?;
+    Ok(lines)
+}
+
+const NO_TRACES: &str = "ok search as_of=2 traces=0 {\"traces\":[]}\n";
+
+/// Sessions on a disk with two blocks, each of which has three stripes, of 256, 256 and 88 rows of some 50 bytes: four, four and two pages.
+/// Its index has four pages, its filters have one. A search by columns reads the stripes once, and one that makes all rows reads no page of
+/// either block twice.
+static TWO_BLOCKS: [Case; 2] = [
+    ("search { duration > 1s }", NO_TRACES, 20, 20),
+    ("search { traceDuration > 1s }", NO_TRACES, 20, 30),
+];
+
 #[test]
-fn a_search_over_two_blocks_reads_no_page_twice(rt: HostRuntime) -> Result<(), Memory> {
-    let alloc = rt.alloc();
-    let mut disk = MemDisk::empty(alloc);
-    let (first, second) = (push_from(alloc, 1)?, push_from(alloc, 301)?);
-    let stored = format!(in alloc; "{first}\ncutall\nflush\n{second}\ncutall\nflush\nreclaim\n")?;
-    let flushed = "accepted=600 rejected=0 skipped=0\nok cutall moved=600\nok flush rows=600\n";
-    let told = format!(in alloc; "ok push 0 {flushed}ok push 1 {flushed}ok reclaim files=2\n")?;
-    assert!(rt; writes(&rt, alloc, &mut disk, stored.as_str(), (told.as_str(), 0))?);
-    let nothing = "ok search as_of=2 traces=0 {\"traces\":[]}\n";
-    for (input, least, most) in [
-        ("search { duration > 1s }", 20, 20),
-        ("search { traceDuration > 1s }", 20, 30),
-    ] {
-        let reads = reads_for(&rt, alloc, &mut disk, input, nothing)?;
-        assert!(rt;
-            matches!(reads, Some(reads) if least <= reads && reads <= most),
-            "{reads:?}"
-        );
+fn a_search_over_two_blocks_reads_no_page_twice(rt: HostRuntime) {
+    let mut disk = MemDisk::empty(rt.alloc());
+    let stored = two_blocks(rt.alloc()).expect(&rt, "memory");
+    let told =
+        "ok push 0 accepted=600 rejected=0 skipped=0\nok cutall moved=600\nok flush rows=600\n\
+         ok push 1 accepted=600 rejected=0 skipped=0\nok cutall moved=600\nok flush rows=600\nok reclaim files=2\n";
+    check(&rt, &mut disk, stored.as_str(), (told, 0));
+    for case in &TWO_BLOCKS {
+        check_case(&rt, &mut disk, case);
     }
-    Ok(())
 }

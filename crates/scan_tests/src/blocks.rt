@@ -14,14 +14,14 @@ use traceql_types::{RegexMaker, check};
 pub(crate) const FILE: u32 = 7;
 
 /// What a hint picks in a block: how many traces, the last byte of the first one's id, and how many pages were read for it.
-#[derive(Clone, Copy, Debug, PartialEq, Eq)]
+#[derive(Clone, Copy, PartialEq, Eq)]
 pub(crate) struct Picked {
     pub(crate) traces: usize,
     pub(crate) first: Option<u8>,
     pub(crate) reads: u64,
 }
 
-/// What failed. It becomes a test's failure by `?`.
+/// What failed.
 pub(crate) type Failure = &'static str;
 
 /// The hint of a query over all of time.

@@ -1,11 +1,11 @@
 //! The hints of queries, and what they pick in two blocks.
 
 use crate::blocks::{Picked, block_of, broken_at, hint_of, picked_in};
-use span_types::Memory;
-use std::test::Fail;
+use moment_range::Range;
+use std::process::Abort;
 
 /// A query, and the text that each trace which it answers has in one of its spans, if it asks for one.
-const HINTS: [(&str, Option<&str>); 24] = [
+static HINTS: [(&str, Option<&str>); 24] = [
     (r#"{ name = "a" }"#, Some("a")),
     (r#"{ name = "a" || .v = 1 }"#, None),
     (r#"{ span:name = "a" }"#, Some("a")),
@@ -33,14 +33,12 @@ const HINTS: [(&str, Option<&str>); 24] = [
 ];
 
 #[test]
-fn a_hint_has_the_first_text_that_a_chain_asks_for(rt: HostRuntime) -> Result<(), Fail> {
-    let alloc = rt.alloc();
-    for (query, wanted) in HINTS {
-        let hint = hint_of(alloc, query)?;
+fn a_hint_has_the_first_text_that_a_chain_asks_for(rt: HostRuntime) {
+    for (query, wanted) in &HINTS {
+        let hint = hint_of(rt.alloc(), query).expect(&rt, query);
         let text = hint.text.as_ref().map(|text| text.as_str());
-        assert_eq!(rt; text, wanted, "{query}");
+        assert!(&rt; text == *wanted, "{query}");
     }
-    Ok(())
 }
 
 /// The span b2 of the trace a1, and the span b1 of it, which is b2's parent.
@@ -50,130 +48,85 @@ const CHILD: &str =
 const PARENT: &str =
     r#"{"traceId":"000000000000000000000000000000a1","spanId":"00000000000000b1","parentSpanId":"","name":"a","startTimeUnixNano":"1","endTimeUnixNano":"4"}"#;
 
-// A block of the child and one of the parent, each with one page of rows.
-#[test]
-fn candidates_of_two_blocks(rt: HostRuntime) -> Result<(), Fail> {
-    let alloc = rt.alloc();
-    let child = block_of(alloc, CHILD)?;
-    let parent = block_of(alloc, PARENT)?;
-    let named = hint_of(alloc, r#"{ name = "a" }"#)?;
-    assert_eq!(rt;
-        picked_in(alloc, &child, &named)?,
-        Picked {
-            traces: 0,
-            first: None,
-            reads: 1
-        }
-    );
-    assert_eq!(rt;
-        picked_in(alloc, &parent, &named)?,
-        Picked {
-            traces: 1,
-            first: Some(0xa1),
-            reads: 1
-        }
-    );
-    let any = hint_of(alloc, "{ }")?;
-    assert_eq!(rt;
-        picked_in(alloc, &child, &any)?,
-        Picked {
-            traces: 1,
-            first: Some(0xa1),
-            reads: 1
-        }
-    );
-    Ok(())
+const NONE: Picked = Picked {
+    traces: 0,
+    first: None,
+    reads: 1,
+};
+
+const ONE: Picked = Picked {
+    traces: 1,
+    first: Some(0xa1),
+    reads: 1,
+};
+
+const UNREAD: Picked = Picked {
+    traces: 0,
+    first: None,
+    reads: 0,
+};
+
+/// A query, the spans of a block, the range, and what is picked in the block, each of which has one page of rows.
+type Case = (&'static str, &'static str, u64, Option<u64>, Picked);
+
+/// A stripe that can't have a moment of the range isn't read, unless a text is asked for.
+static CASES: [Case; 8] = [
+    (r#"{ name = "a" }"#, CHILD, 0, None, NONE),
+    (r#"{ name = "a" }"#, PARENT, 0, None, ONE),
+    ("{ }", CHILD, 0, None, ONE),
+    ("{ }", CHILD, 2, None, ONE),
+    ("{ }", CHILD, 3, None, UNREAD),
+    ("{ }", CHILD, 0, Some(2), UNREAD),
+    ("{ }", CHILD, 0, Some(3), ONE),
+    (r#"{ name = "b" }"#, CHILD, 3, None, ONE),
+];
+
+/// Compares what a hint picks in a block with what is expected of it.
+fn check_picked(rt: &(impl Abort + AllocGlobal), case: &Case) {
+    let (query, spans, from, until, wanted) = case;
+    let block = block_of(rt.alloc(), spans).expect(rt, "a block");
+    let mut hint = hint_of(rt.alloc(), query).expect(rt, query);
+    hint.range = Range {
+        from: *from,
+        until: *until,
+    };
+    let picked = picked_in(rt.alloc(), &block, &hint).expect(rt, "a block");
+    assert!(rt; picked == *wanted, "{query} from {from}");
 }
 
-// A stripe that can't have a moment of the range isn't read, unless a text is asked for.
 #[test]
-fn candidates_in_a_range(rt: HostRuntime) -> Result<(), Fail> {
-    let alloc = rt.alloc();
-    let block = block_of(alloc, CHILD)?;
-    for (from, until, wanted) in [
-        (
-            0,
-            None,
-            Picked {
-                traces: 1,
-                first: Some(0xa1),
-                reads: 1,
-            },
-        ),
-        (
-            2,
-            None,
-            Picked {
-                traces: 1,
-                first: Some(0xa1),
-                reads: 1,
-            },
-        ),
-        (
-            3,
-            None,
-            Picked {
-                traces: 0,
-                first: None,
-                reads: 0,
-            },
-        ),
-        (
-            0,
-            Some(2),
-            Picked {
-                traces: 0,
-                first: None,
-                reads: 0,
-            },
-        ),
-        (
-            0,
-            Some(3),
-            Picked {
-                traces: 1,
-                first: Some(0xa1),
-                reads: 1,
-            },
-        ),
-    ] {
-        let mut hint = hint_of(alloc, "{ }")?;
-        hint.range.from = from;
-        hint.range.until = until;
-        assert_eq!(rt; picked_in(alloc, &block, &hint)?, wanted, "{from}");
+fn candidates_of_blocks(rt: HostRuntime) {
+    for case in &CASES {
+        check_picked(&rt, case);
     }
-    let mut named = hint_of(alloc, r#"{ name = "b" }"#)?;
-    named.range.from = 3;
-    assert_eq!(rt;
-        picked_in(alloc, &block, &named)?,
-        Picked {
-            traces: 1,
-            first: Some(0xa1),
-            reads: 1
-        }
-    );
-    Ok(())
 }
 
-// A stripe of one row that breaks is told where it is malformed if it is read, and not if it is out of the range.
+/// A query, the start of its range, the bytes that stand at an offset of a stripe of one row, and where that is malformed, if it is
+/// read: another length, and one byte too many for the length of the first text, which is empty.
+type Broken = (&'static str, u64, usize, &'static [u8], Option<u64>);
+
+static BROKEN: [Broken; 6] = [
+    ("{ }", 0, 0, &[255; 8], Some(4096)),
+    (r#"{ name = "a" }"#, 0, 0, &[255; 8], Some(4096)),
+    ("{ }", 5, 0, &[255; 8], None),
+    ("{ }", 0, 9, &[128, 0], Some(4105)),
+    (r#"{ name = "a" }"#, 0, 9, &[128, 0], Some(4105)),
+    ("{ }", 5, 9, &[128, 0], None),
+];
+
+/// Compares where a hint's candidates are told to be malformed with what is expected of it.
+fn check_broken(rt: &(impl Abort + AllocGlobal), case: &Broken) {
+    let (query, from, offset, new, wanted) = case;
+    let block = block_of(rt.alloc(), PARENT).expect(rt, "a block");
+    let mut hint = hint_of(rt.alloc(), query).expect(rt, query);
+    hint.range.from = *from;
+    let told = broken_at(rt.alloc(), &block, *offset, new, &hint).expect(rt, "a block");
+    assert!(rt; told == *wanted, "{query} from {from}, {offset}");
+}
+
 #[test]
-fn candidates_of_a_broken_stripe(rt: HostRuntime) -> Result<(), Fail> {
-    let alloc = rt.alloc();
-    let block = block_of(alloc, PARENT)?;
-    let any = hint_of(alloc, "{ }")?;
-    let named = hint_of(alloc, r#"{ name = "a" }"#)?;
-    let mut later = hint_of(alloc, "{ }")?;
-    later.range.from = 5;
-    // Another length; one byte too many for the length of the first text, which is empty.
-    for (offset, new, broken) in [(0, [255; 8].as_slice(), 4096), (9, &[128, 0], 4105)] {
-        for hint in [&any, &named] {
-            assert_eq!(rt;
-                broken_at(alloc, &block, offset, new, hint)?,
-                Some(broken),
-                "{offset}"
-            );
-        }
-        assert_eq!(rt; broken_at(alloc, &block, offset, new, &later)?, None);
+fn candidates_of_a_broken_stripe(rt: HostRuntime) {
+    for case in &BROKEN {
+        check_broken(&rt, case);
     }
-    Ok(())
 }

@@ -5,7 +5,9 @@ use disk_model::MemDisk;
 use run_support::session_on;
 use span_types::Memory;
 use std::alloc::Global;
-use std::test::Fail;
+use std::process::Abort;
+use std::sync::Wait;
+use std::thread::Threads;
 
 /// Numbers that look random, the same every time: a linear congruential generator (Knuth's constants).
 #[derive(Drop)]
@@ -26,7 +28,7 @@ impl Dice {
     }
 }
 
-const QUERIES: [&str; 20] = [
+static QUERIES: [&str; 20] = [
     "{ }",
     "{ name = \"a\" }",
     "{ .v = \"x\" }",
@@ -49,7 +51,7 @@ const QUERIES: [&str; 20] = [
     "{ kind = server || status = error } | count() > 1",
 ];
 
-const OPTIONS: [&str; 8] = [
+static OPTIONS: [&str; 8] = [
     "",
     "limit=1 ",
     "limit=3 ",
@@ -124,7 +126,21 @@ impl Script {
     }
 }
 
-/// One step of a run, and a search after it.
+/// A push.
+fn add_push(
+    alloc: Global,
+    dice: &mut Dice,
+    sizes: Sizes,
+    model: &mut Model,
+    script: &mut Script,
+) -> Result<(), Memory> {
+    let json = push(alloc, dice, sizes)?;
+    model.push(alloc, json.as_str())?;
+    let line = format!(in alloc; "push {json}")?;
+    script.add(line.as_str(), None)
+}
+
+/// One step of a run.
 fn add_step(
     alloc: Global,
     dice: &mut Dice,
@@ -133,25 +149,29 @@ fn add_step(
     script: &mut Script,
 ) -> Result<(), Memory> {
     match dice.roll(8) {
-        0..=3 => {
-            let json = push(alloc, dice, sizes)?;
-            model.push(alloc, json.as_str())?;
-            let line = format!(in alloc; "push {}", json.as_str())?;
-            script.add(line.as_str(), None)?;
-        }
-        4 => script.add("cutall", None)?,
+        0..=3 => add_push(alloc, dice, sizes, model, script),
+        4 => script.add("cutall", None),
         5 | 6 => {
             script.add("cutall", None)?;
-            script.add("flush", None)?;
+            script.add("flush", None)
         }
-        _ => script.add("compact", None)?,
+        _ => script.add("compact", None),
     }
+}
+
+/// A search.
+fn add_search(
+    alloc: Global,
+    dice: &mut Dice,
+    model: &Model,
+    script: &mut Script,
+) -> Result<(), Memory> {
     let line = format!(in alloc; "search {}{}", dice.one_of(&OPTIONS), dice.one_of(&QUERIES))?;
     let wanted = model.reply(alloc, line.as_str())?;
     script.add(line.as_str(), Some(wanted))
 }
 
-/// A run of so many steps.
+/// A run of so many steps, with a search after each.
 fn script_of(alloc: Global, seed: u64, sizes: Sizes, steps: u64) -> Result<Script, Memory> {
     let mut dice = Dice { state: seed };
     let mut model = Model::new(alloc);
@@ -161,6 +181,7 @@ fn script_of(alloc: Global, seed: u64, sizes: Sizes, steps: u64) -> Result<Scrip
     };
     for _ in 0..steps {
         add_step(alloc, &mut dice, sizes, &mut model, &mut script)?;
+        add_search(alloc, &mut dice, &model, &mut script)?;
     }
     Ok(script)
 }
@@ -184,33 +205,65 @@ fn first_wrong(script: &Script, replies: &str) -> Option<usize> {
 /// How many random runs of each size are played.
 const RUNS: u64 = 12;
 
+/// Sizes, and how many steps a run has.
+static PLAYED: [(Sizes, u64); 5] = [
+    (
+        Sizes {
+            traces: 3,
+            spans: 2,
+            push: 3,
+        },
+        24,
+    ),
+    (
+        Sizes {
+            traces: 12,
+            spans: 4,
+            push: 6,
+        },
+        24,
+    ),
+    (
+        Sizes {
+            traces: 40,
+            spans: 3,
+            push: 60,
+        },
+        16,
+    ),
+    (
+        Sizes {
+            traces: 2,
+            spans: 300,
+            push: 200,
+        },
+        10,
+    ),
+    // Blocks of more traces than a search picks in one round.
+    (
+        Sizes {
+            traces: 3000,
+            spans: 1,
+            push: 1500,
+        },
+        10,
+    ),
+];
+
+/// Plays a run, and asserts that each search is replied as it was to be.
+fn check_run<R: Threads + Wait + Sync + Abort + AllocGlobal>(rt: &R, script: &Script, seed: u64) {
+    let mut disk = MemDisk::empty(rt.alloc());
+    let played = session_on(rt, rt.alloc(), &mut disk, script.input.as_str()).expect(rt, "memory");
+    let replies = std::str::from_utf8(played.text.as_slice()).expect(rt, "a text");
+    assert!(rt; first_wrong(script, replies).is_none(), "seed {seed}");
+}
+
 #[test]
-fn searches_answer_over_all_rows(rt: HostRuntime) -> Result<(), Fail> {
-    let alloc = rt.alloc();
-    for (traces, spans, push, steps) in [
-        (3, 2, 3, 24),
-        (12, 4, 6, 24),
-        (40, 3, 60, 16),
-        (2, 300, 200, 10),
-        // Blocks of more traces than a search picks in one round.
-        (3000, 1, 1500, 10),
-    ] {
-        let sizes = Sizes {
-            traces,
-            spans,
-            push,
-        };
+fn searches_answer_over_all_rows(rt: HostRuntime) {
+    for (sizes, steps) in &PLAYED {
         for seed in 0..RUNS {
-            let script = script_of(alloc, seed, sizes, steps)?;
-            let mut disk = MemDisk::empty(alloc);
-            let played = session_on(&rt, alloc, &mut disk, script.input.as_str())?;
-            let replies = std::str::from_utf8(played.text.as_slice()).unwrap_or("");
-            assert_eq!(rt;
-                first_wrong(&script, replies),
-                None,
-                "{traces} traces, seed {seed}"
-            );
+            let script = script_of(rt.alloc(), seed, *sizes, *steps).expect(&rt, "memory");
+            check_run(&rt, &script, seed);
         }
     }
-    Ok(())
 }

@@ -4,7 +4,9 @@ use disk_model::MemDisk;
 use run_support::session_on;
 use span_types::Memory;
 use std::alloc::Global;
-use std::test::Fail;
+use std::process::Abort;
+use std::sync::Wait;
+use std::thread::Threads;
 
 /// A push of the span b1 of a trace, which is given by its last byte. Its status is `ok` if it is named `old`, else `error`.
 fn push(alloc: Global, trace: &str, name: &str, start: u64, end: u64) -> Result<String, Memory> {
@@ -23,7 +25,7 @@ const OLD: &str =
 const NOTHING: &str = r#"ok search as_of=3 traces=0 {"traces":[]}"#;
 
 /// Searches, and what each is to be told. The trace a2 starts at 80, between the first copy's start and the later one's.
-const SEARCHES: [(&str, &str); 8] = [
+static SEARCHES: [(&str, &str); 8] = [
     ("search limit=1 { }", OLD),
     ("search { name = \"new\" }", NOTHING),
     ("search { name = \"old\" }", OLD),
@@ -41,37 +43,45 @@ const SEARCHES: [(&str, &str); 8] = [
 ];
 
 // What becomes of the first copy, of the later one, and in the end.
-const PLACES: [[&str; 3]; 4] = [
+static PLACES: [[&str; 3]; 4] = [
     ["cutall\nflush\n", "cutall\nflush\n", ""],
     ["cutall\nflush\n", "", ""],
     ["cutall\nflush\n", "cutall\n", ""],
     ["cutall\nflush\n", "cutall\nflush\n", "compact\n"],
 ];
 
-#[test]
-fn a_later_copy_counts_for_nothing(rt: HostRuntime) -> Result<(), Fail> {
-    let alloc = rt.alloc();
+/// The pushes of both copies and of the other trace, with what becomes of each.
+fn stored(alloc: Global, places: &[&str; 3]) -> Result<String, Memory> {
+    let [first, later, end] = places;
     let old = push(alloc, "a1", "old", 100, 110)?;
     let new = push(alloc, "a1", "new", 50, 60)?;
     let other = push(alloc, "a2", "y", 80, 90)?;
-    for [first, later, end] in PLACES {
-        let stored = format!(in alloc;
-            "{}{first}{}{later}{}{end}",
-            old.as_str(),
-            new.as_str(),
-            other.as_str()
-        )?;
-        for (search, wanted) in SEARCHES {
-            let mut disk = MemDisk::empty(alloc);
-            let input = format!(in alloc; "{}{search}\n", stored.as_str())?;
-            let played = session_on(&rt, alloc, &mut disk, input.as_str())?;
-            let replies = std::str::from_utf8(played.text.as_slice()).unwrap_or("");
-            assert_eq!(rt;
-                replies.lines().last(),
-                Some(wanted),
-                "{search} after {first:?} {later:?} {end:?}"
-            );
+    Ok(format!(in alloc; "{old}{first}{new}{later}{other}{end}")?)
+}
+
+/// Compares what a search after these lines is told with what is expected of it.
+fn check<R: Threads + Wait + Sync + Abort + AllocGlobal>(
+    rt: &R,
+    stored: &str,
+    search: &str,
+    wanted: &str,
+) {
+    let input = format!(in rt.alloc(); "{stored}{search}\n").expect(rt, "memory");
+    let mut disk = MemDisk::empty(rt.alloc());
+    let played = session_on(rt, rt.alloc(), &mut disk, input.as_str()).expect(rt, "memory");
+    let replies = std::str::from_utf8(played.text.as_slice()).expect(rt, "a text");
+    assert!(rt;
+        replies.lines().last() == Some(wanted),
+        "{search} after {stored}"
+    );
+}
+
+#[test]
+fn a_later_copy_counts_for_nothing(rt: HostRuntime) {
+    for places in &PLACES {
+        let stored = stored(rt.alloc(), places).expect(&rt, "memory");
+        for (search, wanted) in &SEARCHES {
+            check(&rt, stored.as_str(), search, wanted);
         }
     }
-    Ok(())
 }

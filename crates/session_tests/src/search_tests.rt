@@ -1,10 +1,10 @@
 //! Whole sessions with searches, with their exact bytes.
 
-use crate::run_tests::check;
+use crate::run_tests::{check, session};
 use disk_model::MemDisk;
-use io_edges::{FixedClock, MemSink, MemSource, OpenGate};
-use run_support::FINE;
-use span_types::{Bytes, Calls, Memory, Moments};
+use io_edges::{FixedClock, MemSink, OpenGate};
+use run_support::{FINE, all_words, calls, source_of};
+use span_types::Moments;
 use trace_shell::{Ended, run};
 use traceql_types::ScriptedMaker;
 
@@ -234,63 +234,75 @@ ok search as_of=1 traces=1 {"traces":[{"durationNanos":"1","rootName":"a","rootS
 "#,
 );
 
+/// Sessions that are answered, and some whose last refusal ends them with the status 7.
+static ANSWERED: [((&str, &str), u8); 11] = [
+    (RANKED, 0),
+    (MISSING, 0),
+    (RINGS, 0),
+    (SUMS, 0),
+    (GROUPS, 0),
+    (METRICS, 0),
+    (METRICS_OF_REPEATS, 0),
+    (OPERATORS, 0),
+    (AVERAGES, 7),
+    (REFUSED, 7),
+    (METRICS_REFUSED, 7),
+];
+
 #[test]
-fn searches_are_answered(rt: HostRuntime) -> Result<(), Memory> {
-    let alloc = rt.alloc();
-    let session = ["session"];
-    for (input, wanted) in [
-        RANKED,
-        MISSING,
-        RINGS,
-        SUMS,
-        GROUPS,
-        METRICS,
-        METRICS_OF_REPEATS,
-        OPERATORS,
-    ] {
-        check(&rt, alloc, &session, input, FINE, wanted, 0)?;
+fn searches_are_answered(rt: HostRuntime) {
+    for ((input, wanted), status) in &ANSWERED {
+        session(&rt, input, wanted, *status);
     }
-    for (input, wanted) in [AVERAGES, REFUSED, METRICS_REFUSED] {
-        check(&rt, alloc, &session, input, FINE, wanted, 7)?;
-    }
-    Ok(())
 }
 
 #[test]
-fn a_long_query_is_refused(rt: HostRuntime) -> Result<(), Memory> {
-    let alloc = rt.alloc();
-    let mut line = String::from_str(alloc, "search ")?;
-    for _ in 0..8193 {
-        line.push(' ')?;
+fn a_long_query_is_refused(rt: HostRuntime) {
+    let spaces = " ".repeat(rt.alloc(), 8193).expect(&rt, "memory");
+    let line = format!(in rt.alloc(); "search {spaces}").expect(&rt, "memory");
+    session(
+        &rt,
+        line.as_str(),
+        "refused bad-query too-long length=8193\n",
+        7,
+    );
+}
+
+const EMPTY: &str = "ok search as_of=0 traces=0 {\"traces\":[]}\n";
+
+/// Words, and what they write on an empty disk, with the status.
+static WORDS: [(&[&str], &str, u8); 4] = [
+    (&["search", "{ }"], EMPTY, 0),
+    (
+        &[
+            "search", "--limit", "5", "--spss", "1", "--start", "1", "--end", "2", "{ }",
+        ],
+        EMPTY,
+        0,
+    ),
+    (
+        &["search", "--limit", "0", "{ }"],
+        "refused bad-request at=7\n",
+        7,
+    ),
+    (&["search"], "", 2),
+];
+
+#[test]
+fn words_make_the_line_of_a_search(rt: HostRuntime) {
+    for (words, wanted, status) in &WORDS {
+        check(&rt, words, "", FINE, (*wanted, *status));
     }
-    let wanted = "refused bad-query too-long length=8193\n";
-    check(&rt, alloc, &["session"], line.as_str(), FINE, wanted, 7)
 }
 
 #[test]
-fn words_make_the_line_of_a_search(rt: HostRuntime) -> Result<(), Memory> {
+fn a_pattern_that_the_maker_refuses_is_too_big(rt: HostRuntime) {
     let alloc = rt.alloc();
-    let empty = "ok search as_of=0 traces=0 {\"traces\":[]}\n";
-    check(&rt, alloc, &["search", "{ }"], "", FINE, empty, 0)?;
-    let all = [
-        "search", "--limit", "5", "--spss", "1", "--start", "1", "--end", "2", "{ }",
-    ];
-    check(&rt, alloc, &all, "", FINE, empty, 0)?;
-    let bad = ["search", "--limit", "0", "{ }"];
-    check(&rt, alloc, &bad, "", FINE, "refused bad-request at=7\n", 7)?;
-    check(&rt, alloc, &["search"], "", FINE, "", 2)
-}
-
-#[test]
-fn a_pattern_that_the_maker_refuses_is_too_big(rt: HostRuntime) -> Result<(), Memory> {
-    let alloc = rt.alloc();
-    let mut words = Vec::new(alloc);
-    words.push(String::from_str(alloc, "session")?)?;
-    let input = Vec::from_slice(alloc, b"search { name =~ \"a\" }")?;
-    let mut source = MemSource::new(Bytes::of(input), Calls::of(Vec::new(alloc)));
-    let mut sink = MemSink::new(alloc, Calls::of(Vec::new(alloc)));
+    let words = all_words(alloc, &["session"]).expect(&rt, "memory");
+    let mut source = source_of(alloc, "search { name =~ \"a\" }").expect(&rt, "memory");
+    let mut sink = MemSink::new(alloc, calls(alloc, &[]).expect(&rt, "memory"));
     let mut clock = FixedClock::new(Moments::of(Vec::new(alloc)));
-    let mut patterns = ScriptedMaker::new(alloc, Calls::of(Vec::from_slice(alloc, &[1])?));
+    let mut patterns = ScriptedMaker::new(alloc, calls(alloc, &[1]).expect(&rt, "memory"));
     let Ended { status, disk: _ } = run(
         &rt,
         alloc,
@@ -302,7 +314,6 @@ fn a_pattern_that_the_maker_refuses_is_too_big(rt: HostRuntime) -> Result<(), Me
         &mut patterns,
         &OpenGate,
     );
-    assert!(rt; sink.taken() == b"refused pattern-too-big at=10\n".as_slice());
-    assert_eq!(rt; status, 7);
-    Ok(())
+    assert!(&rt; sink.taken() == b"refused pattern-too-big at=10\n".as_slice());
+    assert!(&rt; status == 7);
 }

@@ -8,41 +8,95 @@ use span_types::{Calls, Memory, Rows, Text};
 use spanset_eval::{Count, Counts, Results, Series, SeriesList};
 use std::alloc::Global;
 use std::process::Abort;
-use std::test::Fail;
 use store_state::Refusal as RoundRefusal;
 use traceql_print::print_query;
 use traceql_types::ScriptedMaker;
 use traceql_value::Values;
 
-/// What a search asks: its counts, its range, how many patterns it has, and its query as it is printed.
-fn told(alloc: Global, search: &Search) -> Result<Text, Memory> {
+/// Adds what a search asks: its counts, its range, how many patterns it has, and its query as it is printed.
+fn add_search(alloc: Global, told: &mut String, search: &Search) -> Result<(), Memory> {
+    let (limit, spans, from) = (search.limit, search.spans_per_set, search.range.from);
+    write!(told, "search {limit} {spans} {from} ")?;
+    match search.range.until {
+        None => told.push_str("-")?,
+        Some(until) => write!(told, "{until}")?,
+    }
     let query = print_query(alloc, &search.checked.query)?;
-    let patterns = search.checked.patterns.len();
-    let from = search.range.from;
-    let until = match search.range.until {
-        None => String::from_str(alloc, "-")?,
-        Some(until) => until.to_string(alloc)?,
-    };
-    let limit = search.limit;
-    let spans = search.spans_per_set;
-    Ok(Text::of(format!(in alloc;
-        "search {limit} {spans} {from} {until} {patterns} {}\n",
+    write!(
+        told,
+        " {} {}",
+        search.checked.patterns.len(),
         query.as_str()
-    )?))
+    )?;
+    Ok(())
 }
 
-/// What a metrics query asks: its rate or count, its times, how many patterns it has, and the query that is run, as it is printed.
-fn measured(alloc: Global, asked: &Metrics) -> Result<Text, Memory> {
-    let query = print_query(alloc, &asked.checked.query)?;
-    let patterns = asked.checked.patterns.len();
+/// Adds what a metrics query asks: its rate or count, its times, how many patterns it has, and the query that is run, as it is printed.
+fn add_metrics(alloc: Global, told: &mut String, asked: &Metrics) -> Result<(), Memory> {
     let tells = if asked.rate { "rate" } else { "count" };
-    Ok(Text::of(format!(in alloc;
-        "metrics {tells} {} {} {} {patterns} {}\n",
-        asked.start,
-        asked.end,
-        asked.step,
-        query.as_str()
-    )?))
+    let patterns = asked.checked.patterns.len();
+    write!(
+        told,
+        "metrics {tells} {} {} {} {patterns} ",
+        asked.start, asked.end, asked.step
+    )?;
+    let query = print_query(alloc, &asked.checked.query)?;
+    told.push_str(query.as_str())?;
+    Ok(())
+}
+
+/// Adds what a push has: its spans, and how many spans were rejected and how many parts skipped.
+fn add_push(told: &mut String, spans: usize, rejected: u32, skipped: u32) -> Result<(), Memory> {
+    write!(told, "push {spans} {rejected} {skipped} at ")?;
+    Ok(())
+}
+
+/// Adds the moment at which a line came.
+fn add_moment(told: &mut String, moment: u64) -> Result<(), Memory> {
+    write!(told, "{moment}")?;
+    Ok(())
+}
+
+fn add_word(told: &mut String, word: &str) -> Result<(), Memory> {
+    told.push_str(word)?;
+    Ok(())
+}
+
+/// Adds what is asked.
+fn add_request(alloc: Global, told: &mut String, request: &Request) -> Result<(), Memory> {
+    match request {
+        Request::Push { reading, moment } => {
+            add_push(
+                told,
+                reading.batch.spans.len(),
+                reading.rejected,
+                reading.skipped,
+            )?;
+            add_moment(told, *moment)
+        }
+        Request::Trace(id) => {
+            add_word(told, "trace ")?;
+            add_word(told, hex::encode(alloc, id.0.as_slice())?.as_str())
+        }
+        Request::Search(search) => add_search(alloc, told, search),
+        Request::Metrics(asked) => add_metrics(alloc, told, asked),
+        Request::Cut { moment } => {
+            add_word(told, "cut at ")?;
+            add_moment(told, *moment)
+        }
+        Request::CutAll => add_word(told, "cutall"),
+        Request::Flush => add_word(told, "flush"),
+        Request::Compact => add_word(told, "compact"),
+        Request::Reclaim => add_word(told, "reclaim"),
+    }
+}
+
+/// What is asked, as a line.
+fn request_line(alloc: Global, request: &Request) -> Result<Text, Memory> {
+    let mut told = String::new(alloc);
+    add_request(alloc, &mut told, request)?;
+    told.push_str("\n")?;
+    Ok(Text::of(told))
 }
 
 /// What a line asks, or the reply that refuses it. The maker refuses its second pattern.
@@ -50,32 +104,13 @@ fn asked(alloc: Global, line: &[u8]) -> Result<Text, Memory> {
     let refused = vec![in alloc; 2]?;
     let mut maker = ScriptedMaker::new(alloc, Calls::of(refused));
     match read_request(alloc, line, 7, &mut maker) {
-        Ok(Request::Push { reading, moment }) => {
-            let spans = reading.batch.spans.len();
-            let text = format!(in alloc;
-                "push {spans} {} {} at {moment}\n",
-                reading.rejected, reading.skipped
-            )?;
-            Ok(Text::of(text))
-        }
-        Ok(Request::Trace(id)) => {
-            let digits = hex::encode(alloc, id.0.as_slice())?;
-            Ok(Text::of(format!(in alloc; "trace {digits}\n")?))
-        }
-        Ok(Request::Search(search)) => told(alloc, &search),
-        Ok(Request::Metrics(asked)) => measured(alloc, &asked),
-        Ok(Request::Cut { moment }) => Ok(Text::of(format!(in alloc; "cut at {moment}\n")?)),
-        Ok(Request::CutAll) => Ok(Text::of(String::from_str(alloc, "cutall\n")?)),
-        Ok(Request::Flush) => Ok(Text::of(String::from_str(alloc, "flush\n")?)),
-        Ok(Request::Compact) => Ok(Text::of(String::from_str(alloc, "compact\n")?)),
-        Ok(Request::Reclaim) => Ok(Text::of(String::from_str(alloc, "reclaim\n")?)),
+        Ok(request) => request_line(alloc, &request),
         Err(why) => write_reply(alloc, &Reply::Refused(why)),
     }
 }
 
 /// Each row is a line and what it asks, or its refusal. `_` stands for a space.
-const LINES: &str = r#"
-push => refused bad-request at=4
+const LINES: &str = r#"push => refused bad-request at=4
 push_ => refused bad-json
 push_7 => refused bad-otlp path=$
 push_{} => push 0 0 0 at 7
@@ -213,69 +248,73 @@ metrics_start=0_end=1_step=1_{_name_=_1_}_|_rate() => refused bad-type kind-clas
 metrics_start=0_end=1_step=1_{_.a_=~_"x"_}_|_rate()_by_(.b_=~_"y") => refused pattern-too-big at=33
 metrics_start=1970-01-01T00:00:00Z_end=10_step=04_{_}_|_rate() => metrics rate 0 10 4 0 { }
 metrics_start=0_end=1_step=18446744073709551615_{_.a_=~_"x"_}_|_rate()_by_(name) => metrics rate 0 1 18446744073709551615 1 { .a =~ "x" } | by (name)
-search_{_}_|_rate() => refused bad-query bad-char at=6
-"#;
+search_{_}_|_rate() => refused bad-query bad-char at=6"#;
 
-fn check_line(rt: &(impl Abort + AllocGlobal), line: &[u8], wanted: &str) -> Result<(), Memory> {
-    let text = asked(rt.alloc(), line)?;
-    let got = text.as_str().strip_suffix('\n');
-    assert!(rt; got == Some(wanted), "{wanted}");
-    Ok(())
+fn check_line(rt: &(impl Abort + AllocGlobal), line: &[u8], wanted: &str) {
+    let text = asked(rt.alloc(), line).expect(rt, "memory");
+    assert!(rt;
+        text.as_str().strip_suffix('\n') == Some(wanted),
+        "{wanted}"
+    );
 }
 
 #[test]
-fn lines_ask_or_are_refused(rt: HostRuntime) -> Result<(), Fail> {
-    let alloc = rt.alloc();
+fn lines_ask_or_are_refused(rt: HostRuntime) {
     for row in LINES.lines() {
-        if let Some((line, wanted)) = row.split_once(" => ") {
-            let line = line.replace(alloc, "_", " ")?;
-            check_line(&rt, line.as_bytes(), wanted)?;
-        }
+        let (line, wanted) = row.split_once(" => ").expect(&rt, row);
+        let line = line.replace(rt.alloc(), "_", " ").expect(&rt, "memory");
+        check_line(&rt, line.as_bytes(), wanted);
     }
-    let bytes: [(&[u8], &str); 9] = [
-        (b"\xff", "refused bad-request at=0"),
-        (b"trace \xff", "refused bad-request at=0"),
-        (
-            b"trace 000000000000000000000000000000a1 \xff",
-            "refused bad-request at=0",
-        ),
-        (b"search \xff", "refused bad-request at=0"),
-        (b"push\xff", "refused bad-request at=0"),
-        (b"push \xff", "refused bad-json"),
-        (b"push\t{}", "refused bad-request at=0"),
-        (b"push {}\r", "push 0 0 0 at 7"),
-        (
-            b"trace 000000000000000000000000000000a1\r",
-            "refused bad-request at=6",
-        ),
-    ];
-    for (line, wanted) in bytes {
-        check_line(&rt, line, wanted)?;
-    }
-    Ok(())
 }
+
+/// Bytes that a text can't have, or that a table of lines can't show.
+static BYTES: [(&[u8], &str); 9] = [
+    (b"\xff", "refused bad-request at=0"),
+    (b"trace \xff", "refused bad-request at=0"),
+    (
+        b"trace 000000000000000000000000000000a1 \xff",
+        "refused bad-request at=0",
+    ),
+    (b"search \xff", "refused bad-request at=0"),
+    (b"push\xff", "refused bad-request at=0"),
+    (b"push \xff", "refused bad-json"),
+    (b"push\t{}", "refused bad-request at=0"),
+    (b"push {}\r", "push 0 0 0 at 7"),
+    (
+        b"trace 000000000000000000000000000000a1\r",
+        "refused bad-request at=6",
+    ),
+];
 
 #[test]
-fn lines_may_have_16777216_bytes(rt: HostRuntime) -> Result<(), Fail> {
-    let alloc = rt.alloc();
-    let mut line = String::from_str(alloc, "push {}")?;
-    for _ in 0..16_777_209 {
-        line.push_str(" ")?;
+fn bytes_ask_or_are_refused(rt: HostRuntime) {
+    for (line, wanted) in &BYTES {
+        check_line(&rt, line, wanted);
     }
-    check_line(&rt, line.as_bytes(), "push 0 0 0 at 7")?;
-    line.push_str(" ")?;
-    check_line(&rt, line.as_bytes(), "refused too-long length=16777217")?;
-    Ok(())
 }
 
-fn check_reply(rt: &(impl Abort + AllocGlobal), reply: &Reply, wanted: &str) -> Result<(), Memory> {
-    let text = write_reply(rt.alloc(), reply)?;
+/// How many spaces follow an empty push, and what it asks.
+static LENGTHS: [(usize, &str); 2] = [
+    (16_777_209, "push 0 0 0 at 7"),
+    (16_777_210, "refused too-long length=16777217"),
+];
+
+#[test]
+fn lines_may_have_16777216_bytes(rt: HostRuntime) {
+    for (count, wanted) in &LENGTHS {
+        let spaces = " ".repeat(rt.alloc(), *count).expect(&rt, "memory");
+        let line = format!(in rt.alloc(); "push {{}}{spaces}").expect(&rt, "memory");
+        check_line(&rt, line.as_bytes(), wanted);
+    }
+}
+
+fn check_reply(rt: &(impl Abort + AllocGlobal), reply: Reply, wanted: &str) {
+    let text = write_reply(rt.alloc(), &reply).expect(rt, "memory");
     assert!(rt; text.as_str() == wanted, "{wanted}");
-    Ok(())
 }
 
 #[test]
-fn a_push_is_acknowledged(rt: HostRuntime) -> Result<(), Fail> {
+fn a_push_is_acknowledged(rt: HostRuntime) {
     let pushed = Reply::Pushed {
         number: 18_446_744_073_709_551_615,
         accepted: 2,
@@ -283,23 +322,20 @@ fn a_push_is_acknowledged(rt: HostRuntime) -> Result<(), Fail> {
         skipped: 0,
     };
     let wanted = "ok push 18446744073709551615 accepted=2 rejected=4294967295 skipped=0\n";
-    check_reply(&rt, &pushed, wanted)?;
-    Ok(())
+    check_reply(&rt, pushed, wanted);
 }
 
 #[test]
-fn a_trace_without_spans_is_written(rt: HostRuntime) -> Result<(), Fail> {
+fn answers_without_spans_are_written(rt: HostRuntime) {
     let traced = Reply::Traced {
         as_of: 3,
         rows: Rows::of(Vec::new(rt.alloc())),
     };
-    let wanted = "ok trace as_of=3 spans=0 {\"resourceSpans\":[]}\n";
-    check_reply(&rt, &traced, wanted)?;
-    Ok(())
-}
-
-#[test]
-fn a_search_without_results_is_written(rt: HostRuntime) -> Result<(), Fail> {
+    check_reply(
+        &rt,
+        traced,
+        "ok trace as_of=3 spans=0 {\"resourceSpans\":[]}\n",
+    );
     let searched = Reply::Searched {
         as_of: 4,
         fields: Texts::of(Vec::new(rt.alloc())),
@@ -307,124 +343,138 @@ fn a_search_without_results_is_written(rt: HostRuntime) -> Result<(), Fail> {
     };
     check_reply(
         &rt,
-        &searched,
+        searched,
         "ok search as_of=4 traces=0 {\"traces\":[]}\n",
-    )?;
-    Ok(())
+    );
 }
 
+/// Two counts of a series.
+static COUNTS: [Count; 2] = [
+    Count {
+        numerator: 0,
+        denominator: 1,
+    },
+    Count {
+        numerator: 1_000_000_000,
+        denominator: 7,
+    },
+];
+
 #[test]
-fn series_are_written(rt: HostRuntime) -> Result<(), Fail> {
+fn series_are_written(rt: HostRuntime) {
     let alloc = rt.alloc();
-    let counts = [
-        Count {
-            numerator: 0,
-            denominator: 1,
-        },
-        Count {
-            numerator: 1_000_000_000,
-            denominator: 7,
-        },
-    ];
-    let mut list = Vec::new(alloc);
-    list.push(Series {
+    let counts = Vec::from_slice(alloc, &COUNTS).expect(&rt, "memory");
+    let series = Series {
         by: Values::of(Vec::new(alloc)),
-        values: Counts::of(Vec::from_slice(alloc, &counts)?),
-    })?;
+        values: Counts::of(counts),
+    };
+    let list = vec![in alloc; series].expect(&rt, "memory");
     let measured = Reply::Measured {
         as_of: 5,
         series: SeriesList::of(list),
     };
     let wanted =
         "ok metrics as_of=5 series=1 {\"series\":[{\"by\":[],\"values\":[{\"intValue\":\"0\"},{\"ratioValue\":\"1000000000/7\"}]}]}\n";
-    check_reply(&rt, &measured, wanted)?;
-    Ok(())
+    check_reply(&rt, measured, wanted);
 }
 
 #[test]
-fn lines_of_upkeep_are_acknowledged(rt: HostRuntime) -> Result<(), Fail> {
-    check_reply(&rt, &Reply::Cut { moved: 0 }, "ok cut moved=0\n")?;
-    let all = Reply::CutAll { moved: 262_144 };
-    check_reply(&rt, &all, "ok cutall moved=262144\n")?;
-    let flushed = Reply::Flushed { rows: 1_048_576 };
-    check_reply(&rt, &flushed, "ok flush rows=1048576\n")?;
-    check_reply(&rt, &Reply::NothingFlushed, "ok flush nothing\n")?;
+fn cuts_and_flushes_are_acknowledged(rt: HostRuntime) {
+    check_reply(&rt, Reply::Cut { moved: 0 }, "ok cut moved=0\n");
+    check_reply(
+        &rt,
+        Reply::CutAll { moved: 262_144 },
+        "ok cutall moved=262144\n",
+    );
+    check_reply(
+        &rt,
+        Reply::Flushed { rows: 1_048_576 },
+        "ok flush rows=1048576\n",
+    );
+    check_reply(&rt, Reply::NothingFlushed, "ok flush nothing\n");
+}
+
+#[test]
+fn compactions_are_acknowledged(rt: HostRuntime) {
     let compacted = Reply::Compacted {
         blocks: 4,
         rows: 1_048_576,
     };
-    check_reply(&rt, &compacted, "ok compact blocks=4 rows=1048576\n")?;
-    check_reply(&rt, &Reply::NothingCompacted, "ok compact nothing\n")?;
-    let reclaimed = Reply::Reclaimed { files: 0 };
-    check_reply(&rt, &reclaimed, "ok reclaim files=0\n")?;
-    Ok(())
+    check_reply(&rt, compacted, "ok compact blocks=4 rows=1048576\n");
+    check_reply(&rt, Reply::NothingCompacted, "ok compact nothing\n");
+    check_reply(&rt, Reply::Reclaimed { files: 0 }, "ok reclaim files=0\n");
 }
 
-fn check_refusal(
-    rt: &(impl Abort + AllocGlobal),
-    why: Refusal,
-    wanted: &str,
-) -> Result<(), Memory> {
-    check_reply(rt, &Reply::Refused(why), wanted)
+fn check_refusal(rt: &(impl Abort + AllocGlobal), why: Refusal, wanted: &str) {
+    check_reply(rt, Reply::Refused(why), wanted);
 }
 
 #[test]
-fn refusals_are_written(rt: HostRuntime) -> Result<(), Fail> {
+fn refusals_are_written(rt: HostRuntime) {
     let long = Refusal::BadQuery(QueryFault::TooLong { length: 8193 });
-    check_refusal(&rt, long, "refused bad-query too-long length=8193\n")?;
+    check_refusal(&rt, long, "refused bad-query too-long length=8193\n");
     let deep = Refusal::BadQuery(QueryFault::TooDeep { at: 66 });
-    check_refusal(&rt, deep, "refused bad-query too-deep at=66\n")?;
-    check_refusal(&rt, Refusal::Memory, "refused memory\n")?;
-    let spans = Refusal::TooMany { spans: 16_385 };
-    check_refusal(&rt, spans, "refused too-many spans=16385\n")?;
+    check_refusal(&rt, deep, "refused bad-query too-deep at=66\n");
+    check_refusal(&rt, Refusal::Memory, "refused memory\n");
+    check_refusal(
+        &rt,
+        Refusal::TooMany { spans: 16_385 },
+        "refused too-many spans=16385\n",
+    );
     let buckets = Refusal::TooManyBuckets { count: 1001 };
-    check_refusal(&rt, buckets, "refused too-many-buckets count=1001\n")?;
-    Ok(())
+    check_refusal(&rt, buckets, "refused too-many-buckets count=1001\n");
 }
 
 #[test]
-fn refusals_of_a_store_are_written(rt: HostRuntime) -> Result<(), Fail> {
-    let live = Refusal::LiveFull { held: 262_144 };
-    check_refusal(&rt, live, "refused live-full held=262144\n")?;
+fn refusals_of_a_store_are_written(rt: HostRuntime) {
+    check_refusal(
+        &rt,
+        Refusal::LiveFull { held: 262_144 },
+        "refused live-full held=262144\n",
+    );
     let store = Refusal::StoreFull {
         pushes: 4_294_967_295,
     };
-    check_refusal(&rt, store, "refused store-full pushes=4294967295\n")?;
-    let read_only = Refusal::ReadOnly { faults: 1 };
-    check_refusal(&rt, read_only, "refused read-only faults=1\n")?;
-    check_refusal(&rt, Refusal::DiskFault, "refused disk-fault\n")?;
+    check_refusal(&rt, store, "refused store-full pushes=4294967295\n");
+    check_refusal(
+        &rt,
+        Refusal::ReadOnly { faults: 1 },
+        "refused read-only faults=1\n",
+    );
+    check_refusal(&rt, Refusal::DiskFault, "refused disk-fault\n");
     let bytes = Refusal::NotStore {
         file: 3,
         at: 16_383,
     };
-    check_refusal(&rt, bytes, "refused not-store file=3 at=16383\n")?;
-    Ok(())
+    check_refusal(&rt, bytes, "refused not-store file=3 at=16383\n");
 }
 
-fn check_round(
-    rt: &(impl Abort + AllocGlobal),
-    why: RoundRefusal,
-    wanted: &str,
-) -> Result<(), Memory> {
-    check_refusal(rt, Refusal::Round(why), wanted)
-}
+static ROUNDS: [(RoundRefusal, &str); 6] = [
+    (
+        RoundRefusal::ReadOnly { faults: 2 },
+        "refused read-only faults=2\n",
+    ),
+    (RoundRefusal::Busy { job: 3 }, "refused busy job=3\n"),
+    (
+        RoundRefusal::FilesSpent {
+            next: 4_294_967_294,
+        },
+        "refused files-spent next=4294967294\n",
+    ),
+    (RoundRefusal::Fault, "refused disk-fault\n"),
+    (RoundRefusal::Memory, "refused memory\n"),
+    (
+        RoundRefusal::NotBlock {
+            file: 3,
+            at: 16_383,
+        },
+        "refused not-block file=3 at=16383\n",
+    ),
+];
 
 #[test]
-fn refusals_of_rounds_are_written(rt: HostRuntime) -> Result<(), Fail> {
-    let read_only = RoundRefusal::ReadOnly { faults: 2 };
-    check_round(&rt, read_only, "refused read-only faults=2\n")?;
-    let busy = RoundRefusal::Busy { job: 3 };
-    check_round(&rt, busy, "refused busy job=3\n")?;
-    let spent = RoundRefusal::FilesSpent {
-        next: 4_294_967_294,
-    };
-    check_round(&rt, spent, "refused files-spent next=4294967294\n")?;
-    check_round(&rt, RoundRefusal::Fault, "refused disk-fault\n")?;
-    check_round(&rt, RoundRefusal::Memory, "refused memory\n")?;
-    let block = RoundRefusal::NotBlock {
-        file: 3,
-        at: 16_383,
-    };
-    check_round(&rt, block, "refused not-block file=3 at=16383\n")?;
-    Ok(())
+fn refusals_of_rounds_are_written(rt: HostRuntime) {
+    for (why, wanted) in &ROUNDS {
+        check_refusal(&rt, Refusal::Round(*why), wanted);
+    }
 }
