@@ -17,8 +17,13 @@ use std::io::ErrorKind;
 /// process on Linux may have where nothing else is set, so that the program has the rest.
 const MOST_OPEN: usize = 256;
 
-/// The files of which one has bytes in each store, since its list is there.
+/// The files of which one has a store's list, from its first one on. A slot is open if it has this byte first and as many
+/// bytes as a list has at least, and else vacant.
 const SLOTS: [u32; 2] = [0, 1];
+
+const OPEN: u8 = 1;
+
+const LEAST_LIST: usize = 30;
 
 /// The one other file that is made before the first list, and the most bytes that it has till then.
 const FIRST: u32 = 2;
@@ -206,12 +211,13 @@ impl<R: System + Drop> Folder<R> {
         self.expect_slots()?;
         let path = format!(in self.alloc; "{}/lock", self.path)?;
         let file = lock(&self.system, path.as_str())?;
+        self.expect_list()?;
         let doubts = Doubts::read(self.alloc, &file)?;
         self.lock = Some(Lock { file, path, doubts });
         Ok(())
     }
 
-    /// Fails where the folder has files of a store, but nothing in either of its slots.
+    /// Fails where the folder has files of a store, but nothing in either of its slots. Nothing was made in it so far.
     fn expect_slots(&self) -> io::Result<()> {
         for slot in SLOTS {
             match look_for(&self.system, self.path_of(slot)?.as_str())? {
@@ -219,15 +225,44 @@ impl<R: System + Drop> Folder<R> {
                 _ => {}
             }
         }
-        let is_new = match self.system.last_number(self.path.as_str())? {
-            Some(FIRST) => self.system.look(self.path_of(FIRST)?.as_str())?.len <= BEFORE_SLOTS,
-            last => last < Some(FIRST),
-        };
-        if is_new {
-            Ok(())
-        } else {
-            Err(io::Error::from(ErrorKind::InvalidData))
+        expect_store(self.has_no_list_yet()?)
+    }
+
+    /// Fails where the folder has files of a store, but no open slot: the store above would make a new one over them. Another
+    /// program may be about to write a slot, so it has to be locked.
+    fn expect_list(&self) -> io::Result<()> {
+        let mut is_store = self.has_no_list_yet()?;
+        for slot in SLOTS {
+            is_store = is_store || self.is_open(slot)?;
         }
+        expect_store(is_store)
+    }
+
+    /// Whether there are no files but those that are made before a store's first list.
+    fn has_no_list_yet(&self) -> io::Result<bool> {
+        match self.system.last_number(self.path.as_str())? {
+            Some(FIRST) => {
+                let found = self.system.look(self.path_of(FIRST)?.as_str())?;
+                Ok(found.len <= BEFORE_SLOTS)
+            }
+            last => Ok(last < Some(FIRST)),
+        }
+    }
+
+    /// Whether a slot is open. Of what has its name and is no file nothing is known, and the call that opens it fails.
+    fn is_open(&self, slot: u32) -> io::Result<bool> {
+        let path = self.path_of(slot)?;
+        if let Some(found) = look_for(&self.system, path.as_str())? {
+            if !found.is_regular {
+                return Ok(true);
+            }
+        }
+        let Some(file) = open_if_there(&self.system, path.as_str())? else {
+            return Ok(false);
+        };
+        let mut front = [0; LEAST_LIST];
+        let count = read_on(&file, 0, &mut front)?;
+        Ok(count == LEAST_LIST && front[0] == OPEN)
     }
 
     /// Fails unless the file that this program locked still has its name, so that no other program can have locked another.
@@ -361,5 +396,13 @@ impl<R: System + Drop> Folder<R> {
 
     fn path_of(&self, number: u32) -> Result<String, AllocError> {
         format!(in self.alloc; "{}/{number}.dat", self.path)
+    }
+}
+
+fn expect_store(is_store: bool) -> io::Result<()> {
+    if is_store {
+        Ok(())
+    } else {
+        Err(io::Error::from(ErrorKind::InvalidData))
     }
 }

@@ -59,7 +59,7 @@ enum Step {
 type Turns = [&'static [Step]; 4];
 
 /// Each case in a folder of its own, which isn't there before.
-static CASES: [(&str, Turns); 13] = [
+static CASES: [(&str, Turns); 15] = [
     (
         "a file that is missing is empty",
         [
@@ -269,6 +269,35 @@ static CASES: [(&str, Turns); 13] = [
             &[Step::Read(1, &[])],
         ],
     ),
+    (
+        "a store whose one list is closed is refused",
+        [
+            &[
+                Step::Passes(Call::Write(2, 0, &[0, 0, 9])),
+                Step::Passes(Call::Write(0, 0, &[0; 42])),
+            ],
+            &[],
+            &[],
+            &[
+                Step::Refused(0),
+                Step::Found("0.dat", Found::Len(42)),
+                Step::Found("2.dat", Found::Len(3)),
+            ],
+        ],
+    ),
+    (
+        "one open list is enough",
+        [
+            &[
+                Step::Passes(Call::Write(7, 0, &[4])),
+                Step::Passes(Call::Write(0, 0, &[0; 42])),
+                Step::Passes(Call::Write(1, 0, &[1; 30])),
+            ],
+            &[],
+            &[],
+            &[Step::Read(7, &[4]), Step::Faults(0)],
+        ],
+    ),
 ];
 
 /// A path in the system's folder for what is temporary, where nothing is.
@@ -421,7 +450,7 @@ fn files_lie_in_a_folder(rt: HostRuntime) -> Result<(), Fail> {
 }
 
 /// Files of a folder by name and length, and whether a disk takes them for a store's, or for none at all.
-static FOLDERS: [(&[(&str, usize)], bool); 12] = [
+static FOLDERS: [(&[(&str, usize)], bool); 14] = [
     (&[], true),
     (&[("notes.txt", 7), ("lock", 0), ("x.dat", 9)], true),
     // What is left where a program was killed as it made a new store.
@@ -430,9 +459,11 @@ static FOLDERS: [(&[(&str, usize)], bool); 12] = [
     (&[("0.dat", 0), ("2.dat", 2)], true),
     (&[("0.dat", 0), ("1.dat", 0)], true),
     (&[("0.dat", 42), ("2.dat", 2)], true),
+    (&[("0.dat", 29), ("2.dat", 2)], true),
     (&[("1.dat", 42), ("7.dat", 5)], true),
     // What no program leaves.
     (&[("2.dat", 3)], false),
+    (&[("lock", 0), ("0.dat", 29), ("2.dat", 3)], false),
     (&[("2.dat", 2), ("3.dat", 0)], false),
     (&[("0.dat", 0), ("2.dat", 2), ("9.dat", 1)], false),
     (&[("lock", 0), ("17.dat", 5)], false),
