@@ -1,4 +1,7 @@
-//! Laws about the slots and the lists.
+//! Theorems about the slots and the lists: what slots hold is read, and when a further list may be written.
+//!
+//! Each function has an empty body: its contract is the statement, and its proof stands in `proofs/laws/`. Nothing
+//! calls them; proofs of `store_core` and `store_images` cite the lemmas. `_disk` is there to name the type `D`.
 
 ghost use Rattle.std.specs.Prelude.{◌≡◌, ◌≤◌, ◌+◌, ◌*◌, ℕ, Option, Some, List, Ok, length};
 ghost use Rattle.disk_model.specs.Images.{Besides, SameBytes};

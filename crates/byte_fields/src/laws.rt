@@ -1,4 +1,7 @@
-//! Laws about the spellings themselves.
+//! A theorem about the encodings themselves.
+//!
+//! The function has an empty body: its contract is the statement, and its proof stands in `proofs/laws/`. Nothing
+//! calls it; proofs about the log, the list and the blocks cite the lemmas, of `proofs/FieldLaws.antt`.
 
 ghost use Rattle.std.specs.Prelude.{◌≡◌, ℕ, ℤ, ◌<◌, ◌^◌, ◌++◌, List, length, FitsSigned};
 ghost use Rattle.std.specs.Int.{w64};

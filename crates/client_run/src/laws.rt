@@ -1,4 +1,8 @@
-//! What calls make of a core.
+//! Theorems about the calls that are made on a core: they are steps of the machine that it stands for.
+//!
+//! Each function has an empty body: its contract is the statement, and its proof stands in `proofs/laws/`. `own_files`
+//! calls the last to have its contract, and nothing calls the others; proofs of `session_meaning` and `trace_shell`
+//! cite the lemmas of the first. The parameters name the core, before and after the calls.
 
 ghost use Rattle.std.specs.Prelude.{◌≡◌, List, [], ℕ};
 ghost use Rattle.store_model.specs.Step.{Machine};

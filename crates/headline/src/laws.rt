@@ -1,4 +1,8 @@
-//! The headline, and what goes with it.
+//! The headline, and theorems that go with it: what a run's replies and its disk tell, by histories alone.
+//!
+//! Each contract is the statement, and its proof stands in `proofs/laws/`. No program runs these functions, and no
+//! crate is above this one: they are there to be read. Their bodies are empty, but for one that calls a theorem of
+//! `session_meaning` to have its contract. The parameters name disks and cores, before and after.
 
 ghost use Rattle.std.specs.Prelude.{Bool, IsTrue, true, ◌≡◌, ◌⊎◌, ◌<◌, ◌≤◌, ◌+◌, ◌++◌, List, [], ◌∷◌, Some, Ok, length, ℕ};
 ghost use Rattle.std.specs.List.{Contains};

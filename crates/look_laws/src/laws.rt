@@ -1,4 +1,8 @@
-//! Laws of looks and the calls around them.
+//! Theorems about looks and the calls around them: a look tells the history at the look.
+//!
+//! Each function has an empty body: its contract is the statement, and its proof stands in `proofs/laws/`. Nothing
+//! calls them and no proof cites them: they are there to be read. The parameters name the port or the core, before and
+//! after the calls.
 
 ghost use Rattle.std.specs.Prelude.{◌≡◌, ◌++◌, ◌∷◌, [], List, IsTrue};
 ghost use Rattle.std.specs.List.{AllByRecursion};

@@ -1,4 +1,7 @@
-//! Laws of searches that take a few traces at a time. Each is a theorem: its contract is the statement.
+//! Theorems about searches that take a few traces at a time: in the end the answer is that over all rows.
+//!
+//! Each contract is the statement, and its proof stands in `proofs/laws/`. `rounds` and `taking` call them to have
+//! their contracts; when a program runs they do nothing.
 
 ghost use Rattle.query_fanout.specs.Taking.{TakenAnswerTheWhole, TakesMore, TakesMoreRead};
 

@@ -1,4 +1,8 @@
-//! Laws of answers: of several traces, and of parts of them that are looked at by themselves, as in several threads.
+//! Theorems about answers: of several traces, and of parts of them that are looked at by themselves, as in several
+//! threads.
+//!
+//! Each function has an empty body: its contract is the statement, and its proof stands in `proofs/laws/`. Nothing
+//! calls them; proofs of `query_fanout` cite the lemmas.
 
 ghost use Rattle.search_answer.specs.Best.{FirstStays, PickedAnswerTheWhole};
 ghost use Rattle.search_answer.specs.Parts.{EachIsAnswered, FirstOfFirsts, JoinedAnswers, OneAnswer, PartedAnswers};

@@ -1,4 +1,9 @@
-//! What follows from the definitions of a session and of a run.
+//! Theorems about sessions, ingests and runs, from the definitions in `specs/`: what replies tell, why something is
+//! refused, what is stored, and when a run comes to its own end.
+//!
+//! Each function has an empty body: its contract is the statement, and its proof stands in `proofs/laws/`. `headline`
+//! calls `pushes_have_their_causes` to have its contract, and nothing calls the others; proofs of `headline` and
+//! `trace_shell` cite the lemmas of some. The parameters name a core, before and after.
 
 ghost use Rattle.std.specs.Prelude.{Bool, IsTrue, true, ◌≡◌, ◌≢◌, ◌⊎◌, ◌<◌, ◌≤◌, ◌+◌, ◌++◌, List, [], ◌∷◌, Option, Some, None, Ok, false, length, take, ℕ};
 ghost use Rattle.std.specs.List.{Contains, list_any};

@@ -1,4 +1,7 @@
-//! Laws about what stages make of spansets.
+//! Theorems about what stages make of spansets: `by`, and the aggregates `min` and `max`.
+//!
+//! Each function has an empty body: its contract is the statement, and its proof stands in `proofs/laws/`. Nothing
+//! calls them: they say of the definitions that the code meets what a reader expects of `by`, `min` and `max`.
 
 ghost use Rattle.std.specs.Prelude.{List, ℤ, IfSome};
 ghost use Rattle.span_types.specs.declared.spans.Row.{Row};

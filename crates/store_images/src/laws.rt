@@ -1,4 +1,8 @@
-//! Laws of images.
+//! Theorems about images: a load of the list, and the commit of a flush or of a compaction, leave the history for
+//! which an image stands.
+//!
+//! Each function has an empty body: its contract is the statement, and its proof stands in `proofs/laws/`. Nothing
+//! calls them; proofs of `store_core`, `stored_history` and `trace_shell` cite the lemmas.
 
 ghost use Rattle.std.specs.Prelude.{◌≡◌, ℕ, ◌+◌, ◌<◌, ◌≤◌, List, [], ◌∷◌, ◌++◌, drop, Option, Some, None};
 ghost use Rattle.std.specs.List.{Contains};

@@ -1,4 +1,7 @@
-//! Laws of the machine.
+//! Theorems about histories and about the machine: what each of its steps keeps, tells and opens.
+//!
+//! Each function has an empty body: its contract is the statement, and its proof stands in `proofs/laws/`. Nothing
+//! calls them; proofs of `store_core` and of most crates above it cite the lemmas.
 
 ghost use Rattle.std.specs.Prelude.{true, false, ◌≡◌, ◌≤◌, ℕ, List, ◌++◌};
 ghost use Rattle.std.specs.List.Sorted.{IsPermutation};

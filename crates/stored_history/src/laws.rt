@@ -1,4 +1,8 @@
-//! Laws of images and the histories for which they stand.
+//! Theorems about images and the histories for which they stand: an image stands for one, but for what can't be told
+//! apart.
+//!
+//! Each function has an empty body: its contract is the statement, and its proof stands in `proofs/laws/`. Nothing
+//! calls them; proofs of `headline` cite the lemmas.
 
 ghost use Rattle.std.specs.Prelude.{◌≡◌, ◌⊎◌, ℕ, List, Option};
 ghost use Rattle.span_types.specs.declared.spans.Row.{Row};

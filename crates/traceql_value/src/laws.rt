@@ -1,4 +1,7 @@
-//! Laws about ratios, values, patterns and whole traces.
+//! Theorems about ratios, the order of values, patterns and whole traces.
+//!
+//! Each function has an empty body: its contract is the statement, and its proof stands in `proofs/laws/`. Nothing
+//! calls them; proofs of `spanset_eval` and `traceql_metrics` cite the lemmas about the order.
 
 ghost use Rattle.std.specs.Prelude.{◌≡◌, ◌≢◌, ◌+◌, List, [], None, All, Contains, IfSome, pos, ◌*ℤ◌};
 ghost use Rattle.std.specs.Cmp.{IsTotalOrder, IsStrictWeakOrder};
