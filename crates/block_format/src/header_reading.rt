@@ -1,4 +1,5 @@
-//! Reading the header of a block.
+//! Reading the header of a block: bytes to parts, or the first offset at which they are malformed. Each read of a
+//! block begins with it.
 
 ghost use Rattle.std.specs.Prelude.{◌≡◌, ◌+◌, ◌^◌, ◌≤◌, [], IfOk, IsTrue, false};
 ghost use Rattle.span_fields.specs.Breaks.{Answers, Gives, break_of};

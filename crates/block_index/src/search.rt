@@ -1,4 +1,4 @@
-//! Looking for a trace in a page of the index.
+//! Looking for a trace in a page of the index: bytes to the entry of one trace. `block_read` halves the index by it.
 
 ghost use Rattle.std.specs.Prelude.{◌≡◌, ◌<◌, length};
 ghost use Rattle.std.specs.Int.{w32, from_le_bytes};

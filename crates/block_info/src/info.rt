@@ -1,4 +1,4 @@
-//! A block's information and that of its stripes.
+//! A block's information and that of its stripes, as the store keeps them in memory for each listed block.
 
 use span_types::{Seq, Shared};
 use std::marker::Model;

@@ -1,4 +1,4 @@
-//! A list is written into the slot of its generation, and its gate is opened.
+//! A commit: a list's bytes are put into the slot of its generation, and its gate is opened. No memory is taken.
 
 ghost use Rattle.std.specs.Prelude.{◌≡◌, ◌+◌, Option, Some, IsTrue, OnOk, length};
 ghost use Rattle.disk_model.specs.Images.{Image, bytes_of, Besides};

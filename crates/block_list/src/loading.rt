@@ -1,4 +1,5 @@
-//! The list that counts is read from the two slots.
+//! The list that counts is read from the two slots, as a store is opened: both are synced and read, and a long slot
+//! that has no list is cut to its first byte, so that the next commit may be written to it.
 
 ghost use Rattle.std.specs.Prelude.{◌≡◌, ◌≢◌, ◌⊎◌, ◌<◌, ◌≤◌, ℕ, List, length, take, Option, Some, None, Ok, Err, IsTrue, IsOk, IsErr, IfOk, IfErr, OnOk};
 ghost use Rattle.disk_model.specs.Images.{Image, bytes_of, Besides, SameBytes};

@@ -1,4 +1,4 @@
-//! A list in bytes, ready to be written.
+//! A list in bytes, ready to be written. All memory that its commit needs is taken here.
 
 ghost use Rattle.std.specs.Prelude.{◌≡◌, ◌<◌, ◌≤◌, ◌+◌, ◌*◌, ◌^◌, ◌%◌, ◌++◌, ◌∷◌, [], length, vec_len, vec_capacity, IfOk};
 ghost use Rattle.std.specs.List.{flat_map};

@@ -1,4 +1,4 @@
-//! A slot's fields are read and tested, in the order of the bytes.
+//! Reading a slot, bytes to a list: its fields are read and tested in the order of the bytes, for `loading`.
 
 ghost use Rattle.std.specs.Prelude.{length, ◌≡◌, ◌||◌, ◌%◌, ℕ, List, [], ◌++◌, Some, None, Option, map, nat_eq, not, true, false, Ok, Err, IfOk, IfSome, IfErr, OnOk, ◌∷◌, ◌==◌};
 ghost use Rattle.std.specs.List.{list_any};

@@ -1,4 +1,5 @@
-//! The index and the Bloom filters of a block, and how many pages each has.
+//! What comes after the stripes of a block, ids of rows to bytes: the index and the Bloom filters, and how many pages
+//! each has.
 
 ghost use Rattle.std.specs.Prelude.{◌≡◌, ◌^◌, ◌<◌, IfOk, length};
 ghost use Rattle.std.specs.List.{All};

@@ -1,4 +1,4 @@
-//! Several traces, in ascending order.
+//! The entry point: the rows of several traces, which are looked up in ascending order.
 
 ghost use Rattle.std.specs.Prelude.{◌≡◌, IfOk, IsTrue, List};
 ghost use Rattle.span_types.specs.declared.spans.Row.{Row};

@@ -1,4 +1,5 @@
-//! What a request is answered over a port.
+//! Answering a request by calls of a port, and what each answer of the port becomes as a reply. `trace_shell` calls it
+//! for each line.
 
 ghost use Rattle.std.specs.Prelude.{◌≡◌, ◌^◌, ◌<◌, ◌≤◌, List, length};
 ghost use Rattle.store_model.specs.Holds.{Hold};

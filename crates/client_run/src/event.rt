@@ -1,4 +1,4 @@
-//! Events and their replies, as plain values.
+//! Events of a store and their replies, as plain values, so that a test can write a list of them.
 
 use span_types::{Batch, Bytes, Failed, Memory, Rows, Seq};
 use store_state::{PushError, ReclaimError, Step};

@@ -1,4 +1,5 @@
-//! Lists of events.
+//! Running lists of events on a port, one after another, for tests: rounds of flush and compaction go on step by step
+//! between other events.
 
 ghost use Rattle.std.specs.Prelude.{◌≡◌, List, Option, IfOk, OnErr};
 ghost use Rattle.store_model.specs.Holds.{Hold};

@@ -1,4 +1,5 @@
-//! The traces of a block that have sifted spans.
+//! A block at once: the traces that have sifted spans, all stripes in one go. `scans` does the same in parts, as a
+//! search does it.
 
 ghost use Rattle.std.specs.Prelude.{◌≡◌, IfOk, IsTrue, List, map};
 ghost use Rattle.span_types.specs.declared.spans.Row.{Row};

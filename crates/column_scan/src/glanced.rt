@@ -1,4 +1,4 @@
-//! The traces of a stripe of which no row is made.
+//! The traces of a stripe of which no row is made: its first columns say which rows are sifted.
 
 ghost use Rattle.std.specs.Prelude.{◌≡◌, ◌+◌, ◌<◌, ◌++◌, ◌∷◌, [], Bool, IfOk, IfSome, IsTrue, List, None, OnOk, Some, length, slice_get};
 ghost use Rattle.std.specs.List.{list_any};

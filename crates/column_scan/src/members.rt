@@ -1,4 +1,4 @@
-//! The sieve of a query.
+//! The sieve of a query: from its tree to those members of its filter that columns can answer.
 
 ghost use Rattle.std.specs.Prelude.{◌≡◌, ◌++◌, [], IfOk, OnOk, if◌then◌else◌};
 ghost use Rattle.traceql_syntax.specs.Trees.{placed_option, query_tree, set_tree, tree};

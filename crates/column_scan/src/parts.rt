@@ -1,4 +1,4 @@
-//! The traces of one stripe that have sifted spans.
+//! One stripe: the traces that have sifted spans, by its entry, its texts, its first columns and at last its rows.
 
 ghost use Rattle.std.specs.Prelude.{◌≡◌, ◌+◌, ◌^◌, ◌<◌, ◌++◌, [], ◌∷◌, IfOk, IsTrue, List, None, Ok, OnOk, false};
 ghost use Rattle.span_types.specs.declared.spans.Row.{Row};

@@ -1,4 +1,4 @@
-//! The hint of a query.
+//! The hint of a query: from its tree to a range and a text.
 
 ghost use Rattle.std.specs.Prelude.{◌≡◌, ◌++◌, ◌<◌, IfOk, MatchOption};
 ghost use Rattle.std.specs.Option.{option_map, option_or};

@@ -1,4 +1,5 @@
-//! The request line that words ask for.
+//! The request line that words ask for: `trace ID` and `search ..` of the command line are answered as these lines of
+//! a session.
 
 ghost use Rattle.std.specs.Prelude.{◌≡◌, ◌++◌, IfOk, OnOk, option_map, string_bytes};
 ghost use Rattle.command_words.specs.Spelling.{option_text, search_line, trace_line};

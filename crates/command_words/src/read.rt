@@ -1,4 +1,4 @@
-//! Reading the words.
+//! Reading the words of the command line: words to what they ask, by `clap`.
 
 ghost use Rattle.std.specs.Prelude.{◌≡◌, ◌≢◌, ℕ, List, [], Some, true, codes, is_some, map, string_bytes};
 ghost use Rattle.std.specs.Prelude.{IfOk, IfErr};

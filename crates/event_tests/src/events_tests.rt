@@ -1,5 +1,5 @@
-//! Lists of events on a store over a disk in memory: one whose every reply was worked out by hand, and long random ones
-//! against what the events mean.
+//! Lists of events on a store over a disk in memory: one whose every reply was worked out by hand, and long random
+//! ones against what the events mean.
 
 ghost use Rattle.std.specs.Prelude.{◌≤◌};
 

@@ -1,4 +1,5 @@
-//! A record that is ready to be written.
+//! A record before it is written, spans to bytes. All the memory that it needs is taken here, so that `append` takes
+//! none.
 
 ghost use Rattle.std.specs.Prelude.{◌≡◌, ◌<◌, ◌≤◌, ◌^◌, ◌++◌, drop, length, vec_len, IfOk};
 ghost use Rattle.byte_fields.specs.Spelling.{fixed64_bytes};

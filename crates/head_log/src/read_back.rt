@@ -1,4 +1,4 @@
-//! Reading a segment back.
+//! Reading a segment back, as a store is opened: a file off a disk, and its bytes to batches by `records`.
 
 ghost use Rattle.std.specs.Prelude.{◌≡◌, ◌<◌, ◌≤◌, ◌+◌, ◌-◌, ◌++◌, ℕ, All, List, min, take, drop, IsTrue, IfOk, OnErr, IsErrOf, length};
 ghost use Rattle.disk_model.specs.Images.{bytes_of, SameBytes};

@@ -1,4 +1,4 @@
-//! The records of a segment.
+//! Reading the records of a segment, bytes to batches: its version, and the gate and the length of each record.
 
 ghost use Rattle.std.specs.Prelude.{◌≡◌, ◌≤◌, ◌<◌, [], Ok, IfOk, OnOk, length};
 ghost use Rattle.byte_fields.specs.Reading.{AreBytes};

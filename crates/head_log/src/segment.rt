@@ -1,4 +1,5 @@
-//! A segment that is written, and how a record is added to it.
+//! A segment that is written: making an empty one, and adding a record to it. A push's batch is durable once `append`
+//! says `Ok`.
 
 ghost use Rattle.std.specs.Prelude.{◌≡◌, ℕ, ◌+◌, ◌<◌, ◌≤◌, ◌^◌, List, [], ◌∷◌, ◌++◌, length, IsTrue, OnOk, OnErr};
 ghost use Rattle.disk_model.specs.Images.{bytes_of, Besides};

@@ -1,4 +1,4 @@
-//! A line that isn't ended yet.
+//! A line that isn't ended yet: its bytes so far, or once it is too long only how many they are.
 
 ghost use Rattle.std.specs.Prelude.{◌≡◌, ℕ, ◌+◌, ◌^◌, ◌<◌, ◌≤◌, List, [], ◌++◌, length, IsTrue, ◌↔◌, OnOk, OnErr};
 ghost use Rattle.io_edges.specs.Lines.{without_return, line_limit};

@@ -1,4 +1,4 @@
-//! Makes lines of a source's bytes.
+//! Makes lines of a source's bytes. A session and an ingest read their input by it.
 
 ghost use Rattle.std.specs.Prelude.{◌≡◌, ◌≢◌, ◌+◌, ◌<◌, ◌≤◌, ℕ, List, [], ◌++◌, length, slice_index, is_some, EachIndex, IfSome, IfNone, IfOk, OnErr, IsErrOf, Some};
 ghost use Rattle.span_types.specs.Faults.{Rose};

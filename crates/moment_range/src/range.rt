@@ -1,4 +1,4 @@
-//! Ranges of moments.
+//! Ranges of moments, with a first moment and perhaps an end.
 
 ghost use Rattle.std.specs.Prelude.{◌≡◌};
 ghost use Rattle.moment_range.specs.Ranges.{is_within};

@@ -1,4 +1,4 @@
-//! Why a query could not be answered.
+//! Why a query could not be answered: what `client_run` makes a refusal of.
 
 use thiserror::Error;
 

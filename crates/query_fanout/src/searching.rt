@@ -1,4 +1,4 @@
-//! Searching.
+//! A search over one look: it is taken, what is found in `rounds` is told, and it is given back in every case.
 
 ghost use Rattle.std.specs.Prelude.{◌++◌, IsTrue, List};
 ghost use Rattle.store_model.specs.Holds.{Hold};

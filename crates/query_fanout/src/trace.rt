@@ -1,4 +1,4 @@
-//! Looking a trace up.
+//! Looking a trace up over one look: in its own rows and, by filters and index, in each block that it pins.
 
 ghost use Rattle.std.specs.Prelude.{◌≡◌, ◌++◌, IfOk, IsTrue, List};
 ghost use Rattle.span_types.specs.First.{IsFirstOf};

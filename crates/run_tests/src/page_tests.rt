@@ -1,5 +1,5 @@
-//! How many pages of the disk look-ups and searches read in whole sessions: few for a trace, fewer for one that isn't there, none twice,
-//! and none for a range that meets no stripe.
+//! How many pages of the disk look-ups and searches read in whole sessions: few for a trace, fewer for one that isn't
+//! there, none twice, and none for a range that meets no stripe.
 
 use crate::filled::check;
 use disk_model::MemDisk;

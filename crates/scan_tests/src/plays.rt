@@ -1,4 +1,5 @@
-//! Random runs: pushes, cuts, flushes and compactions, and a search after each of them, whose reply is compared with the model's.
+//! Random runs: pushes, cuts, flushes and compactions, and a search after each of them, whose reply is compared with
+//! the model's.
 
 use crate::model::Model;
 use disk_model::MemDisk;

@@ -1,4 +1,5 @@
-//! A span that was pushed twice: its later copy, in another block or in memory, makes no match, hides none, and ranks no trace.
+//! A span that was pushed twice: its later copy, in another block or in memory, makes no match, hides none, and ranks
+//! no trace.
 
 use disk_model::MemDisk;
 use run_support::session_on;

@@ -1,4 +1,5 @@
-//! What a sieve picks among three spans, each of its own trace: what is asked of kind, status and duration alone counts.
+//! What a sieve picks among three spans, each of its own trace: what is asked of kind, status and duration alone
+//! counts.
 
 use crate::blocks::{Failure, rows_of};
 use column_scan::{Pick, picks_of_spans, sieve};

@@ -1,4 +1,4 @@
-//! The results of traces that were ranked.
+//! The results of traces that were ranked: each is evaluated in turn, until as many have a result as are asked for.
 
 ghost use Rattle.std.specs.Prelude.{◌≡◌, All, IfOk};
 ghost use Rattle.span_tree.specs.Nodes.{IsOneTrace};

@@ -1,4 +1,5 @@
-//! The answer to a search.
+//! The entry point: rows to the answer of a search, all at once. `query_fanout` calls it for the rows of a few traces
+//! at a time.
 
 ghost use Rattle.std.specs.Prelude.{List, IfOk};
 ghost use Rattle.span_types.specs.First.{IsFirstOf};

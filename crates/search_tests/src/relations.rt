@@ -1,5 +1,5 @@
-//! The five relations over traces that were worked out by hand: chains, several roots, rings with and without a tail, spans
-//! that are their own parents, and spans whose parent isn't there.
+//! The five relations over traces that were worked out by hand: chains, several roots, rings with and without a tail,
+//! spans that are their own parents, and spans whose parent isn't there.
 
 use crate::lines::{ALL, ALWAYS, results_of};
 use spanset_eval::{Results, TraceResult};

@@ -1,4 +1,4 @@
-//! Selected fields in their printed form.
+//! Selected fields in their printed form, from a query: the names under which results show them.
 
 ghost use Rattle.std.specs.Prelude.{◌≡◌, ◌++◌, IfOk, OnOk, map};
 ghost use Rattle.traceql_syntax.specs.Trees.{query_tree, stage_tree};

@@ -1,4 +1,4 @@
-//! Writing a search's results.
+//! Writing a search's results, results to JSON.
 
 ghost use Rattle.std.specs.Prelude.{◌≡◌, IfOk, OnOk, codes, decimal};
 ghost use Rattle.hex.specs.Hex.{encode_lower};

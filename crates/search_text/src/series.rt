@@ -1,4 +1,4 @@
-//! Writing a metrics query's series.
+//! Writing a metrics query's series, series to JSON.
 
 ghost use Rattle.std.specs.Prelude.{◌≡◌, IfOk, decimal, string_bytes};
 ghost use Rattle.serde_json.specs.View.{view};

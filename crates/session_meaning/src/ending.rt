@@ -1,4 +1,4 @@
-//! How a run may end.
+//! How a run may end, and the exit status of each end. It is the one thing of this crate that the program runs.
 
 ghost use Rattle.std.specs.Prelude.{◌≡◌};
 ghost use Rattle.session_meaning.specs.Statuses.{status_of};

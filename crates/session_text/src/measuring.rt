@@ -1,4 +1,5 @@
-//! What a metrics query's line asks, from its parts.
+//! What a metrics query's line asks, from its parts: the query is parsed, gets a stage `by` if it splits, is checked,
+//! and its patterns are made.
 
 ghost use Rattle.std.specs.Prelude.{◌≡◌, ◌<◌, ◌≤◌, ℕ, List, IfOk, IfErr};
 ghost use Rattle.traceql_metrics.specs.Series.{bucket_count, most_buckets};

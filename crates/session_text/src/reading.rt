@@ -1,4 +1,4 @@
-//! What a line asks.
+//! Reading a line: bytes to what it asks, or why it is refused. The first word decides which part is read how.
 
 ghost use Rattle.std.specs.Prelude.{◌≡◌, ◌⊎◌, ℕ, List, IfOk, Err, Ok, Some, None, option_map, length};
 ghost use Rattle.traceql_types.specs.Makers.{RefusesOnly};

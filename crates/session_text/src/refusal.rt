@@ -1,4 +1,4 @@
-//! Why a line is refused.
+//! Why a line is refused: what `reading` and `client_run` find, and `writing` names in a reply.
 
 use span_types::Text;
 

@@ -1,4 +1,4 @@
-//! What a line may be answered.
+//! What a line may be answered, as `client_run` gives it and `writing` writes it.
 
 use crate::Refusal;
 use search_text::Texts;

@@ -1,4 +1,4 @@
-//! What a line may ask.
+//! What a line may ask, as `reading` gives it and `client_run` answers it.
 
 ghost use Rattle.std.specs.Prelude.{◌<◌, ◌≤◌};
 ghost use Rattle.traceql_metrics.specs.Series.{bucket_count, most_buckets};

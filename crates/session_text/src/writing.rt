@@ -1,4 +1,4 @@
-//! The texts of replies.
+//! Writing replies: from a reply to the line of its text.
 
 ghost use Rattle.std.specs.Prelude.{◌≡◌, IfOk, codes, string_bytes};
 ghost use Rattle.session_text.specs.declared.reply.Reply.TheVariants.{Measured, Searched, Traced};

@@ -1,4 +1,5 @@
-//! The members of groups, in the order of their positions.
+//! Groups of spans, as those of one parent: their members in the order of their positions, for the walks down and
+//! among siblings.
 
 ghost use Rattle.std.specs.Prelude.{◌≡◌, ◌+◌, ◌*◌, ◌<◌, ◌≤◌, ℕ, Some, false, IfOk, OnOk, length, slice_index_or, slice_set};
 ghost use Rattle.std.specs.Option.{option_and_then, option_map_or};

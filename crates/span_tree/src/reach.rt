@@ -1,4 +1,4 @@
-//! Where tables of positions lead from marked ones.
+//! Where tables of positions lead from marked ones: the walks to parents, children, ancestors and descendants.
 
 ghost use Rattle.std.specs.Prelude.{◌≡◌, ◌+◌, ◌*◌, ◌<◌, ◌≤◌, ℕ, [], ◌++◌, All, Some, None, false, true, IfOk, OnOk, length, slice_index_or, slice_set, if◌then◌else◌};
 ghost use Rattle.std.specs.Option.{option_to_list};

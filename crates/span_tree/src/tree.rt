@@ -1,4 +1,4 @@
-//! Trees of spans.
+//! Trees of spans, and the five calls that mark what stands in a relation to marked spans.
 
 ghost use Rattle.std.specs.Prelude.{◌≡◌, ◌+◌, ◌*◌, ◌≤◌, IfOk, OnOk, length};
 ghost use Rattle.span_tree.specs.Nodes.{nodes_of, IsOneTrace};

@@ -1,4 +1,5 @@
-//! First occurrences.
+//! First occurrences: of several rows of one span the one that was pushed first. A query answers over them, and a
+//! block holds nothing else.
 
 ghost use Rattle.std.specs.Prelude.{◌≡◌, IfOk, OnOk, ◌++◌, List, option_copied};
 ghost use Rattle.std.specs.BTreeMap.{get, values, IsOrdered};

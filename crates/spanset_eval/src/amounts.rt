@@ -1,4 +1,4 @@
-//! Aggregates of numbers, exactly.
+//! Aggregates of numbers, exactly, and their comparisons: the stages that ask `count`, `min`, `max`, `avg` or `sum`.
 
 ghost use Rattle.std.specs.Prelude.{◌≡◌, ◌<◌, ◌++◌, pos, ◌*ℤ◌, ◌+ℤ◌, IfOk, OnOk};
 ghost use Rattle.std.specs.Option.{option_to_list};

@@ -1,4 +1,4 @@
-//! What a query answers of a trace.
+//! The entry points: what a query answers of a trace, from its selection through its stages to what is shown.
 
 ghost use Rattle.std.specs.Prelude.{◌≡◌, ◌<◌, IfOk, None};
 ghost use Rattle.span_tree.specs.Nodes.{IsOneTrace};

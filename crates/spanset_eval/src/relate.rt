@@ -1,4 +1,5 @@
-//! Structural operators.
+//! Structural operators, as `>` and `>>`: from marks on both sides to marks on what is selected, by the relations of
+//! `span_tree`.
 
 ghost use Rattle.std.specs.Prelude.{◌≡◌, ℕ, List, [], false, IfOk, length};
 ghost use Rattle.span_tree.specs.Marking.{IsMarked, MarksExactly};

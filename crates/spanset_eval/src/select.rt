@@ -1,4 +1,4 @@
-//! Which spans an expression over spansets selects.
+//! Which spans an expression over spansets selects: from the tree of the expression to marks.
 
 ghost use Rattle.std.specs.Prelude.{◌≡◌, ℕ, IfOk, length, reverse};
 ghost use Rattle.span_tree.specs.Nodes.{IsOneTrace};

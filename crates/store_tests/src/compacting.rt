@@ -1,5 +1,5 @@
-//! Compactions of a store over a disk in memory while a look is open, and the emptying of loose files behind them: what each device
-//! call leaves that fails or is the last one before a crash.
+//! Compactions of a store over a disk in memory while a look is open, and the emptying of loose files behind them:
+//! what each device call leaves that fails or is the last one before a crash.
 
 ghost use Rattle.std.specs.Prelude.{List};
 ghost use Rattle.store_core.specs.Port.{port_of};

@@ -1,5 +1,5 @@
-//! Flushes of a store over a disk in memory: one is open at a time, and what each device call of a flush leaves that fails or is
-//! the last one before a crash.
+//! Flushes of a store over a disk in memory: one is open at a time, and what each device call of a flush leaves that
+//! fails or is the last one before a crash.
 
 ghost use Rattle.std.specs.Prelude.{List};
 ghost use Rattle.store_model.specs.Holds.{Hold};

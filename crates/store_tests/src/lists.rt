@@ -1,5 +1,5 @@
-//! What the commits of flushes and compactions make of a store's list, and which blocks are joined, against lists that were worked out by
-//! hand.
+//! What the commits of flushes and compactions make of a store's list, and which blocks are joined, against lists that
+//! were worked out by hand.
 
 use block_list::{BlockRef, SegmentRef};
 use span_types::Memory;

@@ -1,5 +1,5 @@
-//! Stores that are opened on bytes which were worked out by hand: lists whose numbers are spent, closed gates, loose files, and new
-//! stores that are stopped.
+//! Stores that are opened on bytes which were worked out by hand: lists whose numbers are spent, closed gates, loose
+//! files, and new stores that are stopped.
 
 use crate::store::{Answer, Step, counted, first_answer, played, pushes_in};
 use block_list::load;

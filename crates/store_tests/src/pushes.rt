@@ -1,4 +1,5 @@
-//! What pushes and looks answer, what each failed call of a push's device leaves, and what is found when the store is opened again.
+//! What pushes and looks answer, what each failed call of a push's device leaves, and what is found when the store is
+//! opened again.
 
 use crate::store::{Answer, Step, Upset, counted, played, played_upset, pushes_in};
 use disk_model::MemDisk;

@@ -1,5 +1,5 @@
-//! Stores over a disk in memory, played call by call: each is opened, played and closed in one function, and no other one holds a
-//! store.
+//! Stores over a disk in memory, played call by call: each is opened, played and closed in one function, and no other
+//! one holds a store.
 
 use crate::live::{another, are_at, both, many};
 use disk_model::{Device, MemDisk};

@@ -1,4 +1,4 @@
-//! A whole stripe.
+//! The entry point: a whole stripe's bytes to its first columns.
 
 ghost use Rattle.std.specs.Prelude.{Bool, IfSome};
 ghost use Rattle.block_stripes.specs.StripeReadings.{stripe_at};

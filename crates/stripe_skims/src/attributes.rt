@@ -1,4 +1,5 @@
-//! Passing over attributes.
+//! Passing over attributes, whose keys must differ within a list: each text is stamped with the last list that had it
+//! as a key.
 
 ghost use Rattle.std.specs.Prelude.{◌≡◌, ◌<◌, ◌+◌, List, [], ℕ, IfSome, IsTrue, length};
 ghost use Rattle.span_types.specs.declared.attrs.Attr.{Attr};

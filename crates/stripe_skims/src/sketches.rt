@@ -1,4 +1,4 @@
-//! What is told of a stripe whose rows aren't made.
+//! The entry point: a stripe's bytes to a sketch of it, what is told of its rows, which aren't made.
 
 ghost use Rattle.std.specs.Prelude.{◌≡◌, IfSome};
 ghost use Rattle.block_stripes.specs.StripeReadings.{stripe_at};

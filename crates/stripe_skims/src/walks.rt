@@ -1,4 +1,4 @@
-//! Going over a stripe, of whose columns something is told.
+//! Going over a stripe from its texts to its rows, whatever is told of the columns: that is up to a [`Walk`].
 
 ghost use Rattle.std.specs.Prelude.{◌≡◌, ◌+◌, ◌≤◌, ◌<◌, ◌^◌, IfSome, List, Ok, length, take, true};
 ghost use Rattle.span_types.specs.declared.spans.Row.{Row};

@@ -1,4 +1,4 @@
-//! Which rows are of wanted traces.
+//! Which rows are of wanted traces, by the ids of all rows and those of the traces, both in ascending order.
 
 ghost use Rattle.std.specs.Prelude.{◌≡◌, IfSome, filter, map};
 ghost use Rattle.stripe_traces.specs.Wanted.{AreInOrder, is_one_of};

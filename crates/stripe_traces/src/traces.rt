@@ -1,4 +1,4 @@
-//! The rows of some traces in a stripe.
+//! The entry point: a stripe's bytes to its rows of some traces.
 
 ghost use Rattle.std.specs.Prelude.{◌≡◌, IfSome, List, Ok};
 ghost use Rattle.span_types.specs.declared.spans.Row.{Row as AnyRow};

@@ -1,5 +1,6 @@
-//! An ingest: the lines of a source are pushed in order over a store's core, as requests in OTLP/JSON. The store is kept small in
-//! between, and flushed, compacted and rid of its loose files at the end. Each reply is written before anything else is asked.
+//! An ingest: the lines of a source are pushed in order over a store's core, as requests in OTLP/JSON. The store is
+//! kept small in between, and flushed, compacted and rid of its loose files at the end. Each reply is written before
+//! anything else is asked.
 
 ghost use Rattle.std.specs.Prelude.{◌≡◌, ◌⊎◌, ◌≤◌, ◌<◌, ◌-◌, ◌++◌, ℕ, List, [], ◌∷◌, Bool, true, false, Option, Some, None, Ok, IfSome, IfOk, IfErr, if◌then◌else◌};
 ghost use Rattle.span_types.specs.Faults.{Rose};

@@ -1,5 +1,5 @@
-//! A session: the lines of a source are answered in order over a store's port, each reply written before the next line is
-//! read.
+//! A session: the lines of a source are answered in order over a store's port, each reply written before the next line
+//! is read.
 
 ghost use Rattle.std.specs.Prelude.{false, ◌≡◌, ◌⊎◌, ◌<◌, ◌≤◌, ℕ, List, [], ◌∷◌, ◌++◌, Option, Some, None, IfSome, IfNone, length};
 ghost use Rattle.span_types.specs.Faults.{Rose};

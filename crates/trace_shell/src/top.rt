@@ -1,4 +1,5 @@
-//! The top call.
+//! The top call: what `main` runs. It reads the words, does what they say, and ends with a status; the disk is handed
+//! back.
 
 ghost use Rattle.std.specs.Prelude.{true, false, ◌≡◌, ◌≢◌, ◌⊎◌, List, [], map, string_bytes, ℕ, IsTrue};
 ghost use Rattle.std.specs.Process.{exit_status};

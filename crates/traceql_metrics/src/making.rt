@@ -1,4 +1,4 @@
-//! The series of a metrics query.
+//! The series of a metrics query: from what a search found to counts. `client_run` calls it.
 
 ghost use Rattle.std.specs.Prelude.{◌≡◌, ◌≤◌, ◌<◌, ◌++◌, IfOk, OnOk, map};
 ghost use Rattle.std.specs.List.{flat_map};

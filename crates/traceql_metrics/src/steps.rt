@@ -1,4 +1,4 @@
-//! TimeSteps of time.
+//! Steps of time, and how many buckets a range has.
 
 ghost use Rattle.std.specs.Prelude.{◌≡◌, ◌≤◌, ◌<◌};
 ghost use Rattle.traceql_metrics.specs.Series.{bucket_count, is_between};

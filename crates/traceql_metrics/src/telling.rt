@@ -1,4 +1,4 @@
-//! What is told of counts.
+//! What a series tells of each bucket: a count, or a rate for a second as a fraction.
 
 ghost use Rattle.std.specs.Prelude.{◌≡◌, ◌<◌, IfOk};
 ghost use Rattle.std.specs.List.{AllZip};

@@ -1,4 +1,4 @@
-//! From a text to its query, or to why it has none.
+//! The entry point for queries: from a text to its query, or to why it has none.
 
 ghost use Rattle.std.specs.Prelude.{◌≡◌, ◌<◌, ◌≤◌, ℕ, List, length, Ok, Err, IfOk, IfErr, MatchResult};
 ghost use Rattle.traceql_syntax.specs.Depth.{query_nesting};

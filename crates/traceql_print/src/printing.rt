@@ -1,4 +1,4 @@
-//! The printed form of a query and of a field.
+//! The entry points: the printed form of a query and of a field.
 
 ghost use Rattle.std.specs.Prelude.{◌≡◌, ℕ, List, [], ◌∷◌, IfOk, MatchResult};
 ghost use Rattle.traceql_tokens.specs.Tokens.{AreTokens};

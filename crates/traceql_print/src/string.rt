@@ -1,4 +1,4 @@
-//! Strings and names as they are printed.
+//! Writing strings and names: with quotes and escapes if they need them.
 
 ghost use Rattle.std.specs.Prelude.{◌≡◌, ◌++◌, OnOk, not, string_bytes};
 ghost use Rattle.std.specs.List.{list_all, prefix_len};

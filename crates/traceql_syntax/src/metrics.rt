@@ -1,4 +1,4 @@
-//! Metrics queries.
+//! Metrics queries: a query, what is counted of it, and by which value it is split.
 
 ghost use Rattle.std.specs.Prelude.{◌≡◌, IfOk};
 ghost use Rattle.traceql_syntax.specs.Trees.{metrics_tree, query_tree, run_query};

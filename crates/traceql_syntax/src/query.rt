@@ -1,4 +1,4 @@
-//! Spansets, stages and queries.
+//! Spansets, stages and queries, as trees.
 
 use crate::{Comparison, Field, Operand};
 use span_types::Seq;

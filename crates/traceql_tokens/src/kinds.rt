@@ -1,4 +1,4 @@
-//! Tokens.
+//! What a token is: its class, its value, its place, and what may be wrong with it.
 
 use crate::{AttributeScope, Intrinsic, Sign, Word};
 use span_types::{Seq, Text};

@@ -1,4 +1,4 @@
-//! The lexer.
+//! The lexer: text to tokens, one after another, the longest that fits each time.
 
 ghost use Rattle.std.specs.Prelude.{◌≡◌, ◌+◌, ◌^◌, ◌<◌, ◌≤◌, ℕ, IfOk, IsTrue, List, length, nat_eq};
 ghost use Rattle.traceql_tokens.specs.Printed.{ReadsToken, ReadsParen, ReadsSpace, ReadsEnd};

@@ -1,4 +1,4 @@
-//! Numbers and durations.
+//! Numbers and durations: bytes to a token, with sums in decimal digits, so that no rounding comes between.
 
 ghost use Rattle.std.specs.Prelude.{◌≡◌, ◌==◌, ◌+◌, ◌-◌, ◌*◌, ◌^◌, ◌<◌, ◌≤◌, ℕ, List, [], ◌∷◌, ◌++◌, All, IfOk, IfSome, OnOk, length, fold, min, slice_index, option_map};
 ghost use Rattle.std.specs.List.{list_all};

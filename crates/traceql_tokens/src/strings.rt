@@ -1,4 +1,4 @@
-//! String literals.
+//! String literals: from the text between quotes to the text that they stand for.
 
 ghost use Rattle.std.specs.Prelude.{◌≡◌, ◌+◌, ◌^◌, ◌<◌, IfOk, IfSome, None, length, string_bytes};
 ghost use Rattle.std.specs.List.{filter_map, prefix_len};

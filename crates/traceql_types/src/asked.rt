@@ -1,4 +1,4 @@
-//! The patterns that a query asks for.
+//! The patterns that a query asks for: from its tree to their places and strings, in the text's order.
 
 ghost use Rattle.std.specs.Prelude.{◌≡◌, ◌++◌, ℕ, List, map, OnOk, IfOk};
 ghost use Rattle.std.specs.List.{flat_map};

@@ -1,4 +1,4 @@
-//! Kinds and patterns of a query at once.
+//! The entry point: kinds and patterns of a query at once.
 
 ghost use Rattle.std.specs.Prelude.{◌≡◌, ℕ, List, [], IfOk, IfErr, MatchResult, IsTrue, ◌↔◌, IsSomeAnd};
 ghost use Rattle.traceql_syntax.specs.Trees.{query_tree};

@@ -1,4 +1,4 @@
-//! What an expression is refused for its kinds.
+//! What an expression is refused for its kinds, from its parts up: the earliest refusal stands.
 
 ghost use Rattle.std.specs.Prelude.{◌≡◌, List, ◌++◌, IsTrue, ◌↔◌};
 ghost use Rattle.traceql_syntax.specs.Trees.{tree, placed};

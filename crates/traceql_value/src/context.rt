@@ -1,4 +1,4 @@
-//! A trace and a query's patterns, ready to evaluate.
+//! The entry point: a trace and a query's patterns, ready to evaluate expressions for its spans.
 
 ghost use Rattle.std.specs.Prelude.{◌≡◌, ◌<◌, IfOk, IfSome, length, slice_get};
 ghost use Rattle.traceql_syntax.specs.Trees.{tree};

@@ -1,4 +1,4 @@
-//! Exact fractions.
+//! Exact fractions, and their arithmetic within 64 bits.
 
 ghost use Rattle.std.specs.Prelude.{◌≡◌, ◌≢◌, ℤ, pos, ◌*ℤ◌, neg_ℤ, ◌<◌, ◌≤◌, ◌-◌, ◌*◌, ◌^◌, unsigned_abs, int_rem, FitsSigned, IfSome, IfNone, IsNone};
 ghost use Rattle.std.specs.Int.{w64};

@@ -1,4 +1,4 @@
-//! Values that are looked at where they stand.
+//! Values that are looked at where they stand: what evaluating works on, so that no text is copied for a test.
 
 ghost use Rattle.std.specs.Prelude.{◌≡◌, IfOk};
 ghost use Rattle.traceql_value.specs.Values.{kind_rank, value_cmp, whole_of};

@@ -1,4 +1,4 @@
-//! What a trace is as a whole.
+//! What a trace is as a whole: its root, its start and its end, from all rows.
 
 ghost use Rattle.std.specs.Prelude.{◌≡◌, option_map};
 ghost use Rattle.span_types.specs.Orders.{trace_order};
