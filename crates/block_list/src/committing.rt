@@ -14,7 +14,7 @@ use disk_model::{Device, write_through};
 use span_types::Failed;
 
 /// The first half of a commit: a closed gate is put into the slot of the list's generation, and once that lasts the list is
-/// put behind it. It takes no memory. Where the list may be laid, the slots stand at every moment for the list that counted
+/// put after it. It takes no memory. Where the list may be laid, the slots stand at every moment for the list that counted
 /// before.
 pub fn lay<D: Device>(disk: &mut D, list: &PreparedList) -> Result<(), Failed>
     // A crash at any moment leaves the old list, and every file but this slot as it might have left it before.

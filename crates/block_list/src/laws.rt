@@ -43,7 +43,7 @@ pub fn held_list_is_read()
         → MeetsRules body }
 {}
 
-/// How many bytes a list takes behind the gate.
+/// How many bytes a list takes after the gate.
 pub fn size_of_text()
     ensures { (body : ListBody) → length (text_of body)
         ≡ 29 + 12 * length body.segments + 9 * length body.blocks + 4 * length body.loose }

@@ -31,7 +31,7 @@ pub fn load<D: Device>(alloc: Global, disk: &mut D) -> Result<Option<ListBody>, 
     ensures list { IsTrue (D.tells disk.old) → IfOk result (λ list. ImageHoldsList (D.held disk.old) list) }
     ensures not_list { IsTrue (D.tells disk.old) → (slot at : ℕ) → result ≡ Err (NotList slot at) → slots_at (bytes_of (D.held disk.old) 0) (bytes_of (D.held disk.old) 1) ≡ Err (slot, at) }
 
-    // A list meets the rules, whatever the disk tells.
+    // A list meets the rules, whatever the disk shows.
     ensures rules { (body : ListBody) → result ≡ Ok (Some body) → MeetsRules body }
 
     // Slots that stand for a list, or for none, are read as just that.

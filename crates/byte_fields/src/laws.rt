@@ -7,7 +7,7 @@ ghost use Rattle.std.specs.Prelude.{◌≡◌, ℕ, ℤ, ◌<◌, ◌^◌, ◌++
 ghost use Rattle.std.specs.Int.{w64};
 ghost use Rattle.byte_fields.specs.Spelling.{fixed32_bytes, fixed64_bytes, var_bytes, zigzag_bytes, text_bytes};
 
-/// Each spelling is that of one value, and none begins another, so what follows a field does not change its value.
+/// Each encoding is that of one value, and none begins another, so what follows a field does not change its value.
 pub fn one_value()
     ensures fixed32 { (m n : ℕ) (x y : List ℕ) → m < 2 ^ 32 → n < 2 ^ 32 → fixed32_bytes m ++ x ≡ fixed32_bytes n ++ y → (m ≡ n) × (x ≡ y) }
     ensures fixed64 { (m n : ℕ) (x y : List ℕ) → m < 2 ^ 64 → n < 2 ^ 64 → fixed64_bytes m ++ x ≡ fixed64_bytes n ++ y → (m ≡ n) × (x ≡ y) }

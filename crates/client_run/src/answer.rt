@@ -130,7 +130,7 @@ fn flush<P: FlushPort>(alloc: Global, port: &mut P) -> Reply
     flush_reply(flush_round(alloc, port))
 }
 
-// What is told of a flush's round.
+// The reply to a flush's round.
 fn flush_reply(round: Round) -> Reply
     ensures { result ≡ flush_reply round }
 {
@@ -149,7 +149,7 @@ fn compact<P: Port>(alloc: Global, port: &mut P) -> Reply
     compact_reply(compact_round(alloc, port))
 }
 
-// What is told of a compaction's round.
+// The reply to a compaction's round.
 fn compact_reply(round: Round) -> Reply
     ensures { result ≡ compact_reply round }
 {
@@ -202,7 +202,7 @@ fn trace<P: FlushPort>(alloc: Global, port: &mut P, id: TraceId) -> Reply
     trace_reply(find_trace(alloc, port, id))
 }
 
-// What is told of a trace.
+// The reply to a look-up.
 fn trace_reply(answer: Result<TraceAnswer, QueryError>) -> Reply
     ensures { result ≡ trace_reply answer }
 {
@@ -240,7 +240,7 @@ fn asked_of(asks: Search) -> Asked
     }
 }
 
-// What is told of a search.
+// The reply to a search.
 fn search_reply(alloc: Global, asked: &Asked, answer: Result<SearchAnswer, QueryError>) -> Reply
     ensures { IsSearchTold asked.now answer result }
 {
@@ -284,7 +284,7 @@ fn counted_of(asks: Metrics) -> Asked
     }
 }
 
-// What is told of the series of what was found.
+// The reply to a metrics query, by what was found.
 fn series_reply(
     alloc: Global,
     start: u64,

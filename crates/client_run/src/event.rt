@@ -20,7 +20,7 @@ pub enum Event {
     },
     /// All live traces are moved to the head.
     CutAll,
-    /// The next step of a flush. One step after another they make whole rounds: a step behind the end of a round begins
+    /// The next step of a flush. One step after another they make whole rounds: a step after the end of a round begins
     /// the next.
     FlushStep,
     /// The next step of a compaction, in the same way. A page that a compaction reads is a step too.

@@ -27,7 +27,7 @@ use store_state::{FlushPort, Look, LookPort, Port, Step};
 /// memory the events so far have happened. The looks that aren't given back keep their pins, and a flush or a
 /// compaction that isn't at its end stays open.
 ///
-/// Where the port tells its bytes, and knows a history as the run begins, no step finds a block to be malformed.
+/// Where the port shows its bytes, and knows a history as the run begins, no step finds a block to be malformed.
 pub fn run_events<P: OwnFiles>(
     alloc: Global,
     port: &mut P,
@@ -102,7 +102,7 @@ fn cut_all<P: FlushPort>(port: &mut P) -> EventReply
     EventReply::CutAll(port.cut_all())
 }
 
-// Makes the next step of the flush. Behind the end of a round stands a flush that has made none.
+// Makes the next step of the flush. After the end of a round stands a flush that has made none.
 fn flush_step<P: OwnFiles>(alloc: Global, port: &mut P, tasks: &mut Tasks) -> EventReply
     requires { (looks : Looks) × IsReady P.meaning port.old looks tasks.old }
     ensures { (items : List (Option Given)) → IsReady P.meaning port.old (looks_of items) tasks.old →
@@ -118,7 +118,7 @@ fn flush_step<P: OwnFiles>(alloc: Global, port: &mut P, tasks: &mut Tasks) -> Ev
     }
 }
 
-// Makes the next step of the compaction. Behind the end of a round stands a compaction that has made none.
+// Makes the next step of the compaction. After the end of a round stands a compaction that has made none.
 fn compact_step<P: OwnFiles>(alloc: Global, port: &mut P, tasks: &mut Tasks) -> EventReply
     requires { (looks : Looks) × IsReady P.meaning port.old looks tasks.old }
     ensures { (items : List (Option Given)) → IsReady P.meaning port.old (looks_of items) tasks.old →

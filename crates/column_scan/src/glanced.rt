@@ -21,7 +21,7 @@ use std::alloc::Global;
 use stripe_glances::{Glance, glance};
 
 /// What is told of a stripe by its first columns, if that can tell what is sifted: not for a text alone. None says nothing: they
-/// can't be of a stripe with this entry, or memory was wanted.
+/// can't be of a stripe with this entry, or memory ran out.
 pub(crate) fn glance_of(
     alloc: Global,
     bytes: &[u8],
@@ -41,7 +41,7 @@ pub(crate) fn glance_of(
     Some(seen)
 }
 
-// Whether the columns can be those of a stripe with this entry. A malformed stripe is to be told as such, and what is told of it
+// Whether the columns can be those of a stripe with this entry. A malformed stripe is to be reported as such, and what is read of it
 // mostly doesn't fit.
 fn fits(glance: &Glance, entry: &StripeInfo) -> bool
     ensures { IsTrue result → HasRows glance.now }

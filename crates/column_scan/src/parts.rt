@@ -27,7 +27,7 @@ use span_types::{Memory, Row, TraceId};
 use std::alloc::Global;
 use stripe_glances::Glance;
 
-/// Adds the traces that have a sifted row in a stripe, which is read only if it may have one, and tells the trace of the last row
+/// Adds the traces that have a sifted row in a stripe, which is read only if it may have one, and gives the trace of the last row
 /// if something of its rows was read.
 pub(crate) fn add_stripe<P: Pages>(
     alloc: Global,
@@ -63,7 +63,7 @@ pub(crate) fn add_stripe<P: Pages>(
     }
 }
 
-// Adds the traces of the sifted rows that the bytes of a stripe's pages stand for, and tells the trace of the last row, if more
+// Adds the traces of the sifted rows that the bytes of a stripe's pages stand for, and gives the trace of the last row, if more
 // than the texts was read. Rows are made only where it isn't sure without them.
 fn add_bytes(
     alloc: Global,
@@ -96,7 +96,7 @@ fn add_bytes(
     }
 }
 
-// Adds the traces of the sifted rows by what is told of the stripe, and says whether that was all: a row that may hold the
+// Adds the traces of the sifted rows by what was read of the stripe, and says whether that was all: a row that may hold the
 // text is to be made.
 fn add_glanced(
     sifter: &mut Sifter<'_, '_>,
@@ -146,7 +146,7 @@ fn add_made(
     }
 }
 
-// Adds the traces of the rows that are sifted, and tells that of the last one.
+// Adds the traces of the rows that are sifted, and gives that of the last one.
 fn add_rows(
     sifter: &mut Sifter<'_, '_>,
     rows: &[Row],

@@ -31,7 +31,7 @@ pub struct Progress {
 /// stripe is left. Without `most` there are never enough.
 ///
 /// It reads as [`picks_of_block`](crate::picks_of_block) does, with the same errors. If it stops before the last stripe, the trace is
-/// told up to which all rows are gone through, unless there were enough picks before.
+/// given up to which all rows are gone through, unless there were enough picks before.
 pub fn scan_stripes<P: Pages>(
     alloc: Global,
     pages: &mut P,

@@ -93,7 +93,7 @@ fn asked_search(alloc: Global, given: &ArgMatches<'_>) -> Result<Asked, WordsErr
     }
 }
 
-// Want of memory, or a refusal.
+// Out of memory, or a refusal.
 fn cause_of(error: &Error) -> WordsError
     ensures memory { kind_of error.now ≡ OutOfMemory → result ≡ WordsError.Memory }
     ensures refused { kind_of error.now ≢ OutOfMemory → result ≡ WordsError.Refused }

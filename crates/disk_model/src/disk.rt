@@ -85,7 +85,7 @@ pub trait Device: Drop {
         ensures time { Elapses (moment self.old) (moment self.new) (left_since self.old) (left_since self.new) (may_leave self.new) }
         ensures counted { IsOneCall tells faults calls reads far_writes Plain self.old self.new result };
 
-    /// Makes what a file holds last: behind an `Ok` a crash can leave nothing else of it, and behind an `Err` whatever it
+    /// Makes what a file holds last: after an `Ok` a crash can leave nothing else of it, and after an `Err` whatever it
     /// could leave before.
     fn sync(&mut self, file: u32) -> Result<(), Failed>
         ensures lasting { IsTrue (tells self.old) → OnOk result (OnlyBytes file (bytes_of (held self.new) file) (may_leave self.new)) }

@@ -9,7 +9,7 @@ use span_types::{Bytes, Failed, Seq};
 /// A list of lists of bytes.
 pub type ByteLists = Seq<Bytes>;
 
-/// A disk that tells no bytes. Each file has the same length, each read gives the next of a list of chunks, and zeros when
+/// A disk that shows no bytes. Each file has the same length, each read gives the next of a list of chunks, and zeros when
 /// there is none left, and every call succeeds but a write whose end is 2^63 or more.
 #[derive(Drop)]
 pub struct OddDisk {

@@ -13,7 +13,7 @@ use span_types::{Batch, Memory};
 use std::alloc::Global;
 use std::marker::Model;
 
-/// The bytes behind a record's gate, in one piece: the length of the body, the body, and the next gate, which is closed.
+/// The bytes after a record's gate, in one piece: the length of the body, the body, and the next gate, which is closed.
 /// Contracts see the number and the body.
 #[derive(Debug, Drop)]
 pub struct Prepared {
@@ -58,7 +58,7 @@ impl Prepared {
         self.number
     }
 
-    /// What is written behind the gate.
+    /// What is written after the gate.
     pub(crate) fn text(&self) -> &[u8]
         ensures text { result.now ≡ framed self.now.body }
         ensures short { length self.now.body < 2 ^ 64 }

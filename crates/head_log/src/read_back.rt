@@ -82,7 +82,7 @@ pub fn scan<D: Device>(
     ensures kept { IsTrue (D.tells disk.old) → (batches : List (List Span)) (gate : ℕ) → SegmentHolds first batches gate (bytes_of (D.held disk.old) file) → Recalls first batches gate result }
     ensures stands { IsTrue (D.tells disk.old) → IfOk result (λ x. (batches : List (List Span)) × (x.1 ≡ entries first batches) × SegmentHolds first batches x.0.gate (bytes_of (D.held disk.old) file)) }
 
-    // The answer has this form over a disk that doesn't tell its bytes too.
+    // The answer has this form over a disk that doesn't show its bytes too.
     ensures named { IfOk result (λ x. IsAt x.0 file first (length x.1)) }
     ensures numbered { IfOk result (λ x. (batches : List (List Span)) × (x.1 ≡ entries first batches)) }
     ensures below { IfOk result (λ x. All (λ entry. entry.number < 4294967295) x.1) }

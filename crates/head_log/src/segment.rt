@@ -80,7 +80,7 @@ pub fn append<D: Device>(disk: &mut D, seg: &mut Segment, entry: &Prepared) -> R
         → length batches ≡ seg.old.count → IsBatchBody entry.now.number spans entry.now.body
         → RunInFile D.moment D.left_since D.may_leave seg.old.file (SegmentKeepsEither seg.old.first batches spans) (SegmentKeepsEither seg.old.first batches spans) disk.old disk.new }
 
-    // Behind an `Ok` nothing but the batches and the new one can be left, and the segment counts it.
+    // After an `Ok` nothing but the batches and the new one can be left, and the segment counts it.
     ensures acknowledged { (batches : List (List Span)) (spans : List Span) (known : List ℕ) → IsTrue (D.tells disk.old)
         → OnlyBytes seg.old.file known (D.may_leave disk.old) → SegmentHolds seg.old.first batches seg.old.gate known
         → length batches ≡ seg.old.count → IsBatchBody entry.now.number spans entry.now.body
@@ -103,7 +103,7 @@ pub fn append<D: Device>(disk: &mut D, seg: &mut Segment, entry: &Prepared) -> R
     Ok(())
 }
 
-/// Adds a record to the bytes of a segment: first what stands behind the gate, the next gate among it, and once that lasts
+/// Adds a record to the bytes of a segment: first what stands after the gate, the next gate among it, and once that lasts
 /// the gate. Until then the gate on the disk is closed, so that it doesn't matter what a crash leaves of the body.
 fn append_record<D: Device>(disk: &mut D, file: u32, gate: u64, text: &[u8]) -> Result<(), Failed>
     requires { gate < 2 ^ 63 }
@@ -113,7 +113,7 @@ fn append_record<D: Device>(disk: &mut D, file: u32, gate: u64, text: &[u8]) -> 
         → OnlyBytes file known (D.may_leave disk.old) → HasBodies bodies gate known
         → RunInFile D.moment D.left_since D.may_leave file (SegmentIsEither bodies body) (SegmentIsEither bodies body) disk.old disk.new }
 
-    // Behind an `Ok` the new one can't be lost.
+    // After an `Ok` the new one can't be lost.
     ensures acknowledged { (bodies : List (List ℕ)) (body known : List ℕ) → IsTrue (D.tells disk.old) → text.now ≡ framed body → length body < 2 ^ 64
         → OnlyBytes file known (D.may_leave disk.old) → HasBodies bodies gate known
         → OnOk result (HasBodies (bodies ++ body ∷ []) (gate + length text.now) (bytes_of (D.held disk.new) file)

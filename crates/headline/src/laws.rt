@@ -37,7 +37,7 @@ use store_core::Core;
 
 /// The headline. Every answer of a run is TraceQL's meaning over the first occurrences of the spans in one front of the history
 /// of pushes. That front has each push that was acknowledged before. Whatever a crash leaves of the disk afterwards stands for
-/// that history to its end. `trace_shell::run` ensures the premises; `true` says that the disk tells its bytes.
+/// that history to its end. `trace_shell::run` ensures the premises; `true` says that the disk shows its bytes.
 pub fn the_headline<D: Device>(disk: &D, later: &D)
     ensures answers { (words : List (List ℕ)) (o : Outcome) (old new : Edges) → IsRunOf true words o old new
         → TellTheHistory (history_of o.first) o.items o.replies (history_of o.last) }

@@ -28,7 +28,7 @@ impl Begun {
         Begun::Kept(Text8::none(alloc))
     }
 
-    // Adds the next bytes of the line. Where memory is wanted what was begun stands.
+    // Adds the next bytes of the line. Out of memory what was begun stands.
     pub(crate) fn add(&mut self, bytes: &[u8]) -> Result<(), Memory>
         requires sound { IsSound self.old }
         requires fits { begun_len self.old + length bytes.now < 2 ^ 63 }

@@ -10,7 +10,7 @@ use span_types::Failed;
 
 /// Gives bytes in order, as standard input does.
 pub trait Source {
-    // The bytes that remain, where the source tells them.
+    // The bytes that remain, where the source shows them.
     ghost left: { Self → Option (List ℕ) };
 
     // How many calls failed so far.
@@ -28,7 +28,7 @@ pub trait Source {
 
 /// Takes bytes in order, as standard output does.
 pub trait Sink {
-    // The bytes taken, where the sink tells them.
+    // The bytes taken, where the sink shows them.
     ghost taken: { Self → Option (List ℕ) };
 
     // How many calls failed so far.
@@ -45,10 +45,10 @@ pub trait Sink {
 
 /// Gives moments.
 pub trait Clock {
-    // The moments that are to be given, where the clock tells them.
+    // The moments that are to be given, where the clock shows them.
     ghost moments: { Self → Option (List ℕ) };
 
-    /// The moment, in nanoseconds. A clock that tells its moments gives the first of them, which then goes where another
+    /// The moment, in nanoseconds. A clock that shows its moments gives the first of them, which then goes where another
     /// follows it, and 0 where there is none.
     fn now(&mut self) -> u64
         ensures moment { ForSome (moments self.old) (λ told. result ≡ first_moment told) }

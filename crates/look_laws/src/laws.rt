@@ -22,7 +22,7 @@ use disk_model::Device;
 use store_core::Core;
 use store_state::LookPort;
 
-/// Calls were made on a port that tells its bytes, and one of them gave a look. As long as the calls after it neither give the look
+/// Calls were made on a port that shows its bytes, and one of them gave a look. As long as the calls after it neither give the look
 /// back nor write to the files of its blocks, each page that they read of these files is that of the file as it was at the look.
 /// With the rows of its blocks the look has the first occurrences of the history that was known then: the earlier one, with what
 /// the calls until then added, and others among them.

@@ -43,7 +43,7 @@ fn expected(alloc: Global, member: &str, wanted: &str) -> Result<String, AllocEr
     }
 }
 
-/// Whether a trace that was told reads back with nothing skipped.
+/// Whether a trace that was written reads back with nothing skipped.
 fn reads_back(alloc: Global, line: &str) -> Result<bool, Fail> {
     match line.split_once(" {") {
         Some((_, rest)) => {

@@ -30,16 +30,16 @@ pub struct Asked {
     pub checked: Checked,
     /// A trace counts of which a span starts in this range.
     pub range: Range,
-    /// How many traces are told at most.
+    /// How many traces are shown at most.
     pub limit: u32,
-    /// How many spans of a spanset are told at most.
+    /// How many spans of a spanset are shown at most.
     pub spans_per_set: u32,
 }
 
 /// What a search finds.
 #[derive(Drop)]
 pub struct SearchAnswer {
-    /// The length of the history of which it tells.
+    /// The length of the history that it is answered from.
     pub as_of: u64,
     /// The results, the first ones first.
     pub results: Results,

@@ -24,7 +24,7 @@ use store_state::{FlushPort, Look};
 /// The spans of a trace.
 #[derive(Debug, Drop)]
 pub struct TraceAnswer {
-    /// The length of the history of which it tells.
+    /// The length of the history that it is answered from.
     pub as_of: u64,
     /// Their first occurrences, in block order.
     pub rows: Rows,

@@ -1,4 +1,4 @@
-//! Cuts and flushes in whole sessions: what is idle, what a malformed block and spent numbers of files are told, and
+//! Cuts and flushes in whole sessions: what is idle, what a malformed block and spent numbers of files are answered, and
 //! what a stopped flush leaves.
 
 use crate::filled::{check, filled};

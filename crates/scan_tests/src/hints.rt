@@ -114,7 +114,7 @@ static BROKEN: [Broken; 6] = [
     ("{ }", 5, 9, &[128, 0], None),
 ];
 
-/// Compares where a hint's candidates are told to be malformed with what is expected of it.
+/// Compares where a hint's candidates are found to be malformed with what is expected of it.
 fn check_broken(rt: &(impl Abort + AllocGlobal), case: &Broken) {
     let (query, from, offset, new, wanted) = case;
     let block = block_of(rt.alloc(), PARENT).expect(rt, "a block");

@@ -42,7 +42,7 @@ impl Best {
         }
     }
 
-    /// The best of these and of more results. The one error is want of memory.
+    /// The best of these and of more results. The one error is out of memory.
     pub fn with(self, alloc: Global, more: Results) -> Result<Best, Memory>
         ensures limit { IfOk result (λ best. best.limit ≡ self.limit) }
         ensures first { IfOk result (λ best. AreFirst (self.kept ++ more) self.limit best.kept) }

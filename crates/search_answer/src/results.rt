@@ -18,7 +18,7 @@ use traceql_value::Matchers;
 /// The results of the first `limit` of these traces of which the query answers something, in their order, with the first
 /// `spans_per_set` spans of each spanset. No trace after them is evaluated, and none twice.
 ///
-/// The matchers are those of the query's patterns. The one error is want of memory.
+/// The matchers are those of the query's patterns. The one error is out of memory.
 pub fn first_results(
     alloc: Global,
     checked: &Checked,

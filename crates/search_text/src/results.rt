@@ -17,7 +17,7 @@ use std::alloc::Global;
 /// for each trace, in the order in which they stand.
 ///
 /// `fields` are the query's selected fields, printed. Each span shows them beside what they are for it, one for one.
-/// The one error is want of memory.
+/// The one error is out of memory.
 #[tactic(auto, unfolding(crate::specs::Results::results_text))]
 pub fn write_results(alloc: Global, fields: &Texts, results: &Results) -> Result<Text, Memory>
     ensures { IfOk result (λ text. text ≡ results_text fields.now results.now) }

@@ -23,7 +23,7 @@ pub enum Ending {
         /// The byte at which it is.
         at: u64,
     },
-    /// Memory was wanted for more than one line's answer, as for opening the store; or all was read and written, and
+    /// Memory ran out for more than one line's answer, as for opening the store; or all was read and written, and
     /// the refusals among the replies, of which there is one, are all for memory.
     Starved,
     /// The input was read to its end and all replies were written, and one of them is a refusal for another cause than

@@ -69,7 +69,7 @@ pub fn a_core_answers_as_the_history_says<D: Device>(old: &Core<D>, new: &Core<D
         → AreAnsweredOver (port_of D.Device.own) old.now items replies new.now → (m : Machine)
         → CoreShows D.Device.own old.now m → (later : Machine) × CoreShows D.Device.own new.now later
         × Session false (at_core D.Device.own old.now m) items replies (at_core D.Device.own new.now later) }
-    // From a machine on for which it stands, where its disk tells its bytes: queries tell of all that was pushed, wherever it lies.
+    // From a machine on for which it stands, where its disk shows its bytes: queries tell of all that was pushed, wherever it lies.
     // What was left since an earlier disk goes on standing for the history at some length.
     ensures since { (items : List Item) (replies : List Reply)
         → AreAnsweredOver (port_of D.Device.own) old.now items replies new.now → (m : Machine) → (start : D) (least : ℕ)
@@ -120,11 +120,11 @@ pub fn each_disk_fault_is_counted()
 
 /// What the replies of a session tell of its pushes.
 pub fn replies_tell_the_history()
-    // The last history is the first one, and behind it the entries that were accepted, in order.
+    // The last history is the first one, and after it the entries that were accepted, in order.
     ensures appended { (told : Bool) (items : List Item) (replies : List Reply) (first last : At)
         → Session told first items replies last
         → history_of last ≡ grown (history_of first) (accepted_entries items replies) }
-    // What an accepted push is told, its number, is below the count of pushes that any later query knows of.
+    // The number in an accepted push's reply is below the count of pushes that any later query knows of.
     ensures known_later { (told : Bool) (items : List Item) (earlier later : List Reply) (first last : At)
         → (number kept rejected skipped : ℕ)
         → Session told first items (earlier ++ Pushed number kept rejected skipped ∷ later) last
@@ -133,12 +133,12 @@ pub fn replies_tell_the_history()
 
 /// Which pushes are refused, and which are accepted.
 pub fn pushes_have_their_causes()
-    // Refused, it has the cause that it is told, and the history stays.
+    // Refused, it has the cause that its reply names, and the history stays.
     ensures refused { (told : Bool) (reading : Reading) (moment : ℕ) (before after : At) (why : Refusal)
         → IsAnswered told (Ok (Push reading moment)) before (Refused why) after
         → HasPushCause why (length reading.batch.spans) before after
         × (history_of after ≡ history_of before) }
-    // Accepted, it had room in a store that writes, and is told how many came before it.
+    // Accepted, it had room in a store that writes, and the reply says how many came before it.
     ensures accepted { (told : Bool) (reading : Reading) (moment : ℕ) (before after : At) (number kept rejected skipped : ℕ)
         → IsAnswered told (Ok (Push reading moment)) before (Pushed number kept rejected skipped) after
         → HasRoomForPush (length reading.batch.spans) before.machine × (number ≡ count_of (history_of before)) }
@@ -147,7 +147,7 @@ pub fn pushes_have_their_causes()
 /// What is stored, by the entries that were accepted. A run that is stopped is one over a disk of which from some call
 /// on every call fails: what it hands back then has each push that was accepted before the stop.
 pub fn accepted_pushes_are_stored()
-    // An image of the disk that is handed back: what was stored at first and behind it all accepted entries, in order.
+    // An image of the disk that is handed back: what was stored at first and after it all accepted entries, in order.
     ensures returned { (told : Bool) (o : Outcome) (image : Image)
         → Session told o.first o.items o.replies o.last
         → StandsForLast o image
@@ -200,19 +200,19 @@ pub fn flushes_have_their_causes()
     // The calls of a round make of the store what a flush does.
     ensures by_calls { (calls : List Call) (round : Round) (before after : At) → IsFlushRound calls round
         → CallsLead before calls after → IsFlushed before round after }
-    // Refused, it has the cause that it is told.
+    // Refused, it has the cause that its reply names.
     ensures refused { (before after : At) (why : Cause) → IsClosed before.machine
         → IsFlushed before (IsRefused why) after → HasFlushCause why before after }
-    // A flush of an empty head, in a store that writes, is told just that.
+    // A flush of an empty head, in a store that writes, is answered just that.
     ensures empty { (before after : At) (round : Round) → before.machine.read_only ≡ None → IsClosed before.machine
         → length before.machine.state.head ≡ 0 → IsFlushed before round after → round ≡ Nothing }
-    // And where it is told that, the head was empty, and the store is as it was.
+    // And where that is the answer, the head was empty, and the store is as it was.
     ensures nothing { (before after : At) → IsFlushed before Nothing after
         → (length before.machine.state.head ≡ 0) × IsStill before after }
-    // A block that is listed holds the first occurrences of the rows that waited first, and it is told how many these are.
+    // A block that is listed holds the first occurrences of the rows that waited first, and the reply says how many these are.
     ensures listed { (before after : At) (blocks rows : ℕ) → IsFlushed before (Did blocks rows) after
         → HasListed before.machine blocks rows after.machine }
-    // Without faults, in a store that writes and has file numbers left, it is done or memory was wanted.
+    // Without faults, in a store that writes and has file numbers left, it is done or memory ran out.
     ensures well { (before after : At) (round : Round) → (Rose before.faults after.faults → ⊥)
         → before.machine.read_only ≡ None → IsClosed before.machine → before.machine.state.next_file < 4294967294
         → IsFlushed before round after → IsDoneOrStarved round }
@@ -226,18 +226,18 @@ pub fn compactions_have_their_causes()
     // The calls of a round make of the store what a compaction does.
     ensures by_calls { (calls : List Call) (round : Round) (before after : At) → IsCompactRound calls round
         → CallsLead before calls after → IsRound BeginCompact before round after }
-    // Refused, it has the cause that it is told.
+    // Refused, it has the cause that its reply names.
     ensures refused { (told : Bool) (before after : At) (why : Cause) → IsClosed before.machine
         → IsCompacted told before (IsRefused why) after → HasCompactCause told why before after }
-    // Where no two blocks of one level below 63 fit together, in a store that writes, it is told just that.
+    // Where no two blocks of one level below 63 fit together, in a store that writes, that is just the answer.
     ensures none_fit { (told : Bool) (before after : At) (round : Round) → before.machine.read_only ≡ None
         → IsClosed before.machine → length (choice before.machine.state.blocks) ≡ 0
         → IsCompacted told before round after → round ≡ Nothing }
-    // And where it is told that, no two fitted, and the store is as it was.
+    // And where that is the answer, no two fitted, and the store is as it was.
     ensures nothing { (told : Bool) (before after : At) → IsCompacted told before Nothing after
         → (length (choice before.machine.state.blocks) ≡ 0) × IsStill before after }
-    // It joins the blocks that the store chooses, and is told how many these are. The new block stands in their place, and
-    // where what the blocks hold is told it is told how many first occurrences their rows have.
+    // It joins the blocks that the store chooses, and the reply says how many these are. The new block stands in their place, and
+    // where what the blocks hold is known the reply says how many first occurrences their rows have.
     ensures joined { (told : Bool) (before after : At) (blocks rows : ℕ)
         → IsCompacted told before (Did blocks rows) after → HasJoined told before.machine blocks rows after.machine }
     // Without faults, in a store that writes, has file numbers left and tells what its blocks hold, it is done or memory
@@ -263,10 +263,10 @@ pub fn compactions_come_to_an_end()
 
 /// What the emptying of loose files makes of the store.
 pub fn reclaims_have_their_causes()
-    // Refused, it has the cause that it is told.
+    // Refused, it has the cause that its reply names.
     ensures refused { (told : Bool) (before after : At) (why : Refusal)
         → IsAnswered told (Ok Reclaim) before (Refused why) after → HasWriteCause why before after }
-    // Else the store writes, and it is told how many loose files no pin named: these are loose no more.
+    // Else the store writes, and the reply says how many loose files no pin named: these are loose no more.
     ensures emptied { (told : Bool) (before after : At) (files : ℕ)
         → IsAnswered told (Ok Reclaim) before (Reclaimed files) after → HasEmptied before.machine files after.machine }
 {}

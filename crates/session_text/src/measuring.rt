@@ -21,9 +21,9 @@ use traceql_types::PatternMaker;
 /// The query that is run for a metrics query.
 #[derive(Drop)]
 struct RunQuery {
-    /// The query, with the stage `by` behind it if its spans are split.
+    /// The query, with the stage `by` after it if its spans are split.
     query: Query,
-    /// Whether a rate for a second is told.
+    /// Whether a rate for a second is shown.
     rate: bool,
 }
 

@@ -36,7 +36,7 @@ const PUSH_WORD: u64 = 5;
 /// - `metrics start=T end=T step=n QUERY`: a metrics query. The options all stand there in this order, the end is above the
 ///   start, n is a number from 1 on, and there are at most 1,000 buckets. The QUERY is the rest of the line.
 /// - `cut`, `cutall`, `flush`, `compact`, `reclaim`: a cut at the moment, a cut of all, a flush, a compaction, and the
-///   emptying of loose files. Nothing stands behind the word.
+///   emptying of loose files. Nothing stands after the word.
 ///
 /// One space stands between the parts. A line that is none of these is refused at the first byte of the first part that
 /// can't stand there, and at its length where a part is missing. A line that isn't UTF-8 is refused at its first byte,
@@ -84,7 +84,7 @@ pub fn read_push(alloc: Global, line: &[u8], moment: u64) -> Result<Request, Ref
     push_with(alloc, moment, PUSH_WORD + line.len() as u64, Some(line))
 }
 
-/// The first part, and what follows the space behind it.
+/// The first part, and what follows the space after it.
 fn split(line: &[u8]) -> (&[u8], Option<&[u8]>)
     ensures first { result.0.now ≡ first_part line.now }
     ensures others { option_map (λ s. s.now) result.1 ≡ other_parts line.now }

@@ -72,7 +72,7 @@ pub enum Refusal {
         /// The byte at which it is.
         at: u64,
     },
-    /// Memory was wanted.
+    /// Memory ran out.
     Memory,
 }
 

@@ -12,7 +12,7 @@ use spanset_eval::{Results, SeriesList};
 use std::alloc::{AllocError, Global};
 use store_state::Refusal as RoundRefusal;
 
-/// The text of a reply, with its line feed. The one error is want of memory.
+/// The text of a reply, with its line feed. The one error is out of memory.
 ///
 /// The rows of a trace come in order of start, then span id; they are written as they stand.
 pub fn write_reply(alloc: Global, reply: &Reply) -> Result<Text, Memory>

@@ -67,7 +67,7 @@ pub fn evaluate(
     outcome(&checked.query, &mut context, None)
 }
 
-/// The same of a slice of rows, with at most so many spans of each spanset: the first ones. How many a spanset has is told
+/// The same of a slice of rows, with at most so many spans of each spanset: the first ones. How many a spanset has is given
 /// all the same. The matchers are those of the query's patterns; they are given back for the next trace, also where memory
 /// runs out.
 pub fn evaluate_rows<'q>(

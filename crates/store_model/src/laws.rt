@@ -34,7 +34,7 @@ pub fn the_past_stays()
     ensures { (h : History) (more : List Entry) (n : ℕ) → n ≤ count_of h → up_to n (grown h more) ≡ up_to n h }
 {}
 
-/// A push adds its rows behind those of the history.
+/// A push adds its rows after those of the history.
 pub fn history_grows()
     ensures { (h : History) (spans : List Span) →
         history_rows (pushed h spans) ≡ history_rows h ++ batch_rows (count_of h) spans }

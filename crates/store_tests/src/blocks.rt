@@ -78,7 +78,7 @@ fn a_listed_block_is_checked(rt: HostRuntime) -> Result<(), Fail> {
         let end = front.len() as u64;
         assert!(rt; opened(alloc, 2, &NO_RECORD, front)? == breaks(end));
     }
-    // A segment without a gate breaks at its end, behind the block.
+    // A segment without a gate breaks at its end, after the block.
     let no_gate = Err(OpenError::NotStore { file: 2, at: 0 });
     assert!(rt; opened(alloc, 2, &[], bytes)? == no_gate);
     assert!(rt; opened(alloc, 3, &[], bytes)? == breaks(0));

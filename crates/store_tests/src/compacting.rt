@@ -1,4 +1,4 @@
-//! Compactions of a store over a disk in memory while a look is open, and the emptying of loose files behind them:
+//! Compactions of a store over a disk in memory while a look is open, and the emptying of loose files after them:
 //! what each device call leaves that fails or is the last one before a crash.
 
 ghost use Rattle.std.specs.Prelude.{List};
@@ -43,7 +43,7 @@ fn flushes<P: Port>(alloc: Global, port: &mut P) -> bool
     pushed & (round == Round::Did { blocks: 1, rows: 1 })
 }
 
-// How a compaction ends, and what the emptying of loose files behind it answers.
+// How a compaction ends, and what the emptying of loose files after it answers.
 type End = (Round, Result<u64, ReclaimError>);
 
 fn joins<P: Port>(alloc: Global, port: &mut P) -> End

@@ -87,7 +87,7 @@ fn the_last_number_is_given_once(rt: HostRuntime) -> Result<(), Fail> {
     Ok(())
 }
 
-// A segment with two records without spans, whose gates are these: the last one stands behind them.
+// A segment with two records without spans, whose gates are these: the last one stands after them.
 fn gated(gates: [u8; 3]) -> [u8; 38] {
     [
         1, gates[0], 9, 0, 0, 0, 0, 0, 0, 0, 0, 0, 0, 0, 0, 0, 0, 0, 0, gates[1], 9, 0, 0, 0, 0, 0,

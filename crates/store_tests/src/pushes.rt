@@ -65,7 +65,7 @@ fn a_push_makes_four_calls_and_a_failed_one_is_the_last(rt: HostRuntime) {
     let alloc = rt.alloc();
     let fault = Err(PushError::Fault);
     let refused = Err(PushError::ReadOnly { faults: 1 });
-    // The call behind the opening that fails, what both pushes answer, and what is held, shown and found: the last call of a push only
+    // The call after the opening that fails, what both pushes answer, and what is held, shown and found: the last call of a push only
     // makes last what was written.
     let rows: [(Upset, [Answer; 2], [u64; 3]); 9] = [
         (Upset::Nothing, [Ok(0), Ok(1)], [2, 2, 2]),
@@ -83,7 +83,7 @@ fn a_push_makes_four_calls_and_a_failed_one_is_the_last(rt: HostRuntime) {
     }
 }
 
-// Whether the images have the push behind so many others: what was synced last, what is held, one with ones where a crash leaves a
+// Whether the images have the push after so many others: what was synced last, what is held, one with ones where a crash leaves a
 // byte open, and one with zeros there. Each other pick has what one of these has, and each is written on.
 fn images_have(alloc: Global, disk: &MemDisk, before: u64, has: [bool; 4]) -> Result<bool, Memory> {
     let mut same = true;
@@ -129,7 +129,7 @@ fn images_are(
 fn a_push_that_is_stopped_is_stored_whole_or_not(rt: HostRuntime) -> Result<(), Fail> {
     let alloc = rt.alloc();
     // What goes wrong, whether the push is acknowledged, and which images have it: the third call writes one byte, with which the
-    // record counts. A write that fails leaves its bytes open, and one behind the stop isn't made.
+    // record counts. A write that fails leaves its bytes open, and one after the stop isn't made.
     let rows: [(Upset, bool, [bool; 4]); 9] = [
         (Upset::Stops(0), false, [false; 4]),
         (Upset::Stops(1), false, [false; 4]),

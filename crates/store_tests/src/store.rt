@@ -103,7 +103,7 @@ pub(crate) enum Upset {
     Nothing,
     // The call of that number fails, counted from 1.
     Fails(u64),
-    // All calls behind so many fail.
+    // All calls after so many fail.
     Stops(u64),
 }
 

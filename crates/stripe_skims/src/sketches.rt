@@ -30,7 +30,7 @@ pub struct Sketch {
 }
 
 /// What is told of a stripe, in form 1, or in form 2, which has events and links. None says nothing: the stripe is malformed, or
-/// memory was wanted. Memory is taken for texts, resources and scopes, and for what a sketch tells.
+/// memory ran out. Memory is taken for texts, resources and scopes, and for what a sketch tells.
 pub fn skim(alloc: Global, bytes: &[u8], extended: bool) -> Option<Sketch>
     ensures { IfSome result (λ sketch. SketchesAll (stripe_at extended bytes.now) sketch) }
 {

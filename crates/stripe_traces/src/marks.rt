@@ -15,7 +15,7 @@ pub struct Marks {
     pub traces: Vec<TraceId>,
 }
 
-/// Marks the rows that are of one of these traces, whose ids ascend, by the traces of all rows. None if memory was wanted.
+/// Marks the rows that are of one of these traces, whose ids ascend, by the traces of all rows. None if memory ran out.
 pub fn mark_rows(alloc: Global, traces: &[TraceId], ids: &[TraceId]) -> Option<Marks>
     requires { AreInOrder ids.now }
     ensures wanted { IfSome result (λ marks. marks.wanted.items ≡ map (is_one_of ids.now) traces.now) }

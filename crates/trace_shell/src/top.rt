@@ -72,7 +72,7 @@ pub fn run_alone<
         (edges S.left S.faults K.taken K.faults C.moments D.Device.own source.old sink.old clock.old disk)
         (edges S.left S.faults K.taken K.faults C.moments D.Device.own source.new sink.new clock.new result.disk)
         × (result.status ≡ status_of o.ending) }
-    // Over a disk whose bytes are told and are a store's: it was done from what they store on, queries tell of all that was pushed,
+    // Over a disk whose bytes are shown and are a store's: it was done from what they store on, queries tell of all that was pushed,
     // wherever it lies, and what is stored as the disk is handed back, or whenever the run is stopped, holds every push that was
     // accepted by then.
     ensures recovers { IsTrue (D.tells disk) → IsSoundImage (D.held disk)
@@ -129,7 +129,7 @@ pub fn run<
         (edges S.left S.faults K.taken K.faults C.moments D.Device.own source.old sink.old clock.old disk)
         (edges S.left S.faults K.taken K.faults C.moments D.Device.own source.new sink.new clock.new result.disk)
         × (result.status ≡ status_of o.ending) }
-    // Over a disk whose bytes are told and are a store's: it was done from what they store on, queries tell of all that was pushed,
+    // Over a disk whose bytes are shown and are a store's: it was done from what they store on, queries tell of all that was pushed,
     // wherever it lies, and what is stored as the disk is handed back, or whenever the run is stopped, holds every push that was
     // accepted by then.
     ensures recovers { IsTrue (D.tells disk) → IsSoundImage (D.held disk)

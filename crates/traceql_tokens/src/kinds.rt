@@ -3,7 +3,7 @@
 use crate::{AttributeScope, Intrinsic, Sign, Word};
 use span_types::{Seq, Text};
 
-/// What is wrong with a token. Its class and its end are clear all the same, so the tokens behind it are read.
+/// What is wrong with a token. Its class and its end are clear all the same, so the tokens after it are read.
 /// A place counts bytes from the start of the text.
 #[derive(Clone, Copy, Debug, PartialEq, Eq)]
 pub enum Fault {

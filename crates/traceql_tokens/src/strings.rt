@@ -100,7 +100,7 @@ fn decoded(alloc: Global, body: &str) -> Result<String, Memory>
     }
 }
 
-/// A string from behind its double quote, which has the place `at`, and how many bytes it has with its quotes.
+/// A string after its double quote, which has the place `at`, and how many bytes it has with its quotes.
 #[tactic(auto, using(crate::proofs::StringCases::quoted_cases))]
 fn quoted_at(alloc: Global, body: &str, at: usize) -> Result<(Value, usize), Memory>
     requires { at + length body.now < 2 ^ 63 }
@@ -121,7 +121,7 @@ fn quoted_at(alloc: Global, body: &str, at: usize) -> Result<(Value, usize), Mem
     Ok((value, len + 2))
 }
 
-/// A string from behind its backquote, which has the place `at`, and how many bytes it has with its quotes.
+/// A string after its backquote, which has the place `at`, and how many bytes it has with its quotes.
 #[tactic(auto, using(crate::proofs::StringCases::raw_cases))]
 fn raw_at(alloc: Global, body: &str, at: usize) -> Result<(Value, usize), Memory>
     requires { at + length body.now < 2 ^ 63 }

@@ -116,7 +116,7 @@ fn add_stages<'a>(stages: &'a Stages, found: &mut Vec<Asked<'a>>) -> Result<(), 
     Ok(())
 }
 
-/// The patterns that a query asks for, one for each `=~` and `!~`, in the text's order. The one error is want of memory.
+/// The patterns that a query asks for, one for each `=~` and `!~`, in the text's order. The one error is out of memory.
 pub fn patterns_of(alloc: Global, query: &Query) -> Result<Vec<Asked<'_>>, Memory>
     ensures { IfOk result (λ found. shown_all found.items ≡ asked_patterns (query_tree query.now)) }
 {

@@ -118,7 +118,7 @@ impl RegexMaker {
         RegexMaker { alloc, refusals: 0 }
     }
 
-    /// How many patterns were refused so far. The count stands still at its type's end.
+    /// How many patterns were refused so far. The count saturates at its type's end.
     pub fn refusals(&self) -> u64
         ensures { result ≡ self.now }
     {
@@ -177,7 +177,7 @@ impl ScriptedMaker {
         }
     }
 
-    /// How many patterns were refused so far, those that the `RegexMaker` refused among them. The count stands still at
+    /// How many patterns were refused so far, those that the `RegexMaker` refused among them. The count saturates at
     /// its type's end.
     pub fn refusals(&self) -> u64
         ensures { result ≡ self.now.refusals }
