@@ -167,7 +167,7 @@ fn stripe_pages(reader: &mut Reader, page: u64) -> Result<u64, Break>
     Ok(pages)
 }
 
-/// The rows of a stripe.
+/// How many rows a stripe has: 256, but for the last one, which may have fewer.
 #[tactic(auto, unfolding(crate::specs::HeaderReadings::passing))]
 fn stripe_rows(reader: &mut Reader, is_last: bool) -> Result<u32, Break>
     ensures gives { Gives (λ x. x) result reader.new (passing (has_rows is_last) number64_at reader.old) }

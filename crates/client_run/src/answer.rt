@@ -130,7 +130,7 @@ fn flush<P: FlushPort>(alloc: Global, port: &mut P) -> Reply
     flush_reply(flush_round(alloc, port))
 }
 
-// The reply to a flush's round.
+// How a round ended, as a reply. A refusal of a round is one of requests too, with the same words.
 fn flush_reply(round: Round) -> Reply
     ensures { result ≡ flush_reply round }
 {
@@ -149,7 +149,7 @@ fn compact<P: Port>(alloc: Global, port: &mut P) -> Reply
     compact_reply(compact_round(alloc, port))
 }
 
-// The reply to a compaction's round.
+// The same of a compaction, which says as well how many blocks it joined.
 fn compact_reply(round: Round) -> Reply
     ensures { result ≡ compact_reply round }
 {
@@ -202,7 +202,7 @@ fn trace<P: FlushPort>(alloc: Global, port: &mut P, id: TraceId) -> Reply
     trace_reply(find_trace(alloc, port, id))
 }
 
-// The reply to a look-up.
+// The rows that were found, as a reply. A trace without spans is one too, and no refusal.
 fn trace_reply(answer: Result<TraceAnswer, QueryError>) -> Reply
     ensures { result ≡ trace_reply answer }
 {
@@ -222,7 +222,7 @@ fn search<P: FlushPort>(alloc: Global, port: &mut P, asks: Search) -> Reply
     search_reply(alloc, &asked, answer)
 }
 
-// What is asked of a store.
+// The search of a request is that of a store: two types, since a store knows no lines.
 fn asked_of(asks: Search) -> Asked
     ensures { result ≡ asked_of asks }
 {
@@ -240,7 +240,7 @@ fn asked_of(asks: Search) -> Asked
     }
 }
 
-// The reply to a search.
+// What was found, as a reply, with the names of the fields that its spans show. They take memory of their own.
 fn search_reply(alloc: Global, asked: &Asked, answer: Result<SearchAnswer, QueryError>) -> Reply
     ensures { IsSearchTold asked.now answer result }
 {
@@ -268,7 +268,7 @@ fn metrics<P: FlushPort>(alloc: Global, port: &mut P, asks: Metrics) -> Reply
     series_reply(alloc, start, end, step, rate, answer)
 }
 
-// What a metrics query asks of a store.
+// What a metrics query asks of a store: a search of its range without limits, so that each span is counted.
 fn counted_of(asks: Metrics) -> Asked
     ensures { result ≡ counted_of asks }
 {
@@ -284,7 +284,7 @@ fn counted_of(asks: Metrics) -> Asked
     }
 }
 
-// The reply to a metrics query, by what was found.
+// The spans that were found are counted here, after the look was given back.
 fn series_reply(
     alloc: Global,
     start: u64,

@@ -181,7 +181,7 @@ fn read_page<P: FlushPort>(
     }
 }
 
-// A page's bytes.
+// A copy of a page: the port filled a buffer of the caller's, and a reply has bytes of its own.
 fn page_bytes(alloc: Global, page: &[u8]) -> Result<Bytes, Memory>
     ensures { IfOk result (λ bytes. bytes ≡ page.now) }
 {

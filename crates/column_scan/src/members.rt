@@ -52,14 +52,14 @@ fn hints_the_kept(hint: &Hint) -> bool
     hint.text.is_some() || has_all_moments(hint.range)
 }
 
-// Whether each moment is in the range.
+// Whether the search has neither start nor end: then whatever span a filter keeps is hinted.
 fn has_all_moments(range: Range) -> bool
     ensures { result ≡ has_all_moments range }
 {
     range.from == 0 && range.until.is_none()
 }
 
-// The members of an expression over spansets.
+// An operator between spansets has none: which of its sides a span has to meet isn't asked here.
 fn set_members<'q>(alloc: Global, spansets: &'q SpansetExpr) -> Result<Vec<&'q FieldExpr>, Memory>
     ensures { IfOk result (λ members. trees_of members.items ≡ set_members (set_tree spansets.now)) }
 {
@@ -69,7 +69,7 @@ fn set_members<'q>(alloc: Global, spansets: &'q SpansetExpr) -> Result<Vec<&'q F
     }
 }
 
-// The members of a filter.
+// A filter without a condition has none.
 fn filter_members<'q>(
     alloc: Global,
     condition: &'q Option<Operand>,

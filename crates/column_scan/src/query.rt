@@ -45,7 +45,7 @@ fn set_text(spansets: &SpansetExpr) -> Option<&Text>
     }
 }
 
-// The text of a filter.
+// A filter without a condition asks for none.
 fn filter_text(condition: &Option<Operand>) -> Option<&Text>
     ensures { option_map (λ t. t.now) result ≡ filter_text (placed_option condition.now) }
 {
@@ -137,7 +137,7 @@ fn asked_text<'q>(field: &Field, literal: &'q Literal) -> Option<&'q Text>
     None
 }
 
-// The text that a literal is.
+// Other literals than texts make no hint, since a hint tests texts alone.
 fn text_of(literal: &Literal) -> Option<&Text>
     ensures { option_map (λ t. t.now) result ≡ text_of literal.now }
 {

@@ -62,7 +62,7 @@ fn id_of<'a>(given: &ArgMatches<'a>) -> &'a str
     id
 }
 
-// The look-up that is asked for.
+// A look-up is answered as the line `trace ID` of a session, which alone tests the id.
 fn asked_trace(alloc: Global, id: &str) -> Result<Asked, WordsError>
     ensures ok { IfOk result (λ asked. command_of asked ≡ Alone (trace_line id.now)) }
     ensures err { IfErr result (λ error. error ≡ WordsError.Memory) }
@@ -73,7 +73,7 @@ fn asked_trace(alloc: Global, id: &str) -> Result<Asked, WordsError>
     }
 }
 
-// The search that is asked for.
+// A search is answered as the line `search ..` of a session, which alone tests options and query.
 fn asked_search(alloc: Global, given: &ArgMatches<'_>) -> Result<Asked, WordsError>
     requires { is_some (first_value (found_of given.now) (codes "query")) ≡ true }
     ensures ok { IfOk result (λ asked. (query : List ℕ) → first_value (found_of given.now) (codes "query") ≡ Some query

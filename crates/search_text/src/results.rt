@@ -26,7 +26,7 @@ pub fn write_results(alloc: Global, fields: &Texts, results: &Results) -> Result
     Ok(Text::of(value.to_string(alloc)?))
 }
 
-/// All traces.
+/// The whole object, whose one member is the list of traces.
 #[tactic(auto, unfolding(crate::specs::Results::results_json))]
 fn traces(alloc: Global, fields: &[Text], results: &[TraceResult]) -> Result<Value, Memory>
     ensures { IfOk result (λ v. view v ≡ results_json fields.now results.now) }

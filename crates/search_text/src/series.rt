@@ -21,7 +21,7 @@ pub fn write_series(alloc: Global, series: &SeriesList) -> Result<Text, Memory>
     Ok(Text::of(value.to_string(alloc)?))
 }
 
-/// All series.
+/// The whole object, whose one member is the list of series.
 #[tactic(auto, unfolding(crate::specs::Series::all_series_json))]
 fn all_series(alloc: Global, series: &[Series]) -> Result<Json, Memory>
     ensures { IfOk result (λ v. view v ≡ all_series_json series.now) }

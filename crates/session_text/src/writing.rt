@@ -150,7 +150,7 @@ fn reclaimed(alloc: Global, files: u64) -> Result<String, AllocError>
     format!(in alloc; "ok reclaim files={files}\n")
 }
 
-/// A refusal.
+/// The line of a refusal: its name, and the numbers or the text that go with it.
 fn refused(alloc: Global, why: &Refusal) -> Result<String, AllocError>
     ensures { IfOk result (λ text. string_bytes text ≡ refusal_text why.now) }
 {
@@ -190,7 +190,7 @@ fn not_store(alloc: Global, file: u32, at: u64) -> Result<String, AllocError>
     format!(in alloc; "refused not-store file={file} at={at}\n")
 }
 
-/// The refusal of a round.
+/// The refusal of a flush or a compaction. Some names are those of other refusals, since the cause is the same.
 fn round(alloc: Global, why: RoundRefusal) -> Result<String, AllocError>
     ensures { IfOk result (λ text. string_bytes text ≡ round_text why) }
 {

@@ -38,7 +38,7 @@ pub fn first_rows_more(alloc: Global, firsts: Rows, more: Rows) -> Result<Rows, 
     Ok(all)
 }
 
-// The rows of the map.
+// The rows of the map, which come by key. They are sorted into block order after this, since keys have no start.
 fn rows_of(alloc: Global, firsts: BTreeMap<Key, Row>) -> Result<Vec<Row>, Memory>
     ensures rows { IfOk result (λ kept. kept.items ≡ values firsts) }
     ensures ordered { IsOrdered key_cmp firsts }
@@ -50,7 +50,7 @@ fn rows_of(alloc: Global, firsts: BTreeMap<Key, Row>) -> Result<Vec<Row>, Memory
     Ok(kept)
 }
 
-// The order of rows in a block.
+// By trace, then by start, then by span. No two first occurrences are equal in it.
 fn in_block_order(a: &Row, b: &Row) -> Ordering
     ensures { result ≡ block_order a.now b.now }
 {
@@ -59,7 +59,7 @@ fn in_block_order(a: &Row, b: &Row) -> Ordering
     trace.then(start).then(a.span.id.cmp(&b.span.id))
 }
 
-// The first row of each key.
+// The first row of each key. The map costs n log n, however many rows are of one span.
 fn firsts_by_key(alloc: Global, rows: Vec<Row>) -> Result<BTreeMap<Key, Row>, Memory>
     ensures { IfOk result (λ m. (k : Key) → get key_cmp m k ≡ first_at k rows.items) }
 {

@@ -129,7 +129,7 @@ fn merge<'v>(
     Ok(merged)
 }
 
-// TakesPart the part that comes first off two lists, the last of each of which comes first in it.
+// Takes the part that comes first off two lists, the last of each of which comes first in it.
 fn take_next<'v>(
     left: &mut Vec<Part<'v>>,
     right: &mut Vec<Part<'v>>,

@@ -25,7 +25,7 @@ pub fn pass_reference(fields: &mut Fields, texts: usize) -> Option<usize>
     Some(number)
 }
 
-// A value.
+// A value: by its tag it refers to a text of the table, or stands there in full.
 fn pass_value(fields: &mut Fields, texts: usize) -> bool
     ensures { IsTrue result → (table : List (List ℕ)) → length table ≡ texts → Passes (value_with table fields.old) fields.new }
 {

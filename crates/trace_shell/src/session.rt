@@ -51,7 +51,7 @@ impl Tally {
         }
     }
 
-    // Adds a reply.
+    // A session that had a refusal ends with another status, so each reply is looked at once.
     fn add(&mut self, reply: &Reply)
         ensures { self.new ≡ tally_with self.old reply.now }
     {
