@@ -32,8 +32,8 @@ struct Front {
     bloom_pages: u32,
 }
 
-/// The header that bytes are: its pages whole, and nothing after them. The list of stripes grows with the entries that are
-/// there, so no number in the bytes takes memory.
+/// The header that bytes are: its pages whole, and nothing after them. The list of stripes grows with the entries that
+/// are there, so no number in the bytes takes memory.
 pub fn read_header(alloc: Global, bytes: &[u8]) -> Result<Header, FormatError>
     ensures { ReadsHeader result (header_at bytes.now) }
 {

@@ -26,8 +26,8 @@ pub fn pages_find_their_traces()
     ensures { (ids : List TraceId) → AreIds ids → AreAscending ids → PagesFind ids }
 {}
 
-/// Where the ids of the rows ascend, each entry of the index tells its trace's rows: the number of the first, and how many
-/// there are. They stand together, so these are all of them.
+/// Where the ids of the rows ascend, each entry of the index tells its trace's rows: the number of the first, and how
+/// many there are. They stand together, so these are all of them.
 pub fn entries_tell_rows()
     ensures { (ids : List TraceId) (entry : IndexEntry) → AreAscending ids → Contains (entries ids) entry → TellsRows ids entry }
 {}

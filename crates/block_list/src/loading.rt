@@ -19,12 +19,12 @@ use disk_model::{Device, cut_through};
 use span_types::Failed;
 use std::alloc::Global;
 
-/// The list that counts, or `None` on a disk whose slots have none. The two slots are made to last and then read. A slot
-/// that has no list, though it is long enough for one, is cut down to its gate.
+/// The list that counts, or `None` on a disk whose slots have none. The two slots are made to last and then read. A
+/// slot that has no list, though it is long enough for one, is cut down to its gate.
 ///
-/// A closing gate may then be written to a slot whatever stands in it: it is either open, and holds the list before the
-/// one that counts, or too short to hold one. Where the slots are refused, or memory runs out, the disk stays as it was.
-/// At a fault too a slot that isn't vacant stays as it was, also a malformed one.
+/// A closing gate may then be written to a slot whatever stands in it: it is either open, and holds the list before
+/// the one that counts, or too short to hold one. Where the slots are refused, or memory runs out, the disk stays as
+/// it was. At a fault too a slot that isn't vacant stays as it was, also a malformed one.
 pub fn load<D: Device>(alloc: Global, disk: &mut D) -> Result<Option<ListBody>, ListError>
     // What the slots say, and where they break, is by the bytes that the disk held.
     ensures found { IsTrue (D.tells disk.old) → IfOk result (λ list. slots_at (bytes_of (D.held disk.old) 0) (bytes_of (D.held disk.old) 1) ≡ Ok list) }
@@ -38,12 +38,12 @@ pub fn load<D: Device>(alloc: Global, disk: &mut D) -> Result<Option<ListBody>, 
     ensures only { IsTrue (D.tells disk.old) → (list : Option ListBody) → ImageHoldsList (D.held disk.old) list → IfOk result (λ found. found ≡ list) }
     ensures readable { IsTrue (D.tells disk.old) → (list : Option ListBody) (slot at : ℕ) → ImageHoldsList (D.held disk.old) list → result ≢ Err (NotList slot at) }
 
-    // A crash at any moment leaves what stands for what some image stood for at the start, with every other file, and with
-    // each slot that wasn't vacant there, be it malformed.
+    // A crash at any moment leaves what stands for what some image stood for at the start, with every other file, and
+    // with each slot that wasn't vacant there, be it malformed.
     ensures kept { IsTrue (D.tells disk.old) → Run KeepsList D.moment D.left_since D.may_leave disk.old disk.new }
 
-    // At `Ok` the disk still stands for the list, each slot has one image, which is what a read gives, and the next list may
-    // be laid.
+    // At `Ok` the disk still stands for the list, each slot has one image, which is what a read gives, and the next
+    // list may be laid.
     ensures ready { IsTrue (D.tells disk.old) → IfOk result (λ list. IsReady (D.held disk.new) (D.may_leave disk.new) list) }
     ensures cleared_0 { IsTrue (D.tells disk.old) → OnOk result (bytes_of (D.held disk.new) 0 ≡ cleared (bytes_of (D.held disk.old) 0)) }
     ensures cleared_1 { IsTrue (D.tells disk.old) → OnOk result (bytes_of (D.held disk.new) 1 ≡ cleared (bytes_of (D.held disk.old) 1)) }

@@ -45,8 +45,8 @@ pub fn prepare(alloc: Global, body: &ListBody) -> Result<PreparedList, Memory>
     })
 }
 
-/// A body in bytes, where it isn't known whether it meets the rules. One with more entries of a kind than there are numbers of
-/// files is refused for memory.
+/// A body in bytes, where it isn't known whether it meets the rules. One with more entries of a kind than there are
+/// numbers of files is refused for memory.
 pub fn prepare_any(alloc: Global, body: &ListBody) -> Result<PreparedList, Memory>
     ensures text { MeetsRules body.now → IfOk result (λ list. IsListText list body.now) }
     // The text is short, whatever the body.

@@ -19,8 +19,8 @@ pub(crate) const ONE: &str = "
     filters 01 00 00 00
     01 00 00 00 00 00 00 00 01 00 00 00 00 00 00 00 01 00 00 00 00 00 00 00 01 00 00 00 00 00 00 00";
 
-/// The header of a block of 513 rows in form 2, up to the fill: two stripes of 256 rows, on five pages and on 258, and one of a
-/// row; 171 traces.
+/// The header of a block of 513 rows in form 2, up to the fill: two stripes of 256 rows, on five pages and on 258, and
+/// one of a row; 171 traces.
 const THREE: &str = "
     TSB2 54 53 42 32
     pages 01 00 00 00

@@ -69,7 +69,8 @@ fn in_one_place(rt: HostRuntime) {
 
 /// The same of two places.
 static TWO: [(usize, &str, usize, &str, u64); 4] = [
-    // A text that nothing refers to comes before such a resource, and such a resource before a kind of value that there isn't.
+    // A text that nothing refers to comes before such a resource, and such a resource before a kind of value that
+    // there isn't.
     (154, "00", 207, "0a", 31),
     (154, "00", 208, "03", 38),
     // But where that kind isn't there, nothing is known of the text.

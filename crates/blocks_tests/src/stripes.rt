@@ -57,8 +57,8 @@ const PLAIN: &str = "
     owners: 00 01 00 01
     attributes: 01 09 01 01 02 01 00 06 00 01 06";
 
-/// What is reported of `STRIPE` where the lowest bit of one byte is another one, byte by byte. These tables are from a decoder in
-/// another language, written from the page of the format.
+/// What is reported of `STRIPE` where the lowest bit of one byte is another one, byte by byte. These tables are from a
+/// decoder in another language, written from the page of the format.
 const LOWEST: &str = "
     210 210 210 210 210 210 210 210
     39
@@ -172,7 +172,8 @@ fn is_skimmed(alloc: Global, rows: &Rows, form: u8, bytes: &[u8]) -> bool {
     }
 }
 
-/// The offset at which the bytes are malformed, or that they are sound: their rows have these bytes again, and are skimmed.
+/// The offset at which the bytes are malformed, or that they are sound: their rows have these bytes again, and are
+/// skimmed.
 pub(crate) fn told(alloc: Global, bytes: &[u8], form: u8) -> Result<u64, Memory> {
     match rows_of(alloc, bytes, form)? {
         Ok(rows) => {

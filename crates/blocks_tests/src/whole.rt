@@ -76,8 +76,8 @@ fn file(alloc: Global, bytes: &[u8], failing: &[u64]) -> Result<MemPages, Memory
     Ok(MemPages::new(FILE, Bytes::of(copy), calls))
 }
 
-/// The offset at which so many bytes of a file are no block of so many rows, or that they are one. None where a read fails or memory
-/// runs out.
+/// The offset at which so many bytes of a file are no block of so many rows, or that they are one. None where a read
+/// fails or memory runs out.
 fn told(alloc: Global, pages: &mut MemPages, rows: u32, length: u64) -> Option<u64> {
     match check_block(alloc, pages, FILE, 3, rows, length) {
         Ok(_) => Some(SOUND),
@@ -201,7 +201,8 @@ fn malformed_in_two_places(rt: HostRuntime) {
     }
 }
 
-/// Entries with which no stripe agrees, and one with which another stripe would, where the file ends within the length of its stripe.
+/// Entries with which no stripe agrees, and one with which another stripe would, where the file ends within the length
+/// of its stripe.
 static CUT: [(usize, &str, u64); 3] = [
     (36, "02", 4096),
     (44, "02", 4096),
@@ -216,8 +217,8 @@ fn cut_within_a_length(rt: HostRuntime) {
     }
 }
 
-/// Whether this is known of the block: it has four pages, of which the one at 1 is its stripe, the one at 2 its index, and the
-/// one at 3 has its Bloom filters.
+/// Whether this is known of the block: it has four pages, of which the one at 1 is its stripe, the one at 2 its index,
+/// and the one at 3 has its Bloom filters.
 fn is_known(info: &BlockInfo) -> bool {
     let stripe = StripeInfo {
         page: 1,

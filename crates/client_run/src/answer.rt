@@ -23,9 +23,9 @@ use traceql_metrics::series;
 /// Answers a request over a port, for the client with this number.
 ///
 /// A push, a cut and the emptying of loose files are one call each, and a flush and a compaction are one round each. A
-/// look-up, a search or a metrics query takes one look, reads the blocks that it pins and gives it back. Out of memory a request is
-/// refused for that; whether a push was refused the port says. The gate is passed at twice the client's number before a
-/// search or a metrics query is evaluated, and at one more after each push that was accepted.
+/// look-up, a search or a metrics query takes one look, reads the blocks that it pins and gives it back. Out of memory
+/// a request is refused for that; whether a push was refused the port says. The gate is passed at twice the client's
+/// number before a search or a metrics query is evaluated, and at one more after each push that was accepted.
 pub fn answer_request<P: Port, G: Gate>(
     alloc: Global,
     port: &mut P,

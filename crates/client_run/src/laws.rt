@@ -17,8 +17,8 @@ ghost use Rattle.client_run.specs.OwnFiles.{HaveOwnFiles};
 use disk_model::Device;
 use store_core::Core;
 
-/// Calls that were made on a core are legal from each machine that it stood for, and the core then stands for the machine that
-/// they leave; and so of the machines that its memory shows, whatever its disk holds.
+/// Calls that were made on a core are legal from each machine that it stood for, and the core then stands for the
+/// machine that they leave; and so of the machines that its memory shows, whatever its disk holds.
 pub fn calls_are_steps<D: Device>(old: &Core<D>, new: &Core<D>)
     ensures stands { (calls : List Call) → AreMade (port_of D.Device.own) old.now calls new.now → (m : Machine)
         → CoreStandsFor D.Device.own old.now m

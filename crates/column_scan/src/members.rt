@@ -14,10 +14,10 @@ use traceql_syntax::{Field, FieldExpr, Operand, SpansetExpr};
 use traceql_tokens::Intrinsic;
 use traceql_types::Checked;
 
-/// The sieve of a query that is searched for in a range: its hint and, if one filter is all that spans are selected by, those
-/// members of that filter's chain of `&&` that ask for a span's kind, its status and its duration alone. Without a text, and
-/// with moments out of the range, there are no members: the span that the filter keeps needn't be the one that starts in the
-/// range. The one error is out of memory.
+/// The sieve of a query that is searched for in a range: its hint and, if one filter is all that spans are selected
+/// by, those members of that filter's chain of `&&` that ask for a span's kind, its status and its duration alone.
+/// Without a text, and with moments out of the range, there are no members: the span that the filter keeps needn't be
+/// the one that starts in the range. The one error is out of memory.
 pub fn sieve<'q>(alloc: Global, checked: &'q Checked, range: Range) -> Result<Sieve<'q>, Memory>
     ensures { IfOk result (λ s. s ≡ sieve_of checked.now.patterns (query_tree checked.now.query) range) }
 {

@@ -15,9 +15,9 @@ use traceql_syntax::{BinaryOp, Comparison, Field, FieldExpr, Literal, Operand, S
 use traceql_tokens::{AttributeScope, Intrinsic};
 use traceql_types::Checked;
 
-/// The hint of a query that is searched for in a range. It has a text if one filter is all that spans are selected by, and
-/// in that filter's chain of `&&` a member asks for a name, or for an attribute of the span or of its resource, to be equal
-/// to a string: the first such string. The one error is out of memory.
+/// The hint of a query that is searched for in a range. It has a text if one filter is all that spans are selected by,
+/// and in that filter's chain of `&&` a member asks for a name, or for an attribute of the span or of its resource, to
+/// be equal to a string: the first such string. The one error is out of memory.
 pub fn hint(checked: &Checked, range: Range) -> Result<Hint, Memory>
     ensures { IfOk result (λ h. h ≡ hint_of (query_tree checked.now.query) range) }
 {

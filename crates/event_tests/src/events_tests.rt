@@ -195,7 +195,8 @@ impl Play {
     }
 }
 
-// Plays the events on an empty disk, and asserts that each reply is as it was to be. No reply is missing, and none is too much.
+// Plays the events on an empty disk, and asserts that each reply is as it was to be. No reply is missing, and none is
+// too much.
 fn check_play(
     rt: &(impl Abort + AllocGlobal),
     play: Play,

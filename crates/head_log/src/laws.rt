@@ -29,8 +29,8 @@ pub fn read_is_encoded()
         → (batches : List (List Span)) × (found ≡ entries first batches) × SegmentHolds first batches end.at bytes }
 {}
 
-/// The entries of a list of batches are as many as these, and the entries of two lists one after the other are those of the
-/// first and then those of the second.
+/// The entries of a list of batches are as many as these, and the entries of two lists one after the other are those
+/// of the first and then those of the second.
 pub fn entries_of_lists()
     ensures length { (first : ℕ) (batches : List (List Span)) → length (entries first batches) ≡ length batches }
     ensures append { (first : ℕ) (batches more : List (List Span)) → entries first (batches ++ more) ≡ entries first batches ++ entries (first + length batches) more }

@@ -70,7 +70,8 @@ impl Prepared {
 /// A closed gate: the next record's, which doesn't count until it is written.
 const CLOSED: u8 = 0;
 
-/// Writes the length of a body over the first eight bytes. It is known only once the body stands after them, so zeros stood in its place.
+/// Writes the length of a body over the first eight bytes. It is known only once the body stands after them, so zeros
+/// stood in its place.
 fn set_length(text: &mut Vec<u8>, length: u64)
     requires { 8 ≤ vec_len text.old }
     ensures { text.new.items ≡ fixed64_bytes length ++ drop 8 text.old.items }

@@ -68,10 +68,10 @@ const BLOCK: usize = 16_384;
 
 /// The batches of a segment whose first record has the number `first`, and the segment as it is to be written on.
 ///
-/// Where the bytes stand for batches, as `append` leaves them, exactly these are answered, and what is answered is what the
-/// bytes stand for. A file that the grammar does not allow is `NotLog` at the first place where it breaks. The file is read in
-/// blocks, in time that is linear in its bytes. No number that it holds says how much memory is taken before as many bytes
-/// are there.
+/// Where the bytes stand for batches, as `append` leaves them, exactly these are answered, and what is answered is
+/// what the bytes stand for. A file that the grammar does not allow is `NotLog` at the first place where it breaks.
+/// The file is read in blocks, in time that is linear in its bytes. No number that it holds says how much memory is
+/// taken before as many bytes are there.
 pub fn scan<D: Device>(
     alloc: Global,
     disk: &mut D,

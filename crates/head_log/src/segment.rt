@@ -64,17 +64,17 @@ pub fn create<D: Device>(disk: &mut D, file: u32) -> Result<(), Failed>
     write_through(disk, file, 0, &EMPTY)
 }
 
-/// Adds a record to a segment: its text is made to last, and then its gate, so that a crash can't open a gate before a body
-/// that didn't get through. Its memory was taken when the record was prepared.
+/// Adds a record to a segment: its text is made to last, and then its gate, so that a crash can't open a gate before a
+/// body that didn't get through. Its memory was taken when the record was prepared.
 ///
-/// A refused call leaves `seg` as it was; the file may then hold the record or not, so no further record is to be added to
-/// it before it is scanned again.
+/// A refused call leaves `seg` as it was; the file may then hold the record or not, so no further record is to be
+/// added to it before it is scanned again.
 pub fn append<D: Device>(disk: &mut D, seg: &mut Segment, entry: &Prepared) -> Result<(), Failed>
     requires number { entry.now.number ≡ seg.old.first + seg.old.count }
     requires limit { entry.now.number < 4294967295 }
 
-    // The file stands for these batches whatever a crash leaves of it, with its closed gate where the segment says. Then it
-    // stands for them, with or without the new one, whenever a crash comes in the call.
+    // The file stands for these batches whatever a crash leaves of it, with its closed gate where the segment says.
+    // Then it stands for them, with or without the new one, whenever a crash comes in the call.
     ensures any_moment { (batches : List (List Span)) (spans : List Span) (known : List ℕ) → IsTrue (D.tells disk.old)
         → OnlyBytes seg.old.file known (D.may_leave disk.old) → SegmentHolds seg.old.first batches seg.old.gate known
         → length batches ≡ seg.old.count → IsBatchBody entry.now.number spans entry.now.body
@@ -103,8 +103,9 @@ pub fn append<D: Device>(disk: &mut D, seg: &mut Segment, entry: &Prepared) -> R
     Ok(())
 }
 
-/// Adds a record to the bytes of a segment: first what stands after the gate, the next gate among it, and once that lasts
-/// the gate. Until then the gate on the disk is closed, so that it doesn't matter what a crash leaves of the body.
+/// Adds a record to the bytes of a segment: first what stands after the gate, the next gate among it, and once that
+/// lasts the gate. Until then the gate on the disk is closed, so that it doesn't matter what a crash leaves of the
+/// body.
 fn append_record<D: Device>(disk: &mut D, file: u32, gate: u64, text: &[u8]) -> Result<(), Failed>
     requires { gate < 2 ^ 63 }
 

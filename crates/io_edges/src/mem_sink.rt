@@ -11,8 +11,8 @@ use span_types::{Calls, Failed};
 use std::alloc::Global;
 use std::marker::Model;
 
-/// A sink that keeps its bytes in memory. Each listed call fails, counted from 1; any other fails only if memory runs out
-/// for its own growth, which it counts apart. A failing call takes nothing.
+/// A sink that keeps its bytes in memory. Each listed call fails, counted from 1; any other fails only if memory runs
+/// out for its own growth, which it counts apart. A failing call takes nothing.
 #[derive(Debug, Drop)]
 pub struct MemSink {
     taken: Vec<u8>,

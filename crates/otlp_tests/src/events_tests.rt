@@ -55,8 +55,8 @@ fn reads_back(alloc: Global, line: &str) -> Result<bool, Fail> {
     }
 }
 
-/// A row is the member's JSON and what the line gives: how much is skipped and, where the written span has the member, its JSON
-/// there; or the path from the span to the first wrong form.
+/// A row is the member's JSON and what the line gives: how much is skipped and, where the written span has the member,
+/// its JSON there; or the path from the span to the first wrong form.
 fn check(rt: &(impl Abort + AllocGlobal), member: &str, table: &str) -> Result<(), Fail> {
     let alloc = rt.alloc();
     for row in table.lines() {

@@ -7,8 +7,8 @@ ghost use Rattle.query_fanout.specs.Taking.{TakenAnswerTheWhole, TakesMore, Take
 
 use column_scan::answered_is_picked;
 
-/// If the sifted rows are covered by the picks that were taken, what is kept in the end is what the search answers over all
-/// rows.
+/// If the sifted rows are covered by the picks that were taken, what is kept in the end is what the search answers
+/// over all rows.
 pub fn taken_answer_the_whole()
     ensures { TakenAnswerTheWhole }
 {

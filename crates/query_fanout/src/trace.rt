@@ -67,8 +67,8 @@ impl OfBlock for OneTrace {
 
 /// The first occurrences of a trace's spans, wherever they lie: in the rows of one look and in the blocks that it pins.
 ///
-/// Of each block its filters and its index are asked, and those stripes are read that hold the trace; `bounded` says how many
-/// pages that is at most. No other rows are kept than the trace's. The look is given back in every case.
+/// Of each block its filters and its index are asked, and those stripes are read that hold the trace; `bounded` says
+/// how many pages that is at most. No other rows are kept than the trace's. The look is given back in every case.
 pub fn find_trace<P: FlushPort>(
     alloc: Global,
     port: &mut P,

@@ -141,8 +141,8 @@ pub(crate) const UNLINKED: &str =
 pub(crate) const LINKED_TRACE: &str =
     r#"{"resourceSpans":[{"resource":{"attributes":[]},"scopeSpans":[{"scope":{"attributes":[],"name":"","version":""},"spans":[{"attributes":[],"endTimeUnixNano":"2","events":[{"attributes":[{"key":"k","value":{"intValue":"7"}}],"name":"e","timeUnixNano":"5"}],"kind":0,"links":[{"attributes":[{"key":"l","value":{"boolValue":true}}],"spanId":"00000000000000d1","traceId":"000000000000000000000000000000c1"}],"name":"x","parentSpanId":"","spanId":"00000000000000b1","startTimeUnixNano":"1","status":{"code":0,"message":""},"traceId":"000000000000000000000000000000a1"},{"attributes":[],"endTimeUnixNano":"3","kind":0,"name":"y","parentSpanId":"00000000000000b1","spanId":"00000000000000b2","startTimeUnixNano":"2","status":{"code":0,"message":""},"traceId":"000000000000000000000000000000a1"}]}]}]}"#;
 
-/// Events and links are shown alike from memory, from the log, from a block of a flush and from one of a compaction, in the session
-/// and in later ones.
+/// Events and links are shown alike from memory, from the log, from a block of a flush and from one of a compaction,
+/// in the session and in later ones.
 const EVENTS: &[Session] = &[
     (
         "$linked\ncutall\nflush\n$unlinked\n$look\n",

@@ -9,7 +9,8 @@ use std::process::Abort;
 use std::sync::Wait;
 use std::thread::Threads;
 
-/// A push of the span b1 of a trace, which is given by its last byte. Its status is `ok` if it is named `old`, else `error`.
+/// A push of the span b1 of a trace, which is given by its last byte. Its status is `ok` if it is named `old`, else
+/// `error`.
 fn push(alloc: Global, trace: &str, name: &str, start: u64, end: u64) -> Result<String, Memory> {
     let status = if name == "old" { 1 } else { 2 };
     Ok(format!(in alloc;
@@ -25,7 +26,8 @@ const OLD: &str =
 
 const NOTHING: &str = r#"ok search as_of=3 traces=0 {"traces":[]}"#;
 
-/// Searches, and what each is to be answered. The trace a2 starts at 80, between the first copy's start and the later one's.
+/// Searches, and what each is to be answered. The trace a2 starts at 80, between the first copy's start and the later
+/// one's.
 static SEARCHES: [(&str, &str); 8] = [
     ("search limit=1 { }", OLD),
     ("search { name = \"new\" }", NOTHING),

@@ -55,8 +55,8 @@ impl Best {
         })
     }
 
-    /// Whether a result of the trace that starts at that moment, in nanoseconds since 1970, or earlier can come among the
-    /// best.
+    /// Whether a result of the trace that starts at that moment, in nanoseconds since 1970, or earlier can come among
+    /// the best.
     pub fn may_take(&self, trace: TraceId, latest: u64) -> bool
         ensures is { result ≡ may_come self.now trace latest }
         ensures full { result ≡ false → length self.now.kept ≡ self.now.limit }

@@ -30,8 +30,8 @@ pub fn first_stays()
     ensures { FirstStays }
 {}
 
-/// If each trace of which a query answers something is picked, the first occurrences of the picked traces' rows have the
-/// answer that those of all rows have.
+/// If each trace of which a query answers something is picked, the first occurrences of the picked traces' rows have
+/// the answer that those of all rows have.
 pub fn picked_answer_the_whole()
     ensures { PickedAnswerTheWhole }
 {}

@@ -15,8 +15,8 @@ use std::alloc::Global;
 use traceql_types::Checked;
 use traceql_value::Matchers;
 
-/// The results of the first `limit` of these traces of which the query answers something, in their order, with the first
-/// `spans_per_set` spans of each spanset. No trace after them is evaluated, and none twice.
+/// The results of the first `limit` of these traces of which the query answers something, in their order, with the
+/// first `spans_per_set` spans of each spanset. No trace after them is evaluated, and none twice.
 ///
 /// The matchers are those of the query's patterns. The one error is out of memory.
 pub fn first_results(

@@ -23,8 +23,8 @@ pub struct TraceInRange<'r> {
     pub rows: &'r [Row],
 }
 
-/// The traces of which a span starts in the range, each once. The rows are first occurrences in block order, so those of
-/// a trace stand together, and its first row starts earliest. No row is copied; the one error is out of memory.
+/// The traces of which a span starts in the range, each once. The rows are first occurrences in block order, so those
+/// of a trace stand together, and its first row starts earliest. No row is copied; the one error is out of memory.
 pub fn traces_in_range<'r>(
     alloc: Global,
     range: Range,

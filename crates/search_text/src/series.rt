@@ -11,8 +11,8 @@ use span_types::{Memory, Text};
 use spanset_eval::{Count, Series, SeriesList};
 use std::alloc::Global;
 
-/// The text of a metrics query's series, as compact JSON with ascending keys: an object whose member `series` has an object
-/// for each series, in the order in which they stand. The one error is out of memory.
+/// The text of a metrics query's series, as compact JSON with ascending keys: an object whose member `series` has an
+/// object for each series, in the order in which they stand. The one error is out of memory.
 #[tactic(auto, unfolding(crate::specs::Series::series_text))]
 pub fn write_series(alloc: Global, series: &SeriesList) -> Result<Text, Memory>
     ensures { IfOk result (λ text. text ≡ series_text series.now) }

@@ -51,8 +51,8 @@ ghost use Rattle.session_meaning.specs.Upkeep.{HasEmptied, HasFailedSince, IsClo
 use disk_model::Device;
 use store_core::Core;
 
-/// What is answered by calls of a store is answered as the history says, but that what queries tell isn't said where the store
-/// lists blocks: the machine of the store, with its logs and pins, tells no more than the pushes do.
+/// What is answered by calls of a store is answered as the history says, but that what queries tell isn't said where
+/// the store lists blocks: the machine of the store, with its logs and pins, tells no more than the pushes do.
 pub fn calls_answer_as_the_history_says()
     ensures item { (item : Item) (before after : At) (reply : Reply) → Agrees before.machine
         → IsAnsweredByCalls item before reply after → IsAnsweredOrRefused false item before reply after }
@@ -63,14 +63,14 @@ pub fn calls_answer_as_the_history_says()
 
 /// What is answered over the port of a core is a session.
 pub fn a_core_answers_as_the_history_says<D: Device>(old: &Core<D>, new: &Core<D>)
-    // From a machine on that its memory shows, whatever its disk holds, to one that it shows then. What queries tell isn't said
-    // where the store lists blocks.
+    // From a machine on that its memory shows, whatever its disk holds, to one that it shows then. What queries tell
+    // isn't said where the store lists blocks.
     ensures shown { (items : List Item) (replies : List Reply)
         → AreAnsweredOver (port_of D.Device.own) old.now items replies new.now → (m : Machine)
         → CoreShows D.Device.own old.now m → (later : Machine) × CoreShows D.Device.own new.now later
         × Session false (at_core D.Device.own old.now m) items replies (at_core D.Device.own new.now later) }
-    // From a machine on for which it stands, where its disk shows its bytes: queries tell of all that was pushed, wherever it lies.
-    // What was left since an earlier disk goes on standing for the history at some length.
+    // From a machine on for which it stands, where its disk shows its bytes: queries tell of all that was pushed,
+    // wherever it lies. What was left since an earlier disk goes on standing for the history at some length.
     ensures since { (items : List Item) (replies : List Reply)
         → AreAnsweredOver (port_of D.Device.own) old.now items replies new.now → (m : Machine) → (start : D) (least : ℕ)
         → StandsSince D.Device.own start least old.now m → IsTrue (D.tells old.now.disk)
@@ -78,8 +78,8 @@ pub fn a_core_answers_as_the_history_says<D: Device>(old: &Core<D>, new: &Core<D
         × Session true (at_core D.Device.own old.now m) items replies (at_core D.Device.own new.now later) }
 {}
 
-/// What is asked of a core by the duties of an ingest is an ingest: from a machine on that its memory shows, or for which it stands, as
-/// of a session.
+/// What is asked of a core by the duties of an ingest is an ingest: from a machine on that its memory shows, or for
+/// which it stands, as of a session.
 pub fn a_core_ingests_as_the_history_says<D: Device>(old: &Core<D>, new: &Core<D>)
     ensures shown { (todo left : List Duty) (told to_tell : Option (List ℕ)) (items : List Item) (replies : List Reply)
         → IngestsOver D.Device.own todo told old.now items replies new.now left to_tell → (m : Machine)
@@ -98,7 +98,8 @@ pub fn sessions_keep_the_store()
         → Session told first items replies last → Agrees first.machine → Agrees last.machine }
     ensures closed { (told : Bool) (items : List Item) (replies : List Reply) (first last : At)
         → Session told first items replies last → IsClosed first.machine → IsClosed last.machine }
-    // A store that wrote at first writes no more only where a call failed since, and then it tells the disk's count after that.
+    // A store that wrote at first writes no more only where a call failed since, and then it tells the disk's count
+    // after that.
     ensures read_only { (told : Bool) (items : List Item) (replies : List Reply) (first last : At)
         → Session told first items replies last → first.machine.read_only ≡ None → HasFailedSince first.faults last }
 {}
@@ -172,8 +173,8 @@ pub fn comes_to_an_end()
     // It answers all that it was asked.
     ensures ends { (told : Bool) (words : List (List ℕ)) (c : Command) (o : Outcome) (old new : Edges) → Spells words c
         → IsRunOf told words o old new → GoesWell c old new → ComesToItsEnd o.ending }
-    // And where nothing was refused in reading, the store had room, and what its blocks hold is told, nothing is refused but for
-    // memory.
+    // And where nothing was refused in reading, the store had room, and what its blocks hold is told, nothing is
+    // refused but for memory.
     ensures well { (words : List (List ℕ)) (c : Command) (o : Outcome) (old new : Edges) → Spells words c
         → IsRunOf true words o old new → GoesWell c old new
         → (before : List ℕ) → old.taken ≡ Some before → list_any is_refused o.items ≡ false
@@ -187,8 +188,8 @@ pub fn an_ingest_is_a_session()
         → Ingests sure todo told first items replies last left to_tell → Session sure first items replies last }
 {}
 
-/// An ingest that did all has cut and flushed at its end, has compacted until a compaction joined no blocks, and then emptied loose
-/// files.
+/// An ingest that did all has cut and flushed at its end, has compacted until a compaction joined no blocks, and then
+/// emptied loose files.
 pub fn an_ingest_finishes()
     ensures { (sure : Bool) (source : List (List ℕ)) (told to_tell : Option (List ℕ)) (items : List Item)
         → (replies : List Reply) (first last : At)
@@ -209,7 +210,8 @@ pub fn flushes_have_their_causes()
     // And where that is the answer, the head was empty, and the store is as it was.
     ensures nothing { (before after : At) → IsFlushed before Nothing after
         → (length before.machine.state.head ≡ 0) × IsStill before after }
-    // A block that is listed holds the first occurrences of the rows that waited first, and the reply says how many these are.
+    // A block that is listed holds the first occurrences of the rows that waited first, and the reply says how many
+    // these are.
     ensures listed { (before after : At) (blocks rows : ℕ) → IsFlushed before (Did blocks rows) after
         → HasListed before.machine blocks rows after.machine }
     // Without faults, in a store that writes and has file numbers left, it is done or memory ran out.
@@ -236,12 +238,12 @@ pub fn compactions_have_their_causes()
     // And where that is the answer, no two fitted, and the store is as it was.
     ensures nothing { (told : Bool) (before after : At) → IsCompacted told before Nothing after
         → (length (choice before.machine.state.blocks) ≡ 0) × IsStill before after }
-    // It joins the blocks that the store chooses, and the reply says how many these are. The new block stands in their place, and
-    // where what the blocks hold is known the reply says how many first occurrences their rows have.
+    // It joins the blocks that the store chooses, and the reply says how many these are. The new block stands in their
+    // place, and where what the blocks hold is known the reply says how many first occurrences their rows have.
     ensures joined { (told : Bool) (before after : At) (blocks rows : ℕ)
         → IsCompacted told before (Did blocks rows) after → HasJoined told before.machine blocks rows after.machine }
-    // Without faults, in a store that writes, has file numbers left and tells what its blocks hold, it is done or memory
-    // was wanted.
+    // Without faults, in a store that writes, has file numbers left and tells what its blocks hold, it is done or
+    // memory was wanted.
     ensures well { (before after : At) (round : Round) → (Rose before.faults after.faults → ⊥)
         → before.machine.read_only ≡ None → IsClosed before.machine → before.machine.state.next_file < 4294967294
         → IsCompacted true before round after → IsDoneOrStarved round }

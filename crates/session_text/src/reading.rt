@@ -33,8 +33,8 @@ const PUSH_WORD: u64 = 5;
 /// - `search [limit=n] [spss=n] [start=T] [end=T] QUERY`: a search. The options stand in this order, each n is a number
 ///   from 1 to 1,000 and each T a count of nanoseconds or a timestamp. The QUERY is the rest of the line. The maker
 ///   makes its patterns.
-/// - `metrics start=T end=T step=n QUERY`: a metrics query. The options all stand there in this order, the end is above the
-///   start, n is a number from 1 on, and there are at most 1,000 buckets. The QUERY is the rest of the line.
+/// - `metrics start=T end=T step=n QUERY`: a metrics query. The options all stand there in this order, the end is
+///   above the start, n is a number from 1 on, and there are at most 1,000 buckets. The QUERY is the rest of the line.
 /// - `cut`, `cutall`, `flush`, `compact`, `reclaim`: a cut at the moment, a cut of all, a flush, a compaction, and the
 ///   emptying of loose files. Nothing stands after the word.
 ///
@@ -69,9 +69,9 @@ pub fn read_request<P: PatternMaker>(
     }
 }
 
-/// What a line of a source asks whose lines are pushed, read at this moment, in nanoseconds: what the request `push`, one
-/// space and the line asks, or why that is refused. A line of more than 16,777,216 bytes, these alone counted, is too long.
-/// `Memory` comes wherever memory is wanted and not given.
+/// What a line of a source asks whose lines are pushed, read at this moment, in nanoseconds: what the request `push`,
+/// one space and the line asks, or why that is refused. A line of more than 16,777,216 bytes, these alone counted, is
+/// too long. `Memory` comes wherever memory is wanted and not given.
 pub fn read_push(alloc: Global, line: &[u8], moment: u64) -> Result<Request, Refusal>
     ensures asked { AsksPush moment line.now result }
     ensures few { IfOk result (λ request. HasFewSpans request) }

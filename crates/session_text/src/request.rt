@@ -55,7 +55,8 @@ pub struct Search {
 /// A metrics query, with at most 1,000 buckets.
 #[derive(Drop)]
 pub struct Metrics {
-    /// The query whose spans are counted, with the stage `by` after it if they are split. Its kinds fit, and it has its patterns.
+    /// The query whose spans are counted, with the stage `by` after it if they are split. Its kinds fit, and it has
+    /// its patterns.
     pub checked: Checked,
     /// Whether a rate for a second is shown and not the count itself.
     pub rate: bool,

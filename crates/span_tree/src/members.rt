@@ -20,8 +20,8 @@ pub struct Members {
     pub before: Table,
 }
 
-/// The members of the groups, of which the table has one for each position, or none. Each position is visited twice, and
-/// between these visits its group, where it has one.
+/// The members of the groups, of which the table has one for each position, or none. Each position is visited twice,
+/// and between these visits its group, where it has one.
 pub fn members_of<L: Ledger>(
     alloc: Global,
     groups: &Table,

@@ -95,7 +95,8 @@ pub fn reached<L: Ledger>(
     Ok(found)
 }
 
-// One visit: the position is marked. Where it wasn't marked before, the places to which the tables lead from it are ahead.
+// One visit: the position is marked. Where it wasn't marked before, the places to which the tables lead from it are
+// ahead.
 fn visit<L: Ledger>(
     found: &mut Found,
     ahead: &mut Vec<usize>,

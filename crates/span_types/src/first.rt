@@ -14,9 +14,9 @@ use std::alloc::Global;
 use std::cmp::Ordering;
 use std::collections::BTreeMap;
 
-/// The first occurrences among the rows: where several rows are of one span, the row that came in first stays and the others
-/// go. What stays is in block order, which is by trace, then by start, then by span. Should rows of one span have the same
-/// place, the one nearest the list's beginning stays.
+/// The first occurrences among the rows: where several rows are of one span, the row that came in first stays and the
+/// others go. What stays is in block order, which is by trace, then by start, then by span. Should rows of one span
+/// have the same place, the one nearest the list's beginning stays.
 pub fn first_rows(alloc: Global, rows: Rows) -> Result<Rows, Memory>
     ensures { IfOk result (λ firsts. IsFirstOf rows firsts) }
 {
@@ -26,8 +26,8 @@ pub fn first_rows(alloc: Global, rows: Rows) -> Result<Rows, Memory>
     Ok(Rows::of(kept))
 }
 
-/// The first occurrences of what `firsts` are the first occurrences of, followed by more rows. So they can be joined part
-/// by part; where no two rows have one place, the order of the parts doesn't matter.
+/// The first occurrences of what `firsts` are the first occurrences of, followed by more rows. So they can be joined
+/// part by part; where no two rows have one place, the order of the parts doesn't matter.
 pub fn first_rows_more(alloc: Global, firsts: Rows, more: Rows) -> Result<Rows, Memory>
     ensures { IfOk result (λ all. (base : List Row) → IsFirstOf base firsts → IsFirstOf (base ++ more) all) }
 {

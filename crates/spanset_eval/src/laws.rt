@@ -13,8 +13,8 @@ ghost use Rattle.spanset_eval.specs.Stages.{amount_of, split_by, value_at};
 
 use traceql_syntax::AggregateOp;
 
-/// `by` makes of a spanset a partition in the order of values: each span is in just one of the new spansets, none of which
-/// is empty; within one all values are equal, and those of an earlier one are less than those of a later one.
+/// `by` makes of a spanset a partition in the order of values: each span is in just one of the new spansets, none of
+/// which is empty; within one all values are equal, and those of an earlier one are less than those of a later one.
 pub fn split_is_a_partition()
     ensures { (ps : List Pattern) (rows : List Row) (e : Tree) (g : Spanset) →
         IsPartition (value_at ps rows e) g (split_by ps rows e g) }

@@ -156,8 +156,8 @@ fn relate<L: Ledger>(
     marks
 }
 
-/// Marks on what an operator between two spansets selects of the marked spans. Only a structural operator whose sides both
-/// have marks wants the trace's tree: it is made for the first one, and kept in `made` for others.
+/// Marks on what an operator between two spansets selects of the marked spans. Only a structural operator whose sides
+/// both have marks wants the trace's tree: it is made for the first one, and kept in `made` for others.
 pub fn join_marks<L: Ledger>(
     alloc: Global,
     rows: &[Row],

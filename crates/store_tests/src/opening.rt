@@ -10,8 +10,8 @@ use std::test::Fail;
 use store_core::OpenError;
 use store_state::PushError;
 
-// The slot 0 of a new store: the next file is 3 (byte 6), the floor 0 (byte 10), and the segment in file 2 begins with the number
-// 0 (byte 34).
+// The slot 0 of a new store: the next file is 3 (byte 6), the floor 0 (byte 10), and the segment in file 2 begins with
+// the number 0 (byte 34).
 const NEW_STORE: [u8; 42] = [
     1, 0x54, 0x53, 0x4c, 0x31, 0, 3, 0, 0, 0, 0, 0, 0, 0, 0, 0, 0, 0, 1, 0, 0, 0, 0, 0, 0, 0, 0, 0,
     0, 0, 2, 0, 0, 0, 0, 0, 0, 0, 0, 0, 0, 0,

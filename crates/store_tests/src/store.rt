@@ -29,7 +29,8 @@ pub(crate) enum Step {
     Shows { pin: u64, as_of: u64, rows: usize },
 }
 
-// The places of the rows of several pushes, in the order in which they came: the first one has two spans, each other one has one.
+// The places of the rows of several pushes, in the order in which they came: the first one has two spans, each other
+// one has one.
 const PLACES: [(u64, u32); 4] = [(0, 0), (0, 1), (1, 0), (2, 0)];
 
 fn push<P: LookPort>(port: &mut P, batch: Result<Batch, Memory>) -> Answer {
@@ -177,7 +178,8 @@ pub(crate) fn counted<D: Device>(alloc: Global, disk: D) -> (Option<u64>, D) {
     }
 }
 
-// What a push of a batch without spans is answered by the store that a disk holds, or why it isn't opened; and the disk.
+// What a push of a batch without spans is answered by the store that a disk holds, or why it isn't opened; and the
+// disk.
 pub(crate) fn first_answer<D: Device>(alloc: Global, disk: D) -> (Result<Answer, OpenError>, D) {
     match Core::open_store(alloc, disk, 7) {
         Ok(core) => {

@@ -75,8 +75,8 @@ fn pass_each(fields: &mut Fields, stamps: &mut [u32], list: u32, count: u64) -> 
     true
 }
 
-/// A list of attributes, no two of which have one key. `stamps` has one number for each text of the table, which is below that of
-/// this list. False says nothing.
+/// A list of attributes, no two of which have one key. `stamps` has one number for each text of the table, which is
+/// below that of this list. False says nothing.
 #[tactic(auto, unfolding(block_columns::specs::ColumnReadings::counted_at))]
 pub fn pass_attrs(fields: &mut Fields, stamps: &mut [u32], list: u32) -> bool
     requires fresh { AreBefore list stamps.old }

@@ -20,8 +20,9 @@ pub struct StripeTraces {
     pub last: Option<TraceId>,
 }
 
-/// The rows of these traces in a stripe, in form 1, or in form 2, which has events and links. Their ids ascend, each once. No other
-/// row is made. None says nothing: the stripe is malformed, is another one than `entry` tells of, or memory ran out.
+/// The rows of these traces in a stripe, in form 1, or in form 2, which has events and links. Their ids ascend, each
+/// once. No other row is made. None says nothing: the stripe is malformed, is another one than `entry` tells of, or
+/// memory ran out.
 pub fn traces_of_stripe(
     alloc: Global,
     bytes: &[u8],

@@ -96,8 +96,8 @@ fn is_for_memory(reply: &Reply) -> bool
     }
 }
 
-/// Answers the lines of the source in order over a store's port, and writes each reply before it reads the next line. The clock
-/// is asked once for each line that has bytes.
+/// Answers the lines of the source in order over a store's port, and writes each reply before it reads the next line.
+/// The clock is asked once for each line that has bytes.
 pub(crate) fn session<S: Source, K: Sink, Q: Port, C: Clock, P: PatternMaker, G: Gate>(
     alloc: Global,
     source: &mut S,

@@ -122,8 +122,8 @@ fn parse_tokens(alloc: Global, tokens: &[Token], length: u64) -> Result<MetricsQ
 
 /// The metrics query that a text is, each of its parts with its place.
 ///
-/// What a metrics query is, the grammar of `traceql_syntax` says; the limits and the order of faults are those of [`crate::parse`].
-/// Out of memory there may be neither.
+/// What a metrics query is, the grammar of `traceql_syntax` says; the limits and the order of faults are those of
+/// [`crate::parse`]. Out of memory there may be neither.
 pub fn parse_metrics(alloc: Global, text: &str) -> Result<MetricsQuery, ParseError>
     ensures too_long { MOST_QUERY_BYTES < length text.now →
         result ≡ Err (ParseError.TooLong (length text.now)) }

@@ -18,7 +18,8 @@ pub struct MetricsQuery {
 }
 
 impl MetricsQuery {
-    /// The query that is checked and run for it: its own, with the stage `by` after it if it splits. The one error is out of memory.
+    /// The query that is checked and run for it: its own, with the stage `by` after it if it splits. The one error is
+    /// out of memory.
     pub fn into_query(self) -> Result<Query, Memory>
         ensures { IfOk result (λ q. query_tree q ≡ run_query (query_tree self.query) (metrics_tree self).by) }
     {

@@ -27,7 +27,8 @@ fn escaped(byte: u8) -> Option<char>
     }
 }
 
-/// How many bytes stand before the closing quote. Where there is none these are all bytes, but not a backslash at their end.
+/// How many bytes stand before the closing quote. Where there is none these are all bytes, but not a backslash at
+/// their end.
 #[tactic(auto, using(crate::proofs::StringSteps::piece_steps))]
 fn body_len(bytes: &[u8]) -> usize
     ensures { result ≡ body_len bytes.now }

@@ -126,8 +126,8 @@ pub fn patterns_of(alloc: Global, query: &Query) -> Result<Vec<Asked<'_>>, Memor
     Ok(found)
 }
 
-/// The patterns of a query that was read from a text stand in the text's order: a law, which the clause of `check` on what
-/// its maker was asked for rests on.
+/// The patterns of a query that was read from a text stand in the text's order: a law, which the clause of `check` on
+/// what its maker was asked for rests on.
 pub fn patterns_in_order()
     ensures { (depth : ℕ) (text : List ℕ) (q : QueryTree) → Reads depth text q → Ascends (asked_patterns q) }
 {}

@@ -12,7 +12,8 @@ use span_types::{Calls, Text};
 use std::alloc::{AllocError, Global};
 use std::marker::Model;
 
-/// Makes patterns of texts. A pattern is what `regex` reads in the text put between `\A(?:` and `)\z`, as `Pattern` says.
+/// Makes patterns of texts. A pattern is what `regex` reads in the text put between `\A(?:` and `)\z`, as `Pattern`
+/// says.
 pub trait PatternMaker {
     // Which call, a text with its answer, leads from which state of the maker to which.
     ghost makes: { Makes Self };

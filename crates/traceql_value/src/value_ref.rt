@@ -98,8 +98,8 @@ impl<'s> ValueRef<'s> {
         }
     }
 
-    /// Which of two values stands first: nil, then false and true, numbers, texts by their bytes, statuses and roles. It
-    /// is a total order, so values can be sorted by it.
+    /// Which of two values stands first: nil, then false and true, numbers, texts by their bytes, statuses and roles.
+    /// It is a total order, so values can be sorted by it.
     pub fn order(&self, other: &ValueRef<'_>) -> Ordering
         ensures { result ≡ value_cmp (ref_value self.now) (ref_value other.now) }
     {
