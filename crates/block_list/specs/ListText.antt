@@ -1,4 +1,4 @@
--- A list in bytes.
+-- A list in bytes as contracts see it, ready to be written into the slot of its generation.
 use Rattle.std.specs.Prelude.{ℕ, List}
 
 -- the list's generation, its bytes after the gate, and how many bytes there is room for

@@ -1,4 +1,4 @@
--- What contracts see of the devices in memory.
+-- What contracts see of source, sink and clock in memory, and how their counts rise.
 use Rattle.std.specs.Prelude.{ℕ, ◌+◌, ◌-◌, ◌^◌, List, min}
 
 -- One more than a count, which saturates at its type's end.

@@ -2,6 +2,9 @@
 //!
 //! Nothing here runs. The definitions stand in `specs/` (`Step` is the one to begin with), and each function here is a
 //! law about them: its contract is the law.
+//!
+//! It is the uppermost of three levels. `store_core` is the program, each of whose events is a step of this machine,
+//! and `disk_model` says what a disk does and what a crash may leave of it.
 #![tactic(auto)]
 
 mod laws;
