@@ -1,4 +1,4 @@
-//! Reading the header of a block: bytes to parts, or the first offset at which they are malformed. Each read of a
+//! Reading the header of a block: bytes to parts, or the first offset at which they are malformed. Reading a whole
 //! block begins with it.
 
 ghost use Rattle.std.specs.Prelude.{◌≡◌, ◌+◌, ◌^◌, ◌≤◌, [], IfOk, IsTrue, false};

@@ -1,4 +1,4 @@
-//! Tests of searches by pages, in four steps.
+//! Tests of searches by pages: what is picked, what repeats of a span do, and long random runs.
 //!
 //! - What is picked: `hints`, `sieves`, over `blocks` of spans that stand in a text.
 //! - Spans that were pushed twice: `repeats`.

@@ -8,12 +8,10 @@
 //! - What a store keeps: `spans` (spans, batches and rows), `ids`, `attrs`, and `shared` for resources and scopes that
 //!   several spans have.
 //! - Small types: `text`, `list` (the one list type, and copies that may run out of memory), `errors`, `limits`.
-//! - Made of them: `first`, the first occurrences of rows, and `equal`, by which resources and scopes are keys of
-//!   maps.
+//! - Computed: `first` (the first occurrences of rows) and `equal` (so that resources and scopes can be keys of maps).
 //! - `laws` holds theorems.
 //!
-//! The entry points with an algorithm are `first_rows` and `first_rows_more`; their promise is `IsFirstOf` of
-//! `specs/First.antt`.
+//! The entry points are `first_rows` and `first_rows_more`, whose promise is `IsFirstOf` of `specs/First.antt`.
 #![tactic(auto)]
 
 mod attrs;

@@ -2,8 +2,8 @@
 //!
 //! - The entry point is `skim`, in `sketches`: some columns of a whole stripe. `cells` lists the columns, each of
 //!   which `columns` keeps or passes over.
-//! - For any that pass over a stripe: `walks` goes from its texts to its rows and leaves the columns to a [`Walk`];
-//!   `stripe_traces` is another one.
+//! - For any that pass over a stripe: `walks` goes from its texts to its rows and leaves the columns to a [`Walk`], as
+//!   that of `stripe_traces`.
 //! - Single values: `items`, `passes` and `attributes` pass over values of a kind.
 //! - `order` is the order of rows by a sketch of them.
 //!

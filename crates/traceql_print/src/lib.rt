@@ -1,6 +1,7 @@
 //! Queries and fields of TraceQL as text, in one fixed form.
 //!
-//! - The entry points are in `printing`: `print_query`, and `print_field`, which is all that the program prints.
+//! - The entry points are in `printing`: `print_query`, which only tests call, and `print_field`, by which replies
+//!   name fields.
 //! - Trees to tokens: `stage` and `expr`. Tokens to text: `printer` (where a space stands), `signs` (operators and
 //!   words), `string` (quotes).
 //!
